@@ -3,6 +3,7 @@ ghost use Rattle.std.specs.Prelude.{◌≡◌};
 ghost use Rattle.wasm_base.specs.declared.refused.Refused.TheVariants.{Memory};
 
 use std::alloc::{AllocError, AllocFailed};
+use std::result;
 use thiserror::Error;
 
 /// The error of a call that appends to a sink or adds to a builder. Unless its documentation says
@@ -19,7 +20,7 @@ pub enum Refused {
 }
 
 /// The result of a call that can fail with [`Refused`].
-pub type Result<T, E = Refused> = std::result::Result<T, E>;
+pub type Result<T, E = Refused> = result::Result<T, E>;
 
 impl From<AllocError> for Refused {
     ghost from_gives = { λ _ refused. refused ≡ Memory };

@@ -1,40 +1,50 @@
 // Written by tools/to-rust from crates/wasm_base/src/counted.rt: change that.
-// Builders that count their items.
+// Builders whose section is a count and that many entries.
 
-use crate::base::refused::{R, Refused};
+use crate::base::refused::{Refused, Result};
 use crate::base::sections::Section;
 
-/// A builder that counts its items, to which items of the type `T` are added.
+/// A builder of a counted section, to which items of type `T` are added one by one.
 ///
 /// # Defined
 ///
 /// ```text
-/// // The bytes of its entries.
+/// // The encodings of its entries.
 /// pieces: { Self → List (List ℕ) }
-/// // text: the bytes of the entry of an item.
-/// item_text: { T → List ℕ }
-/// // fits: every count, run and length of that text can be spelled.
-/// item_fits: { T → Type 0 }
-/// // Its text is the frame of the number of the entries and of these.
-/// counted: { (builder : Self) → Self.text builder ≡ section_text (pieces builder) }
+/// // `item_encoding`: the encoding of an item, which becomes one entry.
+/// item_encoding: { T → List ℕ }
+/// // `item_encodable`: every count and length in that encoding is representable.
+/// item_encodable: { T → Type 0 }
+/// // Its encoding is the size prefix, the number of entries, and the entries.
+/// counted: { (builder : Self) → Self.encoding builder ≡ section_encoding (pieces builder) }
 /// ```
 pub trait Counted<T>: Section {
-    /// Adds an item. A refused call leaves the builder as it was.
+    /// Adds an item as the last entry.
+    ///
+    /// # Errors
+    ///
+    /// Returns [`Refused`], and leaves the builder unchanged, if the item does not fit, the builder
+    /// is full, or an allocation fails.
     ///
     /// # Proved
     ///
     /// ```text
-    /// ensures { Adds (item_text item.now) (item_fits item.now) (pieces self.old) (pieces self.new) result }
+    /// ensures { Adds (item_encoding item.now) (item_encodable item.now) (pieces self.old) (pieces self.new) result }
     /// ```
-    fn add(&mut self, item: &T) -> R<()>;
+    fn add(&mut self, item: &T) -> Result<()>;
 }
 
-/// Adds all items in order, or answers how many of them were added before one was refused: these stay.
+/// Adds all items in order.
+///
+/// # Errors
+///
+/// Returns the cause and the number of items that were added before the first failing one. These
+/// items stay in the builder.
 ///
 /// # Proved
 ///
 /// ```text
-/// ensures { AddsAll B.item_text B.item_fits items.now (B.pieces builder.old) (B.pieces builder.new) result }
+/// ensures { AddsAll B.item_encoding B.item_encodable items.now (B.pieces builder.old) (B.pieces builder.new) result }
 /// ```
 pub fn add_all<T, B: Counted<T>>(builder: &mut B, items: &[T]) -> Result<(), (usize, Refused)> {
     for (added, item) in items.iter().enumerate() {

@@ -1,13 +1,13 @@
 // Written by tools/to-rust from crates/wasm_base/src/cow.rt: change that.
-// Slices and text that are borrowed or owned.
+// Slices and strings that are borrowed or owned.
 
 use crate::vec::{Sink, Vec};
 use crate::string::String;
 use crate::base::encode::Encode;
-use crate::base::refused::R;
+use crate::base::refused::Result;
 use crate::alloc::{Allocator, Global};
 
-/// Items that are borrowed or owned.
+/// A slice of items that is borrowed, or owned as a `Vec`.
 #[derive(Debug)]
 pub enum CowSlice<'a, T, A: Allocator = Global> {
     Borrowed(&'a [T]),
@@ -15,7 +15,7 @@ pub enum CowSlice<'a, T, A: Allocator = Global> {
 }
 
 impl<'a, T, A: Allocator> CowSlice<'a, T, A> {
-    /// The items.
+    /// Returns the items.
     ///
     /// # Proved
     ///
@@ -31,7 +31,7 @@ impl<'a, T, A: Allocator> CowSlice<'a, T, A> {
 }
 
 impl<'a, T: Copy, A: Allocator + Copy> CowSlice<'a, T, A> {
-    /// The same items: owned ones in memory of their own.
+    /// Returns the same items, and copies owned ones into memory of their own.
     ///
     /// # Proved
     ///
@@ -39,7 +39,7 @@ impl<'a, T: Copy, A: Allocator + Copy> CowSlice<'a, T, A> {
     /// ensures same { IfOk result (λ cow. items_of cow ≡ items_of self.now) }
     /// ensures memory { result ≢ Err Refused.TooLong }
     /// ```
-    pub fn clone(&self) -> R<Self> {
+    pub fn clone(&self) -> Result<Self> {
         match self {
             CowSlice::Borrowed(items) => Ok(CowSlice::Borrowed(items)),
             CowSlice::Owned(items) => Ok(CowSlice::Owned(Vec::from_slice(
@@ -50,21 +50,21 @@ impl<'a, T: Copy, A: Allocator + Copy> CowSlice<'a, T, A> {
     }
 }
 
-/// The vector of the items.
+/// Encodes the items as a vector.
 ///
 /// # Defined
 ///
 /// ```text
-/// text = { λ cow. vec_text T.text (items_of cow) }
-/// fits = { λ cow. VecFits T.fits (items_of cow) }
+/// encoding = { λ cow. vec_encoding T.encoding (items_of cow) }
+/// encodable = { λ cow. IsEncodableVec T.encodable (items_of cow) }
 /// ```
 impl<T: Encode, A: Allocator> Encode for CowSlice<'_, T, A> {
-    fn encode<B: Sink>(&self, sink: &mut B) -> R<()> {
+    fn encode<B: Sink>(&self, sink: &mut B) -> Result<()> {
         self.as_slice().encode(sink)
     }
 }
 
-/// Text that is borrowed or owned.
+/// A string that is borrowed, or owned as a `String`.
 #[derive(Debug)]
 pub enum CowStr<'a, A: Allocator = Global> {
     Borrowed(&'a str),
@@ -72,51 +72,51 @@ pub enum CowStr<'a, A: Allocator = Global> {
 }
 
 impl<'a, A: Allocator> CowStr<'a, A> {
-    /// The text.
+    /// Returns the string.
     ///
     /// # Proved
     ///
     /// ```text
-    /// ensures { result.now ≡ text_of self.now }
+    /// ensures { result.now ≡ encoding_of self.now }
     /// ```
     pub fn as_str(&self) -> &str {
         match self {
-            CowStr::Borrowed(text) => text,
-            CowStr::Owned(text) => text.as_str(),
+            CowStr::Borrowed(encoding) => encoding,
+            CowStr::Owned(encoding) => encoding.as_str(),
         }
     }
 }
 
 impl<'a, A: Allocator + Copy> CowStr<'a, A> {
-    /// The same text: one that is owned in memory of its own.
+    /// Returns the same string, and copies an owned one into memory of its own.
     ///
     /// # Proved
     ///
     /// ```text
-    /// ensures same { IfOk result (λ cow. text_of cow ≡ text_of self.now) }
+    /// ensures same { IfOk result (λ cow. encoding_of cow ≡ encoding_of self.now) }
     /// ensures memory { result ≢ Err Refused.TooLong }
     /// ```
-    pub fn clone(&self) -> R<Self> {
+    pub fn clone(&self) -> Result<Self> {
         match self {
-            CowStr::Borrowed(text) => Ok(CowStr::Borrowed(text)),
-            CowStr::Owned(text) => Ok(CowStr::Owned(String::from_str(
-                *text.allocator(),
-                text.as_str(),
+            CowStr::Borrowed(encoding) => Ok(CowStr::Borrowed(encoding)),
+            CowStr::Owned(encoding) => Ok(CowStr::Owned(String::from_str(
+                *encoding.allocator(),
+                encoding.as_str(),
             )?)),
         }
     }
 }
 
-/// The name.
+/// Encodes the string as a name.
 ///
 /// # Defined
 ///
 /// ```text
-/// text = { λ cow. frame_text (text_of cow) }
-/// fits = { λ cow. FrameFits (text_of cow) }
+/// encoding = { λ cow. size_prefixed_encoding (encoding_of cow) }
+/// encodable = { λ cow. HasEncodableSize (encoding_of cow) }
 /// ```
 impl<A: Allocator> Encode for CowStr<'_, A> {
-    fn encode<B: Sink>(&self, sink: &mut B) -> R<()> {
+    fn encode<B: Sink>(&self, sink: &mut B) -> Result<()> {
         self.as_str().encode(sink)
     }
 }

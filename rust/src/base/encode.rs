@@ -1,32 +1,38 @@
 // Written by tools/to-rust from crates/wasm_base/src/encode.rt: change that.
-// Values with a layout.
+// The trait `Encode`: values with an encoding in the binary format.
 
 use crate::vec::Sink;
-use crate::base::refused::R;
+use crate::base::refused::Result;
 
-/// A value that a module can hold as bytes.
+/// A value that has an encoding in the WebAssembly binary format.
+///
+/// # Errors
+///
+/// `encode` returns [`Refused`](crate::base::refused::Refused), and leaves the sink unchanged, if the
+/// value does not fit or an allocation fails.
 ///
 /// # Defined
 ///
 /// ```text
-/// // text: the bytes that the layout gives for the value.
-/// text: { Self → List ℕ }
-/// // fits: every count, run and length of that text can be spelled.
-/// fits: { Self → Type 0 }
-/// // What is promised to readers of the text. A section must promise its headline here.
-/// reading: { Self → Type 0 } = { λ _. ⊤ }
-/// // overlong: `encode` returns `TooLong` for such a value, whatever memory there is.
+/// // `encoding`: the encoding of the value.
+/// encoding: { Self → List ℕ }
+/// // `encodable`: every count and length in that encoding is representable.
+/// encodable: { Self → Type 0 }
+/// // `decoding`: the promise about decoding the encoding. A section must promise its headline
+/// // here.
+/// decoding: { Self → Type 0 } = { λ _. ⊤ }
+/// // `overlong`: `encode` returns `TooLong` for such a value, however much memory there is.
 /// overlong: { Self → Type 0 } = { λ _. ⊥ }
 /// ```
 pub trait Encode {
-    /// Appends the text. A refused call leaves the bytes of the sink as they were.
+    /// Appends the encoding of the value. On an error, the bytes of the sink are unchanged.
     ///
     /// # Proved
     ///
     /// ```text
-    /// ensures appends { Appends (text self.now) (fits self.now) sink.old sink.new result }
-    /// ensures read { OnOk result (reading self.now) }
+    /// ensures appends { Appends (encoding self.now) (encodable self.now) sink.old sink.new result }
+    /// ensures read { OnOk result (decoding self.now) }
     /// ensures too_many { overlong self.now → result ≡ Err TooLong }
     /// ```
-    fn encode<A: Sink>(&self, sink: &mut A) -> R<()>;
+    fn encode<A: Sink>(&self, sink: &mut A) -> Result<()>;
 }

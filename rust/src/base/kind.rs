@@ -1,20 +1,22 @@
 // Written by tools/to-rust from crates/wasm_base/src/kind.rt: change that.
-// Kinds of items.
+// The trait `Kind`: how the items of a section are encoded, and to which values they decode.
 
-/// A kind of items: how they are written, and what they say.
+/// A kind of items, as a section of counted items has them.
 ///
 /// # Defined
 ///
 /// ```text
-/// // What a call hands in.
+/// // The argument of an adding call.
 /// Record: { Type 0 }
-/// // What a section says.
+/// // The value to which an entry decodes.
 /// Item: { Type 0 }
-/// // How a record is written, when it is plain, what it says then, and how items are spelled.
+/// // The encoding of a record, when the record is well-formed, the item that it then encodes, and
+/// // the format of items.
 /// kind: { KindOf Record Item }
 /// ```
 pub trait Kind {
-    /// Items are read uniquely, and the text of a plain record spells what it says. The function does nothing.
+    /// Proves that the format of items is unambiguous, and that a well-formed record encodes its
+    /// item. The function does nothing.
     ///
     /// # Proved
     ///

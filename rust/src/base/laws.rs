@@ -1,65 +1,69 @@
 // Written by tools/to-rust from crates/wasm_base/src/laws.rt: change that.
-//! What is promised of all lists of bytes, and not of a call: each function does nothing, and its clauses are the promise.
+//! Laws about the formats of this crate, for all byte sequences: each function does nothing, and
+//! its clauses are the law.
 //!
-//! `UniqueReading F` says that bytes begin with a spelling in the format `F` of at most one value, whatever follows, both with
-//! shortest and with padded numbers, and that a value has at most one shortest spelling. `HasTexts F fits text` says that the text of each
-//! value that fits is this spelling. No clause ranges over all formats, so vectors and frames are stated for those named here.
+//! `Unambiguous F` says that the format `F` is unambiguous: at most one value decodes from the
+//! front of any bytes, with minimal and with padded numbers. A value has at most one minimal
+//! encoding. `HasMinimalEncodings F encodable encoding` says that `encoding` is the minimal encoding of each value that
+//! fits. No clause ranges over all formats, so each vector and each size-prefixed format has a
+//! clause of its own.
 
-/// Numbers are read uniquely. `s33` is an index, spelled as a signed number.
+/// The formats of numbers are unambiguous. `s33` is an index, encoded as a signed number.
 ///
 /// # Proved
 ///
 /// ```text
-/// ensures u32 { UniqueReading u32_format }
-/// ensures u64 { UniqueReading u64_format }
-/// ensures s32 { UniqueReading s32 }
-/// ensures s64 { UniqueReading s64 }
-/// ensures s33 { UniqueReading s33 }
-/// ensures u32_texts { HasTexts u32_format (FitsUnsigned 32) unsigned_text }
-/// ensures u64_texts { HasTexts u64_format (FitsUnsigned 64) unsigned_text }
-/// ensures s32_texts { HasTexts s32 FitsSigned32 signed_text }
-/// ensures s64_texts { HasTexts s64 FitsSigned64 signed_text }
-/// ensures s33_texts { HasTexts s33 (FitsUnsigned 32) (λ n. signed_text (pos n)) }
+/// ensures u32 { Unambiguous u32_format }
+/// ensures u64 { Unambiguous u64_format }
+/// ensures s32 { Unambiguous s32 }
+/// ensures s64 { Unambiguous s64 }
+/// ensures s33 { Unambiguous s33 }
+/// ensures u32_encodings { HasMinimalEncodings u32_format (IsUnsignedInRange 32) unsigned_encoding }
+/// ensures u64_encodings { HasMinimalEncodings u64_format (IsUnsignedInRange 64) unsigned_encoding }
+/// ensures s32_encodings { HasMinimalEncodings s32 IsSigned32InRange signed_encoding }
+/// ensures s64_encodings { HasMinimalEncodings s64 IsSigned64InRange signed_encoding }
+/// ensures s33_encodings { HasMinimalEncodings s33 (IsUnsignedInRange 32) (λ n. signed_encoding (pos n)) }
 /// ```
 pub fn numbers() {}
 
-/// Fixed bytes, names, vectors and frames are read uniquely, and so is a module at the level of ids and payloads.
+/// Fixed-width bytes, names, vectors and size-prefixed payloads are unambiguous, and so is a module
+/// of section ids and payloads.
 ///
 /// # Proved
 ///
 /// ```text
-/// ensures fixed_4 { UniqueReading (little_endian 4) }
-/// ensures fixed_8 { UniqueReading (little_endian 8) }
-/// ensures fixed_16 { UniqueReading (little_endian 16) }
-/// ensures vec_bytes { UniqueReading (vec byte) }
-/// ensures vec_u32 { UniqueReading (vec u32_format) }
-/// ensures vec_names { UniqueReading (vec name) }
-/// ensures frame { UniqueReading (frame any_bytes) }
-/// ensures name { UniqueReading name }
-/// ensures custom { UniqueReading custom }
-/// ensures wasm_module { UniqueWholeReading wasm_module }
-/// ensures fixed_4_texts { HasTexts (little_endian 4) (FitsBytes 4) (little_endian_text 4) }
-/// ensures fixed_8_texts { HasTexts (little_endian 8) (FitsBytes 8) (little_endian_text 8) }
-/// ensures fixed_16_texts { HasTexts (little_endian 16) (FitsBytes 16) (little_endian_text 16) }
-/// ensures vec_bytes_texts { HasTexts (vec byte) FrameFits frame_text }
-/// ensures vec_u32_texts { HasTexts (vec u32_format) (VecFits (FitsUnsigned 32)) (vec_text unsigned_text) }
-/// ensures vec_names_texts { HasTexts (vec name) (VecFits NameFits) (vec_text frame_text) }
-/// ensures frame_texts { HasTexts (frame any_bytes) FrameFits frame_text }
-/// ensures name_texts { HasTexts name NameFits frame_text }
-/// ensures custom_texts { HasTexts custom CustomFits custom_text }
-/// ensures module_texts { HasTexts wasm_module ModuleFits module_text }
+/// ensures fixed_4 { Unambiguous (little_endian 4) }
+/// ensures fixed_8 { Unambiguous (little_endian 8) }
+/// ensures fixed_16 { Unambiguous (little_endian 16) }
+/// ensures vec_bytes { Unambiguous (vec byte) }
+/// ensures vec_u32 { Unambiguous (vec u32_format) }
+/// ensures vec_names { Unambiguous (vec name) }
+/// ensures size_prefixed { Unambiguous (size_prefixed any_bytes) }
+/// ensures name { Unambiguous name }
+/// ensures custom { Unambiguous custom }
+/// ensures wasm_module { UnambiguousWhole wasm_module }
+/// ensures fixed_4_encodings { HasMinimalEncodings (little_endian 4) (IsByteNumberInRange 4) (little_endian_encoding 4) }
+/// ensures fixed_8_encodings { HasMinimalEncodings (little_endian 8) (IsByteNumberInRange 8) (little_endian_encoding 8) }
+/// ensures fixed_16_encodings { HasMinimalEncodings (little_endian 16) (IsByteNumberInRange 16) (little_endian_encoding 16) }
+/// ensures vec_bytes_encodings { HasMinimalEncodings (vec byte) HasEncodableSize size_prefixed_encoding }
+/// ensures vec_u32_encodings { HasMinimalEncodings (vec u32_format) (IsEncodableVec (IsUnsignedInRange 32)) (vec_encoding unsigned_encoding) }
+/// ensures vec_names_encodings { HasMinimalEncodings (vec name) (IsEncodableVec IsEncodableName) (vec_encoding size_prefixed_encoding) }
+/// ensures size_prefixed_encodings { HasMinimalEncodings (size_prefixed any_bytes) HasEncodableSize size_prefixed_encoding }
+/// ensures name_encodings { HasMinimalEncodings name IsEncodableName size_prefixed_encoding }
+/// ensures custom_encodings { HasMinimalEncodings custom IsEncodableCustom custom_encoding }
+/// ensures module_encodings { HasMinimalEncodings wasm_module IsEncodableModule module_encoding }
 /// ```
 pub fn frames() {}
 
-/// Where a module is read as ids and payloads, and the text that frames a payload as one value alone, the payload is read as this
-/// value alone.
+/// Suppose that a module decodes to ids and payloads, and that a payload with its size prefix
+/// decodes to one value alone. Then the payload decodes to this value alone.
 ///
 /// # Proved
 ///
 /// ```text
-/// ensures bytes { ReadsPayloads any_bytes }
-/// ensures u32 { ReadsPayloads u32_format }
-/// ensures custom { ReadsPayloads (pair name any_bytes) }
+/// ensures bytes { DecodesPayloads any_bytes }
+/// ensures u32 { DecodesPayloads u32_format }
+/// ensures custom { DecodesPayloads (pair name any_bytes) }
 /// ```
 pub fn payloads() {}
 
@@ -68,24 +72,25 @@ pub fn payloads() {}
 /// # Proved
 ///
 /// ```text
-/// ensures bytes { ReadsPayloadsWide any_bytes }
-/// ensures u32 { ReadsPayloadsWide u32_format }
-/// ensures custom { ReadsPayloadsWide (pair name any_bytes) }
+/// ensures bytes { DecodesPayloadsPadded any_bytes }
+/// ensures u32 { DecodesPayloadsPadded u32_format }
+/// ensures custom { DecodesPayloadsPadded (pair name any_bytes) }
 /// ```
-pub fn wide_payloads() {}
+pub fn padded_payloads() {}
 
-/// Types are read uniquely: no index begins with a byte of theirs, nor with the 40 of an empty block type (hexadecimal).
+/// The formats of types are unambiguous. No index begins with a byte that encodes a type, nor with
+/// 0x40, the empty block type.
 ///
 /// # Proved
 ///
 /// ```text
-/// ensures heap { UniqueReading heap_type }
-/// ensures reference { UniqueReading ref_type }
-/// ensures value { UniqueReading val_type }
+/// ensures heap { Unambiguous heap_type }
+/// ensures reference { Unambiguous ref_type }
+/// ensures value { Unambiguous val_type }
 /// ensures index { BeginsWith IsIndexByte s33 }
-/// ensures heap_texts { HasTexts heap_type IsHeap heap_text }
-/// ensures reference_texts { HasTexts ref_type IsRef ref_text }
-/// ensures value_texts { HasTexts val_type IsVal val_text }
+/// ensures heap_encodings { HasMinimalEncodings heap_type IsHeap heap_encoding }
+/// ensures reference_encodings { HasMinimalEncodings ref_type IsRef ref_encoding }
+/// ensures value_encodings { HasMinimalEncodings val_type IsVal val_encoding }
 /// ```
 pub fn types() {}
 
@@ -101,33 +106,35 @@ pub fn types() {}
 /// ```
 pub fn constants() {}
 
-/// With padded numbers, as the standard allows them, bytes are read uniquely too, and what shortest numbers spell is among it.
+/// With padded numbers, as the standard allows them, the formats are unambiguous too. A minimal
+/// encoding is also an encoding in this mode.
 ///
 /// # Proved
 ///
 /// ```text
-/// ensures u32 { IsUniqueWide u32_format }
-/// ensures u64 { IsUniqueWide u64_format }
-/// ensures s32 { IsUniqueWide s32 }
-/// ensures s64 { IsUniqueWide s64 }
-/// ensures s33 { IsUniqueWide s33 }
-/// ensures fixed_4 { IsUniqueWide (little_endian 4) }
-/// ensures fixed_8 { IsUniqueWide (little_endian 8) }
-/// ensures fixed_16 { IsUniqueWide (little_endian 16) }
-/// ensures vec_bytes { IsUniqueWide (vec byte) }
-/// ensures vec_u32 { IsUniqueWide (vec u32_format) }
-/// ensures vec_names { IsUniqueWide (vec name) }
-/// ensures frame { IsUniqueWide (frame any_bytes) }
-/// ensures name { IsUniqueWide name }
-/// ensures custom { IsUniqueWide custom }
-/// ensures wasm_module { IsUniqueWholeWide wasm_module }
-/// ensures heap_type { IsUniqueWide heap_type }
-/// ensures ref_type { IsUniqueWide ref_type }
-/// ensures val_type { IsUniqueWide val_type }
+/// ensures u32 { UnambiguousPadded u32_format }
+/// ensures u64 { UnambiguousPadded u64_format }
+/// ensures s32 { UnambiguousPadded s32 }
+/// ensures s64 { UnambiguousPadded s64 }
+/// ensures s33 { UnambiguousPadded s33 }
+/// ensures fixed_4 { UnambiguousPadded (little_endian 4) }
+/// ensures fixed_8 { UnambiguousPadded (little_endian 8) }
+/// ensures fixed_16 { UnambiguousPadded (little_endian 16) }
+/// ensures vec_bytes { UnambiguousPadded (vec byte) }
+/// ensures vec_u32 { UnambiguousPadded (vec u32_format) }
+/// ensures vec_names { UnambiguousPadded (vec name) }
+/// ensures size_prefixed { UnambiguousPadded (size_prefixed any_bytes) }
+/// ensures name { UnambiguousPadded name }
+/// ensures custom { UnambiguousPadded custom }
+/// ensures wasm_module { UnambiguousWholePadded wasm_module }
+/// ensures heap_type { UnambiguousPadded heap_type }
+/// ensures ref_type { UnambiguousPadded ref_type }
+/// ensures val_type { UnambiguousPadded val_type }
 /// ```
-pub fn wide() {}
+pub fn padded() {}
 
-/// A name is UTF-8. Where one lies behind a reference, as in a record, no clause shows it: this call does.
+/// A name is UTF-8. For a name behind a reference, as in a record, no clause shows that; this call
+/// does.
 ///
 /// # Proved
 ///

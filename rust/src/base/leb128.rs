@@ -1,29 +1,30 @@
 // Written by tools/to-rust from crates/wasm_base/src/leb128.rt: change that.
-// LEB128: numbers written in fewest bytes, and their groups of seven bits read.
+// LEB128: encodes numbers in their minimal form, and decodes groups of seven bits.
 
 use crate::vec::Sink;
 use crate::base::encode::Encode;
-use crate::base::refused::{R, Refused};
+use crate::base::refused::{Refused, Result};
 
-/// An unsigned number below this is a group by itself, the last one.
+/// An unsigned number below this is one group, the last one.
 const UNSIGNED_LIMIT: u64 = 0x80;
 
-/// A signed number from the negation of this on, and below this, is a group by itself: bit 6 is the sign.
+/// A signed number from `-SIGNED_LIMIT` up to, but not including, `SIGNED_LIMIT` is one group: bit
+/// 6 is the sign.
 const SIGNED_LIMIT: u64 = 0x40;
 
-/// How many bytes the shortest unsigned spelling of `n` has.
+/// Returns the length in bytes of the minimal unsigned encoding of `n`.
 ///
 /// # Proved
 ///
 /// ```text
-/// ensures value { result ≡ length (unsigned_text n) }
+/// ensures value { result ≡ length (unsigned_encoding n) }
 /// ensures bound { result ≤ 5 }
 /// ```
 pub fn encoding_size(n: u32) -> usize {
     groups_size(false, UNSIGNED_LIMIT, u64::from(n))
 }
 
-/// How many groups `n` has.
+/// Returns the number of groups of `n`.
 ///
 /// # Asks
 ///
@@ -34,7 +35,7 @@ pub fn encoding_size(n: u32) -> usize {
 /// # Proved
 ///
 /// ```text
-/// ensures { result ≡ length (groups_text negative limit n) }
+/// ensures { result ≡ length (groups_encoding negative limit n) }
 /// ```
 fn groups_size(negative: bool, limit: u64, n: u64) -> usize {
     let mut size = 1;
@@ -46,7 +47,7 @@ fn groups_size(negative: bool, limit: u64, n: u64) -> usize {
     size
 }
 
-/// A group of `n` that others follow.
+/// Returns the lowest group of `n`, which further groups follow.
 ///
 /// # Proved
 ///
@@ -59,7 +60,7 @@ fn group_before_others(negative: bool, n: u64) -> u8 {
     if negative { 0xFF - low } else { low + 0x80 }
 }
 
-/// The last group.
+/// Returns the last group of a number.
 ///
 /// # Asks
 ///
@@ -78,19 +79,19 @@ fn group_at_the_end(negative: bool, n: u64) -> u8 {
     if negative { 0x7F - low } else { low }
 }
 
-/// Appends the groups of `n`, where the sink has room for them.
+/// Appends the groups of `n` into spare capacity of the sink, which holds them all.
 ///
 /// # Asks
 ///
 /// ```text
 /// requires limit { 0 < limit × limit ≤ 0x80 }
-/// requires room { vec_len sink.old + length (groups_text negative limit n) ≤ vec_capacity sink.old }
+/// requires spare { vec_len sink.old + length (groups_encoding negative limit n) ≤ vec_capacity sink.old }
 /// ```
 ///
 /// # Proved
 ///
 /// ```text
-/// ensures items { sink.new.items ≡ sink.old.items ++ groups_text negative limit n }
+/// ensures items { sink.new.items ≡ sink.old.items ++ groups_encoding negative limit n }
 /// ensures capacity { vec_capacity sink.new ≡ vec_capacity sink.old }
 /// ```
 fn put_groups<A: Sink>(sink: &mut A, negative: bool, limit: u64, n: u64) {
@@ -102,20 +103,20 @@ fn put_groups<A: Sink>(sink: &mut A, negative: bool, limit: u64, n: u64) {
     sink.push_reserved(group_at_the_end(negative, rest));
 }
 
-/// Appends the groups of `n`, which has two of them, where the sink has room for them.
+/// Appends the two groups of `n` into spare capacity of the sink, which holds them.
 ///
 /// # Asks
 ///
 /// ```text
 /// requires limit { 0 < limit × limit ≤ 0x80 }
 /// requires two { limit ≤ n × n < limit * 0x80 }
-/// requires room { vec_len sink.old + 2 ≤ vec_capacity sink.old }
+/// requires spare { vec_len sink.old + 2 ≤ vec_capacity sink.old }
 /// ```
 ///
 /// # Proved
 ///
 /// ```text
-/// ensures items { sink.new.items ≡ sink.old.items ++ groups_text negative limit n }
+/// ensures items { sink.new.items ≡ sink.old.items ++ groups_encoding negative limit n }
 /// ensures capacity { vec_capacity sink.new ≡ vec_capacity sink.old }
 /// ```
 #[inline]
@@ -126,8 +127,8 @@ fn put_two_groups<A: Sink>(sink: &mut A, negative: bool, limit: u64, n: u64) {
 /// The most groups that a number of 64 bits has.
 const MOST_GROUPS: usize = 10;
 
-/// Appends the groups of `n`, which has several. Where there is room for as many as a number can have, they are not counted, and two
-/// are written without a loop.
+/// Appends the several groups of `n`. With spare capacity for `MOST_GROUPS` the groups are not
+/// counted first, and two groups are written without a loop.
 ///
 /// # Asks
 ///
@@ -139,10 +140,15 @@ const MOST_GROUPS: usize = 10;
 /// # Proved
 ///
 /// ```text
-/// ensures { Appends (groups_text negative limit n) ⊤ sink.old sink.new result }
+/// ensures { Appends (groups_encoding negative limit n) ⊤ sink.old sink.new result }
 /// ```
 #[inline(always)]
-fn append_groups<A: Sink>(sink: &mut A, negative: bool, limit: u64, n: u64) -> R<()> {
+fn append_groups<A: Sink>(
+    sink: &mut A,
+    negative: bool,
+    limit: u64,
+    n: u64,
+) -> Result<()> {
     if sink.capacity() - sink.len() < MOST_GROUPS {
         return append_counted_groups(sink, negative, limit, n);
     }
@@ -154,7 +160,7 @@ fn append_groups<A: Sink>(sink: &mut A, negative: bool, limit: u64, n: u64) -> R
     Ok(())
 }
 
-/// Appends the groups of `n`, after one request for as much memory as they take.
+/// Appends the groups of `n`, after one request for exactly the memory that they take.
 ///
 /// # Asks
 ///
@@ -165,7 +171,7 @@ fn append_groups<A: Sink>(sink: &mut A, negative: bool, limit: u64, n: u64) -> R
 /// # Proved
 ///
 /// ```text
-/// ensures { Appends (groups_text negative limit n) ⊤ sink.old sink.new result }
+/// ensures { Appends (groups_encoding negative limit n) ⊤ sink.old sink.new result }
 /// ```
 #[cold]
 #[inline(never)]
@@ -174,7 +180,7 @@ fn append_counted_groups<A: Sink>(
     negative: bool,
     limit: u64,
     n: u64,
-) -> R<()> {
+) -> Result<()> {
     sink.reserve(groups_size(negative, limit, n))?;
     put_groups(sink, negative, limit, n);
     Ok(())
@@ -191,10 +197,10 @@ fn append_counted_groups<A: Sink>(
 /// # Proved
 ///
 /// ```text
-/// ensures { Appends (unsigned_text n) ⊤ sink.old sink.new result }
+/// ensures { Appends (unsigned_encoding n) ⊤ sink.old sink.new result }
 /// ```
 #[inline(never)]
-fn append_long_unsigned<A: Sink>(sink: &mut A, n: u64) -> R<()> {
+fn append_long_unsigned<A: Sink>(sink: &mut A, n: u64) -> Result<()> {
     append_groups(sink, false, UNSIGNED_LIMIT, n)
 }
 
@@ -209,22 +215,22 @@ fn append_long_unsigned<A: Sink>(sink: &mut A, n: u64) -> R<()> {
 /// # Proved
 ///
 /// ```text
-/// ensures { Appends (groups_text negative SIGNED_LIMIT n) ⊤ sink.old sink.new result }
+/// ensures { Appends (groups_encoding negative SIGNED_LIMIT n) ⊤ sink.old sink.new result }
 /// ```
 #[inline(never)]
-fn append_long_signed<A: Sink>(sink: &mut A, negative: bool, n: u64) -> R<()> {
+fn append_long_signed<A: Sink>(sink: &mut A, negative: bool, n: u64) -> Result<()> {
     append_groups(sink, negative, SIGNED_LIMIT, n)
 }
 
-/// Most numbers have one byte, which is written in place.
+/// Appends an unsigned number. Most have one byte, which is written here without a call.
 ///
 /// # Proved
 ///
 /// ```text
-/// ensures { Appends (unsigned_text n) ⊤ sink.old sink.new result }
+/// ensures { Appends (unsigned_encoding n) ⊤ sink.old sink.new result }
 /// ```
 #[inline]
-fn append_unsigned<A: Sink>(sink: &mut A, n: u64) -> R<()> {
+fn append_unsigned<A: Sink>(sink: &mut A, n: u64) -> Result<()> {
     if n < UNSIGNED_LIMIT {
         sink.push(n as u8)?;
         return Ok(());
@@ -235,10 +241,10 @@ fn append_unsigned<A: Sink>(sink: &mut A, n: u64) -> R<()> {
 /// # Proved
 ///
 /// ```text
-/// ensures { Appends (signed_text n) ⊤ sink.old sink.new result }
+/// ensures { Appends (signed_encoding n) ⊤ sink.old sink.new result }
 /// ```
 #[inline]
-fn append_signed<A: Sink>(sink: &mut A, n: i64) -> R<()> {
+fn append_signed<A: Sink>(sink: &mut A, n: i64) -> Result<()> {
     let negative = n < 0;
     let n = if negative { -(n + 1) } else { n } as u64;
     if n < SIGNED_LIMIT {
@@ -248,63 +254,63 @@ fn append_signed<A: Sink>(sink: &mut A, n: i64) -> R<()> {
     append_long_signed(sink, negative, n)
 }
 
-/// One byte.
+/// Encodes the number as one byte.
 ///
 /// # Defined
 ///
 /// ```text
-/// text = { λ n. n ∷ [] }
-/// fits = { λ _. ⊤ }
+/// encoding = { λ n. n ∷ [] }
+/// encodable = { λ _. ⊤ }
 /// ```
 impl Encode for u8 {
     #[inline]
-    fn encode<A: Sink>(&self, sink: &mut A) -> R<()> {
+    fn encode<A: Sink>(&self, sink: &mut A) -> Result<()> {
         sink.push(*self)?;
         Ok(())
     }
 }
 
-/// Unsigned LEB128.
+/// Encodes the number as unsigned LEB128.
 ///
 /// # Defined
 ///
 /// ```text
-/// text = { unsigned_text }
-/// fits = { λ _. ⊤ }
+/// encoding = { unsigned_encoding }
+/// encodable = { λ _. ⊤ }
 /// ```
 impl Encode for u32 {
     #[inline]
-    fn encode<A: Sink>(&self, sink: &mut A) -> R<()> {
+    fn encode<A: Sink>(&self, sink: &mut A) -> Result<()> {
         append_unsigned(sink, u64::from(*self))
     }
 }
 
-/// Unsigned LEB128.
+/// Encodes the number as unsigned LEB128.
 ///
 /// # Defined
 ///
 /// ```text
-/// text = { unsigned_text }
-/// fits = { λ _. ⊤ }
+/// encoding = { unsigned_encoding }
+/// encodable = { λ _. ⊤ }
 /// ```
 impl Encode for u64 {
     #[inline]
-    fn encode<A: Sink>(&self, sink: &mut A) -> R<()> {
+    fn encode<A: Sink>(&self, sink: &mut A) -> Result<()> {
         append_unsigned(sink, *self)
     }
 }
 
-/// Unsigned LEB128 of a count or a length, which is too long past 4294967295.
+/// Encodes a count or a length as unsigned LEB128. A number above 4294967295 is `TooLong`.
 ///
 /// # Defined
 ///
 /// ```text
-/// text = { unsigned_text }
-/// fits = { λ n. n ≤ longest }
+/// encoding = { unsigned_encoding }
+/// encodable = { λ n. n ≤ longest }
 /// overlong = { λ n. longest < n }
 /// ```
 impl Encode for usize {
-    fn encode<A: Sink>(&self, sink: &mut A) -> R<()> {
+    fn encode<A: Sink>(&self, sink: &mut A) -> Result<()> {
         match u32::try_from(*self) {
             Ok(n) => n.encode(sink),
             Err(_) => Err(Refused::TooLong),
@@ -312,57 +318,58 @@ impl Encode for usize {
     }
 }
 
-/// Signed LEB128.
+/// Encodes the number as signed LEB128.
 ///
 /// # Defined
 ///
 /// ```text
-/// text = { signed_text }
-/// fits = { λ _. ⊤ }
+/// encoding = { signed_encoding }
+/// encodable = { λ _. ⊤ }
 /// ```
 impl Encode for i32 {
     #[inline]
-    fn encode<A: Sink>(&self, sink: &mut A) -> R<()> {
+    fn encode<A: Sink>(&self, sink: &mut A) -> Result<()> {
         append_signed(sink, i64::from(*self))
     }
 }
 
-/// Signed LEB128.
+/// Encodes the number as signed LEB128.
 ///
 /// # Defined
 ///
 /// ```text
-/// text = { signed_text }
-/// fits = { λ _. ⊤ }
+/// encoding = { signed_encoding }
+/// encodable = { λ _. ⊤ }
 /// ```
 impl Encode for i64 {
     #[inline]
-    fn encode<A: Sink>(&self, sink: &mut A) -> R<()> {
+    fn encode<A: Sink>(&self, sink: &mut A) -> Result<()> {
         append_signed(sink, *self)
     }
 }
 
-/// Groups of seven bits that stand at the front of bytes, the least group first.
+/// The groups of seven bits at the front of bytes, the lowest group first.
 #[derive(Clone, Copy, Debug)]
 pub struct Groups {
-    /// What they spell as a number without a sign.
+    /// The number that the groups encode without a sign.
     pub sum: u128,
-    /// 128 to the power of their number.
+    /// 128 to the power of the number of groups.
     pub power: u128,
-    /// The last of them, of which bit 6 is the sign.
+    /// The last group. Bit 6 is the sign of a signed number.
     pub last: u8,
 }
 
-/// Why no groups stand at the front.
+/// Why no number is at the front of the bytes.
 #[derive(Clone, Copy, PartialEq, Eq, Debug)]
 pub enum NoGroups {
     /// The bytes end before the last group.
     Ended,
-    /// There are more groups than may be.
+    /// There are more groups than the limit.
     TooMany,
 }
 
-/// The groups at the front, of which there may be `limit`, and the bytes after them.
+/// Decodes the groups at the front, at most `limit` of them, and returns them with the remaining
+/// bytes.
 ///
 /// # Asks
 ///
@@ -376,7 +383,7 @@ pub enum NoGroups {
 /// ensures found { IfOk result (λ x. HasGroups limit bytes.now x.0.sum x.0.power x.0.last x.1.now) }
 /// ensures power { IfOk result (λ x. x.0.power ≤ 128 ^ limit) }
 /// ensures below { IfOk result (λ x. x.0.sum < x.0.power) }
-/// ensures none { IfErr result (λ _. ReadsNothing (groups limit) wide bytes.now) }
+/// ensures none { IfErr result (λ _. Rejects (groups limit) padded bytes.now) }
 /// ensures ended { IfErr result (λ e. e ≡ Ended → length bytes.now < limit) }
 /// ensures too_many { IfErr result (λ e. e ≡ TooMany → limit ≤ length bytes.now) }
 /// ```

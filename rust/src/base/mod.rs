@@ -1,8 +1,10 @@
 // Written by tools/to-rust from crates/wasm_base/src/lib.rt: change that.
-//! The base of a WebAssembly encoder: numbers, names, vectors and frames, the entries of a builder, sections and modules.
+//! The base of a WebAssembly encoder: numbers, names, vectors and size prefixes, the entries of a
+//! builder, sections and modules.
 //!
-//! The formats are those of the WebAssembly core specification, "Binary Format". What bytes spell is defined in
-//! `specs/Formats.antt`, what a call appends in `specs/Calls.antt`, and [`laws`] says that bytes are read in one way.
+//! The formats are those of the WebAssembly core specification, "Binary Format".
+//! `specs/Formats.antt` defines which bytes encode which values, `specs/Calls.antt` the contracts
+//! of calls that append, and [`laws`] states that the formats are unambiguous.
 
 mod counted;
 mod cow;
@@ -26,14 +28,14 @@ mod vectors;
 pub use counted::{Counted, add_all};
 pub use cow::{CowSlice, CowStr};
 pub use encode::Encode;
-pub use frames::{begin_frame, encode_frame, encode_section};
+pub use frames::{begin_size_prefixed, encode_section, encode_size_prefixed};
 pub use kind::Kind;
 pub use leb128::{Groups, NoGroups, encoding_size, read_groups};
 pub use modules::Module;
 pub use once::{BytesOf, EncodeOnce, VecOf, bytes_of, vec_of};
 pub use parts::{Lent, Optional};
 pub use pieces::Pieces;
-pub use refused::{R, Refused};
+pub use refused::{Refused, Result};
 pub use section_id::{
     CORE_FUNCTION_EXACT_SORT, CORE_FUNCTION_SORT, CORE_GLOBAL_SORT, CORE_MEMORY_SORT,
     CORE_TABLE_SORT, CORE_TAG_SORT, SectionId,

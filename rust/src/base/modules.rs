@@ -2,11 +2,11 @@
 // Modules: the header, and sections one after another.
 
 use crate::vec::Vec;
-use crate::base::refused::R;
+use crate::base::refused::Result;
 use crate::base::sections::Section;
 use crate::alloc::{Allocator, Global};
 
-/// A module, seen as its bytes.
+/// A module: its header and the sections that were appended, as bytes.
 ///
 /// ```
 /// # use dolzhytik::{fallible::*, reader::*};
@@ -24,39 +24,48 @@ pub struct Module<A: Allocator = Global> {
 }
 
 impl<A: Allocator> Module<A> {
-    /// A module of no sections.
+    /// Returns a module without sections.
+    ///
+    /// # Errors
+    ///
+    /// Returns [`Refused::Memory`] if the allocation of the header fails.
     ///
     /// # Proved
     ///
     /// ```text
     /// ensures bytes { IfOk result (λ m. m ≡ header) }
-    /// ensures read { IfOk result (λ m. ReadsWhole wasm_module m []) }
+    /// ensures read { IfOk result (λ m. DecodesWhole wasm_module m []) }
     /// ensures memory { result ≢ Err Refused.TooLong }
     /// ```
-    pub fn new(alloc: A) -> R<Module<A>> {
+    pub fn new(alloc: A) -> Result<Module<A>> {
         Ok(Module {
             bytes: Vec::from_slice(alloc, b"\0asm\x01\0\0\0")?,
         })
     }
 
-    /// Appends a section. A refused call leaves the module as it was.
+    /// Appends a section.
+    ///
+    /// # Errors
+    ///
+    /// Returns [`Refused`], and leaves the module unchanged, if the section is too long or an
+    /// allocation fails.
     ///
     /// # Proved
     ///
     /// ```text
-    /// ensures ok { OnOk result (self.new ≡ self.old ++ (S.id_of section.now ∷ S.text section.now)) }
-    /// ensures read { OnOk result (ReadsOneMore (S.payload section.now) (S.id_of section.now) self.old self.new) }
-    /// ensures section { OnOk result (S.reading section.now) }
+    /// ensures ok { OnOk result (self.new ≡ self.old ++ (S.id_of section.now ∷ S.encoding section.now)) }
+    /// ensures read { OnOk result (DecodesOneMore (S.payload section.now) (S.id_of section.now) self.old self.new) }
+    /// ensures section { OnOk result (S.decoding section.now) }
     /// ensures err { OnErr result (self.new ≡ self.old) }
-    /// ensures fitted { OnOk result (S.fits section.now) }
-    /// ensures too_long { S.fits section.now → result ≢ Err Refused.TooLong }
+    /// ensures was_encodable { OnOk result (S.encodable section.now) }
+    /// ensures too_long { S.encodable section.now → result ≢ Err Refused.TooLong }
     /// ensures too_many { S.overlong section.now → result ≡ Err Refused.TooLong }
     /// ```
-    pub fn section<S: Section>(&mut self, section: &S) -> R<()> {
+    pub fn section<S: Section>(&mut self, section: &S) -> Result<()> {
         section.append_to(&mut self.bytes)
     }
 
-    /// A module with the same bytes, in memory of its own.
+    /// Returns a module of the same bytes, in memory of its own.
     ///
     /// # Proved
     ///
@@ -64,7 +73,7 @@ impl<A: Allocator> Module<A> {
     /// ensures same { IfOk result (λ m. m ≡ self.now) }
     /// ensures memory { result ≢ Err Refused.TooLong }
     /// ```
-    pub fn clone(&self) -> R<Module<A>>
+    pub fn clone(&self) -> Result<Module<A>>
     where
         A: Clone,
     {
@@ -74,7 +83,7 @@ impl<A: Allocator> Module<A> {
         })
     }
 
-    /// The bytes of the module.
+    /// Returns the bytes of the module.
     ///
     /// # Proved
     ///

@@ -1,24 +1,30 @@
 // Written by tools/to-rust from crates/wasm_base/src/once.rt: change that.
-// Values that are written once.
+// Values that are consumed by their encoding, such as the items of an iterator.
 
 use crate::vec::Sink;
 use crate::base::encode::Encode;
-use crate::base::refused::{R, Refused};
+use crate::base::refused::{Refused, Result};
 
-/// A value with a layout that is used up where it is written, since an iterator in it gives its items but once.
+/// A value that is consumed when it is encoded, since an iterator in it yields its items only once.
+///
+/// # Errors
+///
+/// `encode_once` returns [`Refused`], and leaves the sink unchanged, if an allocation fails or the
+/// encoding does not fit.
 ///
 /// # Defined
 ///
 /// ```text
-/// // What its iterators promise.
+/// // `lawful`: the contract of its iterators.
 /// lawful: { Self → Type 0 }
-/// // The texts that it may have.
+/// // `gives`: the encodings that it may have.
 /// gives: { Self → List ℕ → Type 0 }
-/// // fits: whatever its iterators give, every count, run and length of the text can be spelled.
-/// fits: { Self → Type 0 }
+/// // `encodable`: whatever its iterators yield, every count and length in the encoding is
+/// // representable.
+/// encodable: { Self → Type 0 }
 /// ```
 pub trait EncodeOnce {
-    /// Appends a text of the value. A refused call leaves the bytes of the sink as they were.
+    /// Appends an encoding of the value. On an error, the bytes of the sink are unchanged.
     ///
     /// # Asks
     ///
@@ -29,26 +35,28 @@ pub trait EncodeOnce {
     /// # Proved
     ///
     /// ```text
-    /// ensures { AppendsOnce (gives self) (fits self) sink.old sink.new result }
+    /// ensures { AppendsOnce (gives self) (encodable self) sink.old sink.new result }
     /// ```
-    fn encode_once<A: Sink>(self, sink: &mut A) -> R<()>;
+    fn encode_once<A: Sink>(self, sink: &mut A) -> Result<()>;
 }
 
-/// The vector of the items of an iterator, which told their number before any was asked for: see [`vec_of`].
+/// The vector of an iterator's items, counted before the first item was requested: see [`vec_of`].
 #[derive(Debug)]
 pub struct VecOf<I> {
     items: I,
     count: u32,
 }
 
-/// The vector of the bytes of an iterator, which told their number before any was asked for: see [`bytes_of`].
+/// The vector of an iterator's bytes, counted before the first byte was requested: see
+/// [`bytes_of`].
 #[derive(Debug)]
 pub struct BytesOf<I> {
     items: I,
     count: u32,
 }
 
-/// How many items the iterator tells, where so many can be counted.
+/// Returns the number of items that the iterator reports, or `TooLong` if a count cannot represent
+/// it.
 ///
 /// # Proved
 ///
@@ -58,15 +66,19 @@ pub struct BytesOf<I> {
 /// ensures too_many { longest < size (I.remaining items.now) → result ≡ Err TooLong }
 /// ensures refused { IfErr result (λ refused. refused ≡ TooLong) }
 /// ```
-fn count_of<I: ExactSizeIterator>(items: &I) -> R<u32> {
+fn count_of<I: ExactSizeIterator>(items: &I) -> Result<u32> {
     let Ok(count) = u32::try_from(items.len()) else {
         return Err(Refused::TooLong);
     };
     Ok(count)
 }
 
-/// The vector of the elements, to be written once. It is refused where there are too many, and never for want of memory; it asks for no
-/// element, as tests show.
+/// Returns the vector of the elements, to be encoded once. It requests no element, as tests show.
+///
+/// # Errors
+///
+/// Returns `TooLong` if the iterator reports more than 4294967295 elements. It never returns
+/// `Memory`.
 ///
 /// # Proved
 ///
@@ -76,7 +88,7 @@ fn count_of<I: ExactSizeIterator>(items: &I) -> R<u32> {
 /// ensures too_many { ((it : V.IntoIter) → V.into_iter_gives elements it → longest < size (V.IntoIter.remaining it)) → result ≡ Err TooLong }
 /// ensures refused { IfErr result (λ refused. refused ≡ TooLong) }
 /// ```
-pub fn vec_of<V: IntoIterator>(elements: V) -> R<VecOf<V::IntoIter>>
+pub fn vec_of<V: IntoIterator>(elements: V) -> Result<VecOf<V::IntoIter>>
 where
     V::IntoIter: ExactSizeIterator,
 {
@@ -85,8 +97,12 @@ where
     Ok(VecOf { items, count })
 }
 
-/// The vector of the bytes, to be written once, as a whole where the iterator lends them so. It is refused where there are too many, and
-/// never for want of memory; it asks for no byte, as tests show.
+/// Returns the vector of the bytes, to be encoded once. An iterator that lends its bytes as a slice
+/// is copied as a whole. The call requests no byte, as tests show.
+///
+/// # Errors
+///
+/// Returns `TooLong` if the iterator reports more than 4294967295 bytes. It never returns `Memory`.
 ///
 /// # Proved
 ///
@@ -96,7 +112,7 @@ where
 /// ensures too_many { ((it : V.IntoIter) → V.into_iter_gives bytes it → longest < size (V.IntoIter.remaining it)) → result ≡ Err TooLong }
 /// ensures refused { IfErr result (λ refused. refused ≡ TooLong) }
 /// ```
-pub fn bytes_of<V: IntoIterator>(bytes: V) -> R<BytesOf<V::IntoIter>>
+pub fn bytes_of<V: IntoIterator>(bytes: V) -> Result<BytesOf<V::IntoIter>>
 where
     V::IntoIter: ExactSizeIterator,
 {
@@ -108,13 +124,13 @@ where
 /// # Defined
 ///
 /// ```text
-/// lawful = { λ v. TellsCount I.can_next I.next_gives I.remaining v.items v.count }
-/// gives = { λ v. GivesVec I.next_gives T.fits T.text v.items }
-/// fits = { λ v. YieldsFitting I.next_gives T.fits v.items }
+/// lawful = { λ v. ReportsCount I.can_next I.next_gives I.remaining v.items v.count }
+/// gives = { λ v. GivesVec I.next_gives T.encodable T.encoding v.items }
+/// encodable = { λ v. YieldsEncodable I.next_gives T.encodable v.items }
 /// ```
 impl<T: Encode, I: Iterator<Item = T>> EncodeOnce for VecOf<I> {
     #[inline(always)]
-    fn encode_once<A: Sink>(self, sink: &mut A) -> R<()> {
+    fn encode_once<A: Sink>(self, sink: &mut A) -> Result<()> {
         let VecOf { items, count } = self;
         let start = sink.len();
         count.encode(sink)?;
@@ -128,16 +144,17 @@ impl<T: Encode, I: Iterator<Item = T>> EncodeOnce for VecOf<I> {
     }
 }
 
-/// The largest number of bytes of a spelled count.
+/// The largest number of bytes of an encoded count.
 const COUNT_BYTES: usize = 5;
 
-/// How many bytes are taken at a time of a short run.
+/// The number of bytes of a short run that are copied at a time.
 const BLOCK: usize = 16;
 
-/// The most bytes of a short run.
+/// The length limit of a short run, in bytes.
 const SHORT: usize = 256;
 
-/// The next bytes of an iterator that gives as many. Nothing but their number is tested, so that they are copied as a whole.
+/// Returns the next `BLOCK` bytes of an iterator that has that many. Only their number is tested,
+/// so that the compiler copies them as a whole.
 ///
 /// # Asks
 ///
@@ -161,14 +178,15 @@ fn next_block<I: Iterator<Item = u8>>(items: &mut I) -> [u8; BLOCK] {
     block
 }
 
-/// Appends the bytes of a short run but for the last few, a block at a time, and of a long one none. The sink has room for them.
+/// Appends a short run but for its last few bytes, one block at a time, and nothing of a long run.
+/// The sink has spare capacity for the run.
 ///
 /// # Asks
 ///
 /// ```text
 /// requires ready { I.can_next items.old × IsFinite (I.remaining items.old) }
-/// requires told { (xs : List ℕ) → Drains I.next_gives items.old xs → length xs ≡ count }
-/// requires room { vec_len sink.old + count ≤ vec_capacity sink.old }
+/// requires reported { (xs : List ℕ) → Drains I.next_gives items.old xs → length xs ≡ count }
+/// requires spare { vec_len sink.old + count ≤ vec_capacity sink.old }
 /// ```
 ///
 /// # Proved
@@ -194,13 +212,13 @@ fn append_blocks<I: Iterator<Item = u8>, A: Sink>(
 /// # Defined
 ///
 /// ```text
-/// lawful = { λ v. TellsCount I.can_next I.next_gives I.remaining v.items v.count }
+/// lawful = { λ v. ReportsCount I.can_next I.next_gives I.remaining v.items v.count }
 /// gives = { λ v. GivesBytes I.next_gives v.items }
-/// fits = { λ _. Unit {0} }
+/// encodable = { λ _. Unit {0} }
 /// ```
 impl<I: Iterator<Item = u8>> EncodeOnce for BytesOf<I> {
     #[inline(always)]
-    fn encode_once<A: Sink>(self, sink: &mut A) -> R<()> {
+    fn encode_once<A: Sink>(self, sink: &mut A) -> Result<()> {
         let BytesOf { mut items, count } = self;
         let start = sink.len();
         let len = count as usize;
@@ -214,18 +232,18 @@ impl<I: Iterator<Item = u8>> EncodeOnce for BytesOf<I> {
     }
 }
 
-/// A part, and then one that is written once.
+/// A value, and then one that is encoded once.
 ///
 /// # Defined
 ///
 /// ```text
 /// lawful = { λ p. T.lawful p.1 }
-/// gives = { λ p. GivesPair (S.text p.0) (S.fits p.0) (T.gives p.1) }
-/// fits = { λ p. S.fits p.0 × T.fits p.1 }
+/// gives = { λ p. GivesPair (S.encoding p.0) (S.encodable p.0) (T.gives p.1) }
+/// encodable = { λ p. S.encodable p.0 × T.encodable p.1 }
 /// ```
 impl<S: Encode, T: EncodeOnce> EncodeOnce for (S, T) {
     #[inline(always)]
-    fn encode_once<A: Sink>(self, sink: &mut A) -> R<()> {
+    fn encode_once<A: Sink>(self, sink: &mut A) -> Result<()> {
         let (front, back) = self;
         let start = sink.len();
         front.encode(sink)?;
@@ -237,18 +255,18 @@ impl<S: Encode, T: EncodeOnce> EncodeOnce for (S, T) {
     }
 }
 
-/// A part, and then two that are written once.
+/// A value, and then two that are encoded once.
 ///
 /// # Defined
 ///
 /// ```text
 /// lawful = { λ p. T.lawful p.1 × U.lawful p.2 }
-/// gives = { λ p. GivesTriple (S.text p.0) (S.fits p.0) (T.gives p.1) (U.gives p.2) }
-/// fits = { λ p. S.fits p.0 × T.fits p.1 × U.fits p.2 }
+/// gives = { λ p. GivesTriple (S.encoding p.0) (S.encodable p.0) (T.gives p.1) (U.gives p.2) }
+/// encodable = { λ p. S.encodable p.0 × T.encodable p.1 × U.encodable p.2 }
 /// ```
 impl<S: Encode, T: EncodeOnce, U: EncodeOnce> EncodeOnce for (S, T, U) {
     #[inline(always)]
-    fn encode_once<A: Sink>(self, sink: &mut A) -> R<()> {
+    fn encode_once<A: Sink>(self, sink: &mut A) -> Result<()> {
         let (front, middle, back) = self;
         let start = sink.len();
         front.encode(sink)?;

@@ -1,44 +1,44 @@
 // Written by tools/to-rust from crates/wasm_base/src/parts.rt: change that.
-// Parts of layouts: values that are lent, and values that may be missing.
+// Components of encodings: borrowed values, and optional values.
 
 use crate::vec::Sink;
 use crate::base::encode::Encode;
-use crate::base::refused::R;
+use crate::base::refused::Result;
 
-/// A value that is lent, as a part of a layout.
+/// A borrowed value as a component of an encoding.
 #[derive(Debug)]
 pub struct Lent<'a, T>(pub &'a T);
 
-/// The text of the value.
+/// Encodes the value.
 ///
 /// # Defined
 ///
 /// ```text
-/// text = { λ lent. T.text lent.0.now }
-/// fits = { λ lent. T.fits lent.0.now }
+/// encoding = { λ lent. T.encoding lent.0.now }
+/// encodable = { λ lent. T.encodable lent.0.now }
 /// ```
 impl<T: Encode> Encode for Lent<'_, T> {
     #[inline]
-    fn encode<A: Sink>(&self, sink: &mut A) -> R<()> {
+    fn encode<A: Sink>(&self, sink: &mut A) -> Result<()> {
         self.0.encode(sink)
     }
 }
 
-/// A part of a layout that may be missing.
+/// An optional component of an encoding.
 #[derive(Clone, Copy, Debug)]
 pub struct Optional<T>(pub Option<T>);
 
-/// The part, or nothing.
+/// Encodes the value, or nothing if there is none.
 ///
 /// # Defined
 ///
 /// ```text
-/// text = { λ part. optional_text T.text part.0 }
-/// fits = { λ part. IfSome part.0 T.fits }
+/// encoding = { λ part. optional_encoding T.encoding part.0 }
+/// encodable = { λ part. IfSome part.0 T.encodable }
 /// ```
 impl<T: Encode> Encode for Optional<T> {
     #[inline]
-    fn encode<A: Sink>(&self, sink: &mut A) -> R<()> {
+    fn encode<A: Sink>(&self, sink: &mut A) -> Result<()> {
         match &self.0 {
             Some(part) => part.encode(sink),
             None => Ok(()),

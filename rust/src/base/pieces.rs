@@ -1,23 +1,30 @@
 // Written by tools/to-rust from crates/wasm_base/src/pieces.rt: change that.
-// The entries of a builder.
+// The buffer of a builder, in which its entries are encoded.
 
 use crate::vec::{Sink, Vec};
 use crate::base::encode::Encode;
 use crate::base::frames::encode_section;
 use crate::base::once::EncodeOnce;
-use crate::base::refused::{R, Refused};
+use crate::base::refused::{Refused, Result};
 use crate::alloc::{Allocator, Global};
 
-/// The entries of a builder, seen as the list of their bytes.
+/// The encoded entries of a builder, modelled as the list of their bytes.
 ///
-/// They lie one after another in one buffer; beside it stands where each of them ends.
+/// One buffer holds the entries one after another, and a second vector holds the end offset of
+/// each.
+///
+/// # Errors
+///
+/// An adding call that returns an error leaves the entries unchanged. The error is
+/// [`Refused::TooLong`] only if there are 4294967295 entries already or the item does not fit, and
+/// [`Refused::Memory`] only if an allocation fails.
 #[derive(Debug)]
 pub struct Pieces<A: Allocator = Global> {
     bytes: Vec<u8, A>,
     ends: Vec<usize, A>,
 }
 
-/// Where the entry at `index` begins.
+/// Returns the offset at which the entry at `index` begins.
 ///
 /// # Asks
 ///
@@ -35,7 +42,7 @@ fn start_of(ends: &[usize], index: usize) -> usize {
 }
 
 impl<A: Allocator> Pieces<A> {
-    /// How many bytes the entries have together.
+    /// Returns the length of all entries together, in bytes.
     ///
     /// # Proved
     ///
@@ -46,7 +53,7 @@ impl<A: Allocator> Pieces<A> {
         self.bytes.len()
     }
 
-    /// The number of entries.
+    /// Returns the number of entries.
     ///
     /// # Proved
     ///
@@ -57,7 +64,7 @@ impl<A: Allocator> Pieces<A> {
         self.ends.len() as u32
     }
 
-    /// Whether there is no entry.
+    /// Returns `true` if there are no entries.
     ///
     /// # Proved
     ///
@@ -68,7 +75,7 @@ impl<A: Allocator> Pieces<A> {
         self.ends.is_empty()
     }
 
-    /// The entries, one after another.
+    /// Returns the bytes of the entries, one entry after another.
     ///
     /// # Proved
     ///
@@ -79,7 +86,7 @@ impl<A: Allocator> Pieces<A> {
         &self.bytes
     }
 
-    /// The bytes of the entry at `index`.
+    /// Returns the bytes of the entry at `index`, or `None` if there is no such entry.
     ///
     /// # Proved
     ///
@@ -104,7 +111,7 @@ impl<A: Allocator> Pieces<A> {
     /// ensures { Adds entry.now ⊤ self.old self.new result }
     /// ```
     #[inline]
-    pub fn add(&mut self, entry: &[u8]) -> R<()> {
+    pub fn add(&mut self, entry: &[u8]) -> Result<()> {
         if self.ends.len() >= MOST_ENTRIES {
             return Err(Refused::TooLong);
         }
@@ -115,15 +122,15 @@ impl<A: Allocator> Pieces<A> {
         Ok(())
     }
 
-    /// Adds an entry that is the text of the item, which is written straight into the buffer.
+    /// Adds the encoding of the item as an entry. It is encoded directly into the buffer.
     ///
     /// # Proved
     ///
     /// ```text
-    /// ensures { Adds (T.text item.now) (T.fits item.now) self.old self.new result }
+    /// ensures { Adds (T.encoding item.now) (T.encodable item.now) self.old self.new result }
     /// ```
     #[inline]
-    pub fn add_encoded<T: Encode>(&mut self, item: &T) -> R<()> {
+    pub fn add_encoded<T: Encode>(&mut self, item: &T) -> Result<()> {
         if self.ends.len() >= MOST_ENTRIES {
             return Err(Refused::TooLong);
         }
@@ -134,7 +141,8 @@ impl<A: Allocator> Pieces<A> {
         Ok(())
     }
 
-    /// Adds an entry that is a text of the item, which is written straight into the buffer.
+    /// Adds an encoding of the item as an entry, and consumes the item. It is encoded directly into
+    /// the buffer.
     ///
     /// # Asks
     ///
@@ -145,10 +153,10 @@ impl<A: Allocator> Pieces<A> {
     /// # Proved
     ///
     /// ```text
-    /// ensures { AddsOnce (T.gives item) (T.fits item) self.old self.new result }
+    /// ensures { AddsOnce (T.gives item) (T.encodable item) self.old self.new result }
     /// ```
     #[inline]
-    pub fn add_once<T: EncodeOnce>(&mut self, item: T) -> R<()> {
+    pub fn add_once<T: EncodeOnce>(&mut self, item: T) -> Result<()> {
         if self.ends.len() >= MOST_ENTRIES {
             return Err(Refused::TooLong);
         }
@@ -160,11 +168,11 @@ impl<A: Allocator> Pieces<A> {
     }
 }
 
-/// The largest number of entries.
+/// The largest number of entries, which a count of 32 bits represents.
 const MOST_ENTRIES: usize = 4294967295;
 
 impl<A: Allocator + Copy> Pieces<A> {
-    /// No entries. It takes no memory.
+    /// Returns no entries, without an allocation.
     ///
     /// # Proved
     ///
@@ -178,7 +186,7 @@ impl<A: Allocator + Copy> Pieces<A> {
         }
     }
 
-    /// The same entries, in memory of their own.
+    /// Returns the same entries, in memory of their own.
     ///
     /// # Proved
     ///
@@ -186,7 +194,7 @@ impl<A: Allocator + Copy> Pieces<A> {
     /// ensures same { IfOk result (λ pieces. pieces ≡ self.now) }
     /// ensures memory { result ≢ Err Refused.TooLong }
     /// ```
-    pub fn clone(&self) -> R<Self> {
+    pub fn clone(&self) -> Result<Self> {
         let alloc = *self.bytes.allocator();
         Ok(Pieces {
             bytes: Vec::from_slice(alloc, &self.bytes)?,
@@ -195,17 +203,18 @@ impl<A: Allocator + Copy> Pieces<A> {
     }
 }
 
-/// A counted section without its id: the frame of the number of the entries and of these.
+/// Encodes a counted section without its id: the size prefix, the number of entries, and the
+/// entries.
 ///
 /// # Defined
 ///
 /// ```text
-/// text = { section_text }
-/// fits = { SectionFits }
+/// encoding = { section_encoding }
+/// encodable = { IsEncodableSection }
 /// overlong = { IsOverlong }
 /// ```
 impl<A: Allocator> Encode for Pieces<A> {
-    fn encode<B: Sink>(&self, sink: &mut B) -> R<()> {
+    fn encode<B: Sink>(&self, sink: &mut B) -> Result<()> {
         encode_section(sink, self.len(), self.bytes())
     }
 }

@@ -1,19 +1,22 @@
 // Written by tools/to-rust from crates/wasm_base/src/refused.rt: change that.
-// Why a call did nothing.
+// The error of calls that append or add.
 
 use crate::alloc::{AllocError, AllocFailed};
+use core::result;
 
-/// Why a call did nothing.
+/// The error of a call that appends to a sink or adds to a builder. Unless its documentation says
+/// otherwise, such a call changes nothing.
 #[derive(Clone, Copy, PartialEq, Eq, Debug)]
 pub enum Refused {
-    /// A request for memory was refused.
+    /// An allocation failed. Tests show that calls return it in no other case; no contract says
+    /// that.
     Memory,
-    /// A count, run or length would pass 4294967295.
+    /// A count or length would exceed 4294967295.
     TooLong,
 }
 
-/// What a call that can be refused answers.
-pub type R<T> = Result<T, Refused>;
+/// The result of a call that can fail with [`Refused`].
+pub type Result<T, E = Refused> = result::Result<T, E>;
 
 /// # Defined
 ///

@@ -1,7 +1,7 @@
 // Written by tools/to-rust from crates/wasm_base/src/section_id.rt: change that.
-// The numbers of sections and sorts.
+// The ids of sections, and the sorts of imports and exports.
 
-/// The kinds of sections, by the ids of the core specification, "Modules", and of its proposals.
+/// The ids of sections, as the core specification ("Modules") and its proposals define them.
 #[derive(Clone, Copy, PartialEq, Eq, Debug)]
 pub enum SectionId {
     Custom = 0,
@@ -31,25 +31,25 @@ impl From<SectionId> for u8 {
     }
 }
 
-/// The sort of functions, in imports and exports.
+/// The sort of functions in imports and exports.
 pub const CORE_FUNCTION_SORT: u8 = 0x00;
 
-/// The sort of tables.
+/// The sort of tables in imports and exports.
 pub const CORE_TABLE_SORT: u8 = 0x01;
 
-/// The sort of memories.
+/// The sort of memories in imports and exports.
 pub const CORE_MEMORY_SORT: u8 = 0x02;
 
-/// The sort of globals.
+/// The sort of globals in imports and exports.
 pub const CORE_GLOBAL_SORT: u8 = 0x03;
 
-/// The sort of tags.
+/// The sort of tags in imports and exports.
 pub const CORE_TAG_SORT: u8 = 0x04;
 
-/// The sort of functions of an exact type.
+/// The sort of functions of an exact type in imports and exports.
 pub const CORE_FUNCTION_EXACT_SORT: u8 = 0x20;
 
-// The sorts of the standard's "Binary Format", and that of the proposal for exact types.
+// The sorts of the standard's "Binary Format", and the sort of the proposal for exact types.
 const _: () = assert!(CORE_FUNCTION_SORT == 0x00);
 
 const _: () = assert!(CORE_TABLE_SORT == 0x01);

@@ -1,33 +1,33 @@
 // Written by tools/to-rust from crates/wasm_base/src/sections.rt: change that.
-// Sections: an id, and a layout that is mostly a frame.
+// The trait `Section`: an id, and an encoding that is usually size-prefixed.
 
 use crate::vec::Sink;
 use crate::base::encode::Encode;
-use crate::base::frames::encode_frame;
-use crate::base::refused::{R, Refused};
+use crate::base::frames::encode_size_prefixed;
+use crate::base::refused::{Refused, Result};
 
-/// A part of a module: an id, and a text that a reader finds the items of the section in.
+/// A section of a module: an id, and an encoding from which a reader decodes the section's items.
 ///
 /// # Defined
 ///
 /// ```text
-/// // The id of its kind.
+/// // The section id.
 /// id_of: { Self → ℕ }
-/// // What such a section can say: its items, or its bytes where it has none.
+/// // The type of the decoded content: the items, or the bytes of a section without items.
 /// Items: { Type 0 }
-/// // How items are spelled.
+/// // The format of the content.
 /// format: { Mode → List ℕ → Items → Type 0 }
-/// // The section says these items.
+/// // The section holds these items.
 /// says: { Self → Items → Type 0 }
-/// // The section's text is the frame of these bytes.
+/// // The encoding is the size prefix of these bytes, and the bytes.
 /// payload: { Self → List ℕ → Type 0 }
-/// // A payload is what the text frames.
-/// framed: { (section : Self) (bytes : List ℕ) → Self.fits section → payload section bytes → IsFrameOf (Self.text section) bytes }
-/// // The headline: what `encode` promises to readers is at least this.
-/// reads_back: { (section : Self) → Self.reading section → ReadsBack format (says section) (Self.text section) }
+/// // The encoding is the payload with its size prefix.
+/// sized: { (section : Self) (bytes : List ℕ) → Self.encodable section → payload section bytes → IsSizePrefixed (Self.encoding section) bytes }
+/// // The headline: `encode` promises at least that the encoding decodes to the items alone.
+/// decodes_back: { (section : Self) → Self.decoding section → DecodesBack format (says section) (Self.encoding section) }
 /// ```
 pub trait Section: Encode {
-    /// The number of its kind.
+    /// Returns the section id.
     ///
     /// # Proved
     ///
@@ -36,19 +36,19 @@ pub trait Section: Encode {
     /// ```
     fn id(&self) -> u8;
 
-    /// Appends the id and the text. A refused call leaves the bytes of `dst` as they were.
+    /// Appends the id and the encoding. On an error, the bytes of `dst` are unchanged.
     ///
     /// # Proved
     ///
     /// ```text
-    /// ensures appends { Appends (id_of self.now ∷ Self.text self.now) (Self.fits self.now) dst.old dst.new result }
-    /// ensures read { OnOk result (Self.reading self.now) }
+    /// ensures appends { Appends (id_of self.now ∷ Self.encoding self.now) (Self.encodable self.now) dst.old dst.new result }
+    /// ensures read { OnOk result (Self.decoding self.now) }
     /// ensures too_many { Self.overlong self.now → result ≡ Err TooLong }
     /// ```
-    fn append_to<A: Sink>(&self, dst: &mut A) -> R<()> {
+    fn append_to<A: Sink>(&self, dst: &mut A) -> Result<()> {
         let start = dst.len();
         if dst.push(self.id()).is_err() {
-            // A section that is too long says so, whatever memory there is.
+            // A section that is too long returns `TooLong`, however much memory there is.
             let refused = self.encode(dst).err();
             dst.truncate(start);
             return Err(refused.unwrap_or(Refused::Memory));
@@ -61,7 +61,7 @@ pub trait Section: Encode {
     }
 }
 
-/// A section whose data is given: its text is the frame of these bytes.
+/// A section of raw bytes, which become its payload.
 #[derive(Clone, Copy, Debug)]
 pub struct RawSection<'a> {
     pub id: u8,
@@ -71,14 +71,14 @@ pub struct RawSection<'a> {
 /// # Defined
 ///
 /// ```text
-/// text = { λ s. frame_text s.bytes.now }
-/// fits = { λ s. FrameFits s.bytes.now }
+/// encoding = { λ s. size_prefixed_encoding s.bytes.now }
+/// encodable = { λ s. HasEncodableSize s.bytes.now }
 /// overlong = { λ s. longest < length s.bytes.now }
-/// reading = { λ s. ReadsBack (frame any_bytes) (λ bytes. bytes ≡ s.bytes.now) (frame_text s.bytes.now) }
+/// decoding = { λ s. DecodesBack (size_prefixed any_bytes) (λ bytes. bytes ≡ s.bytes.now) (size_prefixed_encoding s.bytes.now) }
 /// ```
 impl Encode for RawSection<'_> {
-    fn encode<A: Sink>(&self, sink: &mut A) -> R<()> {
-        encode_frame(sink, self.bytes)
+    fn encode<A: Sink>(&self, sink: &mut A) -> Result<()> {
+        encode_size_prefixed(sink, self.bytes)
     }
 }
 
@@ -87,11 +87,11 @@ impl Encode for RawSection<'_> {
 /// ```text
 /// id_of = { λ s. s.id }
 /// Items = { List ℕ }
-/// format = { frame any_bytes }
+/// format = { size_prefixed any_bytes }
 /// says = { λ s bytes. bytes ≡ s.bytes.now }
 /// payload = { λ s bytes. bytes ≡ s.bytes.now }
-/// framed = { λ s bytes fits says. raw_framed s.bytes.now bytes fits says }
-/// reads_back = { λ s promised. promised }
+/// sized = { λ s bytes encodable says. raw_sized s.bytes.now bytes encodable says }
+/// decodes_back = { λ s promised. promised }
 /// ```
 impl Section for RawSection<'_> {
     fn id(&self) -> u8 {

@@ -1,23 +1,23 @@
 // Written by tools/to-rust from crates/wasm_base/src/tuples.rt: change that.
-// Layouts of several parts.
+// Encodings of several values one after another.
 
 use crate::vec::Sink;
 use crate::base::encode::Encode;
-use crate::base::refused::R;
+use crate::base::refused::Result;
 
-/// Appends one part and then the other, or neither.
+/// Appends the encodings of both values, or of neither.
 ///
 /// # Proved
 ///
 /// ```text
-/// ensures { Appends (S.text first.now ++ T.text second.now) (S.fits first.now × T.fits second.now) sink.old sink.new result }
+/// ensures { Appends (S.encoding first.now ++ T.encoding second.now) (S.encodable first.now × T.encodable second.now) sink.old sink.new result }
 /// ```
 #[inline(always)]
 fn encode_both<S: Encode, T: Encode, A: Sink>(
     first: &S,
     second: &T,
     sink: &mut A,
-) -> R<()> {
+) -> Result<()> {
     let start = sink.len();
     first.encode(sink)?;
     if let Err(refused) = second.encode(sink) {
@@ -27,32 +27,32 @@ fn encode_both<S: Encode, T: Encode, A: Sink>(
     Ok(())
 }
 
-/// One part, and then the other.
+/// Encodes one value, and then the other.
 ///
 /// # Defined
 ///
 /// ```text
-/// text = { λ p. S.text p.0 ++ T.text p.1 }
-/// fits = { λ p. S.fits p.0 × T.fits p.1 }
+/// encoding = { λ p. S.encoding p.0 ++ T.encoding p.1 }
+/// encodable = { λ p. S.encodable p.0 × T.encodable p.1 }
 /// ```
 impl<S: Encode, T: Encode> Encode for (S, T) {
     #[inline]
-    fn encode<A: Sink>(&self, sink: &mut A) -> R<()> {
+    fn encode<A: Sink>(&self, sink: &mut A) -> Result<()> {
         encode_both(&self.0, &self.1, sink)
     }
 }
 
-/// Three parts in order.
+/// Encodes three values in order.
 ///
 /// # Defined
 ///
 /// ```text
-/// text = { λ p. S.text p.0 ++ (T.text p.1 ++ U.text p.2) }
-/// fits = { λ p. S.fits p.0 × T.fits p.1 × U.fits p.2 }
+/// encoding = { λ p. S.encoding p.0 ++ (T.encoding p.1 ++ U.encoding p.2) }
+/// encodable = { λ p. S.encodable p.0 × T.encodable p.1 × U.encodable p.2 }
 /// ```
 impl<S: Encode, T: Encode, U: Encode> Encode for (S, T, U) {
     #[inline]
-    fn encode<A: Sink>(&self, sink: &mut A) -> R<()> {
+    fn encode<A: Sink>(&self, sink: &mut A) -> Result<()> {
         let start = sink.len();
         encode_both(&self.0, &self.1, sink)?;
         if let Err(refused) = self.2.encode(sink) {

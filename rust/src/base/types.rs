@@ -3,9 +3,10 @@
 
 use crate::vec::Sink;
 use crate::base::encode::Encode;
-use crate::base::refused::R;
+use crate::base::refused::Result;
 
-/// The heap types that have a name, as the core specification and its proposals have them.
+/// The heap types that have a name, as the core specification ("Heap Types") and its proposals
+/// define them.
 #[derive(Clone, Copy, PartialEq, Eq, Hash, Debug)]
 pub enum AbstractHeapType {
     Func = 0x70,
@@ -24,13 +25,13 @@ pub enum AbstractHeapType {
     NoCont = 0x75,
 }
 
-/// What a reference leads to.
+/// The type of the values that a reference refers to.
 #[derive(Clone, Copy, PartialEq, Eq, Hash, Debug)]
 pub enum HeapType {
     Abstract { shared: bool, ty: AbstractHeapType },
     /// The type of this index, and its subtypes.
     Concrete(u32),
-    /// The type of this index alone.
+    /// Exactly the type of this index.
     Exact(u32),
 }
 
@@ -48,7 +49,7 @@ impl HeapType {
     };
 }
 
-/// A reference, which may be null or not.
+/// A reference type, nullable or not.
 #[derive(Clone, Copy, PartialEq, Eq, Hash, Debug)]
 pub struct RefType {
     pub nullable: bool,
@@ -81,7 +82,7 @@ pub enum ValType {
 }
 
 impl AbstractHeapType {
-    /// Its byte.
+    /// Returns the byte that encodes the type.
     ///
     /// # Proved
     ///
@@ -94,32 +95,33 @@ impl AbstractHeapType {
     }
 }
 
-/// One byte.
+/// Encodes the type as one byte.
 ///
 /// # Defined
 ///
 /// ```text
-/// text = { λ ty. abstract_code ty ∷ [] }
-/// fits = { λ _. ⊤ }
+/// encoding = { λ ty. abstract_code ty ∷ [] }
+/// encodable = { λ _. ⊤ }
 /// ```
 impl Encode for AbstractHeapType {
     #[inline]
-    fn encode<A: Sink>(&self, sink: &mut A) -> R<()> {
+    fn encode<A: Sink>(&self, sink: &mut A) -> Result<()> {
         self.byte().encode(sink)
     }
 }
 
-/// A byte, or an index as a signed number, or a byte and what follows it.
+/// Encodes an abstract type as its byte, after a prefix byte if it is shared. An index is encoded
+/// as a signed number, and an exact type as a prefix byte and its index.
 ///
 /// # Defined
 ///
 /// ```text
-/// text = { heap_text }
-/// fits = { λ _. ⊤ }
+/// encoding = { heap_encoding }
+/// encodable = { λ _. ⊤ }
 /// ```
 impl Encode for HeapType {
     #[inline]
-    fn encode<A: Sink>(&self, sink: &mut A) -> R<()> {
+    fn encode<A: Sink>(&self, sink: &mut A) -> Result<()> {
         match *self {
             HeapType::Abstract { shared: false, ty } => ty.encode(sink),
             HeapType::Abstract { shared: true, ty } => (0x65u8, ty).encode(sink),
@@ -129,17 +131,17 @@ impl Encode for HeapType {
     }
 }
 
-/// `FUNCREF` and `EXTERNREF` have a byte of their own; others are a byte and the heap type.
+/// Encodes `FUNCREF` and `EXTERNREF` as one byte, and all others as a byte and the heap type.
 ///
 /// # Defined
 ///
 /// ```text
-/// text = { ref_text }
-/// fits = { λ _. ⊤ }
+/// encoding = { ref_encoding }
+/// encodable = { λ _. ⊤ }
 /// ```
 impl Encode for RefType {
     #[inline]
-    fn encode<A: Sink>(&self, sink: &mut A) -> R<()> {
+    fn encode<A: Sink>(&self, sink: &mut A) -> Result<()> {
         let byte: u8 = match (self.nullable, self.heap_type) {
             (
                 true,
@@ -162,41 +164,23 @@ impl Encode for RefType {
     }
 }
 
-/// One byte, or the reference type.
+/// Encodes a number or vector type as one byte, and a reference as its reference type.
 ///
 /// # Defined
 ///
 /// ```text
-/// text = { val_text }
-/// fits = { λ _. ⊤ }
+/// encoding = { val_encoding }
+/// encodable = { λ _. ⊤ }
 /// ```
 impl Encode for ValType {
     #[inline(always)]
-    fn encode<A: Sink>(&self, sink: &mut A) -> R<()> {
+    fn encode<A: Sink>(&self, sink: &mut A) -> Result<()> {
         let byte: u8 = match *self {
             ValType::I32 => 0x7F,
             ValType::I64 => 0x7E,
             ValType::F32 => 0x7D,
             ValType::F64 => 0x7C,
             ValType::V128 => 0x7B,
-            ValType::Ref(
-                RefType {
-                    nullable: true,
-                    heap_type: HeapType::Abstract {
-                        shared: false,
-                        ty: AbstractHeapType::Func,
-                    },
-                },
-            ) => 0x70,
-            ValType::Ref(
-                RefType {
-                    nullable: true,
-                    heap_type: HeapType::Abstract {
-                        shared: false,
-                        ty: AbstractHeapType::Extern,
-                    },
-                },
-            ) => 0x6F,
             ValType::Ref(ty) => return ty.encode(sink),
         };
         byte.encode(sink)

@@ -4,19 +4,19 @@
 use crate::vec::Sink;
 use crate::base::encode::Encode;
 use crate::base::once::{EncodeOnce, vec_of};
-use crate::base::refused::R;
+use crate::base::refused::Result;
 
-/// The vector of the members.
+/// Encodes the members as a vector.
 ///
 /// # Defined
 ///
 /// ```text
-/// text = { λ s. vec_text T.text s.now }
-/// fits = { λ s. VecFits T.fits s.now }
+/// encoding = { λ s. vec_encoding T.encoding s.now }
+/// encodable = { λ s. IsEncodableVec T.encodable s.now }
 /// overlong = { λ s. longest < length s.now }
 /// ```
 impl<T: Encode> Encode for &[T] {
-    fn encode<A: Sink>(&self, sink: &mut A) -> R<()> {
+    fn encode<A: Sink>(&self, sink: &mut A) -> Result<()> {
         let start = sink.len();
         self.len().encode(sink)?;
         for item in self.iter() {
@@ -29,8 +29,9 @@ impl<T: Encode> Encode for &[T] {
     }
 }
 
-/// Appends the vector of the elements: the length that they tell, and each of them. A refused call leaves the bytes of the
-/// sink as they were. Where the length is too long, it answers `TooLong`, and asks for no element, as tests show.
+/// Appends the elements as a vector: the length that their iterator reports, and then each element.
+/// On an error, the bytes of the sink are unchanged. If the reported length exceeds 4294967295, the
+/// call returns `TooLong`, and requests no element, as tests show.
 ///
 /// # Asks
 ///
@@ -41,12 +42,12 @@ impl<T: Encode> Encode for &[T] {
 /// # Proved
 ///
 /// ```text
-/// ensures { AppendsVec V.into_iter_gives V.IntoIter.next_gives V.IntoIter.remaining T.fits T.text elements sink.old sink.new result }
+/// ensures { AppendsVec V.into_iter_gives V.IntoIter.next_gives V.IntoIter.remaining T.encodable T.encoding elements sink.old sink.new result }
 /// ```
 pub fn encode_vec<T: Encode, V: IntoIterator<Item = T>, A: Sink>(
     elements: V,
     sink: &mut A,
-) -> R<()>
+) -> Result<()>
 where
     V::IntoIter: ExactSizeIterator,
 {

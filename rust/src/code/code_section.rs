@@ -1,12 +1,13 @@
 // Written by tools/to-rust from crates/wasm_code/src/code_section.rt: change that.
-// The code section.
+// The code section, to which function bodies are added.
 
 use crate::vec::Sink;
 use crate::code::function::Function;
 use crate::alloc::{Allocator, Global};
-use crate::base::{Counted, Encode, Pieces, R, Section, SectionId, encode_frame};
+use crate::base::{Counted, Encode, Pieces, Result, Section, SectionId, encode_size_prefixed};
 
-/// The bodies of a module's functions, seen as the bytes of each entry: the frame of a raw body.
+/// The code section: the bodies of a module's functions, modelled as the bytes of each entry. An
+/// entry is a raw body with its size prefix.
 ///
 /// ```
 /// # use dolzhytik::{fallible::*, reader::*};
@@ -19,12 +20,18 @@ use crate::base::{Counted, Encode, Pieces, R, Section, SectionId, encode_frame};
 /// # }
 /// # example(Global).unwrap();
 /// ```
+///
+/// # Errors
+///
+/// An adding call that returns an error leaves the section unchanged. The error is `TooLong` only
+/// if the section is full or the body is longer than 4294967295 bytes, and `Memory` only if an
+/// allocation fails.
 #[derive(Debug)]
 pub struct CodeSection<A: Allocator = Global> {
     pieces: Pieces<A>,
 }
 
-/// A raw body that is given as bytes.
+/// A raw body that the caller passes as bytes.
 #[derive(Clone, Copy)]
 pub(crate) struct RawBody<'a> {
     pub(crate) bytes: &'a [u8],
@@ -33,18 +40,18 @@ pub(crate) struct RawBody<'a> {
 /// # Defined
 ///
 /// ```text
-/// text = { λ body. frame_text body.bytes.now }
-/// fits = { λ body. FrameFits body.bytes.now }
+/// encoding = { λ body. size_prefixed_encoding body.bytes.now }
+/// encodable = { λ body. HasEncodableSize body.bytes.now }
 /// ```
 impl Encode for RawBody<'_> {
     #[inline]
-    fn encode<A: Sink>(&self, sink: &mut A) -> R<()> {
-        encode_frame(sink, self.bytes)
+    fn encode<A: Sink>(&self, sink: &mut A) -> Result<()> {
+        encode_size_prefixed(sink, self.bytes)
     }
 }
 
 impl<A: Allocator> CodeSection<A> {
-    /// The number of bodies.
+    /// Returns the number of bodies.
     ///
     /// # Proved
     ///
@@ -55,7 +62,7 @@ impl<A: Allocator> CodeSection<A> {
         self.pieces.len()
     }
 
-    /// How many bytes the entries have together, without their number.
+    /// Returns the length of all entries together, in bytes, without their count.
     ///
     /// # Proved
     ///
@@ -66,7 +73,7 @@ impl<A: Allocator> CodeSection<A> {
         self.pieces.raw_len()
     }
 
-    /// Whether there is no body.
+    /// Returns `true` if there are no bodies.
     ///
     /// # Proved
     ///
@@ -77,7 +84,7 @@ impl<A: Allocator> CodeSection<A> {
         self.pieces.is_empty()
     }
 
-    /// The bytes of the entry at `index`: the frame of a raw body.
+    /// Returns the bytes of the entry at `index`: a raw body with its size prefix.
     ///
     /// # Proved
     ///
@@ -88,31 +95,31 @@ impl<A: Allocator> CodeSection<A> {
         self.pieces.get(index)
     }
 
-    /// Adds a function. A refused call leaves the section as it was.
+    /// Adds a function body.
     ///
     /// # Proved
     ///
     /// ```text
-    /// ensures { Adds (frame_text function.now) (FrameFits function.now) self.old self.new result }
+    /// ensures { Adds (size_prefixed_encoding function.now) (HasEncodableSize function.now) self.old self.new result }
     /// ```
-    pub fn function<B: Allocator>(&mut self, function: &Function<B>) -> R<()> {
+    pub fn function<B: Allocator>(&mut self, function: &Function<B>) -> Result<()> {
         self.pieces.add_encoded(function)
     }
 
-    /// Adds a raw body, as `Function::into_raw_body` gives it. A refused call leaves the section as it was.
+    /// Adds a raw body, as `Function::into_raw_body` returns it.
     ///
     /// # Proved
     ///
     /// ```text
-    /// ensures { Adds (frame_text body.now) (FrameFits body.now) self.old self.new result }
+    /// ensures { Adds (size_prefixed_encoding body.now) (HasEncodableSize body.now) self.old self.new result }
     /// ```
-    pub fn raw(&mut self, body: &[u8]) -> R<()> {
+    pub fn raw(&mut self, body: &[u8]) -> Result<()> {
         self.pieces.add_encoded(&RawBody { bytes: body })
     }
 }
 
 impl<A: Allocator + Copy> CodeSection<A> {
-    /// A section of no bodies. It takes no memory.
+    /// Returns a section without bodies, and allocates nothing.
     ///
     /// # Proved
     ///
@@ -125,7 +132,7 @@ impl<A: Allocator + Copy> CodeSection<A> {
         }
     }
 
-    /// A section of the same bodies, in memory of its own.
+    /// Returns a section of the same bodies, in memory of its own.
     ///
     /// # Proved
     ///
@@ -133,25 +140,25 @@ impl<A: Allocator + Copy> CodeSection<A> {
     /// ensures same { IfOk result (λ section. section ≡ self.now) }
     /// ensures memory { result ≢ Err TooLong }
     /// ```
-    pub fn clone(&self) -> R<Self> {
+    pub fn clone(&self) -> Result<Self> {
         Ok(CodeSection {
             pieces: self.pieces.clone()?,
         })
     }
 }
 
-/// The frame of the number of bodies and their frames.
+/// Encodes the size prefix, the number of bodies, and the bodies, each with its size prefix.
 ///
 /// # Defined
 ///
 /// ```text
-/// text = { section_text }
-/// fits = { SectionFits }
+/// encoding = { section_encoding }
+/// encodable = { IsEncodableSection }
 /// overlong = { IsOverlong }
-/// reading = { λ section. ReadsCode section (section_text section) }
+/// decoding = { λ section. DecodesCode section (section_encoding section) }
 /// ```
 impl<A: Allocator> Encode for CodeSection<A> {
-    fn encode<B: Sink>(&self, sink: &mut B) -> R<()> {
+    fn encode<B: Sink>(&self, sink: &mut B) -> Result<()> {
         self.pieces.encode(sink)
     }
 }
@@ -162,10 +169,10 @@ impl<A: Allocator> Encode for CodeSection<A> {
 /// id_of = { λ _. number_of ids.Code }
 /// Items = { List Body }
 /// format = { code_section }
-/// says = { SpellsBodies }
+/// says = { EncodesBodies }
 /// payload = { SectionPayload }
-/// framed = { section_framed }
-/// reads_back = { λ section promised. promised.bodies }
+/// sized = { section_sized }
+/// decodes_back = { λ section promised. promised.bodies }
 /// ```
 impl<A: Allocator> Section for CodeSection<A> {
     fn id(&self) -> u8 {
@@ -177,12 +184,12 @@ impl<A: Allocator> Section for CodeSection<A> {
 ///
 /// ```text
 /// pieces = { λ section. section }
-/// item_text = { frame_text }
-/// item_fits = { FrameFits }
+/// item_encoding = { size_prefixed_encoding }
+/// item_encodable = { HasEncodableSize }
 /// counted = { λ section. refl }
 /// ```
 impl<A: Allocator, B: Allocator> Counted<Function<B>> for CodeSection<A> {
-    fn add(&mut self, item: &Function<B>) -> R<()> {
+    fn add(&mut self, item: &Function<B>) -> Result<()> {
         self.function(item)
     }
 }

@@ -1,29 +1,35 @@
 // Written by tools/to-rust from crates/wasm_code/src/const_expr.rt: change that.
-// Constant expressions.
+// Constant expressions: the initializers of globals, tables and segments.
 
 use crate::vec::{Sink, Vec};
 use crate::code::first::First;
 use crate::code::function::append_all;
 use crate::alloc::{Allocator, Global};
-use crate::base::{Encode, HeapType, Optional, R, read_groups};
+use crate::base::{Encode, HeapType, Optional, Result, read_groups};
 use crate::insn::{Ieee32, Ieee64, Instruction, InstructionSink};
 
-/// A constant expression, seen as the bytes that are stored: those of its instructions, without the `End` that is written after
-/// them.
+/// A constant expression, modelled as its stored bytes: the instructions without the `End` that
+/// follows them in the encoding.
 ///
-/// The one instruction that `global_get`, `ref_null`, `ref_func`, `i32_const`, `i64_const`, `f32_const` or `f64_const` makes is kept as
-/// a value, which takes no memory, as tests show. All others are bytes.
+/// A single instruction of `global_get`, `ref_null`, `ref_func`, `i32_const`, `i64_const`,
+/// `f32_const` or `f64_const` is kept as a value, without an allocation, as tests show. All others
+/// are kept as bytes.
+///
+/// # Errors
+///
+/// Its calls return `Memory` if an allocation fails. `extended` alone can return `TooLong`: then an
+/// instruction has a list that is too long.
 #[derive(Debug)]
 pub struct ConstExpr<A: Allocator = Global> {
     first: Option<First>,
     bytes: Vec<u8, A>,
 }
 
-/// How many bytes `V128Const` has.
+/// The length of `V128Const` in bytes.
 const VECTOR_BYTES: usize = 18;
 
 impl<A: Allocator> ConstExpr<A> {
-    /// No instructions. It takes no memory.
+    /// Returns an expression without instructions, and allocates nothing.
     ///
     /// # Proved
     ///
@@ -37,7 +43,8 @@ impl<A: Allocator> ConstExpr<A> {
         }
     }
 
-    /// Bytes that spell instructions.
+    /// Returns the expression of these bytes, which should encode instructions. The call does not
+    /// check that.
     ///
     /// # Asks
     ///
@@ -54,13 +61,13 @@ impl<A: Allocator> ConstExpr<A> {
     ///     × (e ≡ xs)) }
     /// ensures memory { result ≢ Err TooLong }
     /// ```
-    pub fn raw<I: IntoIterator<Item = u8>>(alloc: A, bytes: I) -> R<Self> {
+    pub fn raw<I: IntoIterator<Item = u8>>(alloc: A, bytes: I) -> Result<Self> {
         let mut stored = Vec::new(alloc);
         append_all(&mut stored, bytes)?;
         Ok(ConstExpr::stored(stored))
     }
 
-    /// The instructions, one after another.
+    /// Returns the expression of the instructions, one after another.
     ///
     /// # Asks
     ///
@@ -76,13 +83,13 @@ impl<A: Allocator> ConstExpr<A> {
     pub fn extended<'i, I: IntoIterator<Item = Instruction<'i>>>(
         alloc: A,
         instructions: I,
-    ) -> R<Self> {
+    ) -> Result<Self> {
         let mut bytes = Vec::new(alloc);
         encode_each(instructions, &mut bytes)?;
         Ok(ConstExpr { first: None, bytes })
     }
 
-    /// The instructions that these bytes encode. It takes no memory.
+    /// Returns the instructions that these bytes encode, and allocates nothing.
     ///
     /// # Proved
     ///
@@ -93,7 +100,7 @@ impl<A: Allocator> ConstExpr<A> {
         ConstExpr { first: None, bytes }
     }
 
-    /// The instruction alone. It takes no memory.
+    /// Returns the expression of the instruction alone, and allocates nothing.
     ///
     /// # Proved
     ///
@@ -109,7 +116,7 @@ impl<A: Allocator> ConstExpr<A> {
         }
     }
 
-    /// `GlobalGet` alone.
+    /// Returns the expression of `GlobalGet` alone.
     ///
     /// # Proved
     ///
@@ -118,11 +125,11 @@ impl<A: Allocator> ConstExpr<A> {
     /// ensures memory { result ≢ Err TooLong }
     /// ```
     #[inline]
-    pub fn global_get(alloc: A, index: u32) -> R<Self> {
+    pub fn global_get(alloc: A, index: u32) -> Result<Self> {
         Ok(ConstExpr::of(alloc, First::GlobalGet(index)))
     }
 
-    /// `RefNull` alone.
+    /// Returns the expression of `RefNull` alone.
     ///
     /// # Proved
     ///
@@ -131,11 +138,11 @@ impl<A: Allocator> ConstExpr<A> {
     /// ensures memory { result ≢ Err TooLong }
     /// ```
     #[inline]
-    pub fn ref_null(alloc: A, ty: HeapType) -> R<Self> {
+    pub fn ref_null(alloc: A, ty: HeapType) -> Result<Self> {
         Ok(ConstExpr::of(alloc, First::RefNull(ty)))
     }
 
-    /// `RefFunc` alone.
+    /// Returns the expression of `RefFunc` alone.
     ///
     /// # Proved
     ///
@@ -144,11 +151,11 @@ impl<A: Allocator> ConstExpr<A> {
     /// ensures memory { result ≢ Err TooLong }
     /// ```
     #[inline]
-    pub fn ref_func(alloc: A, function_index: u32) -> R<Self> {
+    pub fn ref_func(alloc: A, function_index: u32) -> Result<Self> {
         Ok(ConstExpr::of(alloc, First::RefFunc(function_index)))
     }
 
-    /// `I32Const` alone.
+    /// Returns the expression of `I32Const` alone.
     ///
     /// # Proved
     ///
@@ -157,11 +164,11 @@ impl<A: Allocator> ConstExpr<A> {
     /// ensures memory { result ≢ Err TooLong }
     /// ```
     #[inline]
-    pub fn i32_const(alloc: A, value: i32) -> R<Self> {
+    pub fn i32_const(alloc: A, value: i32) -> Result<Self> {
         Ok(ConstExpr::of(alloc, First::I32Const(value)))
     }
 
-    /// `I64Const` alone.
+    /// Returns the expression of `I64Const` alone.
     ///
     /// # Proved
     ///
@@ -170,11 +177,11 @@ impl<A: Allocator> ConstExpr<A> {
     /// ensures memory { result ≢ Err TooLong }
     /// ```
     #[inline]
-    pub fn i64_const(alloc: A, value: i64) -> R<Self> {
+    pub fn i64_const(alloc: A, value: i64) -> Result<Self> {
         Ok(ConstExpr::of(alloc, First::I64Const(value)))
     }
 
-    /// `F32Const` alone.
+    /// Returns the expression of `F32Const` alone.
     ///
     /// # Proved
     ///
@@ -183,11 +190,11 @@ impl<A: Allocator> ConstExpr<A> {
     /// ensures memory { result ≢ Err TooLong }
     /// ```
     #[inline]
-    pub fn f32_const(alloc: A, value: Ieee32) -> R<Self> {
+    pub fn f32_const(alloc: A, value: Ieee32) -> Result<Self> {
         Ok(ConstExpr::of(alloc, First::F32Const(value)))
     }
 
-    /// `F64Const` alone.
+    /// Returns the expression of `F64Const` alone.
     ///
     /// # Proved
     ///
@@ -196,11 +203,11 @@ impl<A: Allocator> ConstExpr<A> {
     /// ensures memory { result ≢ Err TooLong }
     /// ```
     #[inline]
-    pub fn f64_const(alloc: A, value: Ieee64) -> R<Self> {
+    pub fn f64_const(alloc: A, value: Ieee64) -> Result<Self> {
         Ok(ConstExpr::of(alloc, First::F64Const(value)))
     }
 
-    /// `V128Const` alone.
+    /// Returns the expression of `V128Const` alone.
     ///
     /// # Proved
     ///
@@ -208,12 +215,12 @@ impl<A: Allocator> ConstExpr<A> {
     /// ensures stores { IfOk result (Stores (Instruction.VectorImmediate (VectorImmediate.V128Const value)) []) }
     /// ensures memory { result ≢ Err TooLong }
     /// ```
-    pub fn v128_const(alloc: A, value: i128) -> R<Self> {
+    pub fn v128_const(alloc: A, value: i128) -> Result<Self> {
         let bytes = Vec::with_capacity(alloc, VECTOR_BYTES)?;
         ConstExpr::stored(bytes).with_v128_const(value)
     }
 
-    /// This, and then `GlobalGet`.
+    /// Appends `GlobalGet` to the expression.
     ///
     /// # Proved
     ///
@@ -222,12 +229,12 @@ impl<A: Allocator> ConstExpr<A> {
     /// ensures memory { result ≢ Err TooLong }
     /// ```
     #[inline]
-    pub fn with_global_get(mut self, index: u32) -> R<Self> {
+    pub fn with_global_get(mut self, index: u32) -> Result<Self> {
         InstructionSink::new(&mut self.bytes).global_get(index)?;
         Ok(self)
     }
 
-    /// This, and then `RefNull`.
+    /// Appends `RefNull` to the expression.
     ///
     /// # Proved
     ///
@@ -236,12 +243,12 @@ impl<A: Allocator> ConstExpr<A> {
     /// ensures memory { result ≢ Err TooLong }
     /// ```
     #[inline]
-    pub fn with_ref_null(mut self, ty: HeapType) -> R<Self> {
+    pub fn with_ref_null(mut self, ty: HeapType) -> Result<Self> {
         InstructionSink::new(&mut self.bytes).ref_null(ty)?;
         Ok(self)
     }
 
-    /// This, and then `RefFunc`.
+    /// Appends `RefFunc` to the expression.
     ///
     /// # Proved
     ///
@@ -250,12 +257,12 @@ impl<A: Allocator> ConstExpr<A> {
     /// ensures memory { result ≢ Err TooLong }
     /// ```
     #[inline]
-    pub fn with_ref_func(mut self, function_index: u32) -> R<Self> {
+    pub fn with_ref_func(mut self, function_index: u32) -> Result<Self> {
         InstructionSink::new(&mut self.bytes).ref_func(function_index)?;
         Ok(self)
     }
 
-    /// This, and then `I32Const`.
+    /// Appends `I32Const` to the expression.
     ///
     /// # Proved
     ///
@@ -264,12 +271,12 @@ impl<A: Allocator> ConstExpr<A> {
     /// ensures memory { result ≢ Err TooLong }
     /// ```
     #[inline]
-    pub fn with_i32_const(mut self, value: i32) -> R<Self> {
+    pub fn with_i32_const(mut self, value: i32) -> Result<Self> {
         InstructionSink::new(&mut self.bytes).i32_const(value)?;
         Ok(self)
     }
 
-    /// This, and then `I64Const`.
+    /// Appends `I64Const` to the expression.
     ///
     /// # Proved
     ///
@@ -278,12 +285,12 @@ impl<A: Allocator> ConstExpr<A> {
     /// ensures memory { result ≢ Err TooLong }
     /// ```
     #[inline]
-    pub fn with_i64_const(mut self, value: i64) -> R<Self> {
+    pub fn with_i64_const(mut self, value: i64) -> Result<Self> {
         InstructionSink::new(&mut self.bytes).i64_const(value)?;
         Ok(self)
     }
 
-    /// This, and then `F32Const`.
+    /// Appends `F32Const` to the expression.
     ///
     /// # Proved
     ///
@@ -292,12 +299,12 @@ impl<A: Allocator> ConstExpr<A> {
     /// ensures memory { result ≢ Err TooLong }
     /// ```
     #[inline]
-    pub fn with_f32_const(mut self, value: Ieee32) -> R<Self> {
+    pub fn with_f32_const(mut self, value: Ieee32) -> Result<Self> {
         InstructionSink::new(&mut self.bytes).f32_const(value)?;
         Ok(self)
     }
 
-    /// This, and then `F64Const`.
+    /// Appends `F64Const` to the expression.
     ///
     /// # Proved
     ///
@@ -306,12 +313,12 @@ impl<A: Allocator> ConstExpr<A> {
     /// ensures memory { result ≢ Err TooLong }
     /// ```
     #[inline]
-    pub fn with_f64_const(mut self, value: Ieee64) -> R<Self> {
+    pub fn with_f64_const(mut self, value: Ieee64) -> Result<Self> {
         InstructionSink::new(&mut self.bytes).f64_const(value)?;
         Ok(self)
     }
 
-    /// This, and then `V128Const`.
+    /// Appends `V128Const` to the expression.
     ///
     /// # Proved
     ///
@@ -320,12 +327,12 @@ impl<A: Allocator> ConstExpr<A> {
     /// ensures memory { result ≢ Err TooLong }
     /// ```
     #[inline]
-    pub fn with_v128_const(mut self, value: i128) -> R<Self> {
+    pub fn with_v128_const(mut self, value: i128) -> Result<Self> {
         InstructionSink::new(&mut self.bytes).v128_const(value)?;
         Ok(self)
     }
 
-    /// This, and then `I32Add`.
+    /// Appends `I32Add` to the expression.
     ///
     /// # Proved
     ///
@@ -334,12 +341,12 @@ impl<A: Allocator> ConstExpr<A> {
     /// ensures memory { result ≢ Err TooLong }
     /// ```
     #[inline]
-    pub fn with_i32_add(mut self) -> R<Self> {
+    pub fn with_i32_add(mut self) -> Result<Self> {
         InstructionSink::new(&mut self.bytes).i32_add()?;
         Ok(self)
     }
 
-    /// This, and then `I32Sub`.
+    /// Appends `I32Sub` to the expression.
     ///
     /// # Proved
     ///
@@ -348,12 +355,12 @@ impl<A: Allocator> ConstExpr<A> {
     /// ensures memory { result ≢ Err TooLong }
     /// ```
     #[inline]
-    pub fn with_i32_sub(mut self) -> R<Self> {
+    pub fn with_i32_sub(mut self) -> Result<Self> {
         InstructionSink::new(&mut self.bytes).i32_sub()?;
         Ok(self)
     }
 
-    /// This, and then `I32Mul`.
+    /// Appends `I32Mul` to the expression.
     ///
     /// # Proved
     ///
@@ -362,12 +369,12 @@ impl<A: Allocator> ConstExpr<A> {
     /// ensures memory { result ≢ Err TooLong }
     /// ```
     #[inline]
-    pub fn with_i32_mul(mut self) -> R<Self> {
+    pub fn with_i32_mul(mut self) -> Result<Self> {
         InstructionSink::new(&mut self.bytes).i32_mul()?;
         Ok(self)
     }
 
-    /// This, and then `I64Add`.
+    /// Appends `I64Add` to the expression.
     ///
     /// # Proved
     ///
@@ -376,12 +383,12 @@ impl<A: Allocator> ConstExpr<A> {
     /// ensures memory { result ≢ Err TooLong }
     /// ```
     #[inline]
-    pub fn with_i64_add(mut self) -> R<Self> {
+    pub fn with_i64_add(mut self) -> Result<Self> {
         InstructionSink::new(&mut self.bytes).i64_add()?;
         Ok(self)
     }
 
-    /// This, and then `I64Sub`.
+    /// Appends `I64Sub` to the expression.
     ///
     /// # Proved
     ///
@@ -390,12 +397,12 @@ impl<A: Allocator> ConstExpr<A> {
     /// ensures memory { result ≢ Err TooLong }
     /// ```
     #[inline]
-    pub fn with_i64_sub(mut self) -> R<Self> {
+    pub fn with_i64_sub(mut self) -> Result<Self> {
         InstructionSink::new(&mut self.bytes).i64_sub()?;
         Ok(self)
     }
 
-    /// This, and then `I64Mul`.
+    /// Appends `I64Mul` to the expression.
     ///
     /// # Proved
     ///
@@ -404,12 +411,12 @@ impl<A: Allocator> ConstExpr<A> {
     /// ensures memory { result ≢ Err TooLong }
     /// ```
     #[inline]
-    pub fn with_i64_mul(mut self) -> R<Self> {
+    pub fn with_i64_mul(mut self) -> Result<Self> {
         InstructionSink::new(&mut self.bytes).i64_mul()?;
         Ok(self)
     }
 
-    /// The index of `RefFunc`, where the expression begins with it.
+    /// Returns the index of `RefFunc`, if the expression begins with it.
     ///
     /// # Proved
     ///
@@ -424,7 +431,7 @@ impl<A: Allocator> ConstExpr<A> {
     }
 }
 
-/// The index of `RefFunc`, where the bytes begin with it.
+/// Returns the index of `RefFunc`, if the bytes begin with it.
 ///
 /// # Proved
 ///
@@ -448,7 +455,7 @@ pub(crate) fn function_at_front(bytes: &[u8]) -> Option<u32> {
     }
 }
 
-/// Appends the texts of the elements.
+/// Appends the encodings of the elements.
 ///
 /// # Asks
 ///
@@ -459,12 +466,12 @@ pub(crate) fn function_at_front(bytes: &[u8]) -> Option<u32> {
 /// # Proved
 ///
 /// ```text
-/// ensures { AppendsEach I.into_iter_gives I.IntoIter.next_gives T.fits T.text elements sink.old.items sink.new.items result }
+/// ensures { AppendsEach I.into_iter_gives I.IntoIter.next_gives T.encodable T.encoding elements sink.old.items sink.new.items result }
 /// ```
 fn encode_each<T: Encode, I: IntoIterator<Item = T>, A: Sink>(
     elements: I,
     sink: &mut A,
-) -> R<()> {
+) -> Result<()> {
     for element in elements {
         element.encode(sink)?;
     }
@@ -472,7 +479,7 @@ fn encode_each<T: Encode, I: IntoIterator<Item = T>, A: Sink>(
 }
 
 impl<A: Allocator + Copy> ConstExpr<A> {
-    /// The same expression, in memory of its own.
+    /// Returns the same expression, in memory of its own.
     ///
     /// # Proved
     ///
@@ -480,7 +487,7 @@ impl<A: Allocator + Copy> ConstExpr<A> {
     /// ensures same { IfOk result (λ e. e ≡ self.now) }
     /// ensures memory { result ≢ Err TooLong }
     /// ```
-    pub fn clone(&self) -> R<Self> {
+    pub fn clone(&self) -> Result<Self> {
         let alloc = *self.bytes.allocator();
         Ok(ConstExpr {
             first: self.first,
@@ -489,40 +496,40 @@ impl<A: Allocator + Copy> ConstExpr<A> {
     }
 }
 
-/// Bytes that are stored, as a part of a layout.
+/// Stored bytes as a component of an encoding.
 pub(crate) struct Stored<'a>(pub(crate) &'a [u8]);
 
-/// The bytes as they are.
+/// Encodes the bytes as they are.
 ///
 /// # Defined
 ///
 /// ```text
-/// text = { λ stored. stored.0.now }
-/// fits = { λ _. ⊤ }
+/// encoding = { λ stored. stored.0.now }
+/// encodable = { λ _. ⊤ }
 /// ```
 impl Encode for Stored<'_> {
     #[inline]
-    fn encode<A: Sink>(&self, sink: &mut A) -> R<()> {
+    fn encode<A: Sink>(&self, sink: &mut A) -> Result<()> {
         sink.extend_from_slice(self.0)?;
         Ok(())
     }
 }
 
-/// The byte of `End`.
+/// The opcode of `End`.
 pub(crate) const END: u8 = 0x0B;
 
-/// The stored bytes, and `End`.
+/// Encodes the stored bytes, and `End`.
 ///
 /// # Defined
 ///
 /// ```text
-/// text = { expression_text }
-/// fits = { λ _. ⊤ }
-/// reading = { λ e. ReadsBack expression (StoresInstructions e) (expression_text e) }
+/// encoding = { expression_encoding }
+/// encodable = { λ _. ⊤ }
+/// decoding = { λ e. DecodesBack expression (StoresInstructions e) (expression_encoding e) }
 /// ```
 impl<A: Allocator> Encode for ConstExpr<A> {
     #[inline]
-    fn encode<B: Sink>(&self, sink: &mut B) -> R<()> {
+    fn encode<B: Sink>(&self, sink: &mut B) -> Result<()> {
         (Optional(self.first), Stored(&self.bytes), END).encode(sink)
     }
 }

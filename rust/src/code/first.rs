@@ -1,12 +1,12 @@
 // Written by tools/to-rust from crates/wasm_code/src/first.rt: change that.
-// The instruction that an expression begins with.
+// The first instruction of a constant expression, kept as a value.
 
 use crate::vec::Sink;
-use crate::base::{Encode, HeapType, R};
+use crate::base::{Encode, HeapType, Result};
 use crate::insn::{Ieee32, Ieee64};
 
-/// An instruction that is mostly an expression alone, kept as a value and not as bytes: it takes no memory, and is written once,
-/// where the expression is.
+/// An instruction that is usually a whole expression. It is kept as a value and not as bytes: it
+/// needs no allocation, and is encoded once, with the expression.
 #[derive(Clone, Copy, Debug)]
 pub enum First {
     GlobalGet(u32),
@@ -19,7 +19,7 @@ pub enum First {
 }
 
 impl First {
-    /// The index of `RefFunc`.
+    /// Returns the index of `RefFunc`.
     ///
     /// # Proved
     ///
@@ -35,17 +35,17 @@ impl First {
     }
 }
 
-/// The text of the instruction.
+/// Encodes the instruction.
 ///
 /// # Defined
 ///
 /// ```text
-/// text = { first_text }
-/// fits = { λ _. ⊤ }
+/// encoding = { first_encoding }
+/// encodable = { λ _. ⊤ }
 /// ```
 impl Encode for First {
     #[inline]
-    fn encode<A: Sink>(&self, sink: &mut A) -> R<()> {
+    fn encode<A: Sink>(&self, sink: &mut A) -> Result<()> {
         match *self {
             First::GlobalGet(index) => (0x23u8, index).encode(sink),
             First::RefNull(ty) => (0xD0u8, ty).encode(sink),

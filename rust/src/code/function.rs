@@ -1,13 +1,13 @@
 // Written by tools/to-rust from crates/wasm_code/src/function.rt: change that.
-// Function bodies.
+// Function bodies: locals and instructions.
 
 use crate::vec::{Sink, Vec};
 use crate::code::locals::runs_of;
 use crate::alloc::{Allocator, Global};
-use crate::base::{Encode, R, Refused, ValType, encode_frame, encode_vec};
+use crate::base::{Encode, Refused, Result, ValType, encode_size_prefixed, encode_vec};
 use crate::insn::{Buffer, Instruction, InstructionSink};
 
-/// A function, seen as its raw body: the runs of its locals, and its instructions.
+/// A function, modelled as its raw body: the runs of its locals, and its instructions.
 ///
 /// ```
 /// # use dolzhytik::{fallible::*, reader::*};
@@ -22,17 +22,23 @@ use crate::insn::{Buffer, Instruction, InstructionSink};
 /// # }
 /// # example(Global).unwrap();
 /// ```
+///
+/// # Errors
+///
+/// A call that returns an error leaves the body unchanged. The error is `TooLong` only if a count
+/// or length is not representable, and `Memory` only if an allocation fails.
 #[derive(Debug)]
 pub struct Function<A: Allocator = Global> {
     bytes: Vec<u8, A>,
 }
 
-/// How many bytes a function has room for at first, so that a short one takes memory once.
+/// The initial capacity in bytes, so that a short function allocates once.
 const FIRST_CAPACITY: usize = 128;
 
 impl<A: Allocator> Function<A> {
-    /// A function with these runs of locals, whose instructions are to follow. Where the length that the locals tell is too long, it
-    /// answers `TooLong`, and asks for none of them, as tests show.
+    /// Returns a function with these runs of locals, to which instructions are then appended. If
+    /// the length that the locals report exceeds 4294967295, the call returns `TooLong`, and
+    /// requests none of them, as tests show.
     ///
     /// # Asks
     ///
@@ -45,7 +51,7 @@ impl<A: Allocator> Function<A> {
     /// ```text
     /// ensures { BeginsWithRuns V.into_iter_gives V.IntoIter.next_gives V.IntoIter.remaining locals result }
     /// ```
-    pub fn new<V: IntoIterator<Item = (u32, ValType)>>(alloc: A, locals: V) -> R<Self>
+    pub fn new<V: IntoIterator<Item = (u32, ValType)>>(alloc: A, locals: V) -> Result<Self>
     where
         V::IntoIter: ExactSizeIterator,
     {
@@ -58,7 +64,7 @@ impl<A: Allocator> Function<A> {
         Ok(Function { bytes })
     }
 
-    /// A sink that writes into the raw body.
+    /// Returns a sink that appends instructions to the raw body.
     ///
     /// # Proved
     ///
@@ -70,18 +76,18 @@ impl<A: Allocator> Function<A> {
         InstructionSink::new(self)
     }
 
-    /// Appends an instruction. A refused call leaves the body as it was.
+    /// Appends an instruction.
     ///
     /// # Proved
     ///
     /// ```text
     /// ensures { AddsInstruction instruction.now self.old self.new result }
     /// ```
-    pub fn instruction(&mut self, instruction: &Instruction<'_>) -> R<()> {
+    pub fn instruction(&mut self, instruction: &Instruction<'_>) -> Result<()> {
         instruction.encode(&mut self.bytes)
     }
 
-    /// Appends bytes that spell instructions. A refused call leaves the body as it was.
+    /// Appends bytes, which should encode instructions. The call does not check that.
     ///
     /// # Asks
     ///
@@ -99,11 +105,12 @@ impl<A: Allocator> Function<A> {
     /// ensures err { OnErr result (self.new ≡ self.old) }
     /// ensures memory { result ≢ Err TooLong }
     /// ```
-    pub fn raw<I: IntoIterator<Item = u8>>(&mut self, bytes: I) -> R<()> {
+    pub fn raw<I: IntoIterator<Item = u8>>(&mut self, bytes: I) -> Result<()> {
         append_all(&mut self.bytes, bytes)
     }
 
-    /// How many bytes the raw body has so far. Where it spells a body, this is the place of the next instruction ([`offset`](crate::code::laws::offset)).
+    /// Returns the length of the raw body so far, in bytes. If the raw body decodes, this is the
+    /// offset of the next instruction ([`offset`](crate::code::laws::offset)).
     ///
     /// # Proved
     ///
@@ -114,7 +121,7 @@ impl<A: Allocator> Function<A> {
         self.bytes.len()
     }
 
-    /// The raw body, which `CodeSection::raw` takes.
+    /// Returns the raw body, which `CodeSection::raw` accepts.
     ///
     /// # Proved
     ///
@@ -128,8 +135,8 @@ impl<A: Allocator> Function<A> {
 }
 
 impl<A: Allocator + Copy> Function<A> {
-    /// A function with locals of these types, whose instructions are to follow: `new` of their runs. Neighbours of one type are one
-    /// run.
+    /// Returns a function with locals of these types: `new` of their runs. Neighbours of one type
+    /// form one run.
     ///
     /// # Asks
     ///
@@ -142,12 +149,15 @@ impl<A: Allocator + Copy> Function<A> {
     /// ```text
     /// ensures { BeginsWithTypes I.into_iter_gives I.IntoIter.next_gives locals result }
     /// ```
-    pub fn new_with_locals_types<I: IntoIterator<Item = ValType>>(alloc: A, locals: I) -> R<Self> {
+    pub fn new_with_locals_types<I: IntoIterator<Item = ValType>>(
+        alloc: A,
+        locals: I,
+    ) -> Result<Self> {
         let runs = runs_of(alloc, locals)?;
         Function::new(alloc, runs)
     }
 
-    /// The same function, in memory of its own.
+    /// Returns the same function, in memory of its own.
     ///
     /// # Proved
     ///
@@ -155,7 +165,7 @@ impl<A: Allocator + Copy> Function<A> {
     /// ensures same { IfOk result (λ f. f ≡ self.now) }
     /// ensures memory { result ≢ Err TooLong }
     /// ```
-    pub fn clone(&self) -> R<Self> {
+    pub fn clone(&self) -> Result<Self> {
         let alloc = *self.bytes.allocator();
         Ok(Function {
             bytes: Vec::from_slice(alloc, &self.bytes)?,
@@ -163,7 +173,7 @@ impl<A: Allocator + Copy> Function<A> {
     }
 }
 
-/// Functions are equal where their raw bodies are.
+/// Functions are equal if their raw bodies are equal.
 ///
 /// # Defined
 ///
@@ -184,7 +194,7 @@ impl<A: Allocator> PartialEq for Function<A> {
 /// ```
 impl<A: Allocator> Eq for Function<A> {}
 
-/// What is written goes to the end of the raw body.
+/// Instructions are appended to the raw body.
 ///
 /// # Defined
 ///
@@ -192,7 +202,7 @@ impl<A: Allocator> Eq for Function<A> {}
 /// written = { λ f. f }
 /// ```
 impl<A: Allocator> Buffer for Function<A> {
-    fn append<E: Encode>(&mut self, value: &E) -> R<()> {
+    fn append<E: Encode>(&mut self, value: &E) -> Result<()> {
         value.encode(&mut self.bytes)
     }
 
@@ -201,7 +211,7 @@ impl<A: Allocator> Buffer for Function<A> {
         before: &S,
         elements: V,
         after: &U,
-    ) -> R<()>
+    ) -> Result<()>
     where
         V::IntoIter: ExactSizeIterator,
     {
@@ -230,7 +240,7 @@ impl<A: Allocator> Buffer for Function<A> {
 pub(crate) fn append_all<I: IntoIterator<Item = u8>, A: Sink>(
     sink: &mut A,
     bytes: I,
-) -> R<()> {
+) -> Result<()> {
     let start = sink.len();
     for byte in bytes {
         if sink.push(byte).is_err() {
@@ -241,17 +251,17 @@ pub(crate) fn append_all<I: IntoIterator<Item = u8>, A: Sink>(
     Ok(())
 }
 
-/// The frame of the raw body.
+/// Encodes the raw body with its size prefix.
 ///
 /// # Defined
 ///
 /// ```text
-/// text = { frame_text }
-/// fits = { FrameFits }
-/// reading = { λ f. ReadsBack (frame body) (IsPlainBody f) (frame_text f) }
+/// encoding = { size_prefixed_encoding }
+/// encodable = { HasEncodableSize }
+/// decoding = { λ f. DecodesBack (size_prefixed body) (IsWellFormedBody f) (size_prefixed_encoding f) }
 /// ```
 impl<A: Allocator> Encode for Function<A> {
-    fn encode<B: Sink>(&self, sink: &mut B) -> R<()> {
-        encode_frame(sink, &self.bytes)
+    fn encode<B: Sink>(&self, sink: &mut B) -> Result<()> {
+        encode_size_prefixed(sink, &self.bytes)
     }
 }

@@ -1,40 +1,44 @@
 // Written by tools/to-rust from crates/wasm_code/src/laws.rt: change that.
-//! What is promised of all lists of bytes, and not of a call: each function does nothing, and its clauses are the promise.
+//! Laws about expressions, bodies and code sections, for all byte sequences: each function does
+//! nothing, and its clauses are the law.
 //!
-//! `UniqueReading F` says that bytes begin with a spelling in the format `F` of at most one value, whatever follows, both with
-//! shortest and with padded numbers, and that a value has at most one shortest spelling; `UniqueWholeReading F` the same of a format whose
-//! spellings reach to the last byte. `HasTexts F fits text` says that the text of each value that fits is its shortest spelling.
+//! `Unambiguous F` says that the format `F` is unambiguous: at most one value decodes from the
+//! front of any bytes, with minimal and with padded numbers. A value has at most one minimal
+//! encoding. `UnambiguousWhole F` says the same of a format that occupies all of the bytes.
+//! `HasMinimalEncodings F encodable encoding` says that `encoding` is the minimal encoding of each value that fits.
 
 use crate::alloc::Allocator;
 
-/// Expressions are read uniquely: one ends at the first `End` where an instruction begins.
+/// The format of expressions is unambiguous: an expression ends at the first `End` at which an
+/// instruction begins.
 ///
 /// # Proved
 ///
 /// ```text
-/// ensures unique { UniqueReading expression }
-/// ensures texts { HasTexts expression PlainExpressionFits plain_expression_text }
+/// ensures unambiguous { Unambiguous expression }
+/// ensures encodings { HasMinimalEncodings expression IsEncodablePlainExpression plain_expression_encoding }
 /// ```
 pub fn expressions() {}
 
-/// Bodies are read uniquely, and so are code sections, of raw bodies and of bodies.
+/// The formats of bodies and of code sections, of raw bodies and of decoded ones, are unambiguous.
 ///
 /// # Proved
 ///
 /// ```text
-/// ensures body { UniqueWholeReading body }
-/// ensures frame { UniqueReading (frame body) }
-/// ensures raw_code { UniqueReading raw_code }
-/// ensures code_section { UniqueReading code_section }
-/// ensures body_texts { HasTexts body BodyFits body_text }
-/// ensures frame_texts { HasTexts (frame body) BodyFrameFits body_frame_text }
-/// ensures raw_code_texts { HasTexts raw_code RawCodeFits raw_code_text }
-/// ensures code_section_texts { HasTexts code_section CodeSectionFits code_section_text }
+/// ensures body { UnambiguousWhole body }
+/// ensures size_prefixed { Unambiguous (size_prefixed body) }
+/// ensures raw_code { Unambiguous raw_code }
+/// ensures code_section { Unambiguous code_section }
+/// ensures body_encodings { HasMinimalEncodings body IsEncodableBody body_encoding }
+/// ensures size_prefixed_encodings { HasMinimalEncodings (size_prefixed body) IsEncodableSizedBody body_size_prefixed_encoding }
+/// ensures raw_code_encodings { HasMinimalEncodings raw_code IsEncodableRawCode raw_code_encoding }
+/// ensures code_section_encodings { HasMinimalEncodings code_section IsEncodableCodeSection code_section_encoding }
 /// ```
 pub fn bodies() {}
 
-/// Where a raw body that spells a body goes on and spells another, an instruction begins after as many bytes as it has: in the
-/// only reading of the longer one. Where a plain instruction was added next, it is that one.
+/// Suppose that a raw body decodes, and a longer one that begins with it decodes too. Then an
+/// instruction begins at the shorter one's length, in the only decoding of the longer one. If a
+/// well-formed instruction was appended next, it is that one.
 ///
 /// # Proved
 ///
@@ -44,13 +48,14 @@ pub fn bodies() {}
 /// ```
 pub fn offset<A: Allocator>() {}
 
-/// Where a module is read as ids and payloads, and a code section as bodies alone, its payload is read as these alone.
+/// If a module decodes to ids and payloads, and a code section decodes to bodies alone, then its
+/// payload decodes to these alone.
 ///
 /// # Proved
 ///
 /// ```text
-/// ensures raw_code { ReadsPayloads (vec (frame any_bytes)) }
-/// ensures code_section { ReadsPayloads (vec (frame body)) }
+/// ensures raw_code { DecodesPayloads (vec (size_prefixed any_bytes)) }
+/// ensures code_section { DecodesPayloads (vec (size_prefixed body)) }
 /// ```
 pub fn payloads() {}
 
@@ -59,48 +64,51 @@ pub fn payloads() {}
 /// # Proved
 ///
 /// ```text
-/// ensures raw_code { ReadsPayloadsWide (vec (frame any_bytes)) }
-/// ensures code_section { ReadsPayloadsWide (vec (frame body)) }
+/// ensures raw_code { DecodesPayloadsPadded (vec (size_prefixed any_bytes)) }
+/// ensures code_section { DecodesPayloadsPadded (vec (size_prefixed body)) }
 /// ```
-pub fn wide_payloads() {}
+pub fn padded_payloads() {}
 
-/// What a code section holds, call by call, and what a body gains where a named call of a sink writes into it.
+/// The bodies that a code section holds, call by call; and the instruction that a body gains when a
+/// named call of a sink appends to it.
 ///
 /// # Proved
 ///
 /// ```text
-/// ensures code { HoldsMoreBodies }
-/// ensures instruction { (i : Instruction A) → GrowsByText i }
+/// ensures code { ContainsMoreBodies }
+/// ensures instruction { (i : Instruction A) → GrowsByEncoding i }
 /// ensures labels { GrowsByLabels }
 /// ```
 pub fn calls<A: Allocator>() {}
 
-/// The same with padded numbers: what a code section, a body and a constant expression hold, call by call.
+/// The same with padded numbers: the content of a code section, a body and a constant expression,
+/// call by call.
 ///
 /// # Proved
 ///
 /// ```text
-/// ensures code { HoldsMoreBodiesWide }
-/// ensures body { GrowsWide }
-/// ensures instruction { (i : Instruction A) → GrowsByTextWide i }
-/// ensures expression { StoresMoreWide }
+/// ensures code { ContainsMoreBodiesPadded }
+/// ensures body { GrowsPadded }
+/// ensures instruction { (i : Instruction A) → GrowsByEncodingPadded i }
+/// ensures expression { StoresMorePadded }
 /// ```
-pub fn wide_calls<A: Allocator>() {}
+pub fn padded_calls<A: Allocator>() {}
 
-/// With padded numbers too.
+/// With padded numbers the formats are unambiguous too.
 ///
 /// # Proved
 ///
 /// ```text
-/// ensures expression { IsUniqueWide expression }
-/// ensures body { IsUniqueWholeWide body }
-/// ensures frame { IsUniqueWide (frame body) }
-/// ensures raw_code { IsUniqueWide raw_code }
-/// ensures code_section { IsUniqueWide code_section }
+/// ensures expression { UnambiguousPadded expression }
+/// ensures body { UnambiguousWholePadded body }
+/// ensures size_prefixed { UnambiguousPadded (size_prefixed body) }
+/// ensures raw_code { UnambiguousPadded raw_code }
+/// ensures code_section { UnambiguousPadded code_section }
 /// ```
-pub fn wide() {}
+pub fn padded() {}
 
-/// A list of types has at most one list of runs with counts of at least 1 and no two neighbours of one type.
+/// A list of types has at most one list of runs with counts of at least 1 and no two neighbours of
+/// one type.
 ///
 /// # Proved
 ///
@@ -109,13 +117,14 @@ pub fn wide() {}
 /// ```
 pub fn locals() {}
 
-/// With shortest numbers no code section stands in these two texts: in one a memory argument is cut short, in the other a count of runs is
-/// padded. With padded numbers the second is one.
+/// With minimal numbers, these two byte sequences encode no code section: in one a memory argument
+/// is truncated, in the other a count of runs is padded. With padded numbers the second is a code
+/// section.
 ///
 /// # Proved
 ///
 /// ```text
-/// ensures cut { NothingStands code_section (6 ∷ 1 ∷ 4 ∷ 0 ∷ 40 ∷ 16 ∷ 0 ∷ []) }
-/// ensures padded { NothingStands code_section (5 ∷ 1 ∷ 3 ∷ 128 ∷ 0 ∷ 11 ∷ []) }
+/// ensures cut { RejectsAllAfter code_section (6 ∷ 1 ∷ 4 ∷ 0 ∷ 40 ∷ 16 ∷ 0 ∷ []) }
+/// ensures padded_of { RejectsAllAfter code_section (5 ∷ 1 ∷ 3 ∷ 128 ∷ 0 ∷ 11 ∷ []) }
 /// ```
-pub fn nothing_stands() {}
+pub fn rejections() {}

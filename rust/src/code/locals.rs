@@ -1,11 +1,11 @@
 // Written by tools/to-rust from crates/wasm_code/src/locals.rt: change that.
-// The runs of locals that are told one by one.
+// Runs of locals, from a list of types.
 
 use crate::vec::Vec;
 use crate::alloc::Allocator;
-use crate::base::{R, Refused, ValType};
+use crate::base::{Refused, Result, ValType};
 
-/// The runs of the types: neighbours of one type are one run.
+/// Returns the runs of the types: neighbours of one type form one run.
 ///
 /// # Asks
 ///
@@ -21,7 +21,7 @@ use crate::base::{R, Refused, ValType};
 pub(crate) fn runs_of<I: IntoIterator<Item = ValType>, A: Allocator>(
     alloc: A,
     types: I,
-) -> R<Vec<(u32, ValType), A>> {
+) -> Result<Vec<(u32, ValType), A>> {
     let mut runs = Vec::new(alloc);
     for ty in types {
         add_local(&mut runs, ty)?;
@@ -29,19 +29,19 @@ pub(crate) fn runs_of<I: IntoIterator<Item = ValType>, A: Allocator>(
     Ok(runs)
 }
 
-/// Whether a local of the type `ty` goes on a run of the type `last`.
+/// Returns `true` if a local of the type `ty` extends a run of the type `last`.
 ///
 /// # Proved
 ///
 /// ```text
 /// ensures { IsTrue result ↔ (last ≡ ty) }
 /// ```
-fn goes_on(last: ValType, ty: ValType) -> bool {
+fn continues(last: ValType, ty: ValType) -> bool {
     last == ty
 }
 
-/// One more local: the last run has one more where it is of this type, and else a run begins. After a refused call the runs are of
-/// no use, since the last one may be gone.
+/// Adds one local: it extends the last run if that is of this type, and begins a new run otherwise.
+/// After an error the runs are unusable, since the last one may be lost.
 ///
 /// # Proved
 ///
@@ -51,12 +51,12 @@ fn goes_on(last: ValType, ty: ValType) -> bool {
 /// ensures full { result ≡ Err TooLong → IsFull ty runs.old.items }
 /// ensures too_many { IsFull ty runs.old.items → result ≡ Err TooLong }
 /// ```
-fn add_local<A: Allocator>(runs: &mut Vec<(u32, ValType), A>, ty: ValType) -> R<()> {
+fn add_local<A: Allocator>(runs: &mut Vec<(u32, ValType), A>, ty: ValType) -> Result<()> {
     let Some((count, last)) = runs.pop() else {
         runs.push((1, ty))?;
         return Ok(());
     };
-    if goes_on(last, ty) {
+    if continues(last, ty) {
         let Some(more) = count.checked_add(1) else {
             return Err(Refused::TooLong);
         };

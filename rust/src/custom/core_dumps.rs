@@ -1,17 +1,18 @@
 // Written by tools/to-rust from crates/wasm_custom/src/core_dumps.rt: change that.
-// Core dumps: the process, its modules and its instances.
+// Core dump sections: the process, its modules and its instances.
 
 use crate::vec::{Sink, Vec};
-use crate::custom::counted::{ItemsAs, ReadsItems, append_counted, read_counted};
+use crate::custom::counted::{DecodesItems, ItemsAs, append_counted, read_counted};
 use crate::custom::custom_section::{CustomSection, begin_custom};
 use crate::custom::entries::{CustomEntries, CustomKind};
 use crate::custom::marked::{MarkedName, read_marked};
 use crate::custom::named::after_name;
 use crate::alloc::{Allocator, Global};
-use crate::base::{Encode, Kind, R, Section, SectionId, vec_of};
+use crate::base::{Encode, Kind, Result, Section, SectionId, vec_of};
 use crate::reader::base::{ReadFault, Readable, Shorten, read_whole};
 
-/// The process that was dumped, seen as the data of its section: the byte 00, and its name.
+/// The `core` section of a dumped process, modelled as its data: the byte 00, and the name of the
+/// process.
 ///
 /// ```
 /// # use dolzhytik::{fallible::*, reader::*};
@@ -22,28 +23,33 @@ use crate::reader::base::{ReadFault, Readable, Shorten, read_whole};
 /// # }
 /// # example(Global).unwrap();
 /// ```
+///
+/// # Errors
+///
+/// The error of `new` is `TooLong` only if the name is too long, and `Memory` only if an allocation
+/// fails.
 #[derive(Debug)]
 pub struct CoreDumpSection<A: Allocator = Global> {
     data: Vec<u8, A>,
 }
 
 impl<A: Allocator> CoreDumpSection<A> {
-    /// The process of this name.
+    /// Returns the section of the process of this name.
     ///
     /// # Proved
     ///
     /// ```text
-    /// ensures is { IfOk result (λ s. s ≡ marked_text name.now) }
-    /// ensures fitted { IfOk result (λ _. FrameFits name.now) }
-    /// ensures too_long { FrameFits name.now → result ≢ Err TooLong }
+    /// ensures is { IfOk result (λ s. s ≡ marked_encoding name.now) }
+    /// ensures was_encodable { IfOk result (λ _. HasEncodableSize name.now) }
+    /// ensures too_long { HasEncodableSize name.now → result ≢ Err TooLong }
     /// ```
-    pub fn new(alloc: A, name: &str) -> R<Self> {
+    pub fn new(alloc: A, name: &str) -> Result<Self> {
         let mut data = Vec::new(alloc);
         (0x00u8, name).encode(&mut data)?;
         Ok(CoreDumpSection { data })
     }
 
-    /// The same process, in memory of its own.
+    /// Returns the same section, in memory of its own.
     ///
     /// # Proved
     ///
@@ -51,7 +57,7 @@ impl<A: Allocator> CoreDumpSection<A> {
     /// ensures same { IfOk result (λ s. s ≡ self.now) }
     /// ensures memory { result ≢ Err TooLong }
     /// ```
-    pub fn clone(&self) -> R<Self>
+    pub fn clone(&self) -> Result<Self>
     where
         A: Copy,
     {
@@ -61,17 +67,17 @@ impl<A: Allocator> CoreDumpSection<A> {
     }
 }
 
-/// The frame of the name of the section, and of the data.
+/// Encodes the size prefix, the name of the section, and the data.
 ///
 /// # Defined
 ///
 /// ```text
-/// text = { λ s. named_text core_name s }
-/// fits = { λ s. NamedFits core_name s }
-/// reading = { λ s. ReadsBack core_section (SaysProcess s) (named_text core_name s) }
+/// encoding = { λ s. named_encoding core_name s }
+/// encodable = { λ s. IsEncodableNamed core_name s }
+/// decoding = { λ s. DecodesBack core_section (SaysProcess s) (named_encoding core_name s) }
 /// ```
 impl<A: Allocator> Encode for CoreDumpSection<A> {
-    fn encode<B: Sink>(&self, sink: &mut B) -> R<()> {
+    fn encode<B: Sink>(&self, sink: &mut B) -> Result<()> {
         let data = self.data.as_slice();
         begin_custom(sink, "core", data.len())?;
         sink.extend_from_slice(data).unwrap();
@@ -87,8 +93,8 @@ impl<A: Allocator> Encode for CoreDumpSection<A> {
 /// format = { core_section }
 /// says = { SaysProcess }
 /// payload = { NamedPayload core_name }
-/// framed = { λ s bytes fits pays. named_framed core_name s bytes fits pays }
-/// reads_back = { λ s promised. promised }
+/// sized = { λ s bytes encodable pays. named_sized core_name s bytes encodable pays }
+/// decodes_back = { λ s promised. promised }
 /// ```
 impl<A: Allocator> Section for CoreDumpSection<A> {
     fn id(&self) -> u8 {
@@ -96,7 +102,7 @@ impl<A: Allocator> Section for CoreDumpSection<A> {
     }
 }
 
-/// The modules of the process, by their names.
+/// The `coremodules` section: the modules of the process, by their names.
 ///
 /// ```
 /// # use dolzhytik::{fallible::*, reader::*};
@@ -111,7 +117,7 @@ impl<A: Allocator> Section for CoreDumpSection<A> {
 /// ```
 pub type CoreDumpModulesSection<A = Global> = CustomEntries<ModuleItems, A>;
 
-/// The items of a section of modules: their names.
+/// The kind of the items of a modules section: their names.
 #[derive(Clone, Copy, Debug)]
 pub struct ModuleItems;
 
@@ -147,35 +153,35 @@ impl CustomKind for ModuleItems {
         true
     }
 
-    fn frame_laws() {}
+    fn layout_laws() {}
 }
 
 impl<A: Allocator> CoreDumpModulesSection<A> {
-    /// Adds a module. A refused call leaves the section as it was.
+    /// Adds a module.
     ///
     /// # Proved
     ///
     /// ```text
-    /// ensures { Adds (marked_text name.now) (⊤ × FrameFits name.now) self.old self.new result }
+    /// ensures { Adds (marked_encoding name.now) (⊤ × HasEncodableSize name.now) self.old self.new result }
     /// ```
-    pub fn module(&mut self, name: &str) -> R<()> {
+    pub fn module(&mut self, name: &str) -> Result<()> {
         self.add_record(&(0x00u8, name))
     }
 
-    /// The section as a custom section, whose data are in memory of their own.
+    /// Returns the section as a custom section, with its data in memory of their own.
     ///
     /// # Proved
     ///
     /// ```text
-    /// ensures same { IfOk result (λ s. (text_of s.name ≡ modules_name) × (items_of s.bytes ≡ entries_text [] true self.now)) }
+    /// ensures same { IfOk result (λ s. (encoding_of s.name ≡ modules_name) × (items_of s.bytes ≡ entries_encoding [] true self.now)) }
     /// ensures memory { result ≢ Err TooLong }
     /// ```
-    pub fn as_custom<B: Allocator>(&self, alloc: B) -> R<CustomSection<'_, B>> {
+    pub fn as_custom<B: Allocator>(&self, alloc: B) -> Result<CustomSection<'_, B>> {
         self.owned(alloc)
     }
 }
 
-/// The instances of the process. `len` is their number.
+/// The `coreinstances` section: the instances of the process. `len` is their number.
 ///
 /// ```
 /// # use dolzhytik::{fallible::*, reader::*};
@@ -190,7 +196,7 @@ impl<A: Allocator> CoreDumpModulesSection<A> {
 /// ```
 pub type CoreDumpInstancesSection<A = Global> = CustomEntries<InstanceItems, A>;
 
-/// The items of a section of instances.
+/// The kind of the items of an instances section.
 #[derive(Clone, Copy, Debug)]
 pub struct InstanceItems;
 
@@ -226,12 +232,12 @@ impl CustomKind for InstanceItems {
         true
     }
 
-    fn frame_laws() {}
+    fn layout_laws() {}
 }
 
 impl<A: Allocator> CoreDumpInstancesSection<A> {
-    /// Adds an instance of the module, with these memories and globals. A refused call leaves the section as it was. Where there are
-    /// too many of either, it answers `TooLong`, and asks for none, as tests show.
+    /// Adds an instance of the module, with these memories and globals. If there are too many of
+    /// either, it returns `TooLong` and requests none, as tests show.
     ///
     /// # Asks
     ///
@@ -244,14 +250,14 @@ impl<A: Allocator> CoreDumpInstancesSection<A> {
     ///
     /// ```text
     /// ensures { AddsTwoLists M.into_iter_gives M.IntoIter.next_gives M.IntoIter.remaining memories G.into_iter_gives G.IntoIter.next_gives G.IntoIter.remaining globals (λ _. ⊤) (λ _. ⊤)
-    ///     (λ xs ys. (0x00 ∷ unsigned_text module_index) ++ (vec_text unsigned_text xs ++ vec_text unsigned_text ys)) self.old self.new result }
+    ///     (λ xs ys. (0x00 ∷ unsigned_encoding module_index) ++ (vec_encoding unsigned_encoding xs ++ vec_encoding unsigned_encoding ys)) self.old self.new result }
     /// ```
     pub fn instance<M: IntoIterator<Item = u32>, G: IntoIterator<Item = u32>>(
         &mut self,
         module_index: u32,
         memories: M,
         globals: G,
-    ) -> R<()>
+    ) -> Result<()>
     where
         M::IntoIter: ExactSizeIterator,
         G::IntoIter: ExactSizeIterator,
@@ -261,26 +267,30 @@ impl<A: Allocator> CoreDumpInstancesSection<A> {
         self.add_once(((0x00u8, module_index), memories, globals))
     }
 
-    /// The section as a custom section, whose data are in memory of their own.
+    /// Returns the section as a custom section, with its data in memory of their own.
     ///
     /// # Proved
     ///
     /// ```text
-    /// ensures same { IfOk result (λ s. (text_of s.name ≡ instances_name) × (items_of s.bytes ≡ entries_text [] true self.now)) }
+    /// ensures same { IfOk result (λ s. (encoding_of s.name ≡ instances_name) × (items_of s.bytes ≡ entries_encoding [] true self.now)) }
     /// ensures memory { result ≢ Err TooLong }
     /// ```
-    pub fn as_custom<B: Allocator>(&self, alloc: B) -> R<CustomSection<'_, B>> {
+    pub fn as_custom<B: Allocator>(&self, alloc: B) -> Result<CustomSection<'_, B>> {
         self.owned(alloc)
     }
 }
 
-/// The name of the process.
+/// Decodes the payload of a process section: the name of the process.
+///
+/// # Errors
+///
+/// Any error but `Memory` means that the bytes are not such a payload.
 ///
 /// # Proved
 ///
 /// ```text
-/// ensures found { IfOk result (λ x. core_payload wide bytes.now x.now) }
-/// ensures none { IfErr result (λ e. e ≢ Memory → FillsNothing core_payload bytes.now) }
+/// ensures found { IfOk result (λ x. core_payload padded bytes.now x.now) }
+/// ensures none { IfErr result (λ e. e ≢ Memory → RejectsWhole core_payload bytes.now) }
 /// ```
 pub fn read_process<'a, A: Allocator + Copy>(
     bytes: &'a [u8],
@@ -302,29 +312,33 @@ impl<'a> ItemsAs<&'a str> for ModuleItems {
     /// # Proved
     ///
     /// ```text
-    /// ensures { UniqueReading marked_name }
+    /// ensures { Unambiguous marked_name }
     /// ```
-    fn alone() {}
+    fn unique() {}
 
-    fn append_item<B: Sink>(item: &&'a str, out: &mut B) -> R<()> {
-        append_marked(item, out)
+    fn append_item<B: Sink>(item: &&'a str, sink: &mut B) -> Result<()> {
+        append_marked(item, sink)
     }
 }
 
-impl<'a, A: Allocator + Copy> ReadsItems<'a, &'a str, A> for ModuleItems {
+impl<'a, A: Allocator + Copy> DecodesItems<'a, &'a str, A> for ModuleItems {
     fn read_item(bytes: &'a [u8], alloc: A) -> Result<(&'a str, &'a [u8]), ReadFault> {
         let (MarkedName(name), rest) = <MarkedName<'a> as Readable<'a, A>>::read(bytes, alloc)?;
         Ok((name, rest))
     }
 }
 
-/// The names of the modules.
+/// Decodes the payload of a modules section: the names of the modules.
+///
+/// # Errors
+///
+/// Any error but `Memory` means that the bytes are not such a payload.
 ///
 /// # Proved
 ///
 /// ```text
-/// ensures found { IfOk result (λ x. modules_payload wide bytes.now (map (λ name. name.now) x.items)) }
-/// ensures none { IfErr result (λ e. e ≢ Memory → FillsNothing modules_payload bytes.now) }
+/// ensures found { IfOk result (λ x. modules_payload padded bytes.now (map (λ name. name.now) x.items)) }
+/// ensures none { IfErr result (λ e. e ≢ Memory → RejectsWhole modules_payload bytes.now) }
 /// ```
 pub fn read_modules<'a, A: Allocator + Copy>(
     bytes: &'a [u8],
@@ -341,21 +355,22 @@ pub fn read_modules<'a, A: Allocator + Copy>(
 /// view = { instance_view }
 /// ```
 impl<A: Allocator> ItemsAs<(u32, Vec<u32, A>, Vec<u32, A>)> for InstanceItems {
-    fn alone() {}
+    fn unique() {}
 
     fn append_item<B: Sink>(
         item: &(u32, Vec<u32, A>, Vec<u32, A>),
-        out: &mut B,
-    ) -> R<()> {
+        sink: &mut B,
+    ) -> Result<()> {
         let (index, memories, globals) = item;
-        0x00u8.encode(out)?;
-        index.write_minimal(out)?;
-        memories.write_minimal(out)?;
-        globals.write_minimal(out)
+        0x00u8.encode(sink)?;
+        index.write_minimal(sink)?;
+        memories.write_minimal(sink)?;
+        globals.write_minimal(sink)
     }
 }
 
-impl<'a, A: Allocator + Copy> ReadsItems<'a, (u32, Vec<u32, A>, Vec<u32, A>), A> for InstanceItems {
+impl<'a, A: Allocator + Copy> DecodesItems<'a, (u32, Vec<u32, A>, Vec<u32, A>), A>
+    for InstanceItems {
     fn read_item(
         bytes: &'a [u8],
         alloc: A,
@@ -369,13 +384,18 @@ impl<'a, A: Allocator + Copy> ReadsItems<'a, (u32, Vec<u32, A>, Vec<u32, A>), A>
     }
 }
 
-/// The instances: the index of the module, the memories and the globals of each.
+/// Decodes the payload of an instances section: for each instance the index of its module, its
+/// memories and its globals.
+///
+/// # Errors
+///
+/// Any error but `Memory` means that the bytes are not such a payload.
 ///
 /// # Proved
 ///
 /// ```text
-/// ensures found { IfOk result (λ x. instances_payload wide bytes.now (map instance_view x.items)) }
-/// ensures none { IfErr result (λ e. e ≢ Memory → FillsNothing instances_payload bytes.now) }
+/// ensures found { IfOk result (λ x. instances_payload padded bytes.now (map instance_view x.items)) }
+/// ensures none { IfErr result (λ e. e ≢ Memory → RejectsWhole instances_payload bytes.now) }
 /// ```
 pub fn read_instances<'a, A: Allocator + Copy>(
     bytes: &'a [u8],
@@ -389,72 +409,76 @@ pub fn read_instances<'a, A: Allocator + Copy>(
 /// # Proved
 ///
 /// ```text
-/// ensures ok { OnOk result (AppendsShortest marked_name name.now out.old.items out.new.items) }
-/// ensures front { IsFrontOf out.old.items out.new.items }
+/// ensures ok { OnOk result (AppendsMinimal marked_name name.now sink.old.items sink.new.items) }
+/// ensures front { IsFrontOf sink.old.items sink.new.items }
 /// ensures too_long { HasEncoding marked_name name.now → result ≢ Err TooLong }
 /// ```
-pub(crate) fn append_marked<B: Sink>(name: &str, out: &mut B) -> R<()> {
-    0x00u8.encode(out)?;
-    name.write_minimal(out)
+pub(crate) fn append_marked<B: Sink>(name: &str, sink: &mut B) -> Result<()> {
+    0x00u8.encode(sink)?;
+    name.write_minimal(sink)
 }
 
-/// Writes what [`append_process`] appends. After an error, a part of it may be behind the old bytes.
+/// Writes the bytes that [`append_process`] appends. After an error, part of them may follow the
+/// old bytes.
 ///
 /// # Proved
 ///
 /// ```text
-/// ensures ok { OnOk result (AppendsShortest core_payload name.now out.old.items out.new.items) }
-/// ensures front { IsFrontOf out.old.items out.new.items }
+/// ensures ok { OnOk result (AppendsMinimal core_payload name.now sink.old.items sink.new.items) }
+/// ensures front { IsFrontOf sink.old.items sink.new.items }
 /// ensures too_long { HasEncoding core_payload name.now → result ≢ Err TooLong }
 /// ```
-fn write_process<B: Sink>(name: &str, out: &mut B) -> R<()> {
-    "core".encode(out)?;
-    append_marked(name, out)
+fn write_process<B: Sink>(name: &str, sink: &mut B) -> Result<()> {
+    "core".encode(sink)?;
+    append_marked(name, sink)
 }
 
-/// Appends the minimal encoding of the payload of the section of this process. On an error, the sink is as it was.
+/// Appends the minimal encoding of the payload of the section of this process. On an error, the
+/// sink is unchanged.
 ///
 /// # Proved
 ///
 /// ```text
-/// ensures ok { OnOk result (AppendsShortest core_payload name.now out.old.items out.new.items) }
-/// ensures err { OnErr result (out.new.items ≡ out.old.items) }
+/// ensures ok { OnOk result (AppendsMinimal core_payload name.now sink.old.items sink.new.items) }
+/// ensures err { OnErr result (sink.new.items ≡ sink.old.items) }
 /// ensures too_long { HasEncoding core_payload name.now → result ≢ Err TooLong }
 /// ```
-pub fn append_process<B: Sink>(name: &str, out: &mut B) -> R<()> {
-    let start = out.len();
-    let written = write_process(name, out);
+pub fn append_process<B: Sink>(name: &str, sink: &mut B) -> Result<()> {
+    let start = sink.len();
+    let written = write_process(name, sink);
     if written.is_err() {
-        out.truncate(start);
+        sink.truncate(start);
     }
     written
 }
 
-/// Appends the minimal encoding of the payload of a section of these modules. On an error, the sink is as it was.
+/// Appends the minimal encoding of the payload of a section of these modules. On an error, the sink
+/// is unchanged.
 ///
 /// # Proved
 ///
 /// ```text
-/// ensures ok { OnOk result (AppendsShortest modules_payload (map (λ n. n.now) names.now) out.old.items out.new.items) }
-/// ensures err { OnErr result (out.new.items ≡ out.old.items) }
+/// ensures ok { OnOk result (AppendsMinimal modules_payload (map (λ n. n.now) names.now) sink.old.items sink.new.items) }
+/// ensures err { OnErr result (sink.new.items ≡ sink.old.items) }
 /// ensures too_long { HasEncoding modules_payload (map (λ n. n.now) names.now) → result ≢ Err TooLong }
 /// ```
-pub fn append_modules<B: Sink>(names: &[&str], out: &mut B) -> R<()> {
-    append_counted::<ModuleItems, &str, _>(names, out)
+pub fn append_modules<B: Sink>(names: &[&str], sink: &mut B) -> Result<()> {
+    append_counted::<ModuleItems, &str, _>(names, sink)
 }
 
-/// Appends the minimal encoding of the payload of a section of these instances. On an error, the sink is as it was.
+/// Appends the minimal encoding of the payload of a section of these instances. On an error, the
+/// sink is unchanged.
 ///
 /// # Proved
 ///
 /// ```text
-/// ensures ok { OnOk result (AppendsShortest instances_payload (map instance_view instances.now) out.old.items out.new.items) }
-/// ensures err { OnErr result (out.new.items ≡ out.old.items) }
+/// ensures ok { OnOk result (AppendsMinimal instances_payload (map instance_view instances.now) sink.old.items sink.new.items) }
+/// ensures err { OnErr result (sink.new.items ≡ sink.old.items) }
 /// ensures too_long { HasEncoding instances_payload (map instance_view instances.now) → result ≢ Err TooLong }
 /// ```
 pub fn append_instances<A: Allocator, B: Sink>(
     instances: &[(u32, Vec<u32, A>, Vec<u32, A>)],
-    out: &mut B,
-) -> R<()> {
-    append_counted::<InstanceItems, (u32, Vec<u32, A>, Vec<u32, A>), _>(instances, out)
+    sink: &mut B,
+) -> Result<()> {
+    append_counted::<InstanceItems, (u32, Vec<u32, A>, Vec<u32, A>), _>(instances, sink)
 }

@@ -1,5 +1,5 @@
 // Written by tools/to-rust from crates/wasm_custom/src/core_stack.rt: change that.
-// The stack of a core dump.
+// The stack section of a core dump: its builder, its reader and its minimizer.
 
 use crate::vec::{Sink, Vec};
 use crate::custom::core_dumps::append_marked;
@@ -9,11 +9,11 @@ use crate::custom::entries::{data_of, encode_entries};
 use crate::custom::marked::read_marked;
 use crate::custom::named::after_name;
 use crate::alloc::{Allocator, Global};
-use crate::base::{CowSlice, CowStr, Encode, Pieces, R, Section, SectionId, vec_of};
-use crate::reader::base::{ReadFault, Readable, Shorten, Spelled, read_whole};
+use crate::base::{CowSlice, CowStr, Encode, Pieces, Result, Section, SectionId, vec_of};
+use crate::reader::base::{Layout, ReadFault, Readable, Shorten, read_whole};
 
-/// The stack of a thread, seen as what stands before its frames, which is the byte 00 and the name of the thread, and the bytes of
-/// each frame.
+/// The `corestack` section of a thread, modelled as the bytes before its stack frames and the bytes
+/// of each frame. The former are the byte 00 and the name of the thread.
 ///
 /// ```
 /// # use dolzhytik::{fallible::*, reader::*};
@@ -24,6 +24,11 @@ use crate::reader::base::{ReadFault, Readable, Shorten, Spelled, read_whole};
 /// # }
 /// # example(Global).unwrap();
 /// ```
+///
+/// # Errors
+///
+/// An adding call that returns an error leaves the section unchanged. The error is `TooLong` only
+/// if the section is full or an item does not fit, and `Memory` only if an allocation fails.
 #[derive(Debug)]
 pub struct CoreDumpStackSection<A: Allocator = Global> {
     front: Vec<u8, A>,
@@ -31,16 +36,16 @@ pub struct CoreDumpStackSection<A: Allocator = Global> {
 }
 
 impl<A: Allocator + Copy> CoreDumpStackSection<A> {
-    /// The stack of the thread of this name, without frames.
+    /// Returns the stack of the thread of this name, without frames.
     ///
     /// # Proved
     ///
     /// ```text
-    /// ensures is { IfOk result (λ s. s ≡ (marked_text thread_name.now, [])) }
-    /// ensures fitted { IfOk result (λ _. FrameFits thread_name.now) }
-    /// ensures too_long { FrameFits thread_name.now → result ≢ Err TooLong }
+    /// ensures is { IfOk result (λ s. s ≡ (marked_encoding thread_name.now, [])) }
+    /// ensures was_encodable { IfOk result (λ _. HasEncodableSize thread_name.now) }
+    /// ensures too_long { HasEncodableSize thread_name.now → result ≢ Err TooLong }
     /// ```
-    pub fn new(alloc: A, thread_name: &str) -> R<Self> {
+    pub fn new(alloc: A, thread_name: &str) -> Result<Self> {
         let mut front = Vec::new(alloc);
         (0x00u8, thread_name).encode(&mut front)?;
         Ok(CoreDumpStackSection {
@@ -49,7 +54,7 @@ impl<A: Allocator + Copy> CoreDumpStackSection<A> {
         })
     }
 
-    /// The same stack, in memory of its own.
+    /// Returns the same stack, in memory of its own.
     ///
     /// # Proved
     ///
@@ -57,7 +62,7 @@ impl<A: Allocator + Copy> CoreDumpStackSection<A> {
     /// ensures same { IfOk result (λ s. s ≡ self.now) }
     /// ensures memory { result ≢ Err TooLong }
     /// ```
-    pub fn clone(&self) -> R<Self> {
+    pub fn clone(&self) -> Result<Self> {
         Ok(CoreDumpStackSection {
             front: Vec::from_slice(*self.front.allocator(), &self.front)?,
             frames: self.frames.clone()?,
@@ -66,9 +71,9 @@ impl<A: Allocator + Copy> CoreDumpStackSection<A> {
 }
 
 impl<A: Allocator> CoreDumpStackSection<A> {
-    /// Adds a frame: the instance and the function where it is, how far into the function, its locals, and its part of the stack. A
-    /// refused call leaves the section as it was. Where there are too many values of either list, it answers `TooLong`, and
-    /// asks for none, as tests show.
+    /// Adds a stack frame: its instance and function, the offset in the function, its locals, and
+    /// its operand stack. If there are too many values in either list, it returns `TooLong` and
+    /// requests none, as tests show.
     ///
     /// # Asks
     ///
@@ -81,13 +86,13 @@ impl<A: Allocator> CoreDumpStackSection<A> {
     ///
     /// ```text
     /// ensures adds { AddsTwoLists L.into_iter_gives L.IntoIter.next_gives L.IntoIter.remaining locals S.into_iter_gives S.IntoIter.next_gives S.IntoIter.remaining stack (λ _. ⊤) (λ _. ⊤)
-    ///     (λ xs ys. (0x00 ∷ (unsigned_text instanceidx ++ (unsigned_text funcidx ++ unsigned_text codeoffset))) ++ (vec_text value_text xs ++ vec_text value_text ys)) self.old.1 self.new.1 result }
+    ///     (λ xs ys. (0x00 ∷ (unsigned_encoding instanceidx ++ (unsigned_encoding funcidx ++ unsigned_encoding codeoffset))) ++ (vec_encoding value_encoding xs ++ vec_encoding value_encoding ys)) self.old.1 self.new.1 result }
     /// ensures same_thread { self.new.0 ≡ self.old.0 }
     /// ```
     pub fn frame<
         L: IntoIterator<Item = CoreDumpValue>,
         S: IntoIterator<Item = CoreDumpValue>,
-    >(&mut self, instanceidx: u32, funcidx: u32, codeoffset: u32, locals: L, stack: S) -> R<()>
+    >(&mut self, instanceidx: u32, funcidx: u32, codeoffset: u32, locals: L, stack: S) -> Result<()>
     where
         L::IntoIter: ExactSizeIterator,
         S::IntoIter: ExactSizeIterator,
@@ -98,15 +103,15 @@ impl<A: Allocator> CoreDumpStackSection<A> {
         self.frames.add_once(((0x00u8, place), locals, stack))
     }
 
-    /// The section as a custom section, whose data are in memory of their own.
+    /// Returns the section as a custom section, with its data in memory of their own.
     ///
     /// # Proved
     ///
     /// ```text
-    /// ensures same { IfOk result (λ s. (text_of s.name ≡ stack_name) × (items_of s.bytes ≡ entries_text self.now.0 true self.now.1)) }
+    /// ensures same { IfOk result (λ s. (encoding_of s.name ≡ stack_name) × (items_of s.bytes ≡ entries_encoding self.now.0 true self.now.1)) }
     /// ensures memory { result ≢ Err TooLong }
     /// ```
-    pub fn as_custom<B: Allocator>(&self, alloc: B) -> R<CustomSection<'_, B>> {
+    pub fn as_custom<B: Allocator>(&self, alloc: B) -> Result<CustomSection<'_, B>> {
         let data = data_of(alloc, &self.front, true, &self.frames)?;
         Ok(CustomSection {
             name: CowStr::Borrowed("corestack"),
@@ -115,17 +120,18 @@ impl<A: Allocator> CoreDumpStackSection<A> {
     }
 }
 
-/// The frame of the name of the section, and of the data: the name of the thread, the number of frames, and these.
+/// Encodes the size prefix, the name of the section, and the data: the name of the thread, the
+/// number of frames, and the frames.
 ///
 /// # Defined
 ///
 /// ```text
-/// text = { λ s. named_text stack_name (entries_text s.0 true s.1) }
-/// fits = { λ s. NamedFits stack_name (entries_text s.0 true s.1) }
-/// reading = { λ s. ReadsBack stack_section (SaysStack s.0 s.1) (named_text stack_name (entries_text s.0 true s.1)) }
+/// encoding = { λ s. named_encoding stack_name (entries_encoding s.0 true s.1) }
+/// encodable = { λ s. IsEncodableNamed stack_name (entries_encoding s.0 true s.1) }
+/// decoding = { λ s. DecodesBack stack_section (SaysStack s.0 s.1) (named_encoding stack_name (entries_encoding s.0 true s.1)) }
 /// ```
 impl<A: Allocator> Encode for CoreDumpStackSection<A> {
-    fn encode<B: Sink>(&self, sink: &mut B) -> R<()> {
+    fn encode<B: Sink>(&self, sink: &mut B) -> Result<()> {
         encode_entries(sink, "corestack", &self.front, true, &self.frames)
     }
 }
@@ -137,9 +143,9 @@ impl<A: Allocator> Encode for CoreDumpStackSection<A> {
 /// Items = { List ℕ × List StackFrame }
 /// format = { stack_section }
 /// says = { λ s. SaysStack s.0 s.1 }
-/// payload = { λ s. NamedPayload stack_name (entries_text s.0 true s.1) }
-/// framed = { λ s bytes fits pays. named_framed stack_name (entries_text s.0 true s.1) bytes fits pays }
-/// reads_back = { λ s promised. promised }
+/// payload = { λ s. NamedPayload stack_name (entries_encoding s.0 true s.1) }
+/// sized = { λ s bytes encodable pays. named_sized stack_name (entries_encoding s.0 true s.1) bytes encodable pays }
+/// decodes_back = { λ s promised. promised }
 /// ```
 impl<A: Allocator> Section for CoreDumpStackSection<A> {
     fn id(&self) -> u8 {
@@ -147,12 +153,12 @@ impl<A: Allocator> Section for CoreDumpStackSection<A> {
     }
 }
 
-/// A frame of a stack.
+/// A decoded frame of a stack.
 #[derive(Debug)]
 pub struct CoreFrame<A: Allocator = Global> {
     pub instanceidx: u32,
     pub funcidx: u32,
-    /// How far into the function it is.
+    /// The offset in the function.
     pub codeoffset: u32,
     pub locals: Vec<CoreDumpValue, A>,
     pub stack: Vec<CoreDumpValue, A>,
@@ -165,7 +171,7 @@ pub struct CoreFrame<A: Allocator = Global> {
 /// format = { stack_frame }
 /// view = { stack_frame_view }
 /// ```
-impl<A: Allocator> Spelled for CoreFrame<A> {
+impl<A: Allocator> Layout for CoreFrame<A> {
     fn laws() {}
 }
 
@@ -187,13 +193,17 @@ impl<'a, A: Allocator + Copy> Readable<'a, A> for CoreFrame<A> {
     }
 }
 
-/// The name of the thread, and the frames of its stack.
+/// Decodes the payload of a stack section: the name of the thread, and the frames of its stack.
+///
+/// # Errors
+///
+/// Any error but `Memory` means that the bytes are not such a payload.
 ///
 /// # Proved
 ///
 /// ```text
-/// ensures found { IfOk result (λ x. stack_payload wide bytes.now (x.0.now, map stack_frame_view x.1.items)) }
-/// ensures none { IfErr result (λ e. e ≢ Memory → FillsNothing stack_payload bytes.now) }
+/// ensures found { IfOk result (λ x. stack_payload padded bytes.now (x.0.now, map stack_frame_view x.1.items)) }
+/// ensures none { IfErr result (λ e. e ≢ Memory → RejectsWhole stack_payload bytes.now) }
 /// ```
 pub fn read_stack<'a, A: Allocator + Copy>(
     bytes: &'a [u8],
@@ -206,53 +216,55 @@ pub fn read_stack<'a, A: Allocator + Copy>(
 }
 
 impl<A: Allocator> Shorten for CoreFrame<A> {
-    fn write_minimal<B: Sink>(&self, out: &mut B) -> R<()> {
-        0x00u8.encode(out)?;
-        self.instanceidx.write_minimal(out)?;
-        self.funcidx.write_minimal(out)?;
-        self.codeoffset.write_minimal(out)?;
-        self.locals.as_slice().encode(out)?;
-        self.stack.as_slice().encode(out)
+    fn write_minimal<B: Sink>(&self, sink: &mut B) -> Result<()> {
+        0x00u8.encode(sink)?;
+        self.instanceidx.write_minimal(sink)?;
+        self.funcidx.write_minimal(sink)?;
+        self.codeoffset.write_minimal(sink)?;
+        self.locals.as_slice().encode(sink)?;
+        self.stack.as_slice().encode(sink)
     }
 }
 
-/// Writes what [`append_stack`] appends. After an error, a part of it may be behind the old bytes.
+/// Writes the bytes that [`append_stack`] appends. After an error, part of them may follow the old
+/// bytes.
 ///
 /// # Proved
 ///
 /// ```text
-/// ensures ok { OnOk result (AppendsShortest stack_payload (thread.now, map stack_frame_view frames.now.items) out.old.items out.new.items) }
-/// ensures front { IsFrontOf out.old.items out.new.items }
+/// ensures ok { OnOk result (AppendsMinimal stack_payload (thread.now, map stack_frame_view frames.now.items) sink.old.items sink.new.items) }
+/// ensures front { IsFrontOf sink.old.items sink.new.items }
 /// ensures too_long { HasEncoding stack_payload (thread.now, map stack_frame_view frames.now.items) → result ≢ Err TooLong }
 /// ```
 fn write_stack<A: Allocator, B: Sink>(
     thread: &str,
     frames: &Vec<CoreFrame<A>, A>,
-    out: &mut B,
-) -> R<()> {
-    "corestack".encode(out)?;
-    append_marked(thread, out)?;
-    frames.write_minimal(out)
+    sink: &mut B,
+) -> Result<()> {
+    "corestack".encode(sink)?;
+    append_marked(thread, sink)?;
+    frames.write_minimal(sink)
 }
 
-/// Appends the minimal encoding of the payload of the section of this stack. On an error, the sink is as it was.
+/// Appends the minimal encoding of the payload of the section of this stack. On an error, the sink
+/// is unchanged.
 ///
 /// # Proved
 ///
 /// ```text
-/// ensures ok { OnOk result (AppendsShortest stack_payload (thread.now, map stack_frame_view frames.now.items) out.old.items out.new.items) }
-/// ensures err { OnErr result (out.new.items ≡ out.old.items) }
+/// ensures ok { OnOk result (AppendsMinimal stack_payload (thread.now, map stack_frame_view frames.now.items) sink.old.items sink.new.items) }
+/// ensures err { OnErr result (sink.new.items ≡ sink.old.items) }
 /// ensures too_long { HasEncoding stack_payload (thread.now, map stack_frame_view frames.now.items) → result ≢ Err TooLong }
 /// ```
 pub fn append_stack<A: Allocator, B: Sink>(
     thread: &str,
     frames: &Vec<CoreFrame<A>, A>,
-    out: &mut B,
-) -> R<()> {
-    let start = out.len();
-    let written = write_stack(thread, frames, out);
+    sink: &mut B,
+) -> Result<()> {
+    let start = sink.len();
+    let written = write_stack(thread, frames, sink);
     if written.is_err() {
-        out.truncate(start);
+        sink.truncate(start);
     }
     written
 }

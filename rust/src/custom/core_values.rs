@@ -1,13 +1,13 @@
 // Written by tools/to-rust from crates/wasm_custom/src/core_values.rt: change that.
-// Values of a core dump.
+// The values of locals and stacks in a core dump.
 
 use crate::vec::Sink;
 use crate::alloc::Allocator;
-use crate::base::{Encode, R};
+use crate::base::{Encode, Result};
 use crate::immediates::{Ieee32, Ieee64};
-use crate::reader::base::{ReadFault, Readable, Spelled};
+use crate::reader::base::{Layout, ReadFault, Readable};
 
-/// A value of a local or of the stack, or none where it was optimised away.
+/// A value of a local or of the stack, or none if it was optimized away.
 #[derive(Clone, Copy, Debug)]
 pub enum CoreDumpValue {
     Missing,
@@ -17,16 +17,16 @@ pub enum CoreDumpValue {
     F64(Ieee64),
 }
 
-/// A byte for the type, and the value.
+/// Encodes a byte for the type, and the value.
 ///
 /// # Defined
 ///
 /// ```text
-/// text = { value_text }
-/// fits = { λ _. ⊤ }
+/// encoding = { value_encoding }
+/// encodable = { λ _. ⊤ }
 /// ```
 impl Encode for CoreDumpValue {
-    fn encode<A: Sink>(&self, sink: &mut A) -> R<()> {
+    fn encode<A: Sink>(&self, sink: &mut A) -> Result<()> {
         match *self {
             CoreDumpValue::Missing => 0x01u8.encode(sink),
             CoreDumpValue::I32(value) => (0x7Fu8, value).encode(sink),
@@ -44,7 +44,7 @@ impl Encode for CoreDumpValue {
 /// format = { value_format }
 /// view = { λ value. value }
 /// ```
-impl Spelled for CoreDumpValue {
+impl Layout for CoreDumpValue {
     fn laws() {}
 }
 

@@ -1,14 +1,14 @@
 // Written by tools/to-rust from crates/wasm_custom/src/counted.rt: change that.
-// Custom sections of counted items: how they are read, and written in fewest bytes.
+// Readers and minimizers of custom sections of counted items.
 
 use crate::vec::{Sink, Vec};
 use crate::custom::entries::CustomKind;
 use crate::custom::named::after_name;
 use crate::alloc::Allocator;
-use crate::base::{Encode, R};
+use crate::base::{Encode, Result};
 use crate::reader::base::{ReadFault, Readable};
 
-/// A kind whose items are written from a `T` that was read.
+/// A kind whose items can be encoded from a decoded `T`.
 ///
 /// # Defined
 ///
@@ -18,59 +18,63 @@ use crate::reader::base::{ReadFault, Readable};
 /// view: { T → Said }
 /// ```
 pub(crate) trait ItemsAs<T>: CustomKind {
-    // The item without where it lies in memory.
+    // The item, without its location in memory.
 
-    // What bytes spell.
+    // The format: which bytes encode which item.
 
-    /// One item stands at the front of bytes, whatever follows. The function does nothing.
+    /// Proves that the format is unambiguous: one item decodes from the front, whatever follows.
+    /// The function does nothing.
     ///
     /// # Proved
     ///
     /// ```text
-    /// ensures { UniqueReading format }
+    /// ensures { Unambiguous format }
     /// ```
-    fn alone();
+    fn unique();
 
-    /// Appends the one shortest text of the item, where some bytes are read as it. After a refusal a part of it may stand there.
+    /// Appends the minimal encoding of the item, if any bytes decode to it. After an error, part of
+    /// the encoding may follow the old bytes.
     ///
     /// # Proved
     ///
     /// ```text
-    /// ensures ok { OnOk result (AppendsShortest format (view item.now) out.old.items out.new.items) }
-    /// ensures front { IsFrontOf out.old.items out.new.items }
+    /// ensures ok { OnOk result (AppendsMinimal format (view item.now) sink.old.items sink.new.items) }
+    /// ensures front { IsFrontOf sink.old.items sink.new.items }
     /// ensures too_long { HasEncoding format (view item.now) → result ≢ Err TooLong }
     /// ```
-    fn append_item<B: Sink>(item: &T, out: &mut B) -> R<()>;
+    fn append_item<B: Sink>(item: &T, sink: &mut B) -> Result<()>;
 }
 
-/// A kind whose items are read as a `T`.
-pub(crate) trait ReadsItems<'a, T, A: Allocator + Copy>: ItemsAs<T> {
-    /// The item at the front, its numbers padded or not, and the bytes after it.
+/// A kind whose items decode to a `T`.
+pub(crate) trait DecodesItems<'a, T, A: Allocator + Copy>: ItemsAs<T> {
+    /// Decodes the item at the front, padded numbers included, and returns it with the remaining
+    /// bytes.
     ///
     /// # Proved
     ///
     /// ```text
-    /// ensures found { IfOk result (λ x. Reads Self.format wide bytes.now (Self.view x.0) x.1.now) }
-    /// ensures none { IfErr result (λ e. e ≢ Memory → ReadsNothing Self.format wide bytes.now) }
+    /// ensures found { IfOk result (λ x. Decodes Self.format padded bytes.now (Self.view x.0) x.1.now) }
+    /// ensures none { IfErr result (λ e. e ≢ Memory → Rejects Self.format padded bytes.now) }
     /// ```
     fn read_item(bytes: &'a [u8], alloc: A) -> Result<(T, &'a [u8]), ReadFault>;
 }
 
-/// Items behind their number, and the bytes after them. Memory is taken for items that stand there, and not by the number.
+/// Decodes a count and that many items, and returns them with the remaining bytes. Memory grows
+/// with the items that decode, and is not allocated by the count.
 ///
 /// # Proved
 ///
 /// ```text
-/// ensures found { IfOk result (λ x. Reads (vec K.format) wide bytes.now (map K.view x.0.items) x.1.now) }
-/// ensures none { IfErr result (λ e. e ≢ Memory → ReadsNothing (vec K.format) wide bytes.now) }
+/// ensures found { IfOk result (λ x. Decodes (vec K.format) padded bytes.now (map K.view x.0.items) x.1.now) }
+/// ensures none { IfErr result (λ e. e ≢ Memory → Rejects (vec K.format) padded bytes.now) }
 /// ```
-fn read_items<'a, K: ReadsItems<'a, T, A>, T, A: Allocator + Copy>(
+fn read_items<'a, K: DecodesItems<'a, T, A>, T, A: Allocator + Copy>(
     bytes: &'a [u8],
     alloc: A,
 ) -> Result<(Vec<T, A>, &'a [u8]), ReadFault> {
     let (count, mut rest) = <u32 as Readable<'a, A>>::read(bytes, alloc)?;
     let mut items = Vec::new(alloc);
-    K::alone();
+    K::unique();
     for _taken in 0..count {
         let (item, after) = K::read_item(rest, alloc)?;
         items.push(item)?;
@@ -79,19 +83,19 @@ fn read_items<'a, K: ReadsItems<'a, T, A>, T, A: Allocator + Copy>(
     Ok((items, rest))
 }
 
-/// The items of a section of the kind, where its name stands there.
+/// Decodes the payload of a section of this kind, including its name.
 ///
 /// # Proved
 ///
 /// ```text
-/// ensures found { IfOk result (λ x. counted_payload K.name K.format wide bytes.now (map K.view x.items)) }
-/// ensures none { IfErr result (λ e. e ≢ Memory → FillsNothing (counted_payload K.name K.format) bytes.now) }
+/// ensures found { IfOk result (λ x. counted_payload K.name K.format padded bytes.now (map K.view x.items)) }
+/// ensures none { IfErr result (λ e. e ≢ Memory → RejectsWhole (counted_payload K.name K.format) bytes.now) }
 /// ```
-pub(crate) fn read_counted<'a, K: ReadsItems<'a, T, A>, T, A: Allocator + Copy>(
+pub(crate) fn read_counted<'a, K: DecodesItems<'a, T, A>, T, A: Allocator + Copy>(
     bytes: &'a [u8],
     alloc: A,
 ) -> Result<Vec<T, A>, ReadFault> {
-    K::alone();
+    K::unique();
     let rest = after_name(K::name(), bytes, alloc)?;
     let (items, left) = read_items::<'a, K, T, A>(rest, alloc)?;
     if left.is_empty() {
@@ -101,54 +105,56 @@ pub(crate) fn read_counted<'a, K: ReadsItems<'a, T, A>, T, A: Allocator + Copy>(
     }
 }
 
-/// Appends items behind their number.
+/// Appends a count and the items.
 ///
 /// # Proved
 ///
 /// ```text
-/// ensures ok { OnOk result (AppendsShortest (vec K.format) (map K.view items.now) out.old.items out.new.items) }
-/// ensures front { IsFrontOf out.old.items out.new.items }
+/// ensures ok { OnOk result (AppendsMinimal (vec K.format) (map K.view items.now) sink.old.items sink.new.items) }
+/// ensures front { IsFrontOf sink.old.items sink.new.items }
 /// ensures too_long { HasEncoding (vec K.format) (map K.view items.now) → result ≢ Err TooLong }
 /// ```
-fn append_items<K: ItemsAs<T>, T, B: Sink>(items: &[T], out: &mut B) -> R<()> {
-    items.len().encode(out)?;
+fn append_items<K: ItemsAs<T>, T, B: Sink>(items: &[T], sink: &mut B) -> Result<()> {
+    items.len().encode(sink)?;
     for item in items {
-        K::append_item(item, out)?;
+        K::append_item(item, sink)?;
     }
     Ok(())
 }
 
-/// Writes what [`append_counted`] appends. After an error, a part of it may be behind the old bytes.
+/// Writes the bytes that [`append_counted`] appends. After an error, part of them may follow the
+/// old bytes.
 ///
 /// # Proved
 ///
 /// ```text
-/// ensures ok { OnOk result (AppendsShortest (counted_payload K.name K.format) (map K.view items.now) out.old.items out.new.items) }
-/// ensures front { IsFrontOf out.old.items out.new.items }
+/// ensures ok { OnOk result (AppendsMinimal (counted_payload K.name K.format) (map K.view items.now) sink.old.items sink.new.items) }
+/// ensures front { IsFrontOf sink.old.items sink.new.items }
 /// ensures too_long { HasEncoding (counted_payload K.name K.format) (map K.view items.now) → result ≢ Err TooLong }
 /// ```
-fn write_counted<K: ItemsAs<T>, T, B: Sink>(items: &[T], out: &mut B) -> R<()> {
-    K::name().encode(out)?;
-    append_items::<K, T, _>(items, out)
+fn write_counted<K: ItemsAs<T>, T, B: Sink>(items: &[T], sink: &mut B) -> Result<()> {
+    K::name().encode(sink)?;
+    append_items::<K, T, _>(items, sink)
 }
 
-/// Appends the minimal encoding of the payload of a section of the kind, which has these items. On an error, the sink is as it was.
+/// Appends the minimal encoding of the payload of a section of the kind, which has these items. On
+/// an error, the sink is unchanged.
 ///
 /// # Proved
 ///
 /// ```text
-/// ensures ok { OnOk result (AppendsShortest (counted_payload K.name K.format) (map K.view items.now) out.old.items out.new.items) }
-/// ensures err { OnErr result (out.new.items ≡ out.old.items) }
+/// ensures ok { OnOk result (AppendsMinimal (counted_payload K.name K.format) (map K.view items.now) sink.old.items sink.new.items) }
+/// ensures err { OnErr result (sink.new.items ≡ sink.old.items) }
 /// ensures too_long { HasEncoding (counted_payload K.name K.format) (map K.view items.now) → result ≢ Err TooLong }
 /// ```
 pub(crate) fn append_counted<K: ItemsAs<T>, T, B: Sink>(
     items: &[T],
-    out: &mut B,
-) -> R<()> {
-    let start = out.len();
-    let written = write_counted::<K, T, _>(items, out);
+    sink: &mut B,
+) -> Result<()> {
+    let start = sink.len();
+    let written = write_counted::<K, T, _>(items, sink);
     if written.is_err() {
-        out.truncate(start);
+        sink.truncate(start);
     }
     written
 }

@@ -1,27 +1,32 @@
 // Written by tools/to-rust from crates/wasm_custom/src/custom_section.rt: change that.
-// Custom sections: a name, and data up to the end of the frame.
+// Custom sections: a name, and data up to the end of the payload.
 
 use crate::vec::Sink;
 use crate::alloc::{Allocator, Global};
-use crate::base::{CowSlice, CowStr, Encode, R, Refused, Section, SectionId, begin_frame, encoding_size};
+use crate::base::{CowSlice, CowStr, Encode, Refused, Result, Section, SectionId, begin_size_prefixed, encoding_size};
 
-/// Appends the size and the name of a custom section, and makes room for data of `size` bytes that are to follow.
+/// Appends the size prefix and the name of a custom section, and reserves spare capacity for `size`
+/// bytes of data that the caller appends next.
 ///
 /// # Proved
 ///
 /// ```text
-/// ensures ok { OnOk result (sink.new.items ≡ sink.old.items ++ (unsigned_text (length (frame_text name.now) + size) ++ frame_text name.now)) }
-/// ensures made_room { OnOk result (vec_len sink.new + size ≤ vec_capacity sink.new) }
+/// ensures ok { OnOk result (sink.new.items ≡ sink.old.items ++ (unsigned_encoding (length (size_prefixed_encoding name.now) + size) ++ size_prefixed_encoding name.now)) }
+/// ensures reserved { OnOk result (vec_len sink.new + size ≤ vec_capacity sink.new) }
 /// ensures err { OnErr result (sink.new.items ≡ sink.old.items) }
-/// ensures fitted { OnOk result (length (frame_text name.now) + size ≤ longest) }
-/// ensures too_long { length (frame_text name.now) + size ≤ longest → result ≢ Err Refused.TooLong }
-/// ensures too_many { longest < length (frame_text name.now) + size → result ≡ Err Refused.TooLong }
-/// ensures room { length (frame_text name.now) + size ≤ longest
-///     → vec_len sink.old + (length (unsigned_text (length (frame_text name.now) + size)) + (length (frame_text name.now) + size)) ≤ vec_capacity sink.old
+/// ensures was_encodable { OnOk result (length (size_prefixed_encoding name.now) + size ≤ longest) }
+/// ensures too_long { length (size_prefixed_encoding name.now) + size ≤ longest → result ≢ Err Refused.TooLong }
+/// ensures too_many { longest < length (size_prefixed_encoding name.now) + size → result ≡ Err Refused.TooLong }
+/// ensures spare { length (size_prefixed_encoding name.now) + size ≤ longest
+///     → vec_len sink.old + (length (unsigned_encoding (length (size_prefixed_encoding name.now) + size)) + (length (size_prefixed_encoding name.now) + size)) ≤ vec_capacity sink.old
 ///     → IsOk result }
 /// ensures capacity { vec_capacity sink.old ≤ vec_capacity sink.new }
 /// ```
-pub(crate) fn begin_custom<A: Sink>(sink: &mut A, name: &str, size: usize) -> R<()> {
+pub(crate) fn begin_custom<A: Sink>(
+    sink: &mut A,
+    name: &str,
+    size: usize,
+) -> Result<()> {
     let Ok(short) = u32::try_from(name.len()) else {
         return Err(Refused::TooLong);
     };
@@ -29,7 +34,7 @@ pub(crate) fn begin_custom<A: Sink>(sink: &mut A, name: &str, size: usize) -> R<
     let Ok(total) = u32::try_from(named.saturating_add(size as u64)) else {
         return Err(Refused::TooLong);
     };
-    begin_frame(sink, total as usize)?;
+    begin_size_prefixed(sink, total as usize)?;
     name.encode(sink).unwrap();
     Ok(())
 }
@@ -58,15 +63,15 @@ pub struct CustomSection<'a, A: Allocator = Global> {
 }
 
 impl<'a, A: Allocator + Copy> CustomSection<'a, A> {
-    /// The same name and data: what is owned in memory of its own.
+    /// Returns the same name and data, and copies owned ones into memory of their own.
     ///
     /// # Proved
     ///
     /// ```text
-    /// ensures same { IfOk result (λ s. (text_of s.name ≡ text_of self.now.name) × (items_of s.bytes ≡ items_of self.now.bytes)) }
+    /// ensures same { IfOk result (λ s. (encoding_of s.name ≡ encoding_of self.now.name) × (items_of s.bytes ≡ items_of self.now.bytes)) }
     /// ensures memory { result ≢ Err Refused.TooLong }
     /// ```
-    pub fn clone(&self) -> R<Self> {
+    pub fn clone(&self) -> Result<Self> {
         Ok(CustomSection {
             name: self.name.clone()?,
             bytes: self.bytes.clone()?,
@@ -74,7 +79,7 @@ impl<'a, A: Allocator + Copy> CustomSection<'a, A> {
     }
 }
 
-/// Sections are equal where their names and data have equal bytes.
+/// Sections are equal if their names and data have equal bytes.
 ///
 /// # Defined
 ///
@@ -96,18 +101,18 @@ impl<A: Allocator> PartialEq for CustomSection<'_, A> {
 /// ```
 impl<A: Allocator> Eq for CustomSection<'_, A> {}
 
-/// The frame of the name and the data.
+/// Encodes the size prefix, the name and the data.
 ///
 /// # Defined
 ///
 /// ```text
-/// text = { λ s. named_text (text_of s.name) (items_of s.bytes) }
-/// fits = { λ s. NamedFits (text_of s.name) (items_of s.bytes) }
-/// overlong = { λ s. longest < length (frame_text (text_of s.name)) + length (items_of s.bytes) }
-/// reading = { λ s. ReadsBack custom (λ said. IsUtf8 (text_of s.name) × (said ≡ (text_of s.name, items_of s.bytes))) (named_text (text_of s.name) (items_of s.bytes)) }
+/// encoding = { λ s. named_encoding (encoding_of s.name) (items_of s.bytes) }
+/// encodable = { λ s. IsEncodableNamed (encoding_of s.name) (items_of s.bytes) }
+/// overlong = { λ s. longest < length (size_prefixed_encoding (encoding_of s.name)) + length (items_of s.bytes) }
+/// decoding = { λ s. DecodesBack custom (λ said. IsUtf8 (encoding_of s.name) × (said ≡ (encoding_of s.name, items_of s.bytes))) (named_encoding (encoding_of s.name) (items_of s.bytes)) }
 /// ```
 impl<A: Allocator> Encode for CustomSection<'_, A> {
-    fn encode<B: Sink>(&self, sink: &mut B) -> R<()> {
+    fn encode<B: Sink>(&self, sink: &mut B) -> Result<()> {
         let bytes = self.bytes.as_slice();
         begin_custom(sink, self.name.as_str(), bytes.len())?;
         sink.extend_from_slice(bytes).unwrap();
@@ -121,10 +126,10 @@ impl<A: Allocator> Encode for CustomSection<'_, A> {
 /// id_of = { λ _. number_of ids.Custom }
 /// Items = { List ℕ × List ℕ }
 /// format = { custom }
-/// says = { λ s said. IsUtf8 (text_of s.name) × (said ≡ (text_of s.name, items_of s.bytes)) }
-/// payload = { λ s. NamedPayload (text_of s.name) (items_of s.bytes) }
-/// framed = { λ s bytes fits pays. named_framed (text_of s.name) (items_of s.bytes) bytes fits pays }
-/// reads_back = { λ s promised. promised }
+/// says = { λ s said. IsUtf8 (encoding_of s.name) × (said ≡ (encoding_of s.name, items_of s.bytes)) }
+/// payload = { λ s. NamedPayload (encoding_of s.name) (items_of s.bytes) }
+/// sized = { λ s bytes encodable pays. named_sized (encoding_of s.name) (items_of s.bytes) bytes encodable pays }
+/// decodes_back = { λ s promised. promised }
 /// ```
 impl<A: Allocator> Section for CustomSection<'_, A> {
     fn id(&self) -> u8 {

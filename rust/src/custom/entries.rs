@@ -1,27 +1,28 @@
 // Written by tools/to-rust from crates/wasm_custom/src/entries.rt: change that.
-// Custom sections of entries: what they have in common.
+// The builder of all custom sections of entries.
 
 use crate::vec::{Sink, Vec};
 use crate::custom::custom_section::{CustomSection, begin_custom};
 use crate::alloc::{Allocator, Global};
 use core::marker::PhantomData;
-use crate::base::{CowSlice, CowStr, Encode, EncodeOnce, Kind, Pieces, R, Section, SectionId, encoding_size};
+use crate::base::{CowSlice, CowStr, Encode, EncodeOnce, Kind, Pieces, Result, Section, SectionId, encoding_size};
 
-/// A kind of custom section: its items, its name, what stands before its entries, and whether these are counted.
+/// A kind of custom section: its items, its name, the bytes before its entries, and whether the
+/// entries are counted.
 ///
 /// # Defined
 ///
 /// ```text
 /// // The name of the section.
 /// name: { List ℕ }
-/// // What stands before the entries, and how it is spelled.
+/// // The bytes before the entries, and their format.
 /// front: { List ℕ }
 /// front_format: { Mode → List ℕ → Unit {0} → Type 0 }
-/// // Whether the number of entries stands before them.
+/// // Whether the number of entries precedes them.
 /// counted: { Bool }
 /// ```
 pub trait CustomKind: Kind {
-    /// The name of the section.
+    /// Returns the name of the section.
     ///
     /// # Proved
     ///
@@ -30,7 +31,7 @@ pub trait CustomKind: Kind {
     /// ```
     fn name() -> &'static str;
 
-    /// What stands before the entries.
+    /// Returns the bytes before the entries.
     ///
     /// # Proved
     ///
@@ -39,7 +40,7 @@ pub trait CustomKind: Kind {
     /// ```
     fn front() -> &'static [u8];
 
-    /// Whether the number of entries stands before them.
+    /// Returns `true` if the number of entries precedes them.
     ///
     /// # Proved
     ///
@@ -48,18 +49,23 @@ pub trait CustomKind: Kind {
     /// ```
     fn counted() -> bool;
 
-    /// The section's name is UTF-8, what stands before the items is spelled, in a format that is read uniquely, and where items are not
-    /// counted, none of them is empty. The function does nothing.
+    /// Proves three laws: the name is UTF-8, the bytes before the entries encode a value of an
+    /// unambiguous format, and uncounted items are never empty. The function does nothing.
     ///
     /// # Proved
     ///
     /// ```text
-    /// ensures { FrameLaws Self.kind.format name front front_format counted }
+    /// ensures { CustomLayoutLaws Self.kind.format name front front_format counted }
     /// ```
-    fn frame_laws();
+    fn layout_laws();
 }
 
-/// A custom section of entries of the kind `K`, seen as the bytes of each.
+/// A custom section of entries of the kind `K`, modelled as the bytes of each entry.
+///
+/// # Errors
+///
+/// An adding call that returns an error leaves the section unchanged. The error is `TooLong` only
+/// if the section is full or the item does not fit, and `Memory` only if an allocation fails.
 #[derive(Debug)]
 pub struct CustomEntries<K, A: Allocator = Global> {
     pieces: Pieces<A>,
@@ -67,7 +73,7 @@ pub struct CustomEntries<K, A: Allocator = Global> {
 }
 
 impl<K, A: Allocator> CustomEntries<K, A> {
-    /// The number of entries.
+    /// Returns the number of entries.
     ///
     /// # Proved
     ///
@@ -78,7 +84,7 @@ impl<K, A: Allocator> CustomEntries<K, A> {
         self.pieces.len()
     }
 
-    /// Whether there is no entry.
+    /// Returns `true` if there are no entries.
     ///
     /// # Proved
     ///
@@ -89,18 +95,18 @@ impl<K, A: Allocator> CustomEntries<K, A> {
         self.pieces.is_empty()
     }
 
-    /// Adds an entry that is the text of the record. A refused call leaves the section as it was.
+    /// Adds the encoding of the record as an entry.
     ///
     /// # Proved
     ///
     /// ```text
-    /// ensures { Adds (T.text given.now) (T.fits given.now) self.old self.new result }
+    /// ensures { Adds (T.encoding given.now) (T.encodable given.now) self.old self.new result }
     /// ```
-    pub(crate) fn add_record<T: Encode>(&mut self, given: &T) -> R<()> {
+    pub(crate) fn add_record<T: Encode>(&mut self, given: &T) -> Result<()> {
         self.pieces.add_encoded(given)
     }
 
-    /// Adds an entry that is a text of the item, which is written once. A refused call leaves the section as it was.
+    /// Adds an encoding of the item as an entry, and consumes the item.
     ///
     /// # Asks
     ///
@@ -111,13 +117,13 @@ impl<K, A: Allocator> CustomEntries<K, A> {
     /// # Proved
     ///
     /// ```text
-    /// ensures { AddsOnce (T.gives item) (T.fits item) self.old self.new result }
+    /// ensures { AddsOnce (T.gives item) (T.encodable item) self.old self.new result }
     /// ```
-    pub(crate) fn add_once<T: EncodeOnce>(&mut self, item: T) -> R<()> {
+    pub(crate) fn add_once<T: EncodeOnce>(&mut self, item: T) -> Result<()> {
         self.pieces.add_once(item)
     }
 
-    /// The entries, one after another.
+    /// Returns the bytes of the entries, one entry after another.
     ///
     /// # Proved
     ///
@@ -130,7 +136,7 @@ impl<K, A: Allocator> CustomEntries<K, A> {
 }
 
 impl<K, A: Allocator + Copy> CustomEntries<K, A> {
-    /// A section of no entries. It takes no memory.
+    /// Returns a section without entries, and allocates nothing.
     ///
     /// # Proved
     ///
@@ -144,7 +150,7 @@ impl<K, A: Allocator + Copy> CustomEntries<K, A> {
         }
     }
 
-    /// A section of the same entries, in memory of its own.
+    /// Returns a section of the same entries, in memory of its own.
     ///
     /// # Proved
     ///
@@ -152,7 +158,7 @@ impl<K, A: Allocator + Copy> CustomEntries<K, A> {
     /// ensures same { IfOk result (λ section. section ≡ self.now) }
     /// ensures memory { result ≢ Err TooLong }
     /// ```
-    pub fn clone(&self) -> R<Self> {
+    pub fn clone(&self) -> Result<Self> {
         Ok(CustomEntries {
             pieces: self.pieces.clone()?,
             kind: PhantomData,
@@ -161,15 +167,15 @@ impl<K, A: Allocator + Copy> CustomEntries<K, A> {
 }
 
 impl<K: CustomKind, A: Allocator> CustomEntries<K, A> {
-    /// The section as a custom section, whose data are in memory of their own.
+    /// Returns the section as a custom section, with its data in memory of their own.
     ///
     /// # Proved
     ///
     /// ```text
-    /// ensures same { IfOk result (λ s. (text_of s.name ≡ K.name) × (items_of s.bytes ≡ entries_text K.front K.counted self.now)) }
+    /// ensures same { IfOk result (λ s. (encoding_of s.name ≡ K.name) × (items_of s.bytes ≡ entries_encoding K.front K.counted self.now)) }
     /// ensures memory { result ≢ Err TooLong }
     /// ```
-    pub(crate) fn owned<B: Allocator>(&self, alloc: B) -> R<CustomSection<'_, B>> {
+    pub(crate) fn owned<B: Allocator>(&self, alloc: B) -> Result<CustomSection<'_, B>> {
         let data = data_of(alloc, K::front(), K::counted(), &self.pieces)?;
         Ok(CustomSection {
             name: CowStr::Borrowed(K::name()),
@@ -178,7 +184,7 @@ impl<K: CustomKind, A: Allocator> CustomEntries<K, A> {
     }
 }
 
-/// A number that is written where entries are counted.
+/// A count that is encoded only if entries are counted.
 #[derive(Clone, Copy)]
 struct Count {
     counted: bool,
@@ -186,12 +192,12 @@ struct Count {
 }
 
 impl Count {
-    /// The number of its bytes.
+    /// Returns the length of its encoding, in bytes.
     ///
     /// # Proved
     ///
     /// ```text
-    /// ensures is { result ≡ length (count_text self.counted self.number) }
+    /// ensures is { result ≡ length (count_encoding self.counted self.number) }
     /// ensures small { result ≤ 5 }
     /// ```
     fn size(self) -> usize {
@@ -203,16 +209,16 @@ impl Count {
     }
 }
 
-/// The number, or nothing.
+/// Encodes the number, or nothing.
 ///
 /// # Defined
 ///
 /// ```text
-/// text = { λ c. count_text c.counted c.number }
-/// fits = { λ _. ⊤ }
+/// encoding = { λ c. count_encoding c.counted c.number }
+/// encodable = { λ _. ⊤ }
 /// ```
 impl Encode for Count {
-    fn encode<A: Sink>(&self, sink: &mut A) -> R<()> {
+    fn encode<A: Sink>(&self, sink: &mut A) -> Result<()> {
         if self.counted {
             self.number.encode(sink)
         } else {
@@ -221,13 +227,14 @@ impl Encode for Count {
     }
 }
 
-/// The number of bytes of the data, where that can be spelled.
+/// Returns the length of the data in bytes if a size prefix can represent it, and a number above
+/// 4294967295 otherwise.
 ///
 /// # Proved
 ///
 /// ```text
-/// ensures told { result ≤ longest → result ≡ length front.now + (length (count_text count.counted count.number) + length (joined pieces.now)) }
-/// ensures small { length front.now + (length (count_text count.counted count.number) + length (joined pieces.now)) ≤ longest → result ≡ length front.now + (length (count_text count.counted count.number) + length (joined pieces.now)) }
+/// ensures known { result ≤ longest → result ≡ length front.now + (length (count_encoding count.counted count.number) + length (joined pieces.now)) }
+/// ensures small { length front.now + (length (count_encoding count.counted count.number) + length (joined pieces.now)) ≤ longest → result ≡ length front.now + (length (count_encoding count.counted count.number) + length (joined pieces.now)) }
 /// ```
 fn data_size<B: Allocator>(front: &[u8], count: Count, pieces: &Pieces<B>) -> usize {
     front
@@ -236,14 +243,15 @@ fn data_size<B: Allocator>(front: &[u8], count: Count, pieces: &Pieces<B>) -> us
         .saturating_add(pieces.raw_len())
 }
 
-/// Appends the frame of the name and of the data: what stands at the front, the number of entries where they are counted, and these.
+/// Appends a custom section without its id: the size prefix, the name, the bytes `front`, the
+/// number of entries if they are counted, and the entries.
 ///
 /// # Proved
 ///
 /// ```text
-/// ensures appends { Appends (named_text name.now (entries_text front.now counted pieces.now)) (NamedFits name.now (entries_text front.now counted pieces.now)) sink.old sink.new result }
+/// ensures appends { Appends (named_encoding name.now (entries_encoding front.now counted pieces.now)) (IsEncodableNamed name.now (entries_encoding front.now counted pieces.now)) sink.old sink.new result }
 /// ensures few { length pieces.now ≤ longest }
-/// ensures too_many { longest < length (frame_text name.now) + length (entries_text front.now counted pieces.now) → result ≡ Err TooLong }
+/// ensures too_many { longest < length (size_prefixed_encoding name.now) + length (entries_encoding front.now counted pieces.now) → result ≡ Err TooLong }
 /// ```
 pub(crate) fn encode_entries<A: Sink, B: Allocator>(
     sink: &mut A,
@@ -251,7 +259,7 @@ pub(crate) fn encode_entries<A: Sink, B: Allocator>(
     front: &[u8],
     counted: bool,
     pieces: &Pieces<B>,
-) -> R<()> {
+) -> Result<()> {
     let count = Count {
         counted,
         number: pieces.len(),
@@ -264,12 +272,12 @@ pub(crate) fn encode_entries<A: Sink, B: Allocator>(
     Ok(())
 }
 
-/// The data, in memory of their own.
+/// Returns the data, in memory of their own.
 ///
 /// # Proved
 ///
 /// ```text
-/// ensures same { IfOk result (λ v. v.items ≡ entries_text front.now counted pieces.now) }
+/// ensures same { IfOk result (λ v. v.items ≡ entries_encoding front.now counted pieces.now) }
 /// ensures memory { result ≢ Err TooLong }
 /// ```
 pub(crate) fn data_of<A: Allocator, B: Allocator>(
@@ -277,7 +285,7 @@ pub(crate) fn data_of<A: Allocator, B: Allocator>(
     front: &[u8],
     counted: bool,
     pieces: &Pieces<B>,
-) -> R<Vec<u8, A>> {
+) -> Result<Vec<u8, A>> {
     let count = Count {
         counted,
         number: pieces.len(),
@@ -288,20 +296,20 @@ pub(crate) fn data_of<A: Allocator, B: Allocator>(
     Ok(sink)
 }
 
-/// The frame of the name and of the data.
+/// Encodes the size prefix, the name and the data.
 ///
 /// # Defined
 ///
 /// ```text
-/// text = { λ section. named_text K.name (entries_text K.front K.counted section) }
-/// fits = { λ section. NamedFits K.name (entries_text K.front K.counted section) }
-/// overlong = { λ section. longest < length (frame_text K.name) + length (entries_text K.front K.counted section) }
-/// reading = { λ section. ReadsBackBoth (named_section K.name (entries K.front_format K.counted K.kind.format)) (HoldsItems K.kind section) (HoldsWide K.kind.format section) (named_text K.name (entries_text K.front K.counted section)) }
+/// encoding = { λ section. named_encoding K.name (entries_encoding K.front K.counted section) }
+/// encodable = { λ section. IsEncodableNamed K.name (entries_encoding K.front K.counted section) }
+/// overlong = { λ section. longest < length (size_prefixed_encoding K.name) + length (entries_encoding K.front K.counted section) }
+/// decoding = { λ section. DecodesBackBoth (named_section K.name (entries K.front_format K.counted K.kind.format)) (ContainsItems K.kind section) (ContainsPadded K.kind.format section) (named_encoding K.name (entries_encoding K.front K.counted section)) }
 /// ```
 impl<K: CustomKind, A: Allocator> Encode for CustomEntries<K, A> {
-    fn encode<B: Sink>(&self, sink: &mut B) -> R<()> {
+    fn encode<B: Sink>(&self, sink: &mut B) -> Result<()> {
         K::laws();
-        K::frame_laws();
+        K::layout_laws();
         encode_entries(sink, K::name(), K::front(), K::counted(), &self.pieces)
     }
 }
@@ -312,10 +320,10 @@ impl<K: CustomKind, A: Allocator> Encode for CustomEntries<K, A> {
 /// id_of = { λ _. number_of ids.Custom }
 /// Items = { List K.Item }
 /// format = { named_section K.name (entries K.front_format K.counted K.kind.format) }
-/// says = { HoldsItems K.kind }
-/// payload = { λ section. NamedPayload K.name (entries_text K.front K.counted section) }
-/// framed = { λ section bytes fits pays. named_framed K.name (entries_text K.front K.counted section) bytes fits pays }
-/// reads_back = { λ section promised. promised.plain }
+/// says = { ContainsItems K.kind }
+/// payload = { λ section. NamedPayload K.name (entries_encoding K.front K.counted section) }
+/// sized = { λ section bytes encodable pays. named_sized K.name (entries_encoding K.front K.counted section) bytes encodable pays }
+/// decodes_back = { λ section promised. promised.plain }
 /// ```
 impl<K: CustomKind, A: Allocator> Section for CustomEntries<K, A> {
     fn id(&self) -> u8 {

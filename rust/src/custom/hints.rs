@@ -1,15 +1,16 @@
 // Written by tools/to-rust from crates/wasm_custom/src/hints.rt: change that.
-// Branch hints.
+// The branch hint section: its builder, its reader and its minimizer.
 
 use crate::vec::{Sink, Vec};
-use crate::custom::counted::{ItemsAs, ReadsItems, append_counted, read_counted};
+use crate::custom::counted::{DecodesItems, ItemsAs, append_counted, read_counted};
 use crate::custom::entries::{CustomEntries, CustomKind};
 use crate::custom::marked::read_marked;
 use crate::alloc::{Allocator, Global};
-use crate::base::{Encode, Kind, R, vec_of};
-use crate::reader::base::{ReadFault, Readable, Shorten, Spelled};
+use crate::base::{Encode, Kind, Result, vec_of};
+use crate::reader::base::{Layout, ReadFault, Readable, Shorten};
 
-/// Which branches are likely to be taken: a list of hints for each function. It stands before the code section.
+/// The branch hint section: which branches are likely to be taken, as a list of hints for each
+/// function. It belongs before the code section.
 ///
 /// ```
 /// # use dolzhytik::{fallible::*, reader::*};
@@ -26,29 +27,29 @@ use crate::reader::base::{ReadFault, Readable, Shorten, Spelled};
 /// ```
 pub type BranchHints<A = Global> = CustomEntries<HintItems, A>;
 
-/// The items of a section of branch hints: those of a function each.
+/// The kind of a branch hint section's items: the hints of one function each.
 #[derive(Clone, Copy, Debug)]
 pub struct HintItems;
 
-/// Which way a branch is likely to go.
+/// A branch hint: the likely direction of a branch.
 #[derive(Clone, Copy, Debug)]
 pub struct BranchHint {
-    /// Where the branch begins, in bytes from the beginning of the raw body of its function.
+    /// The offset of the branch instruction in the raw body of its function, in bytes.
     pub branch_func_offset: u32,
-    /// 0 where the branch is not likely to be taken, 1 where it is. Whatever is below 128 has a reading.
+    /// 1 if the branch is likely to be taken, and 0 if it is not. Any value below 128 decodes.
     pub branch_hint_value: u32,
 }
 
-/// The offset, a length of 1, and the value.
+/// Encodes the offset, a length of 1, and the value.
 ///
 /// # Defined
 ///
 /// ```text
-/// text = { hint_text }
-/// fits = { λ _. ⊤ }
+/// encoding = { hint_encoding }
+/// encodable = { λ _. ⊤ }
 /// ```
 impl Encode for BranchHint {
-    fn encode<A: Sink>(&self, sink: &mut A) -> R<()> {
+    fn encode<A: Sink>(&self, sink: &mut A) -> Result<()> {
         (self.branch_func_offset, 0x01u8, self.branch_hint_value).encode(sink)
     }
 }
@@ -85,12 +86,12 @@ impl CustomKind for HintItems {
         true
     }
 
-    fn frame_laws() {}
+    fn layout_laws() {}
 }
 
 impl<A: Allocator> BranchHints<A> {
-    /// Adds the hints of a function. A refused call leaves the section as it was. Where there are too many hints, it answers `TooLong`, and
-    /// asks for none, as tests show.
+    /// Adds the hints of a function. If there are too many hints, it returns `TooLong` and requests
+    /// none, as tests show.
     ///
     /// # Asks
     ///
@@ -101,13 +102,13 @@ impl<A: Allocator> BranchHints<A> {
     /// # Proved
     ///
     /// ```text
-    /// ensures { AddsList H.into_iter_gives H.IntoIter.next_gives H.IntoIter.remaining hints (λ _. ⊤) (λ items. unsigned_text func ++ vec_text hint_text items) self.old self.new result }
+    /// ensures { AddsList H.into_iter_gives H.IntoIter.next_gives H.IntoIter.remaining hints (λ _. ⊤) (λ items. unsigned_encoding func ++ vec_encoding hint_encoding items) self.old self.new result }
     /// ```
     pub fn function_hints<H: IntoIterator<Item = BranchHint>>(
         &mut self,
         func: u32,
         hints: H,
-    ) -> R<()>
+    ) -> Result<()>
     where
         H::IntoIter: ExactSizeIterator,
     {
@@ -116,7 +117,7 @@ impl<A: Allocator> BranchHints<A> {
     }
 }
 
-/// The value of a hint: one byte.
+/// The value of a hint, in one byte.
 #[derive(Clone, Copy, Debug)]
 struct HintValue(u8);
 
@@ -127,7 +128,7 @@ struct HintValue(u8);
 /// format = { such (λ b. b < 128) byte }
 /// view = { λ value. value.0 }
 /// ```
-impl Spelled for HintValue {
+impl Layout for HintValue {
     fn laws() {}
 }
 
@@ -148,7 +149,7 @@ impl<'a, A: Allocator + Copy> Readable<'a, A> for HintValue {
 /// format = { hint }
 /// view = { λ hint. hint }
 /// ```
-impl Spelled for BranchHint {
+impl Layout for BranchHint {
     fn laws() {}
 }
 
@@ -172,16 +173,19 @@ impl<'a, A: Allocator + Copy> Readable<'a, A> for BranchHint {
 /// view = { hints_view }
 /// ```
 impl<A: Allocator> ItemsAs<(u32, Vec<BranchHint, A>)> for HintItems {
-    fn alone() {}
+    fn unique() {}
 
-    fn append_item<B: Sink>(item: &(u32, Vec<BranchHint, A>), out: &mut B) -> R<()> {
+    fn append_item<B: Sink>(
+        item: &(u32, Vec<BranchHint, A>),
+        sink: &mut B,
+    ) -> Result<()> {
         let (func, of_branches) = item;
-        func.write_minimal(out)?;
-        of_branches.as_slice().encode(out)
+        func.write_minimal(sink)?;
+        of_branches.as_slice().encode(sink)
     }
 }
 
-impl<'a, A: Allocator + Copy> ReadsItems<'a, (u32, Vec<BranchHint, A>), A> for HintItems {
+impl<'a, A: Allocator + Copy> DecodesItems<'a, (u32, Vec<BranchHint, A>), A> for HintItems {
     fn read_item(
         bytes: &'a [u8],
         alloc: A,
@@ -190,13 +194,18 @@ impl<'a, A: Allocator + Copy> ReadsItems<'a, (u32, Vec<BranchHint, A>), A> for H
     }
 }
 
-/// The hints of each function: its index, and the hints of its branches.
+/// Decodes the payload of a branch hint section: for each function its index, and the hints of its
+/// branches.
+///
+/// # Errors
+///
+/// Any error but `Memory` means that the bytes are not such a payload.
 ///
 /// # Proved
 ///
 /// ```text
-/// ensures found { IfOk result (λ x. hints_payload wide bytes.now (map hints_view x.items)) }
-/// ensures none { IfErr result (λ e. e ≢ Memory → FillsNothing hints_payload bytes.now) }
+/// ensures found { IfOk result (λ x. hints_payload padded bytes.now (map hints_view x.items)) }
+/// ensures none { IfErr result (λ e. e ≢ Memory → RejectsWhole hints_payload bytes.now) }
 /// ```
 pub fn read_hints<'a, A: Allocator + Copy>(
     bytes: &'a [u8],
@@ -205,18 +214,19 @@ pub fn read_hints<'a, A: Allocator + Copy>(
     read_counted::<'a, HintItems, (u32, Vec<BranchHint, A>), A>(bytes, alloc)
 }
 
-/// Appends the minimal encoding of the payload of a section of these hints. On an error, the sink is as it was.
+/// Appends the minimal encoding of the payload of a section of these hints. On an error, the sink
+/// is unchanged.
 ///
 /// # Proved
 ///
 /// ```text
-/// ensures ok { OnOk result (AppendsShortest hints_payload (map hints_view functions.now) out.old.items out.new.items) }
-/// ensures err { OnErr result (out.new.items ≡ out.old.items) }
+/// ensures ok { OnOk result (AppendsMinimal hints_payload (map hints_view functions.now) sink.old.items sink.new.items) }
+/// ensures err { OnErr result (sink.new.items ≡ sink.old.items) }
 /// ensures too_long { HasEncoding hints_payload (map hints_view functions.now) → result ≢ Err TooLong }
 /// ```
 pub fn append_hints<A: Allocator, B: Sink>(
     functions: &[(u32, Vec<BranchHint, A>)],
-    out: &mut B,
-) -> R<()> {
-    append_counted::<HintItems, (u32, Vec<BranchHint, A>), _>(functions, out)
+    sink: &mut B,
+) -> Result<()> {
+    append_counted::<HintItems, (u32, Vec<BranchHint, A>), _>(functions, sink)
 }

@@ -1,110 +1,116 @@
 // Written by tools/to-rust from crates/wasm_custom/src/laws.rt: change that.
-//! What is promised of all lists of bytes, and not of a call: each function does nothing, and its clauses are the promise.
+//! Laws about custom sections and their items, for all byte sequences: each function does nothing,
+//! and its clauses are the law.
 //!
-//! `ItemLaws` says of a kind of items that they are read uniquely, and that the text of a plain record spells what it says.
+//! `ItemLaws` says of a kind of items that its format is unambiguous, and that a well-formed record
+//! encodes its item.
 
-/// Sections are read uniquely, and so are their items; the text of a plain record spells what it says.
+/// The formats of sections and of their items are unambiguous. A well-formed record encodes its
+/// item.
 ///
 /// # Proved
 ///
 /// ```text
-/// ensures names { UniqueReading (frame name_payload) }
-/// ensures linking { UniqueReading (frame linking_payload) }
-/// ensures producers { UniqueReading (frame producers_payload) }
-/// ensures hints { UniqueReading (frame hints_payload) }
-/// ensures modules { UniqueReading (frame modules_payload) }
-/// ensures instances { UniqueReading (frame instances_payload) }
-/// ensures core { UniqueReading (frame core_payload) }
-/// ensures stack { UniqueReading (frame stack_payload) }
-/// ensures customs { UniqueReading custom }
-/// ensures subsections { UniqueReading subsection }
-/// ensures links { UniqueReading link }
-/// ensures symbols { UniqueReading symbol }
-/// ensures fields { UniqueReading field }
-/// ensures functions_hints { UniqueReading hints }
-/// ensures marked_names { UniqueReading marked_name }
-/// ensures single_instances { UniqueReading instance }
-/// ensures frames { UniqueReading stack_frame }
-/// ensures values { UniqueReading value }
+/// ensures names { Unambiguous (size_prefixed name_payload) }
+/// ensures linking { Unambiguous (size_prefixed linking_payload) }
+/// ensures producers { Unambiguous (size_prefixed producers_payload) }
+/// ensures hints { Unambiguous (size_prefixed hints_payload) }
+/// ensures modules { Unambiguous (size_prefixed modules_payload) }
+/// ensures instances { Unambiguous (size_prefixed instances_payload) }
+/// ensures core { Unambiguous (size_prefixed core_payload) }
+/// ensures stack { Unambiguous (size_prefixed stack_payload) }
+/// ensures customs { Unambiguous custom }
+/// ensures subsections { Unambiguous subsection }
+/// ensures links { Unambiguous link }
+/// ensures symbols { Unambiguous symbol }
+/// ensures fields { Unambiguous field }
+/// ensures functions_hints { Unambiguous hints }
+/// ensures marked_names { Unambiguous marked_name }
+/// ensures single_instances { Unambiguous instance }
+/// ensures frames { Unambiguous stack_frame }
+/// ensures values { Unambiguous value }
 /// ensures name_laws { ItemLaws name_items }
 /// ensures linking_items { ItemLaws link_items }
 /// ensures producer_laws { ItemLaws field_items }
 /// ensures hint_laws { ItemLaws hint_items }
 /// ensures module_laws { ItemLaws module_items }
 /// ensures instance_laws { ItemLaws instance_items }
-/// ensures frame_laws { ItemLaws frame_items }
+/// ensures layout_laws { ItemLaws frame_items }
 /// ```
 pub fn sections() {}
 
-/// With padded numbers too, sections are read uniquely, and what shortest numbers spell is among it.
+/// With padded numbers the formats of sections are unambiguous too. A minimal encoding is also an
+/// encoding in this mode.
 ///
 /// # Proved
 ///
 /// ```text
-/// ensures names { IsUniqueWide (frame name_payload) }
-/// ensures linking { IsUniqueWide (frame linking_payload) }
-/// ensures producers { IsUniqueWide (frame producers_payload) }
-/// ensures hints { IsUniqueWide (frame hints_payload) }
-/// ensures modules { IsUniqueWide (frame modules_payload) }
-/// ensures instances { IsUniqueWide (frame instances_payload) }
-/// ensures core { IsUniqueWide (frame core_payload) }
-/// ensures stack { IsUniqueWide (frame stack_payload) }
-/// ensures customs { IsUniqueWide custom }
+/// ensures names { UnambiguousPadded (size_prefixed name_payload) }
+/// ensures linking { UnambiguousPadded (size_prefixed linking_payload) }
+/// ensures producers { UnambiguousPadded (size_prefixed producers_payload) }
+/// ensures hints { UnambiguousPadded (size_prefixed hints_payload) }
+/// ensures modules { UnambiguousPadded (size_prefixed modules_payload) }
+/// ensures instances { UnambiguousPadded (size_prefixed instances_payload) }
+/// ensures core { UnambiguousPadded (size_prefixed core_payload) }
+/// ensures stack { UnambiguousPadded (size_prefixed stack_payload) }
+/// ensures customs { UnambiguousPadded custom }
 /// ```
-pub fn wide() {}
+pub fn padded() {}
 
-/// What sections and lists hold, call by call: at first nothing, and after a call that adds a plain record what this says too. The text
-/// of a list is the vector of its members.
+/// The items that sections and lists hold, call by call: none at first, and one more after each
+/// call that adds a well-formed record. A list encodes the vector of its members.
 ///
 /// # Proved
 ///
 /// ```text
-/// ensures names { HoldsMore name_items }
-/// ensures linking { HoldsMore link_items }
-/// ensures producers { HoldsMore field_items }
-/// ensures hints { HoldsMore hint_items }
-/// ensures modules { HoldsMore module_items }
-/// ensures instances { HoldsMore instance_items }
-/// ensures frames { HoldsMore frame_items }
-/// ensures name_maps { ListMore naming_text IsNaming }
-/// ensures indirect_maps { ListMore inside_text IsInside }
-/// ensures symbol_tables { ListMore symbol_text IsGivenSymbol }
-/// ensures producer_fields { ListMore producer_text IsProducer }
-/// ensures name_maps_text { IsVectorOf naming_text IsNaming }
-/// ensures indirect_maps_text { IsVectorOf inside_text IsInside }
-/// ensures symbol_tables_text { IsVectorOf symbol_text IsGivenSymbol }
-/// ensures producer_fields_text { IsVectorOf producer_text IsProducer }
+/// ensures names { ContainsMore name_items }
+/// ensures linking { ContainsMore link_items }
+/// ensures producers { ContainsMore field_items }
+/// ensures hints { ContainsMore hint_items }
+/// ensures modules { ContainsMore module_items }
+/// ensures instances { ContainsMore instance_items }
+/// ensures frames { ContainsMore frame_items }
+/// ensures name_maps { ListMore naming_encoding IsNaming }
+/// ensures indirect_maps { ListMore inside_encoding IsInside }
+/// ensures symbol_tables { ListMore symbol_encoding IsGivenSymbol }
+/// ensures producer_fields { ListMore producer_encoding IsProducer }
+/// ensures name_maps_encoding { IsVectorOf naming_encoding IsNaming }
+/// ensures indirect_maps_encoding { IsVectorOf inside_encoding IsInside }
+/// ensures symbol_tables_encoding { IsVectorOf symbol_encoding IsGivenSymbol }
+/// ensures producer_fields_encoding { IsVectorOf producer_encoding IsProducer }
 /// ```
 pub fn calls() {}
 
-/// The same with padded numbers, of the sections of entries: a piece may spell its item with padded numbers.
+/// The same with padded numbers, for the sections of entries: an entry may be a padded encoding of
+/// its item.
 ///
 /// # Proved
 ///
 /// ```text
-/// ensures names { HoldsMoreWide name_items }
-/// ensures linking { HoldsMoreWide link_items }
-/// ensures producers { HoldsMoreWide field_items }
-/// ensures hints { HoldsMoreWide hint_items }
-/// ensures modules { HoldsMoreWide module_items }
-/// ensures instances { HoldsMoreWide instance_items }
+/// ensures names { ContainsMorePadded name_items }
+/// ensures linking { ContainsMorePadded link_items }
+/// ensures producers { ContainsMorePadded field_items }
+/// ensures hints { ContainsMorePadded hint_items }
+/// ensures modules { ContainsMorePadded module_items }
+/// ensures instances { ContainsMorePadded instance_items }
 /// ```
-pub fn wide_calls() {}
+pub fn padded_calls() {}
 
-/// Where a module is read as ids and payloads, and a section as its items alone, its payload is read as these alone.
+/// If a module decodes to ids and payloads, and a section decodes to its items alone, then its
+/// payload decodes to these alone.
 ///
 /// # Proved
 ///
 /// ```text
-/// ensures names { ReadsPayloads name_payload }
-/// ensures linking { ReadsPayloads linking_payload }
-/// ensures producers { ReadsPayloads producers_payload }
-/// ensures hints { ReadsPayloads hints_payload }
-/// ensures modules { ReadsPayloads modules_payload }
-/// ensures instances { ReadsPayloads instances_payload }
-/// ensures core { ReadsPayloads core_payload }
-/// ensures stack { ReadsPayloads stack_payload }
-/// ensures customs { ReadsPayloads (pair name any_bytes) }
+/// ensures names { DecodesPayloads name_payload }
+/// ensures linking { DecodesPayloads linking_payload }
+/// ensures producers { DecodesPayloads producers_payload }
+/// ensures hints { DecodesPayloads hints_payload }
+/// ensures modules { DecodesPayloads modules_payload }
+/// ensures instances { DecodesPayloads instances_payload }
+/// ensures core { DecodesPayloads core_payload }
+/// ensures stack { DecodesPayloads stack_payload }
+/// ensures customs { DecodesPayloads (pair name any_bytes) }
 /// ```
 pub fn payloads() {}
 
@@ -113,25 +119,25 @@ pub fn payloads() {}
 /// # Proved
 ///
 /// ```text
-/// ensures names { ReadsPayloadsWide name_payload }
-/// ensures linking { ReadsPayloadsWide linking_payload }
-/// ensures producers { ReadsPayloadsWide producers_payload }
-/// ensures hints { ReadsPayloadsWide hints_payload }
-/// ensures modules { ReadsPayloadsWide modules_payload }
-/// ensures instances { ReadsPayloadsWide instances_payload }
-/// ensures core { ReadsPayloadsWide core_payload }
-/// ensures stack { ReadsPayloadsWide stack_payload }
-/// ensures customs { ReadsPayloadsWide (pair name any_bytes) }
+/// ensures names { DecodesPayloadsPadded name_payload }
+/// ensures linking { DecodesPayloadsPadded linking_payload }
+/// ensures producers { DecodesPayloadsPadded producers_payload }
+/// ensures hints { DecodesPayloadsPadded hints_payload }
+/// ensures modules { DecodesPayloadsPadded modules_payload }
+/// ensures instances { DecodesPayloadsPadded instances_payload }
+/// ensures core { DecodesPayloadsPadded core_payload }
+/// ensures stack { DecodesPayloadsPadded stack_payload }
+/// ensures customs { DecodesPayloadsPadded (pair name any_bytes) }
 /// ```
-pub fn wide_payloads() {}
+pub fn padded_payloads() {}
 
-/// No section stands in these two texts, with padded numbers neither: in that of branch hints a value is spelled by two bytes, in that of
-/// links a function that is defined has no name.
+/// These two byte sequences encode no section, with padded numbers neither. In that of branch
+/// hints, a value has two bytes. In that of links, a defined function has no name.
 ///
 /// # Proved
 ///
 /// ```text
-/// ensures long_value { NothingStandsWide (frame hints_payload) (33 ∷ 25 ∷ (hints_name ++ (1 ∷ 0 ∷ 1 ∷ 3 ∷ 1 ∷ 128 ∷ 1 ∷ []))) }
-/// ensures no_name { NothingStandsWide (frame linking_payload) (15 ∷ 7 ∷ (linking_name ++ (2 ∷ 8 ∷ 4 ∷ 1 ∷ 0 ∷ 0 ∷ 1 ∷ []))) }
+/// ensures long_value { RejectsAllAfterPadded (size_prefixed hints_payload) (33 ∷ 25 ∷ (hints_name ++ (1 ∷ 0 ∷ 1 ∷ 3 ∷ 1 ∷ 128 ∷ 1 ∷ []))) }
+/// ensures no_name { RejectsAllAfterPadded (size_prefixed linking_payload) (15 ∷ 7 ∷ (linking_name ++ (2 ∷ 8 ∷ 4 ∷ 1 ∷ 0 ∷ 0 ∷ 1 ∷ []))) }
 /// ```
-pub fn nothing_stands() {}
+pub fn rejections() {}

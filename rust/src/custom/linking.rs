@@ -1,5 +1,5 @@
 // Written by tools/to-rust from crates/wasm_custom/src/linking.rt: change that.
-// The linking section.
+// The linking section: its builder, its reader and its minimizer.
 
 use crate::vec::{Sink, Vec};
 use crate::custom::entries::{CustomEntries, CustomKind};
@@ -7,10 +7,11 @@ use crate::custom::named::after_name;
 use crate::custom::subsections::Subsection;
 use crate::custom::symbols::{Symbol, SymbolTable};
 use crate::alloc::{Allocator, Global};
-use crate::base::{Encode, Kind, R};
-use crate::reader::base::{Framed, ReadFault, Readable, Shorten, Spelled, append_all, frame_since, read_to_end, read_whole};
+use crate::base::{Encode, Kind, Result};
+use crate::reader::base::{Layout, ReadFault, Readable, Shorten, SizePrefixed, append_all, prefix_size_since, read_to_end, read_whole};
 
-/// What a linker needs to know of a module: the version 2 of the format, and a subsection for each call. `new` takes no memory.
+/// The linking section: the symbols and target of a module for a linker, in version 2 of the
+/// format. Each call adds a subsection, and `new` allocates nothing.
 ///
 /// ```
 /// # use dolzhytik::{fallible::*, reader::*};
@@ -27,7 +28,7 @@ use crate::reader::base::{Framed, ReadFault, Readable, Shorten, Spelled, append_
 /// ```
 pub type LinkingSection<A = Global> = CustomEntries<LinkingItems, A>;
 
-/// The items of a linking section: subsections.
+/// The kind of a linking section's items: subsections.
 #[derive(Clone, Copy, Debug)]
 pub struct LinkingItems;
 
@@ -63,29 +64,29 @@ impl CustomKind for LinkingItems {
         false
     }
 
-    fn frame_laws() {}
+    fn layout_laws() {}
 }
 
 impl<A: Allocator> LinkingSection<A> {
-    /// Adds the symbols. A refused call leaves the section as it was.
+    /// Adds the symbols.
     ///
     /// # Proved
     ///
     /// ```text
-    /// ensures { Adds (subsection_text 8 (list_text symbols.now)) (FrameFits (list_text symbols.now) × ⊤) self.old self.new result }
+    /// ensures { Adds (subsection_encoding 8 (list_encoding symbols.now)) (HasEncodableSize (list_encoding symbols.now) × ⊤) self.old self.new result }
     /// ```
-    pub fn symbol_table<B: Allocator>(&mut self, symbols: &SymbolTable<B>) -> R<()> {
+    pub fn symbol_table<B: Allocator>(&mut self, symbols: &SymbolTable<B>) -> Result<()> {
         self.add_record(symbols)
     }
 
-    /// Adds the architecture of the target. A refused call leaves the section as it was.
+    /// Adds the architecture of the target.
     ///
     /// # Proved
     ///
     /// ```text
-    /// ensures { Adds (subsection_text 9 (frame_text name.now)) (FrameFits (frame_text name.now) × FrameFits name.now) self.old self.new result }
+    /// ensures { Adds (subsection_encoding 9 (size_prefixed_encoding name.now)) (HasEncodableSize (size_prefixed_encoding name.now) × HasEncodableSize name.now) self.old self.new result }
     /// ```
-    pub fn target_arch(&mut self, name: &str) -> R<()> {
+    pub fn target_arch(&mut self, name: &str) -> Result<()> {
         self.add_record(&Subsection {
             id: 9,
             content: &name,
@@ -96,7 +97,7 @@ impl<A: Allocator> LinkingSection<A> {
 /// The version of linking sections.
 const VERSION: u32 = 2;
 
-/// What a subsection of a linking section says.
+/// A decoded subsection of a linking section.
 #[derive(Debug)]
 pub enum LinkItem<'a, A: Allocator = Global> {
     Symbols(Vec<Symbol<'a>, A>),
@@ -111,11 +112,11 @@ pub enum LinkItem<'a, A: Allocator = Global> {
 /// format = { link }
 /// view = { link_view }
 /// ```
-impl<'a, A: Allocator> Spelled for LinkItem<'a, A> {
+impl<'a, A: Allocator> Layout for LinkItem<'a, A> {
     /// # Proved
     ///
     /// ```text
-    /// ensures { UniqueReading link }
+    /// ensures { Unambiguous link }
     /// ```
     fn laws() {}
 }
@@ -130,7 +131,9 @@ impl<'a, A: Allocator + Copy + 'a> Readable<'a, A> for LinkItem<'a, A> {
                 Ok((LinkItem::Symbols(symbols), rest))
             }
             9 => {
-                let (Framed(name), rest) = <Framed<&'a str> as Readable<'a, A>>::read(rest, alloc)?;
+                let (SizePrefixed(name), rest) = <SizePrefixed<&'a str> as Readable<'a, A>>::read(
+                    rest, alloc,
+                )?;
                 Ok((LinkItem::Arch(name), rest))
             }
             _ => Err(ReadFault::UnknownTag),
@@ -138,30 +141,34 @@ impl<'a, A: Allocator + Copy + 'a> Readable<'a, A> for LinkItem<'a, A> {
     }
 }
 
-/// The bytes behind the version.
+/// Skips the version, and returns the remaining bytes.
 ///
 /// # Proved
 ///
 /// ```text
-/// ensures found { IfOk result (λ rest. Reads (just version u32_format) wide bytes.now tt rest.now) }
-/// ensures none { IfErr result (λ e. e ≢ Memory → ReadsNothing (just version u32_format) wide bytes.now) }
+/// ensures found { IfOk result (λ rest. Decodes (just version u32_format) padded bytes.now tt rest.now) }
+/// ensures none { IfErr result (λ e. e ≢ Memory → Rejects (just version u32_format) padded bytes.now) }
 /// ```
 fn after_version<'a, A: Allocator + Copy>(bytes: &'a [u8], alloc: A) -> Result<&'a [u8], ReadFault> {
-    let (told, rest) = <u32 as Readable<'a, A>>::read(bytes, alloc)?;
-    if told == VERSION {
+    let (known, rest) = <u32 as Readable<'a, A>>::read(bytes, alloc)?;
+    if known == VERSION {
         Ok(rest)
     } else {
         Err(ReadFault::UnknownTag)
     }
 }
 
-/// The subsections of a linking section.
+/// Decodes the payload of a linking section: its subsections.
+///
+/// # Errors
+///
+/// Any error but `Memory` means that the bytes are not such a payload.
 ///
 /// # Proved
 ///
 /// ```text
-/// ensures found { IfOk result (λ x. linking_payload wide bytes.now (map link_view x.items)) }
-/// ensures none { IfErr result (λ e. e ≢ Memory → FillsNothing linking_payload bytes.now) }
+/// ensures found { IfOk result (λ x. linking_payload padded bytes.now (map link_view x.items)) }
+/// ensures none { IfErr result (λ e. e ≢ Memory → RejectsWhole linking_payload bytes.now) }
 /// ```
 pub fn read_links<'a, A: Allocator + Copy + 'a>(
     bytes: &'a [u8],
@@ -174,54 +181,59 @@ pub fn read_links<'a, A: Allocator + Copy + 'a>(
 }
 
 impl<'a, A: Allocator> Shorten for LinkItem<'a, A> {
-    fn write_minimal<B: Sink>(&self, out: &mut B) -> R<()> {
+    fn write_minimal<B: Sink>(&self, sink: &mut B) -> Result<()> {
         match self {
             LinkItem::Symbols(symbols) => {
-                8u8.encode(out)?;
-                let start = out.len();
-                symbols.write_minimal(out)?;
-                frame_since(out, start)
+                8u8.encode(sink)?;
+                let start = sink.len();
+                symbols.write_minimal(sink)?;
+                prefix_size_since(sink, start)
             }
             LinkItem::Arch(name) => {
-                9u8.encode(out)?;
-                Framed(*name).write_minimal(out)
+                9u8.encode(sink)?;
+                SizePrefixed(*name).write_minimal(sink)
             }
         }
     }
 }
 
-/// Writes what [`append_links`] appends. After an error, a part of it may be behind the old bytes.
+/// Writes the bytes that [`append_links`] appends. After an error, part of them may follow the old
+/// bytes.
 ///
 /// # Proved
 ///
 /// ```text
-/// ensures ok { OnOk result (AppendsShortest linking_payload (map link_view items.now) out.old.items out.new.items) }
-/// ensures front { IsFrontOf out.old.items out.new.items }
+/// ensures ok { OnOk result (AppendsMinimal linking_payload (map link_view items.now) sink.old.items sink.new.items) }
+/// ensures front { IsFrontOf sink.old.items sink.new.items }
 /// ensures too_long { HasEncoding linking_payload (map link_view items.now) → result ≢ Err TooLong }
 /// ```
-fn write_links<A: Allocator, B: Sink>(items: &[LinkItem<'_, A>], out: &mut B) -> R<()> {
-    "linking".encode(out)?;
-    VERSION.encode(out)?;
-    append_all(items, out)
+fn write_links<A: Allocator, B: Sink>(
+    items: &[LinkItem<'_, A>],
+    sink: &mut B,
+) -> Result<()> {
+    "linking".encode(sink)?;
+    VERSION.encode(sink)?;
+    append_all(items, sink)
 }
 
-/// Appends the minimal encoding of the payload of a linking section of these subsections. On an error, the sink is as it was.
+/// Appends the minimal encoding of the payload of a linking section of these subsections. On an
+/// error, the sink is unchanged.
 ///
 /// # Proved
 ///
 /// ```text
-/// ensures ok { OnOk result (AppendsShortest linking_payload (map link_view items.now) out.old.items out.new.items) }
-/// ensures err { OnErr result (out.new.items ≡ out.old.items) }
+/// ensures ok { OnOk result (AppendsMinimal linking_payload (map link_view items.now) sink.old.items sink.new.items) }
+/// ensures err { OnErr result (sink.new.items ≡ sink.old.items) }
 /// ensures too_long { HasEncoding linking_payload (map link_view items.now) → result ≢ Err TooLong }
 /// ```
 pub fn append_links<A: Allocator, B: Sink>(
     items: &[LinkItem<'_, A>],
-    out: &mut B,
-) -> R<()> {
-    let start = out.len();
-    let written = write_links(items, out);
+    sink: &mut B,
+) -> Result<()> {
+    let start = sink.len();
+    let written = write_links(items, sink);
     if written.is_err() {
-        out.truncate(start);
+        sink.truncate(start);
     }
     written
 }

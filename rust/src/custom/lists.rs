@@ -1,28 +1,29 @@
 // Written by tools/to-rust from crates/wasm_custom/src/lists.rt: change that.
-// Lists of counted entries that are handed in as a whole.
+// Counted lists that are passed to sections as a whole.
 
 use crate::vec::Sink;
 use crate::custom::subsections::{Content, Subsection};
 use crate::alloc::{Allocator, Global};
 use core::marker::PhantomData;
-use crate::base::{Encode, Pieces, R, encoding_size};
+use crate::base::{Encode, Pieces, Result, encoding_size};
 
-/// A kind of members of a list: how they are written.
+/// A kind of members of a list, and their encoding.
 ///
 /// # Defined
 ///
 /// ```text
-/// // What a call hands in.
+/// // The argument of an adding call.
 /// Member: { Type 0 }
-/// // text: the bytes of a member.
-/// member_text: { Member → List ℕ }
-/// // What holds of each member that is handed in.
+/// // `member_encoding`: the encoding of a member.
+/// member_encoding: { Member → List ℕ }
+/// // A property of each member that is added.
 /// is_member: { Member → Type 0 }
-/// // The id of the subsection that a list is encoded as, or none where it is encoded as a vector alone.
+/// // The id of the subsection that a list is encoded as, or none if it is encoded as a vector
+/// // alone.
 /// subsection: { Option ℕ }
 /// ```
 pub trait ListKind {
-    /// That id.
+    /// Returns that id.
     ///
     /// # Proved
     ///
@@ -32,17 +33,22 @@ pub trait ListKind {
     fn subsection() -> Option<u8>;
 }
 
-/// A list of counted members of the kind `K`, seen as the bytes of each.
+/// A list of counted members of the kind `K`, modelled as the bytes of each entry.
+///
+/// # Errors
+///
+/// An adding call that returns an error leaves the list unchanged. The error is `TooLong` only if
+/// the list is full or the member does not fit, and `Memory` only if an allocation fails.
 #[derive(Debug)]
 pub struct CountedList<K: ListKind, A: Allocator = Global> {
     pieces: Pieces<A>,
     kind: PhantomData<K>,
 }
 
-/// There is a list whose texts the entries are.
+/// Invariant: the entries are the encodings of a list of members.
 
 impl<K: ListKind, A: Allocator> CountedList<K, A> {
-    /// The number of entries.
+    /// Returns the number of entries.
     ///
     /// # Proved
     ///
@@ -53,7 +59,7 @@ impl<K: ListKind, A: Allocator> CountedList<K, A> {
         self.pieces.len()
     }
 
-    /// Whether there is no entry.
+    /// Returns `true` if there are no entries.
     ///
     /// # Proved
     ///
@@ -64,38 +70,38 @@ impl<K: ListKind, A: Allocator> CountedList<K, A> {
         self.pieces.is_empty()
     }
 
-    /// Adds an entry that is the text of the record. A refused call leaves the list as it was.
+    /// Adds the encoding of the record as an entry.
     ///
     /// # Asks
     ///
     /// ```text
-    /// requires { T.fits given.now → IsTextOf K.member_text K.is_member (T.text given.now) }
+    /// requires { T.encodable given.now → IsEncodingOf K.member_encoding K.is_member (T.encoding given.now) }
     /// ```
     ///
     /// # Proved
     ///
     /// ```text
-    /// ensures { Adds (T.text given.now) (T.fits given.now) self.old self.new result }
+    /// ensures { Adds (T.encoding given.now) (T.encodable given.now) self.old self.new result }
     /// ```
-    pub(crate) fn add_record<T: Encode>(&mut self, given: &T) -> R<()> {
+    pub(crate) fn add_record<T: Encode>(&mut self, given: &T) -> Result<()> {
         self.pieces.add_encoded(given)?;
         Ok(())
     }
 
-    /// There is a list whose texts the entries are. The function does nothing.
+    /// Proves that the entries are the encodings of a list of members. The function does nothing.
     ///
     /// # Proved
     ///
     /// ```text
-    /// ensures { HoldsList K.member_text K.is_member self.now }
+    /// ensures { ContainsList K.member_encoding K.is_member self.now }
     /// ```
-    pub fn holds(&self) {
+    pub fn contains(&self) {
         let _ = self.pieces.len();
     }
 }
 
 impl<K: ListKind, A: Allocator + Copy> CountedList<K, A> {
-    /// A list of no entries. It takes no memory.
+    /// Returns a list without entries, and allocates nothing.
     ///
     /// # Proved
     ///
@@ -109,7 +115,7 @@ impl<K: ListKind, A: Allocator + Copy> CountedList<K, A> {
         }
     }
 
-    /// A list of the same entries, in memory of its own.
+    /// Returns a list of the same entries, in memory of its own.
     ///
     /// # Proved
     ///
@@ -117,7 +123,7 @@ impl<K: ListKind, A: Allocator + Copy> CountedList<K, A> {
     /// ensures same { IfOk result (λ l. l ≡ self.now) }
     /// ensures memory { result ≢ Err TooLong }
     /// ```
-    pub fn clone(&self) -> R<Self> {
+    pub fn clone(&self) -> Result<Self> {
         Ok(CountedList {
             pieces: self.pieces.clone()?,
             kind: PhantomData,
@@ -125,18 +131,18 @@ impl<K: ListKind, A: Allocator + Copy> CountedList<K, A> {
     }
 }
 
-/// The vector of the entries of a list, as a part of an encoding.
+/// The vector of a list's entries, as a component of an encoding.
 #[derive(Clone, Copy)]
 pub(crate) struct Entries<'a, K: ListKind, A: Allocator>(pub &'a CountedList<K, A>);
 
 /// # Defined
 ///
 /// ```text
-/// text = { λ entries. list_text entries.0.now }
-/// fits = { λ _. ⊤ }
+/// encoding = { λ entries. list_encoding entries.0.now }
+/// encodable = { λ _. ⊤ }
 /// ```
 impl<K: ListKind, A: Allocator> Encode for Entries<'_, K, A> {
-    fn encode<B: Sink>(&self, sink: &mut B) -> R<()> {
+    fn encode<B: Sink>(&self, sink: &mut B) -> Result<()> {
         let list = self.0;
         let count = list.pieces.len();
         sink.reserve(encoding_size(count).saturating_add(list.pieces.raw_len()))?;
@@ -153,16 +159,16 @@ impl<K: ListKind, A: Allocator> Content for Entries<'_, K, A> {
     }
 }
 
-/// The vector of the entries: by itself, or in the subsection that lists of the kind are.
+/// Encodes the vector of the entries: alone, or in the subsection of the kind.
 ///
 /// # Defined
 ///
 /// ```text
-/// text = { listed_text K.subsection }
-/// fits = { ListedFits K.subsection }
+/// encoding = { listed_encoding K.subsection }
+/// encodable = { IsEncodableList K.subsection }
 /// ```
 impl<K: ListKind, A: Allocator> Encode for CountedList<K, A> {
-    fn encode<B: Sink>(&self, sink: &mut B) -> R<()> {
+    fn encode<B: Sink>(&self, sink: &mut B) -> Result<()> {
         let entries = Entries(self);
         match K::subsection() {
             None => entries.encode(sink),

@@ -1,16 +1,16 @@
 // Written by tools/to-rust from crates/wasm_custom/src/marked.rt: change that.
-// Values behind a fixed byte.
+// Values after a fixed byte.
 
 use crate::alloc::Allocator;
-use crate::reader::base::{ReadFault, Readable, Spelled};
+use crate::reader::base::{Layout, ReadFault, Readable};
 
-/// A value behind this byte, and the bytes after it.
+/// Decodes the byte `mark` and the value after it, and returns the value with the remaining bytes.
 ///
 /// # Proved
 ///
 /// ```text
-/// ensures found { IfOk result (λ x. Reads (prefixed (mark ∷ []) T.format) wide bytes.now (T.view x.0) x.1.now) }
-/// ensures none { IfErr result (λ e. e ≢ Memory → ReadsNothing (prefixed (mark ∷ []) T.format) wide bytes.now) }
+/// ensures found { IfOk result (λ x. Decodes (prefixed (mark ∷ []) T.format) padded bytes.now (T.view x.0) x.1.now) }
+/// ensures none { IfErr result (λ e. e ≢ Memory → Rejects (prefixed (mark ∷ []) T.format) padded bytes.now) }
 /// ```
 pub(crate) fn read_marked<'a, T: Readable<'a, A>, A: Allocator + Copy>(
     mark: u8,
@@ -36,11 +36,11 @@ pub(crate) struct MarkedName<'a>(pub &'a str);
 /// format = { marked_name }
 /// view = { λ m. m.0.now }
 /// ```
-impl<'a> Spelled for MarkedName<'a> {
+impl<'a> Layout for MarkedName<'a> {
     /// # Proved
     ///
     /// ```text
-    /// ensures { UniqueReading marked_name }
+    /// ensures { Unambiguous marked_name }
     /// ```
     fn laws() {}
 }

@@ -1,12 +1,15 @@
 // Written by tools/to-rust from crates/wasm_custom/src/lib.rt: change that.
-//! The custom sections of a WebAssembly module: names, linking, producers, branch hints and core dumps.
+//! The custom sections of a WebAssembly module: names, linking, producers, branch hints and core
+//! dumps.
 //!
-//! The crate also reads these sections and writes them in their fewest bytes. A call that reads takes what the frame of a section holds, its
-//! name and its items up to the last byte: an answer is the items that the grammar reads there, with padded numbers too, and a cause other
-//! than [`ReadFault::Memory`] says that no reading exists.
+//! The crate builds these sections, decodes them, and writes decoded ones in their minimal
+//! encoding. A call that decodes receives the payload of a section: its name and its items, up to
+//! the last byte. `Ok` holds the items that the bytes encode, padded numbers included, and any
+//! error but [`ReadFault::Memory`] means that the bytes encode no such items.
 //!
-//! The name section is that of the WebAssembly core specification, "Custom Sections", with further subsections; linking, producers and core
-//! dumps are those of the tool conventions, and branch hints those of their proposal.
+//! The name section is that of the WebAssembly core specification, "Custom Sections", with further
+//! subsections. Linking, producers and core dumps are those of the tool conventions, and branch
+//! hints those of their proposal.
 //!
 //! [`ReadFault::Memory`]: crate::reader::base::ReadFault::Memory
 

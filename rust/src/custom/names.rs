@@ -1,5 +1,5 @@
 // Written by tools/to-rust from crates/wasm_custom/src/names.rt: change that.
-// Names of a module and of its parts.
+// The name section: its builder, its reader and its minimizer.
 
 use crate::vec::{Sink, Vec};
 use crate::custom::custom_section::CustomSection;
@@ -8,13 +8,14 @@ use crate::custom::lists::{CountedList, Entries, ListKind};
 use crate::custom::named::after_name;
 use crate::custom::subsections::{RawContent, Subsection};
 use crate::alloc::{Allocator, Global};
-use crate::base::{CowSlice, CowStr, Encode, Kind, Lent, R};
-use crate::reader::base::{ReadFault, Readable, Shorten, Spelled, append_all, frame_since, read_to_end, read_whole};
+use crate::base::{CowSlice, CowStr, Encode, Kind, Lent, Result};
+use crate::reader::base::{Layout, ReadFault, Readable, Shorten, append_all, prefix_size_since, read_to_end, read_whole};
 
-/// Names, each of which belongs to an index. Neither their order nor whether an index is repeated is looked at.
+/// A name map: indices and their names. The calls check neither their order nor whether an index is
+/// repeated.
 pub type NameMap<A = Global> = CountedList<NameMembers, A>;
 
-/// The members of a name map: an index, and its name.
+/// The kind of a name map's members: an index, and its name.
 #[derive(Clone, Copy, Debug)]
 pub struct NameMembers;
 
@@ -22,7 +23,7 @@ pub struct NameMembers;
 ///
 /// ```text
 /// Member = { Naming }
-/// member_text = { naming_text }
+/// member_encoding = { naming_encoding }
 /// is_member = { IsNaming }
 /// subsection = { None }
 /// ```
@@ -33,23 +34,23 @@ impl ListKind for NameMembers {
 }
 
 impl<A: Allocator> NameMap<A> {
-    /// Adds the name of this index. A refused call leaves the map as it was.
+    /// Adds the name of this index.
     ///
     /// # Proved
     ///
     /// ```text
-    /// ensures { Adds (unsigned_text index ++ frame_text name.now) (FrameFits name.now) self.old self.new result }
+    /// ensures { Adds (unsigned_encoding index ++ size_prefixed_encoding name.now) (HasEncodableSize name.now) self.old self.new result }
     /// ```
-    pub fn append(&mut self, index: u32, name: &str) -> R<()> {
+    pub fn append(&mut self, index: u32, name: &str) -> Result<()> {
         self.add_record(&(index, name))
     }
 }
 
-/// Names of what is inside of something that has an index, as the locals of functions. Neither their order nor whether an index is
-/// repeated is looked at.
+/// An indirect name map: indices, each with a name map for the items in it, such as the locals of
+/// functions. The calls check neither their order nor whether an index is repeated.
 pub type IndirectNameMap<A = Global> = CountedList<IndirectMembers, A>;
 
-/// The members of an indirect name map: an index, and the names of what is inside.
+/// The kind of an indirect name map's members: an index, and the names of the items in it.
 #[derive(Clone, Copy, Debug)]
 pub struct IndirectMembers;
 
@@ -57,7 +58,7 @@ pub struct IndirectMembers;
 ///
 /// ```text
 /// Member = { Inside }
-/// member_text = { inside_text }
+/// member_encoding = { inside_encoding }
 /// is_member = { IsInside }
 /// subsection = { None }
 /// ```
@@ -68,20 +69,21 @@ impl ListKind for IndirectMembers {
 }
 
 impl<A: Allocator> IndirectNameMap<A> {
-    /// Adds the names of what is inside of this index. A refused call leaves the map as it was.
+    /// Adds the names of the items in this index.
     ///
     /// # Proved
     ///
     /// ```text
-    /// ensures { Adds (unsigned_text index ++ list_text names.now) ⊤ self.old self.new result }
+    /// ensures { Adds (unsigned_encoding index ++ list_encoding names.now) ⊤ self.old self.new result }
     /// ```
-    pub fn append<B: Allocator>(&mut self, index: u32, names: &NameMap<B>) -> R<()> {
-        names.holds();
+    pub fn append<B: Allocator>(&mut self, index: u32, names: &NameMap<B>) -> Result<()> {
+        names.contains();
         self.add_record(&(index, Lent(names)))
     }
 }
 
-/// The names of a module and of its parts: a subsection for each call, in the order of the calls.
+/// The name section: the names of a module and of its items. Each call adds a subsection, in the
+/// order of the calls.
 ///
 /// ```
 /// # use dolzhytik::{fallible::*, reader::*};
@@ -99,7 +101,7 @@ impl<A: Allocator> IndirectNameMap<A> {
 /// ```
 pub type NameSection<A = Global> = CustomEntries<NameItems, A>;
 
-/// The items of a name section: subsections.
+/// The kind of a name section's items: subsections.
 #[derive(Clone, Copy, Debug)]
 pub struct NameItems;
 
@@ -135,222 +137,223 @@ impl CustomKind for NameItems {
         false
     }
 
-    fn frame_laws() {}
+    fn layout_laws() {}
 }
 
 impl<A: Allocator> NameSection<A> {
-    /// Adds a subsection of names. A refused call leaves the section as it was.
+    /// Adds a subsection with a name map.
     ///
     /// # Proved
     ///
     /// ```text
-    /// ensures { Adds (subsection_text id (list_text names.now)) (FrameFits (list_text names.now) × ⊤) self.old self.new result }
+    /// ensures { Adds (subsection_encoding id (list_encoding names.now)) (HasEncodableSize (list_encoding names.now) × ⊤) self.old self.new result }
     /// ```
-    fn map<B: Allocator>(&mut self, id: u8, names: &NameMap<B>) -> R<()> {
+    fn map<B: Allocator>(&mut self, id: u8, names: &NameMap<B>) -> Result<()> {
         let content = &Entries(names);
         self.add_record(&Subsection { id, content })
     }
 
-    /// Adds a subsection of names of what is inside. A refused call leaves the section as it was.
+    /// Adds a subsection with an indirect name map.
     ///
     /// # Proved
     ///
     /// ```text
-    /// ensures { Adds (subsection_text id (list_text names.now)) (FrameFits (list_text names.now) × ⊤) self.old self.new result }
+    /// ensures { Adds (subsection_encoding id (list_encoding names.now)) (HasEncodableSize (list_encoding names.now) × ⊤) self.old self.new result }
     /// ```
-    fn indirect_map<B: Allocator>(&mut self, id: u8, names: &IndirectNameMap<B>) -> R<()> {
+    fn indirect_map<B: Allocator>(&mut self, id: u8, names: &IndirectNameMap<B>) -> Result<()> {
         let content = &Entries(names);
         self.add_record(&Subsection { id, content })
     }
 
-    /// Adds the name of the module. A refused call leaves the section as it was.
+    /// Adds the name of the module.
     ///
     /// # Proved
     ///
     /// ```text
-    /// ensures { Adds (subsection_text 0 (frame_text name.now)) (FrameFits (frame_text name.now) × FrameFits name.now) self.old self.new result }
+    /// ensures { Adds (subsection_encoding 0 (size_prefixed_encoding name.now)) (HasEncodableSize (size_prefixed_encoding name.now) × HasEncodableSize name.now) self.old self.new result }
     /// ```
-    pub fn module(&mut self, name: &str) -> R<()> {
+    pub fn module(&mut self, name: &str) -> Result<()> {
         self.add_record(&Subsection {
             id: 0,
             content: &name,
         })
     }
 
-    /// Adds the names of functions. A refused call leaves the section as it was.
+    /// Adds the names of functions.
     ///
     /// # Proved
     ///
     /// ```text
-    /// ensures { Adds (subsection_text 1 (list_text names.now)) (FrameFits (list_text names.now) × ⊤) self.old self.new result }
+    /// ensures { Adds (subsection_encoding 1 (list_encoding names.now)) (HasEncodableSize (list_encoding names.now) × ⊤) self.old self.new result }
     /// ```
-    pub fn functions<B: Allocator>(&mut self, names: &NameMap<B>) -> R<()> {
+    pub fn functions<B: Allocator>(&mut self, names: &NameMap<B>) -> Result<()> {
         self.map(1, names)
     }
 
-    /// Adds the names of types. A refused call leaves the section as it was.
+    /// Adds the names of types.
     ///
     /// # Proved
     ///
     /// ```text
-    /// ensures { Adds (subsection_text 4 (list_text names.now)) (FrameFits (list_text names.now) × ⊤) self.old self.new result }
+    /// ensures { Adds (subsection_encoding 4 (list_encoding names.now)) (HasEncodableSize (list_encoding names.now) × ⊤) self.old self.new result }
     /// ```
-    pub fn types<B: Allocator>(&mut self, names: &NameMap<B>) -> R<()> {
+    pub fn types<B: Allocator>(&mut self, names: &NameMap<B>) -> Result<()> {
         self.map(4, names)
     }
 
-    /// Adds the names of tables. A refused call leaves the section as it was.
+    /// Adds the names of tables.
     ///
     /// # Proved
     ///
     /// ```text
-    /// ensures { Adds (subsection_text 5 (list_text names.now)) (FrameFits (list_text names.now) × ⊤) self.old self.new result }
+    /// ensures { Adds (subsection_encoding 5 (list_encoding names.now)) (HasEncodableSize (list_encoding names.now) × ⊤) self.old self.new result }
     /// ```
-    pub fn tables<B: Allocator>(&mut self, names: &NameMap<B>) -> R<()> {
+    pub fn tables<B: Allocator>(&mut self, names: &NameMap<B>) -> Result<()> {
         self.map(5, names)
     }
 
-    /// Adds the names of memories. A refused call leaves the section as it was.
+    /// Adds the names of memories.
     ///
     /// # Proved
     ///
     /// ```text
-    /// ensures { Adds (subsection_text 6 (list_text names.now)) (FrameFits (list_text names.now) × ⊤) self.old self.new result }
+    /// ensures { Adds (subsection_encoding 6 (list_encoding names.now)) (HasEncodableSize (list_encoding names.now) × ⊤) self.old self.new result }
     /// ```
-    pub fn memories<B: Allocator>(&mut self, names: &NameMap<B>) -> R<()> {
+    pub fn memories<B: Allocator>(&mut self, names: &NameMap<B>) -> Result<()> {
         self.map(6, names)
     }
 
-    /// Adds the names of globals. A refused call leaves the section as it was.
+    /// Adds the names of globals.
     ///
     /// # Proved
     ///
     /// ```text
-    /// ensures { Adds (subsection_text 7 (list_text names.now)) (FrameFits (list_text names.now) × ⊤) self.old self.new result }
+    /// ensures { Adds (subsection_encoding 7 (list_encoding names.now)) (HasEncodableSize (list_encoding names.now) × ⊤) self.old self.new result }
     /// ```
-    pub fn globals<B: Allocator>(&mut self, names: &NameMap<B>) -> R<()> {
+    pub fn globals<B: Allocator>(&mut self, names: &NameMap<B>) -> Result<()> {
         self.map(7, names)
     }
 
-    /// Adds the names of element segments. A refused call leaves the section as it was.
+    /// Adds the names of element segments.
     ///
     /// # Proved
     ///
     /// ```text
-    /// ensures { Adds (subsection_text 8 (list_text names.now)) (FrameFits (list_text names.now) × ⊤) self.old self.new result }
+    /// ensures { Adds (subsection_encoding 8 (list_encoding names.now)) (HasEncodableSize (list_encoding names.now) × ⊤) self.old self.new result }
     /// ```
-    pub fn elements<B: Allocator>(&mut self, names: &NameMap<B>) -> R<()> {
+    pub fn elements<B: Allocator>(&mut self, names: &NameMap<B>) -> Result<()> {
         self.map(8, names)
     }
 
-    /// Adds the names of data segments. A refused call leaves the section as it was.
+    /// Adds the names of data segments.
     ///
     /// # Proved
     ///
     /// ```text
-    /// ensures { Adds (subsection_text 9 (list_text names.now)) (FrameFits (list_text names.now) × ⊤) self.old self.new result }
+    /// ensures { Adds (subsection_encoding 9 (list_encoding names.now)) (HasEncodableSize (list_encoding names.now) × ⊤) self.old self.new result }
     /// ```
-    pub fn data<B: Allocator>(&mut self, names: &NameMap<B>) -> R<()> {
+    pub fn data<B: Allocator>(&mut self, names: &NameMap<B>) -> Result<()> {
         self.map(9, names)
     }
 
-    /// Adds the names of tags, as `tags` does. A refused call leaves the section as it was.
+    /// Adds the names of tags. The same as `tags`.
     ///
     /// # Proved
     ///
     /// ```text
-    /// ensures { Adds (subsection_text 11 (list_text names.now)) (FrameFits (list_text names.now) × ⊤) self.old self.new result }
+    /// ensures { Adds (subsection_encoding 11 (list_encoding names.now)) (HasEncodableSize (list_encoding names.now) × ⊤) self.old self.new result }
     /// ```
-    pub fn tag<B: Allocator>(&mut self, names: &NameMap<B>) -> R<()> {
+    pub fn tag<B: Allocator>(&mut self, names: &NameMap<B>) -> Result<()> {
         self.tags(names)
     }
 
-    /// Adds the names of tags. A refused call leaves the section as it was.
+    /// Adds the names of tags.
     ///
     /// # Proved
     ///
     /// ```text
-    /// ensures { Adds (subsection_text 11 (list_text names.now)) (FrameFits (list_text names.now) × ⊤) self.old self.new result }
+    /// ensures { Adds (subsection_encoding 11 (list_encoding names.now)) (HasEncodableSize (list_encoding names.now) × ⊤) self.old self.new result }
     /// ```
-    pub fn tags<B: Allocator>(&mut self, names: &NameMap<B>) -> R<()> {
+    pub fn tags<B: Allocator>(&mut self, names: &NameMap<B>) -> Result<()> {
         self.map(11, names)
     }
 
-    /// Adds the names of the locals of functions, parameters among them. A refused call leaves the section as it was.
+    /// Adds the names of the locals of functions, including parameters.
     ///
     /// # Proved
     ///
     /// ```text
-    /// ensures { Adds (subsection_text 2 (list_text names.now)) (FrameFits (list_text names.now) × ⊤) self.old self.new result }
+    /// ensures { Adds (subsection_encoding 2 (list_encoding names.now)) (HasEncodableSize (list_encoding names.now) × ⊤) self.old self.new result }
     /// ```
-    pub fn locals<B: Allocator>(&mut self, names: &IndirectNameMap<B>) -> R<()> {
+    pub fn locals<B: Allocator>(&mut self, names: &IndirectNameMap<B>) -> Result<()> {
         self.indirect_map(2, names)
     }
 
-    /// Adds the names of the labels of functions. A refused call leaves the section as it was.
+    /// Adds the names of the labels of functions.
     ///
     /// # Proved
     ///
     /// ```text
-    /// ensures { Adds (subsection_text 3 (list_text names.now)) (FrameFits (list_text names.now) × ⊤) self.old self.new result }
+    /// ensures { Adds (subsection_encoding 3 (list_encoding names.now)) (HasEncodableSize (list_encoding names.now) × ⊤) self.old self.new result }
     /// ```
-    pub fn labels<B: Allocator>(&mut self, names: &IndirectNameMap<B>) -> R<()> {
+    pub fn labels<B: Allocator>(&mut self, names: &IndirectNameMap<B>) -> Result<()> {
         self.indirect_map(3, names)
     }
 
-    /// Adds the names of the fields of types. A refused call leaves the section as it was.
+    /// Adds the names of the fields of types.
     ///
     /// # Proved
     ///
     /// ```text
-    /// ensures { Adds (subsection_text 10 (list_text names.now)) (FrameFits (list_text names.now) × ⊤) self.old self.new result }
+    /// ensures { Adds (subsection_encoding 10 (list_encoding names.now)) (HasEncodableSize (list_encoding names.now) × ⊤) self.old self.new result }
     /// ```
-    pub fn fields<B: Allocator>(&mut self, names: &IndirectNameMap<B>) -> R<()> {
+    pub fn fields<B: Allocator>(&mut self, names: &IndirectNameMap<B>) -> Result<()> {
         self.indirect_map(10, names)
     }
 
-    /// Adds the names of the parameters of types of functions. A refused call leaves the section as it was.
+    /// Adds the names of the parameters of function types.
     ///
     /// # Proved
     ///
     /// ```text
-    /// ensures { Adds (subsection_text 12 (list_text names.now)) (FrameFits (list_text names.now) × ⊤) self.old self.new result }
+    /// ensures { Adds (subsection_encoding 12 (list_encoding names.now)) (HasEncodableSize (list_encoding names.now) × ⊤) self.old self.new result }
     /// ```
-    pub fn parameters<B: Allocator>(&mut self, names: &IndirectNameMap<B>) -> R<()> {
+    pub fn parameters<B: Allocator>(&mut self, names: &IndirectNameMap<B>) -> Result<()> {
         self.indirect_map(12, names)
     }
 
-    /// Adds the names of the parameters of tags. A refused call leaves the section as it was.
+    /// Adds the names of the parameters of tags.
     ///
     /// # Proved
     ///
     /// ```text
-    /// ensures { Adds (subsection_text 13 (list_text names.now)) (FrameFits (list_text names.now) × ⊤) self.old self.new result }
+    /// ensures { Adds (subsection_encoding 13 (list_encoding names.now)) (HasEncodableSize (list_encoding names.now) × ⊤) self.old self.new result }
     /// ```
-    pub fn tag_parameters<B: Allocator>(&mut self, names: &IndirectNameMap<B>) -> R<()> {
+    pub fn tag_parameters<B: Allocator>(&mut self, names: &IndirectNameMap<B>) -> Result<()> {
         self.indirect_map(13, names)
     }
 
-    /// Adds a subsection of this id, whose content is spelled already. A refused call leaves the section as it was.
+    /// Adds a subsection of this id, whose content is already encoded. The call does not check the
+    /// content.
     ///
     /// # Proved
     ///
     /// ```text
-    /// ensures { Adds (subsection_text id content.now) (FrameFits content.now × ⊤) self.old self.new result }
+    /// ensures { Adds (subsection_encoding id content.now) (HasEncodableSize content.now × ⊤) self.old self.new result }
     /// ```
-    pub fn raw(&mut self, id: u8, content: &[u8]) -> R<()> {
+    pub fn raw(&mut self, id: u8, content: &[u8]) -> Result<()> {
         self.add_record(&Subsection {
             id,
             content: &RawContent(content),
         })
     }
 
-    /// The section as a custom section, which borrows the entries. It takes no memory.
+    /// Returns the section as a custom section that borrows the entries, and allocates nothing.
     ///
     /// # Proved
     ///
     /// ```text
-    /// ensures name { text_of result.name ≡ name_name }
+    /// ensures name { encoding_of result.name ≡ name_name }
     /// ensures bytes { items_of result.bytes ≡ joined self.now }
     /// ```
     pub fn as_custom(&self) -> CustomSection<'_> {
@@ -361,17 +364,18 @@ impl<A: Allocator> NameSection<A> {
     }
 }
 
-/// What a subsection of a name section says.
+/// A decoded subsection of a name section.
 #[derive(Debug)]
 pub enum NameItem<'a, A: Allocator = Global> {
     /// The name of the module.
     Module(&'a str),
-    /// Indices of what the id stands for, as functions, and their names.
+    /// A name map: indices of the kind that the id selects, such as functions, and their names.
     Map {
         id: u8,
         names: Vec<(u32, &'a str), A>,
     },
-    /// Indices of that in which they stand, as functions for locals, and the indices and names of each.
+    /// An indirect name map: indices of the outer kind, such as functions for locals, each with the
+    /// indices and names in it.
     Indirect {
         id: u8,
         maps: Vec<(u32, Vec<(u32, &'a str), A>), A>,
@@ -383,7 +387,7 @@ pub enum NameItem<'a, A: Allocator = Global> {
     },
 }
 
-/// What a subsection holds.
+/// The content of a subsection.
 #[derive(Clone, Copy, Debug)]
 enum NameKind {
     Module,
@@ -392,7 +396,7 @@ enum NameKind {
     Other,
 }
 
-/// What a subsection of the id holds.
+/// Returns the content of a subsection of this id.
 ///
 /// # Proved
 ///
@@ -408,13 +412,13 @@ fn name_kind_of(id: u8) -> NameKind {
     }
 }
 
-/// What a subsection of the id says, which holds this.
+/// Decodes the content of a subsection of this kind and id.
 ///
 /// # Proved
 ///
 /// ```text
-/// ensures found { IfOk result (λ x. inside (kind_as kind) id wide bytes.now (name_item_view x)) }
-/// ensures none { IfErr result (λ e. e ≢ Memory → FillsNothing (inside (kind_as kind) id) bytes.now) }
+/// ensures found { IfOk result (λ x. inside (kind_as kind) id padded bytes.now (name_item_view x)) }
+/// ensures none { IfErr result (λ e. e ≢ Memory → RejectsWhole (inside (kind_as kind) id) bytes.now) }
 /// ```
 fn fill_subsection<'a, A: Allocator + Copy + 'a>(
     kind: NameKind,
@@ -446,11 +450,11 @@ fn fill_subsection<'a, A: Allocator + Copy + 'a>(
 /// format = { subsection }
 /// view = { name_item_view }
 /// ```
-impl<'a, A: Allocator> Spelled for NameItem<'a, A> {
+impl<'a, A: Allocator> Layout for NameItem<'a, A> {
     /// # Proved
     ///
     /// ```text
-    /// ensures { UniqueReading subsection }
+    /// ensures { Unambiguous subsection }
     /// ```
     fn laws() {}
 }
@@ -464,13 +468,17 @@ impl<'a, A: Allocator + Copy + 'a> Readable<'a, A> for NameItem<'a, A> {
     }
 }
 
-/// The subsections of a name section.
+/// Decodes the payload of a name section: its subsections.
+///
+/// # Errors
+///
+/// Any error but `Memory` means that the bytes are not such a payload.
 ///
 /// # Proved
 ///
 /// ```text
-/// ensures found { IfOk result (λ x. name_payload wide bytes.now (map name_item_view x.items)) }
-/// ensures none { IfErr result (λ e. e ≢ Memory → FillsNothing name_payload bytes.now) }
+/// ensures found { IfOk result (λ x. name_payload padded bytes.now (map name_item_view x.items)) }
+/// ensures none { IfErr result (λ e. e ≢ Memory → RejectsWhole name_payload bytes.now) }
 /// ```
 pub fn read_names<'a, A: Allocator + Copy + 'a>(
     bytes: &'a [u8],
@@ -482,7 +490,7 @@ pub fn read_names<'a, A: Allocator + Copy + 'a>(
 }
 
 impl<'a, A: Allocator> NameItem<'a, A> {
-    /// The id of the subsection.
+    /// Returns the id of the subsection.
     ///
     /// # Proved
     ///
@@ -498,22 +506,22 @@ impl<'a, A: Allocator> NameItem<'a, A> {
         }
     }
 
-    /// Appends what the frame of the subsection holds.
+    /// Appends the content of the subsection, without its size prefix.
     ///
     /// # Proved
     ///
     /// ```text
-    /// ensures ok { OnOk result (AppendsShortest (inside (held_by (name_item_view self.now)) (id_of (name_item_view self.now))) (name_item_view self.now) out.old.items out.new.items) }
-    /// ensures front { IsFrontOf out.old.items out.new.items }
+    /// ensures ok { OnOk result (AppendsMinimal (inside (held_by (name_item_view self.now)) (id_of (name_item_view self.now))) (name_item_view self.now) sink.old.items sink.new.items) }
+    /// ensures front { IsFrontOf sink.old.items sink.new.items }
     /// ensures too_long { HasEncoding (inside (held_by (name_item_view self.now)) (id_of (name_item_view self.now))) (name_item_view self.now) → result ≢ Err TooLong }
     /// ```
-    fn append_content<B: Sink>(&self, out: &mut B) -> R<()> {
+    fn append_content<B: Sink>(&self, sink: &mut B) -> Result<()> {
         match self {
-            NameItem::Module(name) => name.write_minimal(out),
-            NameItem::Map { names, .. } => names.write_minimal(out),
-            NameItem::Indirect { maps, .. } => maps.write_minimal(out),
+            NameItem::Module(name) => name.write_minimal(sink),
+            NameItem::Map { names, .. } => names.write_minimal(sink),
+            NameItem::Indirect { maps, .. } => maps.write_minimal(sink),
             NameItem::Other { bytes, .. } => {
-                out.extend_from_slice(bytes)?;
+                sink.extend_from_slice(bytes)?;
                 Ok(())
             }
         }
@@ -521,45 +529,50 @@ impl<'a, A: Allocator> NameItem<'a, A> {
 }
 
 impl<'a, A: Allocator> Shorten for NameItem<'a, A> {
-    fn write_minimal<B: Sink>(&self, out: &mut B) -> R<()> {
-        self.id().encode(out)?;
-        let start = out.len();
-        self.append_content(out)?;
-        frame_since(out, start)
+    fn write_minimal<B: Sink>(&self, sink: &mut B) -> Result<()> {
+        self.id().encode(sink)?;
+        let start = sink.len();
+        self.append_content(sink)?;
+        prefix_size_since(sink, start)
     }
 }
 
-/// Writes what [`append_names`] appends. After an error, a part of it may be behind the old bytes.
+/// Writes the bytes that [`append_names`] appends. After an error, part of them may follow the old
+/// bytes.
 ///
 /// # Proved
 ///
 /// ```text
-/// ensures ok { OnOk result (AppendsShortest name_payload (map name_item_view items.now) out.old.items out.new.items) }
-/// ensures front { IsFrontOf out.old.items out.new.items }
+/// ensures ok { OnOk result (AppendsMinimal name_payload (map name_item_view items.now) sink.old.items sink.new.items) }
+/// ensures front { IsFrontOf sink.old.items sink.new.items }
 /// ensures too_long { HasEncoding name_payload (map name_item_view items.now) → result ≢ Err TooLong }
 /// ```
-fn write_names<A: Allocator, B: Sink>(items: &[NameItem<'_, A>], out: &mut B) -> R<()> {
-    "name".encode(out)?;
-    append_all(items, out)
+fn write_names<A: Allocator, B: Sink>(
+    items: &[NameItem<'_, A>],
+    sink: &mut B,
+) -> Result<()> {
+    "name".encode(sink)?;
+    append_all(items, sink)
 }
 
-/// Appends the minimal encoding of the payload of a name section of these subsections. On an error, the sink is as it was.
+/// Appends the minimal encoding of the payload of a name section of these subsections. On an error,
+/// the sink is unchanged.
 ///
 /// # Proved
 ///
 /// ```text
-/// ensures ok { OnOk result (AppendsShortest name_payload (map name_item_view items.now) out.old.items out.new.items) }
-/// ensures err { OnErr result (out.new.items ≡ out.old.items) }
+/// ensures ok { OnOk result (AppendsMinimal name_payload (map name_item_view items.now) sink.old.items sink.new.items) }
+/// ensures err { OnErr result (sink.new.items ≡ sink.old.items) }
 /// ensures too_long { HasEncoding name_payload (map name_item_view items.now) → result ≢ Err TooLong }
 /// ```
 pub fn append_names<A: Allocator, B: Sink>(
     items: &[NameItem<'_, A>],
-    out: &mut B,
-) -> R<()> {
-    let start = out.len();
-    let written = write_names(items, out);
+    sink: &mut B,
+) -> Result<()> {
+    let start = sink.len();
+    let written = write_names(items, sink);
     if written.is_err() {
-        out.truncate(start);
+        sink.truncate(start);
     }
     written
 }

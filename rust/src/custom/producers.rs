@@ -1,18 +1,18 @@
 // Written by tools/to-rust from crates/wasm_custom/src/producers.rt: change that.
-// The producers section.
+// The producers section: its builder, its reader and its minimizer.
 
 use crate::vec::{Sink, Vec};
-use crate::custom::counted::{ItemsAs, ReadsItems, append_counted, read_counted};
+use crate::custom::counted::{DecodesItems, ItemsAs, append_counted, read_counted};
 use crate::custom::entries::{CustomEntries, CustomKind};
 use crate::custom::lists::{CountedList, ListKind};
 use crate::alloc::{Allocator, Global};
-use crate::base::{Kind, Lent, R};
+use crate::base::{Kind, Lent, Result};
 use crate::reader::base::{ReadFault, Readable, Shorten};
 
-/// The values of a field: what has produced the module, and in which version.
+/// The values of a producers field: the tools that produced the module, and their versions.
 pub type ProducersField<A = Global> = CountedList<ValueMembers, A>;
 
-/// The members of a field: a name, and its version.
+/// The kind of a field's members: a name, and its version.
 #[derive(Clone, Copy, Debug)]
 pub struct ValueMembers;
 
@@ -20,7 +20,7 @@ pub struct ValueMembers;
 ///
 /// ```text
 /// Member = { Producer }
-/// member_text = { producer_text }
+/// member_encoding = { producer_encoding }
 /// is_member = { IsProducer }
 /// subsection = { None }
 /// ```
@@ -31,19 +31,19 @@ impl ListKind for ValueMembers {
 }
 
 impl<A: Allocator> ProducersField<A> {
-    /// Adds a value. A refused call leaves the field as it was.
+    /// Adds a value.
     ///
     /// # Proved
     ///
     /// ```text
-    /// ensures { Adds (frame_text name.now ++ frame_text version.now) (FrameFits name.now × FrameFits version.now) self.old self.new result }
+    /// ensures { Adds (size_prefixed_encoding name.now ++ size_prefixed_encoding version.now) (HasEncodableSize name.now × HasEncodableSize version.now) self.old self.new result }
     /// ```
-    pub fn value(&mut self, name: &str, version: &str) -> R<()> {
+    pub fn value(&mut self, name: &str, version: &str) -> Result<()> {
         self.add_record(&(name, version))
     }
 }
 
-/// What has produced the module.
+/// The producers section: the languages and tools that produced the module.
 ///
 /// ```
 /// # use dolzhytik::{fallible::*, reader::*};
@@ -60,7 +60,7 @@ impl<A: Allocator> ProducersField<A> {
 /// ```
 pub type ProducersSection<A = Global> = CustomEntries<ProducerItems, A>;
 
-/// The items of a producers section: fields.
+/// The kind of a producers section's items: fields.
 #[derive(Clone, Copy, Debug)]
 pub struct ProducerItems;
 
@@ -96,18 +96,18 @@ impl CustomKind for ProducerItems {
         true
     }
 
-    fn frame_laws() {}
+    fn layout_laws() {}
 }
 
 impl<A: Allocator> ProducersSection<A> {
-    /// Adds a field, as `language`, `processed-by` or `sdk`. A refused call leaves the section as it was.
+    /// Adds a field, such as `language`, `processed-by` or `sdk`.
     ///
     /// # Proved
     ///
     /// ```text
-    /// ensures { Adds (frame_text name.now ++ list_text values.now) (FrameFits name.now × ⊤) self.old self.new result }
+    /// ensures { Adds (size_prefixed_encoding name.now ++ list_encoding values.now) (HasEncodableSize name.now × ⊤) self.old self.new result }
     /// ```
-    pub fn field<B: Allocator>(&mut self, name: &str, values: &ProducersField<B>) -> R<()> {
+    pub fn field<B: Allocator>(&mut self, name: &str, values: &ProducersField<B>) -> Result<()> {
         self.add_record(&(name, Lent(values)))
     }
 }
@@ -123,19 +123,19 @@ impl<'a, A: Allocator> ItemsAs<(&'a str, Vec<(&'a str, &'a str), A>)> for Produc
     /// # Proved
     ///
     /// ```text
-    /// ensures { UniqueReading field }
+    /// ensures { Unambiguous field }
     /// ```
-    fn alone() {}
+    fn unique() {}
 
     fn append_item<B: Sink>(
         item: &(&'a str, Vec<(&'a str, &'a str), A>),
-        out: &mut B,
-    ) -> R<()> {
-        item.write_minimal(out)
+        sink: &mut B,
+    ) -> Result<()> {
+        item.write_minimal(sink)
     }
 }
 
-impl<'a, A: Allocator + Copy + 'a> ReadsItems<'a, (&'a str, Vec<(&'a str, &'a str), A>), A>
+impl<'a, A: Allocator + Copy + 'a> DecodesItems<'a, (&'a str, Vec<(&'a str, &'a str), A>), A>
     for ProducerItems {
     fn read_item(
         bytes: &'a [u8],
@@ -145,13 +145,18 @@ impl<'a, A: Allocator + Copy + 'a> ReadsItems<'a, (&'a str, Vec<(&'a str, &'a st
     }
 }
 
-/// The fields of a producers section: their names, and their values, each a name and a version.
+/// Decodes the payload of a producers section: its fields, each a name and its values, which are a
+/// name and a version.
+///
+/// # Errors
+///
+/// Any error but `Memory` means that the bytes are not such a payload.
 ///
 /// # Proved
 ///
 /// ```text
-/// ensures found { IfOk result (λ x. producers_payload wide bytes.now (map field_view x.items)) }
-/// ensures none { IfErr result (λ e. e ≢ Memory → FillsNothing producers_payload bytes.now) }
+/// ensures found { IfOk result (λ x. producers_payload padded bytes.now (map field_view x.items)) }
+/// ensures none { IfErr result (λ e. e ≢ Memory → RejectsWhole producers_payload bytes.now) }
 /// ```
 pub fn read_producers<'a, A: Allocator + Copy + 'a>(
     bytes: &'a [u8],
@@ -160,18 +165,19 @@ pub fn read_producers<'a, A: Allocator + Copy + 'a>(
     read_counted::<'a, ProducerItems, (&'a str, Vec<(&'a str, &'a str), A>), A>(bytes, alloc)
 }
 
-/// Appends the minimal encoding of the payload of a producers section of these fields. On an error, the sink is as it was.
+/// Appends the minimal encoding of the payload of a producers section of these fields. On an error,
+/// the sink is unchanged.
 ///
 /// # Proved
 ///
 /// ```text
-/// ensures ok { OnOk result (AppendsShortest producers_payload (map field_view fields.now.items) out.old.items out.new.items) }
-/// ensures err { OnErr result (out.new.items ≡ out.old.items) }
+/// ensures ok { OnOk result (AppendsMinimal producers_payload (map field_view fields.now.items) sink.old.items sink.new.items) }
+/// ensures err { OnErr result (sink.new.items ≡ sink.old.items) }
 /// ensures too_long { HasEncoding producers_payload (map field_view fields.now.items) → result ≢ Err TooLong }
 /// ```
 pub fn append_producers<'a, A: Allocator, B: Sink>(
     fields: &Vec<(&'a str, Vec<(&'a str, &'a str), A>), A>,
-    out: &mut B,
-) -> R<()> {
-    append_counted::<ProducerItems, (&'a str, Vec<(&'a str, &'a str), A>), _>(fields, out)
+    sink: &mut B,
+) -> Result<()> {
+    append_counted::<ProducerItems, (&'a str, Vec<(&'a str, &'a str), A>), _>(fields, sink)
 }

@@ -1,11 +1,11 @@
 // Written by tools/to-rust from crates/wasm_custom/src/raw_custom.rt: change that.
-// Custom sections whose bytes are given.
+// Custom sections of raw bytes.
 
 use crate::vec::Sink;
-use crate::base::{Encode, R, Section, SectionId};
+use crate::base::{Encode, Result, Section, SectionId};
 
-/// A custom section whose bytes are given as they are, its size among them. Where they are no frame of a name and data, a reader of
-/// the module finds something else there, or nothing.
+/// A custom section of raw bytes, including its size prefix. If they are not a size prefix, a name
+/// and data, then a reader of the module decodes something else there, or fails.
 ///
 /// ```
 /// # use dolzhytik::{fallible::*, reader::*};
@@ -19,23 +19,23 @@ use crate::base::{Encode, R, Section, SectionId};
 #[derive(Clone, Copy, Debug)]
 pub struct RawCustomSection<'a>(pub &'a [u8]);
 
-/// The bytes.
+/// Encodes the bytes as they are.
 ///
 /// # Defined
 ///
 /// ```text
-/// text = { λ s. s.0.now }
-/// fits = { λ _. ⊤ }
-/// reading = { λ s. ReadsBackBoth custom (custom shortest s.0.now) (custom wide s.0.now) s.0.now }
+/// encoding = { λ s. s.0.now }
+/// encodable = { λ _. ⊤ }
+/// decoding = { λ s. DecodesBackBoth custom (custom minimal s.0.now) (custom padded s.0.now) s.0.now }
 /// ```
 impl Encode for RawCustomSection<'_> {
-    fn encode<A: Sink>(&self, sink: &mut A) -> R<()> {
+    fn encode<A: Sink>(&self, sink: &mut A) -> Result<()> {
         sink.extend_from_slice(self.0)?;
         Ok(())
     }
 }
 
-/// Its payload is what its bytes frame.
+/// The payload is the bytes after their size prefix.
 ///
 /// # Defined
 ///
@@ -43,10 +43,10 @@ impl Encode for RawCustomSection<'_> {
 /// id_of = { λ _. number_of ids.Custom }
 /// Items = { List ℕ × List ℕ }
 /// format = { custom }
-/// says = { λ s. custom shortest s.0.now }
-/// payload = { λ s. IsFrameOf s.0.now }
-/// framed = { λ s bytes fits pays. pays }
-/// reads_back = { λ s promised. promised.plain }
+/// says = { λ s. custom minimal s.0.now }
+/// payload = { λ s. IsSizePrefixed s.0.now }
+/// sized = { λ s bytes encodable pays. pays }
+/// decodes_back = { λ s promised. promised.plain }
 /// ```
 impl Section for RawCustomSection<'_> {
     fn id(&self) -> u8 {

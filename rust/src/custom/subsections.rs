@@ -1,23 +1,24 @@
 // Written by tools/to-rust from crates/wasm_custom/src/subsections.rt: change that.
-// Subsections: an id, and a frame.
+// Subsections: an id, and a size-prefixed content.
 
 use crate::vec::Sink;
-use crate::base::{Encode, R, begin_frame, encoding_size};
+use crate::base::{Encode, Result, begin_size_prefixed, encoding_size};
 
-/// What a subsection holds: its size is told before it is written.
+/// The content of a subsection, whose size is known before it is encoded.
 pub(crate) trait Content: Encode {
-    /// The number of its bytes, where that can be spelled.
+    /// Returns the length of the encoding in bytes if a size prefix can represent it, and a number
+    /// above 4294967295 otherwise.
     ///
     /// # Proved
     ///
     /// ```text
-    /// ensures told { result ≤ longest → result ≡ length (Self.text self.now) }
-    /// ensures small { length (Self.text self.now) ≤ longest → result ≡ length (Self.text self.now) }
+    /// ensures known { result ≤ longest → result ≡ length (Self.encoding self.now) }
+    /// ensures small { length (Self.encoding self.now) ≤ longest → result ≡ length (Self.encoding self.now) }
     /// ```
     fn size(&self) -> usize;
 }
 
-/// The name.
+/// Encodes the name.
 impl Content for &str {
     fn size(&self) -> usize {
         let len = self.len();
@@ -28,20 +29,20 @@ impl Content for &str {
     }
 }
 
-/// Bytes that are spelled already.
+/// Bytes that are already encoded.
 #[derive(Clone, Copy)]
 pub(crate) struct RawContent<'a>(pub &'a [u8]);
 
-/// The bytes.
+/// Encodes the bytes as they are.
 ///
 /// # Defined
 ///
 /// ```text
-/// text = { λ s. s.0.now }
-/// fits = { λ _. ⊤ }
+/// encoding = { λ s. s.0.now }
+/// encodable = { λ _. ⊤ }
 /// ```
 impl Encode for RawContent<'_> {
-    fn encode<A: Sink>(&self, sink: &mut A) -> R<()> {
+    fn encode<A: Sink>(&self, sink: &mut A) -> Result<()> {
         sink.extend_from_slice(self.0)?;
         Ok(())
     }
@@ -53,16 +54,16 @@ impl Content for RawContent<'_> {
     }
 }
 
-/// Appends the frame of the content.
+/// Appends the content with its size prefix.
 ///
 /// # Proved
 ///
 /// ```text
-/// ensures { Appends (frame_text (T.text content.now)) (FrameFits (T.text content.now) × T.fits content.now) sink.old sink.new result }
+/// ensures { Appends (size_prefixed_encoding (T.encoding content.now)) (HasEncodableSize (T.encoding content.now) × T.encodable content.now) sink.old sink.new result }
 /// ```
-fn encode_content<T: Content, A: Sink>(sink: &mut A, content: &T) -> R<()> {
+fn encode_content<T: Content, A: Sink>(sink: &mut A, content: &T) -> Result<()> {
     let start = sink.len();
-    begin_frame(sink, content.size())?;
+    begin_size_prefixed(sink, content.size())?;
     if let Err(refused) = content.encode(sink) {
         sink.truncate(start);
         return Err(refused);
@@ -70,41 +71,42 @@ fn encode_content<T: Content, A: Sink>(sink: &mut A, content: &T) -> R<()> {
     Ok(())
 }
 
-/// Makes room for the id, the size and the content of a subsection, in one request.
+/// Reserves spare capacity for the id, the size prefix and the content of a subsection, in one
+/// request.
 ///
 /// # Proved
 ///
 /// ```text
 /// ensures same { sink.new.items ≡ sink.old.items }
 /// ensures memory { result ≢ Err TooLong }
-/// ensures room { size ≤ longest
-///     → vec_len sink.old + (1 + (length (unsigned_text size) + size)) ≤ vec_capacity sink.old
+/// ensures spare { size ≤ longest
+///     → vec_len sink.old + (1 + (length (unsigned_encoding size) + size)) ≤ vec_capacity sink.old
 ///     → IsOk result }
 /// ensures capacity { vec_capacity sink.old ≤ vec_capacity sink.new }
 /// ```
-fn reserve_subsection<A: Sink>(sink: &mut A, size: usize) -> R<()> {
+fn reserve_subsection<A: Sink>(sink: &mut A, size: usize) -> Result<()> {
     if let Ok(short) = u32::try_from(size) {
         sink.reserve(size.saturating_add(encoding_size(short)).saturating_add(1))?;
     }
     Ok(())
 }
 
-/// A subsection: an id, and what is lent.
+/// A subsection: an id, and a borrowed content.
 pub(crate) struct Subsection<'a, T> {
     pub id: u8,
     pub content: &'a T,
 }
 
-/// The id, and the frame of the content.
+/// Encodes the id, and the content with its size prefix.
 ///
 /// # Defined
 ///
 /// ```text
-/// text = { λ s. subsection_text s.id (T.text s.content.now) }
-/// fits = { λ s. FrameFits (T.text s.content.now) × T.fits s.content.now }
+/// encoding = { λ s. subsection_encoding s.id (T.encoding s.content.now) }
+/// encodable = { λ s. HasEncodableSize (T.encoding s.content.now) × T.encodable s.content.now }
 /// ```
 impl<T: Content> Encode for Subsection<'_, T> {
-    fn encode<A: Sink>(&self, sink: &mut A) -> R<()> {
+    fn encode<A: Sink>(&self, sink: &mut A) -> Result<()> {
         reserve_subsection(sink, self.content.size())?;
         let start = sink.len();
         sink.push(self.id)?;

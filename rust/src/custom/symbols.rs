@@ -1,14 +1,15 @@
 // Written by tools/to-rust from crates/wasm_custom/src/symbols.rt: change that.
-// Symbols: what a linker knows by name.
+// The symbol table of a linking section: its builder, its reader and its minimizer.
 
 use crate::vec::Sink;
 use crate::custom::lists::{CountedList, ListKind};
 use crate::alloc::{Allocator, Global};
 use crate::base::laws::plain_name;
-use crate::base::{Encode, Optional, R};
-use crate::reader::base::{ReadFault, Readable, Shorten, Spelled, read_optional};
+use crate::base::{Encode, Optional, Result};
+use crate::reader::base::{Layout, ReadFault, Readable, Shorten, read_optional};
 
-/// Symbols, in the order in which they are added. A table is encoded as subsection 8 of a linking section.
+/// A symbol table: the symbols of a module, in the order in which they are added. It is encoded as
+/// subsection 8 of a linking section.
 ///
 /// ```
 /// # use dolzhytik::{fallible::*, reader::*};
@@ -21,7 +22,7 @@ use crate::reader::base::{ReadFault, Readable, Shorten, Spelled, read_optional};
 /// ```
 pub type SymbolTable<A = Global> = CountedList<SymbolMembers, A>;
 
-/// The members of a symbol table.
+/// The kind of a symbol table's members.
 #[derive(Clone, Copy, Debug)]
 pub struct SymbolMembers;
 
@@ -29,7 +30,7 @@ pub struct SymbolMembers;
 ///
 /// ```text
 /// Member = { SymbolModel }
-/// member_text = { symbol_text }
+/// member_encoding = { symbol_encoding }
 /// is_member = { IsGivenSymbol }
 /// subsection = { Some 8 }
 /// ```
@@ -39,32 +40,32 @@ impl ListKind for SymbolMembers {
     }
 }
 
-/// Where the bytes of a data symbol are.
+/// The location of the bytes of a data symbol.
 #[derive(Clone, Copy, Debug)]
 pub struct DataSymbolDefinition {
     /// The index of the data segment.
     pub index: u32,
-    /// Where the bytes begin in the segment.
+    /// The offset of the bytes in the segment.
     pub offset: u32,
-    /// How many bytes there are.
+    /// The number of bytes.
     pub size: u32,
 }
 
-/// The index, the offset and the size.
+/// Encodes the index, the offset and the size.
 ///
 /// # Defined
 ///
 /// ```text
-/// text = { definition_text }
-/// fits = { λ _. ⊤ }
+/// encoding = { definition_encoding }
+/// encodable = { λ _. ⊤ }
 /// ```
 impl Encode for DataSymbolDefinition {
-    fn encode<A: Sink>(&self, sink: &mut A) -> R<()> {
+    fn encode<A: Sink>(&self, sink: &mut A) -> Result<()> {
         (self.index, self.offset, self.size).encode(sink)
     }
 }
 
-/// What a symbol with an index is.
+/// The kind of a symbol with an index.
 #[derive(Clone, Copy, Debug)]
 pub enum SymbolKind {
     Function = 0x00,
@@ -72,21 +73,21 @@ pub enum SymbolKind {
     Table = 0x05,
 }
 
-/// One byte.
+/// Encodes the kind as one byte.
 ///
 /// # Defined
 ///
 /// ```text
-/// text = { λ kind. kind_code kind ∷ [] }
-/// fits = { λ _. ⊤ }
+/// encoding = { λ kind. kind_code kind ∷ [] }
+/// encodable = { λ _. ⊤ }
 /// ```
 impl Encode for SymbolKind {
-    fn encode<A: Sink>(&self, sink: &mut A) -> R<()> {
+    fn encode<A: Sink>(&self, sink: &mut A) -> Result<()> {
         (*self as u8).encode(sink)
     }
 }
 
-/// A name that is given is UTF-8. The function does nothing.
+/// Proves that a name, if there is one, is UTF-8. The function does nothing.
 ///
 /// # Proved
 ///
@@ -100,7 +101,8 @@ fn given_name(name: Option<&str>) {
     }
 }
 
-/// The numbers of a definition that is given are in range. The function does nothing.
+/// Proves that the numbers of a definition, if there is one, are in range. The function does
+/// nothing.
 ///
 /// # Proved
 ///
@@ -118,7 +120,7 @@ fn given_definition(definition: Option<DataSymbolDefinition>) {
 impl SymbolTable {
     /// A definition elsewhere replaces this one.
     pub const WASM_SYM_BINDING_WEAK: u32 = 0x1;
-    /// The symbol is known in this module alone.
+    /// The symbol is visible in this module only.
     pub const WASM_SYM_BINDING_LOCAL: u32 = 0x2;
     /// The symbol is not exported from the linked module.
     pub const WASM_SYM_VISIBILITY_HIDDEN: u32 = 0x4;
@@ -126,9 +128,9 @@ impl SymbolTable {
     pub const WASM_SYM_UNDEFINED: u32 = 0x10;
     /// The symbol is exported from the linked module.
     pub const WASM_SYM_EXPORTED: u32 = 0x20;
-    /// The symbol has a name of its own, also where it is imported.
+    /// The symbol has an explicit name, even if it is imported.
     pub const WASM_SYM_EXPLICIT_NAME: u32 = 0x40;
-    /// The symbol stays in the linked module, also where nothing uses it.
+    /// The symbol stays in the linked module, even if nothing uses it.
     pub const WASM_SYM_NO_STRIP: u32 = 0x80;
 }
 
@@ -148,72 +150,78 @@ const _: () = assert!(<SymbolTable>::WASM_SYM_EXPLICIT_NAME == 0x40);
 const _: () = assert!(<SymbolTable>::WASM_SYM_NO_STRIP == 0x80);
 
 impl<A: Allocator> SymbolTable<A> {
-    /// Adds a symbol with an index. A refused call leaves the table as it was.
+    /// Adds a symbol with an index.
     ///
     /// # Proved
     ///
     /// ```text
-    /// ensures { Adds (indexed_text kind flags index (optional_text (λ n. frame_text n.now) name.entry)) (IfSome name.entry (λ n. FrameFits n.now)) self.old self.new result }
+    /// ensures { Adds (indexed_encoding kind flags index (optional_encoding (λ n. size_prefixed_encoding n.now) name.entry)) (IfSome name.entry (λ n. HasEncodableSize n.now)) self.old self.new result }
     /// ```
-    fn indexed(&mut self, kind: SymbolKind, flags: u32, index: u32, name: Option<&str>) -> R<()> {
+    fn indexed(
+        &mut self,
+        kind: SymbolKind,
+        flags: u32,
+        index: u32,
+        name: Option<&str>,
+    ) -> Result<()> {
         given_name(name);
         self.add_record(&((kind, flags), index, Optional(name)))
     }
 
-    /// Adds a function. It has a name where it is defined, or where `flags` say that it has one of its own: whether that is so is not
-    /// looked at. A refused call leaves the table as it was.
+    /// Adds a function. A function has a name if it is defined here, or if `flags` say that its
+    /// name is explicit. The call does not check that `name` agrees.
     ///
     /// # Proved
     ///
     /// ```text
-    /// ensures { Adds (indexed_text kinds.Function flags index (optional_text (λ n. frame_text n.now) name.entry)) (IfSome name.entry (λ n. FrameFits n.now)) self.old self.new result }
+    /// ensures { Adds (indexed_encoding kinds.Function flags index (optional_encoding (λ n. size_prefixed_encoding n.now) name.entry)) (IfSome name.entry (λ n. HasEncodableSize n.now)) self.old self.new result }
     /// ```
-    pub fn function(&mut self, flags: u32, index: u32, name: Option<&str>) -> R<()> {
+    pub fn function(&mut self, flags: u32, index: u32, name: Option<&str>) -> Result<()> {
         self.indexed(SymbolKind::Function, flags, index, name)
     }
 
-    /// Adds a global, whose name is that of `function`. A refused call leaves the table as it was.
+    /// Adds a global. It has a name in the same cases as in `function`.
     ///
     /// # Proved
     ///
     /// ```text
-    /// ensures { Adds (indexed_text kinds.Global flags index (optional_text (λ n. frame_text n.now) name.entry)) (IfSome name.entry (λ n. FrameFits n.now)) self.old self.new result }
+    /// ensures { Adds (indexed_encoding kinds.Global flags index (optional_encoding (λ n. size_prefixed_encoding n.now) name.entry)) (IfSome name.entry (λ n. HasEncodableSize n.now)) self.old self.new result }
     /// ```
-    pub fn global(&mut self, flags: u32, index: u32, name: Option<&str>) -> R<()> {
+    pub fn global(&mut self, flags: u32, index: u32, name: Option<&str>) -> Result<()> {
         self.indexed(SymbolKind::Global, flags, index, name)
     }
 
-    /// Adds a table, whose name is that of `function`. A refused call leaves the table of symbols as it was.
+    /// Adds a table. It has a name in the same cases as in `function`.
     ///
     /// # Proved
     ///
     /// ```text
-    /// ensures { Adds (indexed_text kinds.Table flags index (optional_text (λ n. frame_text n.now) name.entry)) (IfSome name.entry (λ n. FrameFits n.now)) self.old self.new result }
+    /// ensures { Adds (indexed_encoding kinds.Table flags index (optional_encoding (λ n. size_prefixed_encoding n.now) name.entry)) (IfSome name.entry (λ n. HasEncodableSize n.now)) self.old self.new result }
     /// ```
-    pub fn table(&mut self, flags: u32, index: u32, name: Option<&str>) -> R<()> {
+    pub fn table(&mut self, flags: u32, index: u32, name: Option<&str>) -> Result<()> {
         self.indexed(SymbolKind::Table, flags, index, name)
     }
 
-    /// Adds data. They have a definition where `flags` do not say that they are undefined: whether that is so is not looked at. A
-    /// refused call leaves the table as it was.
+    /// Adds data. Data have a definition unless `flags` say that they are undefined. The call does
+    /// not check that `definition` agrees.
     ///
     /// # Proved
     ///
     /// ```text
-    /// ensures { Adds (of_data_text flags name.now (optional_text definition_text definition)) (FrameFits name.now) self.old self.new result }
+    /// ensures { Adds (of_data_encoding flags name.now (optional_encoding definition_encoding definition)) (HasEncodableSize name.now) self.old self.new result }
     /// ```
     pub fn data(
         &mut self,
         flags: u32,
         name: &str,
         definition: Option<DataSymbolDefinition>,
-    ) -> R<()> {
+    ) -> Result<()> {
         given_definition(definition);
         self.add_record(&((0x01u8, flags), name, Optional(definition)))
     }
 }
 
-/// A symbol. Where its flags say that it has no name of its own, it has that of the import.
+/// A decoded symbol. If its flags say that it has no explicit name, its name is that of the import.
 #[derive(Clone, Copy, Debug)]
 pub enum Symbol<'a> {
     Function {
@@ -234,12 +242,12 @@ pub enum Symbol<'a> {
     DataSymbol {
         flags: u32,
         name: &'a str,
-        /// `None` where the flags say that the data are not defined in this module.
+        /// `None` if the flags say that the data are not defined in this module.
         definition: Option<DataSymbolDefinition>,
     },
 }
 
-/// Whether the bytes have a name for a symbol with an index.
+/// Returns `true` if the encoding of a symbol with an index has a name.
 ///
 /// # Proved
 ///
@@ -252,7 +260,7 @@ fn has_name(flags: u32) -> bool {
     !(undefined && !explicit)
 }
 
-/// Whether the bytes have a definition for data.
+/// Returns `true` if the encoding of a data symbol has a definition.
 ///
 /// # Proved
 ///
@@ -264,13 +272,13 @@ fn has_definition(flags: u32) -> bool {
     !undefined
 }
 
-/// A symbol of an index, behind its kind.
+/// Decodes a symbol with an index, after the byte of its kind.
 ///
 /// # Proved
 ///
 /// ```text
-/// ensures found { IfOk result (λ x. Reads (indexed_symbol kind) wide bytes.now (symbol_view x.0) x.1.now) }
-/// ensures none { IfErr result (λ e. e ≢ Memory → ReadsNothing (indexed_symbol kind) wide bytes.now) }
+/// ensures found { IfOk result (λ x. Decodes (indexed_symbol kind) padded bytes.now (symbol_view x.0) x.1.now) }
+/// ensures none { IfErr result (λ e. e ≢ Memory → Rejects (indexed_symbol kind) padded bytes.now) }
 /// ```
 fn read_indexed<'a, A: Allocator + Copy>(
     kind: SymbolKind,
@@ -295,7 +303,7 @@ fn read_indexed<'a, A: Allocator + Copy>(
 /// format = { definition_format }
 /// view = { λ definition. definition }
 /// ```
-impl Spelled for DataSymbolDefinition {
+impl Layout for DataSymbolDefinition {
     fn laws() {}
 }
 
@@ -313,13 +321,13 @@ impl<'a, A: Allocator + Copy> Readable<'a, A> for DataSymbolDefinition {
     }
 }
 
-/// A definition where the flag is set, and nothing where it isn't.
+/// Decodes a definition if the flag is set, and returns `None` otherwise.
 ///
 /// # Proved
 ///
 /// ```text
-/// ensures found { IfOk result (λ x. Reads (optional given definition_format) wide bytes.now x.0 x.1.now) }
-/// ensures none { IfErr result (λ e. e ≢ Memory → ReadsNothing (optional given definition_format) wide bytes.now) }
+/// ensures found { IfOk result (λ x. Decodes (optional given definition_format) padded bytes.now x.0 x.1.now) }
+/// ensures none { IfErr result (λ e. e ≢ Memory → Rejects (optional given definition_format) padded bytes.now) }
 /// ```
 fn read_definition<'a, A: Allocator + Copy>(
     given: bool,
@@ -334,13 +342,13 @@ fn read_definition<'a, A: Allocator + Copy>(
     }
 }
 
-/// A symbol of data, behind its kind.
+/// Decodes a data symbol, after the byte of its kind.
 ///
 /// # Proved
 ///
 /// ```text
-/// ensures found { IfOk result (λ x. Reads data_symbol wide bytes.now (symbol_view x.0) x.1.now) }
-/// ensures none { IfErr result (λ e. e ≢ Memory → ReadsNothing data_symbol wide bytes.now) }
+/// ensures found { IfOk result (λ x. Decodes data_symbol padded bytes.now (symbol_view x.0) x.1.now) }
+/// ensures none { IfErr result (λ e. e ≢ Memory → Rejects data_symbol padded bytes.now) }
 /// ```
 fn read_data<'a, A: Allocator + Copy>(
     bytes: &'a [u8],
@@ -366,11 +374,11 @@ fn read_data<'a, A: Allocator + Copy>(
 /// format = { symbol }
 /// view = { symbol_view }
 /// ```
-impl<'a> Spelled for Symbol<'a> {
+impl<'a> Layout for Symbol<'a> {
     /// # Proved
     ///
     /// ```text
-    /// ensures { UniqueReading symbol }
+    /// ensures { Unambiguous symbol }
     /// ```
     fn laws() {}
 }
@@ -400,29 +408,29 @@ impl<'a, A: Allocator + Copy> Readable<'a, A> for Symbol<'a> {
     }
 }
 
-/// Appends a name where one is given.
+/// Appends the name if the flags say that the encoding has one.
 ///
 /// # Proved
 ///
 /// ```text
-/// ensures ok { OnOk result (AppendsShortest (optional (flags_name flags) name_format) (option_map (λ n. n.now) name.entry) out.old.items out.new.items) }
-/// ensures front { IsFrontOf out.old.items out.new.items }
+/// ensures ok { OnOk result (AppendsMinimal (optional (flags_name flags) name_format) (option_map (λ n. n.now) name.entry) sink.old.items sink.new.items) }
+/// ensures front { IsFrontOf sink.old.items sink.new.items }
 /// ensures too_long { HasEncoding (optional (flags_name flags) name_format) (option_map (λ n. n.now) name.entry) → result ≢ Err TooLong }
 /// ```
-fn append_name<B: Sink>(flags: u32, name: Option<&str>, out: &mut B) -> R<()> {
+fn append_name<B: Sink>(flags: u32, name: Option<&str>, sink: &mut B) -> Result<()> {
     match name {
-        Some(name) => name.write_minimal(out),
+        Some(name) => name.write_minimal(sink),
         None => Ok(()),
     }
 }
 
-/// Appends a symbol of an index.
+/// Appends a symbol with an index.
 ///
 /// # Proved
 ///
 /// ```text
-/// ensures ok { OnOk result (AppendsShortest symbol (indexed kind flags index (option_map (λ n. n.now) name.entry)) out.old.items out.new.items) }
-/// ensures front { IsFrontOf out.old.items out.new.items }
+/// ensures ok { OnOk result (AppendsMinimal symbol (indexed kind flags index (option_map (λ n. n.now) name.entry)) sink.old.items sink.new.items) }
+/// ensures front { IsFrontOf sink.old.items sink.new.items }
 /// ensures too_long { HasEncoding symbol (indexed kind flags index (option_map (λ n. n.now) name.entry)) → result ≢ Err TooLong }
 /// ```
 fn append_indexed<B: Sink>(
@@ -430,72 +438,72 @@ fn append_indexed<B: Sink>(
     flags: u32,
     index: u32,
     name: Option<&str>,
-    out: &mut B,
-) -> R<()> {
-    kind.encode(out)?;
-    flags.write_minimal(out)?;
-    index.write_minimal(out)?;
-    append_name(flags, name, out)
+    sink: &mut B,
+) -> Result<()> {
+    kind.encode(sink)?;
+    flags.write_minimal(sink)?;
+    index.write_minimal(sink)?;
+    append_name(flags, name, sink)
 }
 
-/// Appends a definition where one is given.
+/// Appends the definition if the flags say that the encoding has one.
 ///
 /// # Proved
 ///
 /// ```text
-/// ensures ok { OnOk result (AppendsShortest (optional (flags_definition flags) definition_format) definition out.old.items out.new.items) }
-/// ensures front { IsFrontOf out.old.items out.new.items }
+/// ensures ok { OnOk result (AppendsMinimal (optional (flags_definition flags) definition_format) definition sink.old.items sink.new.items) }
+/// ensures front { IsFrontOf sink.old.items sink.new.items }
 /// ensures too_long { HasEncoding (optional (flags_definition flags) definition_format) definition → result ≢ Err TooLong }
 /// ```
 fn append_definition<B: Sink>(
     flags: u32,
     definition: Option<DataSymbolDefinition>,
-    out: &mut B,
-) -> R<()> {
+    sink: &mut B,
+) -> Result<()> {
     match definition {
-        Some(definition) => definition.encode(out),
+        Some(definition) => definition.encode(sink),
         None => Ok(()),
     }
 }
 
-/// Appends a symbol of data.
+/// Appends a data symbol.
 ///
 /// # Proved
 ///
 /// ```text
-/// ensures ok { OnOk result (AppendsShortest symbol (of_data flags name.now definition) out.old.items out.new.items) }
-/// ensures front { IsFrontOf out.old.items out.new.items }
+/// ensures ok { OnOk result (AppendsMinimal symbol (of_data flags name.now definition) sink.old.items sink.new.items) }
+/// ensures front { IsFrontOf sink.old.items sink.new.items }
 /// ensures too_long { HasEncoding symbol (of_data flags name.now definition) → result ≢ Err TooLong }
 /// ```
 fn append_data<B: Sink>(
     flags: u32,
     name: &str,
     definition: Option<DataSymbolDefinition>,
-    out: &mut B,
-) -> R<()> {
-    0x01u8.encode(out)?;
-    flags.write_minimal(out)?;
-    name.write_minimal(out)?;
-    append_definition(flags, definition, out)
+    sink: &mut B,
+) -> Result<()> {
+    0x01u8.encode(sink)?;
+    flags.write_minimal(sink)?;
+    name.write_minimal(sink)?;
+    append_definition(flags, definition, sink)
 }
 
 impl<'a> Shorten for Symbol<'a> {
-    fn write_minimal<B: Sink>(&self, out: &mut B) -> R<()> {
+    fn write_minimal<B: Sink>(&self, sink: &mut B) -> Result<()> {
         match *self {
             Symbol::Function { flags, index, name } => {
-                append_indexed(SymbolKind::Function, flags, index, name, out)
+                append_indexed(SymbolKind::Function, flags, index, name, sink)
             }
             Symbol::Global { flags, index, name } => {
-                append_indexed(SymbolKind::Global, flags, index, name, out)
+                append_indexed(SymbolKind::Global, flags, index, name, sink)
             }
             Symbol::Table { flags, index, name } => {
-                append_indexed(SymbolKind::Table, flags, index, name, out)
+                append_indexed(SymbolKind::Table, flags, index, name, sink)
             }
             Symbol::DataSymbol {
                 flags,
                 name,
                 definition,
-            } => append_data(flags, name, definition, out),
+            } => append_data(flags, name, definition, sink),
         }
     }
 }

@@ -2,29 +2,29 @@
 // The types of blocks.
 
 use crate::vec::Sink;
-use crate::base::{Encode, R, ValType};
+use crate::base::{Encode, Result, ValType};
 
-/// What a block takes and leaves.
+/// The type of a block: its parameters and results.
 #[derive(Clone, Copy, Debug)]
 pub enum BlockType {
-    /// Nothing.
+    /// No parameters and no results.
     Empty,
-    /// It leaves a value of this type.
+    /// No parameters, and one result of this type.
     Result(ValType),
-    /// As the function type of this index.
+    /// The parameters and results of the function type of this index.
     FunctionType(u32),
 }
 
-/// A byte, or the type, or the index as a signed number.
+/// Encodes the empty type as 0x40, a result as its value type, and an index as a signed number.
 ///
 /// # Defined
 ///
 /// ```text
-/// text = { block_text }
-/// fits = { λ _. ⊤ }
+/// encoding = { block_encoding }
+/// encodable = { λ _. ⊤ }
 /// ```
 impl Encode for BlockType {
-    fn encode<A: Sink>(&self, sink: &mut A) -> R<()> {
+    fn encode<A: Sink>(&self, sink: &mut A) -> Result<()> {
         match *self {
             BlockType::Empty => 0x40u8.encode(sink),
             BlockType::Result(ty) => ty.encode(sink),

@@ -2,9 +2,9 @@
 // The clauses of instructions that handle exceptions and suspended stacks.
 
 use crate::vec::Sink;
-use crate::base::{Encode, R};
+use crate::base::{Encode, Result};
 
-/// What `try_table` catches, and the label that it then goes to.
+/// A clause of `try_table`: the exceptions that it catches, and the label that it then branches to.
 #[derive(Clone, Copy, Debug)]
 pub enum Catch {
     One { tag: u32, label: u32 },
@@ -13,23 +13,23 @@ pub enum Catch {
     AllRef { label: u32 },
 }
 
-/// What a resumed stack does where it is suspended with a tag.
+/// A clause of `resume` and its variants: the action for a suspension with a tag.
 #[derive(Clone, Copy, Debug)]
 pub enum Handle {
     OnLabel { tag: u32, label: u32 },
     OnSwitch { tag: u32 },
 }
 
-/// A byte, the tag where there is one, and the label.
+/// Encodes a clause as its kind in one byte, the tag if it has one, and the label.
 ///
 /// # Defined
 ///
 /// ```text
-/// text = { catch_text }
-/// fits = { λ _. ⊤ }
+/// encoding = { catch_encoding }
+/// encodable = { λ _. ⊤ }
 /// ```
 impl Encode for Catch {
-    fn encode<A: Sink>(&self, sink: &mut A) -> R<()> {
+    fn encode<A: Sink>(&self, sink: &mut A) -> Result<()> {
         match *self {
             Catch::One { tag, label } => (0x00u8, tag, label).encode(sink),
             Catch::OneRef { tag, label } => (0x01u8, tag, label).encode(sink),
@@ -39,16 +39,16 @@ impl Encode for Catch {
     }
 }
 
-/// A byte, the tag, and the label where there is one.
+/// Encodes a clause as its kind in one byte, the tag, and the label if it has one.
 ///
 /// # Defined
 ///
 /// ```text
-/// text = { handle_text }
-/// fits = { λ _. ⊤ }
+/// encoding = { handle_encoding }
+/// encodable = { λ _. ⊤ }
 /// ```
 impl Encode for Handle {
-    fn encode<A: Sink>(&self, sink: &mut A) -> R<()> {
+    fn encode<A: Sink>(&self, sink: &mut A) -> Result<()> {
         match *self {
             Handle::OnLabel { tag, label } => (0x00u8, tag, label).encode(sink),
             Handle::OnSwitch { tag } => (0x01u8, tag).encode(sink),

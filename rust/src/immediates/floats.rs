@@ -2,16 +2,16 @@
 // Floats, as their bits.
 
 use crate::vec::Sink;
-use crate::base::{Encode, R};
+use crate::base::{Encode, Result};
 
-/// The bits of a float of 32 bits. The format is that of IEEE 754.
+/// A float of 32 bits, as its IEEE 754 bits.
 #[derive(Clone, Copy, PartialEq, Eq, Hash, Debug)]
 pub struct Ieee32 {
     bits: u32,
 }
 
 impl Ieee32 {
-    /// The float of these bits.
+    /// Returns the float of these bits.
     ///
     /// # Proved
     ///
@@ -22,7 +22,7 @@ impl Ieee32 {
         Ieee32 { bits }
     }
 
-    /// Its bits.
+    /// Returns the bits.
     ///
     /// # Proved
     ///
@@ -34,29 +34,29 @@ impl Ieee32 {
     }
 }
 
-/// Four bytes, the least first.
+/// Encodes the bits in four bytes, little-endian.
 ///
 /// # Defined
 ///
 /// ```text
-/// text = { λ float. little_endian_text 4 float.bits }
-/// fits = { λ _. ⊤ }
+/// encoding = { λ float. little_endian_encoding 4 float.bits }
+/// encodable = { λ _. ⊤ }
 /// ```
 impl Encode for Ieee32 {
-    fn encode<A: Sink>(&self, sink: &mut A) -> R<()> {
+    fn encode<A: Sink>(&self, sink: &mut A) -> Result<()> {
         let bytes: [u8; 4] = self.bits.to_le_bytes();
         bytes.encode(sink)
     }
 }
 
-/// The bits of a float of 64 bits. The format is that of IEEE 754.
+/// A float of 64 bits, as its IEEE 754 bits.
 #[derive(Clone, Copy, PartialEq, Eq, Hash, Debug)]
 pub struct Ieee64 {
     bits: u64,
 }
 
 impl Ieee64 {
-    /// The float of these bits.
+    /// Returns the float of these bits.
     ///
     /// # Proved
     ///
@@ -67,7 +67,7 @@ impl Ieee64 {
         Ieee64 { bits }
     }
 
-    /// Its bits.
+    /// Returns the bits.
     ///
     /// # Proved
     ///
@@ -79,16 +79,16 @@ impl Ieee64 {
     }
 }
 
-/// Eight bytes, the least first.
+/// Encodes the bits in eight bytes, little-endian.
 ///
 /// # Defined
 ///
 /// ```text
-/// text = { λ float. little_endian_text 8 float.bits }
-/// fits = { λ _. ⊤ }
+/// encoding = { λ float. little_endian_encoding 8 float.bits }
+/// encodable = { λ _. ⊤ }
 /// ```
 impl Encode for Ieee64 {
-    fn encode<A: Sink>(&self, sink: &mut A) -> R<()> {
+    fn encode<A: Sink>(&self, sink: &mut A) -> Result<()> {
         let bytes: [u8; 8] = self.bits.to_le_bytes();
         bytes.encode(sink)
     }

@@ -1,49 +1,51 @@
 // Written by tools/to-rust from crates/wasm_immediates/src/laws.rt: change that.
-//! What is promised of all lists of bytes, and not of a call: each function does nothing, and its clauses are the promise.
+//! Laws about the formats of immediates, for all byte sequences: each function does nothing, and
+//! its clauses are the law.
 //!
-//! `UniqueReading F` says that bytes begin with a spelling in the format `F` of at most one value, whatever follows, both with
-//! shortest and with padded numbers, and that a value has at most one shortest spelling. `HasTexts F fits text` says that the text of each
-//! value that fits is this spelling.
+//! `Unambiguous F` says that the format `F` is unambiguous: at most one value decodes from the
+//! front of any bytes, with minimal and with padded numbers. A value has at most one minimal
+//! encoding. `HasMinimalEncodings F encodable encoding` says that `encoding` is the minimal encoding of each value that
+//! fits.
 
-/// Immediates are read uniquely.
+/// The formats of immediates are unambiguous.
 ///
 /// # Proved
 ///
 /// ```text
-/// ensures memory { UniqueReading mem_arg }
-/// ensures block { UniqueReading block_type }
-/// ensures catch { UniqueReading catch }
-/// ensures handle { UniqueReading handle }
-/// ensures ordering { UniqueReading ordering_format }
-/// ensures vector { UniqueReading vector_format }
-/// ensures memory_texts { HasTexts mem_arg IsNormalMemory mem_arg_text }
-/// ensures block_texts { HasTexts block_type IsPlainBlock block_text }
-/// ensures catch_texts { HasTexts catch IsPlainCatch catch_text }
-/// ensures handle_texts { HasTexts handle IsPlainHandle handle_text }
-/// ensures ordering_texts { HasTexts ordering_format (λ o. ⊤) ordering_text }
-/// ensures vector_texts { HasTexts vector_format IsVector vector_text }
+/// ensures memory { Unambiguous mem_arg }
+/// ensures block { Unambiguous block_type }
+/// ensures catch { Unambiguous catch }
+/// ensures handle { Unambiguous handle }
+/// ensures ordering { Unambiguous ordering_format }
+/// ensures vector { Unambiguous vector_format }
+/// ensures memory_encodings { HasMinimalEncodings mem_arg IsNormalMemory mem_arg_encoding }
+/// ensures block_encodings { HasMinimalEncodings block_type IsWellFormedBlock block_encoding }
+/// ensures catch_encodings { HasMinimalEncodings catch IsWellFormedCatch catch_encoding }
+/// ensures handle_encodings { HasMinimalEncodings handle IsWellFormedHandle handle_encoding }
+/// ensures ordering_encodings { HasMinimalEncodings ordering_format (λ o. ⊤) ordering_encoding }
+/// ensures vector_encodings { HasMinimalEncodings vector_format IsVector vector_encoding }
 /// ```
 pub fn immediates() {}
 
-/// The text of a memory argument that is plain is read as its normal form alone.
+/// The encoding of a well-formed memory argument decodes to its normal form alone.
 ///
 /// # Proved
 ///
 /// ```text
-/// ensures { (m : MemArg) → ReadsMemoryArgument m }
+/// ensures { (m : MemArg) → DecodesMemoryArgument m }
 /// ```
 pub fn memory_arguments() {}
 
-/// With padded numbers too.
+/// With padded numbers the formats are unambiguous too.
 ///
 /// # Proved
 ///
 /// ```text
-/// ensures memory { IsUniqueWide mem_arg }
-/// ensures block { IsUniqueWide block_type }
-/// ensures catch { IsUniqueWide catch }
-/// ensures handle { IsUniqueWide handle }
-/// ensures ordering { IsUniqueWide ordering_format }
-/// ensures vector { IsUniqueWide vector_format }
+/// ensures memory { UnambiguousPadded mem_arg }
+/// ensures block { UnambiguousPadded block_type }
+/// ensures catch { UnambiguousPadded catch }
+/// ensures handle { UnambiguousPadded handle }
+/// ensures ordering { UnambiguousPadded ordering_format }
+/// ensures vector { UnambiguousPadded vector_format }
 /// ```
-pub fn wide() {}
+pub fn padded() {}

@@ -1,26 +1,26 @@
 // Written by tools/to-rust from crates/wasm_immediates/src/memory.rt: change that.
-// The arguments of instructions that access memory.
+// Memory arguments: the immediates of instructions that access memory.
 
 use crate::vec::Sink;
 use core::default::Default;
-use crate::base::{Encode, R};
+use crate::base::{Encode, Result};
 
-/// The number of a lane of a vector.
+/// The index of a lane of a vector.
 pub type Lane = u8;
 
-/// Where and how an instruction accesses memory.
+/// A memory argument: the location and the ordering of an access.
 #[derive(Clone, Copy, Debug)]
 pub struct MemArg {
-    /// What is added to the address.
+    /// The constant that is added to the address, in bytes.
     pub offset: u64,
-    /// The alignment that is expected, as an exponent of 2.
+    /// The expected alignment, as an exponent of 2.
     pub align: u32,
     pub target: MemArgTarget,
-    /// Given where an atomic access has another ordering than its own.
+    /// The ordering of an atomic access, if it differs from the default of the instruction.
     pub ordering: Option<MemArgOrdering>,
 }
 
-/// What is accessed.
+/// The memory or the array type that is accessed.
 #[derive(Clone, Copy, PartialEq, Eq, Hash, Debug)]
 pub enum MemArgTarget {
     /// The memory of this index.
@@ -29,21 +29,21 @@ pub enum MemArgTarget {
     Array(u32),
 }
 
-/// The ordering of an access: of an operation, or of one that reads, modifies and writes.
+/// The ordering of an access: of a single operation, or of a read-modify-write.
 #[derive(Clone, Copy, PartialEq, Eq, Hash, Debug)]
 pub enum MemArgOrdering {
     Op(Ordering),
     Rmw(Ordering),
 }
 
-/// How atomic accesses are ordered.
+/// The ordering of atomic accesses.
 #[derive(Clone, Copy, PartialEq, Eq, Hash, Debug)]
 pub enum Ordering {
     AcqRel = 0x01,
     SeqCst = 0x00,
 }
 
-/// Memory 0.
+/// The default is memory 0.
 ///
 /// # Defined
 ///
@@ -57,7 +57,7 @@ impl Default for MemArgTarget {
 }
 
 impl MemArgTarget {
-    /// The index that is written: memory 0 has none.
+    /// Returns the index in the encoding, or `None` for memory 0, which has none.
     ///
     /// # Proved
     ///
@@ -74,30 +74,30 @@ impl MemArgTarget {
     }
 }
 
-/// One byte.
+/// Encodes the ordering as one byte.
 ///
 /// # Defined
 ///
 /// ```text
-/// text = { λ ordering. ordering_code ordering ∷ [] }
-/// fits = { λ _. ⊤ }
+/// encoding = { λ ordering. ordering_code ordering ∷ [] }
+/// encodable = { λ _. ⊤ }
 /// ```
 impl Encode for Ordering {
-    fn encode<A: Sink>(&self, sink: &mut A) -> R<()> {
+    fn encode<A: Sink>(&self, sink: &mut A) -> Result<()> {
         (*self as u8).encode(sink)
     }
 }
 
-/// One byte; the strongest ordering has one for both.
+/// Encodes the ordering as one byte. `SeqCst` has the same byte for both kinds of access.
 ///
 /// # Defined
 ///
 /// ```text
-/// text = { λ ordering. mem_ordering_code ordering ∷ [] }
-/// fits = { λ _. ⊤ }
+/// encoding = { λ ordering. mem_ordering_code ordering ∷ [] }
+/// encodable = { λ _. ⊤ }
 /// ```
 impl Encode for MemArgOrdering {
-    fn encode<A: Sink>(&self, sink: &mut A) -> R<()> {
+    fn encode<A: Sink>(&self, sink: &mut A) -> Result<()> {
         let byte: u8 = match *self {
             MemArgOrdering::Op(Ordering::SeqCst) => 0x00,
             MemArgOrdering::Op(Ordering::AcqRel) => 0x01,
@@ -109,7 +109,7 @@ impl Encode for MemArgOrdering {
 }
 
 impl MemArg {
-    /// The alignment, and a bit for each part that is written.
+    /// Returns the flags: the alignment, and a bit for each optional field that follows.
     ///
     /// # Proved
     ///
@@ -127,15 +127,15 @@ impl MemArg {
         self.align | ordering | target
     }
 
-    /// Appends all parts that the flags tell of.
+    /// Appends all fields for which the flags have a bit.
     ///
     /// # Proved
     ///
     /// ```text
-    /// ensures { Appends (mem_arg_text self.now) ⊤ sink.old sink.new result }
+    /// ensures { Appends (mem_arg_encoding self.now) ⊤ sink.old sink.new result }
     /// ```
     #[inline(never)]
-    fn encode_all<A: Sink>(&self, sink: &mut A) -> R<()> {
+    fn encode_all<A: Sink>(&self, sink: &mut A) -> Result<()> {
         let flags = self.flags();
         match (self.target.index(), self.ordering) {
             (None, None) => (flags, self.offset).encode(sink),
@@ -146,17 +146,18 @@ impl MemArg {
     }
 }
 
-/// Flags, the index and the ordering where the flags say so, and the offset. Most have memory 0 and no ordering; others are written out of line.
+/// Encodes the flags, the index and the ordering if their flags are set, and the offset. Most
+/// arguments have memory 0 and no ordering; the others are encoded out of line.
 ///
 /// # Defined
 ///
 /// ```text
-/// text = { mem_arg_text }
-/// fits = { λ _. ⊤ }
+/// encoding = { mem_arg_encoding }
+/// encodable = { λ _. ⊤ }
 /// ```
 impl Encode for MemArg {
     #[inline]
-    fn encode<A: Sink>(&self, sink: &mut A) -> R<()> {
+    fn encode<A: Sink>(&self, sink: &mut A) -> Result<()> {
         match (self.target, self.ordering) {
             (MemArgTarget::Memory(0), None) => encode_plain(self.flags(), self.offset, sink),
             _ => self.encode_all(sink),
@@ -164,15 +165,16 @@ impl Encode for MemArg {
     }
 }
 
-/// Flags and an offset. Most have one byte each, which are written after one test of the room.
+/// Appends flags and an offset. Most have one byte each, and are written after one test of the
+/// spare capacity.
 ///
 /// # Proved
 ///
 /// ```text
-/// ensures { Appends (unsigned_text flags ++ unsigned_text offset) ⊤ sink.old sink.new result }
+/// ensures { Appends (unsigned_encoding flags ++ unsigned_encoding offset) ⊤ sink.old sink.new result }
 /// ```
 #[inline]
-fn encode_plain<A: Sink>(flags: u32, offset: u64, sink: &mut A) -> R<()> {
+fn encode_plain<A: Sink>(flags: u32, offset: u64, sink: &mut A) -> Result<()> {
     if flags < 0x80 && offset < 0x80 && sink.capacity() - sink.len() >= 2 {
         put_two_bytes(flags as u8, offset as u8, sink);
         return Ok(());
@@ -180,19 +182,19 @@ fn encode_plain<A: Sink>(flags: u32, offset: u64, sink: &mut A) -> R<()> {
     (flags, offset).encode(sink)
 }
 
-/// Appends two numbers of one byte, where the sink has room for them.
+/// Appends two numbers of one byte each into spare capacity of the sink, which holds them.
 ///
 /// # Asks
 ///
 /// ```text
 /// requires small { first < 0x80 × second < 0x80 }
-/// requires room { vec_len sink.old + 2 ≤ vec_capacity sink.old }
+/// requires spare { vec_len sink.old + 2 ≤ vec_capacity sink.old }
 /// ```
 ///
 /// # Proved
 ///
 /// ```text
-/// ensures items { sink.new.items ≡ sink.old.items ++ (unsigned_text first ++ unsigned_text second) }
+/// ensures items { sink.new.items ≡ sink.old.items ++ (unsigned_encoding first ++ unsigned_encoding second) }
 /// ensures capacity { vec_capacity sink.new ≡ vec_capacity sink.old }
 /// ```
 #[inline]

@@ -1,8 +1,9 @@
 // Written by tools/to-rust from crates/wasm_immediates/src/lib.rt: change that.
-//! What stands after an opcode: floats, memory arguments, block types, and the clauses of instructions that handle exceptions and
-//! suspended stacks. `wasm_insn` has all of it under its own name.
+//! The immediates of instructions: floats, memory arguments, block types, and the clauses that
+//! handle exceptions and suspended stacks. `wasm_insn` exports all of them under its own name.
 //!
-//! The text of an immediate is in `specs/Immediates.antt`, and what bytes spell it in `specs/PlainImmediates.antt`.
+//! `specs/Immediates.antt` defines the encoding of an immediate, and `specs/ImmediateFormats.antt`
+//! the formats.
 
 mod block_type;
 mod control;

@@ -4,7 +4,7 @@
 use crate::vec::Sink;
 use crate::insn::instruction::Instruction;
 use crate::insn::op::Op;
-use crate::base::{Encode, R};
+use crate::base::{Encode, Result};
 use crate::immediates::{MemArg, Ordering};
 
 /// Atomic instructions: those after the prefix FE.
@@ -233,7 +233,7 @@ pub enum Atomic {
 }
 
 impl Atomic {
-    /// The op of the table.
+    /// Returns the opcode, as in the opcode table.
     ///
     /// # Proved
     ///
@@ -349,14 +349,14 @@ impl Atomic {
         }
     }
 
-    /// Appends what follows the op.
+    /// Appends the immediates.
     ///
     /// # Proved
     ///
     /// ```text
-    /// ensures { Appends (arguments_text (atomic_row self).arguments) (arguments_fit (atomic_row self).arguments) sink.old sink.new result }
+    /// ensures { Appends (arguments_encoding (atomic_row self).arguments) (arguments_encodable (atomic_row self).arguments) sink.old sink.new result }
     /// ```
-    pub(crate) fn encode_arguments<A: Sink>(self, sink: &mut A) -> R<()> {
+    pub(crate) fn encode_arguments<A: Sink>(self, sink: &mut A) -> Result<()> {
         match self {
             Atomic::MemoryAtomicNotify(a)
             | Atomic::MemoryAtomicWait32(a)
@@ -581,7 +581,7 @@ impl Atomic {
     }
 }
 
-/// The names of those without fields as instructions.
+/// The instructions without fields, by their names on `Instruction`.
 impl Instruction<'static> {
     pub const Pause: Self = Instruction::Atomic(Atomic::Pause);
 

@@ -1,5 +1,5 @@
 // Written by tools/to-rust from crates/wasm_insn/src/instruction.rt: change that.
-// All instructions.
+// The type of all instructions, and its encoding.
 
 use crate::vec::Sink;
 use crate::insn::aggregate::Aggregate;
@@ -11,13 +11,14 @@ use crate::insn::vector::Vector;
 use crate::insn::vector_immediate::VectorImmediate;
 use crate::alloc::{Allocator, Global};
 use core::slice;
-use crate::base::{CowSlice, Encode, HeapType, R, RefType, Refused, ValType};
+use crate::base::{CowSlice, Encode, HeapType, RefType, Refused, Result, ValType};
 use crate::immediates::{BlockType, Catch, Handle, Ieee32, Ieee64, MemArg};
 
-/// An instruction.
+/// An instruction of the core specification, "Instructions", or of its proposals.
 ///
-/// One-byte instructions outside 45 to C4 (hexadecimal), and those with fields of the prefixes FB and FC, are cases of their own; the
-/// others are in an enum for each group of ops. Those without fields have a constant here, so that `Instruction::I32Add` is an instruction too.
+/// One-byte instructions outside 45 to C4 (hexadecimal), and those with fields of the prefixes FB
+/// and FC, are cases of their own. The others are in an enum for each group of opcodes. Those
+/// without fields also have a constant here, such as `Instruction::I32Add`.
 pub enum Instruction<'a, A: Allocator = Global> {
     Unreachable,
     Nop,
@@ -235,7 +236,7 @@ pub enum Instruction<'a, A: Allocator = Global> {
     Atomic(Atomic),
 }
 
-/// Bit 0 says that the first type is nullable, bit 1 that the second is.
+/// Returns the flags of a cast: bit 0 for a nullable first type, bit 1 for a nullable second type.
 ///
 /// # Proved
 ///
@@ -246,54 +247,55 @@ fn cast_flag(from: RefType, to: RefType) -> u8 {
     u8::from(from.nullable) + 2 * u8::from(to.nullable)
 }
 
-// Lists and casts are rare. They are appended out of line, so that no other instruction clears room for their parts.
+// Lists and casts are rare. They are appended out of line, so that the other instructions need no
+// stack space for their immediates.
 
-/// The labels of a table, and the default one.
+/// Appends the labels of a branch table, and the default label.
 ///
 /// # Proved
 ///
 /// ```text
-/// ensures { Appends (vec_text unsigned_text labels.now ++ unsigned_text default) (VecFits (λ _. ⊤) labels.now × ⊤) sink.old sink.new result }
+/// ensures { Appends (vec_encoding unsigned_encoding labels.now ++ unsigned_encoding default) (IsEncodableVec (λ _. ⊤) labels.now × ⊤) sink.old sink.new result }
 /// ```
 #[inline(never)]
-fn encode_labels<A: Sink>(labels: &[u32], default: u32, sink: &mut A) -> R<()> {
+fn encode_labels<A: Sink>(labels: &[u32], default: u32, sink: &mut A) -> Result<()> {
     (labels, default).encode(sink)
 }
 
-/// The type of a block, and what it catches.
+/// Appends the type of a block, and its catch clauses.
 ///
 /// # Proved
 ///
 /// ```text
-/// ensures { Appends (block_text block_type ++ vec_text catch_text catches.now) (⊤ × VecFits (λ _. ⊤) catches.now) sink.old sink.new result }
+/// ensures { Appends (block_encoding block_type ++ vec_encoding catch_encoding catches.now) (⊤ × IsEncodableVec (λ _. ⊤) catches.now) sink.old sink.new result }
 /// ```
 #[inline(never)]
 fn encode_try_table<A: Sink>(
     block_type: BlockType,
     catches: &[Catch],
     sink: &mut A,
-) -> R<()> {
+) -> Result<()> {
     (block_type, catches).encode(sink)
 }
 
-/// The index of a type, and handles.
+/// Appends the index of a type, and handle clauses.
 ///
 /// # Proved
 ///
 /// ```text
-/// ensures { Appends (unsigned_text index ++ vec_text handle_text handles.now) (⊤ × VecFits (λ _. ⊤) handles.now) sink.old sink.new result }
+/// ensures { Appends (unsigned_encoding index ++ vec_encoding handle_encoding handles.now) (⊤ × IsEncodableVec (λ _. ⊤) handles.now) sink.old sink.new result }
 /// ```
 #[inline(never)]
-fn encode_resume<A: Sink>(index: u32, handles: &[Handle], sink: &mut A) -> R<()> {
+fn encode_resume<A: Sink>(index: u32, handles: &[Handle], sink: &mut A) -> Result<()> {
     (index, handles).encode(sink)
 }
 
-/// The indices of a type and of a tag, and handles.
+/// Appends the indices of a type and of a tag, and handle clauses.
 ///
 /// # Proved
 ///
 /// ```text
-/// ensures { Appends (unsigned_text index ++ (unsigned_text tag ++ vec_text handle_text handles.now)) (⊤ × ⊤ × VecFits (λ _. ⊤) handles.now) sink.old sink.new result }
+/// ensures { Appends (unsigned_encoding index ++ (unsigned_encoding tag ++ vec_encoding handle_encoding handles.now)) (⊤ × ⊤ × IsEncodableVec (λ _. ⊤) handles.now) sink.old sink.new result }
 /// ```
 #[inline(never)]
 fn encode_resume_throw<A: Sink>(
@@ -301,24 +303,29 @@ fn encode_resume_throw<A: Sink>(
     tag: u32,
     handles: &[Handle],
     sink: &mut A,
-) -> R<()> {
+) -> Result<()> {
     (index, tag, handles).encode(sink)
 }
 
-/// Flags, a label, and the two heap types of a cast.
+/// Appends the flags, the label, and the two heap types of a cast.
 ///
 /// # Proved
 ///
 /// ```text
-/// ensures { Appends (cast_flag_of from to ∷ [] ++ (unsigned_text label ++ (heap_text from.heap_type ++ heap_text to.heap_type))) (⊤ × ⊤ × (⊤ × ⊤)) sink.old sink.new result }
+/// ensures { Appends (cast_flag_of from to ∷ [] ++ (unsigned_encoding label ++ (heap_encoding from.heap_type ++ heap_encoding to.heap_type))) (⊤ × ⊤ × (⊤ × ⊤)) sink.old sink.new result }
 /// ```
 #[inline(never)]
-fn encode_cast<A: Sink>(label: u32, from: RefType, to: RefType, sink: &mut A) -> R<()> {
+fn encode_cast<A: Sink>(
+    label: u32,
+    from: RefType,
+    to: RefType,
+    sink: &mut A,
+) -> Result<()> {
     (cast_flag(from, to), label, (from.heap_type, to.heap_type)).encode(sink)
 }
 
 impl<'a, A: Allocator> Instruction<'a, A> {
-    /// The op of the table.
+    /// Returns the opcode, as in the opcode table.
     ///
     /// # Proved
     ///
@@ -458,14 +465,14 @@ impl<'a, A: Allocator> Instruction<'a, A> {
         }
     }
 
-    /// Appends what follows the op.
+    /// Appends the immediates.
     ///
     /// # Proved
     ///
     /// ```text
-    /// ensures { Appends (arguments_text (row_of self.now).arguments) (arguments_fit (row_of self.now).arguments) sink.old sink.new result }
+    /// ensures { Appends (arguments_encoding (row_of self.now).arguments) (arguments_encodable (row_of self.now).arguments) sink.old sink.new result }
     /// ```
-    fn encode_arguments<B: Sink>(&self, sink: &mut B) -> R<()> {
+    fn encode_arguments<B: Sink>(&self, sink: &mut B) -> Result<()> {
         match self {
             Instruction::Block(a)
             | Instruction::Loop(a)
@@ -679,9 +686,10 @@ impl<'a, A: Allocator> Instruction<'a, A> {
     }
 }
 
-// A copy is made in a function for each group of cases, since the time of a proof grows with the square of its arms.
+// A function for each group of cases clones it, since proof time grows with the square of the
+// number of arms.
 impl<'a, A: Allocator + Copy> Instruction<'a, A> {
-    /// A copy. Owned lists are copied to their own allocator.
+    /// Returns a copy. Owned lists are copied with their own allocator.
     ///
     /// # Proved
     ///
@@ -689,7 +697,7 @@ impl<'a, A: Allocator + Copy> Instruction<'a, A> {
     /// ensures ok { IfOk result (λ i. row_of i ≡ row_of self.now) }
     /// ensures err { result ≢ Err Refused.TooLong }
     /// ```
-    pub fn clone(&self) -> R<Self> {
+    pub fn clone(&self) -> Result<Self> {
         Ok(match self {
             Instruction::Unreachable => Instruction::Unreachable,
             Instruction::Nop => Instruction::Nop,
@@ -736,7 +744,8 @@ impl<'a, A: Allocator + Copy> Instruction<'a, A> {
         })
     }
 
-    /// A copy of what gets and sets variables and table elements, and accesses memory; or of a later case.
+    /// Returns a copy of an instruction that accesses variables, table elements or memory; or of a
+    /// later group.
     ///
     /// # Proved
     ///
@@ -744,7 +753,7 @@ impl<'a, A: Allocator + Copy> Instruction<'a, A> {
     /// ensures ok { IfOk result (λ i. row_of i ≡ row_of self.now) }
     /// ensures err { result ≢ Err Refused.TooLong }
     /// ```
-    fn clone_access(&self) -> R<Self> {
+    fn clone_access(&self) -> Result<Self> {
         Ok(match self {
             Instruction::LocalGet(a) => Instruction::LocalGet(*a),
             Instruction::LocalSet(a) => Instruction::LocalSet(*a),
@@ -782,7 +791,8 @@ impl<'a, A: Allocator + Copy> Instruction<'a, A> {
         })
     }
 
-    /// A copy of a constant, or of what works on references and continuations; or of a later case.
+    /// Returns a copy of a constant, or of an instruction on references or continuations; or of a
+    /// later group.
     ///
     /// # Proved
     ///
@@ -790,7 +800,7 @@ impl<'a, A: Allocator + Copy> Instruction<'a, A> {
     /// ensures ok { IfOk result (λ i. row_of i ≡ row_of self.now) }
     /// ensures err { result ≢ Err Refused.TooLong }
     /// ```
-    fn clone_reference(&self) -> R<Self> {
+    fn clone_reference(&self) -> Result<Self> {
         Ok(match self {
             Instruction::I32Const(a) => Instruction::I32Const(*a),
             Instruction::I64Const(a) => Instruction::I64Const(*a),
@@ -846,7 +856,7 @@ impl<'a, A: Allocator + Copy> Instruction<'a, A> {
         })
     }
 
-    /// A copy of what works on structs and arrays, and of casts; or of a later case.
+    /// Returns a copy of an instruction on structs or arrays, or of a cast; or of a later group.
     ///
     /// # Proved
     ///
@@ -854,7 +864,7 @@ impl<'a, A: Allocator + Copy> Instruction<'a, A> {
     /// ensures ok { IfOk result (λ i. row_of i ≡ row_of self.now) }
     /// ensures err { result ≢ Err Refused.TooLong }
     /// ```
-    fn clone_aggregate(&self) -> R<Self> {
+    fn clone_aggregate(&self) -> Result<Self> {
         Ok(match self {
             Instruction::StructNew(a) => Instruction::StructNew(*a),
             Instruction::StructNewDefault(a) => Instruction::StructNewDefault(*a),
@@ -984,7 +994,8 @@ impl<'a, A: Allocator + Copy> Instruction<'a, A> {
         })
     }
 
-    /// A copy of what works on segments, tables and memories as a whole, and of the cases of nested enums.
+    /// Returns a copy of an instruction on whole segments, tables or memories, or of a case of a
+    /// nested enum.
     ///
     /// # Proved
     ///
@@ -992,7 +1003,7 @@ impl<'a, A: Allocator + Copy> Instruction<'a, A> {
     /// ensures ok { IfOk result (λ i. row_of i ≡ row_of self.now) }
     /// ensures err { result ≢ Err Refused.TooLong }
     /// ```
-    fn clone_bulk(&self) -> R<Self> {
+    fn clone_bulk(&self) -> Result<Self> {
         Ok(match self {
             Instruction::MemoryInit { data_index, mem } => Instruction::MemoryInit {
                 data_index: *data_index,
@@ -1032,17 +1043,17 @@ impl<'a, A: Allocator + Copy> Instruction<'a, A> {
     }
 }
 
-/// The op, and what follows it.
+/// Encodes the opcode, and then the immediates.
 ///
 /// # Defined
 ///
 /// ```text
-/// text = { instruction_text }
-/// fits = { InstructionFits }
-/// reading = { ReadsInstruction }
+/// encoding = { instruction_encoding }
+/// encodable = { IsEncodableInstruction }
+/// decoding = { DecodesInstruction }
 /// ```
 impl<'a, A: Allocator> Encode for Instruction<'a, A> {
-    fn encode<B: Sink>(&self, sink: &mut B) -> R<()> {
+    fn encode<B: Sink>(&self, sink: &mut B) -> Result<()> {
         let start = sink.len();
         self.op().encode(sink)?;
         if let Err(refused) = self.encode_arguments(sink) {

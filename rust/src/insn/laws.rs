@@ -1,27 +1,31 @@
 // Written by tools/to-rust from crates/wasm_insn/src/laws.rt: change that.
-//! What is promised of all lists of bytes, and not of a call: each function does nothing, and its clauses are the promise.
+//! Laws about opcodes and instructions, for all byte sequences: each function does nothing, and its
+//! clauses are the law.
 //!
-//! `UniqueReading F` says that bytes begin with a spelling in the format `F` of at most one value, whatever follows, both with
-//! shortest and with padded numbers, and that a value has at most one shortest spelling; `UniqueWholeReading F` the same of a format whose
-//! spellings reach to the last byte. `HasTexts F fits text` says that the text of each value that fits is its shortest spelling.
+//! `Unambiguous F` says that the format `F` is unambiguous: at most one value decodes from the
+//! front of any bytes, with minimal and with padded numbers. A value has at most one minimal
+//! encoding. `UnambiguousWhole F` says the same of a format that occupies all of the bytes.
+//! `HasMinimalEncodings F encodable encoding` says that `encoding` is the minimal encoding of each value that fits.
 
 use crate::insn::instruction::Instruction;
 use crate::insn::ranged::arguments_ranged;
 use crate::alloc::Allocator;
 
-/// Opcodes are read uniquely. The opcode table has 628 rows in ascending order, of which two neighbours alone share an op; no op's bytes begin another's.
+/// The format of opcodes is unambiguous. The opcode table has 628 rows in ascending order; one pair
+/// of neighbours shares an opcode. No opcode's bytes are a prefix of another's.
 ///
 /// # Proved
 ///
 /// ```text
-/// ensures alone { UniqueReading opcode }
-/// ensures texts { HasTexts opcode IsOpcode op_text }
+/// ensures unique { Unambiguous opcode }
+/// ensures encodings { HasMinimalEncodings opcode IsOpcode op_encoding }
 /// ensures table { IsOpcodeTable table }
 /// ensures apart { BeginsNoOther }
 /// ```
 pub fn opcodes() {}
 
-/// Each instruction is a row of the table, with one argument for each part of its shape.
+/// Each instruction is a row of the table, with one immediate for each immediate of the row's
+/// shape.
 ///
 /// # Proved
 ///
@@ -30,8 +34,9 @@ pub fn opcodes() {}
 /// ```
 pub fn rows<A: Allocator>() {}
 
-/// The cases of the enums and the rows of the table are one to one: in the table's order, they have its ops and the parts of its
-/// shapes. Each instruction is one of the cases, with its own fields.
+/// The cases of the enums and the rows of the table correspond one to one: in the table's order,
+/// they have its opcodes and the immediates of its shapes. Each instruction is one of the cases,
+/// with its own fields.
 ///
 /// # Proved
 ///
@@ -41,55 +46,57 @@ pub fn rows<A: Allocator>() {}
 /// ```
 pub fn cases<A: Allocator>() {}
 
-/// Instructions are read uniquely over the table. The text of one that is plain is read as its normal form alone, and two that
-/// are plain have one text exactly where they have one normal form.
+/// The format of instructions over the table is unambiguous. The encoding of a well-formed
+/// instruction decodes to its normal form alone. Two well-formed instructions have the same
+/// encoding exactly if they have the same normal form.
 ///
 /// # Proved
 ///
 /// ```text
-/// ensures alone { UniqueReading (instruction table) }
-/// ensures plain { (i : Instruction A) → ReadsInstruction i }
-/// ensures one_text { (i j : Instruction A) → HaveOneText i j }
+/// ensures unique { Unambiguous (instruction table) }
+/// ensures plain { (i : Instruction A) → DecodesInstruction i }
+/// ensures one_encoding { (i j : Instruction A) → HaveOneEncoding i j }
 /// ```
 pub fn instructions<A: Allocator>() {}
 
-/// With padded numbers too.
+/// With padded numbers the formats are unambiguous too.
 ///
 /// # Proved
 ///
 /// ```text
-/// ensures opcode { IsUniqueWide opcode }
-/// ensures instruction { IsUniqueWide (instruction table) }
-/// ensures list { IsUniqueWholeWide (members (instruction table)) }
+/// ensures opcode { UnambiguousPadded opcode }
+/// ensures instruction { UnambiguousPadded (instruction table) }
+/// ensures list { UnambiguousWholePadded (members (instruction table)) }
 /// ```
-pub fn wide() {}
+pub fn padded() {}
 
-/// Instructions one after another, up to the last byte, are read uniquely.
+/// Lists of instructions that occupy all of the bytes are unambiguous.
 ///
 /// # Proved
 ///
 /// ```text
-/// ensures { UniqueWholeReading (members (instruction table)) }
+/// ensures { UnambiguousWhole (members (instruction table)) }
 /// ```
 pub fn lists() {}
 
-/// An instruction is plain where its alignments are below 16 and its lists can be counted, which a call that accepts it has promised.
+/// An instruction is well-formed if its alignments are below 16 and its lists can be counted. A
+/// call that encodes it has promised the latter.
 ///
 /// # Proved
 ///
 /// ```text
-/// ensures { IsPlainWhereAligned instruction.now }
+/// ensures { IsWellFormedWhereAligned instruction.now }
 /// ```
 pub fn plain_instruction<A: Allocator>(instruction: &Instruction<'_, A>) {
     arguments_ranged(instruction);
 }
 
-/// So is each instruction of a list.
+/// The same holds for each instruction of a list.
 ///
 /// # Proved
 ///
 /// ```text
-/// ensures { All IsPlainWhereAligned instructions.now }
+/// ensures { All IsWellFormedWhereAligned instructions.now }
 /// ```
 pub fn plain_instructions<A: Allocator>(instructions: &[Instruction<'_, A>]) {
     for instruction in instructions {

@@ -1,13 +1,14 @@
 // Written by tools/to-rust from crates/wasm_insn/src/lib.rt: change that.
-//! The instructions of WebAssembly: their immediates, their opcodes, and what bytes spell them.
+//! The instructions of WebAssembly: their immediates, their opcodes, and their format.
 //!
-//! An instruction is found by its opcode. One-byte instructions outside 45 to C4 (hexadecimal), and those with fields after the
-//! prefixes FB and FC, are cases of [`Instruction`]; the others are in an enum for each group of opcodes: [`Numeric`] (45 to C4),
-//! [`Aggregate`] (FB), [`PrefixedNumeric`] (FC), [`Vector`] and [`VectorImmediate`] (FD, without and with fields) and [`Atomic`]
-//! (FE). Those without fields have a constant too, so that `Instruction::I32Add` is an instruction.
+//! Each instruction belongs to a type by its opcode. One-byte instructions outside 45 to C4
+//! (hexadecimal), and those with fields after the prefixes FB and FC, are cases of [`Instruction`].
+//! The others are in an enum for each group of opcodes: [`Numeric`] (45 to C4), [`Aggregate`] (FB),
+//! [`PrefixedNumeric`] (FC), [`Vector`] and [`VectorImmediate`] (FD, without and with fields) and
+//! [`Atomic`] (FE). Those without fields also have a constant, such as `Instruction::I32Add`.
 //!
-//! The opcode table is `specs/Table.antt`, the text of an instruction `specs/Instructions.antt`, and what bytes spell an
-//! instruction `specs/Plain.antt`.
+//! The opcode table is in `specs/Table.antt`, the encoding of an instruction in
+//! `specs/Instructions.antt`, and the format of instructions in `specs/Plain.antt`.
 
 mod aggregate;
 mod atomic;

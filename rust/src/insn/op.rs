@@ -1,8 +1,8 @@
 // Written by tools/to-rust from crates/wasm_insn/src/op.rt: change that.
-// Opcodes, and the shapes of what follows them.
+// Opcodes, and the shapes of their immediates.
 
 use crate::vec::Sink;
-use crate::base::{Encode, R};
+use crate::base::{Encode, Result};
 
 /// An opcode: a byte, or a prefix and a number.
 #[derive(Clone, Copy, PartialEq, Eq, Hash, Debug)]
@@ -11,7 +11,7 @@ pub enum Op {
     Prefixed(u8, u32),
 }
 
-/// Which parts follow an opcode.
+/// The list of immediates of an opcode.
 #[derive(Clone, Copy, PartialEq, Eq, Hash, Debug)]
 pub enum Shape {
     Nothing,
@@ -61,17 +61,17 @@ pub enum Shape {
     Uuh,
 }
 
-/// The byte, or the prefix and the number.
+/// Encodes the byte, or the prefix and the number.
 ///
 /// # Defined
 ///
 /// ```text
-/// text = { op_text }
-/// fits = { λ _. ⊤ }
+/// encoding = { op_encoding }
+/// encodable = { λ _. ⊤ }
 /// ```
 impl Encode for Op {
     #[inline(always)]
-    fn encode<A: Sink>(&self, sink: &mut A) -> R<()> {
+    fn encode<A: Sink>(&self, sink: &mut A) -> Result<()> {
         match *self {
             Op::Byte(byte) => byte.encode(sink),
             Op::Prefixed(prefix, number) => (prefix, number).encode(sink),

@@ -1,9 +1,9 @@
 // Written by tools/to-rust from crates/wasm_insn/src/part.rt: change that.
-// The parts of shapes.
+// The immediates of which shapes consist.
 
 use crate::insn::op::Shape;
 
-/// What can follow an opcode.
+/// The type of one immediate.
 #[derive(Clone, Copy, PartialEq, Eq, Hash, Debug)]
 pub enum Part {
     /// A number of 32 bits.
@@ -32,18 +32,18 @@ pub enum Part {
     Ordering,
     /// A vector of labels.
     Labels,
-    /// A vector of clauses that catch.
+    /// A vector of catch clauses.
     Catches,
     /// A vector of value types.
     Types,
-    /// A vector of clauses that handle.
+    /// A vector of handle clauses.
     Handles,
     /// The flags of a cast.
     Flag,
 }
 
 impl Shape {
-    /// The parts that follow an opcode of the shape, in order.
+    /// Returns the immediates of an opcode of this shape, in order.
     ///
     /// # Proved
     ///

@@ -1,5 +1,6 @@
 // Written by tools/to-rust from crates/wasm_insn/src/ranged.rt: change that.
-// What types say of the numbers in instructions: each function does nothing, and promises that these are in range.
+// Range facts from types: each function does nothing, and promises that the numbers in an
+// instruction are in range.
 
 use crate::insn::atomic::Atomic;
 use crate::insn::instruction::Instruction;
@@ -8,7 +9,7 @@ use crate::alloc::Allocator;
 use crate::base::{HeapType, RefType, ValType};
 use crate::immediates::{BlockType, Catch, Handle, Ieee32, Ieee64, MemArg};
 
-/// A value that is plain by its type alone.
+/// A value that is well-formed by its type alone.
 ///
 /// # Defined
 ///
@@ -17,7 +18,7 @@ use crate::immediates::{BlockType, Catch, Handle, Ieee32, Ieee64, MemArg};
 /// in_range: { Self → Type 0 }
 /// ```
 trait Ranged: Copy {
-    /// Does nothing.
+    /// Proves the property. The function does nothing.
     ///
     /// # Proved
     ///
@@ -39,7 +40,7 @@ impl Ranged for u32 {
 /// # Defined
 ///
 /// ```text
-/// in_range = { FitsSigned32 }
+/// in_range = { IsSigned32InRange }
 /// ```
 impl Ranged for i32 {
     fn ranged(self) {}
@@ -48,7 +49,7 @@ impl Ranged for i32 {
 /// # Defined
 ///
 /// ```text
-/// in_range = { FitsSigned64 }
+/// in_range = { IsSigned64InRange }
 /// ```
 impl Ranged for i64 {
     fn ranged(self) {}
@@ -93,7 +94,7 @@ impl Ranged for ValType {
 /// # Defined
 ///
 /// ```text
-/// in_range = { IsPlainBlock }
+/// in_range = { IsWellFormedBlock }
 /// ```
 impl Ranged for BlockType {
     fn ranged(self) {}
@@ -102,7 +103,7 @@ impl Ranged for BlockType {
 /// # Defined
 ///
 /// ```text
-/// in_range = { IsPlainCatch }
+/// in_range = { IsWellFormedCatch }
 /// ```
 impl Ranged for Catch {
     fn ranged(self) {}
@@ -111,18 +112,18 @@ impl Ranged for Catch {
 /// # Defined
 ///
 /// ```text
-/// in_range = { IsPlainHandle }
+/// in_range = { IsWellFormedHandle }
 /// ```
 impl Ranged for Handle {
     fn ranged(self) {}
 }
 
-/// What is in the range of its type but for an alignment.
+/// All numbers but the alignment are in the range of their types.
 ///
 /// # Defined
 ///
 /// ```text
-/// in_range = { λ m. m.align < 16 → IsPlainMemory m }
+/// in_range = { λ m. m.align < 16 → IsWellFormedMemory m }
 /// ```
 impl Ranged for MemArg {
     fn ranged(self) {}
@@ -131,7 +132,7 @@ impl Ranged for MemArg {
 /// # Defined
 ///
 /// ```text
-/// in_range = { λ i. HaveSmallAlignments (vector_immediate_row i).arguments → ArePlain (vector_immediate_row i).arguments }
+/// in_range = { λ i. HaveSmallAlignments (vector_immediate_row i).arguments → AreWellFormed (vector_immediate_row i).arguments }
 /// ```
 impl Ranged for VectorImmediate {
     fn ranged(self) {}
@@ -140,7 +141,7 @@ impl Ranged for VectorImmediate {
 /// # Defined
 ///
 /// ```text
-/// in_range = { λ i. HaveSmallAlignments (atomic_row i).arguments → ArePlain (atomic_row i).arguments }
+/// in_range = { λ i. HaveSmallAlignments (atomic_row i).arguments → AreWellFormed (atomic_row i).arguments }
 /// ```
 impl Ranged for Atomic {
     fn ranged(self) {
@@ -371,7 +372,7 @@ impl Ranged for Atomic {
     }
 }
 
-/// Each of a list.
+/// Proves the property of each item of a list.
 ///
 /// # Proved
 ///
@@ -384,24 +385,24 @@ fn each_ranged<T: Ranged>(items: &[T]) {
     }
 }
 
-/// What a cast names.
+/// Proves that the immediates of a cast are in range.
 ///
 /// # Proved
 ///
 /// ```text
-/// ensures { ArePlain (flag (cast_flag_of from to) ∷ unsigned label ∷ heap from.heap_type ∷ heap to.heap_type ∷ []) }
+/// ensures { AreWellFormed (flag (cast_flag_of from to) ∷ unsigned label ∷ heap from.heap_type ∷ heap to.heap_type ∷ []) }
 /// ```
 fn cast_ranged(label: u32, from: RefType, to: RefType) {
     from.heap_type.ranged();
     to.heap_type.ranged();
 }
 
-/// The arguments of an instruction.
+/// Proves that the immediates of an instruction are in range, if its alignments are.
 ///
 /// # Proved
 ///
 /// ```text
-/// ensures { IsPlainWhereAligned instruction.now }
+/// ensures { IsWellFormedWhereAligned instruction.now }
 /// ```
 pub(crate) fn arguments_ranged<A: Allocator>(instruction: &Instruction<'_, A>) {
     match instruction {

@@ -1,35 +1,37 @@
 // Written by tools/to-rust from crates/wasm_insn/src/sink.rt: change that.
-// Named calls that write instructions into a buffer.
+// The instruction sink: a method for each common instruction, which appends it to a buffer.
 
 use crate::vec::Sink;
 use crate::insn::op::Op;
 use crate::insn::vector_immediate::vector_bytes;
 use core::slice;
-use crate::base::{Encode, HeapType, R, Refused, ValType, encode_vec};
+use crate::base::{Encode, HeapType, Refused, Result, ValType, encode_vec};
 use crate::immediates::{BlockType, Ieee32, Ieee64, MemArg};
 
-/// What instructions are written into.
+/// A buffer to which instructions are appended.
 ///
 /// # Defined
 ///
 /// ```text
-/// // written: the bytes that the buffer has.
+/// // `written`: the bytes in the buffer.
 /// written: { Self → List ℕ }
-/// // has_room: There is room for so many bytes more. A buffer may leave this open.
-/// has_room: { Self → ℕ → Type 0 } = { λ _ _. ⊥ }
+/// // `has_spare_capacity`: the buffer has spare capacity for this many bytes. A buffer may leave this
+/// // unspecified.
+/// has_spare_capacity: { Self → ℕ → Type 0 } = { λ _ _. ⊥ }
 /// ```
 pub trait Buffer {
-    /// Appends the text of the value. A refused call leaves the bytes as they were.
+    /// Appends the encoding of the value. On an error, the bytes are unchanged.
     ///
     /// # Proved
     ///
     /// ```text
-    /// ensures { Writes (E.text value.now) (E.fits value.now) (has_room self.old (length (E.text value.now))) (written self.old) (written self.new) result }
+    /// ensures { Writes (E.encoding value.now) (E.encodable value.now) (has_spare_capacity self.old (length (E.encoding value.now))) (written self.old) (written self.new) result }
     /// ```
-    fn append<E: Encode>(&mut self, value: &E) -> R<()>;
+    fn append<E: Encode>(&mut self, value: &E) -> Result<()>;
 
-    /// Appends a value, the vector of the elements, and another value. A refused call leaves the bytes as they were. Where the
-    /// length that the elements tell is too long, it answers `TooLong`; a `Vec` asks for none of them then, as tests show.
+    /// Appends a value, the elements as a vector, and another value. On an error, the bytes are
+    /// unchanged. If the length that the elements report exceeds 4294967295, the call returns
+    /// `TooLong`; a `Vec` then requests no element, as tests show.
     ///
     /// # Asks
     ///
@@ -40,28 +42,28 @@ pub trait Buffer {
     /// # Proved
     ///
     /// ```text
-    /// ensures { WritesVec V.into_iter_gives V.IntoIter.next_gives V.IntoIter.remaining T.fits T.text elements (S.fits before.now × U.fits after.now) (S.text before.now) (U.text after.now) (written self.old) (written self.new) result }
+    /// ensures { WritesVec V.into_iter_gives V.IntoIter.next_gives V.IntoIter.remaining T.encodable T.encoding elements (S.encodable before.now × U.encodable after.now) (S.encoding before.now) (U.encoding after.now) (written self.old) (written self.new) result }
     /// ```
     fn append_vec<S: Encode, T: Encode, V: IntoIterator<Item = T>, U: Encode>(
         &mut self,
         before: &S,
         elements: V,
         after: &U,
-    ) -> R<()>
+    ) -> Result<()>
     where
         V::IntoIter: ExactSizeIterator,;
 }
 
-/// The bytes of the vector.
+/// Appends to the vector itself.
 ///
 /// # Defined
 ///
 /// ```text
 /// written = { λ bytes. bytes.items }
-/// has_room = { λ bytes n. vec_len bytes + n ≤ vec_capacity bytes }
+/// has_spare_capacity = { λ bytes n. vec_len bytes + n ≤ vec_capacity bytes }
 /// ```
 impl<A: Sink> Buffer for A {
-    fn append<E: Encode>(&mut self, value: &E) -> R<()> {
+    fn append<E: Encode>(&mut self, value: &E) -> Result<()> {
         value.encode(self)
     }
 
@@ -70,7 +72,7 @@ impl<A: Sink> Buffer for A {
         before: &S,
         elements: V,
         after: &U,
-    ) -> R<()>
+    ) -> Result<()>
     where
         V::IntoIter: ExactSizeIterator,
     {
@@ -92,13 +94,18 @@ impl<A: Sink> Buffer for A {
     }
 }
 
-/// Writes instructions into a buffer that it borrows. A refused call leaves the buffer's bytes as they were.
+/// Appends instructions to a buffer that it borrows.
+///
+/// # Errors
+///
+/// A call that fails leaves the buffer's bytes unchanged. The error is `TooLong` only if a list is
+/// too long.
 pub struct InstructionSink<'a, B: Buffer> {
     sink: &'a mut B,
 }
 
 impl<'a, B: Buffer> InstructionSink<'a, B> {
-    /// A sink that writes into `sink`, after what it has.
+    /// Returns a sink that appends to `sink`.
     ///
     /// # Proved
     ///
@@ -110,139 +117,139 @@ impl<'a, B: Buffer> InstructionSink<'a, B> {
         InstructionSink { sink }
     }
 
-    /// Each call writes by this one, but `br_table`.
+    /// Appends one encoded instruction. Each call but `br_table` uses it.
     ///
     /// # Proved
     ///
     /// ```text
     /// ensures same_reference { self.new.sink.ghost_name ≡ self.old.sink.ghost_name }
-    /// ensures writes { Writes (E.text value.now) (E.fits value.now) (B.has_room self.old.sink.now (length (E.text value.now))) (B.written self.old.sink.now) (B.written self.new.sink.now) result }
+    /// ensures writes { Writes (E.encoding value.now) (E.encodable value.now) (B.has_spare_capacity self.old.sink.now (length (E.encoding value.now))) (B.written self.old.sink.now) (B.written self.new.sink.now) result }
     /// ```
-    fn emit<E: Encode>(&mut self, value: &E) -> R<()> {
+    fn emit<E: Encode>(&mut self, value: &E) -> Result<()> {
         self.sink.append(value)
     }
 
-    /// Appends the bytes of an op.
+    /// Appends an opcode.
     ///
     /// # Proved
     ///
     /// ```text
     /// ensures same_reference { self.new.sink.ghost_name ≡ self.old.sink.ghost_name }
-    /// ensures writes { Writes (op_text op) ⊤ (B.has_room self.old.sink.now (length (op_text op))) (B.written self.old.sink.now) (B.written self.new.sink.now) result }
+    /// ensures writes { Writes (op_encoding op) ⊤ (B.has_spare_capacity self.old.sink.now (length (op_encoding op))) (B.written self.old.sink.now) (B.written self.new.sink.now) result }
     /// ```
-    pub fn op(&mut self, op: Op) -> R<()> {
+    pub fn op(&mut self, op: Op) -> Result<()> {
         self.emit(&op)
     }
 
-    /// Appends the text of `Unreachable`.
+    /// Appends the encoding of `Unreachable`.
     ///
     /// # Proved
     ///
     /// ```text
     /// ensures same_reference { self.new.sink.ghost_name ≡ self.old.sink.ghost_name }
-    /// ensures writes { WritesInstruction B.written B.has_room Instruction.Unreachable self.old.sink.now self.new.sink.now result }
+    /// ensures writes { WritesInstruction B.written B.has_spare_capacity Instruction.Unreachable self.old.sink.now self.new.sink.now result }
     /// ```
-    pub fn unreachable(&mut self) -> R<()> {
+    pub fn unreachable(&mut self) -> Result<()> {
         self.emit(&0x00u8)
     }
 
-    /// Appends the text of `Nop`.
+    /// Appends the encoding of `Nop`.
     ///
     /// # Proved
     ///
     /// ```text
     /// ensures same_reference { self.new.sink.ghost_name ≡ self.old.sink.ghost_name }
-    /// ensures writes { WritesInstruction B.written B.has_room Instruction.Nop self.old.sink.now self.new.sink.now result }
+    /// ensures writes { WritesInstruction B.written B.has_spare_capacity Instruction.Nop self.old.sink.now self.new.sink.now result }
     /// ```
-    pub fn nop(&mut self) -> R<()> {
+    pub fn nop(&mut self) -> Result<()> {
         self.emit(&0x01u8)
     }
 
-    /// Appends the text of `Block`.
+    /// Appends the encoding of `Block`.
     ///
     /// # Proved
     ///
     /// ```text
     /// ensures same_reference { self.new.sink.ghost_name ≡ self.old.sink.ghost_name }
-    /// ensures writes { WritesInstruction B.written B.has_room (Instruction.Block block_type) self.old.sink.now self.new.sink.now result }
+    /// ensures writes { WritesInstruction B.written B.has_spare_capacity (Instruction.Block block_type) self.old.sink.now self.new.sink.now result }
     /// ```
-    pub fn block(&mut self, block_type: BlockType) -> R<()> {
+    pub fn block(&mut self, block_type: BlockType) -> Result<()> {
         self.emit(&(0x02u8, block_type))
     }
 
-    /// Appends the text of `Loop`.
+    /// Appends the encoding of `Loop`.
     ///
     /// # Proved
     ///
     /// ```text
     /// ensures same_reference { self.new.sink.ghost_name ≡ self.old.sink.ghost_name }
-    /// ensures writes { WritesInstruction B.written B.has_room (Instruction.Loop block_type) self.old.sink.now self.new.sink.now result }
+    /// ensures writes { WritesInstruction B.written B.has_spare_capacity (Instruction.Loop block_type) self.old.sink.now self.new.sink.now result }
     /// ```
-    pub fn loop_(&mut self, block_type: BlockType) -> R<()> {
+    pub fn loop_(&mut self, block_type: BlockType) -> Result<()> {
         self.emit(&(0x03u8, block_type))
     }
 
-    /// Appends the text of `If`.
+    /// Appends the encoding of `If`.
     ///
     /// # Proved
     ///
     /// ```text
     /// ensures same_reference { self.new.sink.ghost_name ≡ self.old.sink.ghost_name }
-    /// ensures writes { WritesInstruction B.written B.has_room (Instruction.If block_type) self.old.sink.now self.new.sink.now result }
+    /// ensures writes { WritesInstruction B.written B.has_spare_capacity (Instruction.If block_type) self.old.sink.now self.new.sink.now result }
     /// ```
-    pub fn if_(&mut self, block_type: BlockType) -> R<()> {
+    pub fn if_(&mut self, block_type: BlockType) -> Result<()> {
         self.emit(&(0x04u8, block_type))
     }
 
-    /// Appends the text of `Else`.
+    /// Appends the encoding of `Else`.
     ///
     /// # Proved
     ///
     /// ```text
     /// ensures same_reference { self.new.sink.ghost_name ≡ self.old.sink.ghost_name }
-    /// ensures writes { WritesInstruction B.written B.has_room Instruction.Else self.old.sink.now self.new.sink.now result }
+    /// ensures writes { WritesInstruction B.written B.has_spare_capacity Instruction.Else self.old.sink.now self.new.sink.now result }
     /// ```
-    pub fn else_(&mut self) -> R<()> {
+    pub fn else_(&mut self) -> Result<()> {
         self.emit(&0x05u8)
     }
 
-    /// Appends the text of `End`.
+    /// Appends the encoding of `End`.
     ///
     /// # Proved
     ///
     /// ```text
     /// ensures same_reference { self.new.sink.ghost_name ≡ self.old.sink.ghost_name }
-    /// ensures writes { WritesInstruction B.written B.has_room Instruction.End self.old.sink.now self.new.sink.now result }
+    /// ensures writes { WritesInstruction B.written B.has_spare_capacity Instruction.End self.old.sink.now self.new.sink.now result }
     /// ```
-    pub fn end(&mut self) -> R<()> {
+    pub fn end(&mut self) -> Result<()> {
         self.emit(&0x0Bu8)
     }
 
-    /// Appends the text of `Br`.
+    /// Appends the encoding of `Br`.
     ///
     /// # Proved
     ///
     /// ```text
     /// ensures same_reference { self.new.sink.ghost_name ≡ self.old.sink.ghost_name }
-    /// ensures writes { WritesInstruction B.written B.has_room (Instruction.Br label) self.old.sink.now self.new.sink.now result }
+    /// ensures writes { WritesInstruction B.written B.has_spare_capacity (Instruction.Br label) self.old.sink.now self.new.sink.now result }
     /// ```
-    pub fn br(&mut self, label: u32) -> R<()> {
+    pub fn br(&mut self, label: u32) -> Result<()> {
         self.emit(&(0x0Cu8, label))
     }
 
-    /// Appends the text of `BrIf`.
+    /// Appends the encoding of `BrIf`.
     ///
     /// # Proved
     ///
     /// ```text
     /// ensures same_reference { self.new.sink.ghost_name ≡ self.old.sink.ghost_name }
-    /// ensures writes { WritesInstruction B.written B.has_room (Instruction.BrIf label) self.old.sink.now self.new.sink.now result }
+    /// ensures writes { WritesInstruction B.written B.has_spare_capacity (Instruction.BrIf label) self.old.sink.now self.new.sink.now result }
     /// ```
-    pub fn br_if(&mut self, label: u32) -> R<()> {
+    pub fn br_if(&mut self, label: u32) -> Result<()> {
         self.emit(&(0x0Du8, label))
     }
 
-    /// Appends the text of `BrTable`, of the labels that are given and the default one.
+    /// Appends the encoding of `BrTable`, with these labels and this default label.
     ///
     /// # Asks
     ///
@@ -256,382 +263,382 @@ impl<'a, B: Buffer> InstructionSink<'a, B> {
     /// ensures same_reference { self.new.sink.ghost_name ≡ self.old.sink.ghost_name }
     /// ensures writes { WritesLabels V.into_iter_gives V.IntoIter.next_gives V.IntoIter.remaining labels default (B.written self.old.sink.now) (B.written self.new.sink.now) result }
     /// ```
-    pub fn br_table<V: IntoIterator<Item = u32>>(&mut self, labels: V, default: u32) -> R<()>
+    pub fn br_table<V: IntoIterator<Item = u32>>(&mut self, labels: V, default: u32) -> Result<()>
     where
         V::IntoIter: ExactSizeIterator,
     {
         self.sink.append_vec(&0x0Eu8, labels, &default)
     }
 
-    /// Appends the text of `Return`.
+    /// Appends the encoding of `Return`.
     ///
     /// # Proved
     ///
     /// ```text
     /// ensures same_reference { self.new.sink.ghost_name ≡ self.old.sink.ghost_name }
-    /// ensures writes { WritesInstruction B.written B.has_room Instruction.Return self.old.sink.now self.new.sink.now result }
+    /// ensures writes { WritesInstruction B.written B.has_spare_capacity Instruction.Return self.old.sink.now self.new.sink.now result }
     /// ```
-    pub fn return_(&mut self) -> R<()> {
+    pub fn return_(&mut self) -> Result<()> {
         self.emit(&0x0Fu8)
     }
 
-    /// Appends the text of `Call`.
+    /// Appends the encoding of `Call`.
     ///
     /// # Proved
     ///
     /// ```text
     /// ensures same_reference { self.new.sink.ghost_name ≡ self.old.sink.ghost_name }
-    /// ensures writes { WritesInstruction B.written B.has_room (Instruction.Call function_index) self.old.sink.now self.new.sink.now result }
+    /// ensures writes { WritesInstruction B.written B.has_spare_capacity (Instruction.Call function_index) self.old.sink.now self.new.sink.now result }
     /// ```
-    pub fn call(&mut self, function_index: u32) -> R<()> {
+    pub fn call(&mut self, function_index: u32) -> Result<()> {
         self.emit(&(0x10u8, function_index))
     }
 
-    /// Appends the text of `CallIndirect`.
+    /// Appends the encoding of `CallIndirect`.
     ///
     /// # Proved
     ///
     /// ```text
     /// ensures same_reference { self.new.sink.ghost_name ≡ self.old.sink.ghost_name }
-    /// ensures writes { WritesInstruction B.written B.has_room (Instruction.CallIndirect type_index table_index) self.old.sink.now self.new.sink.now result }
+    /// ensures writes { WritesInstruction B.written B.has_spare_capacity (Instruction.CallIndirect type_index table_index) self.old.sink.now self.new.sink.now result }
     /// ```
-    pub fn call_indirect(&mut self, table_index: u32, type_index: u32) -> R<()> {
+    pub fn call_indirect(&mut self, table_index: u32, type_index: u32) -> Result<()> {
         self.emit(&(0x11u8, type_index, table_index))
     }
 
-    /// Appends the text of `Drop`.
+    /// Appends the encoding of `Drop`.
     ///
     /// # Proved
     ///
     /// ```text
     /// ensures same_reference { self.new.sink.ghost_name ≡ self.old.sink.ghost_name }
-    /// ensures writes { WritesInstruction B.written B.has_room Instruction.Drop self.old.sink.now self.new.sink.now result }
+    /// ensures writes { WritesInstruction B.written B.has_spare_capacity Instruction.Drop self.old.sink.now self.new.sink.now result }
     /// ```
-    pub fn drop_(&mut self) -> R<()> {
+    pub fn drop_(&mut self) -> Result<()> {
         self.emit(&0x1Au8)
     }
 
-    /// Appends the text of `Select`.
+    /// Appends the encoding of `Select`.
     ///
     /// # Proved
     ///
     /// ```text
     /// ensures same_reference { self.new.sink.ghost_name ≡ self.old.sink.ghost_name }
-    /// ensures writes { WritesInstruction B.written B.has_room Instruction.Select self.old.sink.now self.new.sink.now result }
+    /// ensures writes { WritesInstruction B.written B.has_spare_capacity Instruction.Select self.old.sink.now self.new.sink.now result }
     /// ```
-    pub fn select(&mut self) -> R<()> {
+    pub fn select(&mut self) -> Result<()> {
         self.emit(&0x1Bu8)
     }
 
-    /// Appends the text of `TypedSelect`.
+    /// Appends the encoding of `TypedSelect`.
     ///
     /// # Proved
     ///
     /// ```text
     /// ensures same_reference { self.new.sink.ghost_name ≡ self.old.sink.ghost_name }
-    /// ensures writes { WritesInstruction B.written B.has_room (Instruction.TypedSelect ty) self.old.sink.now self.new.sink.now result }
+    /// ensures writes { WritesInstruction B.written B.has_spare_capacity (Instruction.TypedSelect ty) self.old.sink.now self.new.sink.now result }
     /// ```
-    pub fn typed_select(&mut self, ty: ValType) -> R<()> {
+    pub fn typed_select(&mut self, ty: ValType) -> Result<()> {
         self.emit(&(0x1Cu8, slice::from_ref(&ty)))
     }
 
-    /// Appends the text of `TypedSelectMulti`.
+    /// Appends the encoding of `TypedSelectMulti`.
     ///
     /// # Proved
     ///
     /// ```text
     /// ensures same_reference { self.new.sink.ghost_name ≡ self.old.sink.ghost_name }
-    /// ensures writes { WritesInstruction B.written B.has_room (Instruction.TypedSelectMulti (CowSlice.Borrowed types.entry)) self.old.sink.now self.new.sink.now result }
+    /// ensures writes { WritesInstruction B.written B.has_spare_capacity (Instruction.TypedSelectMulti (CowSlice.Borrowed types.entry)) self.old.sink.now self.new.sink.now result }
     /// ```
-    pub fn typed_select_multi(&mut self, types: &[ValType]) -> R<()> {
+    pub fn typed_select_multi(&mut self, types: &[ValType]) -> Result<()> {
         self.emit(&(0x1Cu8, types))
     }
 
-    /// Appends the text of `LocalGet`.
+    /// Appends the encoding of `LocalGet`.
     ///
     /// # Proved
     ///
     /// ```text
     /// ensures same_reference { self.new.sink.ghost_name ≡ self.old.sink.ghost_name }
-    /// ensures writes { WritesInstruction B.written B.has_room (Instruction.LocalGet index) self.old.sink.now self.new.sink.now result }
+    /// ensures writes { WritesInstruction B.written B.has_spare_capacity (Instruction.LocalGet index) self.old.sink.now self.new.sink.now result }
     /// ```
-    pub fn local_get(&mut self, index: u32) -> R<()> {
+    pub fn local_get(&mut self, index: u32) -> Result<()> {
         self.emit(&(0x20u8, index))
     }
 
-    /// Appends the text of `LocalSet`.
+    /// Appends the encoding of `LocalSet`.
     ///
     /// # Proved
     ///
     /// ```text
     /// ensures same_reference { self.new.sink.ghost_name ≡ self.old.sink.ghost_name }
-    /// ensures writes { WritesInstruction B.written B.has_room (Instruction.LocalSet index) self.old.sink.now self.new.sink.now result }
+    /// ensures writes { WritesInstruction B.written B.has_spare_capacity (Instruction.LocalSet index) self.old.sink.now self.new.sink.now result }
     /// ```
-    pub fn local_set(&mut self, index: u32) -> R<()> {
+    pub fn local_set(&mut self, index: u32) -> Result<()> {
         self.emit(&(0x21u8, index))
     }
 
-    /// Appends the text of `LocalTee`.
+    /// Appends the encoding of `LocalTee`.
     ///
     /// # Proved
     ///
     /// ```text
     /// ensures same_reference { self.new.sink.ghost_name ≡ self.old.sink.ghost_name }
-    /// ensures writes { WritesInstruction B.written B.has_room (Instruction.LocalTee index) self.old.sink.now self.new.sink.now result }
+    /// ensures writes { WritesInstruction B.written B.has_spare_capacity (Instruction.LocalTee index) self.old.sink.now self.new.sink.now result }
     /// ```
-    pub fn local_tee(&mut self, index: u32) -> R<()> {
+    pub fn local_tee(&mut self, index: u32) -> Result<()> {
         self.emit(&(0x22u8, index))
     }
 
-    /// Appends the text of `GlobalGet`.
+    /// Appends the encoding of `GlobalGet`.
     ///
     /// # Proved
     ///
     /// ```text
     /// ensures same_reference { self.new.sink.ghost_name ≡ self.old.sink.ghost_name }
-    /// ensures writes { WritesInstruction B.written B.has_room (Instruction.GlobalGet index) self.old.sink.now self.new.sink.now result }
+    /// ensures writes { WritesInstruction B.written B.has_spare_capacity (Instruction.GlobalGet index) self.old.sink.now self.new.sink.now result }
     /// ```
-    pub fn global_get(&mut self, index: u32) -> R<()> {
+    pub fn global_get(&mut self, index: u32) -> Result<()> {
         self.emit(&(0x23u8, index))
     }
 
-    /// Appends the text of `GlobalSet`.
+    /// Appends the encoding of `GlobalSet`.
     ///
     /// # Proved
     ///
     /// ```text
     /// ensures same_reference { self.new.sink.ghost_name ≡ self.old.sink.ghost_name }
-    /// ensures writes { WritesInstruction B.written B.has_room (Instruction.GlobalSet index) self.old.sink.now self.new.sink.now result }
+    /// ensures writes { WritesInstruction B.written B.has_spare_capacity (Instruction.GlobalSet index) self.old.sink.now self.new.sink.now result }
     /// ```
-    pub fn global_set(&mut self, index: u32) -> R<()> {
+    pub fn global_set(&mut self, index: u32) -> Result<()> {
         self.emit(&(0x24u8, index))
     }
 
-    /// Appends the text of `I32Load`.
+    /// Appends the encoding of `I32Load`.
     ///
     /// # Proved
     ///
     /// ```text
     /// ensures same_reference { self.new.sink.ghost_name ≡ self.old.sink.ghost_name }
-    /// ensures writes { WritesInstruction B.written B.has_room (Instruction.I32Load memarg) self.old.sink.now self.new.sink.now result }
+    /// ensures writes { WritesInstruction B.written B.has_spare_capacity (Instruction.I32Load memarg) self.old.sink.now self.new.sink.now result }
     /// ```
-    pub fn i32_load(&mut self, memarg: MemArg) -> R<()> {
+    pub fn i32_load(&mut self, memarg: MemArg) -> Result<()> {
         self.emit(&(0x28u8, memarg))
     }
 
-    /// Appends the text of `I32Store`.
+    /// Appends the encoding of `I32Store`.
     ///
     /// # Proved
     ///
     /// ```text
     /// ensures same_reference { self.new.sink.ghost_name ≡ self.old.sink.ghost_name }
-    /// ensures writes { WritesInstruction B.written B.has_room (Instruction.I32Store memarg) self.old.sink.now self.new.sink.now result }
+    /// ensures writes { WritesInstruction B.written B.has_spare_capacity (Instruction.I32Store memarg) self.old.sink.now self.new.sink.now result }
     /// ```
-    pub fn i32_store(&mut self, memarg: MemArg) -> R<()> {
+    pub fn i32_store(&mut self, memarg: MemArg) -> Result<()> {
         self.emit(&(0x36u8, memarg))
     }
 
-    /// Appends the text of `MemorySize`.
+    /// Appends the encoding of `MemorySize`.
     ///
     /// # Proved
     ///
     /// ```text
     /// ensures same_reference { self.new.sink.ghost_name ≡ self.old.sink.ghost_name }
-    /// ensures writes { WritesInstruction B.written B.has_room (Instruction.MemorySize memory) self.old.sink.now self.new.sink.now result }
+    /// ensures writes { WritesInstruction B.written B.has_spare_capacity (Instruction.MemorySize memory) self.old.sink.now self.new.sink.now result }
     /// ```
-    pub fn memory_size(&mut self, memory: u32) -> R<()> {
+    pub fn memory_size(&mut self, memory: u32) -> Result<()> {
         self.emit(&(0x3Fu8, memory))
     }
 
-    /// Appends the text of `MemoryGrow`.
+    /// Appends the encoding of `MemoryGrow`.
     ///
     /// # Proved
     ///
     /// ```text
     /// ensures same_reference { self.new.sink.ghost_name ≡ self.old.sink.ghost_name }
-    /// ensures writes { WritesInstruction B.written B.has_room (Instruction.MemoryGrow memory) self.old.sink.now self.new.sink.now result }
+    /// ensures writes { WritesInstruction B.written B.has_spare_capacity (Instruction.MemoryGrow memory) self.old.sink.now self.new.sink.now result }
     /// ```
-    pub fn memory_grow(&mut self, memory: u32) -> R<()> {
+    pub fn memory_grow(&mut self, memory: u32) -> Result<()> {
         self.emit(&(0x40u8, memory))
     }
 
-    /// Appends the text of `I32Const`.
+    /// Appends the encoding of `I32Const`.
     ///
     /// # Proved
     ///
     /// ```text
     /// ensures same_reference { self.new.sink.ghost_name ≡ self.old.sink.ghost_name }
-    /// ensures writes { WritesInstruction B.written B.has_room (Instruction.I32Const value) self.old.sink.now self.new.sink.now result }
+    /// ensures writes { WritesInstruction B.written B.has_spare_capacity (Instruction.I32Const value) self.old.sink.now self.new.sink.now result }
     /// ```
-    pub fn i32_const(&mut self, value: i32) -> R<()> {
+    pub fn i32_const(&mut self, value: i32) -> Result<()> {
         self.emit(&(0x41u8, value))
     }
 
-    /// Appends the text of `I64Const`.
+    /// Appends the encoding of `I64Const`.
     ///
     /// # Proved
     ///
     /// ```text
     /// ensures same_reference { self.new.sink.ghost_name ≡ self.old.sink.ghost_name }
-    /// ensures writes { WritesInstruction B.written B.has_room (Instruction.I64Const value) self.old.sink.now self.new.sink.now result }
+    /// ensures writes { WritesInstruction B.written B.has_spare_capacity (Instruction.I64Const value) self.old.sink.now self.new.sink.now result }
     /// ```
-    pub fn i64_const(&mut self, value: i64) -> R<()> {
+    pub fn i64_const(&mut self, value: i64) -> Result<()> {
         self.emit(&(0x42u8, value))
     }
 
-    /// Appends the text of `F32Const`.
+    /// Appends the encoding of `F32Const`.
     ///
     /// # Proved
     ///
     /// ```text
     /// ensures same_reference { self.new.sink.ghost_name ≡ self.old.sink.ghost_name }
-    /// ensures writes { WritesInstruction B.written B.has_room (Instruction.F32Const value) self.old.sink.now self.new.sink.now result }
+    /// ensures writes { WritesInstruction B.written B.has_spare_capacity (Instruction.F32Const value) self.old.sink.now self.new.sink.now result }
     /// ```
-    pub fn f32_const(&mut self, value: Ieee32) -> R<()> {
+    pub fn f32_const(&mut self, value: Ieee32) -> Result<()> {
         self.emit(&(0x43u8, value))
     }
 
-    /// Appends the text of `F64Const`.
+    /// Appends the encoding of `F64Const`.
     ///
     /// # Proved
     ///
     /// ```text
     /// ensures same_reference { self.new.sink.ghost_name ≡ self.old.sink.ghost_name }
-    /// ensures writes { WritesInstruction B.written B.has_room (Instruction.F64Const value) self.old.sink.now self.new.sink.now result }
+    /// ensures writes { WritesInstruction B.written B.has_spare_capacity (Instruction.F64Const value) self.old.sink.now self.new.sink.now result }
     /// ```
-    pub fn f64_const(&mut self, value: Ieee64) -> R<()> {
+    pub fn f64_const(&mut self, value: Ieee64) -> Result<()> {
         self.emit(&(0x44u8, value))
     }
 
-    /// Appends the text of `V128Const`.
+    /// Appends the encoding of `V128Const`.
     ///
     /// # Proved
     ///
     /// ```text
     /// ensures same_reference { self.new.sink.ghost_name ≡ self.old.sink.ghost_name }
-    /// ensures writes { WritesInstruction B.written B.has_room (Instruction.VectorImmediate (VectorImmediate.V128Const value)) self.old.sink.now self.new.sink.now result }
+    /// ensures writes { WritesInstruction B.written B.has_spare_capacity (Instruction.VectorImmediate (VectorImmediate.V128Const value)) self.old.sink.now self.new.sink.now result }
     /// ```
-    pub fn v128_const(&mut self, value: i128) -> R<()> {
+    pub fn v128_const(&mut self, value: i128) -> Result<()> {
         self.emit(&(0xFDu8, 12u32, vector_bytes(value)))
     }
 
-    /// Appends the text of `I32Eqz`.
+    /// Appends the encoding of `I32Eqz`.
     ///
     /// # Proved
     ///
     /// ```text
     /// ensures same_reference { self.new.sink.ghost_name ≡ self.old.sink.ghost_name }
-    /// ensures writes { WritesInstruction B.written B.has_room (Instruction.Numeric Numeric.I32Eqz) self.old.sink.now self.new.sink.now result }
+    /// ensures writes { WritesInstruction B.written B.has_spare_capacity (Instruction.Numeric Numeric.I32Eqz) self.old.sink.now self.new.sink.now result }
     /// ```
-    pub fn i32_eqz(&mut self) -> R<()> {
+    pub fn i32_eqz(&mut self) -> Result<()> {
         self.emit(&0x45u8)
     }
 
-    /// Appends the text of `I32Add`.
+    /// Appends the encoding of `I32Add`.
     ///
     /// # Proved
     ///
     /// ```text
     /// ensures same_reference { self.new.sink.ghost_name ≡ self.old.sink.ghost_name }
-    /// ensures writes { WritesInstruction B.written B.has_room (Instruction.Numeric Numeric.I32Add) self.old.sink.now self.new.sink.now result }
+    /// ensures writes { WritesInstruction B.written B.has_spare_capacity (Instruction.Numeric Numeric.I32Add) self.old.sink.now self.new.sink.now result }
     /// ```
-    pub fn i32_add(&mut self) -> R<()> {
+    pub fn i32_add(&mut self) -> Result<()> {
         self.emit(&0x6Au8)
     }
 
-    /// Appends the text of `I32Sub`.
+    /// Appends the encoding of `I32Sub`.
     ///
     /// # Proved
     ///
     /// ```text
     /// ensures same_reference { self.new.sink.ghost_name ≡ self.old.sink.ghost_name }
-    /// ensures writes { WritesInstruction B.written B.has_room (Instruction.Numeric Numeric.I32Sub) self.old.sink.now self.new.sink.now result }
+    /// ensures writes { WritesInstruction B.written B.has_spare_capacity (Instruction.Numeric Numeric.I32Sub) self.old.sink.now self.new.sink.now result }
     /// ```
-    pub fn i32_sub(&mut self) -> R<()> {
+    pub fn i32_sub(&mut self) -> Result<()> {
         self.emit(&0x6Bu8)
     }
 
-    /// Appends the text of `I32Mul`.
+    /// Appends the encoding of `I32Mul`.
     ///
     /// # Proved
     ///
     /// ```text
     /// ensures same_reference { self.new.sink.ghost_name ≡ self.old.sink.ghost_name }
-    /// ensures writes { WritesInstruction B.written B.has_room (Instruction.Numeric Numeric.I32Mul) self.old.sink.now self.new.sink.now result }
+    /// ensures writes { WritesInstruction B.written B.has_spare_capacity (Instruction.Numeric Numeric.I32Mul) self.old.sink.now self.new.sink.now result }
     /// ```
-    pub fn i32_mul(&mut self) -> R<()> {
+    pub fn i32_mul(&mut self) -> Result<()> {
         self.emit(&0x6Cu8)
     }
 
-    /// Appends the text of `I64Add`.
+    /// Appends the encoding of `I64Add`.
     ///
     /// # Proved
     ///
     /// ```text
     /// ensures same_reference { self.new.sink.ghost_name ≡ self.old.sink.ghost_name }
-    /// ensures writes { WritesInstruction B.written B.has_room (Instruction.Numeric Numeric.I64Add) self.old.sink.now self.new.sink.now result }
+    /// ensures writes { WritesInstruction B.written B.has_spare_capacity (Instruction.Numeric Numeric.I64Add) self.old.sink.now self.new.sink.now result }
     /// ```
-    pub fn i64_add(&mut self) -> R<()> {
+    pub fn i64_add(&mut self) -> Result<()> {
         self.emit(&0x7Cu8)
     }
 
-    /// Appends the text of `I64Sub`.
+    /// Appends the encoding of `I64Sub`.
     ///
     /// # Proved
     ///
     /// ```text
     /// ensures same_reference { self.new.sink.ghost_name ≡ self.old.sink.ghost_name }
-    /// ensures writes { WritesInstruction B.written B.has_room (Instruction.Numeric Numeric.I64Sub) self.old.sink.now self.new.sink.now result }
+    /// ensures writes { WritesInstruction B.written B.has_spare_capacity (Instruction.Numeric Numeric.I64Sub) self.old.sink.now self.new.sink.now result }
     /// ```
-    pub fn i64_sub(&mut self) -> R<()> {
+    pub fn i64_sub(&mut self) -> Result<()> {
         self.emit(&0x7Du8)
     }
 
-    /// Appends the text of `I64Mul`.
+    /// Appends the encoding of `I64Mul`.
     ///
     /// # Proved
     ///
     /// ```text
     /// ensures same_reference { self.new.sink.ghost_name ≡ self.old.sink.ghost_name }
-    /// ensures writes { WritesInstruction B.written B.has_room (Instruction.Numeric Numeric.I64Mul) self.old.sink.now self.new.sink.now result }
+    /// ensures writes { WritesInstruction B.written B.has_spare_capacity (Instruction.Numeric Numeric.I64Mul) self.old.sink.now self.new.sink.now result }
     /// ```
-    pub fn i64_mul(&mut self) -> R<()> {
+    pub fn i64_mul(&mut self) -> Result<()> {
         self.emit(&0x7Eu8)
     }
 
-    /// Appends the text of `RefNull`.
+    /// Appends the encoding of `RefNull`.
     ///
     /// # Proved
     ///
     /// ```text
     /// ensures same_reference { self.new.sink.ghost_name ≡ self.old.sink.ghost_name }
-    /// ensures writes { WritesInstruction B.written B.has_room (Instruction.RefNull ty) self.old.sink.now self.new.sink.now result }
+    /// ensures writes { WritesInstruction B.written B.has_spare_capacity (Instruction.RefNull ty) self.old.sink.now self.new.sink.now result }
     /// ```
-    pub fn ref_null(&mut self, ty: HeapType) -> R<()> {
+    pub fn ref_null(&mut self, ty: HeapType) -> Result<()> {
         self.emit(&(0xD0u8, ty))
     }
 
-    /// Appends the text of `RefIsNull`.
+    /// Appends the encoding of `RefIsNull`.
     ///
     /// # Proved
     ///
     /// ```text
     /// ensures same_reference { self.new.sink.ghost_name ≡ self.old.sink.ghost_name }
-    /// ensures writes { WritesInstruction B.written B.has_room Instruction.RefIsNull self.old.sink.now self.new.sink.now result }
+    /// ensures writes { WritesInstruction B.written B.has_spare_capacity Instruction.RefIsNull self.old.sink.now self.new.sink.now result }
     /// ```
-    pub fn ref_is_null(&mut self) -> R<()> {
+    pub fn ref_is_null(&mut self) -> Result<()> {
         self.emit(&0xD1u8)
     }
 
-    /// Appends the text of `RefFunc`.
+    /// Appends the encoding of `RefFunc`.
     ///
     /// # Proved
     ///
     /// ```text
     /// ensures same_reference { self.new.sink.ghost_name ≡ self.old.sink.ghost_name }
-    /// ensures writes { WritesInstruction B.written B.has_room (Instruction.RefFunc function_index) self.old.sink.now self.new.sink.now result }
+    /// ensures writes { WritesInstruction B.written B.has_spare_capacity (Instruction.RefFunc function_index) self.old.sink.now self.new.sink.now result }
     /// ```
-    pub fn ref_func(&mut self, function_index: u32) -> R<()> {
+    pub fn ref_func(&mut self, function_index: u32) -> Result<()> {
         self.emit(&(0xD2u8, function_index))
     }
 }

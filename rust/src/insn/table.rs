@@ -1,13 +1,14 @@
 // Written by tools/to-rust from crates/wasm_insn/src/table.rt: change that.
-// The shape of each op of the table.
+// The opcode table: the shape of each opcode.
 
 use crate::insn::op::{Op, Shape};
 
-/// Ops after a prefix that follow one another and have one shape: the first number, the last one, and the shape.
+/// Consecutive opcodes after a prefix that have one shape: the first number, the last one, and the
+/// shape.
 #[derive(Clone, Copy)]
 pub(crate) struct Run(u32, u32, Shape);
 
-/// The shapes of one-byte ops, each at its op's place: eight places a line.
+/// The shapes of one-byte opcodes, indexed by opcode, eight a line.
 static ONE_BYTE: [Option<Shape>; 256] = [
     Some(Shape::Nothing), Some(Shape::Nothing), Some(Shape::B), Some(Shape::B), Some(Shape::B), Some(Shape::Nothing), Some(Shape::B), Some(Shape::U),
     Some(Shape::U), Some(Shape::U), Some(Shape::Nothing), Some(Shape::Nothing), Some(Shape::U), Some(Shape::U), Some(Shape::Bt), Some(Shape::Nothing),
@@ -112,7 +113,7 @@ static AFTER_FE: [Run; 8] = [
     Run(0x72, 0x72, Shape::Nothing),
 ];
 
-/// The shape of the op of this number among the runs.
+/// Returns the shape of the opcode of this number among the runs.
 ///
 /// # Proved
 ///
@@ -126,7 +127,7 @@ fn find_shape(runs: &[Run], number: u32) -> Option<Shape> {
         .map(|run| run.2)
 }
 
-/// The shape of the one-byte op.
+/// Returns the shape of the one-byte opcode.
 ///
 /// # Proved
 ///
@@ -139,7 +140,7 @@ fn byte_shape(byte: u8) -> Option<Shape> {
 }
 
 impl Op {
-    /// The shape of the op's row, where the table has one.
+    /// Returns the shape of the opcode, or `None` if the table has no row for it.
     ///
     /// # Proved
     ///

@@ -3,15 +3,15 @@
 
 use crate::vec::Sink;
 use crate::insn::op::Op;
-use crate::base::{Encode, R};
+use crate::base::{Encode, Result};
 use crate::immediates::{Lane, MemArg};
 
-/// The bytes of a vector, the least first.
+/// Returns the bytes of a vector, little-endian.
 ///
 /// # Proved
 ///
 /// ```text
-/// ensures { result ≡ vector_text value }
+/// ensures { result ≡ vector_encoding value }
 /// ```
 pub(crate) fn vector_bytes(value: i128) -> [u8; 16] {
     value.to_le_bytes()
@@ -61,7 +61,7 @@ pub enum VectorImmediate {
 }
 
 impl VectorImmediate {
-    /// The op of the table.
+    /// Returns the opcode, as in the opcode table.
     ///
     /// # Proved
     ///
@@ -111,14 +111,14 @@ impl VectorImmediate {
         }
     }
 
-    /// Appends what follows the op.
+    /// Appends the immediates.
     ///
     /// # Proved
     ///
     /// ```text
-    /// ensures { Appends (arguments_text (vector_immediate_row self).arguments) (arguments_fit (vector_immediate_row self).arguments) sink.old sink.new result }
+    /// ensures { Appends (arguments_encoding (vector_immediate_row self).arguments) (arguments_encodable (vector_immediate_row self).arguments) sink.old sink.new result }
     /// ```
-    pub(crate) fn encode_arguments<A: Sink>(self, sink: &mut A) -> R<()> {
+    pub(crate) fn encode_arguments<A: Sink>(self, sink: &mut A) -> Result<()> {
         match self {
             VectorImmediate::V128Load(a)
             | VectorImmediate::V128Load8x8S(a)

@@ -1,23 +1,22 @@
 // Written by tools/to-rust from crates/wasm_reader/src/counts.rt: change that.
-// Items, counted as they are gone over: none is kept.
+// Counts the items of a section without keeping them.
 
 use crate::alloc::Allocator;
-use crate::reader::base::{Passed, ReadFault, pass_many};
+use crate::reader::base::{ReadFault, Skip, skip_many};
 
-/// How many values there are behind their number, which all of the bytes spell.
+/// Skips the members of a vector that occupies all of the bytes, and returns their number.
 ///
 /// # Proved
 ///
 /// ```text
-/// ensures found { IfOk result (λ count. (xs : List P.Value) × vec P.format wide bytes.now xs × (count ≡ Some (length xs))) }
-/// ensures none { IfErr result (λ e. e ≢ Memory → FillsNothing (vec P.format) bytes.now) }
+/// ensures found { IfOk result (λ count. (xs : List P.Value) × vec P.format padded bytes.now xs × (count ≡ Some (length xs))) }
+/// ensures none { IfErr result (λ e. e ≢ Memory → RejectsWhole (vec P.format) bytes.now) }
 /// ```
-pub(crate) fn count_passed<'a, P: Passed<'a, A>, A: Allocator + Copy>(
+pub(crate) fn count_skipped<'a, P: Skip<'a, A>, A: Allocator + Copy>(
     bytes: &'a [u8],
     alloc: A,
 ) -> Result<Option<u32>, ReadFault> {
-    let (count, rest) = pass_many::<'a, P, A>(bytes, alloc)?;
-    P::laws();
+    let (count, rest) = skip_many::<'a, P, A>(bytes, alloc)?;
     P::laws();
     if rest.is_empty() {
         Ok(Some(count))

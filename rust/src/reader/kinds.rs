@@ -1,20 +1,20 @@
 // Written by tools/to-rust from crates/wasm_reader/src/kinds.rt: change that.
-// Kinds of sections: what each is read as, and how it is written in fewest bytes.
+// Kinds of sections: the reader and the minimizer of each.
 
 use crate::vec::{Sink, Vec};
-use crate::reader::counts::count_passed;
+use crate::reader::counts::count_skipped;
 use crate::alloc::{Allocator, Global};
-use crate::base::{Encode, R};
+use crate::base::{Encode, Result};
 use crate::custom::{BranchHint, CoreFrame, LinkItem, NameItem, append_hints, append_instances, append_links, append_modules, append_names, append_process, append_producers, append_stack, read_hints, read_instances, read_links, read_modules, read_names, read_process, read_producers, read_stack};
 use crate::reader::base::{Dropped, ReadFault, Readable, Shorten, read_whole};
 use crate::reader::insn::Body;
-use crate::sections::{ElementItem, Export, GlobalItem, Imports, MemoryType, PassedImports, Segment, TableItem, TagType, append_imports, read_imports, read_segments};
+use crate::sections::{ElementItem, Export, GlobalItem, Imports, MemoryType, Segment, TableItem, TagType, append_imports, read_imports, read_segments};
 use crate::types::{TypeEntry, append_types, read_types};
 
-/// What a section is read as.
+/// A kind of section, which selects the reader of its payload.
 #[derive(Clone, Copy, PartialEq, Eq, Debug)]
 pub enum SectionKind {
-    /// The code section: functions' bodies.
+    /// The code section: function bodies.
     Bodies,
     /// The data section.
     Segments,
@@ -28,21 +28,21 @@ pub enum SectionKind {
     Start,
     Tables,
     Tags,
-    /// The name section: names of the module and of its parts.
+    /// The name section: names of the module and of its items.
     Names,
     /// The linking section: symbols, and the architecture of the target.
     Linking,
-    /// The producers section: which tools made the module.
+    /// The producers section: the tools that produced the module.
     Producers,
     /// The branch hint section.
     Hints,
-    /// Of a core dump: the process.
+    /// The process section of a core dump.
     Core,
-    /// Of a core dump: the modules of the process.
+    /// The modules section of a core dump.
     CoreModules,
-    /// Of a core dump: the instances of the process.
+    /// The instances section of a core dump.
     CoreInstances,
-    /// Of a core dump: the stack of a thread.
+    /// The stack section of a core dump: the stack of a thread.
     CoreStack,
     /// A custom section of any name.
     Custom,
@@ -52,7 +52,8 @@ pub enum SectionKind {
 }
 
 impl SectionKind {
-    /// The kind of this number, in the order of the enum's declaration, as C callers number them.
+    /// Returns the kind of this number, in the order of the enum's declaration. C callers use these
+    /// numbers.
     ///
     /// # Proved
     ///
@@ -89,7 +90,8 @@ impl SectionKind {
     }
 }
 
-/// The items of a section. Names, data and raw parts are slices of the input; lists are in memory of the allocator.
+/// The decoded items of a section. Names, data and raw bytes are slices of the input; lists are in
+/// memory of the allocator.
 #[derive(Debug)]
 pub enum Items<'a, A: Allocator = Global> {
     Bodies(Vec<Body<A>, A>),
@@ -100,7 +102,7 @@ pub enum Items<'a, A: Allocator = Global> {
     /// The indices of the functions' types.
     Functions(Vec<u32, A>),
     Globals(Vec<GlobalItem<A>, A>),
-    /// Imports and groups of them, whose lists are owned.
+    /// Imports and groups of imports, whose lists are owned.
     Imports(Vec<Imports<'a, A>, A>),
     Memories(Vec<MemoryType, A>),
     /// The index of a function.
@@ -109,15 +111,15 @@ pub enum Items<'a, A: Allocator = Global> {
     Tags(Vec<TagType, A>),
     Names(Vec<NameItem<'a, A>, A>),
     Linking(Vec<LinkItem<'a, A>, A>),
-    /// The name of each field, and its values: a name and a version each.
+    /// The name of each field, and its values, which are a name and a version.
     Producers(Vec<(&'a str, Vec<(&'a str, &'a str), A>), A>),
-    /// The index of each function that has hints, and these.
+    /// The index of each function with hints, and its hints.
     Hints(Vec<(u32, Vec<BranchHint, A>), A>),
     /// The name of the process.
     Core(&'a str),
     /// The names of the modules.
     CoreModules(Vec<&'a str, A>),
-    /// The index of its module, the memories and the globals of each instance.
+    /// For each instance the index of its module, its memories and its globals.
     CoreInstances(Vec<(u32, Vec<u32, A>, Vec<u32, A>), A>),
     /// The name of the thread, and the frames of its stack.
     CoreStack {
@@ -129,11 +131,11 @@ pub enum Items<'a, A: Allocator = Global> {
         bytes: &'a [u8],
     },
     Raw(&'a [u8]),
-    /// Types, and groups of types that may refer to one another.
+    /// Types and recursion groups.
     Types(Vec<TypeEntry<A>, A>),
 }
 
-/// The kind of a section of the id.
+/// Returns the kind of a section of this id.
 ///
 /// # Proved
 ///
@@ -159,7 +161,7 @@ pub(crate) fn kind_of_id(id: u8) -> SectionKind {
     }
 }
 
-/// The kind of a custom section of the name.
+/// Returns the kind of a custom section of this name.
 ///
 /// # Proved
 ///
@@ -180,13 +182,13 @@ pub(crate) fn kind_of_name(name: &str) -> SectionKind {
     }
 }
 
-/// What the frame of a section of the kind holds.
+/// Decodes the payload of a section of this kind.
 ///
 /// # Proved
 ///
 /// ```text
-/// ensures found { IfOk result (λ x. content kind wide bytes.now (contents_of x)) }
-/// ensures none { IfErr result (λ e. e ≢ Memory → FillsNothing (content kind) bytes.now) }
+/// ensures found { IfOk result (λ x. content kind padded bytes.now (contents_of x)) }
+/// ensures none { IfErr result (λ e. e ≢ Memory → RejectsWhole (content kind) bytes.now) }
 /// ```
 pub(crate) fn read_content<'a, A: Allocator + Copy + 'a>(
     kind: SectionKind,
@@ -286,13 +288,14 @@ pub(crate) fn read_content<'a, A: Allocator + Copy + 'a>(
     }
 }
 
-/// The number of items of a section of the kind, from what its frame holds. Nothing is kept of what is counted.
+/// Returns the number of items in the payload of a section of this kind. The counted items are not
+/// kept.
 ///
 /// # Proved
 ///
 /// ```text
-/// ensures found { IfOk result (λ number. (x : Contents) × content kind wide bytes.now x × (number ≡ number_in x)) }
-/// ensures none { IfErr result (λ e. e ≢ Memory → FillsNothing (content kind) bytes.now) }
+/// ensures found { IfOk result (λ number. (x : Contents) × content kind padded bytes.now x × (number ≡ number_in x)) }
+/// ensures none { IfErr result (λ e. e ≢ Memory → RejectsWhole (content kind) bytes.now) }
 /// ```
 pub(crate) fn read_number<'a, A: Allocator + Copy>(
     kind: SectionKind,
@@ -300,16 +303,16 @@ pub(crate) fn read_number<'a, A: Allocator + Copy>(
     alloc: A,
 ) -> Result<Option<u32>, ReadFault> {
     match kind {
-        SectionKind::Bodies => count_passed::<'a, Body<A>, A>(bytes, alloc),
-        SectionKind::Segments => count_passed::<'a, Segment<'a, A>, A>(bytes, alloc),
-        SectionKind::Elements => count_passed::<'a, ElementItem<A>, A>(bytes, alloc),
-        SectionKind::Exports => count_passed::<'a, Dropped<Export<'a>>, A>(bytes, alloc),
-        SectionKind::Functions => count_passed::<'a, Dropped<u32>, A>(bytes, alloc),
-        SectionKind::Globals => count_passed::<'a, GlobalItem<A>, A>(bytes, alloc),
-        SectionKind::Imports => count_passed::<'a, PassedImports, A>(bytes, alloc),
-        SectionKind::Memories => count_passed::<'a, Dropped<MemoryType>, A>(bytes, alloc),
-        SectionKind::Tables => count_passed::<'a, TableItem<A>, A>(bytes, alloc),
-        SectionKind::Tags => count_passed::<'a, Dropped<TagType>, A>(bytes, alloc),
+        SectionKind::Bodies => count_skipped::<'a, Body<A>, A>(bytes, alloc),
+        SectionKind::Segments => count_skipped::<'a, Segment<'a, A>, A>(bytes, alloc),
+        SectionKind::Elements => count_skipped::<'a, ElementItem<A>, A>(bytes, alloc),
+        SectionKind::Exports => count_skipped::<'a, Dropped<Export<'a>>, A>(bytes, alloc),
+        SectionKind::Functions => count_skipped::<'a, Dropped<u32>, A>(bytes, alloc),
+        SectionKind::Globals => count_skipped::<'a, GlobalItem<A>, A>(bytes, alloc),
+        SectionKind::Imports => count_skipped::<'a, Imports<'a, A>, A>(bytes, alloc),
+        SectionKind::Memories => count_skipped::<'a, Dropped<MemoryType>, A>(bytes, alloc),
+        SectionKind::Tables => count_skipped::<'a, TableItem<A>, A>(bytes, alloc),
+        SectionKind::Tags => count_skipped::<'a, Dropped<TagType>, A>(bytes, alloc),
         SectionKind::DataCount | SectionKind::Start => {
             drop(read_content(kind, bytes, alloc)?);
             Ok(Some(1))
@@ -321,47 +324,47 @@ pub(crate) fn read_number<'a, A: Allocator + Copy>(
     }
 }
 
-/// Appends the shortest text of what the frame of a section holds.
+/// Appends the minimal encoding of a section's payload.
 ///
 /// # Proved
 ///
 /// ```text
-/// ensures { OnOk result (AppendsShortest (content (kind_in (contents_of items.entry))) (contents_of items.entry) out.old.items out.new.items) }
+/// ensures { OnOk result (AppendsMinimal (content (kind_in (contents_of items.entry))) (contents_of items.entry) sink.old.items sink.new.items) }
 /// ```
 pub(crate) fn append_content<A: Allocator, B: Sink>(
     items: Items<'_, A>,
-    out: &mut B,
-) -> R<()> {
+    sink: &mut B,
+) -> Result<()> {
     match items {
-        Items::Bodies(items) => items.write_minimal(out),
-        Items::Segments(items) => items.write_minimal(out),
-        Items::DataCount(count) => count.write_minimal(out),
-        Items::Elements(items) => items.write_minimal(out),
-        Items::Exports(items) => items.as_slice().encode(out),
-        Items::Functions(items) => items.write_minimal(out),
-        Items::Globals(items) => items.write_minimal(out),
-        Items::Imports(items) => append_imports(&items, out),
-        Items::Memories(items) => items.as_slice().encode(out),
-        Items::Start(index) => index.write_minimal(out),
-        Items::Tables(items) => items.write_minimal(out),
-        Items::Tags(items) => items.as_slice().encode(out),
-        Items::Names(items) => append_names(&items, out),
-        Items::Linking(items) => append_links(&items, out),
-        Items::Producers(items) => append_producers(&items, out),
-        Items::Hints(items) => append_hints(&items, out),
-        Items::Core(name) => append_process(name, out),
-        Items::CoreModules(items) => append_modules(&items, out),
-        Items::CoreInstances(items) => append_instances(&items, out),
-        Items::CoreStack { thread, frames } => append_stack(thread, &frames, out),
+        Items::Bodies(items) => items.write_minimal(sink),
+        Items::Segments(items) => items.write_minimal(sink),
+        Items::DataCount(count) => count.write_minimal(sink),
+        Items::Elements(items) => items.write_minimal(sink),
+        Items::Exports(items) => items.as_slice().encode(sink),
+        Items::Functions(items) => items.write_minimal(sink),
+        Items::Globals(items) => items.write_minimal(sink),
+        Items::Imports(items) => append_imports(&items, sink),
+        Items::Memories(items) => items.as_slice().encode(sink),
+        Items::Start(index) => index.write_minimal(sink),
+        Items::Tables(items) => items.write_minimal(sink),
+        Items::Tags(items) => items.as_slice().encode(sink),
+        Items::Names(items) => append_names(&items, sink),
+        Items::Linking(items) => append_links(&items, sink),
+        Items::Producers(items) => append_producers(&items, sink),
+        Items::Hints(items) => append_hints(&items, sink),
+        Items::Core(name) => append_process(name, sink),
+        Items::CoreModules(items) => append_modules(&items, sink),
+        Items::CoreInstances(items) => append_instances(&items, sink),
+        Items::CoreStack { thread, frames } => append_stack(thread, &frames, sink),
         Items::Custom { name, bytes } => {
-            name.write_minimal(out)?;
-            out.extend_from_slice(bytes)?;
+            name.write_minimal(sink)?;
+            sink.extend_from_slice(bytes)?;
             Ok(())
         }
         Items::Raw(bytes) => {
-            out.extend_from_slice(bytes)?;
+            sink.extend_from_slice(bytes)?;
             Ok(())
         }
-        Items::Types(items) => append_types(&items, out),
+        Items::Types(items) => append_types(&items, sink),
     }
 }

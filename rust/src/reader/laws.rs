@@ -1,18 +1,20 @@
 // Written by tools/to-rust from crates/wasm_reader/src/laws.rt: change that.
-//! What is promised of all lists of bytes, and not of a call: each function does nothing, and its clause is the promise.
+//! Laws about sections and modules, for all byte sequences: each function does nothing, and its
+//! clause is the law.
 
 pub use crate::reader::insn::laws as insn;
 
-/// Two sections of a kind that are shortened gain one text exactly where they are read as the same items.
+/// Two minimized sections of a kind have the same bytes exactly if the originals decode to the same
+/// items.
 ///
 /// # Proved
 ///
 /// ```text
-/// ensures { HaveOneText }
+/// ensures { HaveOneEncoding }
 /// ```
-pub fn texts() {}
+pub fn encodings() {}
 
-/// Bytes are a module of one list of lines, or stop being one at one section.
+/// Bytes are a module with exactly one listing, or stop being a module at exactly one section.
 ///
 /// # Proved
 ///
@@ -21,7 +23,8 @@ pub fn texts() {}
 /// ```
 pub fn modules() {}
 
-/// Shortening is idempotent: a module that was shortened is shortened again, to the same bytes, unless memory is refused.
+/// Minimizing is idempotent: a minimized module can be minimized again, to the same bytes, unless
+/// an allocation fails.
 ///
 /// # Proved
 ///

@@ -1,11 +1,12 @@
 // Written by tools/to-rust from crates/wasm_reader/src/lib.rt: change that.
 #![doc = include_str!("../reader.md")]
 
-//! Reads sections, exactly: an answer is the items that the grammar reads there, with padded numbers too, and a cause other than
-//! [`ReadFault::Memory`] says that no reading exists.
+//! Decodes sections, exactly: `Ok` holds the items that the bytes encode, padded numbers included,
+//! and any error but [`ReadFault::Memory`] means that the bytes encode no such items.
 //!
-//! [`read_section`] reads a section of a [`SectionKind`], without its id, into [`Items`], and [`shorten`] writes it in its fewest bytes. A custom section is
-//! read as what its name stands for, or, as any is, as its name and data.
+//! [`read_section`] decodes a section of a [`SectionKind`], without its id, into [`Items`], and
+//! [`shorten`] writes its minimal encoding. A custom section decodes by the kind that its name
+//! selects, or, as any custom section does, to its name and data.
 
 pub(crate) mod base;
 pub(crate) mod insn;
@@ -15,18 +16,18 @@ pub use insn::*;
 mod counts;
 mod kinds;
 pub mod laws;
+mod minimal;
 mod modules;
 mod outlines;
 mod section;
-mod shortest;
 mod standing;
 mod whole;
 
 pub use kinds::{Items, SectionKind};
+pub use minimal::shorten;
 pub use modules::{Listed, list_module};
 pub use outlines::{Outlined, outline};
 pub use section::read_section;
-pub use shortest::shorten;
 pub use crate::custom::{CoreFrame, LinkItem, NameItem, Symbol};
 pub use crate::reader::base::ReadFault;
 pub use crate::reader::insn::{Arg, Body, Expression, Plain};

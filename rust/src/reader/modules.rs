@@ -1,5 +1,5 @@
 // Written by tools/to-rust from crates/wasm_reader/src/modules.rt: change that.
-// Modules: a line for each section.
+// Lists the sections of a module.
 
 use crate::vec::Vec;
 use crate::reader::kinds::{kind_of_id, read_number};
@@ -9,23 +9,24 @@ use crate::reader::base::{ReadFault, Readable};
 /// The magic and the version of a module.
 pub(crate) const HEADER: [u8; 8] = [0x00, 0x61, 0x73, 0x6D, 0x01, 0x00, 0x00, 0x00];
 
-/// A section of a module.
+/// A section in the listing of a module.
 #[derive(Clone, Copy, PartialEq, Eq, Debug)]
 pub struct Listed {
     pub id: u8,
-    /// How many bytes stand behind the size.
+    /// The length of its payload, in bytes.
     pub size: u32,
-    /// How many items it has: 1 for a start and a data count section, `None` for type sections, custom ones, and those of ids past 13.
+    /// The number of its items: 1 for a start and a data count section, `None` for type sections,
+    /// custom sections, and those of ids above 13.
     pub items: Option<u32>,
 }
 
-/// What follows the header.
+/// Decodes the header, and returns the remaining bytes.
 ///
 /// # Proved
 ///
 /// ```text
 /// ensures found { IfOk result (λ rest. bytes.now ≡ header ++ rest.now) }
-/// ensures none { IfErr result (λ _. ReadsNothing (fixed header (tt {0})) wide bytes.now) }
+/// ensures none { IfErr result (λ _. Rejects (fixed header (tt {0})) padded bytes.now) }
 /// ensures cause { IfErr result (λ e. (e ≡ Ended) ⊎ (e ≡ UnknownTag)) }
 /// ```
 pub(crate) fn read_header(bytes: &[u8]) -> Result<&[u8], ReadFault> {
@@ -41,29 +42,33 @@ pub(crate) fn read_header(bytes: &[u8]) -> Result<&[u8], ReadFault> {
     }
 }
 
-/// The line of the section that the bytes begin with, and the bytes after it.
+/// Returns the listing of the section at the front, and the remaining bytes.
 ///
 /// # Proved
 ///
 /// ```text
-/// ensures found { IfOk result (λ x. (s : ℕ × (ℕ × Contents)) × Reads sized_section wide bytes.now s x.1.now × (x.0 ≡ line_of s)) }
-/// ensures none { IfErr result (λ e. e ≢ Memory → ReadsNothing sized_section wide bytes.now) }
+/// ensures found { IfOk result (λ x. (s : ℕ × (ℕ × Contents)) × Decodes sized_section padded bytes.now s x.1.now × (x.0 ≡ line_of s)) }
+/// ensures none { IfErr result (λ e. e ≢ Memory → Rejects sized_section padded bytes.now) }
 /// ```
 fn read_line<'a, A: Allocator + Copy>(
     bytes: &'a [u8],
     alloc: A,
 ) -> Result<(Listed, &'a [u8]), ReadFault> {
     let (id, rest) = <u8 as Readable<'a, A>>::read(bytes, alloc)?;
-    let (framed, rest) = <&'a [u8] as Readable<'a, A>>::read(rest, alloc)?;
-    let items = read_number(kind_of_id(id), framed, alloc)?;
-    let size = framed.len() as u32;
+    let (sized, rest) = <&'a [u8] as Readable<'a, A>>::read(rest, alloc)?;
+    let items = read_number(kind_of_id(id), sized, alloc)?;
+    let size = sized.len() as u32;
     Ok((Listed { id, size, items }, rest))
 }
 
-/// The sections of a module, each as far as it is read: by the kind of its id, type sections and those of ids past 13 as any bytes.
+/// Lists the sections of a module. Each section is decoded as the kind of its id; type sections and
+/// those of ids above 13 are taken as raw bytes.
 ///
-/// The number beside a fault other than `Memory` is that of the section at which the bytes are no module, counted from 1, or 0 where they
-/// don't begin with the header. Beside `Memory` it is that of the section that was being read; no contract says so.
+/// # Errors
+///
+/// Returns the error and a section number, counted from 1. For any error but `Memory`, this is the
+/// section at which the bytes stop being a module. It is 0 if they do not begin with the header.
+/// For `Memory` it is the section that was being decoded, which no contract says.
 ///
 /// # Proved
 ///

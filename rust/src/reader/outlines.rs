@@ -1,5 +1,5 @@
 // Written by tools/to-rust from crates/wasm_reader/src/outlines.rt: change that.
-// Modules: an outline of the sections, read as their kinds or not.
+// Outlines a module: lists its sections, whether their payloads decode or not.
 
 use crate::vec::Vec;
 use crate::reader::kinds::{SectionKind, read_number};
@@ -9,22 +9,23 @@ use crate::alloc::Allocator;
 use crate::reader::base::ReadFault;
 use crate::types::read_types;
 
-/// A section of a module, as an outline has it.
+/// A section in the outline of a module.
 #[derive(Clone, Copy, PartialEq, Eq, Debug)]
 pub struct Outlined<'a> {
     pub id: u8,
-    /// How many bytes of the module stand before what the section's frame holds.
+    /// The offset of the payload in the module, in bytes.
     pub offset: usize,
-    /// How many bytes its frame holds.
+    /// The length of the payload, in bytes.
     pub size: u32,
-    /// The number of its items, where it is read as a section of its id, and its items are counted: what `list_module` counts, and the entries of a type section. A recursion group is one entry,
-    /// however many types it defines.
+    /// The number of items, if the payload decodes as a section of its id and its items are
+    /// counted. These are the items that `list_module` counts, and the entries of a type section. A
+    /// recursion group is one entry, however many types it defines.
     pub items: Option<u32>,
-    /// The name of a custom section, where one stands there.
+    /// The name of a custom section, if its payload begins with one.
     pub name: Option<&'a str>,
 }
 
-/// The number of entries in the payload of a type section.
+/// Returns the number of entries in the payload of a type section.
 ///
 /// # Proved
 ///
@@ -37,7 +38,8 @@ fn count_entries<A: Allocator + Copy>(bytes: &[u8], alloc: A) -> Result<Option<u
     Ok(Some(entries.len() as u32))
 }
 
-/// The number of items of a section, where it is read as its kind and these are counted.
+/// Returns the number of items of a section, if its payload decodes as its kind and the items are
+/// counted.
 ///
 /// # Proved
 ///
@@ -58,22 +60,23 @@ fn count<A: Allocator + Copy>(section: &Standing<'_>, alloc: A) -> Result<Option
     }
 }
 
-/// The line of the section that the bytes begin with, which stand at this place, and the bytes after it.
+/// Returns the outline of the section at the front, which is at the offset `section_start`, and the
+/// remaining bytes.
 ///
 /// # Asks
 ///
 /// ```text
-/// requires { place + length bytes.now < 2 ^ 64 }
+/// requires { section_start + length bytes.now < 2 ^ 64 }
 /// ```
 ///
 /// # Proved
 ///
 /// ```text
-/// ensures found { IfOk result (λ x. (s : Section) × IsSection s × (bytes.now ≡ bytes_of s ++ x.1.now) × IsOutline place s x.0) }
-/// ensures none { IfErr result (λ e. e ≢ Memory → ReadsNothing any_section wide bytes.now) }
+/// ensures found { IfOk result (λ x. (s : Section) × IsSection s × (bytes.now ≡ bytes_of s ++ x.1.now) × IsOutline section_start s x.0) }
+/// ensures none { IfErr result (λ e. e ≢ Memory → Rejects any_section padded bytes.now) }
 /// ```
 fn read_line<'a, A: Allocator + Copy>(
-    place: usize,
+    section_start: usize,
     bytes: &'a [u8],
     alloc: A,
 ) -> Result<(Outlined<'a>, &'a [u8]), ReadFault> {
@@ -82,7 +85,7 @@ fn read_line<'a, A: Allocator + Copy>(
     let taken = bytes.len() - after.len();
     let line = Outlined {
         id: section.id,
-        offset: place + (taken - section.payload.len()),
+        offset: section_start + (taken - section.payload.len()),
         size: section.payload.len() as u32,
         items,
         name: section.name,
@@ -90,17 +93,23 @@ fn read_line<'a, A: Allocator + Copy>(
     Ok((line, after))
 }
 
-/// An outline of a module: a line for each section, whatever its frame holds. A section that is not read as its kind has no number of items.
+/// Lists the sections of a module, whatever their payloads are. A section whose payload does not
+/// decode as its kind has no number of items.
 ///
-/// A custom section is read as what its name stands for, and a type section as types. The number beside a fault other than `Memory` is that of the first section that is no frame of an id,
-/// counted from 1, or 0 where the bytes don't begin with the header.
+/// A custom section decodes by the kind that its name selects, and a type section as types.
+///
+/// # Errors
+///
+/// Returns the error and a section number, counted from 1. For any error but `Memory`, this is the
+/// first section that is not an id and a size-prefixed payload. It is 0 if the bytes do not begin
+/// with the header.
 ///
 /// # Proved
 ///
 /// ```text
 /// ensures found { IfOk result (λ lines. HasOutline bytes.now lines.items) }
 /// ensures none { IfErr result (λ e. e.1 ≢ Memory → EndsAt bytes.now e.0) }
-/// ensures no_module { IfErr result (λ e. e.1 ≢ Memory → FillsNothing wasm_module bytes.now) }
+/// ensures no_module { IfErr result (λ e. e.1 ≢ Memory → RejectsWhole wasm_module bytes.now) }
 /// ```
 pub fn outline<'a, A: Allocator + Copy>(
     alloc: A,

@@ -1,24 +1,24 @@
 // Written by tools/to-rust from crates/wasm_reader/src/standing.rt: change that.
-// Sections of a module as they stand there, whatever they hold.
+// Splits a module into its sections, without decoding their payloads.
 
 use crate::reader::kinds::{SectionKind, kind_of_id, kind_of_name};
 use crate::alloc::Allocator;
 use crate::reader::base::{ReadFault, Readable};
 
-/// A section of a module.
+/// A section of a module, with its payload not yet decoded.
 #[derive(Clone, Copy, Debug)]
 pub(crate) struct Standing<'a> {
     pub(crate) id: u8,
-    /// The size and what it counts.
-    pub(crate) framed: &'a [u8],
-    /// What stands behind the size.
+    /// The size prefix and the payload.
+    pub(crate) sized: &'a [u8],
+    /// The payload.
     pub(crate) payload: &'a [u8],
-    /// The name at the front of a custom section, where one stands there.
+    /// The name of a custom section, if its payload begins with one.
     pub(crate) name: Option<&'a str>,
 }
 
 impl Standing<'_> {
-    /// What it is read as.
+    /// Returns the kind as which its payload is decoded.
     ///
     /// # Proved
     ///
@@ -34,7 +34,7 @@ impl Standing<'_> {
     }
 }
 
-/// The name of a custom section, from what its frame holds.
+/// Decodes the name of a custom section from its payload.
 ///
 /// # Proved
 ///
@@ -57,14 +57,15 @@ fn read_name<'a, A: Allocator + Copy>(
     }
 }
 
-/// The section that the bytes begin with, at its id, and the bytes after it.
+/// Splits off the section at the front, which begins with its id, and returns it with the remaining
+/// bytes.
 ///
 /// # Proved
 ///
 /// ```text
 /// ensures found { IfOk result (λ x. IsSection (section_of x.0)) }
 /// ensures split { IfOk result (λ x. bytes.now ≡ bytes_of (section_of x.0) ++ x.1.now) }
-/// ensures none { IfErr result (λ e. e ≢ Memory → ReadsNothing any_section wide bytes.now) }
+/// ensures none { IfErr result (λ e. e ≢ Memory → Rejects any_section padded bytes.now) }
 /// ```
 pub(crate) fn read_standing<'a, A: Allocator + Copy>(
     bytes: &'a [u8],
@@ -72,12 +73,12 @@ pub(crate) fn read_standing<'a, A: Allocator + Copy>(
 ) -> Result<(Standing<'a>, &'a [u8]), ReadFault> {
     let (id, rest) = <u8 as Readable<'a, A>>::read(bytes, alloc)?;
     let (payload, after) = <&'a [u8] as Readable<'a, A>>::read(rest, alloc)?;
-    let framed = &rest[..rest.len() - after.len()];
+    let sized = &rest[..rest.len() - after.len()];
     let name = read_name(id, payload, alloc)?;
     Ok((
         Standing {
             id,
-            framed,
+            sized,
             payload,
             name,
         },

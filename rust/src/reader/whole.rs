@@ -1,61 +1,66 @@
 // Written by tools/to-rust from crates/wasm_reader/src/whole.rt: change that.
-// Modules, written as shortly as can be.
+// Minimizes modules.
 
 use crate::vec::{Sink, Vec};
+use crate::reader::minimal::shorten;
 use crate::reader::modules::{HEADER, read_header};
-use crate::reader::shortest::shorten;
 use crate::reader::standing::{Standing, read_standing};
 use crate::alloc::{AllocError, Allocator};
 use crate::reader::base::ReadFault;
 
-/// Says what to do with custom sections that hold offsets.
+/// The treatment of custom sections that hold offsets.
 ///
-/// A custom section is known by its name, and holds offsets
+/// These custom sections, known by their names, hold offsets
 ///
-/// - into code and data: `linking`, `external_debug_info`, `build_id`, `.debug_*`, `metadata.code.*`;
+/// - into code and data: `linking`, `external_debug_info`, `build_id`, `.debug_*`,
+///   `metadata.code.*`;
 /// - into any section that a relocation names: `reloc.*`;
 /// - into code, from the first byte of the module: `sourceMappingURL`.
 #[derive(Clone, Copy, PartialEq, Eq, Debug)]
 pub enum Offsets {
-    /// Refuses a module that would lose offsets. The code and data sections must stay, byte for byte, beside any of these; beside `reloc.*` each custom section too, and beside
-    /// `sourceMappingURL` the bytes before a code section must stay as many.
+    /// Returns an error for a module whose offsets might become wrong. With any of these sections,
+    /// the code and data sections must keep their bytes. With `reloc.*`, so must each custom
+    /// section. With `sourceMappingURL`, the length of the bytes before a code section must stay
+    /// the same too.
     Refuse,
     /// Leaves these sections out.
     LeaveOut,
 }
 
-/// Why a module is not written.
+/// The cause of a failed minimization.
 #[derive(Clone, Copy, PartialEq, Eq, Debug)]
 pub enum ModuleFault {
-    /// No frame of an id stands where the section of this number is, counted from 1, or no header for 0; or memory was refused there.
+    /// The bytes at the section of this number, counted from 1, are not an id and a size-prefixed
+    /// payload; 0 is the header. Or an allocation failed there.
     Section { number: usize, fault: ReadFault },
-    /// The section of this number, counted from 1, holds offsets that would no longer lead where they do. It is the first such section.
+    /// The section of this number, counted from 1, is the first that holds offsets which would
+    /// become wrong.
     Offsets { number: usize },
 }
 
-/// What the offsets in a custom section lead into.
+/// The sections into which the offsets of a custom section point.
 #[derive(Clone, Copy, PartialEq, Eq, Debug)]
 pub(crate) enum Target {
-    /// Code and data, from the front of a section.
+    /// Code and data, from the start of a section.
     CodeAndData,
-    /// Code, data and custom sections, from the front of a section.
+    /// Code, data and custom sections, from the start of a section.
     Relocated,
     /// Code, from the first byte of the module.
     Module,
 }
 
-/// What is written for a section.
+/// The output for a section.
 #[derive(Clone, Copy, PartialEq, Eq, Debug)]
 pub(crate) enum How {
-    /// Its shortest text.
-    Shortest,
-    /// Its bytes as they stand, which are not read as its kind.
+    /// Its minimal encoding.
+    Minimal,
+    /// Its unchanged bytes, which do not decode as its kind.
     Kept,
     /// Nothing: it holds offsets.
     LeftOut,
 }
 
-/// Whether a custom section of the name holds offsets into code and data.
+/// Returns `true` if a custom section of this name holds offsets into code and data.
 ///
 /// # Proved
 ///
@@ -71,7 +76,7 @@ fn has_code_offsets(name: &str) -> bool {
         || bytes.starts_with(b"metadata.code.")
 }
 
-/// What the offsets in a custom section of the name lead into, where it holds any.
+/// Returns the target of the offsets in a custom section of this name, or `None` if it holds none.
 ///
 /// # Proved
 ///
@@ -91,7 +96,7 @@ fn target_named(name: &str) -> Option<Target> {
 }
 
 impl Target {
-    /// Whether such offsets count from the front of a section of the id.
+    /// Returns `true` if such offsets count from the start of a section of this id.
     ///
     /// # Proved
     ///
@@ -105,7 +110,8 @@ impl Target {
         }
     }
 
-    /// Whether such offsets count from the first byte of the module, into a section of the id.
+    /// Returns `true` if such offsets count from the first byte of the module, into a section of
+    /// this id.
     ///
     /// # Proved
     ///
@@ -119,7 +125,9 @@ impl Target {
         }
     }
 
-    /// Whether a section of the id moves away from such offsets, where it is changed or not, and as many bytes are written before it as stood there or not.
+    /// Returns `true` if such offsets into a section of this id become wrong: given whether its
+    /// bytes change, and whether the output before it is as long as the input before it
+    /// (`is_level`).
     ///
     /// # Proved
     ///
@@ -132,7 +140,7 @@ impl Target {
 }
 
 impl Standing<'_> {
-    /// What its offsets lead into, where it holds any, by its name.
+    /// Returns the target of its offsets by its name, or `None` if it holds none.
     ///
     /// # Proved
     ///
@@ -146,7 +154,7 @@ impl Standing<'_> {
         }
     }
 
-    /// Whether its offsets lead into this.
+    /// Returns `true` if its offsets point into this target.
     ///
     /// # Proved
     ///
@@ -163,7 +171,8 @@ impl Standing<'_> {
     }
 }
 
-/// Appends what is written in place of the section's frame, where it is not left out. A refused call leaves the sink as it was.
+/// Appends the output for the section's size prefix and payload, unless the section is left out. On
+/// an error, the sink is unchanged.
 ///
 /// # Asks
 ///
@@ -174,30 +183,30 @@ impl Standing<'_> {
 /// # Proved
 ///
 /// ```text
-/// ensures ok { IfOk result (λ how. (text : List ℕ) × IsTextFor how (section_of section.now) text × (sink.new.items ≡ sink.old.items ++ text)) }
+/// ensures ok { IfOk result (λ how. (encoding : List ℕ) × IsEncodingFor how (section_of section.now) encoding × (sink.new.items ≡ sink.old.items ++ encoding)) }
 /// ensures err { OnErr result (sink.new.items ≡ sink.old.items) }
 /// ensures memory { IfErr result (λ e. e ≡ Memory) }
 /// ```
-fn append_frame<A: Allocator + Copy>(
+fn append_size_prefixed<A: Allocator + Copy>(
     section: &Standing<'_>,
     sink: &mut Vec<u8, A>,
 ) -> Result<How, ReadFault> {
-    match shorten(section.kind(), section.framed, sink) {
-        Ok(_) => Ok(How::Shortest),
+    match shorten(section.kind(), section.sized, sink) {
+        Ok(_) => Ok(How::Minimal),
         Err(ReadFault::Memory) => Err(ReadFault::Memory),
-        Err(_) => match sink.extend_from_slice(section.framed) {
+        Err(_) => match sink.extend_from_slice(section.sized) {
             Ok(()) => Ok(How::Kept),
             Err(_) => Err(ReadFault::Memory),
         },
     }
 }
 
-/// Whether the section is left out.
+/// Returns `true` if the section is left out.
 ///
 /// # Proved
 ///
 /// ```text
-/// ensures { result ≡ leaves_out offsets (holds_offsets (section_of section.now).name) }
+/// ensures { result ≡ leaves_out offsets (contains_offsets (section_of section.now).name) }
 /// ```
 fn is_left_out(section: &Standing<'_>, offsets: Offsets) -> bool {
     match offsets {
@@ -206,25 +215,26 @@ fn is_left_out(section: &Standing<'_>, offsets: Offsets) -> bool {
     }
 }
 
-/// Whether the text differs from the section's frame.
+/// Returns `true` if the output differs from the section's size prefix and payload.
 ///
 /// # Proved
 ///
 /// ```text
-/// ensures { IsChange result (section_of section.now) text.now }
+/// ensures { IsChange result (section_of section.now) encoding.now }
 /// ```
-fn is_changed(section: &Standing<'_>, text: &[u8]) -> bool {
-    text != section.framed
+fn is_changed(section: &Standing<'_>, encoding: &[u8]) -> bool {
+    encoding != section.sized
 }
 
-/// What was written for a section, and whether that differs from its frame.
+/// The output for a section, and whether it differs from the input.
 #[derive(Clone, Copy)]
 struct Written {
     how: How,
     is_changed: bool,
 }
 
-/// Appends what is written for the section, its id and a frame. A refused call leaves the sink as it was.
+/// Appends the output for the section: its id, a size prefix and a payload. On an error, the sink
+/// is unchanged.
 ///
 /// # Asks
 ///
@@ -252,7 +262,7 @@ fn append_section<A: Allocator + Copy>(
     }
     let start = sink.len();
     sink.push(section.id)?;
-    match append_frame(section, sink) {
+    match append_size_prefixed(section, sink) {
         Ok(how) => {
             let is_changed = is_changed(section, &sink[start + 1..]);
             Ok(Written { how, is_changed })
@@ -264,16 +274,16 @@ fn append_section<A: Allocator + Copy>(
     }
 }
 
-/// What is known of offsets of one class.
+/// The state of offsets of one class.
 #[derive(Clone, Copy)]
 struct Found {
-    /// The number of the first section that holds such, counted from 1.
+    /// The number of the first section that holds such offsets, counted from 1.
     holder: Option<usize>,
-    /// Whether one that they lead into moves.
+    /// Whether a section into which they point moves.
     is_moved: bool,
 }
 
-/// What is known of the sections that were written.
+/// The state after some sections were written.
 #[derive(Clone, Copy)]
 struct Tally {
     sections: usize,
@@ -283,13 +293,13 @@ struct Tally {
     in_module: Found,
 }
 
-/// Of no section.
+/// The state of a class before any section.
 const NONE_FOUND: Found = Found {
     holder: None,
     is_moved: false,
 };
 
-/// Before any section.
+/// The state before any section.
 const NOTHING: Tally = Tally {
     sections: 0,
     kept: 0,
@@ -299,7 +309,7 @@ const NOTHING: Tally = Tally {
 };
 
 impl How {
-    /// One where a section is kept.
+    /// Returns 1 if a section is kept, and 0 otherwise.
     ///
     /// # Proved
     ///
@@ -310,12 +320,12 @@ impl How {
     fn keeps(self) -> usize {
         match self {
             How::Kept => 1,
-            How::Shortest | How::LeftOut => 0,
+            How::Minimal | How::LeftOut => 0,
         }
     }
 }
 
-/// The number that was found before, or else this one, where the section is such.
+/// Returns `found` if it is some, and otherwise this number if the section is such a holder.
 ///
 /// # Proved
 ///
@@ -330,7 +340,7 @@ fn first_holder(found: Option<usize>, is_such: bool, number: usize) -> Option<us
     }
 }
 
-/// The lesser number.
+/// Returns the lesser number.
 ///
 /// # Proved
 ///
@@ -346,12 +356,12 @@ fn earlier(a: Option<usize>, b: Option<usize>) -> Option<usize> {
 }
 
 impl Found {
-    /// With one section more, which has this number.
+    /// Adds one more section, of this number.
     ///
     /// # Proved
     ///
     /// ```text
-    /// ensures { (ws : List Rewrite) (w : Rewrite) → HasFound target ws self → length ws + 1 ≡ number → section_of section.now ≡ w.section → IsChange is_changed w.section w.text → Decides is_level (size_before ws ≡ size_after ws) → HasFound target (ws ++ w ∷ []) result }
+    /// ensures { (ws : List Rewrite) (w : Rewrite) → HasFound target ws self → length ws + 1 ≡ number → section_of section.now ≡ w.section → IsChange is_changed w.section w.encoding → Decides is_level (size_before ws ≡ size_after ws) → HasFound target (ws ++ w ∷ []) result }
     /// ```
     fn and(
         self,
@@ -368,7 +378,7 @@ impl Found {
         }
     }
 
-    /// The number of the first section whose offsets are lost.
+    /// Returns the number of the first section whose offsets become wrong.
     ///
     /// # Proved
     ///
@@ -381,7 +391,8 @@ impl Found {
 }
 
 impl Tally {
-    /// With one section more. `is_level` says whether as many bytes were written before it as stood there.
+    /// Adds one more section. `is_level` says whether the output before it is as long as the input
+    /// before it.
     ///
     /// # Asks
     ///
@@ -392,7 +403,7 @@ impl Tally {
     /// # Proved
     ///
     /// ```text
-    /// ensures tallied { (ws : List Rewrite) (w : Rewrite) → HasTally ws self → section_of section.now ≡ w.section → written.how ≡ w.how → IsChange written.is_changed w.section w.text → Decides is_level (size_before ws ≡ size_after ws) → HasTally (ws ++ w ∷ []) result }
+    /// ensures tallied { (ws : List Rewrite) (w : Rewrite) → HasTally ws self → section_of section.now ≡ w.section → written.how ≡ w.how → IsChange written.is_changed w.section w.encoding → Decides is_level (size_before ws ≡ size_after ws) → HasTally (ws ++ w ∷ []) result }
     /// ensures kept { result.kept ≤ result.sections }
     /// ```
     fn and(self, section: &Standing<'_>, written: Written, is_level: bool) -> Tally {
@@ -416,7 +427,7 @@ impl Tally {
         }
     }
 
-    /// The number of a section that is refused: the first whose offsets are lost.
+    /// Returns the number of the first section whose offsets become wrong, if that is an error.
     ///
     /// # Proved
     ///
@@ -434,7 +445,7 @@ impl Tally {
     }
 }
 
-/// Whether the numbers are the same.
+/// Returns `true` if the numbers are equal.
 ///
 /// # Proved
 ///
@@ -445,7 +456,8 @@ fn is_same(a: usize, b: usize) -> bool {
     a == b
 }
 
-/// Appends what is written for sections one after the other. Beside a fault stands the number of the section, counted from 1. A refused call leaves what was in the sink at its front.
+/// Appends the output for the sections, one after the other. An error has the number of its
+/// section, counted from 1. After an error, the old bytes are still the front of the sink.
 ///
 /// # Asks
 ///
@@ -487,7 +499,7 @@ fn append_sections<A: Allocator + Copy>(
     }
 }
 
-/// Appends the header, and has room for so many bytes.
+/// Appends the header, with spare capacity for `spare` bytes.
 ///
 /// # Proved
 ///
@@ -495,12 +507,13 @@ fn append_sections<A: Allocator + Copy>(
 /// ensures ok { OnOk result (sink.new.items ≡ sink.old.items ++ header) }
 /// ensures err { OnErr result (sink.new.items ≡ sink.old.items) }
 /// ```
-fn begin_module<A: Sink>(room: usize, sink: &mut A) -> Result<(), AllocError> {
-    sink.reserve(room)?;
+fn begin_module<A: Sink>(spare: usize, sink: &mut A) -> Result<(), AllocError> {
+    sink.reserve(spare)?;
     sink.extend_from_slice(&HEADER)
 }
 
-/// Appends the module, in place of [`shorten_module`]. A refused call leaves what was in the sink at its front.
+/// Appends the module for [`shorten_module`]. After an error, the old bytes are still the front of
+/// the sink.
 ///
 /// # Proved
 ///
@@ -537,15 +550,22 @@ fn append_module<A: Allocator + Copy>(
     }
 }
 
-/// Appends the module with each section in its one shortest text, and tells how many sections are kept as they stand, since they are not read as sections of their kinds: a custom section's is what its
-/// name stands for. A refused call leaves the sink as it was.
+/// Appends the module with each section in its minimal encoding, and returns the number of sections
+/// that are kept unchanged. These do not decode as their kinds, which for a custom section its name
+/// selects. On an error, the sink is unchanged.
 ///
-/// A section that gets shorter has its parts at other offsets, and those behind it begin at others. `offsets` says what becomes of custom sections that hold offsets: a module that would lose some is refused
-/// ([`Offsets::Refuse`]), or written without these sections. A module that was shortened is not refused again.
+/// When a section becomes shorter, its items and the sections after it move. `offsets` selects the
+/// treatment of custom sections that hold offsets. Either a module whose offsets might become wrong
+/// is an error ([`Offsets::Refuse`]), or these sections are left out. A minimized module can always
+/// be minimized again, unless an allocation fails.
 ///
 /// ```text
 /// let kept = shorten_module(bytes, Offsets::Refuse, &mut sink)?;
 /// ```
+///
+/// # Errors
+///
+/// Returns the number of the section that failed, and the cause: see [`ModuleFault`].
 ///
 /// # Proved
 ///

@@ -1,26 +1,27 @@
 // Written by tools/to-rust from crates/wasm_tool/src/fault.rt: change that.
-// What is wrong with a recipe, and where.
+// The error of a recipe, and its line.
 
 use crate::base::Refused;
 
-/// Why a line of a recipe is refused.
+/// The cause of an error in a recipe.
 #[derive(Clone, Copy, PartialEq, Eq, Debug)]
 pub enum RecipeCause {
-    /// The first word of the line is no command, or the kind of an export is none.
+    /// The first word of the line is not a command, or the kind of an export is unknown.
     UnknownCommand,
-    /// A word that is to be a number is none in range.
+    /// A word that should be a number is not one in range.
     BadNumber,
-    /// A word that is to be bytes is no even number of hexadecimal digits.
+    /// A word that should be bytes is not an even number of hexadecimal digits.
     BadHex,
     /// The command needs more words.
     MissingWord,
-    /// A request for memory was refused.
+    /// An allocation failed.
     Memory,
-    /// A count or a size of the module would pass 4294967295.
+    /// A count or a size of the module would exceed 4294967295.
     TooLong,
 }
 
-/// The first faulty line of a recipe, or the one at which it was refused, counted from 1; 0 for a refusal after the last line.
+/// The error of a recipe, with the number of its line, counted from 1; 0 for an error after the
+/// last line.
 #[derive(Clone, Copy, PartialEq, Eq, Debug)]
 pub struct RecipeFault {
     pub line: usize,
@@ -41,7 +42,7 @@ impl From<Refused> for RecipeCause {
     }
 }
 
-/// A refusal after the last line.
+/// An error after the last line.
 ///
 /// # Defined
 ///

@@ -1,5 +1,5 @@
 // Written by tools/to-rust from crates/wasm_tool/src/listing.rt: change that.
-// A module's sections, as lines of text.
+// The listing of a module's sections, for `--read`.
 
 use crate::vec::Vec;
 use crate::string::String;
@@ -8,7 +8,7 @@ use crate::hex::FromHexError;
 use crate::alloc::{AllocError, Allocator};
 use crate::reader::{Listed, list_module};
 
-/// The line of a section: its id, its size and its number of items.
+/// Appends the line of a section: its id, its size and its number of items.
 ///
 /// # Proved
 ///
@@ -24,7 +24,7 @@ fn push_line<A: Allocator>(text: &mut String<A>, section: &Listed) -> Result<(),
     }
 }
 
-/// The lines of the sections.
+/// Returns the lines of the sections.
 ///
 /// # Proved
 ///
@@ -39,7 +39,7 @@ fn lines<A: Allocator>(alloc: A, sections: &[Listed]) -> Result<String<A>, Alloc
     Ok(text)
 }
 
-/// The text without the spaces and line ends at its end.
+/// Returns the input without spaces and line ends at its end.
 ///
 /// # Proved
 ///
@@ -54,7 +54,7 @@ fn without_end(text: &[u8]) -> &[u8] {
     text
 }
 
-/// The bytes that a hexadecimal text tells.
+/// Returns the bytes that the hexadecimal digits encode.
 ///
 /// # Proved
 ///
@@ -72,7 +72,7 @@ fn hex_bytes<A: Allocator>(alloc: A, text: &[u8]) -> Result<Vec<u8, A>, Trouble>
     })
 }
 
-/// What is written for the hexadecimal text of a module.
+/// Returns the output for a module in hexadecimal.
 ///
 /// # Proved
 ///

@@ -1,8 +1,9 @@
 // Written by tools/to-rust from crates/wasm_tool/src/lib.rt: change that.
-//! Recipes of WebAssembly modules: lines of text that each add an item to a section.
+//! Recipes of WebAssembly modules: lines that each add an item to a section.
 //!
-//! What a text says is defined: its lines and their words in `specs/Lines.antt`, the entry or the fault of each line, and the module
-//! of the sections that the entries add to, in `specs/Recipe.antt`. [`assemble`] gives that module, and [`run`] is the program around it.
+//! `specs/Lines.antt` defines the lines of a recipe and their words. `specs/Recipe.antt` defines
+//! the entry or the error of each line, and the module of the sections to which the entries are
+//! added. [`assemble`] returns that module, and [`run`] is the program around it.
 
 mod fault;
 #[cfg(feature = "programs")]

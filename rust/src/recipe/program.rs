@@ -1,5 +1,6 @@
 // Written by tools/to-rust from crates/wasm_tool/src/program.rt: change that.
-// The program: from standard input to hexadecimal text, and with `--read` from that to a list of sections.
+// The program: from a recipe on standard input to a module in hexadecimal, and with `--read` from
+// that to a list of sections.
 
 use crate::vec::Vec;
 use crate::string::String;
@@ -10,7 +11,7 @@ use crate::alloc::{AllocError, Allocator};
 use std::io::{Read, Write};
 use crate::reader::base::ReadFault;
 
-/// Why the program gives no answer.
+/// The error of the program.
 #[derive(Debug)]
 pub(crate) enum Trouble {
     Usage,
@@ -20,7 +21,7 @@ pub(crate) enum Trouble {
     Section { number: usize, fault: ReadFault },
 }
 
-/// Memory was refused, and at no line of a recipe.
+/// An allocation failed, and not at a line of a recipe.
 ///
 /// # Defined
 ///
@@ -36,7 +37,7 @@ impl From<AllocError> for Trouble {
     }
 }
 
-/// Memory was refused, and not at a section of a module.
+/// An allocation failed, and not at a section of a module.
 ///
 /// # Proved
 ///
@@ -50,12 +51,12 @@ pub(crate) fn unlisted() -> Trouble {
     }
 }
 
-/// How often the input is asked for bytes, and for how many.
+/// The most requests to the input, and the number of bytes of each request.
 const MOST_READS: u32 = 1048576;
 
 const READ_SIZE: usize = 4096;
 
-/// Why the input was not read to its end.
+/// The reason for which the input was not read to its end.
 #[derive(Debug)]
 enum Unread {
     NotText,
@@ -73,7 +74,8 @@ impl From<AllocError> for Unread {
     }
 }
 
-/// All that a reader gives. A reader that fails, or does not end in time, gives no text.
+/// Returns all bytes of a reader, or an error if the reader fails or does not end within
+/// `MOST_READS` requests.
 ///
 /// # Proved
 ///
@@ -96,7 +98,7 @@ fn read_to_end<A: Allocator, R: Read>(alloc: A, input: &mut R) -> Result<Vec<u8,
     Err(Unread::NotText)
 }
 
-/// The line that is written for a recipe.
+/// Returns the output line for a recipe.
 ///
 /// # Proved
 ///
@@ -115,7 +117,7 @@ fn hex_line<A: Allocator + Copy>(alloc: A, recipe: &[u8]) -> Result<String<A>, T
     Ok(line)
 }
 
-/// What is written for the recipe that a reader gives.
+/// Returns the output for the recipe that a reader yields.
 ///
 /// # Proved
 ///
@@ -137,7 +139,7 @@ fn answer_to_recipe<A: Allocator + Copy, I: Read>(
     hex_line(alloc, &recipe)
 }
 
-/// What is written for the module whose hexadecimal text a reader gives.
+/// Returns the output for the module in hexadecimal that a reader yields.
 ///
 /// # Proved
 ///
@@ -157,7 +159,7 @@ fn answer_to_module<A: Allocator + Copy, I: Read>(
     listing(alloc, &text)
 }
 
-/// Whether the words after the program's name are `--read` alone.
+/// Returns `true` if the arguments are exactly `--read`.
 ///
 /// # Proved
 ///
@@ -171,7 +173,7 @@ fn asks_to_read<A: Allocator>(args: &[String<A>]) -> bool {
     word.as_str() == "--read"
 }
 
-/// What is written where nothing goes wrong.
+/// Returns the output of the program.
 ///
 /// # Proved
 ///
@@ -198,7 +200,7 @@ fn answer<A: Allocator + Copy, I: Read>(
     Err(Trouble::Usage)
 }
 
-/// Writes the answer. The exit status is 0, or 1 where that fails.
+/// Writes the output. Returns the exit status: 0, or 1 if writing fails.
 ///
 /// # Proved
 ///
@@ -213,7 +215,8 @@ fn write_text<O: Write>(out: &mut O, text: &[u8]) -> u8 {
     }
 }
 
-/// Says what is wrong. The exit status is 2 where that was said of the usage, and else 1.
+/// Reports the error. Returns the exit status: 2 for an error of usage that was written, and 1
+/// otherwise.
 ///
 /// # Proved
 ///
@@ -221,15 +224,16 @@ fn write_text<O: Write>(out: &mut O, text: &[u8]) -> u8 {
 /// ensures usage { result ≡ 2 → trouble.now ≡ troubles.Usage }
 /// ensures status { (1 ≤ result) × (result ≤ 2) }
 /// ```
-fn tell<E: Write>(err: &mut E, trouble: &Trouble) -> u8 {
+fn report<E: Write>(err: &mut E, trouble: &Trouble) -> u8 {
     match writeln!(err, "{trouble}") {
         Ok(()) if matches!(trouble, Trouble::Usage) => 2,
         _ => 1,
     }
 }
 
-/// Does what the program does, and answers its exit status. `args` are the words after the program's name: with none the input is a recipe, whose
-/// module is written in hexadecimal; with `--read` it is that text of a module, whose sections are listed, a line each.
+/// Runs the program, and returns its exit status. `args` are its arguments. Without any, the input
+/// is a recipe, whose module is written in hexadecimal. With `--read`, the input is a module in
+/// hexadecimal, whose sections are listed, a line each.
 ///
 /// # Proved
 ///
@@ -258,7 +262,7 @@ pub fn run<A: Allocator + Copy, I: Read, O: Write, E: Write>(
 ) -> u8 {
     match answer(alloc, args, input) {
         Ok(text) => write_text(out, text.as_bytes()),
-        Err(trouble) => tell(err, &trouble),
+        Err(trouble) => report(err, &trouble),
     }
 }
 

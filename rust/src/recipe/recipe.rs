@@ -1,17 +1,17 @@
 // Written by tools/to-rust from crates/wasm_tool/src/recipe.rt: change that.
-// Recipes: from lines of text to a module.
+// Recipes: from lines to a module.
 
 use crate::vec::Vec;
 use crate::recipe::fault::{RecipeCause, RecipeFault};
 use crate::recipe::words::Words;
 use crate::hex::FromHexError;
 use crate::alloc::Allocator;
-use crate::base::{Encode, Module, Pieces, R, RawSection, SectionId, ValType};
+use crate::base::{Encode, Module, Pieces, RawSection, Result, SectionId, ValType};
 use crate::code::{CodeSection, ConstExpr, Function};
 use crate::custom::NameSection;
 use crate::sections::{CountedSection, DataSection, ExportKind, ExportSection, FunctionSection, GlobalSection, GlobalType, ItemKind, MemorySection, MemoryType, StartSection};
 
-/// The sections to which the lines read so far have added.
+/// The sections to which the lines so far have added items.
 pub(crate) struct Recipe<A: Allocator> {
     types: Pieces<A>,
     functions: FunctionSection<A>,
@@ -24,7 +24,7 @@ pub(crate) struct Recipe<A: Allocator> {
     names: NameSection<A>,
 }
 
-/// The bytes of a word of hexadecimal digits.
+/// Decodes a word of hexadecimal digits.
 ///
 /// # Proved
 ///
@@ -39,7 +39,8 @@ fn hex_bytes<A: Allocator>(alloc: A, word: &str) -> Result<Vec<u8, A>, RecipeCau
     })
 }
 
-/// The word, unless it begins with a plus sign: `parse` takes one, and a number of a recipe has none.
+/// Returns the word unless it begins with a plus sign, which `parse` accepts and a number of a
+/// recipe does not have.
 ///
 /// # Proved
 ///
@@ -53,7 +54,7 @@ fn numeral(word: &str) -> Result<&str, RecipeCause> {
     Ok(word)
 }
 
-/// The number that a word of decimal digits spells.
+/// Parses a word of decimal digits as a number of 64 bits.
 ///
 /// # Proved
 ///
@@ -67,7 +68,7 @@ fn number(word: &str) -> Result<u64, RecipeCause> {
     Ok(n)
 }
 
-/// The number of 32 bits that a word of decimal digits spells.
+/// Parses a word of decimal digits as a number of 32 bits.
 ///
 /// # Proved
 ///
@@ -81,7 +82,7 @@ fn index(word: &str) -> Result<u32, RecipeCause> {
     Ok(n)
 }
 
-/// The number of 32 bits that a word of decimal digits spells, behind `-` a negative one.
+/// Parses a word of decimal digits, negative after `-`, as a signed number of 32 bits.
 ///
 /// # Proved
 ///
@@ -95,7 +96,7 @@ fn signed(word: &str) -> Result<i32, RecipeCause> {
     Ok(value)
 }
 
-/// What a word names that can be exported.
+/// Returns the kind of export that a word names.
 ///
 /// # Proved
 ///
@@ -113,24 +114,24 @@ fn export_kind(word: &str) -> Option<ExportKind> {
     }
 }
 
-/// Puts a section into the module, if it has an item.
+/// Appends a section to the module, if it has an item.
 ///
 /// # Proved
 ///
 /// ```text
-/// ensures { Puts (section_of K.section_id section.now) (SectionFits section.now) target.old target.new result }
+/// ensures { Puts (section_of K.section_id section.now) (IsEncodableSection section.now) target.old target.new result }
 /// ```
 fn put_counted<K: ItemKind, A: Allocator, B: Allocator>(
     section: &CountedSection<K, A>,
     target: &mut Module<B>,
-) -> R<()> {
+) -> Result<()> {
     if section.is_empty() {
         return Ok(());
     }
     target.section(section)
 }
 
-/// A function without locals, of these instructions.
+/// Returns a function without locals, with these instructions.
 ///
 /// # Proved
 ///
@@ -138,24 +139,24 @@ fn put_counted<K: ItemKind, A: Allocator, B: Allocator>(
 /// ensures ok { IfOk result (λ function. function ≡ 0 ∷ instructions.items) }
 /// ensures memory { result ≢ Err refusals.TooLong }
 /// ```
-fn function_of<A: Allocator>(alloc: A, instructions: Vec<u8, A>) -> R<Function<A>> {
+fn function_of<A: Allocator>(alloc: A, instructions: Vec<u8, A>) -> Result<Function<A>> {
     let mut function = Function::new(alloc, [])?;
     function.raw(instructions)?;
     Ok(function)
 }
 
-/// Adds bytes at this place of memory 0.
+/// Adds bytes at this offset of memory 0.
 ///
 /// # Proved
 ///
 /// ```text
-/// ensures { Adds (active_text 0 offset.now bytes.items) (FrameFits bytes.items) segments.old segments.new result }
+/// ensures { Adds (active_encoding 0 offset.now bytes.items) (HasEncodableSize bytes.items) segments.old segments.new result }
 /// ```
 fn add_data<A: Allocator>(
     segments: &mut DataSection<A>,
     offset: &ConstExpr<A>,
     bytes: Vec<u8, A>,
-) -> R<()> {
+) -> Result<()> {
     segments.active(0, offset, bytes)
 }
 
@@ -179,7 +180,7 @@ impl<A: Allocator + Copy> Recipe<A> {
         }
     }
 
-    /// Reads a line, and adds its item.
+    /// Parses a line, and adds its item.
     ///
     /// # Proved
     ///
@@ -205,12 +206,12 @@ impl<A: Allocator + Copy> Recipe<A> {
         }
     }
 
-    /// Reads the lines of a text into sections without items.
+    /// Parses the lines of a recipe into sections without items.
     ///
     /// # Proved
     ///
     /// ```text
-    /// ensures { IsEmpty self.old → MatchResult result (λ _. HoldsLines (lines_of lines.now) self.new) (λ fault. Explains lines.now fault.line fault.cause) }
+    /// ensures { IsEmpty self.old → MatchResult result (λ _. ContainsLines (lines_of lines.now) self.new) (λ fault. Explains lines.now fault.line fault.cause) }
     /// ```
     fn read_lines(&mut self, alloc: A, lines: &str) -> Result<(), RecipeFault> {
         let mut number = 0;
@@ -300,7 +301,7 @@ impl<A: Allocator + Copy> Recipe<A> {
         Ok(())
     }
 
-    /// Reads the start index, which replaces an earlier one.
+    /// Parses the start index, which replaces an earlier one.
     ///
     /// # Proved
     ///
@@ -340,7 +341,7 @@ impl<A: Allocator + Copy> Recipe<A> {
         Ok(())
     }
 
-    /// Reads the name of the module, which is the rest of the line.
+    /// Parses the name of the module: the remaining words of the line.
     ///
     /// # Proved
     ///
@@ -356,14 +357,14 @@ impl<A: Allocator + Copy> Recipe<A> {
         Ok(())
     }
 
-    /// Puts the type section into the module: the number of types, and these.
+    /// Appends the type section to the module: the number of types, and the types.
     ///
     /// # Proved
     ///
     /// ```text
-    /// ensures { Puts (section_of 1 self.now.types) (SectionFits self.now.types) target.old target.new result }
+    /// ensures { Puts (section_of 1 self.now.types) (IsEncodableSection self.now.types) target.old target.new result }
     /// ```
-    fn put_types(&self, alloc: A, target: &mut Module<A>) -> R<()> {
+    fn put_types(&self, alloc: A, target: &mut Module<A>) -> Result<()> {
         if self.types.is_empty() {
             return Ok(());
         }
@@ -379,9 +380,9 @@ impl<A: Allocator + Copy> Recipe<A> {
     /// # Proved
     ///
     /// ```text
-    /// ensures { Puts (start_of (start_items self.now.start)) (All FrameFits (start_items self.now.start)) target.old target.new result }
+    /// ensures { Puts (start_of (start_items self.now.start)) (All HasEncodableSize (start_items self.now.start)) target.old target.new result }
     /// ```
-    fn put_start(&self, target: &mut Module<A>) -> R<()> {
+    fn put_start(&self, target: &mut Module<A>) -> Result<()> {
         match self.start {
             Some(function_index) => target.section(&StartSection { function_index }),
             None => Ok(()),
@@ -391,9 +392,9 @@ impl<A: Allocator + Copy> Recipe<A> {
     /// # Proved
     ///
     /// ```text
-    /// ensures { Puts (section_of 10 self.now.code) (SectionFits self.now.code) target.old target.new result }
+    /// ensures { Puts (section_of 10 self.now.code) (IsEncodableSection self.now.code) target.old target.new result }
     /// ```
-    fn put_code(&self, target: &mut Module<A>) -> R<()> {
+    fn put_code(&self, target: &mut Module<A>) -> Result<()> {
         if self.code.is_empty() {
             return Ok(());
         }
@@ -403,23 +404,23 @@ impl<A: Allocator + Copy> Recipe<A> {
     /// # Proved
     ///
     /// ```text
-    /// ensures { Puts (names_of self.now.names) (NamesFit self.now.names) target.old target.new result }
+    /// ensures { Puts (names_of self.now.names) (AreEncodableNames self.now.names) target.old target.new result }
     /// ```
-    fn put_names(&self, target: &mut Module<A>) -> R<()> {
+    fn put_names(&self, target: &mut Module<A>) -> Result<()> {
         match self.names.len() {
             0 => Ok(()),
             _ => target.section(&self.names),
         }
     }
 
-    /// Puts the sections into the module, in the order of the standard.
+    /// Appends the sections to the module, in the order of the standard.
     ///
     /// # Proved
     ///
     /// ```text
-    /// ensures { Puts (listed self.now) (FitsSections self.now) target.old target.new result }
+    /// ensures { Puts (listed self.now) (AreEncodableSections self.now) target.old target.new result }
     /// ```
-    fn put_sections(&self, alloc: A, target: &mut Module<A>) -> R<()> {
+    fn put_sections(&self, alloc: A, target: &mut Module<A>) -> Result<()> {
         self.put_types(alloc, target)?;
         put_counted(&self.functions, target)?;
         put_counted(&self.memories, target)?;
@@ -431,22 +432,22 @@ impl<A: Allocator + Copy> Recipe<A> {
         self.put_names(target)
     }
 
-    /// The module of the sections.
+    /// Returns the module of the sections.
     ///
     /// # Proved
     ///
     /// ```text
-    /// ensures ok { IfOk result (λ bytes. bytes.items ≡ module_text (listed self.now)) }
-    /// ensures fitted { OnOk result (FitsSections self.now) }
-    /// ensures too_long { FitsSections self.now → result ≢ Err refusals.TooLong }
+    /// ensures ok { IfOk result (λ bytes. bytes.items ≡ module_encoding (listed self.now)) }
+    /// ensures was_encodable { OnOk result (AreEncodableSections self.now) }
+    /// ensures too_long { AreEncodableSections self.now → result ≢ Err refusals.TooLong }
     /// ```
-    fn finish(&self, alloc: A) -> R<Vec<u8, A>> {
+    fn finish(&self, alloc: A) -> Result<Vec<u8, A>> {
         let mut module = Module::new(alloc)?;
         self.put_sections(alloc, &mut module)?;
         Ok(module.finish())
     }
 
-    /// The module of the lines of a text, which are read into sections without items.
+    /// Returns the module of a recipe, whose lines are parsed into sections without items.
     ///
     /// # Proved
     ///
@@ -459,7 +460,7 @@ impl<A: Allocator + Copy> Recipe<A> {
     }
 }
 
-/// A line without the carriage return at its end.
+/// Returns the line without a carriage return at its end.
 ///
 /// # Proved
 ///
@@ -470,15 +471,27 @@ fn without_return(line: &str) -> &str {
     line.strip_suffix('\r').unwrap_or(line)
 }
 
-/// The module that a recipe makes, or its first faulty line.
+/// Assembles the module of a recipe.
 ///
-/// Each line is a command and its words. `type HEX` adds a type to the type section, `func N` a function of the type N, `memory MIN`
-/// a memory of at least so many pages, `global I` a number of 32 bits that is never set, `export NAME KIND N` the export of a `func`,
-/// `table`, `memory`, `global` or `tag`, `body HEX` a function without locals and with these instructions to the code section, and
-/// `data I HEX` bytes at the place I of memory 0. `start N` names the function that is run first; a later line replaces it. `name TEXT`
-/// adds the rest of the line, without the spaces before it, to the name section as the name of the module. Sections that received an
-/// item are written in the order of the standard, and the name section after them. A line without words is skipped, and words past
-/// those needed are ignored.
+/// Each line is a command and its words:
+///
+/// - `type HEX` adds a type to the type section.
+/// - `func N` adds a function of the type N.
+/// - `memory MIN` adds a memory of at least MIN pages.
+/// - `global I` adds an immutable global, a number of 32 bits.
+/// - `export NAME KIND N` adds an export of a `func`, `table`, `memory`, `global` or `tag`.
+/// - `body HEX` adds a function without locals and with these instructions to the code section.
+/// - `data I HEX` adds bytes at the offset I of memory 0.
+/// - `start N` sets the start function; a later line replaces it.
+/// - `name TEXT` sets the name of the module, in the name section: the remainder of the line,
+///   without the spaces before it.
+///
+/// Sections that received an item are written in the order of the standard, and the name section
+/// after them. A line without words is skipped, and words after the needed ones are ignored.
+///
+/// # Errors
+///
+/// Returns the first line with an error, and its cause; 0 is an error after the last line.
 ///
 /// ```
 /// # use dolzhytik::fallible::recipe::*;
@@ -494,9 +507,9 @@ fn without_return(line: &str) -> &str {
 ///
 /// ```text
 /// ensures good { OnOk result (All IsGood (lines_of lines.now)) }
-/// ensures fitted { OnOk result (RecipeFits (entries_of (lines_of lines.now))) }
+/// ensures was_encodable { OnOk result (IsEncodableRecipe (entries_of (lines_of lines.now))) }
 /// ensures value { IfOk result (λ bytes. bytes.items ≡ recipe_module (entries_of (lines_of lines.now))) }
-/// ensures read { IfOk result (λ bytes. ReadsWhole wasm_module bytes.items (sections_of (entries_of (lines_of lines.now)))) }
+/// ensures read { IfOk result (λ bytes. DecodesWhole wasm_module bytes.items (sections_of (entries_of (lines_of lines.now)))) }
 /// ensures fault { IfErr result (λ fault. Explains lines.now fault.line fault.cause) }
 /// ```
 pub fn assemble<A: Allocator + Copy>(alloc: A, lines: &str) -> Result<Vec<u8, A>, RecipeFault> {

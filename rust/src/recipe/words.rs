@@ -1,7 +1,7 @@
 // Written by tools/to-rust from crates/wasm_tool/src/words.rt: change that.
 // The words of a line.
 
-/// The words of a text, which are parted by spaces.
+/// The words of a line, separated by spaces.
 pub(crate) struct Words<'a> {
     rest: &'a str,
 }
@@ -16,7 +16,7 @@ impl<'a> Words<'a> {
         Words { rest: text }
     }
 
-    /// What is left, without the spaces before it.
+    /// Returns the remaining words, without the spaces before them.
     ///
     /// # Proved
     ///

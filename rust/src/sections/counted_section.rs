@@ -1,10 +1,10 @@
 // Written by tools/to-rust from crates/wasm_sections/src/counted_section.rt: change that.
-// Sections of counted items: what they have in common.
+// The builder of all sections of counted items.
 
 use crate::vec::Sink;
 use crate::alloc::{Allocator, Global};
 use core::marker::PhantomData;
-use crate::base::{Counted, Encode, EncodeOnce, Kind, Pieces, R, Section};
+use crate::base::{Counted, Encode, EncodeOnce, Kind, Pieces, Result, Section};
 
 /// A kind of items that a section counts.
 ///
@@ -15,7 +15,7 @@ use crate::base::{Counted, Encode, EncodeOnce, Kind, Pieces, R, Section};
 /// section_id: { ℕ }
 /// ```
 pub trait ItemKind: Kind {
-    /// The id of the section of these items.
+    /// Returns the id of the section of these items.
     ///
     /// # Proved
     ///
@@ -28,7 +28,12 @@ pub trait ItemKind: Kind {
 /// A record that can be added to a section of items of the kind `K`.
 pub trait RecordOf<K>: Encode {}
 
-/// A section of counted items of the kind `K`, seen as the bytes of each entry.
+/// A section of counted items of the kind `K`, modelled as the bytes of each entry.
+///
+/// # Errors
+///
+/// An adding call that returns an error leaves the section unchanged. The error is `TooLong` only
+/// if the section is full or the item does not fit, and `Memory` only if an allocation fails.
 #[derive(Debug)]
 pub struct CountedSection<K, A: Allocator = Global> {
     pieces: Pieces<A>,
@@ -36,7 +41,7 @@ pub struct CountedSection<K, A: Allocator = Global> {
 }
 
 impl<K, A: Allocator> CountedSection<K, A> {
-    /// The number of entries.
+    /// Returns the number of entries.
     ///
     /// # Proved
     ///
@@ -47,7 +52,7 @@ impl<K, A: Allocator> CountedSection<K, A> {
         self.pieces.len()
     }
 
-    /// Whether there is no entry.
+    /// Returns `true` if there are no entries.
     ///
     /// # Proved
     ///
@@ -58,7 +63,7 @@ impl<K, A: Allocator> CountedSection<K, A> {
         self.pieces.is_empty()
     }
 
-    /// The bytes of the entry at `index`.
+    /// Returns the bytes of the entry at `index`, or `None` if there is no such entry.
     ///
     /// # Proved
     ///
@@ -69,18 +74,18 @@ impl<K, A: Allocator> CountedSection<K, A> {
         self.pieces.get(index)
     }
 
-    /// Adds an entry that is the text of the record. A refused call leaves the section as it was.
+    /// Adds the encoding of the record as an entry.
     ///
     /// # Proved
     ///
     /// ```text
-    /// ensures { Adds (T.text given.now) (T.fits given.now) self.old self.new result }
+    /// ensures { Adds (T.encoding given.now) (T.encodable given.now) self.old self.new result }
     /// ```
-    pub(crate) fn add_record<T: Encode>(&mut self, given: &T) -> R<()> {
+    pub(crate) fn add_record<T: Encode>(&mut self, given: &T) -> Result<()> {
         self.pieces.add_encoded(given)
     }
 
-    /// Adds an entry that is a text of the item, which is written once. A refused call leaves the section as it was.
+    /// Adds an encoding of the item as an entry, and consumes the item.
     ///
     /// # Asks
     ///
@@ -91,26 +96,26 @@ impl<K, A: Allocator> CountedSection<K, A> {
     /// # Proved
     ///
     /// ```text
-    /// ensures { AddsOnce (T.gives item) (T.fits item) self.old self.new result }
+    /// ensures { AddsOnce (T.gives item) (T.encodable item) self.old self.new result }
     /// ```
-    pub(crate) fn add_once<T: EncodeOnce>(&mut self, item: T) -> R<()> {
+    pub(crate) fn add_once<T: EncodeOnce>(&mut self, item: T) -> Result<()> {
         self.pieces.add_once(item)
     }
 
-    /// Adds an entry that is spelled already. A refused call leaves the section as it was.
+    /// Adds an entry that is already encoded.
     ///
     /// # Proved
     ///
     /// ```text
     /// ensures { Adds piece.now ⊤ self.old self.new result }
     /// ```
-    pub(crate) fn add_piece(&mut self, piece: &[u8]) -> R<()> {
+    pub(crate) fn add_piece(&mut self, piece: &[u8]) -> Result<()> {
         self.pieces.add(piece)
     }
 }
 
 impl<K, A: Allocator + Copy> CountedSection<K, A> {
-    /// A section of no entries. It takes no memory.
+    /// Returns a section without entries, and allocates nothing.
     ///
     /// # Proved
     ///
@@ -124,7 +129,7 @@ impl<K, A: Allocator + Copy> CountedSection<K, A> {
         }
     }
 
-    /// A section of the same entries, in memory of its own.
+    /// Returns a section of the same entries, in memory of its own.
     ///
     /// # Proved
     ///
@@ -132,7 +137,7 @@ impl<K, A: Allocator + Copy> CountedSection<K, A> {
     /// ensures same { IfOk result (λ section. section ≡ self.now) }
     /// ensures memory { result ≢ Err TooLong }
     /// ```
-    pub fn clone(&self) -> R<Self> {
+    pub fn clone(&self) -> Result<Self> {
         Ok(CountedSection {
             pieces: self.pieces.clone()?,
             kind: PhantomData,
@@ -140,18 +145,18 @@ impl<K, A: Allocator + Copy> CountedSection<K, A> {
     }
 }
 
-/// The frame of the number of entries and of these.
+/// Encodes the size prefix, the number of entries, and the entries.
 ///
 /// # Defined
 ///
 /// ```text
-/// text = { section_text }
-/// fits = { SectionFits }
+/// encoding = { section_encoding }
+/// encodable = { IsEncodableSection }
 /// overlong = { IsOverlong }
-/// reading = { λ section. ReadsBackBoth (counted_format K.kind.format) (HoldsItems K.kind section) (HoldsWide K.kind.format section) (section_text section) }
+/// decoding = { λ section. DecodesBackBoth (counted_format K.kind.format) (ContainsItems K.kind section) (ContainsPadded K.kind.format section) (section_encoding section) }
 /// ```
 impl<K: ItemKind, A: Allocator> Encode for CountedSection<K, A> {
-    fn encode<B: Sink>(&self, sink: &mut B) -> R<()> {
+    fn encode<B: Sink>(&self, sink: &mut B) -> Result<()> {
         K::laws();
         self.pieces.encode(sink)
     }
@@ -163,10 +168,10 @@ impl<K: ItemKind, A: Allocator> Encode for CountedSection<K, A> {
 /// id_of = { λ _. K.section_id }
 /// Items = { List K.Item }
 /// format = { counted_format K.kind.format }
-/// says = { HoldsItems K.kind }
+/// says = { ContainsItems K.kind }
 /// payload = { SectionPayload }
-/// framed = { section_framed }
-/// reads_back = { λ section promised. promised.plain }
+/// sized = { section_sized }
+/// decodes_back = { λ section promised. promised.plain }
 /// ```
 impl<K: ItemKind, A: Allocator> Section for CountedSection<K, A> {
     fn id(&self) -> u8 {
@@ -178,12 +183,12 @@ impl<K: ItemKind, A: Allocator> Section for CountedSection<K, A> {
 ///
 /// ```text
 /// pieces = { λ section. section }
-/// item_text = { T.text }
-/// item_fits = { T.fits }
+/// item_encoding = { T.encoding }
+/// item_encodable = { T.encodable }
 /// counted = { λ section. refl }
 /// ```
 impl<K: ItemKind, T: RecordOf<K>, A: Allocator> Counted<T> for CountedSection<K, A> {
-    fn add(&mut self, item: &T) -> R<()> {
+    fn add(&mut self, item: &T) -> Result<()> {
         self.add_record(item)
     }
 }

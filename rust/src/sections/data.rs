@@ -1,15 +1,15 @@
 // Written by tools/to-rust from crates/wasm_sections/src/data.rt: change that.
-// Data segments and the data section.
+// The data section: its builder, its reader and its minimizer.
 
 use crate::vec::{Sink, Vec};
 use crate::sections::counted_section::{CountedSection, ItemKind};
 use crate::alloc::{Allocator, Global};
-use crate::base::{Encode, Kind, Lent, R, SectionId, bytes_of, encode_frame};
+use crate::base::{Encode, Kind, Lent, Result, SectionId, bytes_of, encode_size_prefixed};
 use crate::code::ConstExpr;
-use crate::reader::base::{Dropped, Passed, ReadFault, Readable, Shorten, Spelled, read_whole};
+use crate::reader::base::{Dropped, Layout, ReadFault, Readable, Shorten, Skip, read_whole};
 use crate::reader::insn::Expression;
 
-/// The bytes that a module puts in memories.
+/// The data section: segments of bytes that a module copies to memories.
 ///
 /// ```
 /// # use dolzhytik::{fallible::*, reader::*};
@@ -26,24 +26,24 @@ use crate::reader::insn::Expression;
 /// ```
 pub type DataSection<A = Global> = CountedSection<DataItems, A>;
 
-/// The items of a data section: segments of bytes.
+/// The kind of a data section's items: segments of bytes.
 #[derive(Clone, Copy, Debug)]
 pub struct DataItems;
 
-/// When the bytes of a segment are put in a memory.
+/// The mode of a data segment: when its bytes are copied to a memory.
 #[derive(Debug)]
 pub enum DataSegmentMode<'a, A: Allocator = Global> {
-    /// When the module is instantiated.
+    /// The bytes are copied when the module is instantiated.
     Active {
         memory_index: u32,
-        /// Computes the place of the first byte.
+        /// Computes the offset of the first byte in the memory.
         offset: &'a ConstExpr<A>,
     },
-    /// When an instruction `MemoryInit` says so.
+    /// The bytes are copied by an instruction `MemoryInit`.
     Passive,
 }
 
-/// A segment of bytes, which an iterator gives.
+/// A data segment, whose bytes an iterator yields.
 #[derive(Debug)]
 pub struct DataSegment<'a, D, A: Allocator = Global> {
     pub mode: DataSegmentMode<'a, A>,
@@ -51,7 +51,7 @@ pub struct DataSegment<'a, D, A: Allocator = Global> {
 }
 
 impl<'a, A: Allocator> DataSegmentMode<'a, A> {
-    /// The same mode.
+    /// Returns the same mode.
     ///
     /// # Proved
     ///
@@ -59,7 +59,7 @@ impl<'a, A: Allocator> DataSegmentMode<'a, A> {
     /// ensures same { IfOk result (λ mode. mode ≡ self.now) }
     /// ensures memory { result ≢ Err TooLong }
     /// ```
-    pub fn clone(&self) -> R<Self> {
+    pub fn clone(&self) -> Result<Self> {
         Ok(match self {
             DataSegmentMode::Active {
                 memory_index,
@@ -74,7 +74,7 @@ impl<'a, A: Allocator> DataSegmentMode<'a, A> {
 }
 
 impl<'a, D: Clone, A: Allocator> DataSegment<'a, D, A> {
-    /// The same segment: its mode, and a clone of its bytes.
+    /// Returns the same segment: its mode, and a clone of its bytes.
     ///
     /// # Proved
     ///
@@ -83,7 +83,7 @@ impl<'a, D: Clone, A: Allocator> DataSegment<'a, D, A> {
     /// ensures bytes { IfOk result (λ segment. D.is_clone self.now.bytes segment.bytes) }
     /// ensures memory { result ≢ Err TooLong }
     /// ```
-    pub fn clone(&self) -> R<Self> {
+    pub fn clone(&self) -> Result<Self> {
         Ok(DataSegment {
             mode: self.mode.clone()?,
             bytes: self.bytes.clone(),
@@ -113,10 +113,11 @@ impl ItemKind for DataItems {
     }
 }
 
-/// A flag, the memory where it isn't 0, the place where the segment is active, and the bytes: see "Data Section".
+/// Adding calls. A segment is a flag, the memory if it is not 0, the offset of an active segment,
+/// and the bytes: see "Data Section".
 impl<A: Allocator> DataSection<A> {
-    /// Adds a segment. A refused call leaves the section as it was. Where there are too many bytes, it answers `TooLong`, and asks for
-    /// none, as tests show.
+    /// Adds a segment. If there are too many bytes, it returns `TooLong` and requests none, as
+    /// tests show.
     ///
     /// # Asks
     ///
@@ -127,12 +128,12 @@ impl<A: Allocator> DataSection<A> {
     /// # Proved
     ///
     /// ```text
-    /// ensures { AddsBytes D.into_iter_gives D.IntoIter.next_gives D.IntoIter.remaining segment.entry.bytes (segment_text segment.entry.mode) self.old self.new result }
+    /// ensures { AddsBytes D.into_iter_gives D.IntoIter.next_gives D.IntoIter.remaining segment.entry.bytes (segment_encoding segment.entry.mode) self.old self.new result }
     /// ```
     pub fn segment<D: IntoIterator<Item = u8>, B: Allocator>(
         &mut self,
         segment: DataSegment<'_, D, B>,
-    ) -> R<()>
+    ) -> Result<()>
     where
         D::IntoIter: ExactSizeIterator,
     {
@@ -146,8 +147,8 @@ impl<A: Allocator> DataSection<A> {
         }
     }
 
-    /// Adds a segment whose bytes are put in this memory when the module is instantiated. A refused call leaves the section as it
-    /// was; where there are too many bytes, the answer is `TooLong`.
+    /// Adds a segment whose bytes are copied to this memory when the module is instantiated. If
+    /// there are too many bytes, it returns `TooLong`.
     ///
     /// # Asks
     ///
@@ -158,14 +159,14 @@ impl<A: Allocator> DataSection<A> {
     /// # Proved
     ///
     /// ```text
-    /// ensures { AddsBytes D.into_iter_gives D.IntoIter.next_gives D.IntoIter.remaining bytes (active_text memory_index offset.now) self.old self.new result }
+    /// ensures { AddsBytes D.into_iter_gives D.IntoIter.next_gives D.IntoIter.remaining bytes (active_encoding memory_index offset.now) self.old self.new result }
     /// ```
     pub fn active<D: IntoIterator<Item = u8>, B: Allocator>(
         &mut self,
         memory_index: u32,
         offset: &ConstExpr<B>,
         bytes: D,
-    ) -> R<()>
+    ) -> Result<()>
     where
         D::IntoIter: ExactSizeIterator,
     {
@@ -176,8 +177,8 @@ impl<A: Allocator> DataSection<A> {
         }
     }
 
-    /// Adds a segment whose bytes are put in a memory when code says so. A refused call leaves the section as it was; where there
-    /// are too many bytes, the answer is `TooLong`.
+    /// Adds a segment whose bytes are copied to a memory by an instruction. If there are too many
+    /// bytes, it returns `TooLong`.
     ///
     /// # Asks
     ///
@@ -188,45 +189,45 @@ impl<A: Allocator> DataSection<A> {
     /// # Proved
     ///
     /// ```text
-    /// ensures { AddsBytes D.into_iter_gives D.IntoIter.next_gives D.IntoIter.remaining bytes passive_text self.old self.new result }
+    /// ensures { AddsBytes D.into_iter_gives D.IntoIter.next_gives D.IntoIter.remaining bytes passive_encoding self.old self.new result }
     /// ```
-    pub fn passive<D: IntoIterator<Item = u8>>(&mut self, bytes: D) -> R<()>
+    pub fn passive<D: IntoIterator<Item = u8>>(&mut self, bytes: D) -> Result<()>
     where
         D::IntoIter: ExactSizeIterator,
     {
         self.add_bytes(PASSIVE, bytes)
     }
 
-    /// Adds a segment that is spelled already. A refused call leaves the section as it was.
+    /// Adds a segment that is already encoded. The call does not check that it is one.
     ///
     /// # Proved
     ///
     /// ```text
     /// ensures { Adds segment.now ⊤ self.old self.new result }
     /// ```
-    pub fn raw(&mut self, segment: &[u8]) -> R<()> {
+    pub fn raw(&mut self, segment: &[u8]) -> Result<()> {
         self.add_piece(segment)
     }
 
-    /// Adds a segment of what stands before its bytes, and these.
+    /// Adds a segment of `front` and the bytes.
     ///
     /// # Asks
     ///
     /// ```text
     /// requires length { HasKnownLength D.into_iter_gives D.IntoIter.can_next D.IntoIter.next_gives D.IntoIter.remaining bytes }
-    /// requires fits { S.fits front }
+    /// requires encodable { S.encodable front }
     /// ```
     ///
     /// # Proved
     ///
     /// ```text
-    /// ensures { AddsBytes D.into_iter_gives D.IntoIter.next_gives D.IntoIter.remaining bytes (λ b. S.text front ++ frame_text b) self.old self.new result }
+    /// ensures { AddsBytes D.into_iter_gives D.IntoIter.next_gives D.IntoIter.remaining bytes (λ b. S.encoding front ++ size_prefixed_encoding b) self.old self.new result }
     /// ```
     fn add_bytes<S: Encode, D: IntoIterator<Item = u8>>(
         &mut self,
         front: S,
         bytes: D,
-    ) -> R<()>
+    ) -> Result<()>
     where
         D::IntoIter: ExactSizeIterator,
     {
@@ -242,7 +243,7 @@ pub(crate) const PASSIVE: u8 = 0x01;
 
 pub(crate) const ACTIVE_IN_MEMORY: u8 = 0x02;
 
-/// Bytes behind their number.
+/// Bytes after their count.
 #[derive(Clone, Copy, Debug)]
 struct Bytes<'a>(&'a [u8]);
 
@@ -253,11 +254,11 @@ struct Bytes<'a>(&'a [u8]);
 /// format = { vec byte }
 /// view = { λ b. b.0.now }
 /// ```
-impl<'a> Spelled for Bytes<'a> {
+impl<'a> Layout for Bytes<'a> {
     /// # Proved
     ///
     /// ```text
-    /// ensures { UniqueReading (vec byte) }
+    /// ensures { Unambiguous (vec byte) }
     /// ```
     fn laws() {}
 }
@@ -269,17 +270,17 @@ impl<'a, A: Allocator + Copy> Readable<'a, A> for Bytes<'a> {
     }
 }
 
-/// A data segment, whose bytes are a slice of the input.
+/// A decoded data segment, whose bytes are a slice of the input.
 #[derive(Debug)]
 pub enum Segment<'a, A: Allocator = Global> {
-    /// Its bytes are put in the memory when the module is instantiated.
+    /// The bytes are copied to the memory when the module is instantiated.
     Active {
         memory: u32,
-        /// Computes the place of the first byte.
+        /// Computes the offset of the first byte in the memory.
         offset: Expression<A>,
         bytes: &'a [u8],
     },
-    /// Its bytes are put in a memory when an instruction says so.
+    /// The bytes are copied to a memory by an instruction.
     Passive {
         bytes: &'a [u8],
     },
@@ -292,11 +293,11 @@ pub enum Segment<'a, A: Allocator = Global> {
 /// format = { data_item }
 /// view = { segment_view }
 /// ```
-impl<'a, A: Allocator> Spelled for Segment<'a, A> {
+impl<'a, A: Allocator> Layout for Segment<'a, A> {
     /// # Proved
     ///
     /// ```text
-    /// ensures { UniqueReading data_item }
+    /// ensures { Unambiguous data_item }
     /// ```
     fn laws() {}
 }
@@ -347,13 +348,18 @@ impl<'a, A: Allocator + Copy> Readable<'a, A> for Segment<'a, A> {
     }
 }
 
-/// Segments behind their number, which all of the bytes spell. Memory is taken for those that stand there, and not by their number.
+/// Decodes the payload of a data section: a count and that many segments, which occupy all of the
+/// bytes. Memory grows with the segments that decode, and is not allocated by the count.
+///
+/// # Errors
+///
+/// Any error but `Memory` means that the bytes are not such a payload.
 ///
 /// # Proved
 ///
 /// ```text
-/// ensures found { IfOk result (λ x. vec data_item wide bytes.now (map segment_view x.items)) }
-/// ensures none { IfErr result (λ e. e ≢ Memory → FillsNothing (vec data_item) bytes.now) }
+/// ensures found { IfOk result (λ x. vec data_item padded bytes.now (map segment_view x.items)) }
+/// ensures none { IfErr result (λ e. e ≢ Memory → RejectsWhole (vec data_item) bytes.now) }
 /// ```
 pub fn read_segments<'a, A: Allocator + Copy + 'a>(
     bytes: &'a [u8],
@@ -362,84 +368,69 @@ pub fn read_segments<'a, A: Allocator + Copy + 'a>(
     read_whole::<'a, Vec<Segment<'a, A>, A>, A>(bytes, alloc)
 }
 
-/// Appends the place and the bytes of a segment.
+/// Appends the offset and the bytes of a segment.
 ///
 /// # Proved
 ///
 /// ```text
-/// ensures ok { OnOk result (AppendsShortest (pair expression (vec byte)) (instructions_view offset.now, bytes.now) out.old.items out.new.items) }
-/// ensures front { IsFrontOf out.old.items out.new.items }
+/// ensures ok { OnOk result (AppendsMinimal (pair expression (vec byte)) (instructions_view offset.now, bytes.now) sink.old.items sink.new.items) }
+/// ensures front { IsFrontOf sink.old.items sink.new.items }
 /// ensures too_long { HasEncoding (pair expression (vec byte)) (instructions_view offset.now, bytes.now) → result ≢ Err TooLong }
 /// ```
 fn append_placed<A: Allocator, B: Sink>(
     offset: &Expression<A>,
     bytes: &[u8],
-    out: &mut B,
-) -> R<()> {
-    offset.write_minimal(out)?;
-    encode_frame(out, bytes)
+    sink: &mut B,
+) -> Result<()> {
+    offset.write_minimal(sink)?;
+    encode_size_prefixed(sink, bytes)
 }
 
-/// Appends a segment of the memory: memory 0 has a flag of its own.
+/// Appends an active segment of the memory. Memory 0 has a flag of its own.
 ///
 /// # Proved
 ///
 /// ```text
-/// ensures ok { OnOk result (AppendsShortest data_item (active memory (instructions_view offset.now) bytes.now) out.old.items out.new.items) }
-/// ensures front { IsFrontOf out.old.items out.new.items }
+/// ensures ok { OnOk result (AppendsMinimal data_item (active memory (instructions_view offset.now) bytes.now) sink.old.items sink.new.items) }
+/// ensures front { IsFrontOf sink.old.items sink.new.items }
 /// ensures too_long { HasEncoding data_item (active memory (instructions_view offset.now) bytes.now) → result ≢ Err TooLong }
 /// ```
 fn append_active<A: Allocator, B: Sink>(
     memory: u32,
     offset: &Expression<A>,
     bytes: &[u8],
-    out: &mut B,
-) -> R<()> {
+    sink: &mut B,
+) -> Result<()> {
     if memory == 0 {
-        0u32.encode(out)?;
-        return append_placed(offset, bytes, out);
+        0u32.encode(sink)?;
+        return append_placed(offset, bytes, sink);
     }
-    (2u32, memory).encode(out)?;
-    append_placed(offset, bytes, out)
+    (2u32, memory).encode(sink)?;
+    append_placed(offset, bytes, sink)
 }
 
 impl<'a, A: Allocator> Shorten for Segment<'a, A> {
-    fn write_minimal<B: Sink>(&self, out: &mut B) -> R<()> {
+    fn write_minimal<B: Sink>(&self, sink: &mut B) -> Result<()> {
         match self {
             Segment::Active {
                 memory,
                 offset,
                 bytes,
-            } => append_active(*memory, offset, bytes, out),
+            } => append_active(*memory, offset, bytes, sink),
             Segment::Passive { bytes } => {
-                1u32.encode(out)?;
-                encode_frame(out, bytes)
+                1u32.encode(sink)?;
+                encode_size_prefixed(sink, bytes)
             }
         }
     }
 }
 
-/// # Defined
-///
-/// ```text
-/// Value = { DataItem }
-/// format = { data_item }
-/// ```
-impl<'a, A: Allocator + Copy> Passed<'a, A> for Segment<'a, A> {
-    /// # Proved
-    ///
-    /// ```text
-    /// ensures { UniqueReading data_item }
-    /// ```
-    fn laws() {}
-
-    fn pass(bytes: &'a [u8], alloc: A) -> Result<&'a [u8], ReadFault> {
+impl<'a, A: Allocator + Copy> Skip<'a, A> for Segment<'a, A> {
+    fn skip(bytes: &'a [u8], alloc: A) -> Result<&'a [u8], ReadFault> {
         let (flag, rest) = <u32 as Readable<'a, A>>::read(bytes, alloc)?;
         match flag {
             0 => {
-                let rest = <(Expression<A>, Dropped<Bytes<'a>>) as Passed<'a, A>>::pass(
-                    rest, alloc,
-                )?;
+                let rest = <(Expression<A>, Dropped<Bytes<'a>>) as Skip<'a, A>>::skip(rest, alloc)?;
                 Ok(rest)
             }
             1 => {
@@ -451,9 +442,7 @@ impl<'a, A: Allocator + Copy> Passed<'a, A> for Segment<'a, A> {
                 if memory == 0 {
                     return Err(ReadFault::UnknownTag);
                 }
-                let rest = <(Expression<A>, Dropped<Bytes<'a>>) as Passed<'a, A>>::pass(
-                    rest, alloc,
-                )?;
+                let rest = <(Expression<A>, Dropped<Bytes<'a>>) as Skip<'a, A>>::skip(rest, alloc)?;
                 Ok(rest)
             }
             _ => Err(ReadFault::UnknownTag),

@@ -1,13 +1,13 @@
 // Written by tools/to-rust from crates/wasm_sections/src/element.rt: change that.
-// Element segments and the element section.
+// The builder of the element section.
 
 use crate::vec::{Sink, Vec};
 use crate::sections::counted_section::{CountedSection, ItemKind};
 use crate::alloc::{Allocator, Global};
-use crate::base::{AbstractHeapType, CowSlice, Encode, HeapType, Kind, Lent, R, RefType, SectionId};
+use crate::base::{AbstractHeapType, CowSlice, Encode, HeapType, Kind, Lent, RefType, Result, SectionId};
 use crate::code::ConstExpr;
 
-/// The references that a module puts in tables.
+/// The element section: segments of references that a module copies to tables.
 ///
 /// ```
 /// # use dolzhytik::{fallible::*, reader::*};
@@ -23,7 +23,7 @@ use crate::code::ConstExpr;
 /// ```
 pub type ElementSection<A = Global> = CountedSection<ElementItems, A>;
 
-/// The items of an element section: segments of references.
+/// The kind of an element section's items: segments of references.
 #[derive(Clone, Copy, Debug)]
 pub struct ElementItems;
 
@@ -36,31 +36,32 @@ pub enum Elements<'a, A: Allocator = Global> {
     Expressions(RefType, CowSlice<'a, ConstExpr<A>, A>),
 }
 
-/// When the references of a segment are put in a table.
+/// The mode of an element segment: when its references are copied to a table.
 #[derive(Debug)]
 pub enum ElementMode<'a, A: Allocator = Global> {
-    /// When an instruction `TableInit` says so.
+    /// The references are copied by an instruction `TableInit`.
     Passive,
-    /// Never: the segment declares that code may refer to these functions.
+    /// The references are never copied: the segment declares that code may refer to these
+    /// functions.
     Declared,
-    /// When the module is instantiated.
+    /// The references are copied when the module is instantiated.
     Active {
-        /// `None` is table 0, and is written in a form without a table where there is one: for functions, and for expressions of the
-        /// type [`RefType::FUNCREF`].
+        /// `None` is table 0. It is encoded in a form without a table if there is one: for
+        /// functions, and for expressions of the type [`RefType::FUNCREF`].
         table: Option<u32>,
-        /// Computes the place of the first reference.
+        /// Computes the offset of the first reference in the table.
         offset: &'a ConstExpr<A>,
     },
 }
 
-/// A segment of references.
+/// An element segment: its mode and its references.
 #[derive(Debug)]
 pub struct ElementSegment<'a, A: Allocator = Global> {
     pub mode: ElementMode<'a, A>,
     pub elements: Elements<'a, A>,
 }
 
-/// The same expressions, each in memory of its own.
+/// Returns the same expressions, each in memory of its own.
 ///
 /// # Proved
 ///
@@ -71,7 +72,7 @@ pub struct ElementSegment<'a, A: Allocator = Global> {
 fn clone_each<A: Allocator + Copy>(
     alloc: A,
     expressions: &[ConstExpr<A>],
-) -> R<Vec<ConstExpr<A>, A>> {
+) -> Result<Vec<ConstExpr<A>, A>> {
     let mut cloned = Vec::with_capacity(alloc, expressions.len())?;
     for expression in expressions {
         let copy = expression.clone()?;
@@ -81,7 +82,7 @@ fn clone_each<A: Allocator + Copy>(
 }
 
 impl<'a, A: Allocator + Copy> Elements<'a, A> {
-    /// The same references: owned ones in memory of their own.
+    /// Returns the same references, and copies owned ones into memory of their own.
     ///
     /// # Proved
     ///
@@ -89,7 +90,7 @@ impl<'a, A: Allocator + Copy> Elements<'a, A> {
     /// ensures same { IfOk result (λ elements. list_in elements ≡ list_in self.now) }
     /// ensures memory { result ≢ Err TooLong }
     /// ```
-    pub fn clone(&self) -> R<Self> {
+    pub fn clone(&self) -> Result<Self> {
         match self {
             Elements::Functions(functions) => Ok(Elements::Functions(functions.clone()?)),
             Elements::Expressions(ty, CowSlice::Borrowed(expressions)) => Ok(Elements::Expressions(
@@ -105,7 +106,7 @@ impl<'a, A: Allocator + Copy> Elements<'a, A> {
 }
 
 impl<'a, A: Allocator> ElementMode<'a, A> {
-    /// The same mode.
+    /// Returns the same mode.
     ///
     /// # Proved
     ///
@@ -113,7 +114,7 @@ impl<'a, A: Allocator> ElementMode<'a, A> {
     /// ensures same { IfOk result (λ mode. mode ≡ self.now) }
     /// ensures memory { result ≢ Err TooLong }
     /// ```
-    pub fn clone(&self) -> R<Self> {
+    pub fn clone(&self) -> Result<Self> {
         Ok(match self {
             ElementMode::Passive => ElementMode::Passive,
             ElementMode::Declared => ElementMode::Declared,
@@ -126,7 +127,7 @@ impl<'a, A: Allocator> ElementMode<'a, A> {
 }
 
 impl<'a, A: Allocator + Copy> ElementSegment<'a, A> {
-    /// The same segment: owned references in memory of their own.
+    /// Returns the same segment, and copies owned references into memory of their own.
     ///
     /// # Proved
     ///
@@ -134,7 +135,7 @@ impl<'a, A: Allocator + Copy> ElementSegment<'a, A> {
     /// ensures same { IfOk result (λ segment. segment_in segment ≡ segment_in self.now) }
     /// ensures memory { result ≢ Err TooLong }
     /// ```
-    pub fn clone(&self) -> R<Self> {
+    pub fn clone(&self) -> Result<Self> {
         Ok(ElementSegment {
             mode: self.mode.clone()?,
             elements: self.elements.clone()?,
@@ -142,7 +143,7 @@ impl<'a, A: Allocator + Copy> ElementSegment<'a, A> {
     }
 }
 
-/// Whether it is the type [`RefType::FUNCREF`], for which there are forms that tell no type.
+/// Returns `true` for the type [`RefType::FUNCREF`], which has forms without an explicit type.
 ///
 /// # Proved
 ///
@@ -159,7 +160,7 @@ fn has_short_form(ty: RefType) -> bool {
     }
 }
 
-/// The table that is named: table 0 where one is needed and none is given.
+/// Returns the explicit table: table 0 if one is needed and `table` is `None`.
 ///
 /// # Proved
 ///
@@ -175,7 +176,7 @@ fn named_table(table: Option<u32>, needed: bool) -> Option<u32> {
 }
 
 impl<A: Allocator> Elements<'_, A> {
-    /// Whether an active segment of these names its table.
+    /// Returns `true` if an active segment of these references needs an explicit table.
     ///
     /// # Proved
     ///
@@ -189,7 +190,7 @@ impl<A: Allocator> Elements<'_, A> {
         }
     }
 
-    /// The bit of the flag that says that these are expressions.
+    /// Returns the bit of the flag that marks expressions.
     ///
     /// # Proved
     ///
@@ -205,7 +206,7 @@ impl<A: Allocator> Elements<'_, A> {
     }
 }
 
-// Parts of the flag of a segment.
+// Bits of the flag of a segment.
 const PASSIVE: u8 = 0x01;
 
 const WITH_TABLE: u8 = 0x02;
@@ -214,26 +215,26 @@ const DECLARED: u8 = 0x03;
 
 const EXPRESSIONS: u8 = 0x04;
 
-/// The byte that tells of functions, where expressions have a type.
+/// The kind byte of functions, in the forms in which expressions have a type.
 const FUNCTIONS: u8 = 0x00;
 
-/// References, and whether their type is told before them.
-struct Told<'a, 'b, A: Allocator> {
-    told: bool,
+/// References, and whether their type is explicit in the encoding.
+struct TypedElements<'a, 'b, A: Allocator> {
+    explicit: bool,
     elements: &'b Elements<'a, A>,
 }
 
-/// The type, where it is told, and the references.
+/// Encodes the type if it is explicit, and the references.
 ///
 /// # Defined
 ///
 /// ```text
-/// text = { λ t. elements_text expression_text t.told (list_in t.elements.now) }
-/// fits = { λ t. ElementsFit (list_in t.elements.now) }
+/// encoding = { λ t. elements_encoding expression_encoding t.explicit (list_in t.elements.now) }
+/// encodable = { λ t. AreEncodableElements (list_in t.elements.now) }
 /// ```
-impl<A: Allocator> Encode for Told<'_, '_, A> {
-    fn encode<B: Sink>(&self, sink: &mut B) -> R<()> {
-        match (self.elements, self.told) {
+impl<A: Allocator> Encode for TypedElements<'_, '_, A> {
+    fn encode<B: Sink>(&self, sink: &mut B) -> Result<()> {
+        match (self.elements, self.explicit) {
             (Elements::Functions(functions), true) => {
                 (FUNCTIONS, functions.as_slice()).encode(sink)
             }
@@ -246,62 +247,34 @@ impl<A: Allocator> Encode for Told<'_, '_, A> {
     }
 }
 
-/// A flag, the table and the place where they are told, and the references.
+/// Encodes a flag, the table and the offset if they are explicit, and the references.
 ///
 /// # Defined
 ///
 /// ```text
-/// text = { given_text }
-/// fits = { λ s. ElementsFit (list_in s.elements) }
+/// encoding = { given_encoding }
+/// encodable = { λ s. AreEncodableElements (list_in s.elements) }
 /// ```
 impl<A: Allocator> Encode for ElementSegment<'_, A> {
-    fn encode<B: Sink>(&self, sink: &mut B) -> R<()> {
+    fn encode<B: Sink>(&self, sink: &mut B) -> Result<()> {
         let flag = self.elements.flag();
-        let elements = &self.elements;
+        let typed = TypedElements {
+            explicit: true,
+            elements: &self.elements,
+        };
         match &self.mode {
-            ElementMode::Passive => {
-                (
-                    flag + PASSIVE,
-                    Told {
-                        told: true,
-                        elements,
-                    },
-                )
-                    .encode(sink)
-            }
-            ElementMode::Declared => {
-                (
-                    flag + DECLARED,
-                    Told {
-                        told: true,
-                        elements,
-                    },
-                )
-                    .encode(sink)
-            }
+            ElementMode::Passive => (flag + PASSIVE, typed).encode(sink),
+            ElementMode::Declared => (flag + DECLARED, typed).encode(sink),
             ElementMode::Active { table, offset } => {
-                match named_table(*table, elements.needs_table()) {
-                    Some(table) => {
-                        let place = (table, Lent(*offset));
-                        (
-                            flag + WITH_TABLE,
-                            place,
-                            Told {
-                                told: true,
-                                elements,
-                            },
-                        )
-                            .encode(sink)
+                match named_table(*table, self.elements.needs_table()) {
+                    Some(table) => (flag + WITH_TABLE, (table, Lent(*offset)), typed).encode(sink),
+                    None => {
+                        let untyped = TypedElements {
+                            explicit: false,
+                            elements: &self.elements,
+                        };
+                        (flag, Lent(*offset), untyped).encode(sink)
                     }
-                    None => (
-                        flag,
-                        Lent(*offset),
-                        Told {
-                            told: false,
-                            elements,
-                        },
-                    )
-                        .encode(sink),
                 }
             }
         }
@@ -330,46 +303,46 @@ impl ItemKind for ElementItems {
     }
 }
 
-/// Adding calls. A refused one leaves the section as it was. The layout is that of "Element Section".
+/// Adding calls. The layout is that of "Element Section".
 impl<A: Allocator> ElementSection<A> {
     /// Adds a segment.
     ///
     /// # Proved
     ///
     /// ```text
-    /// ensures { Adds (given_text segment.entry) (ElementsFit (list_in segment.entry.elements)) self.old self.new result }
+    /// ensures { Adds (given_encoding segment.entry) (AreEncodableElements (list_in segment.entry.elements)) self.old self.new result }
     /// ```
-    pub fn segment<B: Allocator>(&mut self, segment: ElementSegment<'_, B>) -> R<()> {
+    pub fn segment<B: Allocator>(&mut self, segment: ElementSegment<'_, B>) -> Result<()> {
         self.add_record(&segment)
     }
 
-    /// Adds a segment whose references are put in this table when the module is instantiated.
+    /// Adds a segment whose references are copied to this table when the module is instantiated.
     ///
     /// # Proved
     ///
     /// ```text
-    /// ensures { Adds (given_text (record { mode = modes.Active table offset.entry; elements = elements.entry })) (ElementsFit (list_in elements.entry)) self.old self.new result }
+    /// ensures { Adds (given_encoding (record { mode = modes.Active table offset.entry; elements = elements.entry })) (AreEncodableElements (list_in elements.entry)) self.old self.new result }
     /// ```
     pub fn active<'a, B: Allocator>(
         &mut self,
         table: Option<u32>,
         offset: &'a ConstExpr<B>,
         elements: Elements<'a, B>,
-    ) -> R<()> {
+    ) -> Result<()> {
         self.segment(ElementSegment {
             mode: ElementMode::Active { table, offset },
             elements,
         })
     }
 
-    /// Adds a segment whose references are put in a table when code says so.
+    /// Adds a segment whose references are copied to a table by an instruction.
     ///
     /// # Proved
     ///
     /// ```text
-    /// ensures { Adds (given_text (record { mode = modes.Passive; elements = elements.entry })) (ElementsFit (list_in elements.entry)) self.old self.new result }
+    /// ensures { Adds (given_encoding (record { mode = modes.Passive; elements = elements.entry })) (AreEncodableElements (list_in elements.entry)) self.old self.new result }
     /// ```
-    pub fn passive<B: Allocator>(&mut self, elements: Elements<'_, B>) -> R<()> {
+    pub fn passive<B: Allocator>(&mut self, elements: Elements<'_, B>) -> Result<()> {
         self.segment(ElementSegment {
             mode: ElementMode::Passive,
             elements,
@@ -381,23 +354,23 @@ impl<A: Allocator> ElementSection<A> {
     /// # Proved
     ///
     /// ```text
-    /// ensures { Adds (given_text (record { mode = modes.Declared; elements = elements.entry })) (ElementsFit (list_in elements.entry)) self.old self.new result }
+    /// ensures { Adds (given_encoding (record { mode = modes.Declared; elements = elements.entry })) (AreEncodableElements (list_in elements.entry)) self.old self.new result }
     /// ```
-    pub fn declared<B: Allocator>(&mut self, elements: Elements<'_, B>) -> R<()> {
+    pub fn declared<B: Allocator>(&mut self, elements: Elements<'_, B>) -> Result<()> {
         self.segment(ElementSegment {
             mode: ElementMode::Declared,
             elements,
         })
     }
 
-    /// Adds a segment that is spelled already.
+    /// Adds a segment that is already encoded. The call does not check that it is one.
     ///
     /// # Proved
     ///
     /// ```text
     /// ensures { Adds segment.now ⊤ self.old self.new result }
     /// ```
-    pub fn raw(&mut self, segment: &[u8]) -> R<()> {
+    pub fn raw(&mut self, segment: &[u8]) -> Result<()> {
         self.add_piece(segment)
     }
 }

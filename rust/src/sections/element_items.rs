@@ -1,13 +1,13 @@
 // Written by tools/to-rust from crates/wasm_sections/src/element_items.rt: change that.
-// Element segments that were read.
+// The reader and the minimizer of the element section.
 
 use crate::vec::{Sink, Vec};
 use crate::alloc::{Allocator, Global};
-use crate::base::{Encode, R, RefType};
-use crate::reader::base::{Dropped, Passed, ReadFault, Readable, Shorten, Spelled, pass_many};
+use crate::base::{Encode, RefType, Result};
+use crate::reader::base::{Dropped, Layout, ReadFault, Readable, Shorten, Skip, skip_many};
 use crate::reader::insn::Expression;
 
-/// What the flag of an element segment says.
+/// The flag of an element segment, as its bits.
 #[derive(Clone, Copy, Debug)]
 struct ElementFlag {
     not_active: bool,
@@ -16,7 +16,7 @@ struct ElementFlag {
 }
 
 impl ElementFlag {
-    /// Its number.
+    /// Returns the number that encodes the flag.
     ///
     /// # Proved
     ///
@@ -30,14 +30,14 @@ impl ElementFlag {
         not_active + second + expressions
     }
 
-    /// Whether the kind of the elements is told.
+    /// Returns `true` if the kind of the elements is explicit in the encoding.
     ///
     /// # Proved
     ///
     /// ```text
-    /// ensures { result ≡ tells_kind (element_flag_view self) }
+    /// ensures { result ≡ has_kind (element_flag_view self) }
     /// ```
-    fn tells_kind(self) -> bool {
+    fn has_kind(self) -> bool {
         self.not_active || self.second
     }
 }
@@ -49,7 +49,7 @@ impl ElementFlag {
 /// format = { numbered flag_code }
 /// view = { element_flag_view }
 /// ```
-impl Spelled for ElementFlag {
+impl Layout for ElementFlag {
     fn laws() {}
 }
 
@@ -68,23 +68,23 @@ impl<'a, A: Allocator + Copy> Readable<'a, A> for ElementFlag {
     }
 }
 
-/// When the elements of a segment are put in a table.
+/// The mode of a decoded element segment: when its elements are copied to a table.
 #[derive(Debug)]
 pub enum ElementItemMode<A: Allocator = Global> {
-    /// When an instruction says so.
+    /// The elements are copied by an instruction.
     Passive,
-    /// Never: the segment declares that code may refer to these functions.
+    /// The elements are never copied: the segment declares that code may refer to these functions.
     Declared,
-    /// When the module is instantiated.
+    /// The elements are copied when the module is instantiated.
     Active {
-        /// `None` where no table is named, which stands for table 0.
+        /// `None` if the table is not explicit, which means table 0.
         table: Option<u32>,
-        /// Computes the place of the first element.
+        /// Computes the offset of the first element in the table.
         offset: Expression<A>,
     },
 }
 
-/// The elements of a segment.
+/// The elements of a decoded segment.
 #[derive(Debug)]
 pub enum ElementList<A: Allocator = Global> {
     /// References to the functions of these indices.
@@ -93,20 +93,20 @@ pub enum ElementList<A: Allocator = Global> {
     Expressions(RefType, Vec<Expression<A>, A>),
 }
 
-/// An element segment.
+/// A decoded element segment.
 #[derive(Debug)]
 pub struct ElementItem<A: Allocator = Global> {
     pub mode: ElementItemMode<A>,
     pub elements: ElementList<A>,
 }
 
-/// Where the elements go, as the flag tells.
+/// Decodes the mode that the flag selects.
 ///
 /// # Proved
 ///
 /// ```text
-/// ensures found { IfOk result (λ x. Reads (place (element_flag_view flag)) wide bytes.now (place_view x.0) x.1.now) }
-/// ensures none { IfErr result (λ e. e ≢ Memory → ReadsNothing (place (element_flag_view flag)) wide bytes.now) }
+/// ensures found { IfOk result (λ x. Decodes (segment_mode (element_flag_view flag)) padded bytes.now (segment_mode_view x.0) x.1.now) }
+/// ensures none { IfErr result (λ e. e ≢ Memory → Rejects (segment_mode (element_flag_view flag)) padded bytes.now) }
 /// ```
 fn read_mode<'a, A: Allocator + Copy>(
     flag: ElementFlag,
@@ -131,20 +131,20 @@ fn read_mode<'a, A: Allocator + Copy>(
     }
 }
 
-/// The indices of functions, behind the byte of their kind where that is told.
+/// Decodes the indices of functions, after the byte of their kind if that is explicit.
 ///
 /// # Proved
 ///
 /// ```text
-/// ensures found { IfOk result (λ x. Reads (elements_as told false) wide bytes.now (list_view x.0) x.1.now) }
-/// ensures none { IfErr result (λ e. e ≢ Memory → ReadsNothing (elements_as told false) wide bytes.now) }
+/// ensures found { IfOk result (λ x. Decodes (elements_as explicit false) padded bytes.now (list_view x.0) x.1.now) }
+/// ensures none { IfErr result (λ e. e ≢ Memory → Rejects (elements_as explicit false) padded bytes.now) }
 /// ```
 fn read_functions<'a, A: Allocator + Copy>(
-    told: bool,
+    explicit: bool,
     bytes: &'a [u8],
     alloc: A,
 ) -> Result<(ElementList<A>, &'a [u8]), ReadFault> {
-    if told {
+    if explicit {
         let (kind, rest) = <u8 as Readable<'a, A>>::read(bytes, alloc)?;
         if kind != 0x00 {
             return Err(ReadFault::UnknownTag);
@@ -156,20 +156,20 @@ fn read_functions<'a, A: Allocator + Copy>(
     Ok((ElementList::Functions(functions), rest))
 }
 
-/// Expressions, behind their type where that is told.
+/// Decodes expressions, after their type if that is explicit.
 ///
 /// # Proved
 ///
 /// ```text
-/// ensures found { IfOk result (λ x. Reads (elements_as told true) wide bytes.now (list_view x.0) x.1.now) }
-/// ensures none { IfErr result (λ e. e ≢ Memory → ReadsNothing (elements_as told true) wide bytes.now) }
+/// ensures found { IfOk result (λ x. Decodes (elements_as explicit true) padded bytes.now (list_view x.0) x.1.now) }
+/// ensures none { IfErr result (λ e. e ≢ Memory → Rejects (elements_as explicit true) padded bytes.now) }
 /// ```
 fn read_expressions<'a, A: Allocator + Copy>(
-    told: bool,
+    explicit: bool,
     bytes: &'a [u8],
     alloc: A,
 ) -> Result<(ElementList<A>, &'a [u8]), ReadFault> {
-    if told {
+    if explicit {
         let ((ty, expressions), rest) = <(RefType, Vec<Expression<A>, A>) as Readable<'a, A>>::read(
             bytes, alloc,
         )?;
@@ -182,26 +182,25 @@ fn read_expressions<'a, A: Allocator + Copy>(
     ))
 }
 
-/// The elements, of the kind that the flag tells.
+/// Decodes the elements of the kind that the flag selects.
 ///
 /// # Proved
 ///
 /// ```text
-/// ensures found { IfOk result (λ x. Reads (elements_as told of_expressions) wide bytes.now (list_view x.0) x.1.now) }
-/// ensures none { IfErr result (λ e. e ≢ Memory → ReadsNothing (elements_as told of_expressions) wide bytes.now) }
+/// ensures found { IfOk result (λ x. Decodes (elements_as explicit of_expressions) padded bytes.now (list_view x.0) x.1.now) }
+/// ensures none { IfErr result (λ e. e ≢ Memory → Rejects (elements_as explicit of_expressions) padded bytes.now) }
 /// ```
 fn read_elements<'a, A: Allocator + Copy>(
-    told: bool,
+    explicit: bool,
     of_expressions: bool,
     bytes: &'a [u8],
     alloc: A,
 ) -> Result<(ElementList<A>, &'a [u8]), ReadFault> {
     if of_expressions {
-        let (elements, rest) = read_expressions(told, bytes, alloc)?;
-        return Ok((elements, rest));
+        read_expressions(explicit, bytes, alloc)
+    } else {
+        read_functions(explicit, bytes, alloc)
     }
-    let (elements, rest) = read_functions(told, bytes, alloc)?;
-    Ok((elements, rest))
 }
 
 /// # Defined
@@ -211,7 +210,7 @@ fn read_elements<'a, A: Allocator + Copy>(
 /// format = { element }
 /// view = { element_view }
 /// ```
-impl<A: Allocator> Spelled for ElementItem<A> {
+impl<A: Allocator> Layout for ElementItem<A> {
     fn laws() {}
 }
 
@@ -219,79 +218,79 @@ impl<'a, A: Allocator + Copy> Readable<'a, A> for ElementItem<A> {
     fn read(bytes: &'a [u8], alloc: A) -> Result<(ElementItem<A>, &'a [u8]), ReadFault> {
         let (flag, rest) = <ElementFlag as Readable<'a, A>>::read(bytes, alloc)?;
         let (mode, rest) = read_mode(flag, rest, alloc)?;
-        let (elements, rest) = read_elements(flag.tells_kind(), flag.expressions, rest, alloc)?;
+        let (elements, rest) = read_elements(flag.has_kind(), flag.expressions, rest, alloc)?;
         Ok((ElementItem { mode, elements }, rest))
     }
 }
 
-/// Appends the indices of functions, behind the byte of their kind where that is told.
+/// Appends the indices of functions, after the byte of their kind if that is explicit.
 ///
 /// # Proved
 ///
 /// ```text
-/// ensures ok { OnOk result (AppendsShortest (elements_as told false) (functions indices.now.items) out.old.items out.new.items) }
-/// ensures front { IsFrontOf out.old.items out.new.items }
-/// ensures too_long { HasEncoding (elements_as told false) (functions indices.now.items) → result ≢ Err TooLong }
+/// ensures ok { OnOk result (AppendsMinimal (elements_as explicit false) (functions indices.now.items) sink.old.items sink.new.items) }
+/// ensures front { IsFrontOf sink.old.items sink.new.items }
+/// ensures too_long { HasEncoding (elements_as explicit false) (functions indices.now.items) → result ≢ Err TooLong }
 /// ```
 fn append_functions<A: Allocator, B: Sink>(
-    told: bool,
+    explicit: bool,
     indices: &Vec<u32, A>,
-    out: &mut B,
-) -> R<()> {
-    if told {
-        0x00u8.encode(out)?;
-        return indices.write_minimal(out);
+    sink: &mut B,
+) -> Result<()> {
+    if explicit {
+        0x00u8.encode(sink)?;
+        return indices.write_minimal(sink);
     }
-    indices.write_minimal(out)
+    indices.write_minimal(sink)
 }
 
-/// Appends expressions, behind their type where that is told.
+/// Appends expressions, after their type if that is explicit.
 ///
 /// # Proved
 ///
 /// ```text
-/// ensures ok { OnOk result (AppendsShortest (elements_as told true) (expressions ty (map instructions_view elements.now.items)) out.old.items out.new.items) }
-/// ensures front { IsFrontOf out.old.items out.new.items }
-/// ensures too_long { HasEncoding (elements_as told true) (expressions ty (map instructions_view elements.now.items)) → result ≢ Err TooLong }
+/// ensures ok { OnOk result (AppendsMinimal (elements_as explicit true) (expressions ty (map instructions_view elements.now.items)) sink.old.items sink.new.items) }
+/// ensures front { IsFrontOf sink.old.items sink.new.items }
+/// ensures too_long { HasEncoding (elements_as explicit true) (expressions ty (map instructions_view elements.now.items)) → result ≢ Err TooLong }
 /// ```
 fn append_expressions<A: Allocator, B: Sink>(
-    told: bool,
+    explicit: bool,
     ty: RefType,
     elements: &Vec<Expression<A>, A>,
-    out: &mut B,
-) -> R<()> {
-    if told {
-        ty.encode(out)?;
-        return elements.write_minimal(out);
+    sink: &mut B,
+) -> Result<()> {
+    if explicit {
+        ty.encode(sink)?;
+        return elements.write_minimal(sink);
     }
-    elements.write_minimal(out)
+    elements.write_minimal(sink)
 }
 
-/// Appends the table that is named, and the place of the first element.
+/// Appends the table if it is explicit, and the offset of the first element.
 ///
 /// # Proved
 ///
 /// ```text
-/// ensures ok { OnOk result (AppendsShortest (place (record { not_active = false; second = is_given table; expressions = false })) (active table (instructions_view offset.now)) out.old.items out.new.items) }
-/// ensures front { IsFrontOf out.old.items out.new.items }
-/// ensures too_long { HasEncoding (place (record { not_active = false; second = is_given table; expressions = false })) (active table (instructions_view offset.now)) → result ≢ Err TooLong }
+/// ensures ok { OnOk result (AppendsMinimal (segment_mode (record { not_active = false; second = is_given table; expressions = false })) (active table (instructions_view offset.now)) sink.old.items sink.new.items) }
+/// ensures front { IsFrontOf sink.old.items sink.new.items }
+/// ensures too_long { HasEncoding (segment_mode (record { not_active = false; second = is_given table; expressions = false })) (active table (instructions_view offset.now)) → result ≢ Err TooLong }
 /// ```
 fn append_active<A: Allocator, B: Sink>(
     table: Option<u32>,
     offset: &Expression<A>,
-    out: &mut B,
-) -> R<()> {
+    sink: &mut B,
+) -> Result<()> {
     match table {
         Some(table) => {
-            table.encode(out)?;
-            offset.write_minimal(out)
+            table.encode(sink)?;
+            offset.write_minimal(sink)
         }
-        None => offset.write_minimal(out),
+        None => offset.write_minimal(sink),
     }
 }
 
 impl<A: Allocator> ElementItem<A> {
-    /// The flag that says what stands in the segment.
+    /// Returns the flag of the segment.
     ///
     /// # Proved
     ///
@@ -313,62 +312,62 @@ impl<A: Allocator> ElementItem<A> {
         }
     }
 
-    /// Appends where the elements go.
+    /// Appends the table and the offset, as the mode needs them.
     ///
     /// # Proved
     ///
     /// ```text
-    /// ensures ok { OnOk result (AppendsShortest (place (flag_of (element_view self.now))) (place_view self.now.mode) out.old.items out.new.items) }
-    /// ensures front { IsFrontOf out.old.items out.new.items }
-    /// ensures too_long { HasEncoding (place (flag_of (element_view self.now))) (place_view self.now.mode) → result ≢ Err TooLong }
+    /// ensures ok { OnOk result (AppendsMinimal (segment_mode (flag_of (element_view self.now))) (segment_mode_view self.now.mode) sink.old.items sink.new.items) }
+    /// ensures front { IsFrontOf sink.old.items sink.new.items }
+    /// ensures too_long { HasEncoding (segment_mode (flag_of (element_view self.now))) (segment_mode_view self.now.mode) → result ≢ Err TooLong }
     /// ```
-    fn append_place<B: Sink>(&self, out: &mut B) -> R<()> {
+    fn append_segment_mode<B: Sink>(&self, sink: &mut B) -> Result<()> {
         match &self.mode {
             ElementItemMode::Passive => Ok(()),
             ElementItemMode::Declared => Ok(()),
-            ElementItemMode::Active { table, offset } => append_active(*table, offset, out),
+            ElementItemMode::Active { table, offset } => append_active(*table, offset, sink),
         }
     }
 }
 
-/// Appends the elements, with their kind where that is told.
+/// Appends the elements, after their kind if that is explicit.
 ///
 /// # Proved
 ///
 /// ```text
-/// ensures ok { OnOk result (AppendsShortest (elements_as told (are_expressions (list_view elements.now))) (list_view elements.now) out.old.items out.new.items) }
-/// ensures front { IsFrontOf out.old.items out.new.items }
-/// ensures too_long { HasEncoding (elements_as told (are_expressions (list_view elements.now))) (list_view elements.now) → result ≢ Err TooLong }
+/// ensures ok { OnOk result (AppendsMinimal (elements_as explicit (are_expressions (list_view elements.now))) (list_view elements.now) sink.old.items sink.new.items) }
+/// ensures front { IsFrontOf sink.old.items sink.new.items }
+/// ensures too_long { HasEncoding (elements_as explicit (are_expressions (list_view elements.now))) (list_view elements.now) → result ≢ Err TooLong }
 /// ```
 fn append_elements<A: Allocator, B: Sink>(
-    told: bool,
+    explicit: bool,
     elements: &ElementList<A>,
-    out: &mut B,
-) -> R<()> {
+    sink: &mut B,
+) -> Result<()> {
     match elements {
-        ElementList::Functions(indices) => append_functions(told, indices, out),
-        ElementList::Expressions(ty, elements) => append_expressions(told, *ty, elements, out),
+        ElementList::Functions(indices) => append_functions(explicit, indices, sink),
+        ElementList::Expressions(ty, elements) => append_expressions(explicit, *ty, elements, sink),
     }
 }
 
 impl<A: Allocator> Shorten for ElementItem<A> {
-    fn write_minimal<B: Sink>(&self, out: &mut B) -> R<()> {
+    fn write_minimal<B: Sink>(&self, sink: &mut B) -> Result<()> {
         let flag = self.flag();
-        flag.code().encode(out)?;
-        self.append_place(out)?;
-        append_elements(flag.tells_kind(), &self.elements, out)
+        flag.code().encode(sink)?;
+        self.append_segment_mode(sink)?;
+        append_elements(flag.has_kind(), &self.elements, sink)
     }
 }
 
-/// Goes over where the elements go, as the flag tells.
+/// Skips the table and the offset that the flag selects.
 ///
 /// # Proved
 ///
 /// ```text
-/// ensures found { IfOk result (λ rest. (x : Place (List Plain)) × Reads (place (element_flag_view flag)) wide bytes.now x rest.now) }
-/// ensures none { IfErr result (λ e. e ≢ Memory → ReadsNothing (place (element_flag_view flag)) wide bytes.now) }
+/// ensures found { IfOk result (λ rest. (x : SegmentMode (List Plain)) × Decodes (segment_mode (element_flag_view flag)) padded bytes.now x rest.now) }
+/// ensures none { IfErr result (λ e. e ≢ Memory → Rejects (segment_mode (element_flag_view flag)) padded bytes.now) }
 /// ```
-fn pass_place<'a, A: Allocator + Copy>(
+fn skip_segment_mode<'a, A: Allocator + Copy>(
     flag: ElementFlag,
     bytes: &'a [u8],
     alloc: A,
@@ -377,98 +376,89 @@ fn pass_place<'a, A: Allocator + Copy>(
         (true, true) => Ok(bytes),
         (true, false) => Ok(bytes),
         (false, true) => {
-            let rest = <(Dropped<u32>, Expression<A>) as Passed<'a, A>>::pass(bytes, alloc)?;
+            let rest = <(Dropped<u32>, Expression<A>) as Skip<'a, A>>::skip(bytes, alloc)?;
             Ok(rest)
         }
         (false, false) => {
-            let rest = <Expression<A> as Passed<'a, A>>::pass(bytes, alloc)?;
+            let rest = <Expression<A> as Skip<'a, A>>::skip(bytes, alloc)?;
             Ok(rest)
         }
     }
 }
 
-/// Goes over the indices of functions, behind the byte of their kind where that is told.
+/// Skips the indices of functions, and the byte of their kind if that is explicit.
 ///
 /// # Proved
 ///
 /// ```text
-/// ensures found { IfOk result (λ rest. (x : ListModel (List Plain)) × Reads (elements_as told false) wide bytes.now x rest.now) }
-/// ensures none { IfErr result (λ e. e ≢ Memory → ReadsNothing (elements_as told false) wide bytes.now) }
+/// ensures found { IfOk result (λ rest. (x : ListModel (List Plain)) × Decodes (elements_as explicit false) padded bytes.now x rest.now) }
+/// ensures none { IfErr result (λ e. e ≢ Memory → Rejects (elements_as explicit false) padded bytes.now) }
 /// ```
-fn pass_functions<'a, A: Allocator + Copy>(
-    told: bool,
+fn skip_functions<'a, A: Allocator + Copy>(
+    explicit: bool,
     bytes: &'a [u8],
     alloc: A,
 ) -> Result<&'a [u8], ReadFault> {
-    if told {
+    if explicit {
         let (kind, rest) = <u8 as Readable<'a, A>>::read(bytes, alloc)?;
         if kind != 0x00 {
             return Err(ReadFault::UnknownTag);
         }
-        let (_count, rest) = pass_many::<'a, Dropped<u32>, A>(rest, alloc)?;
+        let (_count, rest) = skip_many::<'a, Dropped<u32>, A>(rest, alloc)?;
         return Ok(rest);
     }
-    let (_count, rest) = pass_many::<'a, Dropped<u32>, A>(bytes, alloc)?;
+    let (_count, rest) = skip_many::<'a, Dropped<u32>, A>(bytes, alloc)?;
     Ok(rest)
 }
 
-/// Goes over expressions, behind their type where that is told.
+/// Skips expressions, and their type if that is explicit.
 ///
 /// # Proved
 ///
 /// ```text
-/// ensures found { IfOk result (λ rest. (x : ListModel (List Plain)) × Reads (elements_as told true) wide bytes.now x rest.now) }
-/// ensures none { IfErr result (λ e. e ≢ Memory → ReadsNothing (elements_as told true) wide bytes.now) }
+/// ensures found { IfOk result (λ rest. (x : ListModel (List Plain)) × Decodes (elements_as explicit true) padded bytes.now x rest.now) }
+/// ensures none { IfErr result (λ e. e ≢ Memory → Rejects (elements_as explicit true) padded bytes.now) }
 /// ```
-fn pass_expressions<'a, A: Allocator + Copy>(
-    told: bool,
+fn skip_expressions<'a, A: Allocator + Copy>(
+    explicit: bool,
     bytes: &'a [u8],
     alloc: A,
 ) -> Result<&'a [u8], ReadFault> {
-    if told {
+    if explicit {
         let (_type, rest) = <RefType as Readable<'a, A>>::read(bytes, alloc)?;
-        let (_count, rest) = pass_many::<'a, Expression<A>, A>(rest, alloc)?;
+        let (_count, rest) = skip_many::<'a, Expression<A>, A>(rest, alloc)?;
         return Ok(rest);
     }
-    let (_count, rest) = pass_many::<'a, Expression<A>, A>(bytes, alloc)?;
+    let (_count, rest) = skip_many::<'a, Expression<A>, A>(bytes, alloc)?;
     Ok(rest)
 }
 
-/// Goes over the elements, of the kind that the flag tells.
+/// Skips the elements of the kind that the flag selects.
 ///
 /// # Proved
 ///
 /// ```text
-/// ensures found { IfOk result (λ rest. (x : ListModel (List Plain)) × Reads (elements_as told of_expressions) wide bytes.now x rest.now) }
-/// ensures none { IfErr result (λ e. e ≢ Memory → ReadsNothing (elements_as told of_expressions) wide bytes.now) }
+/// ensures found { IfOk result (λ rest. (x : ListModel (List Plain)) × Decodes (elements_as explicit of_expressions) padded bytes.now x rest.now) }
+/// ensures none { IfErr result (λ e. e ≢ Memory → Rejects (elements_as explicit of_expressions) padded bytes.now) }
 /// ```
-fn pass_elements<'a, A: Allocator + Copy>(
-    told: bool,
+fn skip_elements<'a, A: Allocator + Copy>(
+    explicit: bool,
     of_expressions: bool,
     bytes: &'a [u8],
     alloc: A,
 ) -> Result<&'a [u8], ReadFault> {
     if of_expressions {
-        let rest = pass_expressions(told, bytes, alloc)?;
-        return Ok(rest);
+        skip_expressions(explicit, bytes, alloc)
+    } else {
+        skip_functions(explicit, bytes, alloc)
     }
-    let rest = pass_functions(told, bytes, alloc)?;
-    Ok(rest)
 }
 
-/// # Defined
-///
-/// ```text
-/// Value = { ElementItem (List Plain) }
-/// format = { element }
-/// ```
-impl<'a, A: Allocator + Copy> Passed<'a, A> for ElementItem<A> {
-    fn laws() {}
-
-    fn pass(bytes: &'a [u8], alloc: A) -> Result<&'a [u8], ReadFault> {
+impl<'a, A: Allocator + Copy> Skip<'a, A> for ElementItem<A> {
+    fn skip(bytes: &'a [u8], alloc: A) -> Result<&'a [u8], ReadFault> {
         let (flag, rest) = <ElementFlag as Readable<'a, A>>::read(bytes, alloc)?;
-        let rest = pass_place(flag, rest, alloc)?;
-        let rest = pass_elements(flag.tells_kind(), flag.expressions, rest, alloc)?;
+        let rest = skip_segment_mode(flag, rest, alloc)?;
+        let rest = skip_elements(flag.has_kind(), flag.expressions, rest, alloc)?;
         Ok(rest)
     }
 }

@@ -1,13 +1,13 @@
 // Written by tools/to-rust from crates/wasm_sections/src/export.rt: change that.
-// Exports and the export section.
+// The export section: its builder, its reader and its minimizer.
 
 use crate::vec::Sink;
 use crate::sections::counted_section::{CountedSection, ItemKind, RecordOf};
 use crate::alloc::{Allocator, Global};
-use crate::base::{Encode, Kind, R, SectionId};
-use crate::reader::base::{ReadFault, Readable, Spelled};
+use crate::base::{Encode, Kind, Result, SectionId};
+use crate::reader::base::{Layout, ReadFault, Readable};
 
-/// What a module exports.
+/// The export section: the items that a module exports.
 ///
 /// ```
 /// # use dolzhytik::{fallible::*, reader::*};
@@ -22,11 +22,11 @@ use crate::reader::base::{ReadFault, Readable, Spelled};
 /// ```
 pub type ExportSection<A = Global> = CountedSection<ExportItems, A>;
 
-/// The items of an export section: exports.
+/// The kind of an export section's items: exports.
 #[derive(Clone, Copy, Debug)]
 pub struct ExportItems;
 
-/// What kind of thing is exported.
+/// The kind of an exported item.
 #[derive(Clone, Copy, PartialEq, Eq, Hash, Debug)]
 pub enum ExportKind {
     Func = 0x00,
@@ -36,7 +36,7 @@ pub enum ExportKind {
     Tag = 0x04,
 }
 
-/// A name, and what is exported under it.
+/// An export: a name, and the item that is exported under it.
 #[derive(Clone, Copy, Debug)]
 pub struct Export<'a> {
     pub name: &'a str,
@@ -44,32 +44,32 @@ pub struct Export<'a> {
     pub index: u32,
 }
 
-/// One byte.
+/// Encodes the kind as one byte.
 ///
 /// # Defined
 ///
 /// ```text
-/// text = { λ kind. kind_code kind ∷ [] }
-/// fits = { λ _. ⊤ }
+/// encoding = { λ kind. kind_code kind ∷ [] }
+/// encodable = { λ _. ⊤ }
 /// ```
 impl Encode for ExportKind {
     #[inline]
-    fn encode<A: Sink>(&self, sink: &mut A) -> R<()> {
+    fn encode<A: Sink>(&self, sink: &mut A) -> Result<()> {
         (*self as u8).encode(sink)
     }
 }
 
-/// The name, the kind and the index.
+/// Encodes the name, the kind and the index.
 ///
 /// # Defined
 ///
 /// ```text
-/// text = { export_text }
-/// fits = { ExportFits }
+/// encoding = { export_encoding }
+/// encodable = { IsEncodableExport }
 /// ```
 impl Encode for Export<'_> {
     #[inline]
-    fn encode<A: Sink>(&self, sink: &mut A) -> R<()> {
+    fn encode<A: Sink>(&self, sink: &mut A) -> Result<()> {
         (self.name, self.kind, self.index).encode(sink)
     }
 }
@@ -99,14 +99,14 @@ impl ItemKind for ExportItems {
 impl RecordOf<ExportItems> for Export<'_> {}
 
 impl<A: Allocator> ExportSection<A> {
-    /// Adds an export. A refused call leaves the section as it was.
+    /// Adds an export.
     ///
     /// # Proved
     ///
     /// ```text
-    /// ensures { Adds (frame_text name.now ++ (kind_code kind ∷ [] ++ unsigned_text index)) (FrameFits name.now) self.old self.new result }
+    /// ensures { Adds (size_prefixed_encoding name.now ++ (kind_code kind ∷ [] ++ unsigned_encoding index)) (HasEncodableSize name.now) self.old self.new result }
     /// ```
-    pub fn export(&mut self, name: &str, kind: ExportKind, index: u32) -> R<()> {
+    pub fn export(&mut self, name: &str, kind: ExportKind, index: u32) -> Result<()> {
         self.add_record(&Export { name, kind, index })
     }
 }
@@ -118,7 +118,7 @@ impl<A: Allocator> ExportSection<A> {
 /// format = { coded kind_code }
 /// view = { λ kind. kind }
 /// ```
-impl Spelled for ExportKind {
+impl Layout for ExportKind {
     fn laws() {}
 }
 
@@ -143,11 +143,11 @@ impl<'a, A: Allocator + Copy> Readable<'a, A> for ExportKind {
 /// format = { export }
 /// view = { item_of }
 /// ```
-impl<'a> Spelled for Export<'a> {
+impl<'a> Layout for Export<'a> {
     /// # Proved
     ///
     /// ```text
-    /// ensures { UniqueReading export }
+    /// ensures { Unambiguous export }
     /// ```
     fn laws() {}
 }

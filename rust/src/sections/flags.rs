@@ -1,7 +1,7 @@
 // Written by tools/to-rust from crates/wasm_sections/src/flags.rt: change that.
-// Flags.
+// Flag bytes.
 
-/// So much where the bit is set.
+/// Returns `weight` if the bit is set, and 0 otherwise.
 ///
 /// # Proved
 ///

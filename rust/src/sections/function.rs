@@ -4,9 +4,10 @@
 use crate::vec::Sink;
 use crate::sections::counted_section::{CountedSection, ItemKind, RecordOf};
 use crate::alloc::{Allocator, Global};
-use crate::base::{Encode, Kind, R, SectionId};
+use crate::base::{Encode, Kind, Result, SectionId};
 
-/// The types of the functions that a module defines, in the order of their bodies.
+/// The function section: the types of the functions that a module defines, in the order of their
+/// bodies.
 ///
 /// ```
 /// # use dolzhytik::{fallible::*, reader::*};
@@ -21,7 +22,7 @@ use crate::base::{Encode, Kind, R, SectionId};
 /// ```
 pub type FunctionSection<A = Global> = CountedSection<FunctionItems, A>;
 
-/// The items of a function section: the index of a type for each function.
+/// The kind of a function section's items: the index of a type for each function.
 #[derive(Clone, Copy, Debug)]
 pub struct FunctionItems;
 
@@ -49,7 +50,7 @@ impl ItemKind for FunctionItems {
 
 impl RecordOf<FunctionItems> for u32 {}
 
-/// The index of a type. Many have two bytes, which are written in place too.
+/// The index of a type. Many have two bytes, which are also written inline.
 #[derive(Clone, Copy)]
 struct TypeIndex {
     index: u32,
@@ -58,12 +59,12 @@ struct TypeIndex {
 /// # Defined
 ///
 /// ```text
-/// text = { λ given. unsigned_text given.index }
-/// fits = { λ _. ⊤ }
+/// encoding = { λ given. unsigned_encoding given.index }
+/// encodable = { λ _. ⊤ }
 /// ```
 impl Encode for TypeIndex {
     #[inline]
-    fn encode<A: Sink>(&self, sink: &mut A) -> R<()> {
+    fn encode<A: Sink>(&self, sink: &mut A) -> Result<()> {
         let index = self.index;
         if index < 0x80 {
             return index.encode(sink);
@@ -77,14 +78,14 @@ impl Encode for TypeIndex {
 }
 
 impl<A: Allocator> FunctionSection<A> {
-    /// Adds a function of the type of this index. A refused call leaves the section as it was.
+    /// Adds a function of the type of this index.
     ///
     /// # Proved
     ///
     /// ```text
-    /// ensures { Adds (unsigned_text type_index) ⊤ self.old self.new result }
+    /// ensures { Adds (unsigned_encoding type_index) ⊤ self.old self.new result }
     /// ```
-    pub fn function(&mut self, type_index: u32) -> R<()> {
+    pub fn function(&mut self, type_index: u32) -> Result<()> {
         self.add_record(&TypeIndex { index: type_index })
     }
 }

@@ -1,16 +1,16 @@
 // Written by tools/to-rust from crates/wasm_sections/src/global.rt: change that.
-// Global types and the global section.
+// The global section: its builder, its reader and its minimizer.
 
 use crate::vec::Sink;
 use crate::sections::counted_section::{CountedSection, ItemKind};
 use crate::sections::flags::where_set;
 use crate::alloc::{Allocator, Global};
-use crate::base::{Encode, Kind, Lent, R, SectionId, ValType};
+use crate::base::{Encode, Kind, Lent, Result, SectionId, ValType};
 use crate::code::ConstExpr;
-use crate::reader::base::{Dropped, Passed, ReadFault, Readable, Shorten, Spelled};
+use crate::reader::base::{Dropped, Layout, ReadFault, Readable, Shorten, Skip};
 use crate::reader::insn::Expression;
 
-/// The globals that a module defines.
+/// The global section: the globals that a module defines.
 ///
 /// ```
 /// # use dolzhytik::{fallible::*, reader::*};
@@ -26,7 +26,7 @@ use crate::reader::insn::Expression;
 /// ```
 pub type GlobalSection<A = Global> = CountedSection<GlobalItems, A>;
 
-/// The items of a global section: types of globals, each with the expression of a first value.
+/// The kind of a global section's items: types of globals, each with an initializer expression.
 #[derive(Clone, Copy, Debug)]
 pub struct GlobalItems;
 
@@ -41,7 +41,7 @@ pub struct GlobalType {
 }
 
 impl GlobalType {
-    /// A bit for each part that is set.
+    /// Returns the flags: a bit for each attribute that is set.
     ///
     /// # Proved
     ///
@@ -54,17 +54,17 @@ impl GlobalType {
     }
 }
 
-/// The type of the value, and flags.
+/// Encodes the type of the value, and the flags.
 ///
 /// # Defined
 ///
 /// ```text
-/// text = { global_text }
-/// fits = { λ _. ⊤ }
+/// encoding = { global_encoding }
+/// encodable = { λ _. ⊤ }
 /// ```
 impl Encode for GlobalType {
     #[inline]
-    fn encode<A: Sink>(&self, sink: &mut A) -> R<()> {
+    fn encode<A: Sink>(&self, sink: &mut A) -> Result<()> {
         (self.val_type, self.flags()).encode(sink)
     }
 }
@@ -92,25 +92,29 @@ impl ItemKind for GlobalItems {
 }
 
 impl<A: Allocator> GlobalSection<A> {
-    /// Adds a global of this type, whose first value the expression computes. A refused call leaves the section as it was.
+    /// Adds a global of this type, initialized by the expression.
     ///
     /// # Proved
     ///
     /// ```text
-    /// ensures { Adds (global_text global_type ++ expression_text init.now) ⊤ self.old self.new result }
+    /// ensures { Adds (global_encoding global_type ++ expression_encoding init.now) ⊤ self.old self.new result }
     /// ```
-    pub fn global<B: Allocator>(&mut self, global_type: GlobalType, init: &ConstExpr<B>) -> R<()> {
+    pub fn global<B: Allocator>(
+        &mut self,
+        global_type: GlobalType,
+        init: &ConstExpr<B>,
+    ) -> Result<()> {
         self.add_record(&(global_type, Lent(init)))
     }
 
-    /// Adds a global that is spelled already. A refused call leaves the section as it was.
+    /// Adds a global that is already encoded. The call does not check that it is one.
     ///
     /// # Proved
     ///
     /// ```text
     /// ensures { Adds global.now ⊤ self.old self.new result }
     /// ```
-    pub fn raw(&mut self, global: &[u8]) -> R<()> {
+    pub fn raw(&mut self, global: &[u8]) -> Result<()> {
         self.add_piece(global)
     }
 }
@@ -129,7 +133,7 @@ struct GlobalFlags {
 /// format = { coded global_code }
 /// view = { global_flags_view }
 /// ```
-impl Spelled for GlobalFlags {
+impl Layout for GlobalFlags {
     fn laws() {}
 }
 
@@ -154,7 +158,7 @@ impl<'a, A: Allocator + Copy> Readable<'a, A> for GlobalFlags {
 /// format = { global_type }
 /// view = { λ global. global }
 /// ```
-impl Spelled for GlobalType {
+impl Layout for GlobalType {
     fn laws() {}
 }
 
@@ -172,7 +176,7 @@ impl<'a, A: Allocator + Copy> Readable<'a, A> for GlobalType {
     }
 }
 
-/// A global: its type, and the expression of its first value.
+/// A decoded global: its type, and its initializer expression.
 #[derive(Debug)]
 pub struct GlobalItem<A: Allocator = Global> {
     pub global_type: GlobalType,
@@ -186,7 +190,7 @@ pub struct GlobalItem<A: Allocator = Global> {
 /// format = { global_item }
 /// view = { global_view }
 /// ```
-impl<A: Allocator> Spelled for GlobalItem<A> {
+impl<A: Allocator> Layout for GlobalItem<A> {
     fn laws() {}
 }
 
@@ -200,23 +204,15 @@ impl<'a, A: Allocator + Copy> Readable<'a, A> for GlobalItem<A> {
 }
 
 impl<A: Allocator> Shorten for GlobalItem<A> {
-    fn write_minimal<B: Sink>(&self, out: &mut B) -> R<()> {
-        self.global_type.encode(out)?;
-        self.init.write_minimal(out)
+    fn write_minimal<B: Sink>(&self, sink: &mut B) -> Result<()> {
+        self.global_type.encode(sink)?;
+        self.init.write_minimal(sink)
     }
 }
 
-/// # Defined
-///
-/// ```text
-/// Value = { GlobalModel }
-/// format = { global_item }
-/// ```
-impl<'a, A: Allocator + Copy> Passed<'a, A> for GlobalItem<A> {
-    fn laws() {}
-
-    fn pass(bytes: &'a [u8], alloc: A) -> Result<&'a [u8], ReadFault> {
-        let rest = <(Dropped<GlobalType>, Expression<A>) as Passed<'a, A>>::pass(bytes, alloc)?;
+impl<'a, A: Allocator + Copy> Skip<'a, A> for GlobalItem<A> {
+    fn skip(bytes: &'a [u8], alloc: A) -> Result<&'a [u8], ReadFault> {
+        let rest = <(Dropped<GlobalType>, Expression<A>) as Skip<'a, A>>::skip(bytes, alloc)?;
         Ok(rest)
     }
 }

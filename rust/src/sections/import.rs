@@ -1,5 +1,5 @@
 // Written by tools/to-rust from crates/wasm_sections/src/import.rt: change that.
-// Imports and the import section.
+// The import section: its builder, its reader and its minimizer.
 
 use crate::vec::{Sink, Vec};
 use crate::sections::counted_section::{CountedSection, ItemKind, RecordOf};
@@ -8,10 +8,10 @@ use crate::sections::memory::MemoryType;
 use crate::sections::table::TableType;
 use crate::sections::tag::TagType;
 use crate::alloc::{Allocator, Global};
-use crate::base::{CORE_FUNCTION_EXACT_SORT, CORE_FUNCTION_SORT, CORE_GLOBAL_SORT, CORE_MEMORY_SORT, CORE_TABLE_SORT, CORE_TAG_SORT, CowSlice, Encode, Kind, R, SectionId};
-use crate::reader::base::{Dropped, Passed, ReadFault, Readable, Spelled, pass_many, read_whole};
+use crate::base::{CORE_FUNCTION_EXACT_SORT, CORE_FUNCTION_SORT, CORE_GLOBAL_SORT, CORE_MEMORY_SORT, CORE_TABLE_SORT, CORE_TAG_SORT, CowSlice, Encode, Kind, Result, SectionId};
+use crate::reader::base::{Dropped, Layout, ReadFault, Readable, Skip, read_whole, skip_many};
 
-/// What a module imports.
+/// The import section: the items that a module imports.
 ///
 /// ```
 /// # use dolzhytik::{fallible::*, reader::*};
@@ -26,11 +26,12 @@ use crate::reader::base::{Dropped, Passed, ReadFault, Readable, Spelled, pass_ma
 /// ```
 pub type ImportSection<A = Global> = CountedSection<ImportItems, A>;
 
-/// The items of an import section: imports, and groups of them, each of which is one entry.
+/// The kind of an import section's items: imports and groups of imports, each of which is one
+/// entry.
 #[derive(Clone, Copy, Debug)]
 pub struct ImportItems;
 
-/// The type of what is imported.
+/// The type of an imported item.
 #[derive(Clone, Copy, PartialEq, Eq, Debug)]
 pub enum EntityType {
     /// A function of the type of this index.
@@ -87,17 +88,17 @@ impl From<TagType> for EntityType {
     }
 }
 
-/// A byte for the kind, and the type.
+/// Encodes a byte for the kind, and the type.
 ///
 /// # Defined
 ///
 /// ```text
-/// text = { entity_text }
-/// fits = { λ _. ⊤ }
+/// encoding = { entity_encoding }
+/// encodable = { λ _. ⊤ }
 /// ```
 impl Encode for EntityType {
     #[inline]
-    fn encode<A: Sink>(&self, sink: &mut A) -> R<()> {
+    fn encode<A: Sink>(&self, sink: &mut A) -> Result<()> {
         match *self {
             EntityType::Function(index) => (CORE_FUNCTION_SORT, index).encode(sink),
             EntityType::Table(ty) => (CORE_TABLE_SORT, ty).encode(sink),
@@ -109,7 +110,7 @@ impl Encode for EntityType {
     }
 }
 
-/// An item of a module, and its type.
+/// An import: the names of a module and of an item in it, and the item's type.
 #[derive(Clone, Copy, Debug)]
 pub struct Import<'a> {
     pub module: &'a str,
@@ -117,23 +118,24 @@ pub struct Import<'a> {
     pub ty: EntityType,
 }
 
-/// An item of a group, whose module is given once.
+/// An item of a group of imports, which names the module once.
 #[derive(Clone, Copy, Debug)]
 pub struct ImportCompact<'a> {
     pub name: &'a str,
     pub ty: EntityType,
 }
 
-/// An import, or a group of imports from one module. A section takes lists that are borrowed, or owned in memory of its own allocator's kind.
+/// An import, or a group of imports from one module. A section accepts lists that are borrowed, or
+/// owned in memory of the section's type of allocator.
 #[derive(Debug)]
 pub enum Imports<'a, A: Allocator = Global> {
     Single(Import<'a>),
-    /// Items of types of their own.
+    /// A group whose items have types of their own.
     Compact1 {
         module: &'a str,
         items: CowSlice<'a, ImportCompact<'a>, A>,
     },
-    /// Items of one type.
+    /// A group of items of one type.
     Compact2 {
         module: &'a str,
         ty: EntityType,
@@ -142,7 +144,7 @@ pub enum Imports<'a, A: Allocator = Global> {
 }
 
 impl<A: Allocator + Copy> Imports<'_, A> {
-    /// The same imports; a list that is owned is copied.
+    /// Returns the same imports, and copies an owned list.
     ///
     /// # Proved
     ///
@@ -150,7 +152,7 @@ impl<A: Allocator + Copy> Imports<'_, A> {
     /// ensures same { IfOk result (λ imports. imports_item imports ≡ imports_item self.now) }
     /// ensures memory { result ≢ Err TooLong }
     /// ```
-    pub fn clone(&self) -> R<Self> {
+    pub fn clone(&self) -> Result<Self> {
         match self {
             Imports::Single(import) => Ok(Imports::Single(*import)),
             Imports::Compact1 { module, items } => Ok(Imports::Compact1 {
@@ -166,47 +168,48 @@ impl<A: Allocator + Copy> Imports<'_, A> {
     }
 }
 
-/// The two names, and the type.
+/// Encodes the two names, and the type.
 ///
 /// # Defined
 ///
 /// ```text
-/// text = { λ import. import_text (import_item import) }
-/// fits = { λ import. ImportFits (import_item import) }
+/// encoding = { λ import. import_encoding (import_item import) }
+/// encodable = { λ import. IsEncodableImport (import_item import) }
 /// ```
 impl Encode for Import<'_> {
     #[inline]
-    fn encode<A: Sink>(&self, sink: &mut A) -> R<()> {
+    fn encode<A: Sink>(&self, sink: &mut A) -> Result<()> {
         (self.module, self.name, self.ty).encode(sink)
     }
 }
 
-/// The name, and the type.
+/// Encodes the name, and the type.
 ///
 /// # Defined
 ///
 /// ```text
-/// text = { λ import. named_text (compact_item import) }
-/// fits = { λ import. FrameFits import.name.now }
+/// encoding = { λ import. named_encoding (compact_item import) }
+/// encodable = { λ import. HasEncodableSize import.name.now }
 /// ```
 impl Encode for ImportCompact<'_> {
     #[inline]
-    fn encode<A: Sink>(&self, sink: &mut A) -> R<()> {
+    fn encode<A: Sink>(&self, sink: &mut A) -> Result<()> {
         (self.name, self.ty).encode(sink)
     }
 }
 
-/// The import; or the name of the module, two bytes that no import has there, and the group.
+/// Encodes a single import as such. A group is the name of the module, two bytes that no import has
+/// there, and the items.
 ///
 /// # Defined
 ///
 /// ```text
-/// text = { λ imports. import_text (imports_item imports) }
-/// fits = { λ imports. ImportFits (imports_item imports) }
+/// encoding = { λ imports. import_encoding (imports_item imports) }
+/// encodable = { λ imports. IsEncodableImport (imports_item imports) }
 /// ```
 impl<A: Allocator> Encode for Imports<'_, A> {
     #[inline]
-    fn encode<B: Sink>(&self, sink: &mut B) -> R<()> {
+    fn encode<B: Sink>(&self, sink: &mut B) -> Result<()> {
         match self {
             Imports::Single(import) => import.encode(sink),
             Imports::Compact1 { module, items } => {
@@ -244,25 +247,25 @@ impl ItemKind for ImportItems {
 impl RecordOf<ImportItems> for Import<'_> {}
 
 impl<A: Allocator> ImportSection<A> {
-    /// Adds an import. A refused call leaves the section as it was.
+    /// Adds an import.
     ///
     /// # Proved
     ///
     /// ```text
-    /// ensures { Adds (frame_text «module».now ++ (frame_text name.now ++ entity_text ty)) (FrameFits «module».now × FrameFits name.now) self.old self.new result }
+    /// ensures { Adds (size_prefixed_encoding «module».now ++ (size_prefixed_encoding name.now ++ entity_encoding ty)) (HasEncodableSize «module».now × HasEncodableSize name.now) self.old self.new result }
     /// ```
-    pub fn import(&mut self, module: &str, name: &str, ty: EntityType) -> R<()> {
+    pub fn import(&mut self, module: &str, name: &str, ty: EntityType) -> Result<()> {
         self.add_record(&Import { module, name, ty })
     }
 
-    /// Adds an import or a group of imports, as one entry. A refused call leaves the section as it was.
+    /// Adds an import or a group of imports, as one entry.
     ///
     /// # Proved
     ///
     /// ```text
-    /// ensures { Adds (import_text (imports_item imports.entry)) (ImportFits (imports_item imports.entry)) self.old self.new result }
+    /// ensures { Adds (import_encoding (imports_item imports.entry)) (IsEncodableImport (imports_item imports.entry)) self.old self.new result }
     /// ```
-    pub fn imports(&mut self, imports: Imports<'_, A>) -> R<()> {
+    pub fn imports(&mut self, imports: Imports<'_, A>) -> Result<()> {
         self.add_record(&imports)
     }
 }
@@ -274,7 +277,7 @@ impl<A: Allocator> ImportSection<A> {
 /// format = { entity }
 /// view = { λ entity. entity }
 /// ```
-impl Spelled for EntityType {
+impl Layout for EntityType {
     fn laws() {}
 }
 
@@ -318,14 +321,14 @@ impl<'a, A: Allocator + Copy> Readable<'a, A> for EntityType {
 /// format = { pair name entity }
 /// view = { compact_item }
 /// ```
-impl<'a> Spelled for ImportCompact<'a> {
+impl<'a> Layout for ImportCompact<'a> {
     /// # Proved
     ///
     /// ```text
-    /// ensures { UniqueReading (pair name entity) }
+    /// ensures { Unambiguous (pair name entity) }
     /// ```
     fn laws() {
-        <(&'a str, EntityType) as Spelled>::laws();
+        <(&'a str, EntityType) as Layout>::laws();
     }
 }
 
@@ -336,24 +339,19 @@ impl<'a, A: Allocator + Copy> Readable<'a, A> for ImportCompact<'a> {
     }
 }
 
-/// The byte of a group, and what follows it, where no single import stands there: behind an empty name the byte is no entity's.
+/// Returns the kind byte of a group and the remaining bytes, if no single import is at the front:
+/// after an empty name, this byte is the kind of no entity.
 ///
 /// # Proved
 ///
 /// ```text
-/// ensures { MatchOption result (ReadsNothing (prefixed (0x00 ∷ []) group) wide bytes.now) (λ x. (bytes.now ≡ 0x00 ∷ x.0 ∷ x.1.now) × (0x7E ≤ x.0)) }
+/// ensures { MatchOption result (Rejects (prefixed (0x00 ∷ []) group) padded bytes.now) (λ x. (bytes.now ≡ 0x00 ∷ x.0 ∷ x.1.now) × (0x7E ≤ x.0)) }
 /// ```
 fn group_kind(bytes: &[u8]) -> Option<(u8, &[u8])> {
-    let [first, kind, rest @ ..] = bytes else {
-        return None;
-    };
-    if *first != 0x00 {
-        return None;
+    match bytes {
+        [0x00, kind @ 0x7E.., rest @ ..] => Some((*kind, rest)),
+        _ => None,
     }
-    if *kind < 0x7E {
-        return None;
-    }
-    Some((*kind, rest))
 }
 
 /// # Defined
@@ -363,11 +361,11 @@ fn group_kind(bytes: &[u8]) -> Option<(u8, &[u8])> {
 /// format = { import_format }
 /// view = { imports_item }
 /// ```
-impl<'a, A: Allocator> Spelled for Imports<'a, A> {
+impl<'a, A: Allocator> Layout for Imports<'a, A> {
     /// # Proved
     ///
     /// ```text
-    /// ensures { UniqueReading import_format }
+    /// ensures { Unambiguous import_format }
     /// ```
     fn laws() {}
 }
@@ -399,13 +397,18 @@ impl<'a, A: Allocator + Copy> Readable<'a, A> for Imports<'a, A> {
     }
 }
 
-/// Imports, and groups of them, behind their number, which all of the bytes spell. Memory is taken for those that stand there, and not by their number.
+/// Decodes the payload of an import section: a count and that many imports and groups, which occupy
+/// all of the bytes. Memory grows with the imports that decode, and is not allocated by the count.
+///
+/// # Errors
+///
+/// Any error but `Memory` means that the bytes are not such a payload.
 ///
 /// # Proved
 ///
 /// ```text
-/// ensures found { IfOk result (λ x. vec import_format wide bytes.now (map imports_item x.items)) }
-/// ensures none { IfErr result (λ e. e ≢ Memory → FillsNothing (vec import_format) bytes.now) }
+/// ensures found { IfOk result (λ x. vec import_format padded bytes.now (map imports_item x.items)) }
+/// ensures none { IfErr result (λ e. e ≢ Memory → RejectsWhole (vec import_format) bytes.now) }
 /// ```
 pub fn read_imports<'a, A: Allocator + Copy + 'a>(
     bytes: &'a [u8],
@@ -414,61 +417,51 @@ pub fn read_imports<'a, A: Allocator + Copy + 'a>(
     read_whole::<'a, Vec<Imports<'a, A>, A>, A>(bytes, alloc)
 }
 
-/// Writes what [`append_imports`] appends. After an error, a part of it may be behind the old bytes.
+/// Writes the bytes that [`append_imports`] appends. After an error, part of them may follow the
+/// old bytes.
 ///
 /// # Proved
 ///
 /// ```text
-/// ensures ok { OnOk result (AppendsShortest (vec import_format) (map imports_item imports.now) out.old.items out.new.items) }
-/// ensures front { IsFrontOf out.old.items out.new.items }
+/// ensures ok { OnOk result (AppendsMinimal (vec import_format) (map imports_item imports.now) sink.old.items sink.new.items) }
+/// ensures front { IsFrontOf sink.old.items sink.new.items }
 /// ensures too_long { HasEncoding (vec import_format) (map imports_item imports.now) → result ≢ Err TooLong }
 /// ```
 fn write_imports<A: Allocator, B: Sink>(
     imports: &[Imports<'_, A>],
-    out: &mut B,
-) -> R<()> {
-    imports.len().encode(out)?;
+    sink: &mut B,
+) -> Result<()> {
+    imports.len().encode(sink)?;
     for import in imports {
-        import.encode(out)?;
+        import.encode(sink)?;
     }
     Ok(())
 }
 
-/// Appends the minimal encoding of imports, and groups of them, after their number. On an error, the sink is as it was.
+/// Appends the minimal encoding of imports and groups of imports, after their count. On an error,
+/// the sink is unchanged.
 ///
 /// # Proved
 ///
 /// ```text
-/// ensures ok { OnOk result (AppendsShortest (vec import_format) (map imports_item imports.now) out.old.items out.new.items) }
-/// ensures err { OnErr result (out.new.items ≡ out.old.items) }
+/// ensures ok { OnOk result (AppendsMinimal (vec import_format) (map imports_item imports.now) sink.old.items sink.new.items) }
+/// ensures err { OnErr result (sink.new.items ≡ sink.old.items) }
 /// ensures too_long { HasEncoding (vec import_format) (map imports_item imports.now) → result ≢ Err TooLong }
 /// ```
 pub fn append_imports<A: Allocator, B: Sink>(
     imports: &[Imports<'_, A>],
-    out: &mut B,
-) -> R<()> {
-    let start = out.len();
-    let written = write_imports(imports, out);
+    sink: &mut B,
+) -> Result<()> {
+    let start = sink.len();
+    let written = write_imports(imports, sink);
     if written.is_err() {
-        out.truncate(start);
+        sink.truncate(start);
     }
     written
 }
 
-/// An import or a group of imports, of which nothing is kept.
-#[derive(Debug)]
-pub struct PassedImports;
-
-/// # Defined
-///
-/// ```text
-/// Value = { ImportItem }
-/// format = { import_format }
-/// ```
-impl<'a, A: Allocator + Copy> Passed<'a, A> for PassedImports {
-    fn laws() {}
-
-    fn pass(bytes: &'a [u8], alloc: A) -> Result<&'a [u8], ReadFault> {
+impl<'a, A: Allocator + Copy> Skip<'a, A> for Imports<'a, A> {
+    fn skip(bytes: &'a [u8], alloc: A) -> Result<&'a [u8], ReadFault> {
         let (_module, rest) = <&'a str as Readable<'a, A>>::read(bytes, alloc)?;
         let Some((kind, rest)) = group_kind(rest) else {
             let (_name, rest) = <&'a str as Readable<'a, A>>::read(rest, alloc)?;
@@ -477,12 +470,12 @@ impl<'a, A: Allocator + Copy> Passed<'a, A> for PassedImports {
         };
         match kind {
             0x7F => {
-                let (_count, rest) = pass_many::<'a, Dropped<ImportCompact<'a>>, A>(rest, alloc)?;
+                let (_count, rest) = skip_many::<'a, Dropped<ImportCompact<'a>>, A>(rest, alloc)?;
                 Ok(rest)
             }
             0x7E => {
                 let (_type, rest) = <EntityType as Readable<'a, A>>::read(rest, alloc)?;
-                let (_count, rest) = pass_many::<'a, Dropped<&'a str>, A>(rest, alloc)?;
+                let (_count, rest) = skip_many::<'a, Dropped<&'a str>, A>(rest, alloc)?;
                 Ok(rest)
             }
             _ => Err(ReadFault::UnknownTag),

@@ -1,7 +1,9 @@
 // Written by tools/to-rust from crates/wasm_sections/src/laws.rt: change that.
-//! What is promised of all lists of bytes, and not of a call: each function does nothing, and its clauses are the promise.
+//! Laws about sections and their items, for all byte sequences: each function does nothing, and its
+//! clauses are the law.
 //!
-//! `ItemLaws` says of a kind of items that they are read uniquely, and that the text of a plain record spells what it says.
+//! `ItemLaws` says of a kind of items that its format is unambiguous, and that a well-formed record
+//! encodes its item.
 
 use crate::sections::export::Export;
 use crate::sections::global::GlobalType;
@@ -10,24 +12,25 @@ use crate::sections::memory::MemoryType;
 use crate::sections::table::TableType;
 use crate::alloc::Allocator;
 
-/// Sections are read uniquely, and so are their items; the text of a plain record spells what it says.
+/// The formats of sections and of their items are unambiguous. A well-formed record encodes its
+/// item.
 ///
 /// # Proved
 ///
 /// ```text
-/// ensures functions { UniqueReading (counted_format u32_format) }
-/// ensures tables { UniqueReading (counted_format table_item) }
-/// ensures memories { UniqueReading (counted_format memory_type) }
-/// ensures globals { UniqueReading (counted_format global_item) }
-/// ensures exports { UniqueReading (counted_format export) }
-/// ensures elements { UniqueReading (counted_format element) }
-/// ensures segments { UniqueReading (counted_format data_item) }
-/// ensures tags { UniqueReading (counted_format tag_type) }
-/// ensures imports { UniqueReading (counted_format import_format) }
-/// ensures entities { UniqueReading entity }
-/// ensures table_types { UniqueReading table_type }
-/// ensures global_types { UniqueReading global_type }
-/// ensures numbers { UniqueReading (frame u32_format) }
+/// ensures functions { Unambiguous (counted_format u32_format) }
+/// ensures tables { Unambiguous (counted_format table_item) }
+/// ensures memories { Unambiguous (counted_format memory_type) }
+/// ensures globals { Unambiguous (counted_format global_item) }
+/// ensures exports { Unambiguous (counted_format export) }
+/// ensures elements { Unambiguous (counted_format element) }
+/// ensures segments { Unambiguous (counted_format data_item) }
+/// ensures tags { Unambiguous (counted_format tag_type) }
+/// ensures imports { Unambiguous (counted_format import_format) }
+/// ensures entities { Unambiguous entity }
+/// ensures table_types { Unambiguous table_type }
+/// ensures global_types { Unambiguous global_type }
+/// ensures numbers { Unambiguous (size_prefixed u32_format) }
 /// ensures function_items { ItemLaws function_items }
 /// ensures table_items { ItemLaws table_items }
 /// ensures memory_items { ItemLaws memory_items }
@@ -40,87 +43,90 @@ use crate::alloc::Allocator;
 /// ```
 pub fn sections() {}
 
-/// With padded numbers too, sections are read uniquely, and what shortest numbers spell is among it.
+/// With padded numbers the formats of sections are unambiguous too. A minimal encoding is also an
+/// encoding in this mode.
 ///
 /// # Proved
 ///
 /// ```text
-/// ensures functions { IsUniqueWide (counted_format u32_format) }
-/// ensures tables { IsUniqueWide (counted_format table_item) }
-/// ensures memories { IsUniqueWide (counted_format memory_type) }
-/// ensures globals { IsUniqueWide (counted_format global_item) }
-/// ensures exports { IsUniqueWide (counted_format export) }
-/// ensures elements { IsUniqueWide (counted_format element) }
-/// ensures segments { IsUniqueWide (counted_format data_item) }
-/// ensures tags { IsUniqueWide (counted_format tag_type) }
-/// ensures imports { IsUniqueWide (counted_format import_format) }
-/// ensures entities { IsUniqueWide entity }
-/// ensures table_types { IsUniqueWide table_type }
-/// ensures global_types { IsUniqueWide global_type }
-/// ensures numbers { IsUniqueWide (frame u32_format) }
+/// ensures functions { UnambiguousPadded (counted_format u32_format) }
+/// ensures tables { UnambiguousPadded (counted_format table_item) }
+/// ensures memories { UnambiguousPadded (counted_format memory_type) }
+/// ensures globals { UnambiguousPadded (counted_format global_item) }
+/// ensures exports { UnambiguousPadded (counted_format export) }
+/// ensures elements { UnambiguousPadded (counted_format element) }
+/// ensures segments { UnambiguousPadded (counted_format data_item) }
+/// ensures tags { UnambiguousPadded (counted_format tag_type) }
+/// ensures imports { UnambiguousPadded (counted_format import_format) }
+/// ensures entities { UnambiguousPadded entity }
+/// ensures table_types { UnambiguousPadded table_type }
+/// ensures global_types { UnambiguousPadded global_type }
+/// ensures numbers { UnambiguousPadded (size_prefixed u32_format) }
 /// ```
-pub fn wide() {}
+pub fn padded() {}
 
-/// What sections hold, call by call: at first no items, and after a call that adds a plain record what this says too.
+/// The items that sections hold, call by call: none at first, and one more after each call that
+/// adds a well-formed record.
 ///
 /// # Proved
 ///
 /// ```text
-/// ensures functions { HoldsMore function_items }
-/// ensures tables { HoldsMore table_items }
-/// ensures memories { HoldsMore memory_items }
-/// ensures globals { HoldsMore global_items }
-/// ensures exports { HoldsMore export_items }
-/// ensures elements { HoldsMore element_items }
-/// ensures segments { HoldsMore data_items }
-/// ensures imports { HoldsMore import_items }
-/// ensures tags { HoldsMore tag_items }
+/// ensures functions { ContainsMore function_items }
+/// ensures tables { ContainsMore table_items }
+/// ensures memories { ContainsMore memory_items }
+/// ensures globals { ContainsMore global_items }
+/// ensures exports { ContainsMore export_items }
+/// ensures elements { ContainsMore element_items }
+/// ensures segments { ContainsMore data_items }
+/// ensures imports { ContainsMore import_items }
+/// ensures tags { ContainsMore tag_items }
 /// ```
 pub fn calls() {}
 
-/// The same with padded numbers: a record may be plain but for padded numbers in its expressions, and a piece may spell its item with
-/// padded numbers.
+/// The same with padded numbers: a record may be well-formed but for padded numbers in its
+/// expressions, and an entry may be a padded encoding of its item.
 ///
 /// # Proved
 ///
 /// ```text
-/// ensures functions { HoldsMoreWide function_items }
-/// ensures tables { HoldsMoreWide table_items }
-/// ensures memories { HoldsMoreWide memory_items }
-/// ensures globals { HoldsMoreWide global_items }
-/// ensures exports { HoldsMoreWide export_items }
-/// ensures elements { HoldsMoreWide element_items }
-/// ensures segments { HoldsMoreWide data_items }
-/// ensures imports { HoldsMoreWide import_items }
-/// ensures tags { HoldsMoreWide tag_items }
+/// ensures functions { ContainsMorePadded function_items }
+/// ensures tables { ContainsMorePadded table_items }
+/// ensures memories { ContainsMorePadded memory_items }
+/// ensures globals { ContainsMorePadded global_items }
+/// ensures exports { ContainsMorePadded export_items }
+/// ensures elements { ContainsMorePadded element_items }
+/// ensures segments { ContainsMorePadded data_items }
+/// ensures imports { ContainsMorePadded import_items }
+/// ensures tags { ContainsMorePadded tag_items }
 /// ```
-pub fn wide_calls() {}
+pub fn padded_calls() {}
 
-/// What a call of an element section appends, `given_text`, is the `element_text` of each record that has the segment's place and elements,
-/// with the same bytes of expressions.
+/// A call of an element section appends `given_encoding`. It equals the `element_encoding` of each record
+/// that has the segment's mode and elements, with the same bytes of expressions.
 ///
 /// # Proved
 ///
 /// ```text
-/// ensures { (segment : ElementSegment A) (given : ElementItem Stored) → HaveOneText segment given }
+/// ensures { (segment : ElementSegment A) (given : ElementItem Stored) → HaveOneEncoding segment given }
 /// ```
 pub fn given_elements<A: Allocator>() {}
 
-/// Where a module is read as ids and payloads, and a section as its items alone, its payload is read as these alone.
+/// If a module decodes to ids and payloads, and a section decodes to its items alone, then its
+/// payload decodes to these alone.
 ///
 /// # Proved
 ///
 /// ```text
-/// ensures functions { ReadsPayloads (vec u32_format) }
-/// ensures tables { ReadsPayloads (vec table_item) }
-/// ensures memories { ReadsPayloads (vec memory_type) }
-/// ensures globals { ReadsPayloads (vec global_item) }
-/// ensures exports { ReadsPayloads (vec export) }
-/// ensures elements { ReadsPayloads (vec element) }
-/// ensures segments { ReadsPayloads (vec data_item) }
-/// ensures imports { ReadsPayloads (vec import_format) }
-/// ensures tags { ReadsPayloads (vec tag_type) }
-/// ensures numbers { ReadsPayloads u32_format }
+/// ensures functions { DecodesPayloads (vec u32_format) }
+/// ensures tables { DecodesPayloads (vec table_item) }
+/// ensures memories { DecodesPayloads (vec memory_type) }
+/// ensures globals { DecodesPayloads (vec global_item) }
+/// ensures exports { DecodesPayloads (vec export) }
+/// ensures elements { DecodesPayloads (vec element) }
+/// ensures segments { DecodesPayloads (vec data_item) }
+/// ensures imports { DecodesPayloads (vec import_format) }
+/// ensures tags { DecodesPayloads (vec tag_type) }
+/// ensures numbers { DecodesPayloads u32_format }
 /// ```
 pub fn payloads() {}
 
@@ -129,32 +135,34 @@ pub fn payloads() {}
 /// # Proved
 ///
 /// ```text
-/// ensures functions { ReadsPayloadsWide (vec u32_format) }
-/// ensures tables { ReadsPayloadsWide (vec table_item) }
-/// ensures memories { ReadsPayloadsWide (vec memory_type) }
-/// ensures globals { ReadsPayloadsWide (vec global_item) }
-/// ensures exports { ReadsPayloadsWide (vec export) }
-/// ensures elements { ReadsPayloadsWide (vec element) }
-/// ensures segments { ReadsPayloadsWide (vec data_item) }
-/// ensures imports { ReadsPayloadsWide (vec import_format) }
-/// ensures tags { ReadsPayloadsWide (vec tag_type) }
-/// ensures numbers { ReadsPayloadsWide u32_format }
+/// ensures functions { DecodesPayloadsPadded (vec u32_format) }
+/// ensures tables { DecodesPayloadsPadded (vec table_item) }
+/// ensures memories { DecodesPayloadsPadded (vec memory_type) }
+/// ensures globals { DecodesPayloadsPadded (vec global_item) }
+/// ensures exports { DecodesPayloadsPadded (vec export) }
+/// ensures elements { DecodesPayloadsPadded (vec element) }
+/// ensures segments { DecodesPayloadsPadded (vec data_item) }
+/// ensures imports { DecodesPayloadsPadded (vec import_format) }
+/// ensures tags { DecodesPayloadsPadded (vec tag_type) }
+/// ensures numbers { DecodesPayloadsPadded u32_format }
 /// ```
-pub fn wide_payloads() {}
+pub fn padded_payloads() {}
 
-/// No section stands in these three texts, with padded numbers neither: in that of globals bytes follow the first `End` of a constant
-/// expression, in that of data a segment that names its memory names memory 0, and in that of imports the byte 00 before a group is padded.
+/// These three byte sequences encode no section, with padded numbers neither. In that of globals,
+/// bytes follow the first `End` of a constant expression. In that of data, a segment with an
+/// explicit memory has memory 0. In that of imports, the byte 00 before a group is padded.
 ///
 /// # Proved
 ///
 /// ```text
-/// ensures inner_end { NothingStandsWide (counted_format global_item) (9 ∷ 1 ∷ 127 ∷ 0 ∷ 65 ∷ 1 ∷ 11 ∷ 65 ∷ 2 ∷ 11 ∷ []) }
-/// ensures named_first_memory { NothingStandsWide (counted_format data_item) (8 ∷ 1 ∷ 2 ∷ 0 ∷ 65 ∷ 0 ∷ 11 ∷ 1 ∷ 9 ∷ []) }
-/// ensures padded_group { NothingStandsWide (counted_format import_format) (6 ∷ 1 ∷ 0 ∷ 128 ∷ 0 ∷ 127 ∷ 0 ∷ []) }
+/// ensures inner_end { RejectsAllAfterPadded (counted_format global_item) (9 ∷ 1 ∷ 127 ∷ 0 ∷ 65 ∷ 1 ∷ 11 ∷ 65 ∷ 2 ∷ 11 ∷ []) }
+/// ensures named_first_memory { RejectsAllAfterPadded (counted_format data_item) (8 ∷ 1 ∷ 2 ∷ 0 ∷ 65 ∷ 0 ∷ 11 ∷ 1 ∷ 9 ∷ []) }
+/// ensures padded_group { RejectsAllAfterPadded (counted_format import_format) (6 ∷ 1 ∷ 0 ∷ 128 ∷ 0 ∷ 127 ∷ 0 ∷ []) }
 /// ```
-pub fn nothing_stands() {}
+pub fn rejections() {}
 
-/// An export is plain: its name is UTF-8, and its index in range. Returns the index.
+/// Proves that an export is well-formed: its name is UTF-8, and its index is in range. Returns the
+/// index.
 ///
 /// # Proved
 ///
@@ -166,7 +174,7 @@ pub fn plain_export(export: &Export<'_>) -> u32 {
     export.index
 }
 
-/// Each export of a list is plain.
+/// Proves that each export of a list is well-formed.
 ///
 /// # Proved
 ///
@@ -179,7 +187,8 @@ pub fn plain_exports(exports: &[Export<'_>]) {
     }
 }
 
-/// The numbers of a table type are in range. Of one that lies behind a reference, as in a list, no clause shows it: this call does.
+/// Proves that the numbers of a table type are in range. For one behind a reference, as in a list,
+/// no clause shows that; this call does.
 ///
 /// # Proved
 ///
@@ -188,7 +197,7 @@ pub fn plain_exports(exports: &[Export<'_>]) {
 /// ```
 pub fn plain_table(table: TableType) {}
 
-/// So are those of a memory type.
+/// Proves the same of a memory type.
 ///
 /// # Proved
 ///
@@ -197,7 +206,7 @@ pub fn plain_table(table: TableType) {}
 /// ```
 pub fn plain_memory(memory: MemoryType) {}
 
-/// So are those of a global type.
+/// Proves the same of a global type.
 ///
 /// # Proved
 ///
@@ -206,7 +215,7 @@ pub fn plain_memory(memory: MemoryType) {}
 /// ```
 pub fn plain_global(global: GlobalType) {}
 
-/// So are those of what is imported, whatever its kind.
+/// Proves the same of the type of an import, whatever its kind.
 ///
 /// # Proved
 ///

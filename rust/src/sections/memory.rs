@@ -1,14 +1,14 @@
 // Written by tools/to-rust from crates/wasm_sections/src/memory.rt: change that.
-// Memory types and the memory section.
+// The memory section: its builder, its reader and its minimizer.
 
 use crate::vec::Sink;
 use crate::sections::counted_section::{CountedSection, ItemKind, RecordOf};
 use crate::sections::flags::where_set;
 use crate::alloc::{Allocator, Global};
-use crate::base::{Encode, Kind, Optional, R, SectionId};
-use crate::reader::base::{ReadFault, Readable, Spelled, read_optional};
+use crate::base::{Encode, Kind, Optional, Result, SectionId};
+use crate::reader::base::{Layout, ReadFault, Readable, read_optional};
 
-/// The memories that a module defines.
+/// The memory section: the memories that a module defines.
 ///
 /// ```
 /// # use dolzhytik::{fallible::*, reader::*};
@@ -23,7 +23,7 @@ use crate::reader::base::{ReadFault, Readable, Spelled, read_optional};
 /// ```
 pub type MemorySection<A = Global> = CountedSection<MemoryItems, A>;
 
-/// The items of a memory section: memory types.
+/// The kind of a memory section's items: memory types.
 #[derive(Clone, Copy, Debug)]
 pub struct MemoryItems;
 
@@ -36,12 +36,12 @@ pub struct MemoryType {
     pub memory64: bool,
     /// Whether threads share the memory.
     pub shared: bool,
-    /// The size of a page, as an exponent of 2. It is not checked.
+    /// The size of a page in bytes, as an exponent of 2. It is not checked.
     pub page_size_log2: Option<u32>,
 }
 
 impl MemoryType {
-    /// The size of a page, as an exponent of 2: 16 where none is given.
+    /// Returns the size of a page in bytes, as an exponent of 2: 16 by default.
     ///
     /// # Proved
     ///
@@ -55,7 +55,7 @@ impl MemoryType {
         }
     }
 
-    /// The size of a page in bytes.
+    /// Returns the size of a page in bytes.
     ///
     /// # Asks
     ///
@@ -72,7 +72,8 @@ impl MemoryType {
         1 << self.page_size_log2()
     }
 
-    /// A bit for each part that is given or set.
+    /// Returns the flags: a bit for each optional field that is present, and for each attribute
+    /// that is set.
     ///
     /// # Proved
     ///
@@ -88,17 +89,17 @@ impl MemoryType {
     }
 }
 
-/// Flags, the minimum, and the parts that the flags tell of.
+/// Encodes the flags, the minimum, and the fields for which the flags have a bit.
 ///
 /// # Defined
 ///
 /// ```text
-/// text = { memory_text }
-/// fits = { λ _. ⊤ }
+/// encoding = { memory_encoding }
+/// encodable = { λ _. ⊤ }
 /// ```
 impl Encode for MemoryType {
     #[inline]
-    fn encode<A: Sink>(&self, sink: &mut A) -> R<()> {
+    fn encode<A: Sink>(&self, sink: &mut A) -> Result<()> {
         let maximum = Optional(self.maximum);
         let page_size = Optional(self.page_size_log2);
         (self.flags(), self.minimum, (maximum, page_size)).encode(sink)
@@ -130,14 +131,14 @@ impl ItemKind for MemoryItems {
 impl RecordOf<MemoryItems> for MemoryType {}
 
 impl<A: Allocator> MemorySection<A> {
-    /// Adds a memory of this type. A refused call leaves the section as it was.
+    /// Adds a memory of this type.
     ///
     /// # Proved
     ///
     /// ```text
-    /// ensures { Adds (memory_text memory_type) ⊤ self.old self.new result }
+    /// ensures { Adds (memory_encoding memory_type) ⊤ self.old self.new result }
     /// ```
-    pub fn memory(&mut self, memory_type: MemoryType) -> R<()> {
+    pub fn memory(&mut self, memory_type: MemoryType) -> Result<()> {
         self.add_record(&memory_type)
     }
 }
@@ -158,7 +159,7 @@ pub(crate) struct Flags {
 /// format = { flags_format }
 /// view = { flags_view }
 /// ```
-impl Spelled for Flags {
+impl Layout for Flags {
     fn laws() {}
 }
 
@@ -185,7 +186,7 @@ impl<'a, A: Allocator + Copy> Readable<'a, A> for Flags {
 /// format = { memory_type }
 /// view = { λ memory. memory }
 /// ```
-impl Spelled for MemoryType {
+impl Layout for MemoryType {
     fn laws() {}
 }
 

@@ -1,7 +1,10 @@
 // Written by tools/to-rust from crates/wasm_sections/src/lib.rt: change that.
-//! The sections of a WebAssembly module, by the core specification, "Binary Format", "Modules".
+//! The core sections of a WebAssembly module but for types and code, by the core specification,
+//! "Binary Format", "Modules".
 //!
-//! The crate also reads their items, by `Readable` of `wasm_reader_base`, goes over them by `Passed`, and writes those that were read in their fewest bytes, by `Shorten`.
+//! Each section has a builder. The crate also decodes their items (`Readable` of
+//! `wasm_reader_base`), skips them (`Skip`), and writes decoded ones in their minimal encoding
+//! (`Shorten`).
 
 pub(crate) mod counted_section;
 pub(crate) mod data;
@@ -26,8 +29,8 @@ pub use export::{Export, ExportItems, ExportKind, ExportSection};
 pub use function::{FunctionItems, FunctionSection};
 pub use global::{GlobalItem, GlobalItems, GlobalSection, GlobalType};
 pub use import::{
-    EntityType, Import, ImportCompact, ImportItems, ImportSection, Imports, PassedImports,
-    append_imports, read_imports,
+    EntityType, Import, ImportCompact, ImportItems, ImportSection, Imports, append_imports,
+    read_imports,
 };
 pub use memory::{MemoryItems, MemorySection, MemoryType};
 pub use start::{DataCountSection, StartSection};

@@ -1,10 +1,10 @@
 // Written by tools/to-rust from crates/wasm_sections/src/start.rt: change that.
-// Sections of one number.
+// The start section and the data count section, which hold one number each.
 
 use crate::vec::Sink;
-use crate::base::{Encode, R, Section, SectionId, begin_frame, encoding_size};
+use crate::base::{Encode, Result, Section, SectionId, begin_size_prefixed, encoding_size};
 
-/// The function that a module runs when it is instantiated.
+/// The start section: the function that runs when a module is instantiated.
 ///
 /// ```
 /// # use dolzhytik::{fallible::*, reader::*};
@@ -20,7 +20,8 @@ pub struct StartSection {
     pub function_index: u32,
 }
 
-/// The number of data segments, which stands before the code that refers to them.
+/// The data count section: the number of data segments. It belongs before the code that refers to
+/// them.
 ///
 /// ```
 /// # use dolzhytik::{fallible::*, reader::*};
@@ -38,31 +39,31 @@ pub struct DataCountSection {
     pub count: u32,
 }
 
-/// Appends the frame of the number, which is read as this alone.
+/// Appends the number with its size prefix, which decode to this number alone.
 ///
 /// # Proved
 ///
 /// ```text
-/// ensures appends { Appends (frame_text (unsigned_text number)) (FrameFits (unsigned_text number)) sink.old sink.new result }
-/// ensures read { OnOk result (ReadsBack (frame u32_format) (λ said. said ≡ number) (frame_text (unsigned_text number))) }
+/// ensures appends { Appends (size_prefixed_encoding (unsigned_encoding number)) (HasEncodableSize (unsigned_encoding number)) sink.old sink.new result }
+/// ensures read { OnOk result (DecodesBack (size_prefixed u32_format) (λ said. said ≡ number) (size_prefixed_encoding (unsigned_encoding number))) }
 /// ```
-fn encode_number<A: Sink>(sink: &mut A, number: u32) -> R<()> {
-    begin_frame(sink, encoding_size(number))?;
+fn encode_number<A: Sink>(sink: &mut A, number: u32) -> Result<()> {
+    begin_size_prefixed(sink, encoding_size(number))?;
     number.encode(sink).unwrap();
     Ok(())
 }
 
-/// The frame of the index.
+/// Encodes the index with its size prefix.
 ///
 /// # Defined
 ///
 /// ```text
-/// text = { λ s. frame_text (unsigned_text s.function_index) }
-/// fits = { λ s. FrameFits (unsigned_text s.function_index) }
-/// reading = { λ s. ReadsBack (frame u32_format) (λ index. index ≡ s.function_index) (frame_text (unsigned_text s.function_index)) }
+/// encoding = { λ s. size_prefixed_encoding (unsigned_encoding s.function_index) }
+/// encodable = { λ s. HasEncodableSize (unsigned_encoding s.function_index) }
+/// decoding = { λ s. DecodesBack (size_prefixed u32_format) (λ index. index ≡ s.function_index) (size_prefixed_encoding (unsigned_encoding s.function_index)) }
 /// ```
 impl Encode for StartSection {
-    fn encode<A: Sink>(&self, sink: &mut A) -> R<()> {
+    fn encode<A: Sink>(&self, sink: &mut A) -> Result<()> {
         encode_number(sink, self.function_index)
     }
 }
@@ -72,11 +73,11 @@ impl Encode for StartSection {
 /// ```text
 /// id_of = { λ _. number_of ids.Start }
 /// Items = { ℕ }
-/// format = { frame u32_format }
+/// format = { size_prefixed u32_format }
 /// says = { λ s index. index ≡ s.function_index }
-/// payload = { λ s bytes. bytes ≡ unsigned_text s.function_index }
-/// framed = { λ s bytes fits pays. raw_framed (unsigned_text s.function_index) bytes fits pays }
-/// reads_back = { λ s promised. promised }
+/// payload = { λ s bytes. bytes ≡ unsigned_encoding s.function_index }
+/// sized = { λ s bytes encodable pays. raw_sized (unsigned_encoding s.function_index) bytes encodable pays }
+/// decodes_back = { λ s promised. promised }
 /// ```
 impl Section for StartSection {
     fn id(&self) -> u8 {
@@ -84,17 +85,17 @@ impl Section for StartSection {
     }
 }
 
-/// The frame of the count.
+/// Encodes the count with its size prefix.
 ///
 /// # Defined
 ///
 /// ```text
-/// text = { λ s. frame_text (unsigned_text s.count) }
-/// fits = { λ s. FrameFits (unsigned_text s.count) }
-/// reading = { λ s. ReadsBack (frame u32_format) (λ count. count ≡ s.count) (frame_text (unsigned_text s.count)) }
+/// encoding = { λ s. size_prefixed_encoding (unsigned_encoding s.count) }
+/// encodable = { λ s. HasEncodableSize (unsigned_encoding s.count) }
+/// decoding = { λ s. DecodesBack (size_prefixed u32_format) (λ count. count ≡ s.count) (size_prefixed_encoding (unsigned_encoding s.count)) }
 /// ```
 impl Encode for DataCountSection {
-    fn encode<A: Sink>(&self, sink: &mut A) -> R<()> {
+    fn encode<A: Sink>(&self, sink: &mut A) -> Result<()> {
         encode_number(sink, self.count)
     }
 }
@@ -104,11 +105,11 @@ impl Encode for DataCountSection {
 /// ```text
 /// id_of = { λ _. number_of ids.DataCount }
 /// Items = { ℕ }
-/// format = { frame u32_format }
+/// format = { size_prefixed u32_format }
 /// says = { λ s count. count ≡ s.count }
-/// payload = { λ s bytes. bytes ≡ unsigned_text s.count }
-/// framed = { λ s bytes fits pays. raw_framed (unsigned_text s.count) bytes fits pays }
-/// reads_back = { λ s promised. promised }
+/// payload = { λ s bytes. bytes ≡ unsigned_encoding s.count }
+/// sized = { λ s bytes encodable pays. raw_sized (unsigned_encoding s.count) bytes encodable pays }
+/// decodes_back = { λ s promised. promised }
 /// ```
 impl Section for DataCountSection {
     fn id(&self) -> u8 {

@@ -1,17 +1,17 @@
 // Written by tools/to-rust from crates/wasm_sections/src/table.rt: change that.
-// Table types and the table section.
+// The table section: its builder, its reader and its minimizer.
 
 use crate::vec::Sink;
 use crate::sections::counted_section::{CountedSection, ItemKind, RecordOf};
 use crate::sections::flags::where_set;
 use crate::sections::memory::Flags;
 use crate::alloc::{Allocator, Global};
-use crate::base::{Encode, Kind, Lent, Optional, R, RefType, SectionId, ValType};
+use crate::base::{Encode, Kind, Lent, Optional, RefType, Result, SectionId, ValType};
 use crate::code::ConstExpr;
-use crate::reader::base::{Dropped, Passed, ReadFault, Readable, Shorten, Spelled, read_optional};
+use crate::reader::base::{Dropped, Layout, ReadFault, Readable, Shorten, Skip, read_optional};
 use crate::reader::insn::Expression;
 
-/// The tables that a module defines.
+/// The table section: the tables that a module defines.
 ///
 /// ```
 /// # use dolzhytik::{fallible::*, reader::*};
@@ -28,7 +28,7 @@ use crate::reader::insn::Expression;
 /// ```
 pub type TableSection<A = Global> = CountedSection<TableItems, A>;
 
-/// The items of a table section: table types, some with the expression of a first value.
+/// The kind of a table section's items: table types, some with an initializer expression.
 #[derive(Clone, Copy, Debug)]
 pub struct TableItems;
 
@@ -45,7 +45,7 @@ pub struct TableType {
 }
 
 impl TableType {
-    /// The type of an index into the table.
+    /// Returns the type of an index into the table.
     ///
     /// # Proved
     ///
@@ -60,7 +60,8 @@ impl TableType {
         }
     }
 
-    /// A bit for each part that is given or set.
+    /// Returns the flags: a bit for each optional field that is present, and for each attribute
+    /// that is set.
     ///
     /// # Proved
     ///
@@ -75,17 +76,17 @@ impl TableType {
     }
 }
 
-/// The type of the elements, flags, the minimum, and the maximum where one is given.
+/// Encodes the type of the elements, the flags, the minimum, and the maximum if there is one.
 ///
 /// # Defined
 ///
 /// ```text
-/// text = { table_text }
-/// fits = { λ _. ⊤ }
+/// encoding = { table_encoding }
+/// encodable = { λ _. ⊤ }
 /// ```
 impl Encode for TableType {
     #[inline]
-    fn encode<A: Sink>(&self, sink: &mut A) -> R<()> {
+    fn encode<A: Sink>(&self, sink: &mut A) -> Result<()> {
         let limits = (self.flags(), self.minimum, Optional(self.maximum));
         (self.element_type, limits).encode(sink)
     }
@@ -116,35 +117,34 @@ impl ItemKind for TableItems {
 impl RecordOf<TableItems> for TableType {}
 
 impl<A: Allocator> TableSection<A> {
-    /// Adds a table of this type, whose elements are null at first. A refused call leaves the section as it was.
+    /// Adds a table of this type, whose elements are initially null.
     ///
     /// # Proved
     ///
     /// ```text
-    /// ensures { Adds (table_text table_type) ⊤ self.old self.new result }
+    /// ensures { Adds (table_encoding table_type) ⊤ self.old self.new result }
     /// ```
-    pub fn table(&mut self, table_type: TableType) -> R<()> {
+    pub fn table(&mut self, table_type: TableType) -> Result<()> {
         self.add_record(&table_type)
     }
 
-    /// Adds a table of this type, whose elements have at first the value that the expression computes. A refused call leaves the
-    /// section as it was.
+    /// Adds a table of this type, whose elements are initialized by the expression.
     ///
     /// # Proved
     ///
     /// ```text
-    /// ensures { Adds (before_init ++ (table_text table_type ++ expression_text init.now)) ⊤ self.old self.new result }
+    /// ensures { Adds (before_init ++ (table_encoding table_type ++ expression_encoding init.now)) ⊤ self.old self.new result }
     /// ```
     pub fn table_with_init<B: Allocator>(
         &mut self,
         table_type: TableType,
         init: &ConstExpr<B>,
-    ) -> R<()> {
+    ) -> Result<()> {
         self.add_record(&([0x40u8, 0x00], table_type, Lent(init)))
     }
 }
 
-/// The limits of a table: all of its type but the type of its elements.
+/// The limits of a table: its type without the type of its elements.
 #[derive(Clone, Copy, Debug)]
 struct Limits {
     table64: bool,
@@ -160,7 +160,7 @@ struct Limits {
 /// format = { limits }
 /// view = { limits_view }
 /// ```
-impl Spelled for Limits {
+impl Layout for Limits {
     fn laws() {}
 }
 
@@ -189,7 +189,7 @@ impl<'a, A: Allocator + Copy> Readable<'a, A> for Limits {
 /// format = { table_type }
 /// view = { λ table. table }
 /// ```
-impl Spelled for TableType {
+impl Layout for TableType {
     fn laws() {}
 }
 
@@ -209,10 +209,10 @@ impl<'a, A: Allocator + Copy> Readable<'a, A> for TableType {
     }
 }
 
-/// What stands before a table with a first value.
+/// The bytes before a table with an initializer.
 pub(crate) const BEFORE_INIT: [u8; 2] = [0x40, 0x00];
 
-/// A table: its type, and the expression of its elements' first value where one is given.
+/// A decoded table: its type, and its optional initializer expression.
 #[derive(Debug)]
 pub struct TableItem<A: Allocator = Global> {
     pub table_type: TableType,
@@ -226,7 +226,7 @@ pub struct TableItem<A: Allocator = Global> {
 /// format = { table_item }
 /// view = { table_view }
 /// ```
-impl<A: Allocator> Spelled for TableItem<A> {
+impl<A: Allocator> Layout for TableItem<A> {
     fn laws() {}
 }
 
@@ -251,26 +251,18 @@ impl<'a, A: Allocator + Copy> Readable<'a, A> for TableItem<A> {
 }
 
 impl<A: Allocator> Shorten for TableItem<A> {
-    fn write_minimal<B: Sink>(&self, out: &mut B) -> R<()> {
+    fn write_minimal<B: Sink>(&self, sink: &mut B) -> Result<()> {
         let Some(init) = &self.init else {
-            return self.table_type.encode(out);
+            return self.table_type.encode(sink);
         };
-        BEFORE_INIT.encode(out)?;
-        self.table_type.encode(out)?;
-        init.write_minimal(out)
+        BEFORE_INIT.encode(sink)?;
+        self.table_type.encode(sink)?;
+        init.write_minimal(sink)
     }
 }
 
-/// # Defined
-///
-/// ```text
-/// Value = { TableModel }
-/// format = { table_item }
-/// ```
-impl<'a, A: Allocator + Copy> Passed<'a, A> for TableItem<A> {
-    fn laws() {}
-
-    fn pass(bytes: &'a [u8], alloc: A) -> Result<&'a [u8], ReadFault> {
+impl<'a, A: Allocator + Copy> Skip<'a, A> for TableItem<A> {
+    fn skip(bytes: &'a [u8], alloc: A) -> Result<&'a [u8], ReadFault> {
         let (first, rest) = <u8 as Readable<'a, A>>::read(bytes, alloc)?;
         if first != 0x40 {
             let (_type, rest) = <TableType as Readable<'a, A>>::read(bytes, alloc)?;
@@ -280,7 +272,7 @@ impl<'a, A: Allocator + Copy> Passed<'a, A> for TableItem<A> {
         if second != 0x00 {
             return Err(ReadFault::UnknownTag);
         }
-        let rest = <(Dropped<TableType>, Expression<A>) as Passed<'a, A>>::pass(rest, alloc)?;
+        let rest = <(Dropped<TableType>, Expression<A>) as Skip<'a, A>>::skip(rest, alloc)?;
         Ok(rest)
     }
 }

@@ -1,13 +1,13 @@
 // Written by tools/to-rust from crates/wasm_sections/src/tag.rt: change that.
-// Tag types and the tag section.
+// The tag section: its builder, its reader and its minimizer.
 
 use crate::vec::Sink;
 use crate::sections::counted_section::{CountedSection, ItemKind, RecordOf};
 use crate::alloc::{Allocator, Global};
-use crate::base::{Encode, Kind, R, SectionId};
-use crate::reader::base::{ReadFault, Readable, Spelled};
+use crate::base::{Encode, Kind, Result, SectionId};
+use crate::reader::base::{Layout, ReadFault, Readable};
 
-/// The tags that a module defines.
+/// The tag section: the tags that a module defines.
 ///
 /// ```
 /// # use dolzhytik::{fallible::*, reader::*};
@@ -22,11 +22,11 @@ use crate::reader::base::{ReadFault, Readable, Spelled};
 /// ```
 pub type TagSection<A = Global> = CountedSection<TagItems, A>;
 
-/// The items of a tag section: tag types.
+/// The kind of a tag section's items: tag types.
 #[derive(Clone, Copy, Debug)]
 pub struct TagItems;
 
-/// What a tag is for.
+/// The purpose of a tag.
 #[derive(Clone, Copy, PartialEq, Eq, Debug)]
 pub enum TagKind {
     Exception,
@@ -36,12 +36,12 @@ pub enum TagKind {
 #[derive(Clone, Copy, PartialEq, Eq, Debug)]
 pub struct TagType {
     pub kind: TagKind,
-    /// The index of the type of a function, whose parameters the tag carries.
+    /// The index of a function type, whose parameters the tag carries.
     pub func_type_idx: u32,
 }
 
 impl TagKind {
-    /// Its byte.
+    /// Returns the byte that encodes the kind.
     ///
     /// # Proved
     ///
@@ -56,17 +56,17 @@ impl TagKind {
     }
 }
 
-/// The kind, and the index.
+/// Encodes the kind, and the index.
 ///
 /// # Defined
 ///
 /// ```text
-/// text = { tag_text }
-/// fits = { λ _. ⊤ }
+/// encoding = { tag_encoding }
+/// encodable = { λ _. ⊤ }
 /// ```
 impl Encode for TagType {
     #[inline]
-    fn encode<A: Sink>(&self, sink: &mut A) -> R<()> {
+    fn encode<A: Sink>(&self, sink: &mut A) -> Result<()> {
         (self.kind.byte(), self.func_type_idx).encode(sink)
     }
 }
@@ -96,14 +96,14 @@ impl ItemKind for TagItems {
 impl RecordOf<TagItems> for TagType {}
 
 impl<A: Allocator> TagSection<A> {
-    /// Adds a tag of this type. A refused call leaves the section as it was.
+    /// Adds a tag of this type.
     ///
     /// # Proved
     ///
     /// ```text
-    /// ensures { Adds (tag_text tag_type) ⊤ self.old self.new result }
+    /// ensures { Adds (tag_encoding tag_type) ⊤ self.old self.new result }
     /// ```
-    pub fn tag(&mut self, tag_type: TagType) -> R<()> {
+    pub fn tag(&mut self, tag_type: TagType) -> Result<()> {
         self.add_record(&tag_type)
     }
 }
@@ -115,7 +115,7 @@ impl<A: Allocator> TagSection<A> {
 /// format = { coded tag_code }
 /// view = { λ kind. kind }
 /// ```
-impl Spelled for TagKind {
+impl Layout for TagKind {
     fn laws() {}
 }
 
@@ -137,7 +137,7 @@ impl<'a, A: Allocator + Copy> Readable<'a, A> for TagKind {
 /// format = { tag_type }
 /// view = { λ tag. tag }
 /// ```
-impl Spelled for TagType {
+impl Layout for TagType {
     fn laws() {}
 }
 

@@ -1,18 +1,18 @@
 // Written by tools/to-rust from crates/wasm_types/src/fields.rt: change that.
-// Storage and field types.
+// Decoding and minimal encoding of storage and field types.
 
 use crate::types::types::{FieldType, StorageType};
 use crate::alloc::Allocator;
 use crate::base::{ValType, read_groups};
-use crate::reader::base::{ReadFault, Readable, Spelled};
+use crate::reader::base::{Layout, ReadFault, Readable};
 
-/// An index, spelled as a signed number of 33 bits.
+/// Decodes an index, encoded as a signed number of 33 bits.
 ///
 /// # Proved
 ///
 /// ```text
-/// ensures found { IfOk result (λ x. Reads s33 wide bytes.now x.0 x.1.now) }
-/// ensures none { IfErr result (λ e. e ≢ Memory → ReadsNothing s33 wide bytes.now) }
+/// ensures found { IfOk result (λ x. Decodes s33 padded bytes.now x.0 x.1.now) }
+/// ensures none { IfErr result (λ e. e ≢ Memory → Rejects s33 padded bytes.now) }
 /// ```
 pub(crate) fn read_index(bytes: &[u8]) -> Result<(u32, &[u8]), ReadFault> {
     let (groups, rest) = read_groups(bytes, 5)?;
@@ -26,7 +26,7 @@ pub(crate) fn read_index(bytes: &[u8]) -> Result<(u32, &[u8]), ReadFault> {
     }
 }
 
-/// Whether a field can be set.
+/// The mutability of a field.
 #[derive(Clone, Copy)]
 struct Mutable(bool);
 
@@ -37,7 +37,7 @@ struct Mutable(bool);
 /// format = { coded mutable_code }
 /// view = { λ m. m.0 }
 /// ```
-impl Spelled for Mutable {
+impl Layout for Mutable {
     fn laws() {}
 }
 
@@ -59,7 +59,7 @@ impl<'a, A: Allocator + Copy> Readable<'a, A> for Mutable {
 /// format = { storage_type }
 /// view = { λ ty. ty }
 /// ```
-impl Spelled for StorageType {
+impl Layout for StorageType {
     fn laws() {}
 }
 
@@ -84,7 +84,7 @@ impl<'a, A: Allocator + Copy> Readable<'a, A> for StorageType {
 /// format = { field_type }
 /// view = { λ field. field }
 /// ```
-impl Spelled for FieldType {
+impl Layout for FieldType {
     fn laws() {}
 }
 

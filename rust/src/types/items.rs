@@ -1,14 +1,14 @@
 // Written by tools/to-rust from crates/wasm_types/src/items.rt: change that.
-// Subtypes and groups of them.
+// The decoded entries of a type section: subtypes and recursion groups.
 
 use crate::vec::{Sink, Vec};
 use crate::types::shapes::read_composite_after;
 use crate::types::types::CompositeType;
 use crate::alloc::{Allocator, Global};
-use crate::base::{Encode, Lent, R};
-use crate::reader::base::{ReadFault, Readable, Spelled};
+use crate::base::{Encode, Lent, Result};
+use crate::reader::base::{Layout, ReadFault, Readable};
 
-/// A type that may have supertypes, and subtypes where it isn't final.
+/// A decoded subtype: its supertypes, and whether it is final, so that it can have no subtypes.
 #[derive(Debug)]
 pub struct SubItem<A: Allocator = Global> {
     pub is_final: bool,
@@ -17,21 +17,21 @@ pub struct SubItem<A: Allocator = Global> {
     pub composite_type: CompositeType<A>,
 }
 
-/// An entry of a type section.
+/// A decoded entry of a type section.
 #[derive(Debug)]
 pub enum TypeEntry<A: Allocator = Global> {
     Single(SubItem<A>),
-    /// Types that may refer to one another.
+    /// A recursion group: types that may refer to one another.
     Group(Vec<SubItem<A>, A>),
 }
 
-/// Supertypes, and a composite type.
+/// Decodes supertypes, and a composite type.
 ///
 /// # Proved
 ///
 /// ```text
-/// ensures found { IfOk result (λ x. Reads supertypes_and wide bytes.now (x.0.items, composite_in x.1) x.2.now) }
-/// ensures none { IfErr result (λ e. e ≢ Memory → ReadsNothing supertypes_and wide bytes.now) }
+/// ensures found { IfOk result (λ x. Decodes supertypes_and padded bytes.now (x.0.items, composite_in x.1) x.2.now) }
+/// ensures none { IfErr result (λ e. e ≢ Memory → Rejects supertypes_and padded bytes.now) }
 /// ```
 fn read_supertypes_and<'a, A: Allocator + Copy>(
     bytes: &'a [u8],
@@ -42,13 +42,13 @@ fn read_supertypes_and<'a, A: Allocator + Copy>(
     Ok((supertypes, composite_type, rest))
 }
 
-/// What follows the first byte of a subtype.
+/// Decodes a subtype after its first byte, `tag`.
 ///
 /// # Proved
 ///
 /// ```text
-/// ensures found { IfOk result (λ x. Reads (after_sub tag) wide bytes.now (sub_view x.0) x.1.now) }
-/// ensures none { IfErr result (λ e. e ≢ Memory → ReadsNothing (after_sub tag) wide bytes.now) }
+/// ensures found { IfOk result (λ x. Decodes (after_sub tag) padded bytes.now (sub_view x.0) x.1.now) }
+/// ensures none { IfErr result (λ e. e ≢ Memory → Rejects (after_sub tag) padded bytes.now) }
 /// ```
 fn read_sub_after<'a, A: Allocator + Copy>(
     tag: u8,
@@ -96,7 +96,7 @@ fn read_sub_after<'a, A: Allocator + Copy>(
 /// format = { sub_type }
 /// view = { sub_view }
 /// ```
-impl<A: Allocator> Spelled for SubItem<A> {
+impl<A: Allocator> Layout for SubItem<A> {
     fn laws() {}
 }
 
@@ -114,7 +114,7 @@ impl<'a, A: Allocator + Copy> Readable<'a, A> for SubItem<A> {
 /// format = { type_item }
 /// view = { entry_view }
 /// ```
-impl<A: Allocator> Spelled for TypeEntry<A> {
+impl<A: Allocator> Layout for TypeEntry<A> {
     fn laws() {}
 }
 
@@ -131,16 +131,16 @@ impl<'a, A: Allocator + Copy> Readable<'a, A> for TypeEntry<A> {
     }
 }
 
-/// What stands before the composite type, and this.
+/// Encodes the subtype's prefix, if it needs one, and the composite type.
 ///
 /// # Defined
 ///
 /// ```text
-/// text = { λ s. sub_text (sub_view s) }
-/// fits = { SubItemFits }
+/// encoding = { λ s. sub_encoding (sub_view s) }
+/// encodable = { IsEncodableSubItem }
 /// ```
 impl<A: Allocator> Encode for SubItem<A> {
-    fn encode<B: Sink>(&self, sink: &mut B) -> R<()> {
+    fn encode<B: Sink>(&self, sink: &mut B) -> Result<()> {
         if !self.is_final {
             return (
                 0x50u8,
@@ -161,16 +161,16 @@ impl<A: Allocator> Encode for SubItem<A> {
     }
 }
 
-/// A subtype, or a byte and the vector of subtypes.
+/// Encodes a subtype, or a byte and the vector of subtypes.
 ///
 /// # Defined
 ///
 /// ```text
-/// text = { entry_text }
-/// fits = { EntryFits }
+/// encoding = { entry_encoding }
+/// encodable = { IsEncodableEntry }
 /// ```
 impl<A: Allocator> Encode for TypeEntry<A> {
-    fn encode<B: Sink>(&self, sink: &mut B) -> R<()> {
+    fn encode<B: Sink>(&self, sink: &mut B) -> Result<()> {
         match self {
             TypeEntry::Single(sub) => sub.encode(sink),
             TypeEntry::Group(subs) => (0x4Eu8, subs.as_slice()).encode(sink),

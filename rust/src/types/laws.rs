@@ -1,55 +1,60 @@
 // Written by tools/to-rust from crates/wasm_types/src/laws.rt: change that.
-//! What is promised of all lists of bytes, and not of a call: each function does nothing, and its clauses are the promise.
+//! Laws about type sections, for all byte sequences: each function does nothing, and its clauses
+//! are the law.
 
-/// Type sections are read uniquely, and so are types and their parts; the text of a plain record spells what it says.
+/// The formats of type sections, of types and of their components are unambiguous. A well-formed
+/// record encodes its item.
 ///
 /// # Proved
 ///
 /// ```text
-/// ensures section { UniqueReading (counted_format type_item) }
-/// ensures item { UniqueReading type_item }
-/// ensures sub { UniqueReading sub_type }
-/// ensures composite { UniqueReading composite_type }
-/// ensures field { UniqueReading field_type }
-/// ensures storage { UniqueReading storage_type }
+/// ensures section { Unambiguous (counted_format type_item) }
+/// ensures item { Unambiguous type_item }
+/// ensures sub { Unambiguous sub_type }
+/// ensures composite { Unambiguous composite_type }
+/// ensures field { Unambiguous field_type }
+/// ensures storage { Unambiguous storage_type }
 /// ensures items { ItemLaws type_items }
 /// ```
 pub fn types() {}
 
-/// With padded numbers too, type sections and types are read uniquely, and what shortest numbers spell is among it.
+/// With padded numbers the formats of type sections and types are unambiguous too. A minimal
+/// encoding is also an encoding in this mode.
 ///
 /// # Proved
 ///
 /// ```text
-/// ensures section { IsUniqueWide (counted_format type_item) }
-/// ensures item { IsUniqueWide type_item }
+/// ensures section { UnambiguousPadded (counted_format type_item) }
+/// ensures item { UnambiguousPadded type_item }
 /// ```
-pub fn wide() {}
+pub fn padded() {}
 
-/// What a type section holds, call by call: at first no types, and after a call that adds a plain record what this says too.
+/// The types that a type section holds, call by call: none at first, and one more after each call
+/// that adds a well-formed record.
 ///
 /// # Proved
 ///
 /// ```text
-/// ensures { HoldsMore type_items }
+/// ensures { ContainsMore type_items }
 /// ```
 pub fn calls() {}
 
-/// What the pieces of a type section spell with padded numbers, call by call.
+/// The types that the entries of a type section encode with padded numbers, call by call.
 ///
 /// # Proved
 ///
 /// ```text
-/// ensures { HoldsMoreWide type_items }
+/// ensures { ContainsMorePadded type_items }
 /// ```
-pub fn wide_calls() {}
+pub fn padded_calls() {}
 
-/// Where a module is read as ids and payloads, and a type section as its items alone, its payload is read as these alone.
+/// If a module decodes to ids and payloads, and a type section decodes to its items alone, then its
+/// payload decodes to these alone.
 ///
 /// # Proved
 ///
 /// ```text
-/// ensures { ReadsPayloads (vec type_item) }
+/// ensures { DecodesPayloads (vec type_item) }
 /// ```
 pub fn payloads() {}
 
@@ -58,18 +63,19 @@ pub fn payloads() {}
 /// # Proved
 ///
 /// ```text
-/// ensures { ReadsPayloadsWide (vec type_item) }
+/// ensures { DecodesPayloadsPadded (vec type_item) }
 /// ```
-pub fn wide_payloads() {}
+pub fn padded_payloads() {}
 
-/// No section stands in these three texts, with padded numbers neither: in the first a structure has a field of mutability 2, in the second
-/// the byte of a group is padded, and in the third a final type has an empty list of supertypes.
+/// These three byte sequences encode no type section, with padded numbers neither. In the first a
+/// structure has a field of mutability 2. In the second the byte of a group is padded. In the third
+/// a final type has an empty list of supertypes.
 ///
 /// # Proved
 ///
 /// ```text
-/// ensures mutability_of_2 { NothingStandsWide (counted_format type_item) (5 ∷ 1 ∷ 95 ∷ 1 ∷ 127 ∷ 2 ∷ []) }
-/// ensures padded_group { NothingStandsWide (counted_format type_item) (4 ∷ 1 ∷ 206 ∷ 0 ∷ 0 ∷ []) }
-/// ensures no_supertypes { NothingStandsWide (counted_format type_item) (5 ∷ 1 ∷ 79 ∷ 0 ∷ 95 ∷ 0 ∷ []) }
+/// ensures mutability_of_2 { RejectsAllAfterPadded (counted_format type_item) (5 ∷ 1 ∷ 95 ∷ 1 ∷ 127 ∷ 2 ∷ []) }
+/// ensures padded_group { RejectsAllAfterPadded (counted_format type_item) (4 ∷ 1 ∷ 206 ∷ 0 ∷ 0 ∷ []) }
+/// ensures no_supertypes { RejectsAllAfterPadded (counted_format type_item) (5 ∷ 1 ∷ 79 ∷ 0 ∷ 95 ∷ 0 ∷ []) }
 /// ```
-pub fn nothing_stands() {}
+pub fn rejections() {}

@@ -1,7 +1,9 @@
 // Written by tools/to-rust from crates/wasm_types/src/lib.rt: change that.
-//! The types that a module defines, by the core specification, "Binary Format", "Types" and "Type Section": built, and read exactly, an
-//! answer being what the grammar reads there, with padded numbers too, and a cause other than `ReadFault::Memory` saying that no reading
-//! exists.
+//! The type section of a module, by the core specification, "Binary Format", "Types" and "Type
+//! Section": its builder, its reader and its minimizer.
+//!
+//! The reader is exact: `Ok` holds the items that the bytes encode, padded numbers included, and
+//! any error but `ReadFault::Memory` means that the bytes encode no such items.
 
 pub(crate) mod fields;
 pub(crate) mod items;

@@ -1,5 +1,5 @@
 // Written by tools/to-rust from crates/wasm_types/src/shapes.rt: change that.
-// Composite types.
+// Decoding and minimal encoding of composite types.
 
 use crate::vec::Vec;
 use crate::types::fields::read_index;
@@ -8,13 +8,13 @@ use crate::alloc::Allocator;
 use crate::base::ValType;
 use crate::reader::base::{ReadFault, Readable};
 
-/// What follows the first byte of an inner type.
+/// Decodes an inner type after its first byte, `tag`.
 ///
 /// # Proved
 ///
 /// ```text
-/// ensures found { IfOk result (λ x. Reads (after_shape tag) wide bytes.now (shape_in x.0) x.1.now) }
-/// ensures none { IfErr result (λ e. e ≢ Memory → ReadsNothing (after_shape tag) wide bytes.now) }
+/// ensures found { IfOk result (λ x. Decodes (after_shape tag) padded bytes.now (shape_in x.0) x.1.now) }
+/// ensures none { IfErr result (λ e. e ≢ Memory → Rejects (after_shape tag) padded bytes.now) }
 /// ```
 fn read_shape_after<'a, A: Allocator + Copy>(
     tag: u8,
@@ -48,13 +48,13 @@ fn read_shape_after<'a, A: Allocator + Copy>(
     }
 }
 
-/// What follows the first byte of an inner type that another may describe.
+/// Decodes an optional descriptor and an inner type after the first byte, `tag`.
 ///
 /// # Proved
 ///
 /// ```text
-/// ensures found { IfOk result (λ x. Reads (after_descriptor tag) wide bytes.now (described_view x.0) x.1.now) }
-/// ensures none { IfErr result (λ e. e ≢ Memory → ReadsNothing (after_descriptor tag) wide bytes.now) }
+/// ensures found { IfOk result (λ x. Decodes (after_descriptor tag) padded bytes.now (described_view x.0) x.1.now) }
+/// ensures none { IfErr result (λ e. e ≢ Memory → Rejects (after_descriptor tag) padded bytes.now) }
 /// ```
 fn read_descriptor_after<'a, A: Allocator + Copy>(
     tag: u8,
@@ -71,13 +71,14 @@ fn read_descriptor_after<'a, A: Allocator + Copy>(
     }
 }
 
-/// What follows the first byte of an inner type that may describe another.
+/// Decodes an optional described type, an optional descriptor and an inner type after the first
+/// byte, `tag`.
 ///
 /// # Proved
 ///
 /// ```text
-/// ensures found { IfOk result (λ x. Reads (after_describes tag) wide bytes.now (describing_view x.0) x.1.now) }
-/// ensures none { IfErr result (λ e. e ≢ Memory → ReadsNothing (after_describes tag) wide bytes.now) }
+/// ensures found { IfOk result (λ x. Decodes (after_describes tag) padded bytes.now (describing_view x.0) x.1.now) }
+/// ensures none { IfErr result (λ e. e ≢ Memory → Rejects (after_describes tag) padded bytes.now) }
 /// ```
 fn read_describes_after<'a, A: Allocator + Copy>(
     tag: u8,
@@ -100,13 +101,13 @@ fn read_describes_after<'a, A: Allocator + Copy>(
     }
 }
 
-/// What follows the first byte of a composite type.
+/// Decodes a composite type after its first byte, `tag`.
 ///
 /// # Proved
 ///
 /// ```text
-/// ensures found { IfOk result (λ x. Reads (after_composite tag) wide bytes.now (composite_in x.0) x.1.now) }
-/// ensures none { IfErr result (λ e. e ≢ Memory → ReadsNothing (after_composite tag) wide bytes.now) }
+/// ensures found { IfOk result (λ x. Decodes (after_composite tag) padded bytes.now (composite_in x.0) x.1.now) }
+/// ensures none { IfErr result (λ e. e ≢ Memory → Rejects (after_composite tag) padded bytes.now) }
 /// ```
 pub(crate) fn read_composite_after<'a, A: Allocator + Copy>(
     tag: u8,

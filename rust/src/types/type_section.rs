@@ -1,14 +1,14 @@
 // Written by tools/to-rust from crates/wasm_types/src/type_section.rt: change that.
-// The type section: built, read, and written in its fewest bytes.
+// The type section: its builder, its reader and its minimizer.
 
 use crate::vec::{Sink, Vec};
 use crate::types::items::TypeEntry;
 use crate::types::types::{ARRAY, ContType, FUNC, FieldType, FuncType, STRUCT, StorageType, SubType};
 use crate::alloc::{Allocator, Global};
-use crate::base::{Encode, Kind, Pieces, R, Section, SectionId, ValType, vec_of};
+use crate::base::{Encode, Kind, Pieces, Result, Section, SectionId, ValType, vec_of};
 use crate::reader::base::{ReadFault, read_whole};
 
-/// The types that a module defines, seen as the bytes of each entry.
+/// The type section: the types that a module defines, modelled as the bytes of each entry.
 ///
 /// ```
 /// # use dolzhytik::{fallible::*, reader::*};
@@ -21,12 +21,17 @@ use crate::reader::base::{ReadFault, read_whole};
 /// # }
 /// # example(Global).unwrap();
 /// ```
+///
+/// # Errors
+///
+/// An adding call that returns an error leaves the section unchanged. The error is `TooLong` only
+/// if the section is full or a list is too long, and `Memory` only if an allocation fails.
 #[derive(Debug)]
 pub struct TypeSection<A: Allocator = Global> {
     pieces: Pieces<A>,
 }
 
-/// The items of a type section: subtypes, and groups of them.
+/// The kind of a type section's items: subtypes and recursion groups.
 #[derive(Clone, Copy, Debug)]
 pub struct TypeItems;
 
@@ -42,7 +47,7 @@ impl Kind for TypeItems {
 }
 
 impl<A: Allocator> TypeSection<A> {
-    /// The number of entries.
+    /// Returns the number of entries.
     ///
     /// # Proved
     ///
@@ -53,7 +58,7 @@ impl<A: Allocator> TypeSection<A> {
         self.pieces.len()
     }
 
-    /// Whether there is no entry.
+    /// Returns `true` if there are no entries.
     ///
     /// # Proved
     ///
@@ -64,7 +69,7 @@ impl<A: Allocator> TypeSection<A> {
         self.pieces.is_empty()
     }
 
-    /// The bytes of the entry at `index`.
+    /// Returns the bytes of the entry at `index`, or `None` if there is no such entry.
     ///
     /// # Proved
     ///
@@ -75,7 +80,7 @@ impl<A: Allocator> TypeSection<A> {
         self.pieces.get(index)
     }
 
-    /// What adds a type. Where none of its calls is made, nothing is added.
+    /// Returns an encoder that adds one type. If none of its methods is called, nothing is added.
     ///
     /// # Proved
     ///
@@ -89,7 +94,7 @@ impl<A: Allocator> TypeSection<A> {
 }
 
 impl<A: Allocator + Copy> TypeSection<A> {
-    /// A section of no entries. It takes no memory.
+    /// Returns a section without entries, and allocates nothing.
     ///
     /// # Proved
     ///
@@ -102,7 +107,7 @@ impl<A: Allocator + Copy> TypeSection<A> {
         }
     }
 
-    /// A section of the same entries, in memory of its own.
+    /// Returns a section of the same entries, in memory of its own.
     ///
     /// # Proved
     ///
@@ -110,25 +115,25 @@ impl<A: Allocator + Copy> TypeSection<A> {
     /// ensures same { IfOk result (λ section. section ≡ self.now) }
     /// ensures memory { result ≢ Err TooLong }
     /// ```
-    pub fn clone(&self) -> R<Self> {
+    pub fn clone(&self) -> Result<Self> {
         Ok(TypeSection {
             pieces: self.pieces.clone()?,
         })
     }
 }
 
-/// The frame of the number of entries and of these.
+/// Encodes the size prefix, the number of entries, and the entries.
 ///
 /// # Defined
 ///
 /// ```text
-/// text = { section_text }
-/// fits = { SectionFits }
+/// encoding = { section_encoding }
+/// encodable = { IsEncodableSection }
 /// overlong = { IsOverlong }
-/// reading = { λ section. ReadsBackBoth (counted_format type_item) (HoldsTypes section) (HoldsWide type_item section) (section_text section) }
+/// decoding = { λ section. DecodesBackBoth (counted_format type_item) (ContainsTypes section) (ContainsPadded type_item section) (section_encoding section) }
 /// ```
 impl<A: Allocator> Encode for TypeSection<A> {
-    fn encode<B: Sink>(&self, sink: &mut B) -> R<()> {
+    fn encode<B: Sink>(&self, sink: &mut B) -> Result<()> {
         TypeItems::laws();
         self.pieces.encode(sink)
     }
@@ -140,10 +145,10 @@ impl<A: Allocator> Encode for TypeSection<A> {
 /// id_of = { λ _. number_of ids.Types }
 /// Items = { List Item }
 /// format = { counted_format type_item }
-/// says = { HoldsTypes }
+/// says = { ContainsTypes }
 /// payload = { SectionPayload }
-/// framed = { section_framed }
-/// reads_back = { λ section promised. promised.plain }
+/// sized = { section_sized }
+/// decodes_back = { λ section promised. promised.plain }
 /// ```
 impl<A: Allocator> Section for TypeSection<A> {
     fn id(&self) -> u8 {
@@ -151,7 +156,8 @@ impl<A: Allocator> Section for TypeSection<A> {
     }
 }
 
-/// Adds one type to a section that it borrows. A refused call leaves the section as it was.
+/// Adds one type to a section that it borrows. A call that returns an error leaves the section
+/// unchanged.
 #[derive(Debug)]
 pub struct CoreTypeEncoder<'a, A: Allocator = Global> {
     section: &'a mut TypeSection<A>,
@@ -163,21 +169,21 @@ impl<'a, A: Allocator> CoreTypeEncoder<'a, A> {
     /// # Proved
     ///
     /// ```text
-    /// ensures { Adds (func_text ty.now.params.items ty.now.results.items) (VecFits (λ _. ⊤) ty.now.params.items × VecFits (λ _. ⊤) ty.now.results.items) self.entry.section.now self.exit.0.now result }
+    /// ensures { Adds (func_encoding ty.now.params.items ty.now.results.items) (IsEncodableVec (λ _. ⊤) ty.now.params.items × IsEncodableVec (λ _. ⊤) ty.now.results.items) self.entry.section.now self.exit.0.now result }
     /// ```
-    pub fn func_type<B: Allocator>(self, ty: &FuncType<B>) -> R<()> {
+    pub fn func_type<B: Allocator>(self, ty: &FuncType<B>) -> Result<()> {
         let section = self.section;
         section.pieces.add_encoded(ty)
     }
 
-    /// Adds the type of an array.
+    /// Adds an array type.
     ///
     /// # Proved
     ///
     /// ```text
-    /// ensures { Adds (0x5E ∷ field_text (record { element_type = ty.now; mutable = mutable })) ⊤ self.entry.section.now self.exit.0.now result }
+    /// ensures { Adds (0x5E ∷ field_encoding (record { element_type = ty.now; mutable = mutable })) ⊤ self.entry.section.now self.exit.0.now result }
     /// ```
-    pub fn array(self, ty: &StorageType, mutable: bool) -> R<()> {
+    pub fn array(self, ty: &StorageType, mutable: bool) -> Result<()> {
         let element = FieldType {
             element_type: *ty,
             mutable,
@@ -186,14 +192,14 @@ impl<'a, A: Allocator> CoreTypeEncoder<'a, A> {
         section.pieces.add_encoded(&(ARRAY, element))
     }
 
-    /// Adds the type of a continuation.
+    /// Adds a continuation type.
     ///
     /// # Proved
     ///
     /// ```text
-    /// ensures { Adds (cont_text ty.now.0) ⊤ self.entry.section.now self.exit.0.now result }
+    /// ensures { Adds (cont_encoding ty.now.0) ⊤ self.entry.section.now self.exit.0.now result }
     /// ```
-    pub fn cont(self, ty: &ContType) -> R<()> {
+    pub fn cont(self, ty: &ContType) -> Result<()> {
         let section = self.section;
         section.pieces.add_encoded(ty)
     }
@@ -203,14 +209,15 @@ impl<'a, A: Allocator> CoreTypeEncoder<'a, A> {
     /// # Proved
     ///
     /// ```text
-    /// ensures { Adds (sub_text (sub_in ty.now)) (ShapeFits (shape_in ty.now.composite_type.inner)) self.entry.section.now self.exit.0.now result }
+    /// ensures { Adds (sub_encoding (sub_in ty.now)) (IsEncodableShape (shape_in ty.now.composite_type.inner)) self.entry.section.now self.exit.0.now result }
     /// ```
-    pub fn subtype<B: Allocator>(self, ty: &SubType<B>) -> R<()> {
+    pub fn subtype<B: Allocator>(self, ty: &SubType<B>) -> Result<()> {
         let section = self.section;
         section.pieces.add_encoded(ty)
     }
 
-    /// Adds a function type of these parameters and results. Where there are too many of either, it answers `TooLong`, and asks for none.
+    /// Adds a function type of these parameters and results. If there are too many of either, it
+    /// returns `TooLong` and requests none.
     ///
     /// # Asks
     ///
@@ -222,13 +229,13 @@ impl<'a, A: Allocator> CoreTypeEncoder<'a, A> {
     /// # Proved
     ///
     /// ```text
-    /// ensures { AddsTwoListed P.into_iter_gives P.IntoIter.next_gives P.IntoIter.remaining Q.into_iter_gives Q.IntoIter.next_gives Q.IntoIter.remaining params results func_text self.entry.section.now self.exit.0.now result }
+    /// ensures { AddsTwoListed P.into_iter_gives P.IntoIter.next_gives P.IntoIter.remaining Q.into_iter_gives Q.IntoIter.next_gives Q.IntoIter.remaining params results func_encoding self.entry.section.now self.exit.0.now result }
     /// ```
     pub fn function<P: IntoIterator<Item = ValType>, Q: IntoIterator<Item = ValType>>(
         self,
         params: P,
         results: Q,
-    ) -> R<()>
+    ) -> Result<()>
     where
         P::IntoIter: ExactSizeIterator,
         Q::IntoIter: ExactSizeIterator,
@@ -239,7 +246,8 @@ impl<'a, A: Allocator> CoreTypeEncoder<'a, A> {
         section.pieces.add_once((FUNC, params?, results?))
     }
 
-    /// Adds the type of a structure of these fields. Where there are too many, it answers `TooLong`, and asks for none.
+    /// Adds a structure type of these fields. If there are too many, it returns `TooLong` and
+    /// requests none.
     ///
     /// # Asks
     ///
@@ -250,9 +258,9 @@ impl<'a, A: Allocator> CoreTypeEncoder<'a, A> {
     /// # Proved
     ///
     /// ```text
-    /// ensures { AddsListed F.into_iter_gives F.IntoIter.next_gives F.IntoIter.remaining (λ _. ⊤) fields struct_text self.entry.section.now self.exit.0.now result }
+    /// ensures { AddsListed F.into_iter_gives F.IntoIter.next_gives F.IntoIter.remaining (λ _. ⊤) fields struct_encoding self.entry.section.now self.exit.0.now result }
     /// ```
-    pub fn struct_<F: IntoIterator<Item = FieldType>>(self, fields: F) -> R<()>
+    pub fn struct_<F: IntoIterator<Item = FieldType>>(self, fields: F) -> Result<()>
     where
         F::IntoIter: ExactSizeIterator,
     {
@@ -261,7 +269,8 @@ impl<'a, A: Allocator> CoreTypeEncoder<'a, A> {
         section.pieces.add_once((STRUCT, fields))
     }
 
-    /// Adds a group of subtypes, which may refer to one another. Where there are too many, it answers `TooLong`, and asks for none.
+    /// Adds a recursion group: subtypes that may refer to one another. If there are too many, it
+    /// returns `TooLong` and requests none.
     ///
     /// # Asks
     ///
@@ -272,9 +281,9 @@ impl<'a, A: Allocator> CoreTypeEncoder<'a, A> {
     /// # Proved
     ///
     /// ```text
-    /// ensures { AddsListed T.into_iter_gives T.IntoIter.next_gives T.IntoIter.remaining (λ s. ShapeFits (shape_in s.composite_type.inner)) types group_text self.entry.section.now self.exit.0.now result }
+    /// ensures { AddsListed T.into_iter_gives T.IntoIter.next_gives T.IntoIter.remaining (λ s. IsEncodableShape (shape_in s.composite_type.inner)) types group_encoding self.entry.section.now self.exit.0.now result }
     /// ```
-    pub fn rec<T: IntoIterator<Item = SubType<B>>, B: Allocator>(self, types: T) -> R<()>
+    pub fn rec<T: IntoIterator<Item = SubType<B>>, B: Allocator>(self, types: T) -> Result<()>
     where
         T::IntoIter: ExactSizeIterator,
     {
@@ -284,16 +293,21 @@ impl<'a, A: Allocator> CoreTypeEncoder<'a, A> {
     }
 }
 
-/// The byte before a group.
+/// The byte before a recursion group.
 pub(crate) const REC: u8 = 0x4E;
 
-/// The types behind their number that all of the bytes spell, their numbers padded or not.
+/// Decodes the payload of a type section: a count and that many types, padded numbers included.
+/// They must occupy all of the bytes.
+///
+/// # Errors
+///
+/// Any error but `Memory` means that the bytes are not such a payload.
 ///
 /// # Proved
 ///
 /// ```text
-/// ensures found { IfOk result (λ x. vec type_item wide bytes.now (map entry_view x.items)) }
-/// ensures none { IfErr result (λ e. e ≢ Memory → FillsNothing (vec type_item) bytes.now) }
+/// ensures found { IfOk result (λ x. vec type_item padded bytes.now (map entry_view x.items)) }
+/// ensures none { IfErr result (λ e. e ≢ Memory → RejectsWhole (vec type_item) bytes.now) }
 /// ```
 pub fn read_types<'a, A: Allocator + Copy>(
     bytes: &'a [u8],
@@ -302,18 +316,19 @@ pub fn read_types<'a, A: Allocator + Copy>(
     read_whole::<'a, Vec<TypeEntry<A>, A>, A>(bytes, alloc)
 }
 
-/// Appends the minimal encoding of types, after their number. On an error, the sink is as it was.
+/// Appends the minimal encoding of a type section's payload: the number of types, and the types. On
+/// an error, the sink is unchanged.
 ///
 /// # Proved
 ///
 /// ```text
-/// ensures ok { OnOk result (AppendsShortest (vec type_item) (map entry_view types.now) out.old.items out.new.items) }
-/// ensures err { OnErr result (out.new.items ≡ out.old.items) }
+/// ensures ok { OnOk result (AppendsMinimal (vec type_item) (map entry_view types.now) sink.old.items sink.new.items) }
+/// ensures err { OnErr result (sink.new.items ≡ sink.old.items) }
 /// ensures too_long { HasEncoding (vec type_item) (map entry_view types.now) → result ≢ Err TooLong }
 /// ```
 pub fn append_types<A: Allocator, B: Sink>(
     types: &[TypeEntry<A>],
-    out: &mut B,
-) -> R<()> {
-    types.encode(out)
+    sink: &mut B,
+) -> Result<()> {
+    types.encode(sink)
 }

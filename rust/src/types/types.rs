@@ -1,12 +1,12 @@
 // Written by tools/to-rust from crates/wasm_types/src/types.rt: change that.
-// Types that a module defines.
+// The types that a module can define: functions, structures, arrays and continuations.
 
 use crate::vec::{Sink, Vec};
 use crate::alloc::{Allocator, Global};
 use core::slice;
-use crate::base::{Encode, Lent, R, ValType};
+use crate::base::{Encode, Lent, Result, ValType};
 
-/// What a field or an element holds: a value, or a packed number.
+/// The type of the content of a field or an element: a value, or a packed integer.
 #[derive(Clone, Copy, PartialEq, Eq, Hash, Debug)]
 pub enum StorageType {
     I8,
@@ -25,7 +25,7 @@ pub struct FieldType {
 #[derive(Clone, Copy, PartialEq, Eq, Hash, Debug)]
 pub struct ArrayType(pub FieldType);
 
-/// The type of a continuation: of the function type of this index.
+/// The type of a continuation of the function type of this index.
 #[derive(Clone, Copy, PartialEq, Eq, Hash, Debug)]
 pub struct ContType(pub u32);
 
@@ -42,7 +42,7 @@ pub struct StructType<A: Allocator = Global> {
     pub fields: Vec<FieldType, A>,
 }
 
-/// A composite type, without what stands before it.
+/// A composite type without its sharing and descriptor prefixes.
 #[derive(Debug)]
 pub enum CompositeInnerType<A: Allocator = Global> {
     Func(FuncType<A>),
@@ -51,7 +51,7 @@ pub enum CompositeInnerType<A: Allocator = Global> {
     Cont(ContType),
 }
 
-/// A composite type.
+/// A composite type, with its prefixes.
 #[derive(Debug)]
 pub struct CompositeType<A: Allocator = Global> {
     pub inner: CompositeInnerType<A>,
@@ -63,7 +63,8 @@ pub struct CompositeType<A: Allocator = Global> {
     pub describes: Option<u32>,
 }
 
-/// A type that may have a supertype, and subtypes where it isn't final.
+/// A subtype: a composite type, an optional supertype, and whether it is final, so that it can have
+/// no subtypes.
 #[derive(Debug)]
 pub struct SubType<A: Allocator = Global> {
     pub is_final: bool,
@@ -73,7 +74,7 @@ pub struct SubType<A: Allocator = Global> {
 }
 
 impl<A: Allocator + Copy> FuncType<A> {
-    /// A function type of these parameters and results.
+    /// Returns a function type of these parameters and results, from iterators.
     ///
     /// # Asks
     ///
@@ -93,7 +94,7 @@ impl<A: Allocator + Copy> FuncType<A> {
         alloc: A,
         params: P,
         results: Q,
-    ) -> R<Self>
+    ) -> Result<Self>
     where
     {
         let params = collected(alloc, params)?;
@@ -102,7 +103,7 @@ impl<A: Allocator + Copy> FuncType<A> {
     }
 }
 
-/// The types that an iterator gives.
+/// Returns the types that an iterator yields.
 ///
 /// # Asks
 ///
@@ -119,7 +120,7 @@ impl<A: Allocator + Copy> FuncType<A> {
 fn collected<A: Allocator, P: IntoIterator<Item = ValType>>(
     alloc: A,
     types: P,
-) -> R<Vec<ValType, A>> {
+) -> Result<Vec<ValType, A>> {
     let mut collected = Vec::new(alloc);
     for ty in types {
         collected.push(ty)?;
@@ -128,7 +129,7 @@ fn collected<A: Allocator, P: IntoIterator<Item = ValType>>(
 }
 
 impl<A: Allocator> FuncType<A> {
-    /// A function type of these parameters and results.
+    /// Returns a function type of these parameters and results.
     ///
     /// # Proved
     ///
@@ -140,7 +141,7 @@ impl<A: Allocator> FuncType<A> {
         FuncType { params, results }
     }
 
-    /// The types of the parameters.
+    /// Returns the types of the parameters.
     ///
     /// # Proved
     ///
@@ -151,7 +152,7 @@ impl<A: Allocator> FuncType<A> {
         self.params.as_slice()
     }
 
-    /// The types of the results.
+    /// Returns the types of the results.
     ///
     /// # Proved
     ///
@@ -163,7 +164,7 @@ impl<A: Allocator> FuncType<A> {
     }
 }
 
-/// The same items, in memory of their own.
+/// Returns the same items, in memory of their own.
 ///
 /// # Proved
 ///
@@ -171,12 +172,12 @@ impl<A: Allocator> FuncType<A> {
 /// ensures same { IfOk result (λ copies. copies.items ≡ items.now.items) }
 /// ensures memory { result ≢ Err TooLong }
 /// ```
-fn copied<T: Copy, A: Allocator + Copy>(items: &Vec<T, A>) -> R<Vec<T, A>> {
+fn copied<T: Copy, A: Allocator + Copy>(items: &Vec<T, A>) -> Result<Vec<T, A>> {
     Ok(Vec::from_slice(*items.allocator(), items.as_slice())?)
 }
 
 impl<A: Allocator + Copy> FuncType<A> {
-    /// The same type, in memory of its own.
+    /// Returns the same type, in memory of its own.
     ///
     /// # Proved
     ///
@@ -184,7 +185,7 @@ impl<A: Allocator + Copy> FuncType<A> {
     /// ensures same { IfOk result (λ f. func_in f ≡ func_in self.now) }
     /// ensures memory { result ≢ Err TooLong }
     /// ```
-    pub fn clone(&self) -> R<Self> {
+    pub fn clone(&self) -> Result<Self> {
         Ok(FuncType {
             params: copied(&self.params)?,
             results: copied(&self.results)?,
@@ -193,7 +194,7 @@ impl<A: Allocator + Copy> FuncType<A> {
 }
 
 impl<A: Allocator + Copy> StructType<A> {
-    /// The same type, in memory of its own.
+    /// Returns the same type, in memory of its own.
     ///
     /// # Proved
     ///
@@ -201,7 +202,7 @@ impl<A: Allocator + Copy> StructType<A> {
     /// ensures same { IfOk result (λ s. s.fields.items ≡ self.now.fields.items) }
     /// ensures memory { result ≢ Err TooLong }
     /// ```
-    pub fn clone(&self) -> R<Self> {
+    pub fn clone(&self) -> Result<Self> {
         Ok(StructType {
             fields: copied(&self.fields)?,
         })
@@ -209,7 +210,7 @@ impl<A: Allocator + Copy> StructType<A> {
 }
 
 impl<A: Allocator + Copy> CompositeInnerType<A> {
-    /// The same type, in memory of its own.
+    /// Returns the same type, in memory of its own.
     ///
     /// # Proved
     ///
@@ -217,7 +218,7 @@ impl<A: Allocator + Copy> CompositeInnerType<A> {
     /// ensures same { IfOk result (λ inner. shape_in inner ≡ shape_in self.now) }
     /// ensures memory { result ≢ Err TooLong }
     /// ```
-    pub fn clone(&self) -> R<Self> {
+    pub fn clone(&self) -> Result<Self> {
         Ok(match self {
             CompositeInnerType::Func(func) => CompositeInnerType::Func(func.clone()?),
             CompositeInnerType::Array(array) => CompositeInnerType::Array(*array),
@@ -228,7 +229,7 @@ impl<A: Allocator + Copy> CompositeInnerType<A> {
 }
 
 impl<A: Allocator + Copy> CompositeType<A> {
-    /// The same type, in memory of its own.
+    /// Returns the same type, in memory of its own.
     ///
     /// # Proved
     ///
@@ -236,7 +237,7 @@ impl<A: Allocator + Copy> CompositeType<A> {
     /// ensures same { IfOk result (λ c. composite_in c ≡ composite_in self.now) }
     /// ensures memory { result ≢ Err TooLong }
     /// ```
-    pub fn clone(&self) -> R<Self> {
+    pub fn clone(&self) -> Result<Self> {
         Ok(CompositeType {
             inner: self.inner.clone()?,
             shared: self.shared,
@@ -247,7 +248,7 @@ impl<A: Allocator + Copy> CompositeType<A> {
 }
 
 impl<A: Allocator + Copy> SubType<A> {
-    /// The same type, in memory of its own.
+    /// Returns the same type, in memory of its own.
     ///
     /// # Proved
     ///
@@ -255,7 +256,7 @@ impl<A: Allocator + Copy> SubType<A> {
     /// ensures same { IfOk result (λ s. sub_in s ≡ sub_in self.now) }
     /// ensures memory { result ≢ Err TooLong }
     /// ```
-    pub fn clone(&self) -> R<Self> {
+    pub fn clone(&self) -> Result<Self> {
         Ok(SubType {
             is_final: self.is_final,
             supertype_idx: self.supertype_idx,
@@ -264,16 +265,16 @@ impl<A: Allocator + Copy> SubType<A> {
     }
 }
 
-/// The byte of a packed type, or the value type.
+/// Encodes a packed type as its byte, and a value type as such.
 ///
 /// # Defined
 ///
 /// ```text
-/// text = { storage_text }
-/// fits = { λ _. ⊤ }
+/// encoding = { storage_encoding }
+/// encodable = { λ _. ⊤ }
 /// ```
 impl Encode for StorageType {
-    fn encode<A: Sink>(&self, sink: &mut A) -> R<()> {
+    fn encode<A: Sink>(&self, sink: &mut A) -> Result<()> {
         match *self {
             StorageType::I8 => 0x78u8.encode(sink),
             StorageType::I16 => 0x77u8.encode(sink),
@@ -282,7 +283,7 @@ impl Encode for StorageType {
     }
 }
 
-/// The byte that says whether a field can be set.
+/// Returns the byte that encodes the mutability of a field.
 ///
 /// # Proved
 ///
@@ -294,21 +295,21 @@ fn mutability(mutable: bool) -> u8 {
     if mutable { 0x01 } else { 0x00 }
 }
 
-/// The storage type, and whether the field can be set.
+/// Encodes the storage type, and the mutability of the field.
 ///
 /// # Defined
 ///
 /// ```text
-/// text = { field_text }
-/// fits = { λ _. ⊤ }
+/// encoding = { field_encoding }
+/// encodable = { λ _. ⊤ }
 /// ```
 impl Encode for FieldType {
-    fn encode<A: Sink>(&self, sink: &mut A) -> R<()> {
+    fn encode<A: Sink>(&self, sink: &mut A) -> Result<()> {
         (self.element_type, mutability(self.mutable)).encode(sink)
     }
 }
 
-// The bytes that tell what a composite type is.
+// The first bytes of composite types.
 pub(crate) const CONT: u8 = 0x5D;
 
 pub(crate) const ARRAY: u8 = 0x5E;
@@ -317,72 +318,72 @@ pub(crate) const STRUCT: u8 = 0x5F;
 
 pub(crate) const FUNC: u8 = 0x60;
 
-/// A byte, the element type.
+/// Encodes a byte, and the element type.
 ///
 /// # Defined
 ///
 /// ```text
-/// text = { λ a. 0x5E ∷ field_text a.0 }
-/// fits = { λ _. ⊤ }
+/// encoding = { λ a. 0x5E ∷ field_encoding a.0 }
+/// encodable = { λ _. ⊤ }
 /// ```
 impl Encode for ArrayType {
-    fn encode<A: Sink>(&self, sink: &mut A) -> R<()> {
+    fn encode<A: Sink>(&self, sink: &mut A) -> Result<()> {
         (ARRAY, self.0).encode(sink)
     }
 }
 
-/// A byte, and the index as a signed number.
+/// Encodes a byte, and the index as a signed number.
 ///
 /// # Defined
 ///
 /// ```text
-/// text = { λ c. 0x5D ∷ signed_text (pos c.0) }
-/// fits = { λ _. ⊤ }
+/// encoding = { λ c. 0x5D ∷ signed_encoding (pos c.0) }
+/// encodable = { λ _. ⊤ }
 /// ```
 impl Encode for ContType {
-    fn encode<A: Sink>(&self, sink: &mut A) -> R<()> {
+    fn encode<A: Sink>(&self, sink: &mut A) -> Result<()> {
         (CONT, i64::from(self.0)).encode(sink)
     }
 }
 
-/// A byte, the vector of the parameters and that of the results.
+/// Encodes a byte, the vector of the parameters and the vector of the results.
 ///
 /// # Defined
 ///
 /// ```text
-/// text = { λ f. func_text f.params.items f.results.items }
-/// fits = { λ f. VecFits (λ _. ⊤) f.params.items × VecFits (λ _. ⊤) f.results.items }
+/// encoding = { λ f. func_encoding f.params.items f.results.items }
+/// encodable = { λ f. IsEncodableVec (λ _. ⊤) f.params.items × IsEncodableVec (λ _. ⊤) f.results.items }
 /// ```
 impl<A: Allocator> Encode for FuncType<A> {
-    fn encode<B: Sink>(&self, sink: &mut B) -> R<()> {
+    fn encode<B: Sink>(&self, sink: &mut B) -> Result<()> {
         (FUNC, self.params.as_slice(), self.results.as_slice()).encode(sink)
     }
 }
 
-/// A byte, and the vector of the fields.
+/// Encodes a byte, and the vector of the fields.
 ///
 /// # Defined
 ///
 /// ```text
-/// text = { λ s. 0x5F ∷ vec_text field_text s.fields.items }
-/// fits = { λ s. VecFits (λ _. ⊤) s.fields.items }
+/// encoding = { λ s. 0x5F ∷ vec_encoding field_encoding s.fields.items }
+/// encodable = { λ s. IsEncodableVec (λ _. ⊤) s.fields.items }
 /// ```
 impl<A: Allocator> Encode for StructType<A> {
-    fn encode<B: Sink>(&self, sink: &mut B) -> R<()> {
+    fn encode<B: Sink>(&self, sink: &mut B) -> Result<()> {
         (STRUCT, self.fields.as_slice()).encode(sink)
     }
 }
 
-/// A byte that tells which it is, and what follows.
+/// Encodes a byte that selects the case, and its fields.
 ///
 /// # Defined
 ///
 /// ```text
-/// text = { λ c. shape_text (shape_in c) }
-/// fits = { λ c. ShapeFits (shape_in c) }
+/// encoding = { λ c. shape_encoding (shape_in c) }
+/// encodable = { λ c. IsEncodableShape (shape_in c) }
 /// ```
 impl<A: Allocator> Encode for CompositeInnerType<A> {
-    fn encode<B: Sink>(&self, sink: &mut B) -> R<()> {
+    fn encode<B: Sink>(&self, sink: &mut B) -> Result<()> {
         match self {
             CompositeInnerType::Func(func) => func.encode(sink),
             CompositeInnerType::Array(array) => array.encode(sink),
@@ -392,23 +393,23 @@ impl<A: Allocator> Encode for CompositeInnerType<A> {
     }
 }
 
-/// The byte of a shared type, where it is one.
+/// The byte of a shared type, or nothing for others.
 #[derive(Clone, Copy)]
 struct Shared(bool);
 
 /// # Defined
 ///
 /// ```text
-/// text = { λ s. shared_text s.0 }
-/// fits = { λ _. ⊤ }
+/// encoding = { λ s. shared_encoding s.0 }
+/// encodable = { λ _. ⊤ }
 /// ```
 impl Encode for Shared {
-    fn encode<A: Sink>(&self, sink: &mut A) -> R<()> {
+    fn encode<A: Sink>(&self, sink: &mut A) -> Result<()> {
         if self.0 { 0x65u8.encode(sink) } else { Ok(()) }
     }
 }
 
-/// An index behind a byte, where it is given.
+/// A byte and an index, or nothing if there is no index.
 #[derive(Clone, Copy)]
 struct Marked {
     byte: u8,
@@ -418,11 +419,11 @@ struct Marked {
 /// # Defined
 ///
 /// ```text
-/// text = { λ m. index_text m.byte m.index }
-/// fits = { λ _. ⊤ }
+/// encoding = { λ m. index_encoding m.byte m.index }
+/// encodable = { λ _. ⊤ }
 /// ```
 impl Encode for Marked {
-    fn encode<A: Sink>(&self, sink: &mut A) -> R<()> {
+    fn encode<A: Sink>(&self, sink: &mut A) -> Result<()> {
         match self.index {
             Some(index) => (self.byte, index).encode(sink),
             None => Ok(()),
@@ -430,16 +431,16 @@ impl Encode for Marked {
     }
 }
 
-/// What stands before the inner type, and this.
+/// Encodes the prefixes, and the inner type.
 ///
 /// # Defined
 ///
 /// ```text
-/// text = { λ c. composite_text (composite_in c) }
-/// fits = { λ c. ShapeFits (shape_in c.inner) }
+/// encoding = { λ c. composite_encoding (composite_in c) }
+/// encodable = { λ c. IsEncodableShape (shape_in c.inner) }
 /// ```
 impl<A: Allocator> Encode for CompositeType<A> {
-    fn encode<B: Sink>(&self, sink: &mut B) -> R<()> {
+    fn encode<B: Sink>(&self, sink: &mut B) -> Result<()> {
         let describes = Marked {
             byte: 0x4C,
             index: self.describes,
@@ -457,23 +458,24 @@ impl<A: Allocator> Encode for CompositeType<A> {
     }
 }
 
-/// What stands before the composite type of a subtype.
+/// The prefix of a subtype before its composite type.
 #[derive(Clone, Copy)]
 struct Before {
     is_final: bool,
     supertype_idx: Option<u32>,
 }
 
-/// Nothing where it is final and has no supertype, and else a byte and the vector of its supertypes.
+/// Encodes nothing for a final type without supertypes, and otherwise a byte and the vector of its
+/// supertypes.
 ///
 /// # Defined
 ///
 /// ```text
-/// text = { λ b. before_text b.is_final (listed b.supertype_idx) }
-/// fits = { λ _. ⊤ }
+/// encoding = { λ b. before_encoding b.is_final (listed b.supertype_idx) }
+/// encodable = { λ _. ⊤ }
 /// ```
 impl Encode for Before {
-    fn encode<A: Sink>(&self, sink: &mut A) -> R<()> {
+    fn encode<A: Sink>(&self, sink: &mut A) -> Result<()> {
         let byte: u8 = if self.is_final { 0x4F } else { 0x50 };
         match &self.supertype_idx {
             Some(index) => (byte, slice::from_ref(index)).encode(sink),
@@ -486,16 +488,16 @@ impl Encode for Before {
     }
 }
 
-/// What stands before the composite type, and this.
+/// Encodes the subtype's prefix, if it needs one, and the composite type.
 ///
 /// # Defined
 ///
 /// ```text
-/// text = { λ s. sub_text (sub_in s) }
-/// fits = { λ s. ShapeFits (shape_in s.composite_type.inner) }
+/// encoding = { λ s. sub_encoding (sub_in s) }
+/// encodable = { λ s. IsEncodableShape (shape_in s.composite_type.inner) }
 /// ```
 impl<A: Allocator> Encode for SubType<A> {
-    fn encode<B: Sink>(&self, sink: &mut B) -> R<()> {
+    fn encode<B: Sink>(&self, sink: &mut B) -> Result<()> {
         let before = Before {
             is_final: self.is_final,
             supertype_idx: self.supertype_idx,

@@ -1,20 +1,21 @@
 // Written by tools/to-rust from crates/callers/src/bodies.rt: change that.
-//! A caller of a function's sinks: the body is known to the byte, and so is the length between.
+//! A caller of a function's sinks: the contract states each byte of the body, and the offset in it.
 
 use dolzhytik::fallible::Allocator;
-use dolzhytik::fallible::R;
+use dolzhytik::fallible::Result;
 use dolzhytik::fallible::Function;
 use dolzhytik::fallible::BlockType;
 
-/// A constant, and then an empty block that is entered where it is not 0. The result is the place of the branch.
+/// Adds a constant, and then an empty block that is entered if it is not 0. Returns the offset of
+/// the branch.
 ///
 /// # Proved
 ///
 /// ```text
 /// ensures body { IfOk result (λ at. function.new ≡ function.old ++ 0x41 ∷ 0x01 ∷ 0x04 ∷ 0x40 ∷ 0x0B ∷ 0x0B ∷ []) }
-/// ensures place { IfOk result (λ at. at ≡ length function.old + 2) }
+/// ensures offset { IfOk result (λ at. at ≡ length function.old + 2) }
 /// ```
-pub fn branch_on_one<A: Allocator>(function: &mut Function<A>) -> R<usize> {
+pub fn branch_on_one<A: Allocator>(function: &mut Function<A>) -> Result<usize> {
     function.instructions().i32_const(1)?;
     let at = function.byte_len();
     let mut instructions = function.instructions();

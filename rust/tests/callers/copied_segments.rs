@@ -1,11 +1,11 @@
 // Written by tools/to-rust from crates/callers/src/copied_segments.rt: change that.
-//! Copies of what core sections are made of.
+//! Copies of entries of core sections.
 
 use dolzhytik::fallible::Allocator;
-use dolzhytik::fallible::R;
+use dolzhytik::fallible::Result;
 use dolzhytik::fallible::{DataSegmentMode, ElementMode, ElementSegment, Elements, FunctionSection, Imports};
 
-/// A function section of the same entries.
+/// Returns a function section of the same entries.
 ///
 /// # Proved
 ///
@@ -14,22 +14,22 @@ use dolzhytik::fallible::{DataSegmentMode, ElementMode, ElementSegment, Elements
 /// ```
 pub fn copied_functions<A: Allocator + Copy>(
     functions: &FunctionSection<A>,
-) -> R<FunctionSection<A>> {
+) -> Result<FunctionSection<A>> {
     functions.clone()
 }
 
-/// An import or a group of imports that says the same.
+/// Returns the same import or group of imports.
 ///
 /// # Proved
 ///
 /// ```text
 /// ensures { IfOk result (λ copy. imports_item copy ≡ imports_item imports.now) }
 /// ```
-pub fn copied_imports<'a, A: Allocator + Copy>(imports: &Imports<'a, A>) -> R<Imports<'a, A>> {
+pub fn copied_imports<'a, A: Allocator + Copy>(imports: &Imports<'a, A>) -> Result<Imports<'a, A>> {
     imports.clone()
 }
 
-/// The same mode.
+/// Returns the same mode of a data segment.
 ///
 /// # Proved
 ///
@@ -38,33 +38,37 @@ pub fn copied_imports<'a, A: Allocator + Copy>(imports: &Imports<'a, A>) -> R<Im
 /// ```
 pub fn copied_data_mode<'a, A: Allocator>(
     mode: &DataSegmentMode<'a, A>,
-) -> R<DataSegmentMode<'a, A>> {
+) -> Result<DataSegmentMode<'a, A>> {
     mode.clone()
 }
 
-/// The same mode of an element segment.
+/// Returns the same mode of an element segment.
 ///
 /// # Proved
 ///
 /// ```text
-/// ensures { IfOk result (λ copy. copy ≡ place.now) }
+/// ensures { IfOk result (λ copy. copy ≡ offset.now) }
 /// ```
-pub fn copied_element_mode<'a, A: Allocator>(place: &ElementMode<'a, A>) -> R<ElementMode<'a, A>> {
-    place.clone()
+pub fn copied_element_mode<'a, A: Allocator>(
+    offset: &ElementMode<'a, A>,
+) -> Result<ElementMode<'a, A>> {
+    offset.clone()
 }
 
-/// References to the same functions, or by the same expressions.
+/// Returns references to the same functions, or by the same expressions.
 ///
 /// # Proved
 ///
 /// ```text
 /// ensures { IfOk result (λ copy. list_in copy ≡ list_in elements.now) }
 /// ```
-pub fn copied_elements<'a, A: Allocator + Copy>(elements: &Elements<'a, A>) -> R<Elements<'a, A>> {
+pub fn copied_elements<'a, A: Allocator + Copy>(
+    elements: &Elements<'a, A>,
+) -> Result<Elements<'a, A>> {
     elements.clone()
 }
 
-/// A segment of the same mode and references.
+/// Returns a segment of the same mode and references.
 ///
 /// # Proved
 ///
@@ -73,6 +77,6 @@ pub fn copied_elements<'a, A: Allocator + Copy>(elements: &Elements<'a, A>) -> R
 /// ```
 pub fn copied_element_segment<'a, A: Allocator + Copy>(
     segment: &ElementSegment<'a, A>,
-) -> R<ElementSegment<'a, A>> {
+) -> Result<ElementSegment<'a, A>> {
     segment.clone()
 }

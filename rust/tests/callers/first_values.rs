@@ -1,20 +1,22 @@
 // Written by tools/to-rust from crates/callers/src/first_values.rt: change that.
-//! Callers that add items whose first values are expressions, and prove what a reader finds.
+//! Callers that add items with initializer expressions, and prove to which items the sections
+//! decode.
 
 use dolzhytik::fallible::Vec;
 use dolzhytik::fallible::Allocator;
-use dolzhytik::fallible::{Encode, HeapType, R, RefType, ValType};
+use dolzhytik::fallible::{Encode, HeapType, RefType, Result, ValType};
 use dolzhytik::fallible::ConstExpr;
 use dolzhytik::fallible::{GlobalSection, GlobalType, TableSection, TableType};
 
-/// A global section of one global, which can't be set and has the value of the global at the index.
+/// Appends a global section of one immutable global, which has the value of the global at the
+/// index.
 ///
 /// # Proved
 ///
 /// ```text
-/// ensures { OnOk result (GainsReading (counted_format global_item) (copied index ∷ []) sink.old.items sink.new.items) }
+/// ensures { OnOk result (GainsDecoding (counted_format global_item) (copied index ∷ []) sink.old.items sink.new.items) }
 /// ```
-pub fn encode_copied<A: Allocator + Copy>(sink: &mut Vec<u8, A>, index: u32) -> R<()> {
+pub fn encode_copied<A: Allocator + Copy>(sink: &mut Vec<u8, A>, index: u32) -> Result<()> {
     let alloc = *sink.allocator();
     let constant = GlobalType {
         val_type: ValType::I32,
@@ -26,14 +28,14 @@ pub fn encode_copied<A: Allocator + Copy>(sink: &mut Vec<u8, A>, index: u32) -> 
     section.encode(sink)
 }
 
-/// A table section of two tables of functions, all null at first.
+/// Appends a table section of two tables of functions, all initially null.
 ///
 /// # Proved
 ///
 /// ```text
-/// ensures { OnOk result (GainsReading (counted_format table_item) (null_table minimum ∷ nulled_table minimum ∷ []) sink.old.items sink.new.items) }
+/// ensures { OnOk result (GainsDecoding (counted_format table_item) (null_table minimum ∷ nulled_table minimum ∷ []) sink.old.items sink.new.items) }
 /// ```
-pub fn encode_null_tables<A: Allocator + Copy>(sink: &mut Vec<u8, A>, minimum: u64) -> R<()> {
+pub fn encode_null_tables<A: Allocator + Copy>(sink: &mut Vec<u8, A>, minimum: u64) -> Result<()> {
     let alloc = *sink.allocator();
     let functions = TableType {
         element_type: RefType::FUNCREF,

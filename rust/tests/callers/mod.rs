@@ -1,10 +1,12 @@
 // Written by tools/to-rust from crates/callers/src/lib.rt: change that.
-//! Worked callers beside those of `examples`: of single calls, whose bytes are known one by one, and of public functions that no other proved crate calls.
+//! Worked callers of single calls, whose contracts state each byte, and of public functions that no
+//! other proved crate calls. Those of whole modules are in `examples`.
 
 pub mod added;
 pub mod bodies;
 pub mod copied_segments;
 pub mod copies;
+pub mod decodings;
 pub mod first_values;
 pub mod given;
 pub mod instructions;
@@ -13,6 +15,5 @@ mod once;
 pub mod queries;
 pub mod raw_segments;
 pub mod readers;
-pub mod readings;
 pub mod segments;
 pub mod walks;

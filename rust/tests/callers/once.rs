@@ -1,5 +1,6 @@
 // Written by tools/to-rust from crates/callers/src/once.rt: change that.
-//! Public functions that no other proved crate calls, called without a contract. What comes of it is looked at under `tests`; here a call is proved to meet what it asks.
+//! Public functions that no other proved crate calls, called without a contract. `tests` checks
+//! their results; here the prover checks that the calls meet their preconditions.
 
 mod base;
 mod code;

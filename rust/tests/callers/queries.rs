@@ -1,12 +1,12 @@
 // Written by tools/to-rust from crates/callers/src/queries.rt: change that.
-//! Counts and entries: what a builder says of itself.
+//! Queries of builders: counts and entries.
 
 use dolzhytik::fallible::Allocator;
 use dolzhytik::fallible::CodeSection;
 use dolzhytik::fallible::{NameMap, NameSection};
 use dolzhytik::fallible::TypeSection;
 
-/// How many bodies there are.
+/// Returns the number of bodies.
 ///
 /// # Proved
 ///
@@ -17,7 +17,7 @@ pub fn count_of_bodies<A: Allocator>(code: &CodeSection<A>) -> u32 {
     code.len()
 }
 
-/// The first body, behind its size.
+/// Returns the first body, with its size prefix.
 ///
 /// # Proved
 ///
@@ -28,7 +28,7 @@ pub fn first_body<A: Allocator>(code: &CodeSection<A>) -> Option<&[u8]> {
     code.piece(0)
 }
 
-/// Whether no type is defined.
+/// Returns `true` if no type is defined.
 ///
 /// # Proved
 ///
@@ -39,7 +39,7 @@ pub fn has_no_types<A: Allocator>(types: &TypeSection<A>) -> bool {
     types.is_empty()
 }
 
-/// Whether there is no subsection.
+/// Returns `true` if there are no subsections.
 ///
 /// # Proved
 ///
@@ -50,7 +50,7 @@ pub fn has_no_names<A: Allocator>(names: &NameSection<A>) -> bool {
     names.is_empty()
 }
 
-/// How many names a map has.
+/// Returns the number of names in a map.
 ///
 /// # Proved
 ///
@@ -61,7 +61,7 @@ pub fn count_of_names<A: Allocator>(map: &NameMap<A>) -> u32 {
     map.len()
 }
 
-/// Whether a map has no name.
+/// Returns `true` if a map has no names.
 ///
 /// # Proved
 ///

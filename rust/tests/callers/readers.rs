@@ -1,22 +1,22 @@
 // Written by tools/to-rust from crates/callers/src/readers.rt: change that.
-//! Readers of instructions: where a walk begins, what is before it, and a body as a whole.
+//! Readers of instructions: where a visitor begins, the bytes before it, and a body as a whole.
 
 use dolzhytik::fallible::Allocator;
 use dolzhytik::reader::ReadFault;
 use dolzhytik::reader::{Body, Instructions, read_body};
 
-/// The walk that begins at the first byte.
+/// Returns a visitor that begins at the first byte.
 ///
 /// # Proved
 ///
 /// ```text
-/// ensures { result ≡ record { bytes = bytes.now; place = 0; arguments = [] } }
+/// ensures { result ≡ record { bytes = bytes.now; offset = 0; arguments = [] } }
 /// ```
 pub fn walk_over<'a, A: Allocator + Copy>(bytes: &'a [u8], alloc: A) -> Instructions<'a, A> {
     Instructions::new(bytes, alloc)
 }
 
-/// The bytes that a walk has not gone over.
+/// Returns the bytes that a visitor has not visited.
 ///
 /// # Proved
 ///
@@ -27,13 +27,13 @@ pub fn bytes_ahead<'a, A: Allocator + Copy>(walk: &Instructions<'a, A>) -> &'a [
     walk.rest()
 }
 
-/// A body of these bytes, which are without its size.
+/// Decodes a body from these bytes, which are without its size prefix.
 ///
 /// # Proved
 ///
 /// ```text
-/// ensures found { IfOk result (λ x. body wide bytes.now (body_view x)) }
-/// ensures none { IfErr result (λ e. e ≢ Memory → FillsNothing body bytes.now) }
+/// ensures found { IfOk result (λ x. body padded bytes.now (body_view x)) }
+/// ensures none { IfErr result (λ e. e ≢ Memory → RejectsWhole body bytes.now) }
 /// ```
 pub fn body_of<A: Allocator + Copy>(bytes: &[u8], alloc: A) -> Result<Body<A>, ReadFault> {
     read_body(bytes, alloc)

@@ -1,18 +1,19 @@
 // Written by tools/to-rust from crates/callers/src/walks.rt: change that.
-//! Callers of the reader, which prove what they answer.
+//! Callers of the instruction visitor, which prove their results.
 
 use dolzhytik::fallible::Allocator;
 use dolzhytik::reader::ReadFault;
 use dolzhytik::reader::Instructions;
 use dolzhytik::reader::laws::insn as laws;
 
-/// How many instructions a body has. The bytes are those of the body without its size.
+/// Returns the number of instructions in a body. The bytes are those of the body without its size
+/// prefix.
 ///
 /// # Proved
 ///
 /// ```text
-/// ensures found { IfOk result (λ n. (x : Body) × body wide bytes.now x × (length x.code ≡ n)) }
-/// ensures none { IfErr result (λ e. e ≢ Memory → FillsNothing body bytes.now) }
+/// ensures found { IfOk result (λ n. (x : Body) × body padded bytes.now x × (length x.code ≡ n)) }
+/// ensures none { IfErr result (λ e. e ≢ Memory → RejectsWhole body bytes.now) }
 /// ```
 pub fn count_instructions<A: Allocator + Copy>(bytes: &[u8], alloc: A) -> Result<usize, ReadFault> {
     let (_runs, mut instructions) = Instructions::of_body(bytes, alloc)?;
@@ -23,13 +24,14 @@ pub fn count_instructions<A: Allocator + Copy>(bytes: &[u8], alloc: A) -> Result
     Ok(count)
 }
 
-/// The place after the first `count` instructions of a body: what `Function::byte_len` told when they had been added. The bytes are those of the body
-/// without its size.
+/// Returns the offset after the first `count` instructions of a body: the result of
+/// `Function::byte_len` when these had been added. The bytes are those of the body without its size
+/// prefix.
 ///
 /// # Proved
 ///
 /// ```text
-/// ensures { IfOk result (λ place. (front more : List ℕ) (x : Body) → body wide front x → length x.code ≡ count → bytes.now ≡ front ++ more → place ≡ length front) }
+/// ensures { IfOk result (λ offset. (front more : List ℕ) (x : Body) → body padded front x → length x.code ≡ count → bytes.now ≡ front ++ more → offset ≡ length front) }
 /// ```
 pub fn place_after<A: Allocator + Copy>(
     bytes: &[u8],
@@ -37,11 +39,11 @@ pub fn place_after<A: Allocator + Copy>(
     alloc: A,
 ) -> Result<usize, ReadFault> {
     let (_runs, mut instructions) = Instructions::of_body(bytes, alloc)?;
-    laws::places();
+    laws::offsets();
     for _taken in 0..count {
         let Some(_step) = instructions.next()? else {
             return Err(ReadFault::Ended);
         };
     }
-    Ok(instructions.place())
+    Ok(instructions.offset())
 }

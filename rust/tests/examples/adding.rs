@@ -3,19 +3,19 @@
 
 use dolzhytik::fallible::Vec;
 use dolzhytik::fallible::Allocator;
-use dolzhytik::fallible::{Module, R, ValType};
+use dolzhytik::fallible::{Module, Result, ValType};
 use dolzhytik::fallible::{CodeSection, Function};
 use dolzhytik::fallible::{ExportKind, ExportSection, FunctionSection};
 use dolzhytik::fallible::TypeSection;
 
-/// A module that exports a function of two numbers as `add`, which gives their sum.
+/// Returns a module that exports, as `add`, the sum of two numbers.
 ///
 /// # Proved
 ///
 /// ```text
-/// ensures { IfOk result (λ bytes. ReadsSections adding_sections bytes.items) }
+/// ensures { IfOk result (λ bytes. DecodesSections adding_sections bytes.items) }
 /// ```
-pub fn adding_module<A: Allocator + Copy>(alloc: A) -> R<Vec<u8, A>> {
+pub fn adding_module<A: Allocator + Copy>(alloc: A) -> Result<Vec<u8, A>> {
     let mut module = Module::new(alloc)?;
     module.section(&types(alloc)?)?;
     module.section(&functions(alloc)?)?;
@@ -24,14 +24,14 @@ pub fn adding_module<A: Allocator + Copy>(alloc: A) -> R<Vec<u8, A>> {
     Ok(module.finish())
 }
 
-/// The type of the function.
+/// Returns the type of the function.
 ///
 /// # Proved
 ///
 /// ```text
-/// ensures { IfOk result (λ section. HoldsTypes section (adding_type ∷ [])) }
+/// ensures { IfOk result (λ section. ContainsTypes section (adding_type ∷ [])) }
 /// ```
-fn types<A: Allocator + Copy>(alloc: A) -> R<TypeSection<A>> {
+fn types<A: Allocator + Copy>(alloc: A) -> Result<TypeSection<A>> {
     let mut section = TypeSection::new(alloc);
     section
         .ty()
@@ -44,48 +44,48 @@ fn types<A: Allocator + Copy>(alloc: A) -> R<TypeSection<A>> {
 /// # Proved
 ///
 /// ```text
-/// ensures { IfOk result (λ section. HoldsFunctions section (0 ∷ [])) }
+/// ensures { IfOk result (λ section. ContainsFunctions section (0 ∷ [])) }
 /// ```
-fn functions<A: Allocator + Copy>(alloc: A) -> R<FunctionSection<A>> {
+fn functions<A: Allocator + Copy>(alloc: A) -> Result<FunctionSection<A>> {
     let mut section = FunctionSection::new(alloc);
     section.function(0)?;
     Ok(section)
 }
 
-/// The function 0, as `add`.
+/// Exports the function 0 as `add`.
 ///
 /// # Proved
 ///
 /// ```text
-/// ensures { IfOk result (λ section. HoldsExports section (add_export ∷ [])) }
+/// ensures { IfOk result (λ section. ContainsExports section (add_export ∷ [])) }
 /// ```
-fn exports<A: Allocator + Copy>(alloc: A) -> R<ExportSection<A>> {
+fn exports<A: Allocator + Copy>(alloc: A) -> Result<ExportSection<A>> {
     let mut section = ExportSection::new(alloc);
     section.export("add", ExportKind::Func, 0)?;
     Ok(section)
 }
 
-/// The body of the function.
+/// Returns the body of the function.
 ///
 /// # Proved
 ///
 /// ```text
-/// ensures { IfOk result (λ section. SpellsBodies section (adding_body ∷ [])) }
+/// ensures { IfOk result (λ section. EncodesBodies section (adding_body ∷ [])) }
 /// ```
-fn code<A: Allocator + Copy>(alloc: A) -> R<CodeSection<A>> {
+fn code<A: Allocator + Copy>(alloc: A) -> Result<CodeSection<A>> {
     let mut section = CodeSection::new(alloc);
     section.function(&sum(alloc)?)?;
     Ok(section)
 }
 
-/// The sum of the two parameters.
+/// Returns the sum of the two parameters.
 ///
 /// # Proved
 ///
 /// ```text
-/// ensures { IfOk result (λ function. IsPlainBody function adding_body) }
+/// ensures { IfOk result (λ function. IsWellFormedBody function adding_body) }
 /// ```
-fn sum<A: Allocator>(alloc: A) -> R<Function<A>> {
+fn sum<A: Allocator>(alloc: A) -> Result<Function<A>> {
     let mut function = Function::new(alloc, [])?;
     let mut sink = function.instructions();
     sink.local_get(0)?;

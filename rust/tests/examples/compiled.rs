@@ -5,19 +5,20 @@ use dolzhytik::fallible::Vec;
 use crate::examples::lowering::{Operation, Operator, compile};
 use crate::examples::trees::{Expr, Statement, compile_tree};
 use dolzhytik::fallible::Allocator;
-use dolzhytik::fallible::{Module, R, ValType};
+use dolzhytik::fallible::{Module, Result, ValType};
 use dolzhytik::fallible::{CodeSection, Function};
 use dolzhytik::fallible::{ExportKind, ExportSection, FunctionSection};
 use dolzhytik::fallible::TypeSection;
 
-/// The product of its two parameters.
+/// Computes the product of its two parameters.
 const PRODUCT: [Operation; 3] = [
     Operation::Get(0),
     Operation::Get(1),
     Operation::Binary(Operator::Multiply),
 ];
 
-/// The factorial of its parameter, by products: the local 1 is multiplied by each number from the parameter down to 1.
+/// Computes the factorial of its parameter, by products: the local 1 is multiplied by each number
+/// from the parameter down to 1.
 const FACTORIAL: [Statement<'static>; 3] = [
     Statement::Set(1, Expr::Constant(1)),
     Statement::While(
@@ -33,7 +34,8 @@ const FACTORIAL: [Statement<'static>; 3] = [
     Statement::Return(Expr::Local(1)),
 ];
 
-/// The sum of the squares from 1 to its parameter, by products: the square of each number is added to the local 1.
+/// Computes the sum of the squares from 1 to its parameter, by products: the square of each number
+/// is added to the local 1.
 const SQUARES: [Operation; 19] = [
     Operation::Block,
     Operation::Loop,
@@ -56,15 +58,15 @@ const SQUARES: [Operation; 19] = [
     Operation::Get(1),
 ];
 
-/// A module that exports a factorial, compiled from a tree, and a sum of squares, compiled from operations. Both have a loop, and
-/// call a third function.
+/// Returns a module that exports a factorial, compiled from a tree, and a sum of squares, compiled
+/// from operations. Both have a loop, and call a third function.
 ///
 /// # Proved
 ///
 /// ```text
-/// ensures { IfOk result (λ bytes. ReadsSections compiled_sections bytes.items) }
+/// ensures { IfOk result (λ bytes. DecodesSections compiled_sections bytes.items) }
 /// ```
-pub fn compiled_module<A: Allocator + Copy>(alloc: A) -> R<Vec<u8, A>> {
+pub fn compiled_module<A: Allocator + Copy>(alloc: A) -> Result<Vec<u8, A>> {
     let mut module = Module::new(alloc)?;
     module.section(&types(alloc)?)?;
     module.section(&functions(alloc)?)?;
@@ -73,14 +75,14 @@ pub fn compiled_module<A: Allocator + Copy>(alloc: A) -> R<Vec<u8, A>> {
     Ok(module.finish())
 }
 
-/// The types of the functions: of two numbers, and of one.
+/// Returns the types of the functions: of two numbers, and of one.
 ///
 /// # Proved
 ///
 /// ```text
-/// ensures { IfOk result (λ section. HoldsTypes section (adding_type ∷ one_number ∷ [])) }
+/// ensures { IfOk result (λ section. ContainsTypes section (adding_type ∷ one_number ∷ [])) }
 /// ```
-fn types<A: Allocator + Copy>(alloc: A) -> R<TypeSection<A>> {
+fn types<A: Allocator + Copy>(alloc: A) -> Result<TypeSection<A>> {
     let mut section = TypeSection::new(alloc);
     section
         .ty()
@@ -89,14 +91,14 @@ fn types<A: Allocator + Copy>(alloc: A) -> R<TypeSection<A>> {
     Ok(section)
 }
 
-/// The product is of the type 0, and the others of the type 1.
+/// The product is of the type 0, and the others are of the type 1.
 ///
 /// # Proved
 ///
 /// ```text
-/// ensures { IfOk result (λ section. HoldsFunctions section (0 ∷ 1 ∷ 1 ∷ [])) }
+/// ensures { IfOk result (λ section. ContainsFunctions section (0 ∷ 1 ∷ 1 ∷ [])) }
 /// ```
-fn functions<A: Allocator + Copy>(alloc: A) -> R<FunctionSection<A>> {
+fn functions<A: Allocator + Copy>(alloc: A) -> Result<FunctionSection<A>> {
     let mut section = FunctionSection::new(alloc);
     section.function(0)?;
     section.function(1)?;
@@ -104,28 +106,28 @@ fn functions<A: Allocator + Copy>(alloc: A) -> R<FunctionSection<A>> {
     Ok(section)
 }
 
-/// The functions 1 and 2.
+/// Exports the functions 1 and 2.
 ///
 /// # Proved
 ///
 /// ```text
-/// ensures { IfOk result (λ section. HoldsExports section (factorial_of ∷ squares_of ∷ [])) }
+/// ensures { IfOk result (λ section. ContainsExports section (factorial_of ∷ squares_of ∷ [])) }
 /// ```
-fn exports<A: Allocator + Copy>(alloc: A) -> R<ExportSection<A>> {
+fn exports<A: Allocator + Copy>(alloc: A) -> Result<ExportSection<A>> {
     let mut section = ExportSection::new(alloc);
     section.export("factorial", ExportKind::Func, 1)?;
     section.export("squares", ExportKind::Func, 2)?;
     Ok(section)
 }
 
-/// The bodies of the three functions.
+/// Returns the bodies of the three functions.
 ///
 /// # Proved
 ///
 /// ```text
-/// ensures { IfOk result (λ section. SpellsBodies section compiled_bodies) }
+/// ensures { IfOk result (λ section. EncodesBodies section compiled_bodies) }
 /// ```
-fn code<A: Allocator + Copy>(alloc: A) -> R<CodeSection<A>> {
+fn code<A: Allocator + Copy>(alloc: A) -> Result<CodeSection<A>> {
     let mut section = CodeSection::new(alloc);
     section.function(&compile(alloc, 0, &PRODUCT)?)?;
     section.function(&compiled_factorial(alloc)?)?;
@@ -133,13 +135,13 @@ fn code<A: Allocator + Copy>(alloc: A) -> R<CodeSection<A>> {
     Ok(section)
 }
 
-/// The factorial.
+/// Returns the compiled factorial.
 ///
 /// # Proved
 ///
 /// ```text
-/// ensures { IfOk result (λ function. IsPlainBody function (body_of 1 factorial_operations)) }
+/// ensures { IfOk result (λ function. IsWellFormedBody function (body_of 1 factorial_operations)) }
 /// ```
-fn compiled_factorial<A: Allocator>(alloc: A) -> R<Function<A>> {
+fn compiled_factorial<A: Allocator>(alloc: A) -> Result<Function<A>> {
     compile_tree(alloc, 1, &FACTORIAL)
 }

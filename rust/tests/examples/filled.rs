@@ -4,18 +4,18 @@
 use dolzhytik::fallible::Vec;
 use crate::examples::whole::{imports, memories};
 use dolzhytik::fallible::Allocator;
-use dolzhytik::fallible::{CowSlice, Module, R, RawSection, RefType};
+use dolzhytik::fallible::{CowSlice, Module, RawSection, RefType, Result};
 use dolzhytik::fallible::ConstExpr;
 use dolzhytik::fallible::{DataCountSection, DataSection, ElementSection, Elements, TableSection, TableType};
 
-/// A module that puts a function that it imports in a table, and bytes in a memory.
+/// Returns a module that copies an imported function to a table, and bytes to a memory.
 ///
 /// # Proved
 ///
 /// ```text
-/// ensures { IfOk result (λ made. ReadsSections (filled_sections bytes.now) made.items) }
+/// ensures { IfOk result (λ made. DecodesSections (filled_sections bytes.now) made.items) }
 /// ```
-pub fn filled_module<A: Allocator + Copy>(alloc: A, bytes: &[u8]) -> R<Vec<u8, A>> {
+pub fn filled_module<A: Allocator + Copy>(alloc: A, bytes: &[u8]) -> Result<Vec<u8, A>> {
     let mut module = Module::new(alloc)?;
     add_empty(&mut module, alloc)?;
     module.section(&elements(alloc)?)?;
@@ -24,14 +24,14 @@ pub fn filled_module<A: Allocator + Copy>(alloc: A, bytes: &[u8]) -> R<Vec<u8, A
     Ok(module.finish())
 }
 
-/// Adds the function that is imported, the table and the memory.
+/// Adds the imported function, the table and the memory.
 ///
 /// # Proved
 ///
 /// ```text
-/// ensures { ReadsSections [] built.old → OnOk result (ReadsSections empty_sections built.new) }
+/// ensures { DecodesSections [] built.old → OnOk result (DecodesSections empty_sections built.new) }
 /// ```
-fn add_empty<A: Allocator + Copy>(built: &mut Module<A>, alloc: A) -> R<()> {
+fn add_empty<A: Allocator + Copy>(built: &mut Module<A>, alloc: A) -> Result<()> {
     built.section(&RawSection {
         id: 1,
         bytes: &[0x01, 0x60, 0x00, 0x00],
@@ -42,14 +42,14 @@ fn add_empty<A: Allocator + Copy>(built: &mut Module<A>, alloc: A) -> R<()> {
     Ok(())
 }
 
-/// A table of three functions.
+/// Returns a table of three functions.
 ///
 /// # Proved
 ///
 /// ```text
-/// ensures { IfOk result (λ section. HoldsTables section (three_places ∷ [])) }
+/// ensures { IfOk result (λ section. ContainsTables section (three_places ∷ [])) }
 /// ```
-fn tables<A: Allocator + Copy>(alloc: A) -> R<TableSection<A>> {
+fn tables<A: Allocator + Copy>(alloc: A) -> Result<TableSection<A>> {
     let mut section = TableSection::new(alloc);
     section.table(TableType {
         element_type: RefType::FUNCREF,
@@ -61,14 +61,14 @@ fn tables<A: Allocator + Copy>(alloc: A) -> R<TableSection<A>> {
     Ok(section)
 }
 
-/// The function 0, at the front of the table.
+/// Returns a segment of the function 0, at the front of the table.
 ///
 /// # Proved
 ///
 /// ```text
-/// ensures { IfOk result (λ section. HoldsElements section (ready_at_0 ∷ [])) }
+/// ensures { IfOk result (λ section. ContainsElements section (ready_at_0 ∷ [])) }
 /// ```
-fn elements<A: Allocator + Copy>(alloc: A) -> R<ElementSection<A>> {
+fn elements<A: Allocator + Copy>(alloc: A) -> Result<ElementSection<A>> {
     let mut section = ElementSection::new(alloc);
     let offset = ConstExpr::i32_const(alloc, 0)?;
     let functions = Elements::Functions(CowSlice::Borrowed(&[0]));
@@ -76,14 +76,14 @@ fn elements<A: Allocator + Copy>(alloc: A) -> R<ElementSection<A>> {
     Ok(section)
 }
 
-/// The bytes at the place 8, and others for a later call.
+/// Returns a segment of the bytes at the offset 8, and another for a later call.
 ///
 /// # Proved
 ///
 /// ```text
-/// ensures { IfOk result (λ section. HoldsSegments section (bytes_at_8 bytes.now ∷ bytes_later ∷ [])) }
+/// ensures { IfOk result (λ section. ContainsSegments section (bytes_at_8 bytes.now ∷ bytes_later ∷ [])) }
 /// ```
-fn segments<A: Allocator + Copy>(alloc: A, bytes: &[u8]) -> R<DataSection<A>> {
+fn segments<A: Allocator + Copy>(alloc: A, bytes: &[u8]) -> Result<DataSection<A>> {
     let mut section = DataSection::new(alloc);
     let offset = ConstExpr::i32_const(alloc, 8)?;
     section.active(0, &offset, bytes.iter().copied())?;

@@ -3,18 +3,18 @@
 
 use dolzhytik::fallible::Vec;
 use dolzhytik::fallible::Allocator;
-use dolzhytik::fallible::{Module, R, ValType};
+use dolzhytik::fallible::{Module, Result, ValType};
 use dolzhytik::fallible::{CodeSection, Function};
 use dolzhytik::fallible::Instruction;
 
-/// A module of a code section of one function, which has one local and does nothing.
+/// Returns a module of a code section of one function, which has one local and does nothing.
 ///
 /// # Proved
 ///
 /// ```text
-/// ensures { IfOk result (λ bytes. ReadsSections (code_reading (first_body ∷ []) ∷ []) bytes.items) }
+/// ensures { IfOk result (λ bytes. DecodesSections (code_decoding (first_body ∷ []) ∷ []) bytes.items) }
 /// ```
-pub fn first_module<A: Allocator + Copy>(alloc: A) -> R<Vec<u8, A>> {
+pub fn first_module<A: Allocator + Copy>(alloc: A) -> Result<Vec<u8, A>> {
     let mut code = CodeSection::new(alloc);
     let mut function = Function::new(alloc, [(1, ValType::I32)])?;
     function.instruction(&Instruction::End)?;

@@ -1,39 +1,42 @@
 // Written by tools/to-rust from crates/examples/src/grown.rt: change that.
-// Bodies and sections of what is handed in, whatever it is. The first calls of each function show that it is plain.
+// Bodies and sections of arguments of any value. The first calls of each function prove that these
+// are well-formed.
 
 use dolzhytik::fallible::Vec;
 use dolzhytik::fallible::Allocator;
 use dolzhytik::fallible::laws::base::plain_name;
-use dolzhytik::fallible::{Encode, R, add_all};
+use dolzhytik::fallible::{Encode, Result, add_all};
 use dolzhytik::fallible::Function;
 use dolzhytik::fallible::Instruction;
 use dolzhytik::fallible::laws::insn::{plain_instruction, plain_instructions};
 use dolzhytik::fallible::laws::sections::{plain_entity, plain_memory};
 use dolzhytik::fallible::{Import, ImportSection, MemorySection, MemoryType};
 
-/// The function gains an instruction that is handed in: its alignments alone have to be below 16.
+/// Adds an instruction that the caller passes. The only requirement is that its alignments are
+/// below 16.
 ///
 /// # Proved
 ///
 /// ```text
-/// ensures { OnOk result (HasSmallAlignments instruction.now → (x : Body) → IsPlainBody function.old x → IsPlainBody function.new (and_then x (normal_row instruction.now ∷ []))) }
+/// ensures { OnOk result (HasSmallAlignments instruction.now → (x : Body) → IsWellFormedBody function.old x → IsWellFormedBody function.new (and_then x (normal_row instruction.now ∷ []))) }
 /// ```
-pub fn grow<A: Allocator>(function: &mut Function<A>, instruction: &Instruction<'_>) -> R<()> {
+pub fn grow<A: Allocator>(function: &mut Function<A>, instruction: &Instruction<'_>) -> Result<()> {
     plain_instruction(instruction);
     function.instruction(instruction)
 }
 
-/// The function gains the instructions of a list, in order. Where one is refused, it keeps those before it.
+/// Adds the instructions of a list, in order. On an error, the function keeps those before the
+/// failing one.
 ///
 /// # Proved
 ///
 /// ```text
-/// ensures { OnOk result (All HasSmallAlignments instructions.now → (x : Body) → IsPlainBody function.old x → IsPlainBody function.new (and_then x (map normal_row instructions.now))) }
+/// ensures { OnOk result (All HasSmallAlignments instructions.now → (x : Body) → IsWellFormedBody function.old x → IsWellFormedBody function.new (and_then x (map normal_row instructions.now))) }
 /// ```
 pub fn grow_by_each<A: Allocator>(
     function: &mut Function<A>,
     instructions: &[Instruction<'_>],
-) -> R<()> {
+) -> Result<()> {
     plain_instructions(instructions);
     for instruction in instructions {
         function.instruction(instruction)?;
@@ -41,14 +44,17 @@ pub fn grow_by_each<A: Allocator>(
     Ok(())
 }
 
-/// An import section of one import that is handed in.
+/// Appends an import section of one import that the caller passes.
 ///
 /// # Proved
 ///
 /// ```text
-/// ensures { OnOk result (GainsReading (counted_format import_format) (import_item import.now ∷ []) sink.old.items sink.new.items) }
+/// ensures { OnOk result (GainsDecoding (counted_format import_format) (import_item import.now ∷ []) sink.old.items sink.new.items) }
 /// ```
-pub fn encode_given_import<A: Allocator + Copy>(sink: &mut Vec<u8, A>, import: &Import<'_>) -> R<()> {
+pub fn encode_given_import<A: Allocator + Copy>(
+    sink: &mut Vec<u8, A>,
+    import: &Import<'_>,
+) -> Result<()> {
     plain_name(import.module);
     plain_name(import.name);
     plain_entity(import.ty);
@@ -57,14 +63,17 @@ pub fn encode_given_import<A: Allocator + Copy>(sink: &mut Vec<u8, A>, import: &
     section.encode(sink)
 }
 
-/// A memory section of the memories of a list.
+/// Appends a memory section of the memories of a list.
 ///
 /// # Proved
 ///
 /// ```text
-/// ensures { OnOk result (GainsReading (counted_format memory_type) memories.now sink.old.items sink.new.items) }
+/// ensures { OnOk result (GainsDecoding (counted_format memory_type) memories.now sink.old.items sink.new.items) }
 /// ```
-pub fn encode_memories<A: Allocator + Copy>(sink: &mut Vec<u8, A>, memories: &[MemoryType]) -> R<()> {
+pub fn encode_memories<A: Allocator + Copy>(
+    sink: &mut Vec<u8, A>,
+    memories: &[MemoryType],
+) -> Result<()> {
     plain_memories(memories);
     let mut section = MemorySection::new(*sink.allocator());
     match add_all(&mut section, memories) {
@@ -73,7 +82,7 @@ pub fn encode_memories<A: Allocator + Copy>(sink: &mut Vec<u8, A>, memories: &[M
     }
 }
 
-/// Each memory of a list is plain.
+/// Proves that each memory of a list is well-formed.
 ///
 /// # Proved
 ///

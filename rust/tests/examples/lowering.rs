@@ -2,20 +2,20 @@
 // A compiler from the operations of a stack machine.
 
 use dolzhytik::fallible::Allocator;
-use dolzhytik::fallible::{R, ValType};
+use dolzhytik::fallible::{Result, ValType};
 use dolzhytik::fallible::Function;
 use dolzhytik::fallible::BlockType;
 use dolzhytik::fallible::{Instruction, Numeric};
 
-/// What is done with two numbers of 32 bits.
+/// A binary operator on numbers of 32 bits.
 #[derive(Clone, Copy, Debug)]
 pub enum Operator {
     Add,
     Subtract,
     Multiply,
-    /// 1 where both are the same, and else 0.
+    /// 1 if both are equal, and 0 otherwise.
     Equal,
-    /// 1 where the first is less, both with a sign, and else 0.
+    /// 1 if the first is less, both signed, and 0 otherwise.
     Less,
 }
 
@@ -26,21 +26,21 @@ pub enum Operation {
     Get(u32),
     Set(u32),
     Binary(Operator),
-    /// 1 where the number is 0, and else 0.
+    /// 1 if the number is 0, and 0 otherwise.
     IsZero,
     Block,
     Loop,
-    /// To the end of a block or the start of a loop, 0 for the innermost.
+    /// Branches to the end of a block or the start of a loop, 0 for the innermost.
     Branch(u32),
-    /// The same where the number is not 0.
+    /// Branches likewise if the number is not 0.
     BranchIf(u32),
     Call(u32),
     Return,
-    /// The end of a block or a loop.
+    /// Ends a block or a loop.
     End,
 }
 
-/// The numeric instruction of an operator.
+/// Returns the numeric instruction of an operator.
 ///
 /// # Proved
 ///
@@ -57,13 +57,13 @@ fn numeric(operator: Operator) -> Numeric {
     }
 }
 
-/// The instruction of an operation.
+/// Returns the instruction of an operation.
 ///
 /// # Proved
 ///
 /// ```text
 /// ensures same { result ≡ instruction_of operation }
-/// ensures plain { IsPlainInstruction result }
+/// ensures plain { IsWellFormedInstruction result }
 /// ```
 pub fn lower(operation: Operation) -> Instruction<'static> {
     match operation {
@@ -89,7 +89,7 @@ pub fn lower(operation: Operation) -> Instruction<'static> {
 /// ```text
 /// ensures { OnOk result (GainsOperations (operation ∷ []) function.old function.new) }
 /// ```
-pub(crate) fn emit<A: Allocator>(function: &mut Function<A>, operation: Operation) -> R<()> {
+pub(crate) fn emit<A: Allocator>(function: &mut Function<A>, operation: Operation) -> Result<()> {
     function.instruction(&lower(operation))
 }
 
@@ -100,21 +100,21 @@ pub(crate) fn emit<A: Allocator>(function: &mut Function<A>, operation: Operatio
 /// ```text
 /// ensures { OnOk result (GainsOperations operations.now function.old function.new) }
 /// ```
-fn emit_all<A: Allocator>(function: &mut Function<A>, operations: &[Operation]) -> R<()> {
+fn emit_all<A: Allocator>(function: &mut Function<A>, operations: &[Operation]) -> Result<()> {
     for operation in operations {
         emit(function, *operation)?;
     }
     Ok(())
 }
 
-/// A function with so many locals of 32 bits behind its parameters, which does these operations.
+/// Returns a function of these operations, with `locals` locals of 32 bits after its parameters.
 ///
 /// # Proved
 ///
 /// ```text
-/// ensures { IfOk result (λ function. IsPlainBody function (body_of locals operations.now)) }
+/// ensures { IfOk result (λ function. IsWellFormedBody function (body_of locals operations.now)) }
 /// ```
-pub fn compile<A: Allocator>(alloc: A, locals: u32, operations: &[Operation]) -> R<Function<A>> {
+pub fn compile<A: Allocator>(alloc: A, locals: u32, operations: &[Operation]) -> Result<Function<A>> {
     let mut function = Function::new(alloc, [(locals, ValType::I32)])?;
     emit_all(&mut function, operations)?;
     emit(&mut function, Operation::End)?;

@@ -1,5 +1,5 @@
 // Written by tools/to-rust from crates/examples/src/lib.rt: change that.
-//! Callers that prove what their modules are read as. `docs/CALLING.md` walks through them.
+//! Callers that prove to which items their modules decode. `docs/CALLING.md` walks through them.
 
 mod adding;
 mod alone;

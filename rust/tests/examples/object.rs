@@ -1,17 +1,17 @@
 // Written by tools/to-rust from crates/examples/src/object.rt: change that.
-// A module for a linker: hints, symbols and producers beside the code.
+// A module for a linker: code, hints, symbols and producers.
 
 use dolzhytik::fallible::Vec;
 use crate::examples::whole::memories;
 use dolzhytik::fallible::Allocator;
-use dolzhytik::fallible::{Module, R, ValType};
+use dolzhytik::fallible::{Module, Result, ValType};
 use dolzhytik::fallible::{CodeSection, Function};
 use dolzhytik::fallible::{BranchHint, BranchHints, LinkingSection, ProducersField, ProducersSection, SymbolTable};
 use dolzhytik::fallible::{BlockType, MemArg, MemArgTarget};
 use dolzhytik::fallible::FunctionSection;
 use dolzhytik::fallible::TypeSection;
 
-/// The number of 32 bits that stands 8 bytes behind an address.
+/// The number of 32 bits that is 8 bytes after an address.
 const NUMBER: MemArg = MemArg {
     offset: 8,
     align: 2,
@@ -19,14 +19,15 @@ const NUMBER: MemArg = MemArg {
     ordering: None,
 };
 
-/// A module for a linker: a function that counts down a number in memory, a hint of its branch, its symbol, and what has produced it.
+/// Returns a module for a linker: a function that counts down a number in memory, a hint of its
+/// branch, its symbol, and its producer.
 ///
 /// # Proved
 ///
 /// ```text
-/// ensures { IfOk result (λ bytes. ReadsSections object_sections bytes.items) }
+/// ensures { IfOk result (λ bytes. DecodesSections object_sections bytes.items) }
 /// ```
-pub fn object_module<A: Allocator + Copy>(alloc: A) -> R<Vec<u8, A>> {
+pub fn object_module<A: Allocator + Copy>(alloc: A) -> Result<Vec<u8, A>> {
     let mut module = Module::new(alloc)?;
     add_types(&mut module, alloc)?;
     module.section(&hints(alloc)?)?;
@@ -41,23 +42,23 @@ pub fn object_module<A: Allocator + Copy>(alloc: A) -> R<Vec<u8, A>> {
 /// # Proved
 ///
 /// ```text
-/// ensures { ReadsSections [] module.old → OnOk result (ReadsSections object_types module.new) }
+/// ensures { DecodesSections [] module.old → OnOk result (DecodesSections object_types module.new) }
 /// ```
-fn add_types<A: Allocator + Copy>(module: &mut Module<A>, alloc: A) -> R<()> {
+fn add_types<A: Allocator + Copy>(module: &mut Module<A>, alloc: A) -> Result<()> {
     module.section(&types(alloc)?)?;
     module.section(&functions(alloc)?)?;
     module.section(&memories(alloc)?)?;
     Ok(())
 }
 
-/// The type of the function.
+/// Returns the type of the function.
 ///
 /// # Proved
 ///
 /// ```text
-/// ensures { IfOk result (λ section. HoldsTypes section (address_type ∷ [])) }
+/// ensures { IfOk result (λ section. ContainsTypes section (address_type ∷ [])) }
 /// ```
-fn types<A: Allocator + Copy>(alloc: A) -> R<TypeSection<A>> {
+fn types<A: Allocator + Copy>(alloc: A) -> Result<TypeSection<A>> {
     let mut section = TypeSection::new(alloc);
     section.ty().function([ValType::I32], [])?;
     Ok(section)
@@ -68,23 +69,24 @@ fn types<A: Allocator + Copy>(alloc: A) -> R<TypeSection<A>> {
 /// # Proved
 ///
 /// ```text
-/// ensures { IfOk result (λ section. HoldsFunctions section (0 ∷ [])) }
+/// ensures { IfOk result (λ section. ContainsFunctions section (0 ∷ [])) }
 /// ```
-fn functions<A: Allocator + Copy>(alloc: A) -> R<FunctionSection<A>> {
+fn functions<A: Allocator + Copy>(alloc: A) -> Result<FunctionSection<A>> {
     let mut section = FunctionSection::new(alloc);
     section.function(0)?;
     Ok(section)
 }
 
-/// The branch of the function 0, at the offset 9 of its raw body, is not likely to be taken. Before it are the count of locals (1 byte), `block` (2), `local.get` (2), `i32.load` (3) and
-/// `i32.eqz` (1).
+/// The branch of the function 0, at the offset 9 of its raw body, is not likely to be taken. Before
+/// it are the count of locals (1 byte), `block` (2), `local.get` (2), `i32.load` (3) and `i32.eqz`
+/// (1).
 ///
 /// # Proved
 ///
 /// ```text
-/// ensures { IfOk result (λ section. HoldsHints section unlikely_hints) }
+/// ensures { IfOk result (λ section. ContainsHints section unlikely_hints) }
 /// ```
-fn hints<A: Allocator + Copy>(alloc: A) -> R<BranchHints<A>> {
+fn hints<A: Allocator + Copy>(alloc: A) -> Result<BranchHints<A>> {
     let hint = BranchHint {
         branch_func_offset: 9,
         branch_hint_value: 0,
@@ -94,27 +96,27 @@ fn hints<A: Allocator + Copy>(alloc: A) -> R<BranchHints<A>> {
     Ok(section)
 }
 
-/// The body of the function.
+/// Returns the body of the function.
 ///
 /// # Proved
 ///
 /// ```text
-/// ensures { IfOk result (λ section. SpellsBodies section (count_down_body ∷ [])) }
+/// ensures { IfOk result (λ section. EncodesBodies section (count_down_body ∷ [])) }
 /// ```
-fn code<A: Allocator + Copy>(alloc: A) -> R<CodeSection<A>> {
+fn code<A: Allocator + Copy>(alloc: A) -> Result<CodeSection<A>> {
     let mut section = CodeSection::new(alloc);
     section.function(&count_down(alloc)?)?;
     Ok(section)
 }
 
-/// The number becomes one less, where it is not 0.
+/// Decrements the number if it is not 0.
 ///
 /// # Proved
 ///
 /// ```text
-/// ensures { IfOk result (λ function. IsPlainBody function count_down_body) }
+/// ensures { IfOk result (λ function. IsWellFormedBody function count_down_body) }
 /// ```
-fn count_down<A: Allocator>(alloc: A) -> R<Function<A>> {
+fn count_down<A: Allocator>(alloc: A) -> Result<Function<A>> {
     let mut function = Function::new(alloc, [])?;
     let mut sink = function.instructions();
     sink.block(BlockType::Empty)?;
@@ -133,40 +135,40 @@ fn count_down<A: Allocator>(alloc: A) -> R<Function<A>> {
     Ok(function)
 }
 
-/// The symbol of the function 0, which is exported from the linked module.
+/// Returns the symbol of the function 0, which is exported from the linked module.
 ///
 /// # Proved
 ///
 /// ```text
 /// ensures { IfOk result (λ table. AreSymbols table (count_down_symbol ∷ [])) }
 /// ```
-fn symbols<A: Allocator + Copy>(alloc: A) -> R<SymbolTable<A>> {
+fn symbols<A: Allocator + Copy>(alloc: A) -> Result<SymbolTable<A>> {
     let mut table = SymbolTable::new(alloc);
     table.function(SymbolTable::WASM_SYM_EXPORTED, 0, Some("count_down"))?;
     Ok(table)
 }
 
-/// What a linker needs to know.
+/// Returns the linking section: the symbols.
 ///
 /// # Proved
 ///
 /// ```text
-/// ensures { IfOk result (λ section. HoldsLinks section links) }
+/// ensures { IfOk result (λ section. ContainsLinks section links) }
 /// ```
-fn linking<A: Allocator + Copy>(alloc: A) -> R<LinkingSection<A>> {
+fn linking<A: Allocator + Copy>(alloc: A) -> Result<LinkingSection<A>> {
     let mut section = LinkingSection::new(alloc);
     section.symbol_table(&symbols(alloc)?)?;
     Ok(section)
 }
 
-/// What has produced the module.
+/// Returns the producers of the module.
 ///
 /// # Proved
 ///
 /// ```text
-/// ensures { IfOk result (λ section. HoldsFields section producers_fields) }
+/// ensures { IfOk result (λ section. ContainsFields section producers_fields) }
 /// ```
-fn producers<A: Allocator + Copy>(alloc: A) -> R<ProducersSection<A>> {
+fn producers<A: Allocator + Copy>(alloc: A) -> Result<ProducersSection<A>> {
     let mut values = ProducersField::new(alloc);
     values.value("dolzhytik", "0.1.0")?;
     let mut section = ProducersSection::new(alloc);

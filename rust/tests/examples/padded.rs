@@ -1,22 +1,23 @@
 // Written by tools/to-rust from crates/examples/src/padded.rt: change that.
-// Sections of entries that are spelled already, with padded numbers.
+// Sections of entries that are already encoded, with padded numbers.
 
 use dolzhytik::fallible::Vec;
 use crate::examples::bodies::{first_function, local_function};
 use dolzhytik::fallible::Allocator;
-use dolzhytik::fallible::{Encode, Module, R, ValType};
+use dolzhytik::fallible::{Encode, Module, Result, ValType};
 use dolzhytik::fallible::{CodeSection, ConstExpr};
 use dolzhytik::fallible::NameSection;
 use dolzhytik::fallible::{GlobalSection, GlobalType};
 
-/// A code section of a body whose number of runs is padded, and of a function, which gives the local of this index.
+/// Appends a code section of a body whose number of runs is padded, and of a function, which
+/// returns the local of this index.
 ///
 /// # Proved
 ///
 /// ```text
-/// ensures { OnOk result (GainsReadingWide code_section (bare_body ∷ local_body index ∷ []) sink.old.items sink.new.items) }
+/// ensures { OnOk result (GainsDecodingPadded code_section (bare_body ∷ local_body index ∷ []) sink.old.items sink.new.items) }
 /// ```
-pub fn encode_padded_body<A: Allocator + Copy>(sink: &mut Vec<u8, A>, index: u32) -> R<()> {
+pub fn encode_padded_body<A: Allocator + Copy>(sink: &mut Vec<u8, A>, index: u32) -> Result<()> {
     let alloc = *sink.allocator();
     let mut code = CodeSection::new(alloc);
     code.raw(&[0x80, 0x00, 0x0B])?;
@@ -24,14 +25,15 @@ pub fn encode_padded_body<A: Allocator + Copy>(sink: &mut Vec<u8, A>, index: u32
     code.encode(sink)
 }
 
-/// A global section of an expression that stores a padded number, and of a global that has one.
+/// Appends a global section of an expression with a padded number, and of an encoded global with
+/// one.
 ///
 /// # Proved
 ///
 /// ```text
-/// ensures { OnOk result (GainsReadingWide (counted_format global_item) (number (neg_ℤ (pos 1)) ∷ number (pos 0) ∷ []) sink.old.items sink.new.items) }
+/// ensures { OnOk result (GainsDecodingPadded (counted_format global_item) (number (neg_ℤ (pos 1)) ∷ number (pos 0) ∷ []) sink.old.items sink.new.items) }
 /// ```
-pub fn encode_padded_globals<A: Allocator + Copy>(sink: &mut Vec<u8, A>) -> R<()> {
+pub fn encode_padded_globals<A: Allocator + Copy>(sink: &mut Vec<u8, A>) -> Result<()> {
     let alloc = *sink.allocator();
     let constant = GlobalType {
         val_type: ValType::I32,
@@ -45,27 +47,28 @@ pub fn encode_padded_globals<A: Allocator + Copy>(sink: &mut Vec<u8, A>) -> R<()
     section.encode(sink)
 }
 
-/// A name section of the name `a` of the function 0, whose index is padded.
+/// Appends a name section of the name `a` of the function 0, whose index is padded.
 ///
 /// # Proved
 ///
 /// ```text
-/// ensures { OnOk result (GainsReadingWide (frame name_payload) (Map 1 ((0, 97 ∷ []) ∷ []) ∷ []) sink.old.items sink.new.items) }
+/// ensures { OnOk result (GainsDecodingPadded (size_prefixed name_payload) (Map 1 ((0, 97 ∷ []) ∷ []) ∷ []) sink.old.items sink.new.items) }
 /// ```
-pub fn encode_padded_names<A: Allocator + Copy>(sink: &mut Vec<u8, A>) -> R<()> {
+pub fn encode_padded_names<A: Allocator + Copy>(sink: &mut Vec<u8, A>) -> Result<()> {
     let mut names = NameSection::new(*sink.allocator());
     names.raw(1, &[0x01, 0x80, 0x00, 0x01, 0x61])?;
     names.encode(sink)
 }
 
-/// A module of a code section of a body whose number of runs is padded, and of a function of one local.
+/// Returns a module of a code section of a body whose number of runs is padded, and of a function
+/// of one local.
 ///
 /// # Proved
 ///
 /// ```text
-/// ensures { IfOk result (λ bytes. ReadsSections (wide_code_reading (bare_body ∷ first_body ∷ []) ∷ []) bytes.items) }
+/// ensures { IfOk result (λ bytes. DecodesSections (padded_code_decoding (bare_body ∷ first_body ∷ []) ∷ []) bytes.items) }
 /// ```
-pub fn padded_module<A: Allocator + Copy>(alloc: A) -> R<Vec<u8, A>> {
+pub fn padded_module<A: Allocator + Copy>(alloc: A) -> Result<Vec<u8, A>> {
     let mut code = CodeSection::new(alloc);
     code.raw(&[0x80, 0x80, 0x00, 0x0B])?;
     code.function(&first_function(alloc)?)?;

@@ -1,20 +1,20 @@
 // Written by tools/to-rust from crates/examples/src/recursion.rt: change that.
-// Functions by named calls of a sink.
+// Functions built with the instruction sink.
 
 use dolzhytik::fallible::Allocator;
-use dolzhytik::fallible::R;
+use dolzhytik::fallible::Result;
 use dolzhytik::fallible::Function;
 use dolzhytik::fallible::BlockType;
 
-/// The factorial of its one parameter: 1 where this is 0, and else this times the factorial of the number below. `itself` is the
-/// index that the function has in its module.
+/// Returns the factorial of its one parameter: 1 for 0, and otherwise the parameter times the
+/// factorial of the number below. `itself` is the index of the function in its module.
 ///
 /// # Proved
 ///
 /// ```text
-/// ensures { IfOk result (λ function. IsPlainBody function (factorial_body itself)) }
+/// ensures { IfOk result (λ function. IsWellFormedBody function (factorial_body itself)) }
 /// ```
-pub fn factorial<A: Allocator>(alloc: A, itself: u32) -> R<Function<A>> {
+pub fn factorial<A: Allocator>(alloc: A, itself: u32) -> Result<Function<A>> {
     let mut function = Function::new(alloc, [])?;
     let mut sink = function.instructions();
     sink.block(BlockType::Empty)?;
@@ -34,14 +34,15 @@ pub fn factorial<A: Allocator>(alloc: A, itself: u32) -> R<Function<A>> {
     Ok(function)
 }
 
-/// A branch out of the inner block where the one parameter is 0, and else out of both.
+/// Returns a function that branches out of the inner block if its one parameter is 0, and otherwise
+/// out of both.
 ///
 /// # Proved
 ///
 /// ```text
-/// ensures { IfOk result (λ function. IsPlainBody function choice_body) }
+/// ensures { IfOk result (λ function. IsWellFormedBody function choice_body) }
 /// ```
-pub fn choice<A: Allocator>(alloc: A) -> R<Function<A>> {
+pub fn choice<A: Allocator>(alloc: A) -> Result<Function<A>> {
     let mut function = Function::new(alloc, [])?;
     let mut sink = function.instructions();
     sink.block(BlockType::Empty)?;

@@ -3,7 +3,7 @@
 
 use crate::examples::lowering::{Operation, Operator, emit};
 use dolzhytik::fallible::Allocator;
-use dolzhytik::fallible::{R, ValType};
+use dolzhytik::fallible::{Result, ValType};
 use dolzhytik::fallible::Function;
 
 /// An expression, whose value is a number of 32 bits.
@@ -19,9 +19,9 @@ pub enum Expr<'a> {
 /// A statement.
 #[derive(Clone, Copy)]
 pub enum Statement<'a> {
-    /// The local of this index gets the value.
+    /// Sets the local of this index to the value.
     Set(u32, Expr<'a>),
-    /// The statements again and again, as long as the value is not 0.
+    /// Repeats the statements as long as the value is not 0.
     While(Expr<'a>, &'a [Statement<'a>]),
     Return(Expr<'a>),
 }
@@ -33,7 +33,7 @@ pub enum Statement<'a> {
 /// ```text
 /// ensures { OnOk result (GainsOperations (expr_operations expr.now) function.old function.new) }
 /// ```
-fn emit_expr<A: Allocator>(function: &mut Function<A>, expr: &Expr<'_>) -> R<()> {
+fn emit_expr<A: Allocator>(function: &mut Function<A>, expr: &Expr<'_>) -> Result<()> {
     match expr {
         Expr::Constant(value) => emit(function, Operation::Constant(*value)),
         Expr::Local(index) => emit(function, Operation::Get(*index)),
@@ -56,7 +56,7 @@ fn emit_expr<A: Allocator>(function: &mut Function<A>, expr: &Expr<'_>) -> R<()>
 /// ```text
 /// ensures { OnOk result (GainsOperations (flat_map expr_operations arguments.now) function.old function.new) }
 /// ```
-fn emit_arguments<A: Allocator>(function: &mut Function<A>, arguments: &[Expr<'_>]) -> R<()> {
+fn emit_arguments<A: Allocator>(function: &mut Function<A>, arguments: &[Expr<'_>]) -> Result<()> {
     for argument in arguments {
         emit_expr(function, argument)?;
     }
@@ -70,7 +70,7 @@ fn emit_arguments<A: Allocator>(function: &mut Function<A>, arguments: &[Expr<'_
 /// ```text
 /// ensures { OnOk result (GainsOperations (statement_operations statement.now) function.old function.new) }
 /// ```
-fn emit_statement<A: Allocator>(function: &mut Function<A>, statement: &Statement<'_>) -> R<()> {
+fn emit_statement<A: Allocator>(function: &mut Function<A>, statement: &Statement<'_>) -> Result<()> {
     match statement {
         Statement::Set(index, value) => {
             emit_expr(function, value)?;
@@ -101,26 +101,29 @@ fn emit_statement<A: Allocator>(function: &mut Function<A>, statement: &Statemen
 /// ```text
 /// ensures { OnOk result (GainsOperations (flat_map statement_operations statements.now) function.old function.new) }
 /// ```
-fn emit_statements<A: Allocator>(function: &mut Function<A>, statements: &[Statement<'_>]) -> R<()> {
+fn emit_statements<A: Allocator>(
+    function: &mut Function<A>,
+    statements: &[Statement<'_>],
+) -> Result<()> {
     for statement in statements {
         emit_statement(function, statement)?;
     }
     Ok(())
 }
 
-/// A function with so many locals of 32 bits behind its parameters, which does these statements. The last of them that is done
-/// returns the function's value.
+/// Returns a function of these statements, with `locals` locals of 32 bits after its parameters.
+/// The last executed statement returns the function's value.
 ///
 /// # Proved
 ///
 /// ```text
-/// ensures { IfOk result (λ function. IsPlainBody function (body_of locals (flat_map statement_operations statements.now))) }
+/// ensures { IfOk result (λ function. IsWellFormedBody function (body_of locals (flat_map statement_operations statements.now))) }
 /// ```
 pub fn compile_tree<A: Allocator>(
     alloc: A,
     locals: u32,
     statements: &[Statement<'_>],
-) -> R<Function<A>> {
+) -> Result<Function<A>> {
     let mut function = Function::new(alloc, [(locals, ValType::I32)])?;
     emit_statements(&mut function, statements)?;
     emit(&mut function, Operation::End)?;

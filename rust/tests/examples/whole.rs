@@ -4,18 +4,19 @@
 use dolzhytik::fallible::Vec;
 use crate::examples::recursion::factorial;
 use dolzhytik::fallible::Allocator;
-use dolzhytik::fallible::{Module, R, RawSection, ValType};
+use dolzhytik::fallible::{Module, RawSection, Result, ValType};
 use dolzhytik::fallible::{CodeSection, ConstExpr, Function};
 use dolzhytik::fallible::{EntityType, ExportKind, ExportSection, FunctionSection, GlobalSection, GlobalType, ImportSection, MemorySection, MemoryType, StartSection};
 
-/// A module that imports a function, has a global and a memory, and replaces the global by its factorial when it starts.
+/// Returns a module that imports a function, has a global and a memory, and replaces the global by
+/// its factorial when it starts.
 ///
 /// # Proved
 ///
 /// ```text
-/// ensures { IfOk result (λ bytes. ReadsSections whole_sections bytes.items) }
+/// ensures { IfOk result (λ bytes. DecodesSections whole_sections bytes.items) }
 /// ```
-pub fn whole_module<A: Allocator + Copy>(alloc: A) -> R<Vec<u8, A>> {
+pub fn whole_module<A: Allocator + Copy>(alloc: A) -> Result<Vec<u8, A>> {
     let mut module = Module::new(alloc)?;
     add_declared(&mut module, alloc)?;
     add_stored(&mut module, alloc)?;
@@ -24,14 +25,14 @@ pub fn whole_module<A: Allocator + Copy>(alloc: A) -> R<Vec<u8, A>> {
     Ok(module.finish())
 }
 
-/// Adds the types, the function that is imported, and the types of the others.
+/// Adds the types, the imported function, and the types of the others.
 ///
 /// # Proved
 ///
 /// ```text
-/// ensures { ReadsSections [] built.old → OnOk result (ReadsSections declared_sections built.new) }
+/// ensures { DecodesSections [] built.old → OnOk result (DecodesSections declared_sections built.new) }
 /// ```
-fn add_declared<A: Allocator + Copy>(built: &mut Module<A>, alloc: A) -> R<()> {
+fn add_declared<A: Allocator + Copy>(built: &mut Module<A>, alloc: A) -> Result<()> {
     built.section(&RawSection {
         id: 1,
         bytes: &[0x02, 0x60, 0x00, 0x00, 0x60, 0x01, 0x7F, 0x01, 0x7F],
@@ -41,55 +42,55 @@ fn add_declared<A: Allocator + Copy>(built: &mut Module<A>, alloc: A) -> R<()> {
     Ok(())
 }
 
-/// Adds the memory, the global, and what is seen from outside.
+/// Adds the memory, the global, and the exports.
 ///
 /// # Proved
 ///
 /// ```text
-/// ensures { ReadsSections declared_sections built.old → OnOk result (ReadsSections stored_sections built.new) }
+/// ensures { DecodesSections declared_sections built.old → OnOk result (DecodesSections stored_sections built.new) }
 /// ```
-fn add_stored<A: Allocator + Copy>(built: &mut Module<A>, alloc: A) -> R<()> {
+fn add_stored<A: Allocator + Copy>(built: &mut Module<A>, alloc: A) -> Result<()> {
     built.section(&memories(alloc)?)?;
     built.section(&globals(alloc)?)?;
     built.section(&exports(alloc)?)?;
     Ok(())
 }
 
-/// The function 0, which the host has.
+/// Imports the function 0 from the host.
 ///
 /// # Proved
 ///
 /// ```text
-/// ensures { IfOk result (λ section. HoldsImports section (ready ∷ [])) }
+/// ensures { IfOk result (λ section. ContainsImports section (ready ∷ [])) }
 /// ```
-pub(crate) fn imports<A: Allocator + Copy>(alloc: A) -> R<ImportSection<A>> {
+pub(crate) fn imports<A: Allocator + Copy>(alloc: A) -> Result<ImportSection<A>> {
     let mut section = ImportSection::new(alloc);
     section.import("host", "ready", EntityType::Function(0))?;
     Ok(section)
 }
 
-/// The types of the functions 1 and 2.
+/// Returns the types of the functions 1 and 2.
 ///
 /// # Proved
 ///
 /// ```text
-/// ensures { IfOk result (λ section. HoldsFunctions section (1 ∷ 0 ∷ [])) }
+/// ensures { IfOk result (λ section. ContainsFunctions section (1 ∷ 0 ∷ [])) }
 /// ```
-fn functions<A: Allocator + Copy>(alloc: A) -> R<FunctionSection<A>> {
+fn functions<A: Allocator + Copy>(alloc: A) -> Result<FunctionSection<A>> {
     let mut section = FunctionSection::new(alloc);
     section.function(1)?;
     section.function(0)?;
     Ok(section)
 }
 
-/// A memory of one page.
+/// Returns a memory of one page.
 ///
 /// # Proved
 ///
 /// ```text
-/// ensures { IfOk result (λ section. HoldsMemories section (one_page ∷ [])) }
+/// ensures { IfOk result (λ section. ContainsMemories section (one_page ∷ [])) }
 /// ```
-pub(crate) fn memories<A: Allocator + Copy>(alloc: A) -> R<MemorySection<A>> {
+pub(crate) fn memories<A: Allocator + Copy>(alloc: A) -> Result<MemorySection<A>> {
     let mut section = MemorySection::new(alloc);
     section.memory(MemoryType {
         minimum: 1,
@@ -101,14 +102,14 @@ pub(crate) fn memories<A: Allocator + Copy>(alloc: A) -> R<MemorySection<A>> {
     Ok(section)
 }
 
-/// A number that can be set, 5 at first.
+/// Returns a mutable number, initially 5.
 ///
 /// # Proved
 ///
 /// ```text
-/// ensures { IfOk result (λ section. HoldsGlobals section (five ∷ [])) }
+/// ensures { IfOk result (λ section. ContainsGlobals section (five ∷ [])) }
 /// ```
-fn globals<A: Allocator + Copy>(alloc: A) -> R<GlobalSection<A>> {
+fn globals<A: Allocator + Copy>(alloc: A) -> Result<GlobalSection<A>> {
     let global_type = GlobalType {
         val_type: ValType::I32,
         mutable: true,
@@ -119,42 +120,42 @@ fn globals<A: Allocator + Copy>(alloc: A) -> R<GlobalSection<A>> {
     Ok(section)
 }
 
-/// The factorial and the memory.
+/// Exports the factorial and the memory.
 ///
 /// # Proved
 ///
 /// ```text
-/// ensures { IfOk result (λ section. HoldsExports section (factorial_export ∷ memory_export ∷ [])) }
+/// ensures { IfOk result (λ section. ContainsExports section (factorial_export ∷ memory_export ∷ [])) }
 /// ```
-fn exports<A: Allocator + Copy>(alloc: A) -> R<ExportSection<A>> {
+fn exports<A: Allocator + Copy>(alloc: A) -> Result<ExportSection<A>> {
     let mut section = ExportSection::new(alloc);
     section.export("factorial", ExportKind::Func, 1)?;
     section.export("memory", ExportKind::Memory, 0)?;
     Ok(section)
 }
 
-/// The bodies of the functions 1 and 2.
+/// Returns the bodies of the functions 1 and 2.
 ///
 /// # Proved
 ///
 /// ```text
-/// ensures { IfOk result (λ section. SpellsBodies section (factorial_body 1 ∷ start_body ∷ [])) }
+/// ensures { IfOk result (λ section. EncodesBodies section (factorial_body 1 ∷ start_body ∷ [])) }
 /// ```
-fn code<A: Allocator + Copy>(alloc: A) -> R<CodeSection<A>> {
+fn code<A: Allocator + Copy>(alloc: A) -> Result<CodeSection<A>> {
     let mut section = CodeSection::new(alloc);
     section.function(&factorial(alloc, 1)?)?;
     section.function(&start(alloc)?)?;
     Ok(section)
 }
 
-/// The start function: the global becomes its factorial, and the host is told.
+/// Returns the start function: it replaces the global by its factorial, and calls the host.
 ///
 /// # Proved
 ///
 /// ```text
-/// ensures { IfOk result (λ function. IsPlainBody function start_body) }
+/// ensures { IfOk result (λ function. IsWellFormedBody function start_body) }
 /// ```
-fn start<A: Allocator>(alloc: A) -> R<Function<A>> {
+fn start<A: Allocator>(alloc: A) -> Result<Function<A>> {
     let mut function = Function::new(alloc, [])?;
     let mut sink = function.instructions();
     sink.global_get(0)?;

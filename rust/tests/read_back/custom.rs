@@ -1,61 +1,65 @@
 // Written by tools/to-rust from crates/read_back/src/custom.rt: change that.
-//! Custom sections: names, what a linker needs, producers, hints, and any name and data.
+//! Custom sections, written and read back: names, linking, producers, hints, and any name and data.
 
 use dolzhytik::fallible::{Sink, Vec};
 use crate::read_back::read_and_shorten;
 use dolzhytik::fallible::Allocator;
-use dolzhytik::fallible::{CowSlice, CowStr, Encode, R};
+use dolzhytik::fallible::{CowSlice, CowStr, Encode, Result};
 use dolzhytik::fallible::{BranchHint, BranchHints, CustomSection, DataSymbolDefinition, LinkingSection, NameItem, NameSection, ProducersField, ProducersSection, SymbolTable, append_names, read_names};
 use dolzhytik::reader::{Items, SectionKind};
 use dolzhytik::reader::ReadFault;
 
-/// Writes a name section: the name of the module, and bytes of an id that no call names.
+/// Appends a name section: the name of the module, and bytes of an id that no call has.
 ///
 /// # Proved
 ///
 /// ```text
-/// ensures { OnOk result (GainsReading (frame name_payload) (name_and_more name.now more.now) sink.old.items sink.new.items) }
+/// ensures { OnOk result (GainsDecoding (size_prefixed name_payload) (name_and_more name.now more.now) sink.old.items sink.new.items) }
 /// ```
-fn write_more_names<A: Allocator + Copy>(sink: &mut Vec<u8, A>, name: &str, more: &[u8]) -> R<()> {
+fn write_more_names<A: Allocator + Copy>(
+    sink: &mut Vec<u8, A>,
+    name: &str,
+    more: &[u8],
+) -> Result<()> {
     let mut section = NameSection::new(*sink.allocator());
     section.module(name)?;
     section.raw(14, more)?;
     section.encode(sink)
 }
 
-/// Reads that name section, and shortens it.
+/// Decodes that name section, and appends its minimal encoding.
 ///
 /// # Asks
 ///
 /// ```text
-/// requires { text.old.items ≡ [] }
+/// requires { encoding.old.items ≡ [] }
 /// ```
 ///
 /// # Proved
 ///
 /// ```text
 /// ensures read { IfOk result (λ items. contents_of items ≡ Names (name_and_more name.now more.now)) }
-/// ensures same { OnOk result (GainsReading (frame name_payload) (name_and_more name.now more.now) sink.old.items sink.new.items) }
+/// ensures same { OnOk result (GainsDecoding (size_prefixed name_payload) (name_and_more name.now more.now) sink.old.items sink.new.items) }
 /// ensures memory { IfErr result (λ e. e ≢ Memory → ⊥) }
 /// ```
 pub fn read_more_names<'a, A: Allocator + Copy + 'a>(
-    text: &'a mut Vec<u8, A>,
+    encoding: &'a mut Vec<u8, A>,
     name: &str,
     more: &[u8],
     sink: &mut Vec<u8, A>,
 ) -> Result<Items<'a, A>, ReadFault> {
-    write_more_names(text, name, more)?;
-    let items = read_and_shorten(SectionKind::Names, text, sink)?;
+    write_more_names(encoding, name, more)?;
+    let items = read_and_shorten(SectionKind::Names, encoding, sink)?;
     Ok(items)
 }
 
-/// Appends a title and the names after it, or the title alone where memory does not suffice for the
-/// names. Returns whether the names are there.
+/// Appends a title and the names after it, or the title alone if an allocation for the names fails.
+/// Returns whether the names are there.
 ///
 /// # Proved
 ///
 /// ```text
-/// ensures named { IfOk result (λ all. all ≡ true → AppendsShortest name_payload (map name_item_view names.now) (sink.old.items ++ title.now) sink.new.items) }
+/// ensures named { IfOk result (λ all. all ≡ true → AppendsMinimal name_payload (map name_item_view names.now) (sink.old.items ++ title.now) sink.new.items) }
 /// ensures titled { IfOk result (λ all. all ≡ false → sink.new.items ≡ sink.old.items ++ title.now) }
 /// ensures err { OnErr result (sink.new.items ≡ sink.old.items) }
 /// ```
@@ -63,7 +67,7 @@ pub fn titled_names<A: Allocator>(
     title: &[u8],
     names: &[NameItem<'_, A>],
     sink: &mut Vec<u8, A>,
-) -> R<bool> {
+) -> Result<bool> {
     sink.extend_from_slice(title)?;
     match append_names(names, sink) {
         Ok(()) => Ok(true),
@@ -71,8 +75,8 @@ pub fn titled_names<A: Allocator>(
     }
 }
 
-/// Appends the minimal encoding of the names that the bytes encode, with their section's name. Returns
-/// whether they do. No count or size is too long.
+/// Appends the minimal encoding of the names that the bytes encode, with their section's name.
+/// Returns whether they do. No count or size is too long.
 ///
 /// # Proved
 ///
@@ -80,7 +84,7 @@ pub fn titled_names<A: Allocator>(
 /// ensures too_long { result ≢ Err TooLong }
 /// ensures err { OnErr result (sink.new.items ≡ sink.old.items) }
 /// ```
-pub fn rewritten_names<A: Allocator + Copy>(bytes: &[u8], sink: &mut Vec<u8, A>) -> R<bool> {
+pub fn rewritten_names<A: Allocator + Copy>(bytes: &[u8], sink: &mut Vec<u8, A>) -> Result<bool> {
     match read_names(bytes, *sink.allocator()) {
         Ok(names) => {
             append_names(&names, sink)?;
@@ -90,14 +94,14 @@ pub fn rewritten_names<A: Allocator + Copy>(bytes: &[u8], sink: &mut Vec<u8, A>)
     }
 }
 
-/// A symbol table of one symbol of data.
+/// Returns a symbol table of one data symbol.
 ///
 /// # Proved
 ///
 /// ```text
 /// ensures { IfOk result (λ table. AreSymbols table (data_symbol name.now ∷ [])) }
 /// ```
-fn symbols<A: Allocator + Copy>(alloc: A, name: &str) -> R<SymbolTable<A>> {
+fn symbols<A: Allocator + Copy>(alloc: A, name: &str) -> Result<SymbolTable<A>> {
     let definition = DataSymbolDefinition {
         index: 0,
         offset: 0,
@@ -108,14 +112,14 @@ fn symbols<A: Allocator + Copy>(alloc: A, name: &str) -> R<SymbolTable<A>> {
     Ok(table)
 }
 
-/// Writes a linking section: a symbol, and the architecture of the target.
+/// Appends a linking section: a symbol, and the architecture of the target.
 ///
 /// # Proved
 ///
 /// ```text
-/// ensures { OnOk result (GainsReading (frame linking_payload) (links name.now) sink.old.items sink.new.items) }
+/// ensures { OnOk result (GainsDecoding (size_prefixed linking_payload) (links name.now) sink.old.items sink.new.items) }
 /// ```
-fn write_linking<A: Allocator + Copy>(sink: &mut Vec<u8, A>, name: &str) -> R<()> {
+fn write_linking<A: Allocator + Copy>(sink: &mut Vec<u8, A>, name: &str) -> Result<()> {
     let alloc = *sink.allocator();
     let mut section = LinkingSection::new(alloc);
     section.symbol_table(&symbols(alloc, name)?)?;
@@ -123,39 +127,39 @@ fn write_linking<A: Allocator + Copy>(sink: &mut Vec<u8, A>, name: &str) -> R<()
     section.encode(sink)
 }
 
-/// Reads that linking section, and shortens it.
+/// Decodes that linking section, and appends its minimal encoding.
 ///
 /// # Asks
 ///
 /// ```text
-/// requires { text.old.items ≡ [] }
+/// requires { encoding.old.items ≡ [] }
 /// ```
 ///
 /// # Proved
 ///
 /// ```text
 /// ensures read { IfOk result (λ items. contents_of items ≡ Linking (links name.now)) }
-/// ensures same { OnOk result (GainsReading (frame linking_payload) (links name.now) sink.old.items sink.new.items) }
+/// ensures same { OnOk result (GainsDecoding (size_prefixed linking_payload) (links name.now) sink.old.items sink.new.items) }
 /// ensures memory { IfErr result (λ e. e ≢ Memory → ⊥) }
 /// ```
 pub fn read_linking<'a, A: Allocator + Copy + 'a>(
-    text: &'a mut Vec<u8, A>,
+    encoding: &'a mut Vec<u8, A>,
     name: &str,
     sink: &mut Vec<u8, A>,
 ) -> Result<Items<'a, A>, ReadFault> {
-    write_linking(text, name)?;
-    let items = read_and_shorten(SectionKind::Linking, text, sink)?;
+    write_linking(encoding, name)?;
+    let items = read_and_shorten(SectionKind::Linking, encoding, sink)?;
     Ok(items)
 }
 
-/// Writes a producers section of one field.
+/// Appends a producers section of one field.
 ///
 /// # Proved
 ///
 /// ```text
-/// ensures { OnOk result (GainsReading (frame producers_payload) (language version.now) sink.old.items sink.new.items) }
+/// ensures { OnOk result (GainsDecoding (size_prefixed producers_payload) (language version.now) sink.old.items sink.new.items) }
 /// ```
-fn write_producers<A: Allocator + Copy>(sink: &mut Vec<u8, A>, version: &str) -> R<()> {
+fn write_producers<A: Allocator + Copy>(sink: &mut Vec<u8, A>, version: &str) -> Result<()> {
     let alloc = *sink.allocator();
     let mut values = ProducersField::new(alloc);
     values.value("rattle", version)?;
@@ -164,39 +168,39 @@ fn write_producers<A: Allocator + Copy>(sink: &mut Vec<u8, A>, version: &str) ->
     section.encode(sink)
 }
 
-/// Reads that producers section, and shortens it.
+/// Decodes that producers section, and appends its minimal encoding.
 ///
 /// # Asks
 ///
 /// ```text
-/// requires { text.old.items ≡ [] }
+/// requires { encoding.old.items ≡ [] }
 /// ```
 ///
 /// # Proved
 ///
 /// ```text
 /// ensures read { IfOk result (λ items. contents_of items ≡ Producers (language version.now)) }
-/// ensures same { OnOk result (GainsReading (frame producers_payload) (language version.now) sink.old.items sink.new.items) }
+/// ensures same { OnOk result (GainsDecoding (size_prefixed producers_payload) (language version.now) sink.old.items sink.new.items) }
 /// ensures memory { IfErr result (λ e. e ≢ Memory → ⊥) }
 /// ```
 pub fn read_producers<'a, A: Allocator + Copy + 'a>(
-    text: &'a mut Vec<u8, A>,
+    encoding: &'a mut Vec<u8, A>,
     version: &str,
     sink: &mut Vec<u8, A>,
 ) -> Result<Items<'a, A>, ReadFault> {
-    write_producers(text, version)?;
-    let items = read_and_shorten(SectionKind::Producers, text, sink)?;
+    write_producers(encoding, version)?;
+    let items = read_and_shorten(SectionKind::Producers, encoding, sink)?;
     Ok(items)
 }
 
-/// Writes a section of branch hints: of an array, and of a slice.
+/// Appends a section of branch hints: of an array, and of a slice.
 ///
 /// # Proved
 ///
 /// ```text
-/// ensures { OnOk result (GainsReading (frame hints_payload) (likely_hints index) sink.old.items sink.new.items) }
+/// ensures { OnOk result (GainsDecoding (size_prefixed hints_payload) (likely_hints index) sink.old.items sink.new.items) }
 /// ```
-fn write_hints<A: Allocator + Copy>(sink: &mut Vec<u8, A>, index: u32) -> R<()> {
+fn write_hints<A: Allocator + Copy>(sink: &mut Vec<u8, A>, index: u32) -> Result<()> {
     let likely = BranchHint {
         branch_func_offset: 3,
         branch_hint_value: 1,
@@ -208,39 +212,39 @@ fn write_hints<A: Allocator + Copy>(sink: &mut Vec<u8, A>, index: u32) -> R<()> 
     section.encode(sink)
 }
 
-/// Reads that section of branch hints, and shortens it.
+/// Decodes that section of branch hints, and appends its minimal encoding.
 ///
 /// # Asks
 ///
 /// ```text
-/// requires { text.old.items ≡ [] }
+/// requires { encoding.old.items ≡ [] }
 /// ```
 ///
 /// # Proved
 ///
 /// ```text
 /// ensures read { IfOk result (λ items. contents_of items ≡ Hints (likely_hints index)) }
-/// ensures same { OnOk result (GainsReading (frame hints_payload) (likely_hints index) sink.old.items sink.new.items) }
+/// ensures same { OnOk result (GainsDecoding (size_prefixed hints_payload) (likely_hints index) sink.old.items sink.new.items) }
 /// ensures memory { IfErr result (λ e. e ≢ Memory → ⊥) }
 /// ```
 pub fn read_hints<'a, A: Allocator + Copy + 'a>(
-    text: &'a mut Vec<u8, A>,
+    encoding: &'a mut Vec<u8, A>,
     index: u32,
     sink: &mut Vec<u8, A>,
 ) -> Result<Items<'a, A>, ReadFault> {
-    write_hints(text, index)?;
-    let items = read_and_shorten(SectionKind::Hints, text, sink)?;
+    write_hints(encoding, index)?;
+    let items = read_and_shorten(SectionKind::Hints, encoding, sink)?;
     Ok(items)
 }
 
-/// Writes a custom section of a name and data.
+/// Appends a custom section of a name and data.
 ///
 /// # Proved
 ///
 /// ```text
-/// ensures { OnOk result (GainsReading custom_format (name.now, bytes.now) sink.old.items sink.new.items) }
+/// ensures { OnOk result (GainsDecoding custom_format (name.now, bytes.now) sink.old.items sink.new.items) }
 /// ```
-fn write_custom<A: Sink>(sink: &mut A, name: &str, bytes: &[u8]) -> R<()> {
+fn write_custom<A: Sink>(sink: &mut A, name: &str, bytes: &[u8]) -> Result<()> {
     let section: CustomSection<'_> = CustomSection {
         name: CowStr::Borrowed(name),
         bytes: CowSlice::Borrowed(bytes),
@@ -248,28 +252,28 @@ fn write_custom<A: Sink>(sink: &mut A, name: &str, bytes: &[u8]) -> R<()> {
     section.encode(sink)
 }
 
-/// Reads that custom section, and shortens it.
+/// Decodes that custom section, and appends its minimal encoding.
 ///
 /// # Asks
 ///
 /// ```text
-/// requires { text.old.items ≡ [] }
+/// requires { encoding.old.items ≡ [] }
 /// ```
 ///
 /// # Proved
 ///
 /// ```text
 /// ensures read { IfOk result (λ items. contents_of items ≡ Custom (name.now, bytes.now)) }
-/// ensures same { OnOk result (GainsReading custom_format (name.now, bytes.now) sink.old.items sink.new.items) }
+/// ensures same { OnOk result (GainsDecoding custom_format (name.now, bytes.now) sink.old.items sink.new.items) }
 /// ensures memory { IfErr result (λ e. e ≢ Memory → ⊥) }
 /// ```
 pub fn read_custom<'a, A: Allocator + Copy + 'a>(
-    text: &'a mut Vec<u8, A>,
+    encoding: &'a mut Vec<u8, A>,
     name: &str,
     bytes: &[u8],
     sink: &mut Vec<u8, A>,
 ) -> Result<Items<'a, A>, ReadFault> {
-    write_custom(text, name, bytes)?;
-    let items = read_and_shorten(SectionKind::Custom, text, sink)?;
+    write_custom(encoding, name, bytes)?;
+    let items = read_and_shorten(SectionKind::Custom, encoding, sink)?;
     Ok(items)
 }

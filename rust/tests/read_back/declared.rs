@@ -1,17 +1,18 @@
 // Written by tools/to-rust from crates/read_back/src/declared.rt: change that.
-//! Sections that declare things: types, imports, tables, memories, tags and exports.
+//! Sections of declarations, written and read back: types, imports, tables, memories, tags and
+//! exports.
 
 use dolzhytik::fallible::Vec;
 use crate::read_back::read_and_shorten;
 use crate::callers::first_values::encode_null_tables;
 use dolzhytik::fallible::Allocator;
-use dolzhytik::fallible::{Encode, R};
+use dolzhytik::fallible::{Encode, Result};
 use dolzhytik::reader::{Items, SectionKind};
 use dolzhytik::reader::ReadFault;
 use dolzhytik::fallible::{EntityType, ExportKind, ExportSection, ImportSection, MemorySection, MemoryType, TagKind, TagSection, TagType};
 use dolzhytik::fallible::{ArrayType, CompositeInnerType, CompositeType, FieldType, StorageType, SubType, TypeSection};
 
-/// A byte that can be set.
+/// A mutable byte.
 const BYTE: FieldType = FieldType {
     element_type: StorageType::I8,
     mutable: true,
@@ -29,14 +30,14 @@ const OPEN_BYTES: SubType = SubType {
     },
 };
 
-/// Writes a type section: an array, a structure, and an array that others may extend.
+/// Appends a type section: an array, a structure, and an array that others may extend.
 ///
 /// # Proved
 ///
 /// ```text
-/// ensures { OnOk result (GainsReading (counted_format type_item) byte_types sink.old.items sink.new.items) }
+/// ensures { OnOk result (GainsDecoding (counted_format type_item) byte_types sink.old.items sink.new.items) }
 /// ```
-fn write_types<A: Allocator + Copy>(sink: &mut Vec<u8, A>) -> R<()> {
+fn write_types<A: Allocator + Copy>(sink: &mut Vec<u8, A>) -> Result<()> {
     let mut section = TypeSection::new(*sink.allocator());
     section.ty().array(&StorageType::I8, true)?;
     section.ty().struct_([BYTE])?;
@@ -44,101 +45,102 @@ fn write_types<A: Allocator + Copy>(sink: &mut Vec<u8, A>) -> R<()> {
     section.encode(sink)
 }
 
-/// Reads that type section, and shortens it.
+/// Decodes that type section, and appends its minimal encoding.
 ///
 /// # Asks
 ///
 /// ```text
-/// requires { text.old.items ≡ [] }
+/// requires { encoding.old.items ≡ [] }
 /// ```
 ///
 /// # Proved
 ///
 /// ```text
 /// ensures read { IfOk result (λ items. contents_of items ≡ Types byte_types) }
-/// ensures same { OnOk result (GainsReading (counted_format type_item) byte_types sink.old.items sink.new.items) }
+/// ensures same { OnOk result (GainsDecoding (counted_format type_item) byte_types sink.old.items sink.new.items) }
 /// ensures memory { IfErr result (λ e. e ≢ Memory → ⊥) }
 /// ```
 pub fn read_types<'a, A: Allocator + Copy + 'a>(
-    text: &'a mut Vec<u8, A>,
+    encoding: &'a mut Vec<u8, A>,
     sink: &mut Vec<u8, A>,
 ) -> Result<Items<'a, A>, ReadFault> {
-    write_types(text)?;
-    let items = read_and_shorten(SectionKind::Types, text, sink)?;
+    write_types(encoding)?;
+    let items = read_and_shorten(SectionKind::Types, encoding, sink)?;
     Ok(items)
 }
 
-/// Writes an import section of one function.
+/// Appends an import section of one function.
 ///
 /// # Proved
 ///
 /// ```text
-/// ensures { OnOk result (GainsReading (counted_format import_format) (imported_function index ∷ []) sink.old.items sink.new.items) }
+/// ensures { OnOk result (GainsDecoding (counted_format import_format) (imported_function index ∷ []) sink.old.items sink.new.items) }
 /// ```
-fn write_imports<A: Allocator + Copy>(sink: &mut Vec<u8, A>, index: u32) -> R<()> {
+fn write_imports<A: Allocator + Copy>(sink: &mut Vec<u8, A>, index: u32) -> Result<()> {
     let mut section = ImportSection::new(*sink.allocator());
     section.import("m", "f", EntityType::Function(index))?;
     section.encode(sink)
 }
 
-/// Reads that import section, and shortens it.
+/// Decodes that import section, and appends its minimal encoding.
 ///
 /// # Asks
 ///
 /// ```text
-/// requires { text.old.items ≡ [] }
+/// requires { encoding.old.items ≡ [] }
 /// ```
 ///
 /// # Proved
 ///
 /// ```text
 /// ensures read { IfOk result (λ items. contents_of items ≡ Imports (imported_function index ∷ [])) }
-/// ensures same { OnOk result (GainsReading (counted_format import_format) (imported_function index ∷ []) sink.old.items sink.new.items) }
+/// ensures same { OnOk result (GainsDecoding (counted_format import_format) (imported_function index ∷ []) sink.old.items sink.new.items) }
 /// ensures memory { IfErr result (λ e. e ≢ Memory → ⊥) }
 /// ```
 pub fn read_imports<'a, A: Allocator + Copy + 'a>(
-    text: &'a mut Vec<u8, A>,
+    encoding: &'a mut Vec<u8, A>,
     index: u32,
     sink: &mut Vec<u8, A>,
 ) -> Result<Items<'a, A>, ReadFault> {
-    write_imports(text, index)?;
-    let items = read_and_shorten(SectionKind::Imports, text, sink)?;
+    write_imports(encoding, index)?;
+    let items = read_and_shorten(SectionKind::Imports, encoding, sink)?;
     Ok(items)
 }
 
-/// Reads a table section of two tables, one with a first value, and shortens it.
+/// Decodes a table section of two tables, one with an initializer, and appends its minimal
+/// encoding.
 ///
 /// # Asks
 ///
 /// ```text
-/// requires { text.old.items ≡ [] }
+/// requires { encoding.old.items ≡ [] }
 /// ```
 ///
 /// # Proved
 ///
 /// ```text
 /// ensures read { IfOk result (λ items. contents_of items ≡ Tables (null_table minimum ∷ nulled_table minimum ∷ [])) }
-/// ensures same { OnOk result (GainsReading (counted_format table_item) (null_table minimum ∷ nulled_table minimum ∷ []) sink.old.items sink.new.items) }
+/// ensures same { OnOk result (GainsDecoding (counted_format table_item) (null_table minimum ∷ nulled_table minimum ∷ []) sink.old.items sink.new.items) }
 /// ensures memory { IfErr result (λ e. e ≢ Memory → ⊥) }
 /// ```
 pub fn read_tables<'a, A: Allocator + Copy + 'a>(
-    text: &'a mut Vec<u8, A>,
+    encoding: &'a mut Vec<u8, A>,
     minimum: u64,
     sink: &mut Vec<u8, A>,
 ) -> Result<Items<'a, A>, ReadFault> {
-    encode_null_tables(text, minimum)?;
-    let items = read_and_shorten(SectionKind::Tables, text, sink)?;
+    encode_null_tables(encoding, minimum)?;
+    let items = read_and_shorten(SectionKind::Tables, encoding, sink)?;
     Ok(items)
 }
 
-/// Writes a memory section of two memories.
+/// Appends a memory section of two memories.
 ///
 /// # Proved
 ///
 /// ```text
-/// ensures { OnOk result (GainsReading (counted_format memory_type) (pages minimum ∷ two_pages ∷ []) sink.old.items sink.new.items) }
+/// ensures { OnOk result (GainsDecoding (counted_format memory_type) (pages minimum ∷ two_pages ∷ []) sink.old.items sink.new.items) }
 /// ```
-fn write_memories<A: Allocator + Copy>(sink: &mut Vec<u8, A>, minimum: u64) -> R<()> {
+fn write_memories<A: Allocator + Copy>(sink: &mut Vec<u8, A>, minimum: u64) -> Result<()> {
     let mut section = MemorySection::new(*sink.allocator());
     section.memory(MemoryType {
         minimum,
@@ -157,39 +159,39 @@ fn write_memories<A: Allocator + Copy>(sink: &mut Vec<u8, A>, minimum: u64) -> R
     section.encode(sink)
 }
 
-/// Reads that memory section, and shortens it.
+/// Decodes that memory section, and appends its minimal encoding.
 ///
 /// # Asks
 ///
 /// ```text
-/// requires { text.old.items ≡ [] }
+/// requires { encoding.old.items ≡ [] }
 /// ```
 ///
 /// # Proved
 ///
 /// ```text
 /// ensures read { IfOk result (λ items. contents_of items ≡ Memories (pages minimum ∷ two_pages ∷ [])) }
-/// ensures same { OnOk result (GainsReading (counted_format memory_type) (pages minimum ∷ two_pages ∷ []) sink.old.items sink.new.items) }
+/// ensures same { OnOk result (GainsDecoding (counted_format memory_type) (pages minimum ∷ two_pages ∷ []) sink.old.items sink.new.items) }
 /// ensures memory { IfErr result (λ e. e ≢ Memory → ⊥) }
 /// ```
 pub fn read_memories<'a, A: Allocator + Copy + 'a>(
-    text: &'a mut Vec<u8, A>,
+    encoding: &'a mut Vec<u8, A>,
     minimum: u64,
     sink: &mut Vec<u8, A>,
 ) -> Result<Items<'a, A>, ReadFault> {
-    write_memories(text, minimum)?;
-    let items = read_and_shorten(SectionKind::Memories, text, sink)?;
+    write_memories(encoding, minimum)?;
+    let items = read_and_shorten(SectionKind::Memories, encoding, sink)?;
     Ok(items)
 }
 
-/// A tag section of two tags: of the type 0, and of the type of this index.
+/// Returns a tag section of two tags: of the type 0, and of the type of this index.
 ///
 /// # Proved
 ///
 /// ```text
-/// ensures { IfOk result (λ section. HoldsTags section (thrown 0 ∷ thrown index ∷ [])) }
+/// ensures { IfOk result (λ section. ContainsTags section (thrown 0 ∷ thrown index ∷ [])) }
 /// ```
-pub(crate) fn tags<A: Allocator + Copy>(alloc: A, index: u32) -> R<TagSection<A>> {
+pub(crate) fn tags<A: Allocator + Copy>(alloc: A, index: u32) -> Result<TagSection<A>> {
     let mut section = TagSection::new(alloc);
     section.tag(TagType {
         kind: TagKind::Exception,
@@ -202,78 +204,78 @@ pub(crate) fn tags<A: Allocator + Copy>(alloc: A, index: u32) -> R<TagSection<A>
     Ok(section)
 }
 
-/// Writes that tag section.
+/// Appends that tag section.
 ///
 /// # Proved
 ///
 /// ```text
-/// ensures { OnOk result (GainsReading (counted_format tag_type) (thrown 0 ∷ thrown index ∷ []) sink.old.items sink.new.items) }
+/// ensures { OnOk result (GainsDecoding (counted_format tag_type) (thrown 0 ∷ thrown index ∷ []) sink.old.items sink.new.items) }
 /// ```
-fn write_tags<A: Allocator + Copy>(sink: &mut Vec<u8, A>, index: u32) -> R<()> {
+fn write_tags<A: Allocator + Copy>(sink: &mut Vec<u8, A>, index: u32) -> Result<()> {
     let section = tags(*sink.allocator(), index)?;
     section.encode(sink)
 }
 
-/// Reads that tag section, and shortens it.
+/// Decodes that tag section, and appends its minimal encoding.
 ///
 /// # Asks
 ///
 /// ```text
-/// requires { text.old.items ≡ [] }
+/// requires { encoding.old.items ≡ [] }
 /// ```
 ///
 /// # Proved
 ///
 /// ```text
 /// ensures read { IfOk result (λ items. contents_of items ≡ Tags (thrown 0 ∷ thrown index ∷ [])) }
-/// ensures same { OnOk result (GainsReading (counted_format tag_type) (thrown 0 ∷ thrown index ∷ []) sink.old.items sink.new.items) }
+/// ensures same { OnOk result (GainsDecoding (counted_format tag_type) (thrown 0 ∷ thrown index ∷ []) sink.old.items sink.new.items) }
 /// ensures memory { IfErr result (λ e. e ≢ Memory → ⊥) }
 /// ```
 pub fn read_tags<'a, A: Allocator + Copy + 'a>(
-    text: &'a mut Vec<u8, A>,
+    encoding: &'a mut Vec<u8, A>,
     index: u32,
     sink: &mut Vec<u8, A>,
 ) -> Result<Items<'a, A>, ReadFault> {
-    write_tags(text, index)?;
-    let items = read_and_shorten(SectionKind::Tags, text, sink)?;
+    write_tags(encoding, index)?;
+    let items = read_and_shorten(SectionKind::Tags, encoding, sink)?;
     Ok(items)
 }
 
-/// Writes an export section of one function.
+/// Appends an export section of one function.
 ///
 /// # Proved
 ///
 /// ```text
-/// ensures { OnOk result (GainsReading (counted_format export) (exported name.now index ∷ []) sink.old.items sink.new.items) }
+/// ensures { OnOk result (GainsDecoding (counted_format export) (exported name.now index ∷ []) sink.old.items sink.new.items) }
 /// ```
-fn write_exports<A: Allocator + Copy>(sink: &mut Vec<u8, A>, name: &str, index: u32) -> R<()> {
+fn write_exports<A: Allocator + Copy>(sink: &mut Vec<u8, A>, name: &str, index: u32) -> Result<()> {
     let mut section = ExportSection::new(*sink.allocator());
     section.export(name, ExportKind::Func, index)?;
     section.encode(sink)
 }
 
-/// Reads that export section, and shortens it.
+/// Decodes that export section, and appends its minimal encoding.
 ///
 /// # Asks
 ///
 /// ```text
-/// requires { text.old.items ≡ [] }
+/// requires { encoding.old.items ≡ [] }
 /// ```
 ///
 /// # Proved
 ///
 /// ```text
 /// ensures read { IfOk result (λ items. contents_of items ≡ Exports (exported name.now index ∷ [])) }
-/// ensures same { OnOk result (GainsReading (counted_format export) (exported name.now index ∷ []) sink.old.items sink.new.items) }
+/// ensures same { OnOk result (GainsDecoding (counted_format export) (exported name.now index ∷ []) sink.old.items sink.new.items) }
 /// ensures memory { IfErr result (λ e. e ≢ Memory → ⊥) }
 /// ```
 pub fn read_exports<'a, A: Allocator + Copy + 'a>(
-    text: &'a mut Vec<u8, A>,
+    encoding: &'a mut Vec<u8, A>,
     name: &str,
     index: u32,
     sink: &mut Vec<u8, A>,
 ) -> Result<Items<'a, A>, ReadFault> {
-    write_exports(text, name, index)?;
-    let items = read_and_shorten(SectionKind::Exports, text, sink)?;
+    write_exports(encoding, name, index)?;
+    let items = read_and_shorten(SectionKind::Exports, encoding, sink)?;
     Ok(items)
 }

@@ -1,5 +1,6 @@
 // Written by tools/to-rust from crates/read_back/src/lib.rt: change that.
-//! Callers of the reader, which prove what it answers of each kind of section that a builder writes; sections of padded numbers, and of what is handed in.
+//! Callers of the reader, which prove its result: for each kind of section that a builder writes,
+//! for sections of padded numbers, and for sections of arguments.
 
 use dolzhytik::fallible::{Sink, Vec};
 pub mod custom;
@@ -10,51 +11,52 @@ pub mod padded;
 pub mod stored;
 
 use dolzhytik::fallible::Allocator;
-use dolzhytik::fallible::{Encode, R};
+use dolzhytik::fallible::{Encode, Result};
 use dolzhytik::fallible::{NameMap, NameSection};
 use dolzhytik::reader::{Items, ModuleFault, Offsets, SectionKind, laws, read_section, shorten, shorten_module};
 use dolzhytik::reader::{ReadFault, Shorten};
 use dolzhytik::fallible::FunctionSection;
 
-/// Reads the section of this kind that a buffer holds, and shortens it.
+/// Decodes the section of this kind in a buffer, and appends its minimal encoding to the sink.
 ///
 /// # Proved
 ///
 /// ```text
-/// ensures found { IfOk result (λ items. (n : ℕ) × Takes kind text.now.items (contents_of items) n) }
-/// ensures shortened { OnOk result ((n : ℕ) × Shortens kind text.now.items n sink.old.items sink.new.items) }
+/// ensures found { IfOk result (λ items. (n : ℕ) × Takes kind encoding.now.items (contents_of items) n) }
+/// ensures shortened { OnOk result ((n : ℕ) × Shortens kind encoding.now.items n sink.old.items sink.new.items) }
 /// ensures err { OnErr result (sink.new.items ≡ sink.old.items) }
-/// ensures none { IfErr result (λ e. e ≢ Memory → ReadsNothing (section kind) wide text.now.items) }
+/// ensures none { IfErr result (λ e. e ≢ Memory → Rejects (section kind) padded encoding.now.items) }
 /// ```
 pub(crate) fn read_and_shorten<'a, A: Allocator + Copy + 'a>(
     kind: SectionKind,
-    text: &'a Vec<u8, A>,
+    encoding: &'a Vec<u8, A>,
     sink: &mut Vec<u8, A>,
 ) -> Result<Items<'a, A>, ReadFault> {
-    let (items, _taken) = read_section(*text.allocator(), kind, text.as_slice())?;
-    shorten(kind, text.as_slice(), sink)?;
+    let (items, _taken) = read_section(*encoding.allocator(), kind, encoding.as_slice())?;
+    shorten(kind, encoding.as_slice(), sink)?;
     Ok(items)
 }
 
-/// A function section of one function.
+/// Appends a function section of one function.
 ///
 /// # Proved
 ///
 /// ```text
-/// ensures { OnOk result (GainsReading (counted_format u32_format) (index ∷ []) sink.old.items sink.new.items) }
+/// ensures { OnOk result (GainsDecoding (counted_format u32_format) (index ∷ []) sink.old.items sink.new.items) }
 /// ```
-pub fn write_function<A: Allocator + Copy>(sink: &mut Vec<u8, A>, index: u32) -> R<()> {
+pub fn write_function<A: Allocator + Copy>(sink: &mut Vec<u8, A>, index: u32) -> Result<()> {
     let mut section = FunctionSection::new(*sink.allocator());
     section.function(index)?;
     section.encode(sink)
 }
 
-/// Reads a function section that was written: the answer is the index that was added, and no cause but `Memory` is given.
+/// Writes a function section and decodes it: `Ok` holds the index that was added, and the only
+/// error is `Memory`.
 ///
 /// # Asks
 ///
 /// ```text
-/// requires { text.old.items ≡ [] }
+/// requires { encoding.old.items ≡ [] }
 /// ```
 ///
 /// # Proved
@@ -64,70 +66,70 @@ pub fn write_function<A: Allocator + Copy>(sink: &mut Vec<u8, A>, index: u32) ->
 /// ensures memory { IfErr result (λ e. e ≢ Memory → ⊥) }
 /// ```
 pub fn written_function<'a, A: Allocator + Copy + 'a>(
-    text: &'a mut Vec<u8, A>,
+    encoding: &'a mut Vec<u8, A>,
     index: u32,
 ) -> Result<Items<'a, A>, ReadFault> {
-    let alloc = *text.allocator();
-    match write_function(text, index) {
+    let alloc = *encoding.allocator();
+    match write_function(encoding, index) {
         Ok(()) => {}
         Err(_) => return Err(ReadFault::Memory),
     }
-    let (items, _taken) = read_section(alloc, SectionKind::Functions, text.as_slice())?;
+    let (items, _taken) = read_section(alloc, SectionKind::Functions, encoding.as_slice())?;
     Ok(items)
 }
 
-/// Shortens a function section that was written: what is appended is that section again.
+/// Writes a function section and minimizes it: the output is that section again.
 ///
 /// # Asks
 ///
 /// ```text
-/// requires { text.old.items ≡ [] }
+/// requires { encoding.old.items ≡ [] }
 /// ```
 ///
 /// # Proved
 ///
 /// ```text
-/// ensures same { OnOk result (sink.new.items ≡ sink.old.items ++ text.new.items) }
+/// ensures same { OnOk result (sink.new.items ≡ sink.old.items ++ encoding.new.items) }
 /// ensures err { OnErr result (sink.new.items ≡ sink.old.items) }
 /// ensures memory { IfErr result (λ e. e ≢ Memory → ⊥) }
 /// ```
 pub fn shortened_function<A: Allocator + Copy>(
-    text: &mut Vec<u8, A>,
+    encoding: &mut Vec<u8, A>,
     index: u32,
     sink: &mut Vec<u8, A>,
 ) -> Result<usize, ReadFault> {
-    match write_function(text, index) {
+    match write_function(encoding, index) {
         Ok(()) => {}
         Err(_) => return Err(ReadFault::Memory),
     }
-    let taken = shorten(SectionKind::Functions, text.as_slice(), sink)?;
+    let taken = shorten(SectionKind::Functions, encoding.as_slice(), sink)?;
     Ok(taken)
 }
 
-/// Reads a section that is a function section which was written, some of its numbers padded, and shortens it: the items are those that were added, and what is appended is
-/// the section as it was written.
+/// Decodes and minimizes a padded encoding of a function section. The items are those that were
+/// added, and the output is the section as it was written.
 ///
 /// # Asks
 ///
 /// ```text
-/// requires { text.old.items ≡ [] }
+/// requires { encoding.old.items ≡ [] }
 /// ```
 ///
 /// # Proved
 ///
 /// ```text
-/// ensures read { IfOk result (λ items. (rest : List ℕ) → Reads (section kinds.Functions) wide padded.now (Functions (index ∷ [])) rest → contents_of items ≡ Functions (index ∷ [])) }
-/// ensures same { OnOk result ((rest : List ℕ) → Reads (section kinds.Functions) wide padded.now (Functions (index ∷ [])) rest → sink.new.items ≡ sink.old.items ++ text.new.items) }
-/// ensures memory { IfErr result (λ e. e ≢ Memory → (rest : List ℕ) → Reads (section kinds.Functions) wide padded.now (Functions (index ∷ [])) rest → ⊥) }
+/// ensures read { IfOk result (λ items. (rest : List ℕ) → Decodes (section kinds.Functions) padded padded.now (Functions (index ∷ [])) rest → contents_of items ≡ Functions (index ∷ [])) }
+/// ensures same { OnOk result ((rest : List ℕ) → Decodes (section kinds.Functions) padded padded.now (Functions (index ∷ [])) rest → sink.new.items ≡ sink.old.items ++ encoding.new.items) }
+/// ensures memory { IfErr result (λ e. e ≢ Memory → (rest : List ℕ) → Decodes (section kinds.Functions) padded padded.now (Functions (index ∷ [])) rest → ⊥) }
 /// ```
 pub fn padded_function<'a, A: Allocator + Copy + 'a>(
-    text: &mut Vec<u8, A>,
+    encoding: &mut Vec<u8, A>,
     index: u32,
     padded: &'a [u8],
     sink: &mut Vec<u8, A>,
 ) -> Result<Items<'a, A>, ReadFault> {
-    let alloc = *text.allocator();
-    match write_function(text, index) {
+    let alloc = *encoding.allocator();
+    match write_function(encoding, index) {
         Ok(()) => {}
         Err(_) => return Err(ReadFault::Memory),
     }
@@ -136,7 +138,7 @@ pub fn padded_function<'a, A: Allocator + Copy + 'a>(
     Ok(items)
 }
 
-/// Appends two values that were read, or neither.
+/// Appends two decoded values, or neither.
 ///
 /// # Proved
 ///
@@ -147,24 +149,28 @@ pub fn both_or_neither<T: Shorten, U: Shorten, A: Sink>(
     first: &T,
     second: &U,
     sink: &mut A,
-) -> R<()> {
+) -> Result<()> {
     let start = sink.len();
-    first.append_shortest(sink)?;
-    let appended = second.append_shortest(sink);
+    first.append_minimal(sink)?;
+    let appended = second.append_minimal(sink);
     if appended.is_err() {
         sink.truncate(start);
     }
     appended
 }
 
-/// A name section: the names of the module and of its first function.
+/// Appends a name section: the names of the module and of its first function.
 ///
 /// # Proved
 ///
 /// ```text
-/// ensures { OnOk result (GainsReading (frame name_payload) (Module name.now ∷ Map 1 ((0, function.now) ∷ []) ∷ []) sink.old.items sink.new.items) }
+/// ensures { OnOk result (GainsDecoding (size_prefixed name_payload) (Module name.now ∷ Map 1 ((0, function.now) ∷ []) ∷ []) sink.old.items sink.new.items) }
 /// ```
-pub fn write_names<A: Allocator + Copy>(sink: &mut Vec<u8, A>, name: &str, function: &str) -> R<()> {
+pub fn write_names<A: Allocator + Copy>(
+    sink: &mut Vec<u8, A>,
+    name: &str,
+    function: &str,
+) -> Result<()> {
     let mut functions = NameMap::new(*sink.allocator());
     functions.append(0, function)?;
     let mut section = NameSection::new(*sink.allocator());
@@ -173,12 +179,13 @@ pub fn write_names<A: Allocator + Copy>(sink: &mut Vec<u8, A>, name: &str, funct
     section.encode(sink)
 }
 
-/// Reads a name section that was written: the answer is the names that were added, and no cause but `Memory` is given.
+/// Writes a name section and decodes it: `Ok` holds the names that were added, and the only error
+/// is `Memory`.
 ///
 /// # Asks
 ///
 /// ```text
-/// requires { text.old.items ≡ [] }
+/// requires { encoding.old.items ≡ [] }
 /// ```
 ///
 /// # Proved
@@ -188,20 +195,21 @@ pub fn write_names<A: Allocator + Copy>(sink: &mut Vec<u8, A>, name: &str, funct
 /// ensures memory { IfErr result (λ e. e ≢ Memory → ⊥) }
 /// ```
 pub fn written_names<'a, A: Allocator + Copy + 'a>(
-    text: &'a mut Vec<u8, A>,
+    encoding: &'a mut Vec<u8, A>,
     name: &str,
     function: &str,
 ) -> Result<Items<'a, A>, ReadFault> {
-    let alloc = *text.allocator();
-    match write_names(text, name, function) {
+    let alloc = *encoding.allocator();
+    match write_names(encoding, name, function) {
         Ok(()) => {}
         Err(_) => return Err(ReadFault::Memory),
     }
-    let (items, _taken) = read_section(alloc, SectionKind::Names, text.as_slice())?;
+    let (items, _taken) = read_section(alloc, SectionKind::Names, encoding.as_slice())?;
     Ok(items)
 }
 
-/// Shortens a module into an empty buffer, which then holds the shortened module, no longer than the first. After an error the buffer is empty.
+/// Minimizes a module into an empty buffer, which then holds the minimized module, no longer than
+/// the input. After an error the buffer is empty.
 ///
 /// # Asks
 ///
@@ -212,7 +220,7 @@ pub fn written_names<'a, A: Allocator + Copy + 'a>(
 /// # Proved
 ///
 /// ```text
-/// ensures is_module { OnOk result ((sections : List (ℕ × List ℕ)) × wasm_module wide sink.new.items sections) }
+/// ensures is_module { OnOk result ((sections : List (ℕ × List ℕ)) × wasm_module padded sink.new.items sections) }
 /// ensures no_longer { OnOk result (length sink.new.items ≤ length bytes.now) }
 /// ensures shortened { IfOk result (λ kept. ShortensModule Refuse bytes.now kept sink.old.items sink.new.items) }
 /// ensures err { OnErr result (sink.new.items ≡ []) }
@@ -224,7 +232,8 @@ pub fn smaller_module<A: Allocator + Copy>(
     shorten_module(bytes, Offsets::Refuse, sink)
 }
 
-/// Shortens a module, and then what came of it: both are the same, and the second call is refused for want of memory alone.
+/// Minimizes a module, and then the output: both outputs are equal, and the second call fails only
+/// if an allocation fails.
 ///
 /// # Asks
 ///

@@ -1,5 +1,5 @@
 // Written by tools/to-rust from crates/test_support/src/streams.rt: change that.
-//! Readers and writers that fail at a call that a test names.
+//! Readers and writers that fail at a call that a test selects.
 
 use dolzhytik::fallible::Vec;
 use dolzhytik::fallible::Allocator;
@@ -11,7 +11,7 @@ struct Countdown {
 }
 
 impl Countdown {
-    /// Fails where this call is the one that is to fail.
+    /// Fails if this call is the one that is to fail.
     ///
     /// # Proved
     ///
@@ -29,17 +29,17 @@ impl Countdown {
     }
 }
 
-/// A reader of a text, which gives it in pieces. One of its reads fails, if a test wants that.
-/// A read that fails takes nothing, and the reads after it go on.
+/// A reader of bytes, which returns them in chunks. One of its reads fails, if a test wants that.
+/// A failed read consumes nothing, and the reads after it continue.
 pub struct FailingReader<'a> {
-    text: &'a [u8],
+    encoding: &'a [u8],
     chunk: usize,
     countdown: Countdown,
 }
 
 impl<'a> FailingReader<'a> {
-    /// A read gives at most `chunk` bytes of the text. The one numbered `failing` fails, counted
-    /// from 1, and at 0 none does.
+    /// Returns a reader whose reads return at most `chunk` bytes. The read numbered `failing`
+    /// fails, counted from 1; at 0 none does.
     ///
     /// # Asks
     ///
@@ -50,13 +50,13 @@ impl<'a> FailingReader<'a> {
     /// # Proved
     ///
     /// ```text
-    /// ensures text { result.text.now ≡ text.now }
+    /// ensures encoding { result.encoding.now ≡ encoding.now }
     /// ensures chunk { result.chunk ≡ chunk }
     /// ensures failing { result.countdown.left ≡ failing }
     /// ```
-    pub fn new(text: &'a [u8], chunk: usize, failing: u64) -> FailingReader<'a> {
+    pub fn new(encoding: &'a [u8], chunk: usize, failing: u64) -> FailingReader<'a> {
         FailingReader {
-            text,
+            encoding,
             chunk,
             countdown: Countdown { left: failing },
         }
@@ -66,16 +66,16 @@ impl<'a> FailingReader<'a> {
 /// # Defined
 ///
 /// ```text
-/// remaining = { λ r. Some r.text.now }
+/// remaining = { λ r. Some r.encoding.now }
 /// ```
 impl Read for FailingReader<'_> {
     /// # Proved
     ///
     /// ```text
     /// ensures bound { ReadsAtMost result buf.new }
-    /// ensures bytes { ReadConsumes (Some self.old.text.now) (Some self.new.text.now) result
+    /// ensures bytes { ReadConsumes (Some self.old.encoding.now) (Some self.new.encoding.now) result
     ///     buf.new }
-    /// ensures count { let piece = min (length self.old.text.now) self.old.chunk in
+    /// ensures count { let piece = min (length self.old.encoding.now) self.old.chunk in
     ///     IfOk result (λ n. n ≡ min piece (length buf.new)) }
     /// ensures fails { IsErr result ↔ (self.old.countdown.left ≡ 1) }
     /// ensures counts { self.new.countdown.left ≡ self.old.countdown.left - 1 }
@@ -83,20 +83,20 @@ impl Read for FailingReader<'_> {
     /// ```
     fn read(&mut self, buf: &mut [u8]) -> Result<usize> {
         self.countdown.step()?;
-        let count = self.text.len().min(self.chunk).min(buf.len());
-        buf[..count].copy_from_slice(&self.text[..count]);
-        self.text = &self.text[count..];
+        let count = self.encoding.len().min(self.chunk).min(buf.len());
+        buf[..count].copy_from_slice(&self.encoding[..count]);
+        self.encoding = &self.encoding[count..];
         Ok(count)
     }
 }
 
-/// A reader that never ends, gives one space at each read, and counts its reads.
+/// A reader that never ends: it returns one space at each read, and counts its reads.
 pub struct EndlessReader {
     reads: u64,
 }
 
 impl EndlessReader {
-    /// No read was made yet.
+    /// Returns a reader that has made no read yet.
     ///
     /// # Proved
     ///
@@ -107,7 +107,7 @@ impl EndlessReader {
         EndlessReader { reads: 0 }
     }
 
-    /// How many reads there were. It stops at `u64::MAX`.
+    /// Returns the number of reads. It stops at `u64::MAX`.
     ///
     /// # Proved
     ///
@@ -141,16 +141,17 @@ impl Read for EndlessReader {
     }
 }
 
-/// A writer that keeps what it is given. One of its writes fails, if a test wants that.
-/// A write that fails takes nothing, and the writes after it go on.
+/// A writer that keeps the bytes that are written. One of its writes fails, if a test wants that.
+/// A failed write keeps nothing, and the writes after it continue.
 pub struct FailingWriter<A: Allocator> {
     written: Vec<u8, A>,
     countdown: Countdown,
 }
 
 impl<A: Allocator> FailingWriter<A> {
-    /// It keeps what it is given in memory of `alloc`. A write also fails where there is none, and
-    /// then takes nothing. The one numbered `failing` fails, counted from 1, and at 0 none does.
+    /// Returns a writer that keeps its bytes in memory of `alloc`. A write also fails if an
+    /// allocation does, and then keeps nothing. The write numbered `failing` fails, counted from 1;
+    /// at 0 none does.
     ///
     /// # Proved
     ///
@@ -165,7 +166,7 @@ impl<A: Allocator> FailingWriter<A> {
         }
     }
 
-    /// What was written so far.
+    /// Returns the bytes that were written so far.
     ///
     /// # Proved
     ///

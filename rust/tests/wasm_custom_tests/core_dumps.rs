@@ -1,5 +1,5 @@
 // Written by tools/to-rust from tests/wasm_custom_tests/src/core_dumps.rtt: change that.
-// Core dumps: each call once, with ample memory.
+// Tests of core dumps: each call once, with ample memory.
 
 use crate::checks::{check, check_bytes, check_len, check_text};
 use dolzhytik::fallible::Global;
@@ -20,7 +20,7 @@ fn process() {
     )
 }
 
-/// The custom section has this name and these data.
+/// Checks the name and the data of the custom section.
 fn check_custom(rt: &impl Abort, section: &CustomSection<'_>, name: &[u8], bytes: &[u8]) {
     check_bytes(rt, section.name.as_str().as_bytes(), name);
     check_bytes(rt, section.bytes.as_slice(), bytes);
@@ -102,7 +102,7 @@ fn copied_stack() {
     )
 }
 
-/// The value is written as these bytes.
+/// Checks that the value encodes to these bytes.
 fn check_value(rt: &impl Abort, alloc: Global, value: CoreDumpValue, expected: &[u8]) {
     check_text(rt, alloc, &value, expected)
 }

@@ -1,29 +1,30 @@
 // Written by tools/to-rust from tests/wasm_custom_tests/src/further_entries.rtt: change that.
-// Adds to sections and lists that hold entries, each request for memory refused in turn.
+// Tests of adding to sections and lists that have entries, with each request for memory failing in
+// turn.
 
 use dolzhytik::fallible::Vec;
 use crate::checks::check_that;
 use crate::refusals::{LentEntries, LentList, ListCalls, SectionCalls, check_written};
 use crate::host::Abort;
 use crate::test_support::{Heap, MOST};
-use dolzhytik::fallible::{Encode, R, Refused};
+use dolzhytik::fallible::{Encode, Refused, Result};
 
-/// What entries are added to.
+/// A builder to which entries are added.
 pub(crate) trait Growing: Encode {
-    /// What the calls are handed.
+    /// The arguments of the calls.
     type Given;
 
-    /// The call of this place.
-    fn grow(&mut self, given: &Self::Given, place: usize) -> R<()>;
+    /// Makes the call of this index.
+    fn grow(&mut self, given: &Self::Given, place: usize) -> Result<()>;
 
-    /// How many entries it holds, where a call says so.
+    /// Returns the number of entries, if a call reports it.
     fn number(&self) -> Option<u32>;
 }
 
 impl<K: SectionCalls> Growing for LentEntries<'_, K> {
     type Given = K::Given;
 
-    fn grow(&mut self, given: &K::Given, place: usize) -> R<()> {
+    fn grow(&mut self, given: &K::Given, place: usize) -> Result<()> {
         K::add(self, given, place)
     }
 
@@ -35,7 +36,7 @@ impl<K: SectionCalls> Growing for LentEntries<'_, K> {
 impl<K: ListCalls> Growing for LentList<'_, K> {
     type Given = K::Given;
 
-    fn grow(&mut self, given: &K::Given, place: usize) -> R<()> {
+    fn grow(&mut self, given: &K::Given, place: usize) -> Result<()> {
         K::add(self, given, place)
     }
 
@@ -44,15 +45,15 @@ impl<K: ListCalls> Growing for LentList<'_, K> {
     }
 }
 
-/// What a call answered, and how many entries there are then.
+/// Checks the result of a call, and the number of entries after it.
 fn check_entries(
     rt: &impl Abort,
     granted: bool,
-    answer: R<()>,
+    answer: Result<()>,
     number: Option<u32>,
     before: Option<u32>,
 ) {
-    let expected: (R<()>, Option<u32>) = if granted {
+    let expected: (Result<()>, Option<u32>) = if granted {
         (Ok(()), before.map(|entries| entries.saturating_add(1)))
     } else {
         (Err(Refused::Memory), before)
@@ -60,7 +61,7 @@ fn check_entries(
     assert_eq!(rt; (answer, number), expected);
 }
 
-/// One more entry. Where a request is refused, the item is as it was. Answers whether one was.
+/// Adds one more entry. If a request fails, the item is unchanged. Returns whether one failed.
 fn check_next<T: Growing>(
     rt: &impl Abort,
     heap: Heap<'_>,
@@ -85,10 +86,10 @@ fn check_next<T: Growing>(
     panic!(rt; "no call was granted")
 }
 
-/// So many more entries, for one of which at least an item has to grow.
+/// The number of entries added; at least one of them makes an item grow.
 const FURTHER: usize = 8;
 
-/// The call of this place, on an item that holds an entry.
+/// Checks the call of this index, on an item that holds an entry.
 pub(crate) fn check_further<T: Growing>(
     rt: &impl Abort,
     heap: Heap<'_>,

@@ -1,6 +1,6 @@
 // Written by tools/to-rust from tests/wasm_custom_tests/src/lib.rtt: change that.
-//! Tests of `wasm_custom`: bytes that the conventions' documents give or that were worked out by hand, requests for memory that are refused, and
-//! lengths that are too long.
+//! Tests of `wasm_custom`: bytes from the conventions' documents or worked out by hand, failing
+//! requests for memory, and lengths that are too long.
 
 #![allow(unused_imports, unused_variables, clippy::all)]
 

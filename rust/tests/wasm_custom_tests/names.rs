@@ -1,5 +1,6 @@
 // Written by tools/to-rust from tests/wasm_custom_tests/src/names.rtt: change that.
-// The name section and its maps: each call once, with ample memory. Calls that take a map stand in `refusals.rt`, where each is granted all in the end.
+// Tests of the name section and its maps: each call once, with ample memory. Calls with a map as
+// argument are in `refusals.rt`, where each succeeds in the end.
 
 use crate::checks::{check, check_bytes, check_len, check_text, check_that};
 use dolzhytik::fallible::{IndirectNameMap, NameMap, NameSection};

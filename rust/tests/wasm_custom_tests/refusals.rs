@@ -1,5 +1,6 @@
 // Written by tools/to-rust from tests/wasm_custom_tests/src/refusals.rtt: change that.
-// Each request of an adding call for memory refused in turn: the answer is `Memory`, and what was given is as before.
+// Tests with each request of an adding call for memory failing in turn: the result is `Memory`, and
+// the arguments are unchanged.
 
 use dolzhytik::fallible::Vec;
 use crate::checks::{check_answer, check_bytes, check_refused, check_that};
@@ -7,13 +8,13 @@ use crate::further_entries::check_further;
 use dolzhytik::fallible::Global;
 use crate::host::Abort;
 use crate::test_support::{Heap, MOST, Refusing};
-use dolzhytik::fallible::{Encode, R, Section};
+use dolzhytik::fallible::{Encode, Result, Section};
 use dolzhytik::fallible::{BranchHint, CountedList, CustomEntries, CustomKind, DataSymbolDefinition, HintItems, IndirectMembers, IndirectNameMap, InstanceItems, LinkingItems, ListKind, ModuleItems, NameItems, NameMap, NameMembers, ProducerItems, ProducersField, SymbolKind, SymbolMembers, SymbolTable, ValueMembers};
 
-/// A section that takes its memory from an allocator that refuses.
+/// A section with an allocator that fails requests.
 pub(crate) type LentEntries<'h, K> = CustomEntries<K, &'h Refusing<Global>>;
 
-/// The item is written as these bytes, where no request is refused.
+/// Checks that the item encodes to these bytes, if no request fails.
 pub(crate) fn check_written<T: Encode>(rt: &impl Abort, heap: Heap<'_>, item: &T, expected: &[u8]) {
     heap.refuse(0);
     let mut sink = Vec::new(heap);
@@ -21,7 +22,7 @@ pub(crate) fn check_written<T: Encode>(rt: &impl Abort, heap: Heap<'_>, item: &T
     check_bytes(rt, &sink, expected);
 }
 
-/// `encode` takes memory once, and none where the sink has room.
+/// Checks that `encode` makes one request, and none if the sink has spare capacity.
 pub(crate) fn check_encode<T: Encode>(rt: &impl Abort, heap: Heap<'_>, item: &T) {
     let mut sink = Vec::new(heap);
     heap.refuse(1);
@@ -36,14 +37,14 @@ pub(crate) fn check_encode<T: Encode>(rt: &impl Abort, heap: Heap<'_>, item: &T)
     check_that(rt, heap.is_waiting());
 }
 
-/// The sink held the byte 7, and then the id of custom sections, or nothing.
+/// Checks that the sink held the byte 7, and has the id of custom sections or nothing after it.
 fn check_id(rt: &impl Abort, granted: bool, sink: &[u8]) {
     let expected = if granted { Some(&0) } else { None };
     assert_eq!(rt; sink.first(), Some(&7));
     assert_eq!(rt; sink.get(1), expected);
 }
 
-/// `append_to`
+/// Checks `append_to`.
 pub(crate) fn check_append_to<S: Section>(rt: &impl Abort, heap: Heap<'_>, section: &S) {
     for nth in 1..MOST {
         heap.refuse(0);
@@ -59,7 +60,8 @@ pub(crate) fn check_append_to<S: Section>(rt: &impl Abort, heap: Heap<'_>, secti
     panic!(rt; "no call was granted")
 }
 
-/// `encode` of a part: these bytes behind the byte 7, or nothing where a request is refused.
+/// Checks `encode` of a component: it appends these bytes after the byte 7, or nothing if a request
+/// fails.
 fn check_part<T: Encode>(rt: &impl Abort, heap: Heap<'_>, part: &T, expected: &[u8]) {
     for nth in 1..MOST {
         heap.refuse(0);
@@ -85,34 +87,35 @@ fn kinds_of_symbols() {
     check_part(&rt, &heap, &SymbolKind::Table, &[5])
 }
 
-/// The number of entries is 1, or 0.
+/// Checks that the number of entries is 1, or 0.
 fn check_number(rt: &impl Abort, granted: bool, len: u32) {
     assert_eq!(rt; len, u32::from(granted));
 }
 
 /// A kind of section, and calls that add to it.
 pub(crate) trait SectionCalls: CustomKind + Sized {
-    /// What the calls are handed.
+    /// The arguments of the calls.
     type Given;
 
-    /// A section of no entries.
+    /// A section without entries.
     const EMPTY: &'static [u8];
 
-    /// What each call makes of an empty section.
+    /// The section that each call makes from an empty one.
     const SECTIONS: &'static [&'static [u8]];
 
-    /// The call of this place in `SECTIONS`.
-    fn add(section: &mut LentEntries<'_, Self>, given: &Self::Given, place: usize) -> R<()>;
+    /// Makes the call of this index in `SECTIONS`.
+    fn add(section: &mut LentEntries<'_, Self>, given: &Self::Given, place: usize) -> Result<()>;
 }
 
-/// Each call of the kind.
+/// Checks each call of the kind.
 fn check_sections<K: SectionCalls>(rt: &impl Abort, heap: Heap<'_>, given: &K::Given) {
     for (place, expected) in K::SECTIONS.iter().enumerate() {
         check_section::<K>(rt, heap, given, place, expected);
     }
 }
 
-/// The call of this place makes a section of these bytes of an empty one. Where a request is refused, the section is as it was.
+/// Checks that the call of this index makes a section of these bytes from an empty one. If a
+/// request fails, the section is unchanged.
 fn check_section<K: SectionCalls>(
     rt: &impl Abort,
     heap: Heap<'_>,
@@ -140,7 +143,7 @@ fn check_section<K: SectionCalls>(
     panic!(rt; "no call was granted")
 }
 
-/// What is done with a section of these bytes.
+/// Checks the calls on a section of these bytes.
 fn check_whole<'h, K: CustomKind>(
     rt: &impl Abort,
     heap: Heap<'h>,
@@ -158,12 +161,13 @@ fn check_whole<'h, K: CustomKind>(
     panic!(rt; "no call was granted")
 }
 
-/// What a call answered of which one request was to be refused: an item of these bytes. Answers whether all were granted.
+/// Checks the result of a call of which one request was to fail: an item of these bytes, or
+/// `Memory`. Returns whether all were granted.
 pub(crate) fn check_copy<T: Encode>(
     rt: &impl Abort,
     heap: Heap<'_>,
     nth: u64,
-    copy: R<T>,
+    copy: Result<T>,
     expected: &[u8],
 ) -> bool {
     match copy {
@@ -176,32 +180,33 @@ pub(crate) fn check_copy<T: Encode>(
     }
 }
 
-/// A list that takes its memory from an allocator that refuses.
+/// A list with an allocator that fails requests.
 pub(crate) type LentList<'h, K> = CountedList<K, &'h Refusing<Global>>;
 
 /// A kind of list, and calls that add to it.
 pub(crate) trait ListCalls: ListKind + Sized {
-    /// What the calls are handed.
+    /// The arguments of the calls.
     type Given;
 
-    /// What each call makes of an empty list.
+    /// The list that each call makes from an empty one.
     const LISTS: &'static [&'static [u8]];
 
     /// The encoding of an empty list.
     const EMPTY: &'static [u8];
 
-    /// The call of this place in `LISTS`.
-    fn add(list: &mut LentList<'_, Self>, given: &Self::Given, place: usize) -> R<()>;
+    /// Makes the call of this index in `LISTS`.
+    fn add(list: &mut LentList<'_, Self>, given: &Self::Given, place: usize) -> Result<()>;
 }
 
-/// Each call of the kind.
+/// Checks each call of the kind.
 fn check_lists<K: ListCalls>(rt: &impl Abort, heap: Heap<'_>, given: &K::Given) {
     for (place, expected) in K::LISTS.iter().enumerate() {
         check_list::<K>(rt, heap, given, place, expected);
     }
 }
 
-/// The call of this place makes a list of these bytes of an empty one. Where a request is refused, the list is as it was.
+/// Checks that the call of this index makes a list of these bytes from an empty one. If a request
+/// fails, the list is unchanged.
 fn check_list<K: ListCalls>(
     rt: &impl Abort,
     heap: Heap<'_>,
@@ -223,7 +228,7 @@ fn check_list<K: ListCalls>(
     panic!(rt; "no call was granted")
 }
 
-/// What is done with a list of these bytes.
+/// Checks the calls on a list of these bytes.
 fn check_whole_list<'h, K: ListKind>(
     rt: &impl Abort,
     heap: Heap<'h>,
@@ -247,7 +252,7 @@ impl ListCalls for NameMembers {
 
     const EMPTY: &'static [u8] = &[0];
 
-    fn add(map: &mut LentList<'_, Self>, _: &(), _: usize) -> R<()> {
+    fn add(map: &mut LentList<'_, Self>, _: &(), _: usize) -> Result<()> {
         map.append(0, "t")
     }
 }
@@ -266,7 +271,7 @@ impl ListCalls for IndirectMembers {
 
     const EMPTY: &'static [u8] = &[0];
 
-    fn add(map: &mut LentList<'_, Self>, names: &NameMap, _: usize) -> R<()> {
+    fn add(map: &mut LentList<'_, Self>, names: &NameMap, _: usize) -> Result<()> {
         map.append(0, names)
     }
 }
@@ -286,7 +291,7 @@ impl ListCalls for ValueMembers {
 
     const EMPTY: &'static [u8] = &[0];
 
-    fn add(field: &mut LentList<'_, Self>, _: &(), _: usize) -> R<()> {
+    fn add(field: &mut LentList<'_, Self>, _: &(), _: usize) -> Result<()> {
         field.value("a", "1")
     }
 }
@@ -316,7 +321,7 @@ impl ListCalls for SymbolMembers {
 
     const EMPTY: &'static [u8] = &[8, 1, 0];
 
-    fn add(symbols: &mut LentList<'_, Self>, _: &(), place: usize) -> R<()> {
+    fn add(symbols: &mut LentList<'_, Self>, _: &(), place: usize) -> Result<()> {
         match place {
             0 => symbols.function(0x20, 1, Some("f")),
             1 => symbols.global(16, 1, None),
@@ -333,28 +338,28 @@ fn symbol_tables() {
     check_lists::<SymbolMembers>(&rt, &heap, &())
 }
 
-/// The maps that calls on a name section take.
+/// The maps that are arguments of calls on a name section.
 pub(crate) struct Maps {
     names: NameMap,
     indirect: IndirectNameMap,
 }
 
-/// The map {0: "t"}.
-fn one_name(alloc: Global) -> R<NameMap> {
+/// Returns the map {0: "t"}.
+fn one_name(alloc: Global) -> Result<NameMap> {
     let mut map = NameMap::new(alloc);
     map.append(0, "t")?;
     Ok(map)
 }
 
-/// The map {1: "x"}.
-fn names_inside(alloc: Global) -> R<NameMap> {
+/// Returns the map {1: "x"}.
+fn names_inside(alloc: Global) -> Result<NameMap> {
     let mut map = NameMap::new(alloc);
     map.append(1, "x")?;
     Ok(map)
 }
 
-/// The map {0: {1: "x"}}.
-fn one_name_inside(alloc: Global) -> R<IndirectNameMap> {
+/// Returns the map {0: {1: "x"}}.
+fn one_name_inside(alloc: Global) -> Result<IndirectNameMap> {
     let mut map = IndirectNameMap::new(alloc);
     map.append(0, &names_inside(alloc)?)?;
     Ok(map)
@@ -384,7 +389,7 @@ impl SectionCalls for NameItems {
         b"\x0D\x04name\x0D\x06\x01\x00\x01\x01\x01x",
     ];
 
-    fn add(section: &mut LentEntries<'_, Self>, maps: &Maps, place: usize) -> R<()> {
+    fn add(section: &mut LentEntries<'_, Self>, maps: &Maps, place: usize) -> Result<()> {
         match place {
             0 => section.module("m"),
             1 => section.raw(20, &[9]),
@@ -427,7 +432,7 @@ impl SectionCalls for LinkingItems {
         b"\x0F\x07linking\x02\x08\x04\x01\x00\x10\x00",
     ];
 
-    fn add(section: &mut LentEntries<'_, Self>, symbols: &SymbolTable, place: usize) -> R<()> {
+    fn add(section: &mut LentEntries<'_, Self>, symbols: &SymbolTable, place: usize) -> Result<()> {
         match place {
             0 => section.target_arch("wasm32"),
             _ => section.symbol_table(symbols),
@@ -451,7 +456,7 @@ impl SectionCalls for ProducerItems {
 
     const SECTIONS: &'static [&'static [u8]] = &[b"\x13\x09producers\x01\x02by\x01\x01a\x011"];
 
-    fn add(section: &mut LentEntries<'_, Self>, field: &ProducersField, _: usize) -> R<()> {
+    fn add(section: &mut LentEntries<'_, Self>, field: &ProducersField, _: usize) -> Result<()> {
         section.field("by", field)
     }
 }
@@ -479,7 +484,7 @@ impl SectionCalls for HintItems {
         b"\x20\x19metadata.code.branch_hint\x01\x00\x01\x03\x01\x01",
     ];
 
-    fn add(section: &mut LentEntries<'_, Self>, _: &(), _: usize) -> R<()> {
+    fn add(section: &mut LentEntries<'_, Self>, _: &(), _: usize) -> Result<()> {
         section.function_hints(0, [HINT])
     }
 }
@@ -498,7 +503,7 @@ impl SectionCalls for ModuleItems {
 
     const SECTIONS: &'static [&'static [u8]] = &[b"\x13\x0Bcoremodules\x01\x00\x04mod1"];
 
-    fn add(section: &mut LentEntries<'_, Self>, _: &(), _: usize) -> R<()> {
+    fn add(section: &mut LentEntries<'_, Self>, _: &(), _: usize) -> Result<()> {
         section.module("mod1")
     }
 }
@@ -519,7 +524,7 @@ impl SectionCalls for InstanceItems {
         b"\x15\x0Dcoreinstances\x01\x00\x00\x01\x2A\x01\x11",
     ];
 
-    fn add(section: &mut LentEntries<'_, Self>, _: &(), _: usize) -> R<()> {
+    fn add(section: &mut LentEntries<'_, Self>, _: &(), _: usize) -> Result<()> {
         section.instance(0, [42], [17])
     }
 }

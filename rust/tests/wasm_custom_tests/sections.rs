@@ -1,11 +1,11 @@
 // Written by tools/to-rust from tests/wasm_custom_tests/src/sections.rtt: change that.
-// Custom sections, linking, producers and hints: each call once, with ample memory.
+// Tests of custom sections, linking, producers and hints: each call once, with ample memory.
 
 use dolzhytik::fallible::{Vec, String};
 use crate::checks::{check, check_len, check_text, check_that};
 use dolzhytik::fallible::Global;
 use crate::host::Abort;
-use dolzhytik::fallible::{CowSlice, CowStr, R};
+use dolzhytik::fallible::{CowSlice, CowStr, Result};
 use dolzhytik::fallible::{BranchHint, BranchHints, CustomSection, DataSymbolDefinition, LinkingSection, ProducersField, ProducersSection, RawCustomSection, SymbolTable};
 use dolzhytik::fallible::laws::custom as laws;
 
@@ -26,8 +26,8 @@ fn custom() {
     check(&rt, rt.alloc(), &RawCustomSection(&[2, 0, 9]), &[2, 0, 9])
 }
 
-/// A custom section whose name and data are owned.
-fn owned(alloc: Global, name: &str, bytes: &[u8]) -> R<CustomSection<'static>> {
+/// Returns a custom section whose name and data are owned.
+fn owned(alloc: Global, name: &str, bytes: &[u8]) -> Result<CustomSection<'static>> {
     Ok(CustomSection {
         name: CowStr::Owned(String::from_str(alloc, name)?),
         bytes: CowSlice::Owned(Vec::from_slice(alloc, bytes)?),
@@ -52,7 +52,7 @@ fn unequal_custom_sections() {
     check_that(&rt, section != TEST);
 }
 
-/// The linking section of this table is written as these bytes.
+/// Checks that the linking section of this table encodes to these bytes.
 fn check_table(rt: &impl Abort, alloc: Global, symbols: &SymbolTable, expected: &[u8]) {
     let mut section = LinkingSection::new(alloc);
     section.symbol_table(symbols).expect("accepted");
@@ -103,7 +103,7 @@ fn function_symbols() {
 #[test]
 fn function_without_name() {
     let rt = crate::host::HostRuntime;
-    laws::nothing_stands();
+    laws::rejections();
     let mut symbols = SymbolTable::new(rt.alloc());
     symbols.function(0, 1, None).expect("accepted");
     check_table(
@@ -164,7 +164,7 @@ fn data_symbols() {
     check_text(&rt, rt.alloc(), &symbols, b"\x08\x05\x01\x01\x10\x01d")
 }
 
-/// The flags of symbols have these numbers.
+/// Checks the numbers of the flags of symbols.
 fn check_flags(rt: &impl Abort, flags: [u32; 7], expected: [u32; 7]) {
     assert_eq!(rt; flags, expected);
 }
@@ -205,7 +205,7 @@ fn producers() {
     )
 }
 
-/// A section of one hint is written as these bytes.
+/// Checks that a section of one hint encodes to these bytes.
 fn check_hint(rt: &impl Abort, alloc: Global, value: u32, expected: &[u8]) {
     let hint = BranchHint {
         branch_func_offset: 3,
@@ -240,11 +240,11 @@ fn hints() {
 fn single_hint() {
     let rt = crate::host::HostRuntime;
     laws::sections();
-    laws::wide();
+    laws::padded();
     laws::calls();
-    laws::wide_calls();
+    laws::padded_calls();
     laws::payloads();
-    laws::wide_payloads();
+    laws::padded_payloads();
     let hint = BranchHint {
         branch_func_offset: 300,
         branch_hint_value: 0,

@@ -1,5 +1,6 @@
 // Written by tools/to-rust from tests/wasm_custom_tests/src/whole_refusals.rtt: change that.
-// Each request of constructors, copies, `as_custom` and sections without entries for memory refused in turn.
+// Tests of constructors, copies, `as_custom` and sections without entries, with each request for
+// memory failing in turn.
 
 use dolzhytik::fallible::{Vec, String};
 use crate::checks::check_answer;
@@ -7,11 +8,11 @@ use crate::further_entries::{Growing, check_further};
 use crate::refusals::{check_append_to, check_copy, check_encode, check_written};
 use crate::host::Abort;
 use crate::test_support::{Heap, MOST, Refusing};
-use dolzhytik::fallible::{CowSlice, CowStr, Encode, R};
+use dolzhytik::fallible::{CowSlice, CowStr, Encode, Result};
 use dolzhytik::fallible::{BranchHint, CoreDumpInstancesSection, CoreDumpModulesSection, CoreDumpSection, CoreDumpStackSection, CoreDumpValue, CustomSection, DataSymbolDefinition, RawCustomSection};
 
-/// The call gives an item of these bytes, or is refused.
-fn check_made<'h, T: Encode, F: Fn() -> R<T>>(
+/// Checks that the call returns an item of these bytes, or fails.
+fn check_made<'h, T: Encode, F: Fn() -> Result<T>>(
     rt: &impl Abort,
     heap: Heap<'h>,
     expected: &[u8],
@@ -81,14 +82,14 @@ fn stack() {
 const STACK: &[u8] = b"\x1B\x09corestack\x00\x04main\x01\x00\x00\x2A\x33\x01\x7F\x01\x01\x7F\x02";
 
 /// Adds a frame.
-fn add_frame(section: &mut CoreDumpStackSection<Heap<'_>>) -> R<()> {
+fn add_frame(section: &mut CoreDumpStackSection<Heap<'_>>) -> Result<()> {
     section.frame(0, 42, 51, [CoreDumpValue::I32(1)], [CoreDumpValue::I32(2)])
 }
 
 impl Growing for CoreDumpStackSection<Heap<'_>> {
     type Given = ();
 
-    fn grow(&mut self, _: &(), _: usize) -> R<()> {
+    fn grow(&mut self, _: &(), _: usize) -> Result<()> {
         add_frame(self)
     }
 
@@ -121,7 +122,7 @@ fn frames() {
     panic!(rt; "no call was granted")
 }
 
-/// What is done with a stack.
+/// Checks the calls on a stack.
 fn check_stack<'h>(rt: &impl Abort, heap: Heap<'h>, section: &CoreDumpStackSection<Heap<'h>>) {
     check_encode(rt, heap, section);
     check_append_to(rt, heap, section);
@@ -152,13 +153,13 @@ fn raw_custom() {
     check_append_to(&rt, &heap, &RawCustomSection(&[1, 0]))
 }
 
-/// The sink held the byte 7, and then these bytes, or nothing.
+/// Checks that the sink held the byte 7, and has these bytes or nothing after it.
 fn check_sink(rt: &impl Abort, granted: bool, sink: &[u8], expected: &[u8]) {
     let appended: &[u8] = if granted { expected } else { &[] };
     assert_eq!(rt; sink.split_first(), Some((&7, appended)));
 }
 
-/// `encode` of a part appends these bytes. Where a request is refused, the sink is as it was.
+/// Checks that these bytes are appended. If a request fails, the sink is unchanged.
 fn check_part<T: Encode>(rt: &impl Abort, heap: Heap<'_>, part: &T, expected: &[u8]) {
     for nth in 1..MOST {
         heap.refuse(0);

@@ -1,10 +1,10 @@
 // Written by tools/to-rust from tests/wasm_insn_tests/src/base.rtt: change that.
-// Each call of `wasm_base` once, with ample memory.
+// Tests of each call of `wasm_base` once, with ample memory.
 
 use dolzhytik::fallible::Vec;
 use crate::checks::{check, check_bytes, check_numbers, check_piece};
 use crate::host::Abort;
-use dolzhytik::fallible::{CORE_FUNCTION_EXACT_SORT, CORE_FUNCTION_SORT, CORE_GLOBAL_SORT, CORE_MEMORY_SORT, CORE_TABLE_SORT, CORE_TAG_SORT, Encode, Module, Pieces, RawSection, Refused, Section, SectionId, begin_frame, encode_frame, encode_section, encode_vec, encoding_size};
+use dolzhytik::fallible::{CORE_FUNCTION_EXACT_SORT, CORE_FUNCTION_SORT, CORE_GLOBAL_SORT, CORE_MEMORY_SORT, CORE_TABLE_SORT, CORE_TAG_SORT, Encode, Module, Pieces, RawSection, Refused, Section, SectionId, begin_size_prefixed, encode_section, encode_size_prefixed, encode_vec, encoding_size};
 use dolzhytik::fallible::laws::base as laws;
 
 #[test]
@@ -75,7 +75,10 @@ fn lengths_past_32_bits() {
     let rt = crate::host::HostRuntime;
     let mut sink = Vec::new(rt.alloc());
     assert_eq!(rt; 4294967296usize.encode(&mut sink), Err(Refused::TooLong));
-    assert_eq!(rt; begin_frame(&mut sink, 4294967296), Err(Refused::TooLong));
+    assert_eq!(rt;
+        begin_size_prefixed(&mut sink, 4294967296),
+        Err(Refused::TooLong)
+    );
     assert!(rt; sink.is_empty());
 }
 
@@ -108,8 +111,8 @@ fn vectors() {
 fn frames() {
     let rt = crate::host::HostRuntime;
     let mut sink = Vec::new(rt.alloc());
-    begin_frame(&mut sink, 300).expect("accepted");
-    encode_frame(&mut sink, &[11, 22]).expect("accepted");
+    begin_size_prefixed(&mut sink, 300).expect("accepted");
+    encode_size_prefixed(&mut sink, &[11, 22]).expect("accepted");
     encode_section(&mut sink, 1, &[2, 0, 11]).expect("accepted");
     check_bytes(&rt, &sink, &[0xAC, 0x02, 2, 11, 22, 4, 1, 2, 0, 11]);
 }
@@ -155,7 +158,7 @@ fn ids_and_sorts() {
     assert_eq!(rt; sorts.as_slice(), [0, 1, 2, 3, 4, 0x20].as_slice());
 }
 
-/// The pieces have these two entries.
+/// Checks that the pieces have these two entries.
 fn check_pieces(rt: &impl Abort, pieces: &Pieces) {
     check_numbers(rt, (pieces.len(), pieces.raw_len()), (2, 5));
     check_bytes(rt, pieces.bytes(), &[2, 0, 11, 0x80, 1]);
@@ -208,5 +211,5 @@ fn texts_of_refusals() {
 fn laws_take_no_memory() {
     laws::numbers();
     laws::frames();
-    laws::wide();
+    laws::padded();
 }

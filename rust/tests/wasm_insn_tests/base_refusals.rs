@@ -1,12 +1,13 @@
 // Written by tools/to-rust from tests/wasm_insn_tests/src/base_refusals.rtt: change that.
-// Each request of `wasm_base` for memory refused in turn: the answer is `Memory`, and what was given is as before.
+// Tests with each request of `wasm_base` for memory failing in turn: the result is `Memory`, and
+// the arguments are unchanged.
 
 use dolzhytik::fallible::Vec;
 use crate::checks::{check_bytes, check_call, check_refusals, check_refused};
 use dolzhytik::fallible::Global;
 use crate::host::Abort;
 use crate::test_support::{MOST, Refusing};
-use dolzhytik::fallible::{Encode, Module, Pieces, R, RawSection, Refused, Section, encode_section, encode_vec};
+use dolzhytik::fallible::{Encode, Module, Pieces, RawSection, Refused, Result, Section, encode_section, encode_vec};
 
 const TYPES: RawSection<'static> = RawSection {
     id: 1,
@@ -55,7 +56,8 @@ fn calls() {
     })
 }
 
-/// Into a sink whose room is as large as its text, the section is written without memory.
+/// Checks that the section is written without a request, if the sink's spare capacity is exactly
+/// the length of its encoding.
 fn check_room(rt: &impl Abort, alloc: Global, section: RawSection<'_>, text: &[u8]) {
     let heap = Refusing::new(alloc);
     let mut sink = Vec::with_capacity(&heap, text.len()).expect("accepted");
@@ -74,7 +76,7 @@ fn a_section_takes_no_request() {
     check_room(&rt, rt.alloc(), one_byte, &[1, 0]);
 }
 
-/// So many requests were made.
+/// Checks the number of requests.
 fn check_taken(rt: &impl Abort, requests: u64, expected: u64) {
     assert_eq!(rt; requests, expected);
 }
@@ -87,10 +89,10 @@ fn new_modules() {
     check_refused(&rt, Module::new(&heap).err());
 }
 
-/// What adding a section did to the bytes of a module that had none, where one request was to be refused. Answers whether it was
-/// accepted.
-fn check_module(rt: &impl Abort, granted: bool, answer: R<()>, bytes: &[u8]) -> bool {
-    let (wanted, expected): (R<()>, &[u8]) = if granted {
+/// Checks the bytes of a module after a section was added to it, of which one request was to fail.
+/// Returns whether the call succeeded.
+fn check_module(rt: &impl Abort, granted: bool, answer: Result<()>, bytes: &[u8]) -> bool {
+    let (wanted, expected): (Result<()>, &[u8]) = if granted {
         (Ok(()), b"\0asm\x01\0\0\0\x01\x03\x60\0\0")
     } else {
         (Err(Refused::Memory), b"\0asm\x01\0\0\0")
@@ -119,9 +121,16 @@ fn modules() {
     panic!(rt; "no call was granted")
 }
 
-/// What adding an entry did to pieces that held none, where one request was to be refused. Answers whether it was accepted.
-fn check_pieces(rt: &impl Abort, granted: bool, answer: R<()>, len: u32, bytes: &[u8]) -> bool {
-    let (wanted, entries, expected): (R<()>, u32, &[u8]) = if granted {
+/// Checks pieces after an entry was added to them, of which one request was to fail. Returns
+/// whether the call succeeded.
+fn check_pieces(
+    rt: &impl Abort,
+    granted: bool,
+    answer: Result<()>,
+    len: u32,
+    bytes: &[u8],
+) -> bool {
+    let (wanted, entries, expected): (Result<()>, u32, &[u8]) = if granted {
         (Ok(()), 1, &[2, b'a', b'b'])
     } else {
         (Err(Refused::Memory), 0, &[])
@@ -132,7 +141,7 @@ fn check_pieces(rt: &impl Abort, granted: bool, answer: R<()>, len: u32, bytes: 
     granted
 }
 
-/// An adding call, with each request refused in turn.
+/// Checks an adding call, with each request failing in turn.
 fn check_adding(rt: &impl Abort, alloc: Global, encoded: bool) {
     let heap = Refusing::new(alloc);
     for nth in 1..MOST {
@@ -158,8 +167,9 @@ fn pieces() {
     check_adding(&rt, rt.alloc(), true)
 }
 
-/// The copy has one entry where all requests were granted, and else there is none. Answers whether there is one.
-fn check_copy(rt: &impl Abort, granted: bool, answer: R<u32>) -> bool {
+/// Checks that there is a copy of one entry if all requests were granted, and `Memory` otherwise.
+/// Returns whether there is one.
+fn check_copy(rt: &impl Abort, granted: bool, answer: Result<u32>) -> bool {
     assert_eq!(rt; answer, if granted { Ok(1) } else { Err(Refused::Memory) });
     granted
 }

@@ -1,15 +1,17 @@
 // Written by tools/to-rust from tests/wasm_insn_tests/src/clones.rtt: change that.
-//! A clone takes memory for the lists that an instruction owns, and answers `Memory` where it is refused.
+//! Tests of clones: a clone allocates for the lists that an instruction owns, and returns `Memory`
+//! if that fails.
 
 use dolzhytik::fallible::Vec;
 use crate::checks::{check_refused, check_row};
 use dolzhytik::fallible::Global;
 use crate::host::Abort;
 use crate::test_support::{Heap, Refusing};
-use dolzhytik::fallible::{CowSlice, R, ValType};
+use dolzhytik::fallible::{CowSlice, Result, ValType};
 use dolzhytik::fallible::{BlockType, Catch, Handle, Instruction};
 
-/// The clone's one request is refused, and then granted. The instruction is as it was.
+/// Checks that the clone makes one request, which fails and is then granted. The instruction is
+/// unchanged.
 fn check_clone(
     rt: &impl Abort,
     alloc: Global,
@@ -33,8 +35,8 @@ static ROWS: [&str; 6] = [
     "e501010102",
 ];
 
-/// An instruction that owns its list, of this place in `ROWS`.
-fn owned<'h>(heap: Heap<'h>, place: usize) -> R<Instruction<'static, Heap<'h>>> {
+/// Returns the instruction of this index in `ROWS`, which owns its list.
+fn owned<'h>(heap: Heap<'h>, place: usize) -> Result<Instruction<'static, Heap<'h>>> {
     Ok(match place {
         0 => Instruction::BrTable(CowSlice::Owned(Vec::from_slice(heap, &[1, 2])?), 3),
         1 => {
@@ -61,8 +63,8 @@ fn owned<'h>(heap: Heap<'h>, place: usize) -> R<Instruction<'static, Heap<'h>>> 
     })
 }
 
-/// One handle, owned.
-fn handles<'h>(heap: Heap<'h>) -> R<CowSlice<'static, Handle, Heap<'h>>> {
+/// Returns one handle, owned.
+fn handles<'h>(heap: Heap<'h>) -> Result<CowSlice<'static, Handle, Heap<'h>>> {
     let handles = Vec::from_slice(heap, &[Handle::OnSwitch { tag: 2 }])?;
     Ok(CowSlice::Owned(handles))
 }
@@ -82,7 +84,7 @@ fn owned_lists() {
     }
 }
 
-/// An instruction that borrows its labels is cloned without memory.
+/// An instruction that borrows its labels is cloned without an allocation.
 #[test]
 fn borrowed_labels() {
     let rt = crate::host::HostRuntime;

@@ -1,5 +1,5 @@
 // Written by tools/to-rust from tests/wasm_insn_tests/src/cows.rtt: change that.
-// Slices and text that are borrowed or owned.
+// Tests of slices and strings that are borrowed or owned.
 
 use dolzhytik::fallible::{Vec, String};
 use crate::checks::{check, check_refused};
@@ -7,7 +7,7 @@ use crate::host::Abort;
 use crate::test_support::{Heap, Refusing};
 use dolzhytik::fallible::{CowSlice, CowStr};
 
-/// The slice is 1 and 128.
+/// Checks that the slice is 1 and 128.
 fn check_slice(rt: &impl Abort, slice: &[u32]) {
     assert_eq!(rt; slice, [1, 128].as_slice());
 }
@@ -42,7 +42,7 @@ fn copies_of_slices() {
     check_slice(&rt, owned.clone().expect("accepted").as_slice());
 }
 
-/// The text is `name`.
+/// Checks that the string is `name`.
 fn check_text(rt: &impl Abort, text: &str) {
     assert_eq!(rt; text, "name");
 }

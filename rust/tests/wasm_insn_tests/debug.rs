@@ -1,11 +1,11 @@
 // Written by tools/to-rust from tests/wasm_insn_tests/src/debug.rtt: change that.
-// Derived `Debug` texts of instructions' parts and of parts of layouts.
+// Tests of derived `Debug` strings, of immediates and of components of encodings.
 
 use crate::host::Abort;
 use dolzhytik::fallible::{Lent, Optional, bytes_of, vec_of};
 use dolzhytik::fallible::{Aggregate, Atomic, Ieee32, MemArg, MemArgTarget, Numeric, Ordering, PrefixedNumeric, Vector, VectorImmediate};
 
-/// The text is this.
+/// Checks the string.
 fn check_text(rt: &impl Abort, text: &str, expected: &str) {
     assert_eq!(rt; text, expected);
 }
@@ -64,7 +64,7 @@ fn cases_with_fields() {
     check_text(&rt, text.as_str(), "AtomicFence(SeqCst)");
 }
 
-/// Says two items.
+/// An iterator that reports two items and yields none.
 #[derive(Debug)]
 struct Two;
 

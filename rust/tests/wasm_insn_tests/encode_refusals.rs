@@ -1,5 +1,6 @@
 // Written by tools/to-rust from tests/wasm_insn_tests/src/encode_refusals.rtt: change that.
-// `encode` of numbers, types and immediates, each request for memory refused in turn: the answer is `Memory`, and the sink is as before.
+// Tests of `encode` of numbers, types and immediates, with each request for memory failing in turn:
+// the result is `Memory`, and the sink is unchanged.
 
 use dolzhytik::fallible::{Vec, String};
 use crate::checks::check_refusals;

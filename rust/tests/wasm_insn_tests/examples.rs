@@ -1,5 +1,5 @@
 // Written by tools/to-rust from tests/wasm_insn_tests/src/examples.rtt: change that.
-//! Instructions whose bytes are known from the format's documents.
+//! Tests of instructions whose bytes are known from the format's documents.
 
 use crate::checks::check;
 use dolzhytik::fallible::Global;
@@ -78,7 +78,7 @@ static ROWS: [&[u8]; 42] = [
     &[0x28, 0x80, 0x01, 0],
 ];
 
-/// The instruction of this place in `ROWS`.
+/// Returns the instruction of this index in `ROWS`.
 fn instruction(place: usize) -> Instruction<'static> {
     match place {
         0..=7 => control(place),
@@ -91,7 +91,7 @@ fn instruction(place: usize) -> Instruction<'static> {
     }
 }
 
-/// Control instructions.
+/// Returns a control instruction.
 fn control(place: usize) -> Instruction<'static> {
     match place {
         0 => Instruction::BrTable(CowSlice::Borrowed(&[0, 1]), 2),
@@ -118,7 +118,7 @@ fn control(place: usize) -> Instruction<'static> {
     }
 }
 
-/// Instructions of types.
+/// Returns an instruction of types.
 fn types(place: usize) -> Instruction<'static> {
     match place {
         8 => Instruction::RefNull(HeapType::FUNC),
@@ -142,7 +142,7 @@ fn types(place: usize) -> Instruction<'static> {
     }
 }
 
-/// Instructions of memories and arrays.
+/// Returns an instruction of memories and arrays.
 fn memories(place: usize) -> Instruction<'static> {
     match place {
         16 => Instruction::I32Load(FIRST),
@@ -174,7 +174,7 @@ fn memories(place: usize) -> Instruction<'static> {
     }
 }
 
-/// Atomic instructions.
+/// Returns an atomic instruction.
 fn atomics(place: usize) -> Instruction<'static> {
     match place {
         23 => Instruction::Atomic(Atomic::I32AtomicRmwAdd(MemArg {
@@ -207,7 +207,7 @@ fn atomics(place: usize) -> Instruction<'static> {
     }
 }
 
-/// Vector instructions.
+/// Returns a vector instruction.
 fn vectors(place: usize) -> Instruction<'static> {
     match place {
         29 => Instruction::Vector(Vector::I16x8Abs),
@@ -224,7 +224,7 @@ fn vectors(place: usize) -> Instruction<'static> {
     }
 }
 
-/// Instructions without fields, by their names on `Instruction`, and constants.
+/// Returns an instruction without fields, by its name on `Instruction`, or a constant.
 fn constants(place: usize) -> Instruction<'static> {
     match place {
         33 => Instruction::<Global>::I32Add,
@@ -236,7 +236,8 @@ fn constants(place: usize) -> Instruction<'static> {
     }
 }
 
-/// The largest index, the largest alignment that the flags hold beside other bits, and one that takes two bytes.
+/// Returns an instruction with the largest index, the largest alignment that fits the flags with
+/// other bits, or an alignment of two bytes.
 fn limits(place: usize) -> Instruction<'static> {
     match place {
         39 => Instruction::Block(BlockType::FunctionType(4294967295)),

@@ -1,5 +1,5 @@
 // Written by tools/to-rust from tests/wasm_insn_tests/src/immediates.rtt: change that.
-//! Values whose bytes are known from the format's documents.
+//! Tests of values whose bytes are known from the format's documents.
 
 use crate::checks::check;
 use dolzhytik::fallible::{AbstractHeapType, HeapType, RefType, ValType};

@@ -1,13 +1,13 @@
 // Written by tools/to-rust from tests/wasm_insn_tests/src/lengths.rtt: change that.
-// Lengths that are too long are answered before any item is asked for.
+// Tests that a length which is too long is an error before any item is requested.
 
 use dolzhytik::fallible::Vec;
 use core::cell::Cell;
 use crate::host::Abort;
-use dolzhytik::fallible::{R, Refused, encode_vec};
+use dolzhytik::fallible::{Refused, Result, encode_vec};
 use dolzhytik::fallible::InstructionSink;
 
-/// Labels, which count how often one was asked for.
+/// An iterator of labels, which counts the requests for one.
 struct CountedLabels<'a> {
     left: usize,
     asked: &'a Cell<u64>,
@@ -32,8 +32,8 @@ impl ExactSizeIterator for CountedLabels<'_> {
     }
 }
 
-/// The length was too long, no label was asked for, and nothing was written.
-fn check_too_long(rt: &impl Abort, answer: R<()>, asked: u64, written: usize) {
+/// Checks that the length was too long, that no label was requested, and that nothing was written.
+fn check_too_long(rt: &impl Abort, answer: Result<()>, asked: u64, written: usize) {
     assert_eq!(rt; answer, Err(Refused::TooLong));
     assert_eq!(rt; asked, 0);
     assert_eq!(rt; written, 0);

@@ -1,6 +1,6 @@
 // Written by tools/to-rust from tests/wasm_insn_tests/src/lib.rtt: change that.
-//! Tests of `wasm_base`, `wasm_immediates` and `wasm_insn`: bytes that the format's documents give or that were worked out by hand,
-//! and requests for memory that are refused.
+//! Tests of `wasm_base`, `wasm_immediates` and `wasm_insn`: bytes from the format's documents or
+//! worked out by hand, and failing requests for memory.
 
 #![allow(unused_imports, unused_variables, clippy::all)]
 

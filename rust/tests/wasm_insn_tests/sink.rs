@@ -1,10 +1,11 @@
 // Written by tools/to-rust from tests/wasm_insn_tests/src/sink.rtt: change that.
-//! Each named call of the sink writes the bytes of its instruction, and leaves the buffer where memory is refused.
+//! Tests of the sink: each named call writes the bytes of its instruction, and leaves the buffer
+//! unchanged if an allocation fails.
 
 use dolzhytik::fallible::Vec;
 use crate::checks::check_call;
 use crate::test_support::Refusing;
-use dolzhytik::fallible::{HeapType, R, ValType};
+use dolzhytik::fallible::{HeapType, Result, ValType};
 use dolzhytik::fallible::{BlockType, Buffer, Ieee32, Ieee64, InstructionSink, MemArg, MemArgTarget, Op};
 
 const MEMARG: MemArg = MemArg {
@@ -14,7 +15,7 @@ const MEMARG: MemArg = MemArg {
     ordering: None,
 };
 
-/// What each call appends.
+/// The bytes that each call appends.
 static ROWS: [&[u8]; 42] = [
     &[0xFD, 0x80, 0x01],
     &[0x00],
@@ -63,8 +64,8 @@ static ROWS: [&[u8]; 42] = [
     &[0xD2, 0x07],
 ];
 
-/// The call of this place in `ROWS`, and for those from 16 on `later_call`.
-fn call<B: Buffer>(sink: &mut InstructionSink<'_, B>, place: usize) -> R<()> {
+/// Makes the call of this index in `ROWS`; those from 16 on are in `later_call`.
+fn call<B: Buffer>(sink: &mut InstructionSink<'_, B>, place: usize) -> Result<()> {
     match place {
         0 => sink.op(Op::Prefixed(0xFD, 128)),
         1 => sink.unreachable(),
@@ -86,11 +87,11 @@ fn call<B: Buffer>(sink: &mut InstructionSink<'_, B>, place: usize) -> R<()> {
     }
 }
 
-fn call_br_table<B: Buffer>(sink: &mut InstructionSink<'_, B>) -> R<()> {
+fn call_br_table<B: Buffer>(sink: &mut InstructionSink<'_, B>) -> Result<()> {
     sink.br_table([0, 1], 2)
 }
 
-fn later_call<B: Buffer>(sink: &mut InstructionSink<'_, B>, place: usize) -> R<()> {
+fn later_call<B: Buffer>(sink: &mut InstructionSink<'_, B>, place: usize) -> Result<()> {
     match place {
         16 => sink.typed_select(ValType::I32),
         17 => sink.typed_select_multi(&[ValType::I32, ValType::I64]),

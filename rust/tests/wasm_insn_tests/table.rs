@@ -1,5 +1,5 @@
 // Written by tools/to-rust from tests/wasm_insn_tests/src/table.rtt: change that.
-//! Each instruction of the opcode table has the bytes of its row.
+//! Tests that each instruction of the opcode table has the bytes of its row.
 
 use dolzhytik::fallible::Vec;
 use crate::checks::{check_hex, check_refusals, check_row};
@@ -9,13 +9,13 @@ use crate::host::Abort;
 use dolzhytik::fallible::Encode;
 use dolzhytik::fallible::{Aggregate, Atomic, Instruction, Numeric, PrefixedNumeric, Vector, VectorImmediate};
 
-/// The op is in the table.
+/// Checks that the opcode is in the table.
 fn check_op(rt: &impl Abort, instruction: &Instruction<'_>, row: &str) {
     assert!(rt; instruction.op().shape().is_some(), "{row}");
 }
 
-/// The instruction and its clone have these bytes, and the op is in the table. Where a request for memory is refused, each
-/// in turn, the sink is as it was.
+/// Checks that the instruction and its clone have these bytes, and that the opcode is in the table.
+/// If a request for memory fails, each in turn, the sink is unchanged.
 fn check(rt: &impl Abort, alloc: Global, instruction: &Instruction<'_>, row: &str) {
     check_op(rt, instruction, row);
     check_row(rt, alloc, &instruction.clone().expect("accepted"), row);
@@ -82,12 +82,12 @@ impl Case for Atomic {
     }
 }
 
-/// There are as many cases as rows.
+/// Checks that there are as many cases as rows.
 fn check_len(rt: &impl Abort, cases: usize, rows: usize) {
     assert_eq!(rt; cases, rows);
 }
 
-/// Each case is the instruction of its row.
+/// Checks that each case is the instruction of its row.
 fn check_cases<C: Case>(rt: &impl Abort, alloc: Global, cases: &[C], rows: &[&str]) {
     check_len(rt, cases.len(), rows.len());
     for (case, row) in cases.iter().zip(rows.iter()) {

@@ -1,29 +1,36 @@
 // Written by tools/to-rust from tests/wasm_reader_sections_tests/src/appended.rtt: change that.
-// Calls that append the minimal encoding of values that were decoded. Where a request for memory is refused, the sink is as it was.
+// Tests of calls that append the minimal encoding of decoded values. If a request for memory fails,
+// the sink is unchanged.
 
 use dolzhytik::fallible::Vec;
 use dolzhytik::fallible::Global;
 use crate::host::Abort;
 use crate::test_support::{MOST, Refusing};
-use dolzhytik::fallible::{R, Refused};
+use dolzhytik::fallible::{Refused, Result};
 use dolzhytik::fallible::{append_hints, append_instances, append_links, append_modules, append_names, append_process, append_producers, append_stack, read_hints, read_instances, read_links, read_modules, read_names, read_process, read_producers, read_stack};
-use dolzhytik::reader::{Framed, ReadFault, Shorten, append_all};
+use dolzhytik::reader::{ReadFault, Shorten, SizePrefixed, append_all};
 use dolzhytik::reader::shorten_body;
 use dolzhytik::fallible::{append_imports, read_imports};
 use dolzhytik::fallible::{append_types, read_types};
 
-/// The byte that a sink has before a call.
+/// The byte in a sink before a call.
 const BEFORE: u8 = 0xAA;
 
-/// The call returns this, and the sink has these bytes after its first one.
-fn check_outcome(rt: &impl Abort, answer: R<()>, expected: R<()>, sink: &[u8], bytes: &[u8]) {
+/// Checks the result of the call, and the bytes of the sink after its first one.
+fn check_outcome(
+    rt: &impl Abort,
+    answer: Result<()>,
+    expected: Result<()>,
+    sink: &[u8],
+    bytes: &[u8],
+) {
     assert_eq!(rt; answer, expected);
     assert_eq!(rt; sink.split_first(), Some((&BEFORE, bytes)));
 }
 
-/// The call appends these bytes. It makes two requests for memory or more, and where any of them is
-/// refused, it returns `Memory`, and the sink is as it was.
-fn check<'h, F: Fn(&mut Vec<u8, &'h Refusing<Global>>) -> R<()>>(
+/// Checks that the call appends these bytes. It makes two requests for memory or more. If any of
+/// them fails, it returns `Memory`, and the sink is unchanged.
+fn check<'h, F: Fn(&mut Vec<u8, &'h Refusing<Global>>) -> Result<()>>(
     rt: &impl Abort,
     heap: &'h Refusing<Global>,
     bytes: &[u8],
@@ -138,7 +145,7 @@ fn core_dumps() {
     });
 }
 
-/// The bytes of a body with its size, of which `shorten_body` takes all but the first.
+/// The bytes of a body with its size prefix, of which `shorten_body` receives all but the first.
 #[test]
 fn body() {
     let rt = crate::host::HostRuntime;
@@ -168,9 +175,9 @@ fn values() {
         append_all(&names, sink)
     });
     let listed = Vec::from_slice(rt.alloc(), &names).expect("accepted");
-    let framed = Framed((listed, 7u32));
+    let framed = SizePrefixed((listed, 7u32));
     let text = b"\x3C\x02\x1Cthe_first_name_which_is_long\x1Cthe_other_name_which_is_long\x07";
     check(&rt, &heap, text, |sink: &mut Vec<u8, _>| {
-        framed.append_shortest(sink)
+        framed.append_minimal(sink)
     });
 }

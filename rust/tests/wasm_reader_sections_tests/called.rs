@@ -1,5 +1,5 @@
 // Written by tools/to-rust from tests/wasm_reader_sections_tests/src/called.rtt: change that.
-// The worked callers, each called once.
+// Tests of the worked callers, each called once.
 
 use dolzhytik::fallible::Vec;
 use crate::checks::check_bytes;
@@ -123,7 +123,7 @@ fn listed() {
     check_bytes(&rt, &bytes, &[5, 1, 1, b'e', 0, 3])
 }
 
-/// Each request for memory is refused in turn.
+/// Each request for memory fails in turn.
 #[test]
 fn listed_and_refused() {
     let rt = crate::host::HostRuntime;

@@ -1,15 +1,15 @@
 // Written by tools/to-rust from tests/wasm_reader_sections_tests/src/custom_rows.rtt: change that.
-// Custom sections that are read back as their items, with ample memory.
+// Tests of custom sections that decode to their items, with ample memory.
 
 use crate::custom_seen::{Told, Value, read};
 use dolzhytik::fallible::Global;
 use crate::host::Abort;
 use dolzhytik::reader::SectionKind;
 
-/// A section of the kind, and what is read there.
+/// A kind, a section of it, and the decoded items.
 pub(crate) type Row = (SectionKind, &'static [u8], Told<'static>);
 
-/// Numbers are in their fewest bytes.
+/// Sections of minimal numbers.
 pub(crate) static ROWS: [Row; 26] = [
     (
         SectionKind::Names,
@@ -135,7 +135,7 @@ pub(crate) static ROWS: [Row; 26] = [
     ),
 ];
 
-/// Numbers are padded.
+/// Sections of padded numbers.
 pub(crate) static PADDED: [Row; 2] = [
     (
         SectionKind::Names,
@@ -149,7 +149,7 @@ pub(crate) static PADDED: [Row; 2] = [
     ),
 ];
 
-/// This is read, and so many bytes are taken.
+/// Checks the decoded items, and the length of the section in bytes.
 fn check(
     rt: &impl Abort,
     alloc: Global,
@@ -172,7 +172,7 @@ fn custom_rows() {
     }
 }
 
-/// What follows a section is left, also where it is a subsection of its own.
+/// Bytes after a section are left, even if they are a subsection themselves.
 #[test]
 fn subsection_behind() {
     let rt = crate::host::HostRuntime;

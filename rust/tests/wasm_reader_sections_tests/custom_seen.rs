@@ -15,7 +15,7 @@ pub(crate) enum Value {
     F64(u64),
 }
 
-/// A section of no item, or of those that the rows have: all that they say.
+/// A section without items, or with those of the rows: all of their fields.
 #[derive(Clone, Copy, PartialEq, Debug)]
 pub(crate) enum Told<'a> {
     Nothing,
@@ -24,11 +24,11 @@ pub(crate) enum Told<'a> {
     Named(u8, u32, &'a str),
     /// Two indices and their names.
     NamedTwice((u32, &'a str), (u32, &'a str)),
-    /// A subsection's id, an index, and an index inside and its name.
+    /// A subsection's id, an index, and an index in it and its name.
     Inside(u8, u32, u32, &'a str),
     Other(u8, &'a [u8]),
     Arch(&'a str),
-    /// The number of symbols of a subsection of another number than one.
+    /// The number of symbols of a subsection that has not exactly one.
     Symbols(usize),
     /// Flags, index and name.
     Function(u32, u32, Option<&'a str>),
@@ -43,7 +43,7 @@ pub(crate) enum Told<'a> {
     Modules(&'a str, &'a str),
     /// Module, memory and global.
     Instance(u32, u32, u32),
-    /// The thread, where its frame is, and a local and a value of the stack.
+    /// The thread, the location of its frame, and a local and a value of the stack.
     Frame(&'a str, (u32, u32, u32), Value, Value),
     Others,
 }
@@ -119,7 +119,7 @@ fn frame_told<'a>(thread: &'a str, frame: &CoreFrame) -> Told<'a> {
     }
 }
 
-/// What sections of names, links and producers are read as.
+/// Returns the items of a section of names, links or producers.
 fn items_told<'a>(items: &Items<'a>) -> Told<'a> {
     match items {
         Items::Names(names) => match names.as_slice() {
@@ -144,7 +144,7 @@ fn items_told<'a>(items: &Items<'a>) -> Told<'a> {
     }
 }
 
-/// What hints and core dumps are read as.
+/// Returns the items of a section of hints or of a core dump.
 fn dump_told<'a>(items: &Items<'a>) -> Told<'a> {
     match items {
         Items::Hints(functions) => match functions.as_slice() {
@@ -178,7 +178,7 @@ fn dump_told<'a>(items: &Items<'a>) -> Told<'a> {
     }
 }
 
-/// What a section is read as, and how many bytes it takes.
+/// Decodes a section: returns its items, and its length in bytes.
 pub(crate) fn read<'a>(
     alloc: Global,
     kind: SectionKind,

@@ -1,5 +1,5 @@
 // Written by tools/to-rust from tests/wasm_reader_sections_tests/src/example_bytes.rtt: change that.
-// Each example once, with ample memory.
+// Tests of each example once, with ample memory.
 
 use dolzhytik::fallible::Vec;
 use crate::checks::check_bytes;
@@ -7,7 +7,7 @@ use crate::examples::{adding_module, choice, encode_exports, encode_group, encod
 use dolzhytik::fallible::Global;
 use crate::host::Abort;
 use crate::test_support::{MOST, Refusing};
-use dolzhytik::fallible::{R, Refused};
+use dolzhytik::fallible::{Refused, Result};
 use dolzhytik::fallible::{Export, ExportKind};
 
 #[test]
@@ -137,16 +137,17 @@ fn sections() {
     check_bytes(&rt, &sink, b"\x08\x02\x01f\0\x01\0\x02\0");
 }
 
-/// What a call answered of which the request numbered `nth` was to be refused, and what a sink has then that held the byte 7.
+/// Checks the result of a call whose request numbered `nth` was to fail, and a sink after it that
+/// held the byte 7.
 fn check_answer(
     rt: &impl Abort,
     nth: u64,
     granted: bool,
-    answer: R<()>,
+    answer: Result<()>,
     sink: &[u8],
     expected: &[u8],
 ) {
-    let (told, appended): (R<()>, &[u8]) = if granted {
+    let (told, appended): (Result<()>, &[u8]) = if granted {
         (Ok(()), expected)
     } else {
         (Err(Refused::Memory), &[])
@@ -156,8 +157,8 @@ fn check_answer(
     assert!(rt; !granted || nth > 1);
 }
 
-/// A function appends these bytes. Where a request is refused, the sink is as it was.
-fn check_appending<'h, F: Fn(&mut Vec<u8, &'h Refusing<Global>>) -> R<()>>(
+/// Checks that these bytes are appended. If a request fails, the sink is unchanged.
+fn check_appending<'h, F: Fn(&mut Vec<u8, &'h Refusing<Global>>) -> Result<()>>(
     rt: &impl Abort,
     heap: &'h Refusing<Global>,
     expected: &[u8],

@@ -1,5 +1,5 @@
 // Written by tools/to-rust from tests/wasm_reader_sections_tests/src/example_refusals.rtt: change that.
-// Examples once with ample memory, and with each request refused.
+// Tests of examples, once with ample memory, and with each request failing.
 
 use dolzhytik::fallible::Vec;
 use crate::checks::check_bytes;
@@ -7,7 +7,7 @@ use crate::examples::{Expr, Operation, Operator, Statement, compile, compile_tre
 use dolzhytik::fallible::Global;
 use crate::host::Abort;
 use crate::test_support::{MOST, Refusing};
-use dolzhytik::fallible::{Encode, R, Refused};
+use dolzhytik::fallible::{Encode, Refused, Result};
 
 /// Each operation and each operator once.
 const OPERATIONS: [Operation; 16] = [
@@ -62,14 +62,14 @@ const OBJECT: &[u8] = b"\0asm\x01\0\0\0\
     \0\x1A\x07linking\x02\x08\x0F\x01\0\x20\0\x0Acount_down\
     \0\x29\x09producers\x01\x0Cprocessed-by\x01\x09dolzhytik\x050.1.0";
 
-/// A function makes these bytes, and answers `Memory` where a request is refused.
+/// Checks that a function returns these bytes, and `Memory` if a request fails.
 ///
 /// # Asks
 ///
 /// ```text
 /// requires { F.IsAlwaysCallable make }
 /// ```
-fn check_made<'h, F: Fn(&'h Refusing<Global>) -> R<Vec<u8, &'h Refusing<Global>>>>(
+fn check_made<'h, F: Fn(&'h Refusing<Global>) -> Result<Vec<u8, &'h Refusing<Global>>>>(
     rt: &impl Abort,
     heap: &'h Refusing<Global>,
     expected: &[u8],

@@ -1,12 +1,12 @@
 // Written by tools/to-rust from tests/wasm_reader_sections_tests/src/faults.rtt: change that.
-// Sections that are none, and the causes.
+// Tests of bytes that are not a section of their kind, and their errors.
 
 use dolzhytik::fallible::Global;
 use crate::host::Abort;
 use dolzhytik::reader::{SectionKind, read_section};
 use dolzhytik::reader::ReadFault;
 
-/// Nothing is read, for this cause.
+/// Checks that decoding fails with this cause.
 fn check(rt: &impl Abort, alloc: Global, kind: SectionKind, bytes: &[u8], expected: ReadFault) {
     let fault = match read_section(alloc, kind, bytes) {
         Ok(_) => None,
@@ -15,7 +15,7 @@ fn check(rt: &impl Abort, alloc: Global, kind: SectionKind, bytes: &[u8], expect
     assert_eq!(rt; fault, Some(expected));
 }
 
-/// Bytes where no section of the kind stands, and the cause.
+/// A kind, bytes that are not a section of it, and the error.
 pub(crate) type Row = (SectionKind, &'static [u8], ReadFault);
 
 pub(crate) static ROWS: [Row; 42] = [

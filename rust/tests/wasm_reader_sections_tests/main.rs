@@ -1,5 +1,6 @@
 // Written by tools/to-rust from tests/wasm_reader_sections_tests/src/lib.rtt: change that.
-//! Tests of `wasm_reader` and `examples`: bytes that were worked out from the format's documents, and requests for memory that are refused.
+//! Tests of `wasm_reader` and `examples`: bytes that were worked out from the format's documents,
+//! and failing requests for memory.
 
 #![allow(unused_imports, unused_variables, clippy::all)]
 
@@ -47,6 +48,9 @@ mod example_refusals;
 mod faults;
 #[cfg(test)]
 #[rustfmt::skip]
+mod minimal;
+#[cfg(test)]
+#[rustfmt::skip]
 mod modules;
 #[cfg(test)]
 #[rustfmt::skip]
@@ -60,9 +64,6 @@ mod rows;
 #[cfg(test)]
 #[rustfmt::skip]
 mod seen;
-#[cfg(test)]
-#[rustfmt::skip]
-mod shortest;
 #[cfg(test)]
 #[rustfmt::skip]
 mod whole;

@@ -1,22 +1,22 @@
 // Written by tools/to-rust from tests/wasm_reader_sections_tests/src/modules.rtt: change that.
-// Lists of modules' sections.
+// Tests of the listings of modules.
 
 use dolzhytik::fallible::Vec;
 use dolzhytik::fallible::Global;
 use crate::host::Abort;
-use dolzhytik::fallible::R;
+use dolzhytik::fallible::Result;
 use dolzhytik::reader::{Listed, list_module};
 use dolzhytik::reader::ReadFault;
 
-/// The magic and version, and the bytes behind them.
-fn module(alloc: Global, sections: &[u8]) -> R<Vec<u8>> {
+/// Returns the magic and version, and the bytes after them.
+fn module(alloc: Global, sections: &[u8]) -> Result<Vec<u8>> {
     let mut bytes = Vec::new(alloc);
     bytes.extend_from_slice(b"\0asm\x01\0\0\0")?;
     bytes.extend_from_slice(sections)?;
     Ok(bytes)
 }
 
-/// The lines are these.
+/// Checks the lines.
 fn check_lines(rt: &impl Abort, given: &[Listed], expected: &[(u8, u32, Option<u32>)]) {
     assert_eq!(rt; given.len(), expected.len());
     for (line, (id, size, items)) in given.iter().zip(expected) {
@@ -24,7 +24,7 @@ fn check_lines(rt: &impl Abort, given: &[Listed], expected: &[(u8, u32, Option<u
     }
 }
 
-/// The module of these sections has these lines.
+/// Checks that the module of these sections has these lines.
 fn check(rt: &impl Abort, alloc: Global, sections: &[u8], expected: &[(u8, u32, Option<u32>)]) {
     let bytes = module(alloc, sections).expect("accepted");
     match list_module(alloc, &bytes) {
@@ -33,7 +33,7 @@ fn check(rt: &impl Abort, alloc: Global, sections: &[u8], expected: &[(u8, u32, 
     }
 }
 
-/// Where the bytes are no module, and why.
+/// Checks the section at which the bytes stop being a module, and the error.
 fn check_stop(rt: &impl Abort, alloc: Global, bytes: &[u8], expected: (usize, ReadFault)) {
     let stop = match list_module(alloc, bytes) {
         Ok(_) => None,
@@ -84,9 +84,9 @@ fn modules() {
     check(&rt, alloc, &others, &lines)
 }
 
-/// A section of one line, and how many items it has.
+/// A section of one line, and the number of its items.
 static COUNTED: [(&[u8], u32); 15] = [
-    // code: a `br_table`, catches, handles, types of a selection, and runs
+    // Code: a `br_table`, catches, handles, types of a selection, and runs.
     (&[10, 9, 1, 7, 0, 14, 2, 11, 11, 0, 11], 1),
     (
         &[10, 14, 1, 12, 0, 31, 64, 2, 0, 11, 11, 3, 11, 11, 11, 11],
@@ -99,7 +99,7 @@ static COUNTED: [(&[u8], u32); 15] = [
         ],
         2,
     ),
-    // elements, by their flags
+    // Elements, by their flags.
     (&[9, 8, 1, 0, 65, 0, 11, 2, 11, 11], 1),
     (&[9, 5, 1, 1, 0, 1, 11], 1),
     (&[9, 10, 1, 2, 1, 65, 0, 11, 0, 2, 11, 11], 1),
@@ -108,7 +108,7 @@ static COUNTED: [(&[u8], u32); 15] = [
     (&[9, 7, 1, 5, 112, 1, 210, 11, 11], 1),
     (&[9, 12, 1, 6, 1, 65, 0, 11, 99, 110, 1, 210, 11, 11], 1),
     (&[9, 10, 2, 7, 112, 0, 7, 111, 1, 208, 111, 11], 2),
-    // others that hold expressions or lists
+    // Others that hold expressions or lists.
     (&[6, 11, 2, 127, 0, 65, 11, 11, 111, 1, 208, 111, 11], 2),
     (&[4, 12, 2, 112, 0, 11, 64, 0, 112, 0, 11, 208, 112, 11], 2),
     (
@@ -132,7 +132,7 @@ fn counted() {
     check(&rt, alloc, &imports, &[(2, 26, Some(3))]);
 }
 
-/// A section that doesn't hold items of its kind, and why.
+/// A section that does not hold items of its kind, and the error.
 static UNCOUNTED: [(&[u8], ReadFault); 12] = [
     (&[10, 7, 1, 5, 0, 14, 3, 11, 11], ReadFault::Ended),
     (

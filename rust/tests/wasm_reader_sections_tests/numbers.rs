@@ -1,9 +1,10 @@
 // Written by tools/to-rust from tests/wasm_reader_sections_tests/src/numbers.rtt: change that.
-// Kinds of sections by their numbers.
+// Tests of the numbers of section kinds.
 
 use dolzhytik::reader::SectionKind;
 
-/// The first kind, three others, and a number that no kind has: the numbers are those of `dolzhytik.h`.
+/// The first kind, three others, and a number that no kind has: the numbers are those of
+/// `dolzhytik.h`.
 #[test]
 fn numbered() {
     let rt = crate::host::HostRuntime;

@@ -1,5 +1,5 @@
 // Written by tools/to-rust from tests/wasm_reader_sections_tests/src/refusals.rtt: change that.
-// Each request for memory refused in turn: the cause is `Memory`.
+// Tests with each request for memory failing in turn: the error is `Memory`.
 
 use crate::rows::{BEFORE_BYTE, DATA, before_data};
 use crate::{custom_rows, faults, rows};
@@ -9,7 +9,7 @@ use crate::test_support::{MOST, Refusing};
 use dolzhytik::reader::{SectionKind, list_module, read_section};
 use dolzhytik::reader::ReadFault;
 
-/// What is asked of the reader.
+/// A call of the reader.
 #[derive(Clone, Copy)]
 enum Question {
     Section(SectionKind),
@@ -33,8 +33,8 @@ fn check_answer(rt: &impl Abort, given: Option<ReadFault>, expected: Option<Read
     assert_eq!(rt; given, expected);
 }
 
-/// The cause is `Memory` where a request is refused, and this one, if any, where none is. Answers which request was the first that
-/// was not made.
+/// Checks that the error is `Memory` if a request fails, and `expected` if none does. Returns the
+/// number of the first request that was not made.
 fn check(
     rt: &impl Abort,
     heap: &Refusing<Global>,
@@ -54,7 +54,7 @@ fn check(
     panic!(rt; "no call was granted")
 }
 
-/// A question, the bytes, and how many requests are made.
+/// A call, the bytes, and the number of requests.
 type Row = (Question, &'static [u8], u64);
 
 static ROWS: [Row; 34] = [
@@ -175,7 +175,8 @@ static ROWS: [Row; 34] = [
         b"\0asm\x01\0\0\0\x0A\x06\x01\x04\x00\x20\x00\x0B",
         1,
     ),
-    // a list asks for its lines alone: labels, elements of both kinds, a first value, an offset and a group of imports are not kept
+    // A listing allocates for its lines only: labels, elements of both kinds, an initializer, an
+    // offset and a group of imports are not kept.
     (
         Question::Module,
         b"\0asm\x01\0\0\0\x0A\x0C\x01\x0A\x01\x01\x7F\x0E\x03\x00\x00\x00\x00\x0B",
@@ -234,7 +235,7 @@ fn sections_with_requests() {
     }
 }
 
-/// Where no section stands, too.
+/// The same for bytes that are not a section.
 #[test]
 fn faults_with_requests() {
     let rt = crate::host::HostRuntime;

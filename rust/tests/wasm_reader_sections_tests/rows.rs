@@ -1,11 +1,11 @@
 // Written by tools/to-rust from tests/wasm_reader_sections_tests/src/rows.rtt: change that.
-// Sections that are read back as their items, with ample memory.
+// Tests of sections that decode to their items, with ample memory.
 
 use dolzhytik::fallible::Vec;
 use crate::seen::{Seen, read};
 use dolzhytik::fallible::Global;
 use crate::host::Abort;
-use dolzhytik::fallible::{R, RefType, ValType};
+use dolzhytik::fallible::{RefType, Result, ValType};
 use dolzhytik::fallible::Op;
 use dolzhytik::reader::SectionKind;
 use dolzhytik::fallible::{EntityType, ExportKind, GlobalType, MemoryType, TableType, TagKind, TagType};
@@ -59,10 +59,10 @@ const SHARED_NUMBER: GlobalType = GlobalType {
     shared: true,
 };
 
-/// A section of the kind, and what is read there.
+/// A kind, a section of it, and the decoded items.
 pub(crate) type Row = (SectionKind, &'static [u8], Seen<'static>);
 
-/// Numbers are in their fewest bytes.
+/// Sections of minimal numbers.
 pub(crate) static ROWS: [Row; 29] = [
     (SectionKind::DataCount, &[2, 128, 1], Seen::Number(128)),
     (SectionKind::Start, &[1, 7], Seen::Number(7)),
@@ -187,7 +187,7 @@ pub(crate) static ROWS: [Row; 29] = [
     ),
 ];
 
-/// Numbers are padded.
+/// Sections of padded numbers.
 pub(crate) static PADDED: [Row; 4] = [
     (
         SectionKind::Functions,
@@ -207,7 +207,7 @@ pub(crate) static PADDED: [Row; 4] = [
     ),
 ];
 
-/// This is read, and so many bytes are taken.
+/// Checks the decoded items, and the length of the section in bytes.
 fn check(
     rt: &impl Abort,
     alloc: Global,
@@ -230,11 +230,11 @@ fn rows() {
     }
 }
 
-/// The data of segments whose length takes two bytes: zeros, and other bytes.
+/// The data of segments whose length has two bytes: zeros, and other bytes.
 pub(crate) static DATA: [[u8; 128]; 2] = [[0; 128], [9; 128]];
 
-/// These bytes, and the data behind them.
-pub(crate) fn before_data(alloc: Global, front: &[u8], data: &[u8]) -> R<Vec<u8>> {
+/// Returns these bytes, and the data after them.
+pub(crate) fn before_data(alloc: Global, front: &[u8], data: &[u8]) -> Result<Vec<u8>> {
     let mut bytes = Vec::from_slice(alloc, front)?;
     bytes.extend_from_slice(data)?;
     Ok(bytes)
@@ -257,10 +257,10 @@ fn passive_data_of_128_bytes() {
     }
 }
 
-/// A function section, and a byte behind it.
+/// A function section, and a byte after it.
 pub(crate) const BEFORE_BYTE: &[u8] = &[2, 1, 5, 0x99];
 
-/// What follows a section is left.
+/// Bytes after a section are left.
 #[test]
 fn bytes_behind() {
     let rt = crate::host::HostRuntime;

@@ -1,5 +1,5 @@
 // Written by tools/to-rust from tests/wasm_reader_sections_tests/src/seen.rtt: change that.
-// Items as plain data: an assertion beside values that own memory takes far longer to prove.
+// Items as plain data: an assertion over values that own memory takes far longer to prove.
 
 use dolzhytik::fallible::Global;
 use dolzhytik::fallible::Op;
@@ -7,16 +7,16 @@ use dolzhytik::reader::{ElementItem, ElementItemMode, ElementList, Items, Sectio
 use dolzhytik::reader::{Arg, Body, Expression};
 use dolzhytik::fallible::{EntityType, ExportKind, GlobalType, Imports, MemoryType, TableType, TagType};
 
-/// A section of no item, or of one.
+/// A section without items, or of one.
 #[derive(Clone, Copy, PartialEq, Debug)]
 pub(crate) enum Seen<'a> {
     Nothing,
-    /// Its runs, its instructions, and the first of these.
+    /// The numbers of its runs and of its instructions, and the first instruction.
     Body(usize, usize, Option<Op>),
     Active(u32, Option<i32>, &'a [u8]),
     Passive(&'a [u8]),
     Number(u32),
-    /// The table, the offset, whether it is of expressions, and how many elements it has.
+    /// The table, the offset, whether it is of expressions, and the number of its elements.
     Element(Option<u32>, Option<i32>, bool, usize),
     Export(&'a str, ExportKind, u32),
     Global(GlobalType, Option<i32>),
@@ -31,7 +31,7 @@ pub(crate) enum Seen<'a> {
     Others,
 }
 
-/// The number of an expression of one `I32Const`.
+/// Returns the number of an expression of one `I32Const`.
 fn constant(expression: &Expression) -> Option<i32> {
     match expression.0.as_slice() {
         [plain] if plain.op == Op::Byte(0x41) => match plain.args.as_slice() {
@@ -109,7 +109,7 @@ fn items_seen<'a>(items: &Items<'a>) -> Seen<'a> {
     }
 }
 
-/// What sections of plain records and of globals and tables are read as.
+/// Returns the items of a section of records without lists, globals or tables.
 fn plain_items_seen<'a>(items: &Items<'a>) -> Seen<'a> {
     match items {
         Items::Exports(exports) => match exports.as_slice() {
@@ -140,7 +140,7 @@ fn plain_items_seen<'a>(items: &Items<'a>) -> Seen<'a> {
     }
 }
 
-/// What a section is read as, and how many bytes it takes.
+/// Decodes a section: returns its items, and its length in bytes.
 pub(crate) fn read<'a>(
     alloc: Global,
     kind: SectionKind,

@@ -1,5 +1,5 @@
 // Written by tools/to-rust from tests/wasm_reader_sections_tests/src/whole.rtt: change that.
-// Whole modules: outlines, and shortest texts.
+// Tests of whole modules: outlines, and minimal encodings.
 
 use dolzhytik::fallible::Vec;
 use crate::checks::check_bytes;
@@ -7,10 +7,11 @@ use crate::read_back::{shortened_twice, smaller_module};
 use dolzhytik::fallible::Global;
 use crate::host::Abort;
 use crate::test_support::{MOST, Refusing};
-use dolzhytik::fallible::R;
+use dolzhytik::fallible::Result;
 use dolzhytik::reader::{ModuleFault, Offsets, Outlined, ReadFault, outline, shorten_module};
 
-/// A type section, a function section, a memory section that is none, a code section and a name section, with padded numbers.
+/// A type section, a function section, bytes that are not a memory section, a code section and a
+/// name section, with padded numbers.
 const PADDED: &[u8] = b"\0asm\x01\0\0\0\
     \x01\x87\x00\x01\x60\x02\x7F\x7F\x01\x7F\
     \x03\x83\x80\x00\x01\x80\x00\
@@ -18,7 +19,7 @@ const PADDED: &[u8] = b"\0asm\x01\0\0\0\
     \x0A\x8B\x00\x01\x88\x00\x00\x20\x80\x00\x20\x01\x6A\x0B\
     \x00\x0C\x84\x00name\x00\x83\x00\x81\x00m";
 
-/// The same with no number padded but the size of what is no memory section.
+/// The same, with no number padded but the size of the memory section that does not decode.
 const SHORTEST: &[u8] = b"\0asm\x01\0\0\0\
     \x01\x07\x01\x60\x02\x7F\x7F\x01\x7F\
     \x03\x02\x01\x00\
@@ -26,7 +27,7 @@ const SHORTEST: &[u8] = b"\0asm\x01\0\0\0\
     \x0A\x09\x01\x07\x00\x20\x00\x20\x01\x6A\x0B\
     \x00\x09\x04name\x00\x02\x01m";
 
-/// A code section behind the header: padded, and in its shortest text.
+/// A code section after the header: padded, and minimal.
 const PADDED_CODE: &[u8] = b"\0asm\x01\0\0\0\x0A\x06\x01\x83\x00\x00\x01\x0B";
 
 const CODE: &[u8] = b"\0asm\x01\0\0\0\x0A\x05\x01\x03\x00\x01\x0B";
@@ -42,8 +43,10 @@ static OFFSETS: [&[u8]; 7] = [
     b"\x00\x09\x08build_id",
 ];
 
-/// Modules with a section whose offsets would be lost, and its number: a source map behind code that would move from 0x18 to 0x14; relocations of a section whose name's length is padded, so that its bytes would
-/// move by 2; and code of padded size beside a section that names a file with offsets into it.
+/// Modules with a section whose offsets would become wrong, and its number: a source map after code
+/// that would move from 0x18 to 0x14; relocations of a section whose name's length is padded, so
+/// that its bytes would move by 2; and code of padded size with a section that names a file with
+/// offsets into it.
 static LOST: [(&[u8], usize); 3] = [
     (
         b"\0asm\x01\0\0\0\x01\x84\x80\x80\x80\x00\x01\x60\x00\x00\x03\x02\x01\x00\
@@ -62,7 +65,8 @@ static LOST: [(&[u8], usize); 3] = [
     ),
 ];
 
-/// Modules that are shortened beside such sections, and what they become: a section behind the code; a type section, where each custom section stays; and a type section before code that stays.
+/// Modules that are minimized with such sections, and the results: a section after the code; a type
+/// section, where each custom section is unchanged; and a type section before unchanged code.
 static SAVED: [(&[u8], &[u8]); 3] = [
     (
         b"\0asm\x01\0\0\0\x01\x04\x01\x60\x00\x00\x03\x02\x01\x00\x0A\x04\x01\x02\x00\x0B\
@@ -84,27 +88,27 @@ static SAVED: [(&[u8], &[u8]); 3] = [
     ),
 ];
 
-/// What stands before in a sink.
+/// The byte in a sink before a call.
 const BEFORE: u8 = 0xAA;
 
-fn both(alloc: Global, front: &[u8], back: &[u8]) -> R<Vec<u8>> {
+fn both(alloc: Global, front: &[u8], back: &[u8]) -> Result<Vec<u8>> {
     let mut bytes = Vec::new(alloc);
     bytes.extend_from_slice(front)?;
     bytes.extend_from_slice(back)?;
     Ok(bytes)
 }
 
-/// What a call answers, and whether the sink has gained the text and nothing else.
+/// The result of a call, and whether the sink gained exactly the expected bytes.
 type Outcome = (Result<usize, ModuleFault>, bool);
 
-/// The call, where the request with this number is refused.
+/// Makes the call, with the request of this number failing.
 fn outcome(
     heap: &Refusing<Global>,
     nth: u64,
     bytes: &[u8],
     offsets: Offsets,
     text: &[u8],
-) -> R<Outcome> {
+) -> Result<Outcome> {
     heap.refuse(0);
     let mut sink = Vec::new(heap);
     sink.push(BEFORE)?;
@@ -122,7 +126,8 @@ fn check(rt: &impl Abort, given: Outcome, expected: Result<usize, ModuleFault>) 
     assert_eq!(rt; given, (expected, true));
 }
 
-/// The text is appended, so many sections are kept, and each request for memory that is refused leaves the sink as it was.
+/// Checks the appended bytes and the number of kept sections. If a request for memory fails, the
+/// sink is unchanged.
 fn check_shortened(
     rt: &impl Abort,
     heap: &Refusing<Global>,
@@ -167,7 +172,7 @@ fn modules() {
     }
 }
 
-/// The callers that prove what comes of a module.
+/// The callers that prove facts about minimized modules.
 #[test]
 fn smaller_modules() {
     let rt = crate::host::HostRuntime;
@@ -209,7 +214,7 @@ fn offsets_that_are_lost_and_kept() {
     }
 }
 
-/// What is no module is not shortened, and has no outline.
+/// Bytes that are not a module are not minimized, and have no outline.
 #[test]
 fn none() {
     let rt = crate::host::HostRuntime;

@@ -1,5 +1,6 @@
 // Written by tools/to-rust from tests/wasm_reader_sections_tests/src/written_back.rtt: change that.
-// What the callers write, read and shorten, once with ample memory, and with each request refused.
+// Tests of the callers that write, decode and minimize, once with ample memory, and with each
+// request failing.
 
 use dolzhytik::fallible::Vec;
 use crate::checks::check_bytes;
@@ -12,7 +13,7 @@ use crate::read_back::stored::{read_bodies, read_data_count, read_elements, read
 use dolzhytik::fallible::Global;
 use crate::host::Abort;
 use crate::test_support::{MOST, Refusing};
-use dolzhytik::fallible::{R, Refused};
+use dolzhytik::fallible::{Refused, Result};
 use dolzhytik::reader::Items;
 use dolzhytik::reader::ReadFault;
 
@@ -23,7 +24,7 @@ const DUMP: &[u8] = b"\0asm\x01\0\0\0\
     \0\x1C\x0Dcoreinstances\x02\0\0\x01\0\x02\0\x01\0\x05\x01\x01\x01\x07\
     \0\x1F\x09corestack\0\x01p\x02\0\0\x01\x02\x01\x01\x01\x7F\x05\0\0\0\x05\x01\x7F\x05\0";
 
-/// The module of what is handed in: tags, a raw body, and a custom section twice.
+/// The module of arguments: tags, a raw body, and a custom section twice.
 const HANDED: &[u8] = b"\0asm\x01\0\0\0\
     \x0D\x05\x02\0\0\0\x03\
     \x0A\x03\x01\x01\x0B\
@@ -37,7 +38,8 @@ const PADDED: &[u8] = b"\0asm\x01\0\0\0\
     \x0B\x09\x01\x02\x01\x41\x80\0\x0B\x01\x05\
     \0\x0E\x04name\x02\x07\x01\0\x01\x80\0\x01a";
 
-/// What a call answers is read as its kind, and it appends these bytes, or answers `Memory` where a request is refused.
+/// Checks that the result decodes as its kind, and that the call appends these bytes. It returns
+/// `Memory` if a request fails.
 ///
 /// # Asks
 ///
@@ -359,14 +361,14 @@ fn padded_segment() {
     })
 }
 
-/// A call makes these bytes, or answers `Memory` where a request is refused.
+/// Checks that a call returns these bytes, or `Memory` if a request fails.
 ///
 /// # Asks
 ///
 /// ```text
 /// requires { F.IsAlwaysCallable make }
 /// ```
-fn check_made<'h, F: Fn(&'h Refusing<Global>) -> R<Vec<u8, &'h Refusing<Global>>>>(
+fn check_made<'h, F: Fn(&'h Refusing<Global>) -> Result<Vec<u8, &'h Refusing<Global>>>>(
     rt: &impl Abort,
     heap: &'h Refusing<Global>,
     expected: &[u8],

@@ -1,5 +1,5 @@
 // Written by tools/to-rust from tests/wasm_reader_tests/src/base.rtt: change that.
-// Numbers, fixed bytes, names, types and immediates, with ample memory.
+// Tests of numbers, fixed-width bytes, names, types and immediates, with ample memory.
 
 use crate::checks::{check_fault, check_read, check_text};
 use crate::host::Abort;
@@ -7,7 +7,7 @@ use dolzhytik::fallible::{AbstractHeapType, HeapType, NoGroups, RefType, ValType
 use dolzhytik::fallible::{BlockType, Catch, Handle, Ieee32, Ieee64, MemArg, MemArgOrdering, Ordering};
 use dolzhytik::reader::ReadFault;
 
-/// These groups were read, and so many bytes are left.
+/// Checks the decoded groups, and the number of remaining bytes.
 fn check_groups(rt: &impl Abort, expected: (u128, u128, u8), left: usize, bytes: &[u8]) {
     match read_groups(bytes, 5) {
         Ok((groups, rest)) => {
@@ -18,7 +18,7 @@ fn check_groups(rt: &impl Abort, expected: (u128, u128, u8), left: usize, bytes:
     }
 }
 
-/// No groups were read, for this cause.
+/// Checks that decoding groups fails with this cause.
 fn check_no_groups(rt: &impl Abort, cause: NoGroups, bytes: &[u8]) {
     match read_groups(bytes, 2) {
         Ok(_) => panic!(rt; "groups"),

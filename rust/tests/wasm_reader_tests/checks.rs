@@ -1,5 +1,5 @@
 // Written by tools/to-rust from tests/wasm_reader_tests/src/checks.rtt: change that.
-// What tests compare, over plain data: an assertion beside values that own memory takes far longer to prove.
+// Assertions over plain data: one over values that own memory takes far longer to prove.
 
 use dolzhytik::fallible::Vec;
 use dolzhytik::fallible::Global;
@@ -7,27 +7,27 @@ use crate::host::Abort;
 use dolzhytik::fallible::Encode;
 use dolzhytik::reader::{ReadFault, Readable};
 
-/// The bytes are these.
+/// Checks the bytes.
 pub(crate) fn check_bytes(rt: &impl Abort, bytes: &[u8], expected: &[u8]) {
     assert_eq!(rt; bytes, expected);
 }
 
-/// The cause is this.
+/// Checks the cause.
 pub(crate) fn check_cause(rt: &impl Abort, given: Option<ReadFault>, expected: ReadFault) {
     assert_eq!(rt; given, Some(expected));
 }
 
-/// The numbers are these.
+/// Checks the numbers.
 pub(crate) fn check_numbers(rt: &impl Abort, given: &[u32], expected: &[u32]) {
     assert_eq!(rt; given, expected);
 }
 
-/// So many bytes were left.
+/// Checks the number of remaining bytes.
 pub(crate) fn check_left(rt: &impl Abort, given: &[u8], expected: usize) {
     assert_eq!(rt; given.len(), expected);
 }
 
-/// Why nothing of the type `T` is read.
+/// Returns the error of decoding a `T`.
 fn fault_of<'a, T: Readable<'a, Global>>(alloc: Global, bytes: &'a [u8]) -> Option<ReadFault> {
     match T::read(bytes, alloc) {
         Ok(_) => None,
@@ -35,7 +35,7 @@ fn fault_of<'a, T: Readable<'a, Global>>(alloc: Global, bytes: &'a [u8]) -> Opti
     }
 }
 
-/// Nothing of the type `T` is read, for this cause.
+/// Checks that decoding a `T` fails with this error.
 pub(crate) fn check_fault<'a, T: Readable<'a, Global>>(
     rt: &impl Abort,
     alloc: Global,
@@ -45,7 +45,7 @@ pub(crate) fn check_fault<'a, T: Readable<'a, Global>>(
     check_cause(rt, fault_of::<T>(alloc, bytes), expected);
 }
 
-/// This value of the type `T` is read, and so many bytes follow it.
+/// Checks the decoded `T`, and the number of remaining bytes.
 pub(crate) fn check_read<'a, T: Readable<'a, Global> + Copy + PartialEq>(
     rt: &impl Abort,
     alloc: Global,
@@ -58,7 +58,7 @@ pub(crate) fn check_read<'a, T: Readable<'a, Global> + Copy + PartialEq>(
     check_left(rt, rest, left);
 }
 
-/// The value of the type `T` that is read has this text, of fewest bytes, and so many bytes follow it.
+/// Checks the minimal encoding of the decoded `T`, and the number of remaining bytes.
 pub(crate) fn check_text<'a, T: Readable<'a, Global> + Encode>(
     rt: &impl Abort,
     alloc: Global,

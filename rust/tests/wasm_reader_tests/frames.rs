@@ -1,18 +1,19 @@
 // Written by tools/to-rust from tests/wasm_reader_tests/src/frames.rtt: change that.
-// Pairs, vectors, frames and flags, with ample memory; the texts of faults.
+// Tests of pairs, vectors, size prefixes and flags, with ample memory, and of the messages of
+// errors.
 
 use dolzhytik::fallible::Vec;
 use crate::checks::{check_fault, check_left, check_numbers};
 use dolzhytik::fallible::Global;
 use crate::host::Abort;
-use dolzhytik::reader::{Framed, ReadFault, Readable, read_optional};
+use dolzhytik::reader::{ReadFault, Readable, SizePrefixed, read_optional};
 
 /// A section of indices.
-type Numbers = Framed<Vec<u32>>;
+type Numbers = SizePrefixed<Vec<u32>>;
 
-/// These numbers are read as a section of indices, and so many bytes follow it.
+/// Checks the indices of a decoded section, and the number of remaining bytes.
 fn check_section(rt: &impl Abort, alloc: Global, bytes: &[u8], expected: &[u32], left: usize) {
-    let (Framed(numbers), rest) = Numbers::read(bytes, alloc).expect("accepted");
+    let (SizePrefixed(numbers), rest) = Numbers::read(bytes, alloc).expect("accepted");
     check_numbers(rt, &numbers, expected);
     check_left(rt, rest, left);
 }
@@ -57,7 +58,7 @@ fn sections_that_are_none() {
         &[7, 1, 0x80, 0x80, 0x80, 0x80, 0x80, 0],
         ReadFault::TooLarge,
     );
-    check_fault::<Framed<Vec<(&str, (u8, u32))>>>(
+    check_fault::<SizePrefixed<Vec<(&str, (u8, u32))>>>(
         &rt,
         alloc,
         &[5, 1, 1, 0xFF, 0, 0],
@@ -65,7 +66,7 @@ fn sections_that_are_none() {
     );
 }
 
-/// What a flag tells, and how many bytes are left.
+/// Checks the value that a flag selects.
 fn check_optional(rt: &impl Abort, given: Option<u64>, expected: Option<u64>) {
     assert_eq!(rt; given, expected);
 }
@@ -85,13 +86,13 @@ fn optional_values() {
     check_left(&rt, rest, 3);
 }
 
-/// The text of the fault is this.
+/// Checks the message of the error.
 fn check_said(rt: &impl Abort, alloc: Global, fault: ReadFault, expected: &str) {
     let said = format!(in alloc; "{fault}").expect("accepted");
     check_same(rt, said.as_str(), expected);
 }
 
-/// The texts are one.
+/// Checks that the strings are equal.
 fn check_same(rt: &impl Abort, given: &str, expected: &str) {
     assert_eq!(rt; given, expected);
 }

@@ -1,5 +1,5 @@
 // Written by tools/to-rust from tests/wasm_reader_tests/src/instructions.rtt: change that.
-// Instructions, expressions and bodies, with ample memory.
+// Tests of instructions, expressions and bodies, with ample memory.
 
 use dolzhytik::fallible::Vec;
 use crate::checks::{check_fault, check_left};
@@ -7,10 +7,11 @@ use dolzhytik::fallible::Global;
 use crate::host::Abort;
 use dolzhytik::fallible::ValType;
 use dolzhytik::fallible::{Op, Part, Shape};
-use dolzhytik::reader::{Framed, ReadFault, Readable};
+use dolzhytik::reader::{ReadFault, Readable, SizePrefixed};
 use dolzhytik::reader::{Arg, Body, Expression, Plain, read_body, read_code};
 
-/// Which argument it is, and a number that it tells: its own, its offset, or how many members it has.
+/// Returns the case of an argument, and a number of it: its own, its offset, or the number of its
+/// members.
 fn said(arg: &Arg) -> (&'static str, i128) {
     match arg {
         Arg::U32(n) => ("u32", i128::from(*n)),
@@ -33,7 +34,7 @@ fn said(arg: &Arg) -> (&'static str, i128) {
     }
 }
 
-/// The argument at this place says this.
+/// Checks the argument at this index.
 fn check_arg(rt: &impl Abort, args: &[Arg], at: usize, expected: (&str, i128)) {
     match args.get(at) {
         Some(arg) => check_said(rt, said(arg), expected),
@@ -53,7 +54,7 @@ fn check_len(rt: &impl Abort, given: usize, expected: usize) {
     assert_eq!(rt; given, expected);
 }
 
-/// All of the bytes are an instruction of this opcode and these arguments.
+/// Checks that all of the bytes are an instruction of this opcode and these arguments.
 fn check(rt: &impl Abort, alloc: Global, bytes: &[u8], op: Op, expected: &[(&str, i128)]) {
     let (plain, rest) = Plain::read(bytes, alloc).expect("accepted");
     check_left(rt, rest, 0);
@@ -226,9 +227,14 @@ fn instructions_that_are_none() {
     );
     check_fault::<Plain>(&rt, alloc, &[0x28, 16, 0], ReadFault::Ended);
     check_fault::<Expression>(&rt, alloc, &[0x41, 0x00], ReadFault::Ended);
-    check_fault::<Framed<Vec<Body>>>(&rt, alloc, &[4, 1, 2, 0, 0x16], ReadFault::UnknownOpcode);
-    check_fault::<Framed<Vec<Body>>>(&rt, alloc, &[6, 1, 4, 0, 40, 16, 0], ReadFault::Ended);
-    check_fault::<Framed<Vec<((ValType, u8), Expression)>>>(
+    check_fault::<SizePrefixed<Vec<Body>>>(
+        &rt,
+        alloc,
+        &[4, 1, 2, 0, 0x16],
+        ReadFault::UnknownOpcode,
+    );
+    check_fault::<SizePrefixed<Vec<Body>>>(&rt, alloc, &[6, 1, 4, 0, 40, 16, 0], ReadFault::Ended);
+    check_fault::<SizePrefixed<Vec<((ValType, u8), Expression)>>>(
         &rt,
         alloc,
         &[10, 1, 0x7F, 0, 0x41, 0x80, 0x80, 0x80, 0x80, 0x70, 0x0B],
@@ -236,7 +242,7 @@ fn instructions_that_are_none() {
     );
 }
 
-/// The first instruction has this opcode and this argument.
+/// Checks the opcode and the argument of the first instruction.
 fn check_first(rt: &impl Abort, code: &[Plain], op: Op, expected: (&str, i128)) {
     match code.first() {
         Some(plain) => {
@@ -293,7 +299,7 @@ fn bodies() {
 #[test]
 fn padded_bodies() {
     let rt = crate::host::HostRuntime;
-    let (Framed(bodies), rest) = <Framed<Vec<Body>>>::read(
+    let (SizePrefixed(bodies), rest) = <SizePrefixed<Vec<Body>>>::read(
         &[5, 1, 3, 0x80, 0, 11],
         rt.alloc(),
     ).expect("accepted");

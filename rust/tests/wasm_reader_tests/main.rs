@@ -1,6 +1,6 @@
 // Written by tools/to-rust from tests/wasm_reader_tests/src/lib.rtt: change that.
-//! Tests of `wasm_reader_base` and `wasm_reader_insn`: bytes that were worked out from the format's documents, and requests for memory
-//! that are refused.
+//! Tests of `wasm_reader_base` and `wasm_reader_insn`: bytes that were worked out from the format's
+//! documents, and failing requests for memory.
 
 #![allow(unused_imports, unused_variables, clippy::all)]
 
@@ -28,13 +28,13 @@ mod frames;
 mod instructions;
 #[cfg(test)]
 #[rustfmt::skip]
-mod passed;
-#[cfg(test)]
-#[rustfmt::skip]
 mod refusals;
 #[cfg(test)]
 #[rustfmt::skip]
 mod shorten;
+#[cfg(test)]
+#[rustfmt::skip]
+mod skip;
 #[cfg(test)]
 #[rustfmt::skip]
 mod walks;

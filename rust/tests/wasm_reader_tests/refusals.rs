@@ -1,5 +1,6 @@
 // Written by tools/to-rust from tests/wasm_reader_tests/src/refusals.rtt: change that.
-// Each request for memory refused in turn: the cause is `Memory`, and a walk stays where it was.
+// Tests with each request for memory failing in turn: the error is `Memory`, and a visitor stays at
+// its offset.
 
 use dolzhytik::fallible::Vec;
 use crate::checks::check_cause;
@@ -7,15 +8,16 @@ use dolzhytik::fallible::Global;
 use crate::host::Abort;
 use crate::test_support::{MOST, Refusing};
 use dolzhytik::fallible::Op;
-use dolzhytik::reader::{Framed, ReadFault, Readable};
+use dolzhytik::reader::{ReadFault, Readable, SizePrefixed};
 use dolzhytik::reader::{Body, Expression, Instructions, Plain, Step};
 
-/// Nothing was refused.
+/// Checks that there is no error.
 fn check_read(rt: &impl Abort, given: Option<ReadFault>) {
     assert_eq!(rt; given, None);
 }
 
-/// The value of the type `T` is read, unless a request is refused, and then the cause is `Memory`. So many requests are made.
+/// Checks that a `T` decodes, or fails with `Memory` if a request fails; and the number of
+/// requests.
 fn check_refusals<'a, T: Readable<'a, &'a Refusing<Global>>>(
     rt: &impl Abort,
     heap: &'a Refusing<Global>,
@@ -38,7 +40,7 @@ fn check_refusals<'a, T: Readable<'a, &'a Refusing<Global>>>(
     panic!(rt; "no call was granted")
 }
 
-/// The first call that was granted is the one after these requests.
+/// Checks that the first successful call is the one after these requests.
 fn check_requests(rt: &impl Abort, nth: u64, requests: u64) {
     assert_eq!(rt; nth, requests.saturating_add(1));
 }
@@ -49,7 +51,7 @@ fn vectors() {
     let heap = Refusing::new(rt.alloc());
     check_refusals::<Vec<u32, &Refusing<Global>>>(&rt, &heap, &[0], 0);
     check_refusals::<Vec<u32, &Refusing<Global>>>(&rt, &heap, &[5, 1, 2, 3, 4, 5], 2);
-    check_refusals::<Framed<Vec<u32, &Refusing<Global>>>>(&rt, &heap, &[2, 1, 5], 1);
+    check_refusals::<SizePrefixed<Vec<u32, &Refusing<Global>>>>(&rt, &heap, &[2, 1, 5], 1);
 }
 
 #[test]
@@ -75,7 +77,7 @@ fn walks_of_bodies() {
     check_cause(&rt, refused, ReadFault::Memory);
 }
 
-/// What a walk answered, and where it is then.
+/// Checks the result of a visitor, and its offset.
 fn check_walk(
     rt: &impl Abort,
     given: Result<Option<Step>, ReadFault>,
@@ -98,18 +100,18 @@ fn walks() {
     };
     heap.refuse(1);
     let answer = walk.next();
-    check_walk(&rt, answer, Err(ReadFault::Memory), walk.place(), 0);
+    check_walk(&rt, answer, Err(ReadFault::Memory), walk.offset(), 0);
     heap.refuse(1);
     let answer = walk.next_before_end();
-    check_walk(&rt, answer, Err(ReadFault::Memory), walk.place(), 0);
+    check_walk(&rt, answer, Err(ReadFault::Memory), walk.offset(), 0);
     let answer = walk.next();
-    check_walk(&rt, answer, Ok(Some(first)), walk.place(), 2);
-    // the memory of its arguments is there
+    check_walk(&rt, answer, Ok(Some(first)), walk.offset(), 2);
+    // The memory of its arguments is there.
     heap.refuse_all();
     let second = Step {
         place: 2,
         op: Op::Byte(0x41),
     };
     let answer = walk.next_before_end();
-    check_walk(&rt, answer, Ok(Some(second)), walk.place(), 4);
+    check_walk(&rt, answer, Ok(Some(second)), walk.offset(), 4);
 }

@@ -1,5 +1,5 @@
 // Written by tools/to-rust from tests/wasm_reader_tests/src/shorten.rtt: change that.
-// What was read is written in its fewest bytes.
+// Tests of the minimal encodings of decoded values.
 
 use dolzhytik::fallible::Vec;
 use crate::checks::{check_bytes, check_cause};
@@ -7,21 +7,21 @@ use dolzhytik::fallible::Global;
 use crate::host::Abort;
 use crate::test_support::{MOST, Refusing};
 use dolzhytik::fallible::{Refused, ValType};
-use dolzhytik::reader::{Framed, ReadFault, Readable, Shorten};
+use dolzhytik::reader::{ReadFault, Readable, Shorten, SizePrefixed};
 use dolzhytik::reader::{Body, Expression, Plain, shorten_body};
 
-/// This was refused.
+/// Checks the error.
 fn check_refused(rt: &impl Abort, given: Option<Refused>, expected: Option<Refused>) {
     assert_eq!(rt; given, expected);
 }
 
-/// The value has this text, unless a request for memory is refused.
+/// Checks that the value encodes to these bytes, unless a request for memory fails.
 fn check_value<T: Shorten>(rt: &impl Abort, alloc: Global, value: &T, text: &[u8]) {
     let heap = Refusing::new(alloc);
     for nth in 1..MOST {
         heap.refuse(nth);
         let mut out = Vec::new(&heap);
-        let refused = value.append_shortest(&mut out).err();
+        let refused = value.append_minimal(&mut out).err();
         if heap.is_waiting() {
             check_refused(rt, refused, None);
             check_bytes(rt, &out, text);
@@ -32,7 +32,7 @@ fn check_value<T: Shorten>(rt: &impl Abort, alloc: Global, value: &T, text: &[u8
     panic!(rt; "no call was granted")
 }
 
-/// The value of the type `T` that is read has this text.
+/// Checks that the decoded `T` encodes to these bytes.
 fn check<'a, T: Readable<'a, Global> + Shorten>(
     rt: &impl Abort,
     alloc: Global,
@@ -59,11 +59,11 @@ fn parts() {
     let alloc = rt.alloc();
     check::<(u32, u32)>(&rt, alloc, &[0x81, 0, 0x82, 0], &[1, 2]);
     check::<Vec<u32>>(&rt, alloc, &[0x82, 0, 0x85, 0, 6], &[2, 5, 6]);
-    check::<Framed<Vec<u32>>>(&rt, alloc, &[0x84, 0, 1, 0x85, 0x80, 0], &[2, 1, 5]);
-    check_value(&rt, alloc, &Framed(7u32), &[1, 7]);
+    check::<SizePrefixed<Vec<u32>>>(&rt, alloc, &[0x84, 0, 1, 0x85, 0x80, 0], &[2, 1, 5]);
+    check_value(&rt, alloc, &SizePrefixed(7u32), &[1, 7]);
 }
 
-/// Frames whose sizes have two bytes.
+/// Size prefixes of two bytes.
 #[test]
 fn long_frames() {
     let rt = crate::host::HostRuntime;
@@ -73,7 +73,7 @@ fn long_frames() {
         .extend_from_slice(&[0x82, 0x01, 0x80, 0x01])
         .expect("accepted");
     bytes.extend_from_slice(&[7; 128]).expect("accepted");
-    check::<Framed<&[u8]>>(&rt, alloc, &bytes, &bytes)
+    check::<SizePrefixed<&[u8]>>(&rt, alloc, &bytes, &bytes)
 }
 
 #[test]
@@ -86,12 +86,13 @@ fn code() {
     check::<Body>(&rt, alloc, &[3, 0x80, 0, 0x0B], &[2, 0, 0x0B])
 }
 
-/// The body was written.
+/// Checks that the body was written.
 fn check_written(rt: &impl Abort, given: Option<ReadFault>) {
     assert_eq!(rt; given, None);
 }
 
-/// The body that the bytes are has this text in its frame, unless a request for memory is refused.
+/// Checks that the body in these bytes encodes to `text`, with its size prefix, unless a request
+/// for memory fails.
 fn check_body(rt: &impl Abort, alloc: Global, bytes: &[u8], text: &[u8]) {
     let heap = Refusing::new(alloc);
     for nth in 1..MOST {

@@ -1,23 +1,23 @@
 // Written by tools/to-rust from tests/wasm_reader_tests/src/walks.rtt: change that.
-// Walks over instructions, with ample memory.
+// Tests of the instruction visitor, with ample memory.
 
 use dolzhytik::fallible::Vec;
 use crate::callers::walks::{count_instructions, place_after};
 use dolzhytik::fallible::Global;
 use crate::host::Abort;
-use dolzhytik::fallible::{R, ValType};
+use dolzhytik::fallible::{Result, ValType};
 use dolzhytik::fallible::Function;
 use dolzhytik::fallible::Op;
 use dolzhytik::reader::ReadFault;
 use dolzhytik::reader::{Instructions, Step};
 use dolzhytik::reader::laws::insn as laws;
 
-/// The step is this.
+/// Checks the step.
 fn check_step(rt: &impl Abort, given: Option<Step>, place: usize, op: Op) {
     assert_eq!(rt; given, Some(Step { place, op }));
 }
 
-/// No instruction is left, and so many bytes were before the end.
+/// Checks that no instruction remains, and the offset of the end.
 fn check_end(rt: &impl Abort, given: Option<Step>, place: usize, expected: usize) {
     assert_eq!(rt; given, None);
     assert_eq!(rt; place, expected);
@@ -27,7 +27,7 @@ fn check_count(rt: &impl Abort, given: usize, expected: usize) {
     assert_eq!(rt; given, expected);
 }
 
-/// Why the walk stopped.
+/// Checks the error of the visitor.
 fn check_stop(rt: &impl Abort, given: Result<Option<Step>, ReadFault>, expected: ReadFault) {
     assert_eq!(rt; given, Err(expected));
 }
@@ -44,7 +44,7 @@ fn bodies() {
     check_count(&rt, walk.args().len(), 2);
     check_step(&rt, walk.next().expect("accepted"), 10, Op::Byte(0x0B));
     check_count(&rt, walk.args().len(), 0);
-    check_end(&rt, walk.next().expect("accepted"), walk.place(), 11);
+    check_end(&rt, walk.next().expect("accepted"), walk.offset(), 11);
     check_count(&rt, walk.rest().len(), 0);
 }
 
@@ -70,20 +70,20 @@ fn expressions() {
     check_end(
         &rt,
         walk.next_before_end().expect("accepted"),
-        walk.place(),
+        walk.offset(),
         21,
     );
     check_end(
         &rt,
         walk.next_before_end().expect("accepted"),
-        walk.place(),
+        walk.offset(),
         21,
     );
     check_count(&rt, walk.rest().len(), 2);
 }
 
-/// A function of a constant, a call and the end, and its length before the constant, before the call and before the end.
-fn function(alloc: Global) -> R<(Vec<u8>, [usize; 3])> {
+/// Returns a function of a constant, a call and the end, and its length before each of the three.
+fn function(alloc: Global) -> Result<(Vec<u8>, [usize; 3])> {
     let mut function = Function::new(alloc, [(300, ValType::I32)])?;
     let begun = function.byte_len();
     function.instructions().i32_const(-65)?;
@@ -100,13 +100,13 @@ fn function(alloc: Global) -> R<(Vec<u8>, [usize; 3])> {
 #[test]
 fn places_that_were_told() {
     let rt = crate::host::HostRuntime;
-    let (body, places) = function(rt.alloc()).expect("accepted");
+    let (body, offsets) = function(rt.alloc()).expect("accepted");
     check_count(
         &rt,
         count_instructions(&body, rt.alloc()).expect("accepted"),
         3,
     );
-    for (count, place) in places.iter().enumerate() {
+    for (count, place) in offsets.iter().enumerate() {
         check_count(
             &rt,
             place_after(&body, count, rt.alloc()).expect("accepted"),
@@ -122,7 +122,7 @@ fn places_that_were_told() {
 
 #[test]
 fn laws_take_no_memory() {
-    laws::places();
+    laws::offsets();
 }
 
 #[test]
@@ -132,7 +132,7 @@ fn walks_that_stop() {
     check_step(&rt, walk.next().expect("accepted"), 0, Op::Byte(0x01));
     check_stop(&rt, walk.next(), ReadFault::UnknownOpcode);
     check_stop(&rt, walk.next_before_end(), ReadFault::UnknownOpcode);
-    check_count(&rt, walk.place(), 1);
+    check_count(&rt, walk.offset(), 1);
     let mut walk = Instructions::new(&[], rt.alloc());
     check_stop(&rt, walk.next_before_end(), ReadFault::Ended);
 }

@@ -1,5 +1,5 @@
 // Written by tools/to-rust from tests/wasm_sections_tests/src/code.rtt: change that.
-// Code: bytes that the format gives.
+// Tests of code: bytes that the format defines.
 
 use dolzhytik::fallible::Vec;
 use crate::checks::{check, check_bytes, check_number, check_piece, check_that};
@@ -7,11 +7,11 @@ use crate::functions::without_locals;
 use crate::callers::bodies::branch_on_one;
 use dolzhytik::fallible::Global;
 use crate::host::Abort;
-use dolzhytik::fallible::{HeapType, R, Section, ValType, add_all};
+use dolzhytik::fallible::{HeapType, Result, Section, ValType, add_all};
 use dolzhytik::fallible::{CodeSection, ConstExpr, Function};
 use dolzhytik::fallible::{Instruction, MemArg, MemArgTarget};
 
-/// A load of memory 0 at offset 0, of this alignment.
+/// Returns a load of memory 0 at offset 0, of this alignment.
 const fn load(align: u32) -> Instruction<'static> {
     Instruction::I32Load(MemArg {
         offset: 0,
@@ -21,8 +21,8 @@ const fn load(align: u32) -> Instruction<'static> {
     })
 }
 
-/// A function without locals that ends at once.
-fn empty_function(alloc: Global) -> R<Function> {
+/// Returns a function without locals that ends at once.
+fn empty_function(alloc: Global) -> Result<Function> {
     let mut function = without_locals(alloc)?;
     function.instructions().end()?;
     Ok(function)
@@ -43,12 +43,12 @@ fn expressions() {
     check(&rt, rt.alloc(), &null, &[0xD0, 0x70, 0x0B])
 }
 
-/// The index is this one.
+/// Checks the index.
 fn check_index(rt: &impl Abort, index: Option<u32>, expected: Option<u32>) {
     assert_eq!(rt; index, expected);
 }
 
-/// What the bytes have as the index of a function.
+/// Checks the index of a function at the front of the bytes.
 fn check_raw(rt: &impl Abort, alloc: Global, bytes: &[u8], expected: Option<u32>) {
     let raw = ConstExpr::raw(alloc, bytes.iter().copied()).expect("accepted");
     check_index(rt, raw.get_ref_func(), expected);
@@ -80,14 +80,14 @@ fn indices_of_given_bytes() {
     }
 }
 
-/// A code section of one function or raw body.
+/// Checks a code section of one function or raw body.
 fn check_body(rt: &impl Abort, alloc: Global, body: &[u8], expected: &[u8]) {
     let mut code = CodeSection::new(alloc);
     code.raw(body).expect("accepted");
     check(rt, alloc, &code, expected)
 }
 
-/// A code section of the function, and one of its raw body.
+/// Checks a code section of the function, and one of its raw body.
 fn check_function(rt: &impl Abort, alloc: Global, function: Function, expected: &[u8]) {
     let mut code = CodeSection::new(alloc);
     code.function(&function).expect("accepted");
@@ -147,7 +147,7 @@ fn no_locals() {
     check_bytes(&rt, &without.into_raw_body(), &[0]);
 }
 
-/// A function that is given its instructions, and written alone.
+/// A function to which instructions are added, and which is encoded alone.
 #[test]
 fn functions() {
     let rt = crate::host::HostRuntime;
@@ -160,7 +160,7 @@ fn functions() {
 }
 
 #[test]
-fn places() {
+fn offsets() {
     let rt = crate::host::HostRuntime;
     let mut function = without_locals(rt.alloc()).expect("accepted");
     check_number(&rt, branch_on_one(&mut function).expect("accepted"), 3);
@@ -168,7 +168,7 @@ fn places() {
     check_bytes(&rt, &function.into_raw_body(), &expected);
 }
 
-/// What is added next stands after as many bytes as the body had.
+/// The next instruction is at the offset that was the length of the body.
 #[test]
 fn the_next_place() {
     let rt = crate::host::HostRuntime;
@@ -182,7 +182,7 @@ fn the_next_place() {
     check_place(&rt, &function.into_raw_body(), place);
 }
 
-/// A constant, and after so many bytes a `Nop`.
+/// Checks that the body is a constant, and a `Nop` at this offset.
 fn check_place(rt: &impl Abort, body: &[u8], place: usize) {
     assert_eq!(rt; body.get(place), Some(&0x01));
     assert_eq!(rt; body, [0x00, 0x41, 0x01, 0x01].as_slice());
@@ -197,7 +197,7 @@ fn empty_code_sections() {
     check(&rt, rt.alloc(), &code, &[1, 0])
 }
 
-/// So many entries, each an empty body.
+/// Checks the entries, each an empty body.
 fn check_entries(rt: &impl Abort, code: &CodeSection, len: u32, byte_len: usize) {
     assert_eq!(rt;
         (code.len(), code.byte_len(), code.is_empty()),
@@ -253,7 +253,7 @@ fn a_sum() {
     check_bytes(&rt, &sink, &[10, 9, 1, 7, 0, 0x20, 0, 0x20, 1, 0x6A, 0x0B]);
 }
 
-/// Bodies are written as they are given, whether they spell one or not.
+/// Bodies are encoded as they are passed, whether they decode or not.
 #[test]
 fn given_bodies() {
     let rt = crate::host::HostRuntime;
@@ -288,7 +288,7 @@ fn alignments_of_16_before_the_end() {
     );
 }
 
-/// Neither piece spells instructions, and both together do.
+/// Neither piece encodes instructions, and both together do.
 #[test]
 fn pieces_of_an_instruction() {
     let rt = crate::host::HostRuntime;

@@ -1,5 +1,6 @@
 // Written by tools/to-rust from tests/wasm_sections_tests/src/code_refusals.rtt: change that.
-// Each request of `wasm_code` for memory refused in turn: the answer is `Memory`, and what was given is as before.
+// Tests with each request of `wasm_code` for memory failing in turn: the result is `Memory`, and
+// the arguments are unchanged.
 
 use dolzhytik::fallible::Vec;
 use crate::checks::{
@@ -9,17 +10,17 @@ use crate::functions::without_locals;
 use dolzhytik::fallible::Global;
 use crate::host::Abort;
 use crate::test_support::{Heap, MOST, Refusing};
-use dolzhytik::fallible::{Counted, CowSlice, Encode, HeapType, R, Section, ValType};
+use dolzhytik::fallible::{Counted, CowSlice, Encode, HeapType, Result, Section, ValType};
 use dolzhytik::fallible::{CodeSection, ConstExpr, Function};
 use dolzhytik::fallible::{Buffer, Ieee32, Ieee64, Instruction};
 
 /// The bytes of a buffer that is full after its first growth.
 const FULL_BUFFER: [u8; 8] = [0x01; 8];
 
-/// How many bytes a function has whose first memory is full.
+/// The length in bytes of a function whose first allocation is full.
 const FULL_BODY: usize = 128;
 
-/// What each constructor and each `with` call stores.
+/// The bytes that each constructor and each `with` call stores.
 static STORED: [&[u8]; 16] = [
     &[0x41, 0x01],
     &[0x41, 0x02],
@@ -41,13 +42,13 @@ static STORED: [&[u8]; 16] = [
     &[0x7E],
 ];
 
-/// The constructor of this place takes no memory.
+/// Returns `true` if the constructor of this index allocates nothing.
 fn takes_none(place: usize) -> bool {
     1 < place && place < 9
 }
 
-/// The constructor of this place in `STORED`.
-fn made(heap: Heap<'_>, place: usize) -> R<ConstExpr<Heap<'_>>> {
+/// Makes the constructor of this index in `STORED`.
+fn made(heap: Heap<'_>, place: usize) -> Result<ConstExpr<Heap<'_>>> {
     match place {
         0 => ConstExpr::raw(heap, [0x41, 0x01]),
         1 => ConstExpr::extended(heap, [Instruction::I32Const(2)]),
@@ -62,8 +63,8 @@ fn made(heap: Heap<'_>, place: usize) -> R<ConstExpr<Heap<'_>>> {
     }
 }
 
-/// The `with` call of this place in `STORED`.
-fn added<'a>(before: ConstExpr<Heap<'a>>, place: usize) -> R<ConstExpr<Heap<'a>>> {
+/// Makes the `with` call of this index in `STORED`.
+fn added<'a>(before: ConstExpr<Heap<'a>>, place: usize) -> Result<ConstExpr<Heap<'a>>> {
     match place {
         2 => before.with_global_get(3),
         3 => before.with_ref_null(HeapType::FUNC),
@@ -82,21 +83,21 @@ fn added<'a>(before: ConstExpr<Heap<'a>>, place: usize) -> R<ConstExpr<Heap<'a>>
     }
 }
 
-/// The bytes are those before, what is stored, and `End`.
+/// Checks that the bytes are those before, the stored ones, and `End`.
 fn check_stored(rt: &impl Abort, bytes: &[u8], before: &[u8], stored: &[u8]) {
     let (front, rest) = bytes.split_at(before.len().min(bytes.len()));
     assert_eq!(rt; front, before);
     assert_eq!(rt; rest.split_last(), Some((&0x0B, stored)));
 }
 
-/// What a call answered of which one request was to be refused: an expression of the bytes before and what is stored, where all
-/// were granted. Answers whether they were.
+/// Checks the result of a call of which one request was to fail: an expression of the bytes before
+/// and the stored ones, if all were granted. Returns whether they were.
 fn check_expression(
     rt: &impl Abort,
     alloc: Global,
     heap: Heap<'_>,
     nth: u64,
-    answer: R<ConstExpr<Heap<'_>>>,
+    answer: Result<ConstExpr<Heap<'_>>>,
     before: &[u8],
     stored: &[u8],
 ) -> bool {
@@ -112,7 +113,7 @@ fn check_expression(
     }
 }
 
-/// The constructor.
+/// Checks the constructor.
 fn check_made(rt: &impl Abort, alloc: Global, place: usize, stored: &[u8]) {
     let heap = Refusing::new(alloc);
     for nth in 1..MOST {
@@ -125,8 +126,9 @@ fn check_made(rt: &impl Abort, alloc: Global, place: usize, stored: &[u8]) {
     panic!(rt; "no call was granted")
 }
 
-/// An expression whose buffer is full, and one whose instruction takes no memory.
-fn begun_expression(heap: Heap<'_>, is_full: bool) -> R<ConstExpr<Heap<'_>>> {
+/// Returns an expression whose buffer is full, or one whose instruction is kept without an
+/// allocation.
+fn begun_expression(heap: Heap<'_>, is_full: bool) -> Result<ConstExpr<Heap<'_>>> {
     if is_full {
         ConstExpr::raw(heap, FULL_BUFFER)
     } else {
@@ -134,7 +136,7 @@ fn begun_expression(heap: Heap<'_>, is_full: bool) -> R<ConstExpr<Heap<'_>>> {
     }
 }
 
-/// The `with` call, on an expression that is begun so.
+/// Checks the `with` call, on an expression that begins so.
 fn check_added(rt: &impl Abort, alloc: Global, place: usize, is_full: bool, stored: &[u8]) {
     let heap = Refusing::new(alloc);
     let before: &[u8] = if is_full { &FULL_BUFFER } else { &[0x23, 0x01] };
@@ -182,7 +184,7 @@ fn expressions_without_memory() {
     }
 }
 
-/// What each call on a function appends. The second takes memory twice.
+/// The bytes that each call on a function appends. The second call makes two requests.
 static GROWN: [&[u8]; 4] = [
     &[0x41, 0x01],
     &[1; FULL_BODY + 1],
@@ -190,8 +192,8 @@ static GROWN: [&[u8]; 4] = [
     &[0x0E, 2, 0, 1, 2],
 ];
 
-/// The call of this place in `GROWN`.
-fn grow(function: &mut Function<Heap<'_>>, place: usize) -> R<()> {
+/// Makes the call of this index in `GROWN`.
+fn grow(function: &mut Function<Heap<'_>>, place: usize) -> Result<()> {
     match place {
         0 => function.instruction(&Instruction::I32Const(1)),
         1 => function.raw([0x01; FULL_BODY + 1]),
@@ -200,11 +202,11 @@ fn grow(function: &mut Function<Heap<'_>>, place: usize) -> R<()> {
     }
 }
 
-fn call_br_table(function: &mut Function<Heap<'_>>) -> R<()> {
+fn call_br_table(function: &mut Function<Heap<'_>>) -> Result<()> {
     function.instructions().br_table([0, 1], 2)
 }
 
-/// The body is as it was and full, and then these bytes or none.
+/// Checks that the body is unchanged and full, and has these bytes or none after it.
 fn check_grown(rt: &impl Abort, granted: bool, body: &[u8], appended: &[u8]) {
     let mut before = [0x01; FULL_BODY];
     before[0] = 0;
@@ -214,7 +216,7 @@ fn check_grown(rt: &impl Abort, granted: bool, body: &[u8], appended: &[u8]) {
     assert_eq!(rt; new, expected);
 }
 
-/// A call on a function whose buffer is full.
+/// Checks a call on a function whose buffer is full.
 fn check_growth(rt: &impl Abort, alloc: Global, place: usize, appended: &[u8]) {
     let heap = Refusing::new(alloc);
     for nth in 1..MOST {
@@ -240,14 +242,14 @@ fn bodies() {
     }
 }
 
-/// An instruction that owns its labels, in the global allocator's memory and in a test's own. `Function::instruction` takes the first
-/// alone, and `append` any.
+/// Appends an instruction that owns its labels, in the global allocator's memory or in a test's
+/// own. `Function::instruction` accepts only the first, and `append` any.
 fn grow_by_owned<'a>(
     function: &mut Function<Heap<'_>>,
     in_global: &Instruction<'_>,
     on_heap: &Instruction<'_, Heap<'a>>,
     place: usize,
-) -> R<()> {
+) -> Result<()> {
     match place {
         0 => function.instruction(in_global),
         1 => function.append(in_global),
@@ -255,7 +257,7 @@ fn grow_by_owned<'a>(
     }
 }
 
-/// A call on a function whose buffer is full. It takes no memory of the labels' allocator.
+/// Checks a call on a function whose buffer is full. It makes no request to the labels' allocator.
 fn check_owned(
     rt: &impl Abort,
     alloc: Global,
@@ -295,8 +297,12 @@ fn instructions_that_own_labels() {
     check_that(&rt, own.requests() == 0);
 }
 
-/// A function of locals, by their runs or by their types, or a copy of one.
-fn begun<'a>(heap: Heap<'a>, given: &Function<Heap<'a>>, place: usize) -> R<Function<Heap<'a>>> {
+/// Returns a function of locals, by their runs or by their types, or a copy of one.
+fn begun<'a>(
+    heap: Heap<'a>,
+    given: &Function<Heap<'a>>,
+    place: usize,
+) -> Result<Function<Heap<'a>>> {
     match place {
         0 => Function::new(heap, [(2, ValType::I32), (1, ValType::I64)]),
         1 => { Function::new_with_locals_types(heap, [ValType::I32, ValType::I32, ValType::I64]) }
@@ -304,13 +310,13 @@ fn begun<'a>(heap: Heap<'a>, given: &Function<Heap<'a>>, place: usize) -> R<Func
     }
 }
 
-/// What a call answered of which one request was to be refused: a function of these locals, where all were granted. Answers whether
-/// they were.
+/// Checks the result of a call of which one request was to fail: a function of these locals, if all
+/// were granted. Returns whether they were.
 fn check_function(
     rt: &impl Abort,
     heap: Heap<'_>,
     nth: u64,
-    answer: R<Function<Heap<'_>>>,
+    answer: Result<Function<Heap<'_>>>,
 ) -> bool {
     match answer {
         Ok(function) => {
@@ -321,7 +327,7 @@ fn check_function(
     }
 }
 
-/// The call of `begun` of this place.
+/// Checks the call of `begun` of this index.
 fn check_begun<'a>(rt: &impl Abort, heap: Heap<'a>, given: &Function<Heap<'a>>, place: usize) {
     for nth in 1..MOST {
         heap.refuse(nth);
@@ -345,8 +351,12 @@ fn functions() {
     }
 }
 
-/// A call that adds the body.
-fn add(code: &mut CodeSection<Heap<'_>>, function: &Function<Heap<'_>>, place: usize) -> R<()> {
+/// Makes a call that adds the body.
+fn add(
+    code: &mut CodeSection<Heap<'_>>,
+    function: &Function<Heap<'_>>,
+    place: usize,
+) -> Result<()> {
     match place {
         0 => code.function(function),
         1 => code.raw(&[0, 11]),
@@ -354,13 +364,13 @@ fn add(code: &mut CodeSection<Heap<'_>>, function: &Function<Heap<'_>>, place: u
     }
 }
 
-/// The section has one empty body, or none.
+/// Checks that the section has one empty body, or none.
 fn check_section(rt: &impl Abort, granted: bool, len: u32, byte_len: usize) {
     let expected = if granted { (1, 3) } else { (0, 0) };
     assert_eq!(rt; (len, byte_len), expected);
 }
 
-/// The call of `add` of this place.
+/// Checks the call of `add` of this index.
 fn check_adding(rt: &impl Abort, heap: Heap<'_>, function: &Function<Heap<'_>>, place: usize) {
     for nth in 1..MOST {
         let mut code = CodeSection::new(heap);
@@ -405,8 +415,13 @@ fn copies_of_expressions() {
     );
 }
 
-/// What a copy answered of which one request was to be refused. Answers whether all were granted.
-fn check_copy(rt: &impl Abort, heap: Heap<'_>, nth: u64, copy: R<CodeSection<Heap<'_>>>) -> bool {
+/// Checks the result of a copy of which one request was to fail. Returns whether all were granted.
+fn check_copy(
+    rt: &impl Abort,
+    heap: Heap<'_>,
+    nth: u64,
+    copy: Result<CodeSection<Heap<'_>>>,
+) -> bool {
     match copy {
         Ok(code) => {
             check_piece(rt, code.piece(0), Some(&[2, 0, 11]));
@@ -431,7 +446,8 @@ fn copies() {
     panic!(rt; "no call was granted")
 }
 
-/// `encode`, into a sink that holds the byte 7. It takes memory once, and none where the sink has room.
+/// Checks `encode`, into a sink that holds the byte 7. It makes one request, and none if the sink
+/// has spare capacity.
 fn check_written<T: Encode>(rt: &impl Abort, alloc: Global, item: &T, expected: &[u8]) {
     let heap = Refusing::new(alloc);
     let mut sink = Vec::with_capacity(&heap, 1).expect("accepted");
@@ -457,7 +473,8 @@ fn written_expressions() {
     check_written(&rt, rt.alloc(), &given, &[0xD2, 3, 0x0B])
 }
 
-/// A sink that is full after the first parts of an expression loses these where the next one is refused.
+/// A sink that is full after the first components of an expression loses these if the next one
+/// fails.
 #[test]
 fn long_expressions() {
     let rt = crate::host::HostRuntime;

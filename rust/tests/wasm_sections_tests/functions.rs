@@ -1,11 +1,11 @@
 // Written by tools/to-rust from tests/wasm_sections_tests/src/functions.rtt: change that.
-// Functions that several tests begin with.
+// Functions with which several tests begin.
 
 use dolzhytik::fallible::Allocator;
-use dolzhytik::fallible::R;
+use dolzhytik::fallible::Result;
 use dolzhytik::fallible::Function;
 
-/// A function without locals, and no instructions yet.
-pub(crate) fn without_locals<A: Allocator>(alloc: A) -> R<Function<A>> {
+/// Returns a function without locals, and without instructions yet.
+pub(crate) fn without_locals<A: Allocator>(alloc: A) -> Result<Function<A>> {
     Function::new(alloc, [])
 }

@@ -1,5 +1,5 @@
 // Written by tools/to-rust from tests/wasm_sections_tests/src/lengths.rtt: change that.
-// Lengths that are too long are answered before any item is asked for.
+// Tests that a length which is too long is an error before any item is requested.
 
 use crate::checks::check_bytes;
 use dolzhytik::fallible::Global;
@@ -8,7 +8,7 @@ use crate::host::Abort;
 use dolzhytik::fallible::{Refused, ValType};
 use dolzhytik::fallible::Function;
 
-/// Runs of one local each, which count how often one was asked for.
+/// An iterator of runs of one local each, which counts the requests for one.
 struct CountedRuns<'a> {
     left: usize,
     asked: &'a Cell<u64>,
@@ -33,12 +33,12 @@ impl ExactSizeIterator for CountedRuns<'_> {
     }
 }
 
-/// The length was too long.
+/// Checks that the length was too long.
 fn check_too_long(rt: &impl Abort, refused: Option<Refused>) {
     assert_eq!(rt; refused, Some(Refused::TooLong));
 }
 
-/// A run was asked for so many times.
+/// Checks the number of requests for a run.
 fn check_asked(rt: &impl Abort, asked: &Cell<u64>, expected: u64) {
     assert_eq!(rt; asked.get(), expected);
 }

@@ -1,6 +1,6 @@
 // Written by tools/to-rust from tests/wasm_sections_tests/src/lib.rtt: change that.
-//! Tests of `wasm_code` and `wasm_sections`: bytes that the format's documents give or that were worked out by hand, and requests for memory
-//! that are refused.
+//! Tests of `wasm_code` and `wasm_sections`: bytes from the format's documents or worked out by
+//! hand, and failing requests for memory.
 
 #![allow(unused_imports, unused_variables, clippy::all)]
 

@@ -1,5 +1,6 @@
 // Written by tools/to-rust from tests/wasm_sections_tests/src/section_refusals.rtt: change that.
-// Each request of `wasm_sections` for memory refused in turn: the answer is `Memory`, and what was given is as before.
+// Tests with each request of `wasm_sections` for memory failing in turn: the result is `Memory`,
+// and the arguments are unchanged.
 
 use dolzhytik::fallible::Vec;
 use crate::checks::{check_answer, check_bytes, check_refused, check_sink, check_that};
@@ -7,14 +8,14 @@ use crate::samples::{GLOBAL, LIMITED_MEMORY, LIMITED_TABLE, SET_GLOBAL, TABLE, T
 use dolzhytik::fallible::Global;
 use crate::host::Abort;
 use crate::test_support::{MOST, Refusing};
-use dolzhytik::fallible::{Counted, CowSlice, Encode, HeapType, R, Refused, Section, add_all};
+use dolzhytik::fallible::{Counted, CowSlice, Encode, HeapType, Refused, Result, Section, add_all};
 use dolzhytik::fallible::ConstExpr;
 use dolzhytik::fallible::{CountedSection, DataCountSection, EntityType, Export, ExportItems, ExportKind, ExportSection, FunctionItems, FunctionSection, GlobalItems, Import, ImportCompact, ImportItems, Imports, ItemKind, MemoryItems, StartSection, TableItems, TagItems};
 
-/// A section that takes its memory from an allocator that refuses.
+/// A section with an allocator that fails requests.
 pub(crate) type OnHeap<'h, K> = CountedSection<K, &'h Refusing<Global>>;
 
-/// The section has this entry alone, or none.
+/// Checks that the section has only this entry, or none.
 fn check_entry(rt: &impl Abort, granted: bool, len: u32, piece: Option<&[u8]>, entry: &[u8]) {
     let expected = if granted { (1, Some(entry)) } else { (0, None) };
     assert_eq!(rt; (len, piece), expected);
@@ -22,17 +23,17 @@ fn check_entry(rt: &impl Abort, granted: bool, len: u32, piece: Option<&[u8]>, e
 
 /// A kind of section, and calls that add an entry to it.
 pub(crate) trait SectionCalls: ItemKind + Sized {
-    /// What the calls are handed.
+    /// The arguments of the calls.
     type Given;
 
     /// The entry that each call makes.
     const ENTRIES: &'static [&'static [u8]];
 
-    /// The call of this place in `ENTRIES`.
-    fn add(section: &mut OnHeap<'_, Self>, given: &Self::Given, place: usize) -> R<()>;
+    /// Makes the call of this index in `ENTRIES`.
+    fn add(section: &mut OnHeap<'_, Self>, given: &Self::Given, place: usize) -> Result<()>;
 }
 
-/// Each call of the kind.
+/// Checks each call of the kind.
 pub(crate) fn check_calls<K: SectionCalls>(
     rt: &impl Abort,
     heap: &Refusing<Global>,
@@ -43,7 +44,8 @@ pub(crate) fn check_calls<K: SectionCalls>(
     }
 }
 
-/// The call of this place makes an entry of these bytes. Where a request is refused, the section is as it was.
+/// Checks that the call of this index makes an entry of these bytes. If a request fails, the
+/// section is unchanged.
 fn check_call<K: SectionCalls>(
     rt: &impl Abort,
     heap: &Refusing<Global>,
@@ -64,7 +66,7 @@ fn check_call<K: SectionCalls>(
     panic!(rt; "no call was granted")
 }
 
-/// What is done with a section of this entry.
+/// Checks the calls on a section of this entry.
 fn check_whole<'h, K: ItemKind>(
     rt: &impl Abort,
     heap: &'h Refusing<Global>,
@@ -76,7 +78,7 @@ fn check_whole<'h, K: ItemKind>(
     check_append_to(rt, heap, section)
 }
 
-/// `clone`
+/// Checks `clone`.
 fn check_clone<'h, K: ItemKind>(
     rt: &impl Abort,
     heap: &'h Refusing<Global>,
@@ -92,12 +94,12 @@ fn check_clone<'h, K: ItemKind>(
     panic!(rt; "no call was granted")
 }
 
-/// What a copy answered of which one request was to be refused. Answers whether all were granted.
+/// Checks the result of a copy of which one request was to fail. Returns whether all were granted.
 fn check_copy<'h, K: ItemKind>(
     rt: &impl Abort,
     heap: &'h Refusing<Global>,
     nth: u64,
-    copy: R<OnHeap<'h, K>>,
+    copy: Result<OnHeap<'h, K>>,
     entry: &[u8],
 ) -> bool {
     match copy {
@@ -109,7 +111,7 @@ fn check_copy<'h, K: ItemKind>(
     }
 }
 
-/// `encode` takes memory once, and none where the sink has room.
+/// Checks that `encode` makes one request, and none if the sink has spare capacity.
 fn check_encode<T: Encode>(rt: &impl Abort, heap: &Refusing<Global>, item: &T) {
     let mut sink = Vec::new(heap);
     heap.refuse(1);
@@ -124,14 +126,14 @@ fn check_encode<T: Encode>(rt: &impl Abort, heap: &Refusing<Global>, item: &T) {
     check_that(rt, heap.is_waiting());
 }
 
-/// The sink held the byte 7, and then the id, or nothing.
+/// Checks that the sink held the byte 7, and has the id or nothing after it.
 fn check_id(rt: &impl Abort, granted: bool, sink: &[u8], id: u8) {
     let expected = if granted { Some(&id) } else { None };
     assert_eq!(rt; sink.first(), Some(&7));
     assert_eq!(rt; sink.get(1), expected);
 }
 
-/// `append_to`
+/// Checks `append_to`.
 fn check_append_to<S: Section>(rt: &impl Abort, heap: &Refusing<Global>, section: &S) {
     for nth in 1..MOST {
         heap.refuse(0);
@@ -152,7 +154,7 @@ impl SectionCalls for FunctionItems {
 
     const ENTRIES: &'static [&'static [u8]] = &[&[128, 1], &[128, 1]];
 
-    fn add(section: &mut OnHeap<'_, Self>, _: &(), place: usize) -> R<()> {
+    fn add(section: &mut OnHeap<'_, Self>, _: &(), place: usize) -> Result<()> {
         match place {
             0 => section.function(128),
             _ => section.add(&128u32),
@@ -172,7 +174,7 @@ impl SectionCalls for GlobalItems {
 
     const ENTRIES: &'static [&'static [u8]] = &[&[127, 0, 65, 42, 11], &[127, 0, 65, 42, 11]];
 
-    fn add(section: &mut OnHeap<'_, Self>, init: &ConstExpr, place: usize) -> R<()> {
+    fn add(section: &mut OnHeap<'_, Self>, init: &ConstExpr, place: usize) -> Result<()> {
         match place {
             0 => section.global(GLOBAL, init),
             _ => section.raw(&[127, 0, 65, 42, 11]),
@@ -197,7 +199,7 @@ impl SectionCalls for TableItems {
         &[64, 0, 112, 0, 128, 1, 208, 112, 11],
     ];
 
-    fn add(section: &mut OnHeap<'_, Self>, init: &ConstExpr, place: usize) -> R<()> {
+    fn add(section: &mut OnHeap<'_, Self>, init: &ConstExpr, place: usize) -> Result<()> {
         match place {
             0 => section.table(LIMITED_TABLE),
             1 => section.add(&LIMITED_TABLE),
@@ -219,7 +221,7 @@ impl SectionCalls for MemoryItems {
 
     const ENTRIES: &'static [&'static [u8]] = &[&[15, 1, 2, 0], &[15, 1, 2, 0]];
 
-    fn add(section: &mut OnHeap<'_, Self>, _: &(), place: usize) -> R<()> {
+    fn add(section: &mut OnHeap<'_, Self>, _: &(), place: usize) -> Result<()> {
         match place {
             0 => section.memory(LIMITED_MEMORY),
             _ => section.add(&LIMITED_MEMORY),
@@ -239,7 +241,7 @@ impl SectionCalls for TagItems {
 
     const ENTRIES: &'static [&'static [u8]] = &[&[0, 3], &[0, 3]];
 
-    fn add(section: &mut OnHeap<'_, Self>, _: &(), place: usize) -> R<()> {
+    fn add(section: &mut OnHeap<'_, Self>, _: &(), place: usize) -> Result<()> {
         match place {
             0 => section.tag(TAG),
             _ => section.add(&TAG),
@@ -265,7 +267,7 @@ impl SectionCalls for ExportItems {
 
     const ENTRIES: &'static [&'static [u8]] = &[&[1, b'm', 2, 0], &[1, b'm', 2, 0]];
 
-    fn add(section: &mut OnHeap<'_, Self>, _: &(), place: usize) -> R<()> {
+    fn add(section: &mut OnHeap<'_, Self>, _: &(), place: usize) -> Result<()> {
         match place {
             0 => section.export("m", ExportKind::Memory, 0),
             _ => section.add(&EXPORT),
@@ -288,10 +290,10 @@ const IMPORT: Import<'static> = Import {
 
 const IMPORT_BYTES: [u8; 6] = [1, b'm', 1, b'f', 32, 5];
 
-/// Imports whose lists are in memory that is refused.
+/// Imports whose lists are in memory of an allocator that fails requests.
 type OwnedImports<'h> = Imports<'h, &'h Refusing<Global>>;
 
-/// A group of one item.
+/// Returns a group of one item.
 fn listed<'h>() -> OwnedImports<'h> {
     Imports::Compact1 {
         module: "m",
@@ -302,7 +304,7 @@ fn listed<'h>() -> OwnedImports<'h> {
     }
 }
 
-/// A group of two names.
+/// Returns a group of two names.
 fn alike<'h>() -> OwnedImports<'h> {
     Imports::Compact2 {
         module: "m",
@@ -322,7 +324,7 @@ impl SectionCalls for ImportItems {
         &[1, b'm', 0, 126, 0, 0, 2, 1, b'a', 1, b'b'],
     ];
 
-    fn add(section: &mut OnHeap<'_, Self>, _: &(), place: usize) -> R<()> {
+    fn add(section: &mut OnHeap<'_, Self>, _: &(), place: usize) -> Result<()> {
         match place {
             0 => section.import("m", "f", EntityType::FunctionExact(5)),
             1 => section.add(&IMPORT),
@@ -340,7 +342,7 @@ fn imports() {
     check_calls::<ImportItems>(&rt, &heap, &())
 }
 
-/// `encode` of a part appends these bytes. Where a request is refused, the sink is as it was.
+/// Checks that these bytes are appended. If a request fails, the sink is unchanged.
 pub(crate) fn check_part<T: Encode>(
     rt: &impl Abort,
     heap: &Refusing<Global>,
@@ -412,7 +414,8 @@ fn parts_of_imports() {
     check_part(&rt, &heap, &alike, &[1, b'm', 0, 126, 0, 0, 1, 1, b'a'])
 }
 
-/// The one request of a clone of an owned list is refused, and then granted. The imports are as they were.
+/// Checks that the clone of an owned list makes one request, which fails and is then granted. The
+/// imports are unchanged.
 fn check_clone_of_imports<'h>(
     rt: &impl Abort,
     heap: &'h Refusing<Global>,
@@ -462,7 +465,7 @@ fn clones_of_owned_names() {
     )
 }
 
-/// A clone of what is borrowed takes no memory.
+/// A clone of a borrowed list allocates nothing.
 #[test]
 fn clones_of_borrowed_imports() {
     let rt = crate::host::HostRuntime;
@@ -498,7 +501,8 @@ fn numbers() {
     check_append_to(&rt, &heap, &count)
 }
 
-/// What `add_all` of 1 and 128 did to an empty section: all, or as many as the answer says. Answers whether it was accepted.
+/// Checks an empty section after `add_all` of 1 and 128: it holds both, or as many as the error
+/// reports. Returns whether the call succeeded.
 fn check_added(rt: &impl Abort, answer: Result<(), (usize, Refused)>, sink: &[u8]) -> bool {
     let expected: &[u8] = match answer {
         Ok(()) => &[4, 2, 1, 128, 1],
@@ -529,7 +533,8 @@ fn adding_all() {
     panic!(rt; "no call was granted")
 }
 
-/// How many of two items were added where a request was refused: as many as the section has.
+/// Checks that as many of two items were added as the error reports, if a request failed. Returns
+/// their number.
 fn check_stopped(rt: &impl Abort, answer: Result<(), (usize, Refused)>, len: u32) -> usize {
     let Err((added, cause)) = answer else {
         panic!(rt; "a refused request was not told")
@@ -539,7 +544,8 @@ fn check_stopped(rt: &impl Abort, answer: Result<(), (usize, Refused)>, len: u32
     added
 }
 
-/// `add_all` where the second item is refused: the room of the first is taken, and no more is given.
+/// `add_all` where the second item fails: the first uses the spare capacity, and no further request
+/// is granted.
 #[test]
 fn adding_one_of_two() {
     let rt = crate::host::HostRuntime;
@@ -562,6 +568,6 @@ fn adding_one_of_two() {
     panic!(rt; "no call was granted")
 }
 
-/// A name that the room of a short entry can't hold.
+/// A name that exceeds the spare capacity of a short entry.
 const LONG: &str =
     "a name of many letters, so that the room that the first entry took is too small for the second one";

@@ -1,5 +1,5 @@
 // Written by tools/to-rust from tests/wasm_sections_tests/src/sections.rtt: change that.
-// Each call of `wasm_sections` once, with ample memory.
+// Tests of each call of `wasm_sections` once, with ample memory.
 
 use dolzhytik::fallible::Vec;
 use crate::checks::{check_bytes, check_piece, check_that};
@@ -10,10 +10,10 @@ use crate::host::Abort;
 use dolzhytik::fallible::{Counted, CowSlice, Encode, HeapType, Section, ValType, add_all};
 use dolzhytik::fallible::ConstExpr;
 use dolzhytik::fallible::Instruction;
-use dolzhytik::fallible::{DataCountSection, EntityType, Export, ExportKind, ExportSection, FunctionSection, GlobalSection, Import, ImportCompact, ImportSection, Imports, MemorySection, PassedImports, StartSection, TableSection, TableType, TagSection};
+use dolzhytik::fallible::{DataCountSection, EntityType, Export, ExportKind, ExportSection, FunctionSection, GlobalSection, Import, ImportCompact, ImportSection, Imports, MemorySection, StartSection, TableSection, TableType, TagSection};
 use dolzhytik::fallible::laws::sections as laws;
 
-/// The section has this id and these bytes.
+/// Checks the id and the bytes of the section.
 pub(crate) fn check<S: Section>(
     rt: &impl Abort,
     alloc: Global,
@@ -29,12 +29,12 @@ pub(crate) fn check<S: Section>(
     check_id(rt, section.id(), sink.first(), id);
 }
 
-/// The section has this id, and so does its text with the id before it.
+/// Checks that the section has this id, and so does its encoding with the id before it.
 fn check_id(rt: &impl Abort, id: u8, first: Option<&u8>, expected: u8) {
     assert_eq!(rt; (id, first), (expected, Some(&expected)));
 }
 
-/// The section has so many entries.
+/// Checks the number of entries.
 fn check_len(rt: &impl Abort, len: u32, expected: u32) {
     assert_eq!(rt; len, expected);
 }
@@ -64,7 +64,7 @@ fn copies() {
     check(&rt, rt.alloc(), &section, 3, &[4, 2, 1, 128, 1])
 }
 
-/// A section of a global of this first value.
+/// Checks a section of a global with this initial value.
 fn check_global(rt: &impl Abort, alloc: Global, value: i32, expected: &[u8]) {
     let mut section = GlobalSection::new(alloc);
     section
@@ -88,7 +88,7 @@ fn globals() {
     check_piece(&rt, section.piece(0), Some(&[126, 3, 11]));
 }
 
-/// An `End` inside a constant expression is written like any other instruction.
+/// An `End` inside a constant expression is encoded like any other instruction.
 #[test]
 fn globals_that_end_early() {
     let rt = crate::host::HostRuntime;
@@ -203,7 +203,7 @@ fn exports() {
     check_piece(&rt, section.piece(1), Some(&[1, b'm', 2, 1]));
 }
 
-/// The kind is written as this byte.
+/// Checks that the kind encodes to this byte.
 fn check_kind(rt: &impl Abort, alloc: Global, kind: ExportKind, byte: u8) {
     let mut sink = Vec::new(alloc);
     kind.encode(&mut sink).expect("accepted");
@@ -224,7 +224,7 @@ fn kinds() {
     }
 }
 
-/// A section of one import.
+/// Checks a section of one import.
 fn check_import(rt: &impl Abort, alloc: Global, import: Imports<'_>, expected: &[u8]) {
     let mut section = ImportSection::new(alloc);
     let same = import.clone().expect("accepted");
@@ -315,7 +315,7 @@ fn owned_groups() {
     )
 }
 
-/// What an import of the type has after its names.
+/// Checks the bytes of an import of the type after its names.
 fn check_entity(rt: &impl Abort, alloc: Global, ty: EntityType, expected: &[u8]) {
     let mut section = ImportSection::new(alloc);
     section.import("m", "f", ty).expect("accepted");
@@ -398,35 +398,27 @@ fn from_callers() {
     check_bytes(&rt, &sink, &expected);
 }
 
-/// A derived `Debug` text.
-#[test]
-fn debug_of_imports_that_are_not_kept() {
-    let rt = crate::host::HostRuntime;
-    let text = format!(in rt.alloc(); "{:?}", PassedImports).expect("accepted");
-    assert_eq!(rt; text.as_str(), "PassedImports");
-}
-
 #[test]
 fn laws_do_nothing() {
     laws::sections();
-    laws::wide();
+    laws::padded();
     laws::calls();
-    laws::wide_calls();
+    laws::padded_calls();
     laws::given_elements::<Global>();
     laws::payloads();
-    laws::wide_payloads();
-    laws::nothing_stands();
+    laws::padded_payloads();
+    laws::rejections();
 }
 
-/// Nor do those of the crates below that callers cite.
+/// Neither do the laws of lower crates that callers cite.
 #[test]
 fn laws_for_callers_do_nothing() {
     dolzhytik::fallible::laws::base::payloads();
-    dolzhytik::fallible::laws::base::wide_payloads();
+    dolzhytik::fallible::laws::base::padded_payloads();
     dolzhytik::fallible::laws::code::payloads();
-    dolzhytik::fallible::laws::code::wide_payloads();
+    dolzhytik::fallible::laws::code::padded_payloads();
     dolzhytik::fallible::laws::code::calls::<Global>();
-    dolzhytik::fallible::laws::code::wide_calls::<Global>();
+    dolzhytik::fallible::laws::code::padded_calls::<Global>();
     laws::plain_export(&Export {
         name: "f",
         kind: ExportKind::Func,

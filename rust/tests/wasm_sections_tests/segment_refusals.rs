@@ -1,5 +1,6 @@
 // Written by tools/to-rust from tests/wasm_sections_tests/src/segment_refusals.rtt: change that.
-// Requests for memory that are refused to calls that add segments, and lengths that are too long.
+// Tests of failing requests for memory in calls that add segments, and of lengths that are too
+// long.
 
 use dolzhytik::fallible::Vec;
 use crate::checks::{check_answer, check_bytes, check_number, check_refused, check_that};
@@ -8,13 +9,13 @@ use dolzhytik::fallible::Global;
 use core::cell::Cell;
 use crate::host::Abort;
 use crate::test_support::{MOST, Refusing};
-use dolzhytik::fallible::{CowSlice, Encode, R, RefType, Refused};
+use dolzhytik::fallible::{CowSlice, Encode, RefType, Refused, Result};
 use dolzhytik::fallible::ConstExpr;
 use dolzhytik::fallible::{DataItems, DataSection, DataSegment, DataSegmentMode, ElementItems, ElementMode, ElementSegment, Elements};
 
 const BYTES: [u8; 2] = [8, 9];
 
-/// Two bytes that are not active.
+/// Returns a passive segment of two bytes.
 fn passive_segment<'a>() -> DataSegment<'a, [u8; 2]> {
     DataSegment {
         mode: DataSegmentMode::Passive,
@@ -33,7 +34,7 @@ impl SectionCalls for DataItems {
         &[1, 0],
     ];
 
-    fn add(section: &mut OnHeap<'_, Self>, offset: &ConstExpr, place: usize) -> R<()> {
+    fn add(section: &mut OnHeap<'_, Self>, offset: &ConstExpr, place: usize) -> Result<()> {
         match place {
             0 => section.active(0, offset, BYTES),
             1 => section.active(1, offset, BYTES),
@@ -52,7 +53,7 @@ fn data() {
     check_calls::<DataItems>(&rt, &heap, &offset)
 }
 
-/// The function 7.
+/// Returns a reference to the function 7.
 fn seventh<'a>() -> Elements<'a> {
     Elements::Functions(CowSlice::Borrowed(&[7]))
 }
@@ -67,7 +68,7 @@ impl SectionCalls for ElementItems {
         &[1, 0, 0],
     ];
 
-    fn add(section: &mut OnHeap<'_, Self>, offset: &ConstExpr, place: usize) -> R<()> {
+    fn add(section: &mut OnHeap<'_, Self>, offset: &ConstExpr, place: usize) -> Result<()> {
         match place {
             0 => section.active(Some(7), offset, seventh()),
             1 => section.passive(seventh()),
@@ -85,22 +86,22 @@ fn elements() {
     check_calls::<ElementItems>(&rt, &heap, &offset)
 }
 
-/// Expressions whose list and members are in memory that is refused.
+/// Expressions whose list and members are in memory of an allocator that fails requests.
 type OwnedElements<'h> = Elements<'h, &'h Refusing<Global>>;
 
-/// One expression, owned.
-fn third<'h>(heap: &'h Refusing<Global>) -> R<OwnedElements<'h>> {
+/// Returns one expression, owned.
+fn third<'h>(heap: &'h Refusing<Global>) -> Result<OwnedElements<'h>> {
     let mut listed = Vec::new(heap);
     listed.push(ConstExpr::ref_func(heap, 3)?)?;
     Ok(Elements::Expressions(RefType::FUNCREF, CowSlice::Owned(listed)))
 }
 
-/// A clone answers a segment of these bytes, or `Memory` where a request was refused.
+/// Checks that a clone is a segment of these bytes, or `Memory` if a request failed.
 fn check_clone<'h>(
     rt: &impl Abort,
     heap: &'h Refusing<Global>,
     nth: u64,
-    copy: R<ElementSegment<'h, &'h Refusing<Global>>>,
+    copy: Result<ElementSegment<'h, &'h Refusing<Global>>>,
     expected: &[u8],
 ) -> bool {
     let granted = heap.is_waiting();
@@ -129,7 +130,8 @@ fn clones() {
     panic!(rt; "no call was granted")
 }
 
-/// A segment of two bytes of this mode, its mode and its bytes cloned where every request is refused: none is made.
+/// Clones a segment of two bytes of this mode, its mode and its bytes, with every request failing:
+/// none is made.
 fn check_cloned_data<'h>(
     rt: &impl Abort,
     heap: &'h Refusing<Global>,
@@ -166,7 +168,7 @@ fn clones_of_data() {
     check_cloned_data(&rt, &heap, DataSegmentMode::Passive, &[1, 2, 8, 9])
 }
 
-/// A mode cloned where every request is refused: none is made.
+/// Clones a mode with every request failing: none is made.
 fn check_cloned_mode<'h>(
     rt: &impl Abort,
     heap: &'h Refusing<Global>,
@@ -197,7 +199,8 @@ fn clones_of_element_modes() {
     check_cloned_mode(&rt, &heap, ElementMode::Declared, &[3, 0, 1, 7])
 }
 
-/// 128 zero bytes go into a sink that has room for their section, where no memory is given; into one of a byte less they do not.
+/// A section of 128 zero bytes fits exactly the spare capacity of a sink, without a request. With
+/// one byte less, `encode` fails.
 #[test]
 fn exact_room() {
     let rt = crate::host::HostRuntime;
@@ -216,7 +219,7 @@ fn exact_room() {
     check_bytes(&rt, &short, &[]);
 }
 
-/// Zero bytes, which count how often one was asked for.
+/// An iterator of zero bytes, which counts the requests for one.
 struct CountedBytes<'a> {
     left: usize,
     asked: &'a Cell<u64>,
@@ -241,13 +244,14 @@ impl ExactSizeIterator for CountedBytes<'_> {
     }
 }
 
-/// The section has one entry of two zero bytes, and a byte was asked for so often.
+/// Checks that the section has one entry of two zero bytes, and the number of requests for a byte.
 fn check_asked(rt: &impl Abort, section: &DataSection, asked: &Cell<u64>, expected: u64) {
     assert_eq!(rt; section.piece(0), Some([1, 2, 0, 0].as_slice()));
     assert_eq!(rt; (section.len(), asked.get()), (1, expected));
 }
 
-/// A length that is too long is answered before any byte is asked for, and the section stays as it was.
+/// A length that is too long is an error before any byte is requested, and the section is
+/// unchanged.
 #[test]
 fn too_many_bytes() {
     let rt = crate::host::HostRuntime;
@@ -269,7 +273,7 @@ fn too_many_bytes() {
     check_asked(&rt, &section, &asked, 0);
 }
 
-/// The first growth refused, to 128 bytes.
+/// The first growth, to 128 bytes, fails.
 #[test]
 fn first_growth() {
     let rt = crate::host::HostRuntime;

@@ -1,17 +1,17 @@
 // Written by tools/to-rust from tests/wasm_sections_tests/src/segments.rtt: change that.
-// Each call that adds a segment once, with ample memory.
+// Tests of each call that adds a segment once, with ample memory.
 
 use dolzhytik::fallible::Vec;
 use crate::checks::check_bytes;
 use crate::sections::check;
 use dolzhytik::fallible::Global;
 use crate::host::Abort;
-use dolzhytik::fallible::{CowSlice, Encode, R, RefType};
+use dolzhytik::fallible::{CowSlice, Encode, RefType, Result};
 use dolzhytik::fallible::ConstExpr;
 use dolzhytik::fallible::{DataSection, DataSegment, DataSegmentMode, ElementMode, ElementSection, ElementSegment, Elements, GlobalSection};
 
-/// A data section of one active segment.
-fn active_data(alloc: Global, memory: u32, offset: i32, bytes: &[u8]) -> R<DataSection> {
+/// Returns a data section of one active segment.
+fn active_data(alloc: Global, memory: u32, offset: i32, bytes: &[u8]) -> Result<DataSection> {
     let mut section = DataSection::new(alloc);
     let offset = ConstExpr::i32_const(alloc, offset)?;
     section.active(memory, &offset, bytes.iter().copied())?;
@@ -37,7 +37,7 @@ fn passive_segments() {
     check(&rt, rt.alloc(), &section, 11, &[7, 2, 1, 2, 1, 2, 1, 0])
 }
 
-/// A segment of the mode, and a clone of it, make one entry.
+/// Checks that a segment of the mode, and a clone of it, make one entry.
 fn check_segment(rt: &impl Abort, alloc: Global, mode: DataSegmentMode<'_>, expected: &[u8]) {
     let segment = DataSegment { mode, bytes: [7u8] };
     let mut section = DataSection::new(alloc);
@@ -69,7 +69,7 @@ fn segments_by_mode() {
     check_segment(&rt, alloc, DataSegmentMode::Passive, &[4, 1, 1, 1, 7])
 }
 
-/// A segment that names memory 0 is written as it is given.
+/// A segment with the explicit memory 0 is encoded as it is passed.
 #[test]
 fn raw_data() {
     let rt = crate::host::HostRuntime;
@@ -89,7 +89,7 @@ fn raw_globals() {
     check(&rt, rt.alloc(), &section, 6, &[6, 1, 127, 0, 65, 42, 11])
 }
 
-/// An element section of one active segment at 0, for this table.
+/// Checks an element section of one active segment at 0, for this table.
 fn check_active(
     rt: &impl Abort,
     alloc: Global,
@@ -105,12 +105,12 @@ fn check_active(
     check(rt, alloc, &section, 9, expected)
 }
 
-/// No functions.
+/// Returns no functions.
 fn no_functions<'a>() -> Elements<'a> {
     Elements::Functions(CowSlice::Borrowed(&[]))
 }
 
-/// No expressions of the type.
+/// Returns no expressions of the type.
 fn no_expressions<'a>(ty: RefType) -> Elements<'a> {
     Elements::Expressions(ty, CowSlice::Borrowed(&[]))
 }
@@ -126,7 +126,8 @@ fn active_functions() {
     check_active(&rt, alloc, Some(7), no_functions(), &seventh)
 }
 
-/// A table that is named and one that is not are one where the expressions have another type than `FUNCREF`.
+/// An explicit table 0 and no table have one encoding, if the expressions have another type than
+/// `FUNCREF`.
 #[test]
 fn active_expressions() {
     let rt = crate::host::HostRuntime;
@@ -165,8 +166,8 @@ fn expressions_without_null() {
     check_active(&rt, rt.alloc(), None, no_expressions(ty), &expected)
 }
 
-/// A passive or declared segment of the function 7.
-fn seventh(alloc: Global) -> R<Elements<'static>> {
+/// Returns a reference to the function 7, for a passive or declared segment.
+fn seventh(alloc: Global) -> Result<Elements<'static>> {
     Ok(Elements::Functions(CowSlice::Owned(Vec::from_slice(alloc, &[7])?)))
 }
 
@@ -195,7 +196,7 @@ fn raw_elements() {
     check(&rt, rt.alloc(), &section, 9, &[4, 1, 1, 0, 0])
 }
 
-/// A segment of the mode, and a clone of it, make one entry.
+/// Checks that a segment of the mode, and a clone of it, make one entry.
 fn check_mode(
     rt: &impl Abort,
     alloc: Global,

@@ -1,5 +1,5 @@
 // Written by tools/to-rust from tests/wasm_tool_tests/src/failures.rtt: change that.
-// Requests for memory that are refused, and reads and writes that fail in mid-stream.
+// Tests of failing requests for memory, and of reads and writes that fail in mid-stream.
 
 use crate::checks::check_that;
 use dolzhytik::fallible::Global;
@@ -8,12 +8,13 @@ use crate::host::Abort;
 use crate::test_support::{EndlessReader, FailingReader, FailingWriter, Heap, MOST, Refusing};
 use dolzhytik::fallible::recipe::{RecipeCause, RecipeFault, assemble, run};
 
-/// A recipe, and what the program writes of it.
+/// A recipe, and the output of the program for it.
 const TEXT: &str = "body 0b";
 
 const MODULE: &[u8] = b"0061736d010000000a040102000b\n";
 
-/// The line of the fault that `assemble` answered, of which one request was refused: 1, then 3, and then none.
+/// Checks the line of the error of `assemble`, of which one request failed: 1, then 3, and then
+/// none.
 fn check_fault(rt: &impl Abort, last: usize, fault: Option<RecipeFault>) -> usize {
     let Some(RecipeFault { line, cause }) = fault else {
         panic!(rt; "a refused request was not told")
@@ -23,7 +24,7 @@ fn check_fault(rt: &impl Abort, last: usize, fault: Option<RecipeFault>) -> usiz
     line
 }
 
-/// Each request that a recipe of two lines, with an empty one between, makes is refused in turn.
+/// Each request of a recipe of two lines, with an empty one between them, fails in turn.
 fn check_recipe(rt: &impl Abort, alloc: Global, text: &str) {
     let heap = Refusing::new(alloc);
     let mut last = 1;
@@ -49,7 +50,7 @@ fn each_request_refused() {
     check_recipe(&rt, rt.alloc(), "name a\n\nname b c");
 }
 
-/// What the program answered and wrote: the module, where it answered 0.
+/// Checks the exit status and the output of the program: the module, if the status is 0.
 fn check_module(rt: &impl Abort, status: u8, out: &[u8]) -> bool {
     let expected = if status == 0 { MODULE } else { &[] };
     assert_eq!(rt; out, expected);
@@ -57,7 +58,7 @@ fn check_module(rt: &impl Abort, status: u8, out: &[u8]) -> bool {
     status == 0
 }
 
-/// `run` without arguments.
+/// Calls `run` without arguments.
 fn run_on<I: Read, O: Write, E: Write>(
     heap: Heap<'_>,
     input: &mut I,
@@ -67,7 +68,7 @@ fn run_on<I: Read, O: Write, E: Write>(
     run(heap, &[], input, out, err)
 }
 
-/// The program says that memory was refused, and where.
+/// Checks that the program reports a failed allocation, and its line.
 fn check_memory(rt: &impl Abort, message: &[u8]) {
     assert!(rt;
         message == b"line 0: out of memory\n".as_slice()
@@ -94,7 +95,8 @@ fn each_request_of_the_program_refused() {
     panic!(rt; "no call was granted")
 }
 
-/// The program says nothing where it could read all, and else that the input is no text.
+/// Checks that the program reports nothing if it could read all, and otherwise that the input is
+/// not text.
 fn check_input(rt: &impl Abort, whole: bool, message: &[u8]) {
     let expected: &[u8] = if whole { &[] } else { b"input: not text\n" };
     assert_eq!(rt; message, expected);
@@ -131,7 +133,8 @@ fn an_endless_input() {
     check_that(&rt, input.reads() == 1048576);
 }
 
-/// A run where one write fails: what it writes goes no further. Answers whether no write failed.
+/// Checks a run in which one write fails: its output is a prefix of the expected one. Returns
+/// whether no write failed.
 fn check_write(
     rt: &impl Abort,
     alloc: Global,

@@ -1,5 +1,5 @@
 // Written by tools/to-rust from tests/wasm_tool_tests/src/listings.rtt: change that.
-// What `--read` gives.
+// Tests of `--read`.
 
 use dolzhytik::fallible::{Vec, String};
 use crate::checks::{check_run, check_that};
@@ -20,7 +20,7 @@ const WHOLE: &str = "0061736d0100000001070160027f7f017f030201000503010001\
 
 const WHOLE_LINES: &str = "1 7 -\n3 2 1\n5 3 1\n6 6 1\n7 5 1\n8 1 1\n10 9 1\n11 8 1\n0 9 -\n";
 
-/// What the program answers and writes for a text.
+/// Checks the exit status and the output of the program for an input.
 fn check_text(
     rt: &impl Abort,
     args: &[String],
@@ -41,7 +41,7 @@ fn check_text(
     );
 }
 
-/// The word `--read`.
+/// Returns the word `--read`.
 fn word(rt: &impl Abort, alloc: Global) -> [String; 1] {
     [String::from_str(alloc, "--read").expect("accepted")]
 }
@@ -103,7 +103,8 @@ fn faults() {
     );
 }
 
-/// What the program answered and wrote where a request was to be refused: the lines where none was, and else that memory was refused.
+/// Checks the result of the program of which a request was to fail: the lines if none failed, and a
+/// failed allocation otherwise.
 fn check_answer(
     rt: &impl Abort,
     granted: bool,
@@ -121,7 +122,7 @@ fn check_answer(
     }
 }
 
-/// The module has these lines, each request refused in turn.
+/// Checks that the module has these lines, with each request failing in turn.
 fn check_refusals(rt: &impl Abort, alloc: Global, text: &str, lines: &str) {
     let heap = Refusing::new(alloc);
     let args = [String::from_str(&heap, "--read").expect("accepted")];

@@ -1,5 +1,6 @@
 // Written by tools/to-rust from tests/wasm_tool_tests/src/lib.rtt: change that.
-//! Tests of `wasm_tool`: what the program writes of recipes and of modules, requests for memory that are refused, and reads and writes that fail.
+//! Tests of `wasm_tool`: the output of the program for recipes and modules, failing requests for
+//! memory, and reads and writes that fail.
 
 #![allow(unused_imports, unused_variables, clippy::all)]
 

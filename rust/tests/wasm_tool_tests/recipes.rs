@@ -1,5 +1,5 @@
 // Written by tools/to-rust from tests/wasm_tool_tests/src/recipes.rtt: change that.
-// What recipes give, with ample memory.
+// Tests of the modules of recipes, with ample memory.
 
 use dolzhytik::fallible::{Vec, String};
 use crate::checks::{check_bytes, check_run};
@@ -7,7 +7,7 @@ use dolzhytik::fallible::Global;
 use crate::host::Abort;
 use dolzhytik::fallible::recipe::{RecipeCause, RecipeFault, assemble, run};
 
-/// What the program answers and writes for a text.
+/// Checks the exit status and the output of the program for an input.
 fn check_text(
     rt: &impl Abort,
     alloc: Global,
@@ -118,7 +118,7 @@ fn inputs_that_are_no_text() {
     );
 }
 
-/// The program with an argument says how it is called.
+/// Checks that the program with an argument prints its usage.
 fn check_argument(rt: &impl Abort, alloc: Global, word: &str) {
     let args = [String::from_str(alloc, word).expect("accepted")];
     let mut out = Vec::new(alloc);
@@ -147,7 +147,7 @@ fn modules_as_bytes() {
     check_bytes(&rt, &bytes, b"\0asm\x01\0\0\0\x0A\x04\x01\x02\0\x0B");
 }
 
-/// The recipe has this fault.
+/// Checks the error of the recipe.
 fn check_fault(rt: &impl Abort, fault: Option<RecipeFault>, line: usize, cause: RecipeCause) {
     assert_eq!(rt; fault, Some(RecipeFault { line, cause }));
 }
@@ -159,7 +159,7 @@ fn first_faults() {
     check_fault(&rt, fault, 2, RecipeCause::BadHex);
 }
 
-/// The text is this.
+/// Checks the string.
 fn check_shown(rt: &impl Abort, text: &str, expected: &str) {
     assert_eq!(rt; text, expected);
 }

@@ -1,5 +1,5 @@
 // Written by tools/to-rust from tests/wasm_types_tests/src/calls.rtt: change that.
-// Each call of a type section once, with ample memory.
+// Tests of each call of a type section once, with ample memory.
 
 use crate::checks::{check, check_bytes, check_len, check_piece, check_that};
 use crate::samples::{BYTE, FLOAT, bytes, continuation, described, function, sub};
@@ -7,7 +7,7 @@ use dolzhytik::fallible::{Encode, HeapType, Module, RefType, ValType};
 use dolzhytik::fallible::{ContType, FuncType, StorageType, SubType, TypeSection};
 use dolzhytik::fallible::laws::types as laws;
 
-/// A reference to the type 5, which may be null.
+/// A nullable reference to the type 5.
 const REFERENCE: RefType = RefType {
     nullable: true,
     heap_type: HeapType::Concrete(5),
@@ -35,7 +35,7 @@ fn functions() {
     check_piece(&rt, section.piece(2), None);
 }
 
-/// A derived `Debug` text.
+/// A derived `Debug` string.
 #[test]
 fn debug_of_an_encoder() {
     let rt = crate::host::HostRuntime;
@@ -67,12 +67,12 @@ fn references() {
 fn function_type() {
     let rt = crate::host::HostRuntime;
     laws::types();
-    laws::wide();
+    laws::padded();
     laws::calls();
-    laws::wide_calls();
+    laws::padded_calls();
     laws::payloads();
-    laws::wide_payloads();
-    laws::nothing_stands();
+    laws::padded_payloads();
+    laws::rejections();
     let ty: FuncType = function(rt.alloc()).expect("accepted");
     let mut section = TypeSection::new(rt.alloc());
     section.ty().func_type(&ty).expect("accepted");

@@ -1,12 +1,12 @@
 // Written by tools/to-rust from tests/wasm_types_tests/src/faults.rtt: change that.
-// Bytes that are no types, and the causes.
+// Tests of bytes that are not types, and their errors.
 
 use dolzhytik::fallible::Global;
 use crate::host::Abort;
 use dolzhytik::reader::ReadFault;
 use dolzhytik::fallible::read_types;
 
-/// The bytes, and the cause.
+/// The bytes, and the error.
 type Row = (&'static [u8], ReadFault);
 
 static ROWS: [Row; 16] = [
@@ -31,7 +31,7 @@ static ROWS: [Row; 16] = [
     (&[1, 0x50, 0, 0x50, 0, 0x5F, 0], ReadFault::UnknownTag),
 ];
 
-/// Nothing is read, for this cause.
+/// Checks that decoding fails with this cause.
 fn check(rt: &impl Abort, alloc: Global, bytes: &[u8], expected: ReadFault) {
     let fault = match read_types(bytes, alloc) {
         Ok(_) => None,

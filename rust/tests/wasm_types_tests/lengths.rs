@@ -1,18 +1,18 @@
 // Written by tools/to-rust from tests/wasm_types_tests/src/lengths.rtt: change that.
-// Lengths that are too long are answered before any item is asked for.
+// Tests that a length which is too long is an error before any item is requested.
 
 use crate::checks::check_text;
 use crate::samples::{BYTE, bytes, sub};
 use dolzhytik::fallible::Global;
 use core::cell::Cell;
 use crate::host::Abort;
-use dolzhytik::fallible::{R, Refused, ValType};
+use dolzhytik::fallible::{Refused, Result, ValType};
 use dolzhytik::fallible::{SubType, TypeSection};
 
 /// One more than a vector can count.
 const TOO_MANY: usize = 4294967296;
 
-/// So many copies of an item, which count how often one was asked for.
+/// An iterator of copies of an item, which counts the requests for one.
 struct Copies<'a, T> {
     item: T,
     left: usize,
@@ -38,12 +38,12 @@ impl<T: Copy> ExactSizeIterator for Copies<'_, T> {
     }
 }
 
-/// So many copies of the item.
+/// Returns an iterator of `left` copies of the item.
 fn copies_of<T: Copy>(item: T, left: usize, asked: &Cell<u64>) -> Copies<'_, T> {
     Copies { item, left, asked }
 }
 
-/// So many arrays of bytes, which count how often one was asked for.
+/// An iterator of arrays of bytes, which counts the requests for one.
 struct Arrays<'a> {
     left: usize,
     asked: &'a Cell<u64>,
@@ -68,13 +68,13 @@ impl ExactSizeIterator for Arrays<'_> {
     }
 }
 
-/// The length was too long, and no item was asked for.
-fn check_too_long(rt: &impl Abort, answer: R<()>, asked: &Cell<u64>) {
+/// Checks that the length was too long, and that no item was requested.
+fn check_too_long(rt: &impl Abort, answer: Result<()>, asked: &Cell<u64>) {
     assert_eq!(rt; answer, Err(Refused::TooLong));
     assert_eq!(rt; asked.get(), 0);
 }
 
-/// Nothing was added.
+/// Checks that nothing was added.
 fn check_unchanged(rt: &impl Abort, alloc: Global, section: &TypeSection) {
     check_text(rt, alloc, section, &[1, 0])
 }

@@ -1,6 +1,6 @@
 // Written by tools/to-rust from tests/wasm_types_tests/src/lib.rtt: change that.
-//! Tests of `wasm_types`: bytes that were worked out by hand from the standard, requests for memory that are refused, lengths that
-//! are too long, and what is read of type sections.
+//! Tests of `wasm_types`: bytes that were worked out by hand from the standard, failing requests
+//! for memory, lengths that are too long, and decoded type sections.
 
 #![allow(unused_imports, unused_variables, clippy::all)]
 

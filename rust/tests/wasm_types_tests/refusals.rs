@@ -1,5 +1,6 @@
 // Written by tools/to-rust from tests/wasm_types_tests/src/refusals.rtt: change that.
-// Each request for memory refused in turn: the answer is `Memory`, and what was given is as before.
+// Tests with each request for memory failing in turn: the result is `Memory`, and the arguments are
+// unchanged.
 
 use dolzhytik::fallible::Vec;
 use crate::checks::{check_answer, check_bytes, check_refused, check_that};
@@ -7,16 +8,16 @@ use crate::samples::{BYTE, FLOAT, continuation, described, final_function, funct
 use dolzhytik::fallible::Global;
 use crate::host::Abort;
 use crate::test_support::{Heap, MOST, Refusing};
-use dolzhytik::fallible::{Encode, R, Section, ValType};
+use dolzhytik::fallible::{Encode, Result, Section, ValType};
 use dolzhytik::fallible::{ContType, FuncType, StorageType, SubType, TypeSection};
 
-/// A type section that takes its memory from an allocator that refuses.
+/// A type section with an allocator that fails requests.
 type Lent<'h> = TypeSection<&'h Refusing<Global>>;
 
-/// A type that takes its memory from there.
+/// A type with such an allocator.
 type LentSub<'h> = SubType<&'h Refusing<Global>>;
 
-/// The item is written as these bytes, where no request is refused.
+/// Checks that the item encodes to these bytes, if no request fails.
 fn check_written<T: Encode>(rt: &impl Abort, heap: Heap<'_>, item: &T, expected: &[u8]) {
     heap.refuse(0);
     let mut sink = Vec::new(heap);
@@ -24,12 +25,13 @@ fn check_written<T: Encode>(rt: &impl Abort, heap: Heap<'_>, item: &T, expected:
     check_bytes(rt, &sink, expected);
 }
 
-/// What a call answered of which one request was to be refused: an item of these bytes. Answers whether all were granted.
+/// Checks the result of a call of which one request was to fail: an item of these bytes, or
+/// `Memory`. Returns whether all were granted.
 fn check_copy<T: Encode>(
     rt: &impl Abort,
     heap: Heap<'_>,
     nth: u64,
-    copy: R<T>,
+    copy: Result<T>,
     expected: &[u8],
 ) -> bool {
     match copy {
@@ -42,7 +44,7 @@ fn check_copy<T: Encode>(
     }
 }
 
-/// The section has this entry alone, or none.
+/// Checks that the section has only this entry, or none.
 fn check_entry(rt: &impl Abort, granted: bool, len: u32, piece: Option<&[u8]>, entry: &[u8]) {
     let expected = if granted { (1, Some(entry)) } else { (0, None) };
     assert_eq!(rt; (len, piece), expected);
@@ -61,8 +63,8 @@ const ENTRIES: &[&[u8]] = &[
     &[0x4E, 1, 0x4F, 1, 0, 0x5D, 0x3F],
 ];
 
-/// The call of this place in `ENTRIES`.
-fn add(section: &mut Lent<'_>, func: &FuncType, ty: &SubType, place: usize) -> R<()> {
+/// Makes the call of this index in `ENTRIES`.
+fn add(section: &mut Lent<'_>, func: &FuncType, ty: &SubType, place: usize) -> Result<()> {
     match place {
         0 => section.ty().func_type(func),
         1 => section.ty().function([ValType::V128], [ValType::I32]),
@@ -75,7 +77,7 @@ fn add(section: &mut Lent<'_>, func: &FuncType, ty: &SubType, place: usize) -> R
 }
 
 /// Adds a group of one type.
-fn add_group(section: &mut Lent<'_>) -> R<()> {
+fn add_group(section: &mut Lent<'_>) -> Result<()> {
     let ty: SubType = sub(true, Some(0), continuation());
     section.ty().rec([ty])
 }
@@ -91,7 +93,8 @@ fn calls() {
     }
 }
 
-/// The call of this place makes an entry of these bytes. Where a request is refused, the section is as it was.
+/// Checks that the call of this index makes an entry of these bytes. If a request fails, the
+/// section is unchanged.
 fn check_call(
     rt: &impl Abort,
     heap: Heap<'_>,
@@ -113,14 +116,14 @@ fn check_call(
     panic!(rt; "no call was granted")
 }
 
-/// What is done with a section of this entry.
+/// Checks the calls on a section of this entry.
 fn check_whole(rt: &impl Abort, heap: Heap<'_>, section: &Lent<'_>, entry: &[u8]) {
     check_clone(rt, heap, section, entry);
     check_encode(rt, heap, section);
     check_append_to(rt, heap, section)
 }
 
-/// `clone`
+/// Checks `clone`.
 fn check_clone(rt: &impl Abort, heap: Heap<'_>, section: &Lent<'_>, entry: &[u8]) {
     for nth in 1..MOST {
         heap.refuse(nth);
@@ -131,12 +134,12 @@ fn check_clone(rt: &impl Abort, heap: Heap<'_>, section: &Lent<'_>, entry: &[u8]
     panic!(rt; "no call was granted")
 }
 
-/// What a copy answered of which one request was to be refused. Answers whether all were granted.
+/// Checks the result of a copy of which one request was to fail. Returns whether all were granted.
 fn check_section_copy(
     rt: &impl Abort,
     heap: Heap<'_>,
     nth: u64,
-    copy: R<Lent<'_>>,
+    copy: Result<Lent<'_>>,
     entry: &[u8],
 ) -> bool {
     match copy {
@@ -148,7 +151,7 @@ fn check_section_copy(
     }
 }
 
-/// `encode` takes memory once, and none where the sink has room.
+/// Checks that `encode` makes one request, and none if the sink has spare capacity.
 fn check_encode<T: Encode>(rt: &impl Abort, heap: Heap<'_>, item: &T) {
     let mut sink = Vec::new(heap);
     heap.refuse(1);
@@ -163,14 +166,14 @@ fn check_encode<T: Encode>(rt: &impl Abort, heap: Heap<'_>, item: &T) {
     check_that(rt, heap.is_waiting());
 }
 
-/// The sink held the byte 7, and then the id of type sections, or nothing.
+/// Checks that the sink held the byte 7, and has the id of type sections or nothing after it.
 fn check_id(rt: &impl Abort, granted: bool, sink: &[u8]) {
     let expected = if granted { Some(&1) } else { None };
     assert_eq!(rt; sink.first(), Some(&7));
     assert_eq!(rt; sink.get(1), expected);
 }
 
-/// `append_to`
+/// Checks `append_to`.
 fn check_append_to(rt: &impl Abort, heap: Heap<'_>, section: &Lent<'_>) {
     for nth in 1..MOST {
         heap.refuse(0);
@@ -205,7 +208,7 @@ fn function_types() {
     panic!(rt; "no call was granted")
 }
 
-/// A copy of the type is written as these bytes, and each of its requests can be refused.
+/// Checks that a copy of the type encodes to these bytes, and that each of its requests can fail.
 fn check_sub(rt: &impl Abort, heap: Heap<'_>, ty: &LentSub<'_>, expected: &[u8]) {
     for nth in 1..MOST {
         heap.refuse(nth);

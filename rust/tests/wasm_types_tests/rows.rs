@@ -1,5 +1,5 @@
 // Written by tools/to-rust from tests/wasm_types_tests/src/rows.rtt: change that.
-// Type sections that are read, behind their size.
+// Tests of decoded type sections, without their size prefix.
 
 use crate::seen::{Section, Seen, Shape, read};
 use dolzhytik::fallible::Global;
@@ -7,19 +7,19 @@ use crate::host::Abort;
 use dolzhytik::fallible::ValType;
 use dolzhytik::fallible::{FieldType, StorageType};
 
-/// A byte that can be set.
+/// A mutable byte.
 const BYTE: FieldType = FieldType {
     element_type: StorageType::I8,
     mutable: true,
 };
 
-/// A short that is never set.
+/// An immutable short.
 const SHORT: FieldType = FieldType {
     element_type: StorageType::I16,
     mutable: false,
 };
 
-/// A number that is never set.
+/// An immutable number.
 const NUMBER: FieldType = FieldType {
     element_type: StorageType::Val(ValType::I64),
     mutable: false,
@@ -55,7 +55,7 @@ const BELOW_ONE: Seen = Seen {
     shape: Shape::Array(BYTE),
 };
 
-/// The bytes, and what is read there.
+/// The bytes, and the decoded section.
 type Row = (&'static [u8], Section);
 
 static ROWS: [Row; 19] = [
@@ -118,7 +118,7 @@ static ROWS: [Row; 19] = [
     (&[2, 0x60, 0, 0, 0x4E, 0], Section::More(2)),
 ];
 
-/// This is read.
+/// Checks the decoded section.
 fn check(rt: &impl Abort, alloc: Global, bytes: &[u8], expected: Section) {
     assert_eq!(rt; read(alloc, bytes), Some(expected));
 }

@@ -3,22 +3,22 @@
 
 use dolzhytik::fallible::Vec;
 use dolzhytik::fallible::Allocator;
-use dolzhytik::fallible::{R, ValType};
+use dolzhytik::fallible::{Result, ValType};
 use dolzhytik::fallible::{ArrayType, CompositeInnerType, CompositeType, ContType, FieldType, FuncType, StorageType, StructType, SubType};
 
-/// A byte that can be set.
+/// A mutable byte.
 pub(crate) const BYTE: FieldType = FieldType {
     element_type: StorageType::I8,
     mutable: true,
 };
 
-/// A float that is never set.
+/// An immutable float.
 pub(crate) const FLOAT: FieldType = FieldType {
     element_type: StorageType::Val(ValType::F64),
     mutable: false,
 };
 
-/// This alone: not shared, and without indices.
+/// Returns this composite type: not shared, and without indices.
 pub(crate) fn plain<A: Allocator>(inner: CompositeInnerType<A>) -> CompositeType<A> {
     CompositeType {
         inner,
@@ -28,29 +28,29 @@ pub(crate) fn plain<A: Allocator>(inner: CompositeInnerType<A>) -> CompositeType
     }
 }
 
-/// An array of bytes.
+/// Returns an array of bytes.
 pub(crate) fn bytes<A: Allocator>() -> CompositeType<A> {
     plain(CompositeInnerType::Array(ArrayType(BYTE)))
 }
 
-/// The continuation of the function type 63.
+/// Returns the continuation of the function type 63.
 pub(crate) fn continuation<A: Allocator>() -> CompositeType<A> {
     plain(CompositeInnerType::Cont(ContType(63)))
 }
 
-/// A structure of a byte and a float.
-pub(crate) fn structure<A: Allocator + Copy>(alloc: A) -> R<StructType<A>> {
+/// Returns a structure of a byte and a float.
+pub(crate) fn structure<A: Allocator + Copy>(alloc: A) -> Result<StructType<A>> {
     Ok(StructType {
         fields: Vec::from_slice(alloc, &[BYTE, FLOAT])?,
     })
 }
 
-/// A function of two numbers that gives one.
-pub(crate) fn function<A: Allocator + Copy>(alloc: A) -> R<FuncType<A>> {
+/// Returns a function of two numbers that returns one.
+pub(crate) fn function<A: Allocator + Copy>(alloc: A) -> Result<FuncType<A>> {
     FuncType::new(alloc, [ValType::I32, ValType::I64], [ValType::F32])
 }
 
-/// A subtype that is final or not, and has a supertype or none.
+/// Returns a subtype that is final or not, with a supertype or none.
 pub(crate) fn sub<A: Allocator>(
     is_final: bool,
     supertype_idx: Option<u32>,
@@ -63,8 +63,9 @@ pub(crate) fn sub<A: Allocator>(
     }
 }
 
-/// A shared structure that describes the type 2 and is described by the type 300, with subtypes and the supertype 1.
-pub(crate) fn described<A: Allocator + Copy>(alloc: A) -> R<SubType<A>> {
+/// Returns a shared structure that describes the type 2 and is described by the type 300, with
+/// subtypes and the supertype 1.
+pub(crate) fn described<A: Allocator + Copy>(alloc: A) -> Result<SubType<A>> {
     let composite = CompositeType {
         inner: CompositeInnerType::Struct(structure(alloc)?),
         shared: true,
@@ -74,8 +75,8 @@ pub(crate) fn described<A: Allocator + Copy>(alloc: A) -> R<SubType<A>> {
     Ok(sub(false, Some(1), composite))
 }
 
-/// A final function type.
-pub(crate) fn final_function<A: Allocator + Copy>(alloc: A) -> R<SubType<A>> {
+/// Returns a final function type.
+pub(crate) fn final_function<A: Allocator + Copy>(alloc: A) -> Result<SubType<A>> {
     Ok(sub(
         true,
         None,

@@ -1,5 +1,5 @@
 // Written by tools/to-rust from tests/wasm_types_tests/src/seen.rtt: change that.
-// What is read as plain data: an assertion beside values that own memory takes far longer to prove.
+// Decoded types as plain data: an assertion over values that own memory takes far longer to prove.
 
 use dolzhytik::fallible::Global;
 use dolzhytik::fallible::ValType;
@@ -20,7 +20,7 @@ pub(crate) enum Shape {
 #[derive(Clone, Copy, PartialEq, Debug)]
 pub(crate) struct Seen {
     pub(crate) is_final: bool,
-    /// How many supertypes it has, and the last of them.
+    /// The number of its supertypes, and the last of them.
     pub(crate) supertypes: (usize, Option<u32>),
     pub(crate) shared: bool,
     pub(crate) describes: Option<u32>,
@@ -32,10 +32,10 @@ pub(crate) struct Seen {
 #[derive(Clone, Copy, PartialEq, Debug)]
 pub(crate) enum Section {
     Empty,
-    /// Of this shape alone: final, without supertypes, and not shared.
+    /// A final type of this shape, without supertypes, and not shared.
     Alone(Shape),
     Single(Seen),
-    /// How many types the group has, and the last of them.
+    /// The number of types in the group, and the last of them.
     Group(usize, Option<Seen>),
     /// More than one item.
     More(usize),
@@ -89,7 +89,7 @@ fn entry_seen(entry: &TypeEntry) -> Section {
     }
 }
 
-/// What the bytes are read as.
+/// Decodes a type section.
 pub(crate) fn read(alloc: Global, bytes: &[u8]) -> Option<Section> {
     match read_types(bytes, alloc) {
         Ok(types) => Some(match types.as_slice() {

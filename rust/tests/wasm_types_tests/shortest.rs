@@ -1,5 +1,5 @@
 // Written by tools/to-rust from tests/wasm_types_tests/src/shortest.rtt: change that.
-// Types that are read and written again, each request for memory refused in turn.
+// Tests of types that are decoded and minimized, with each request for memory failing in turn.
 
 use dolzhytik::fallible::Vec;
 use crate::host::Abort;
@@ -8,7 +8,7 @@ use dolzhytik::fallible::Refused;
 use dolzhytik::reader::ReadFault;
 use dolzhytik::fallible::{TypeEntry, append_types, read_types};
 
-/// Bytes, and the shortest text of the types that stand there.
+/// Bytes, and the minimal encoding of the types in them.
 type Row = (&'static [u8], &'static [u8]);
 
 static ROWS: [Row; 7] = [
@@ -41,7 +41,7 @@ static ROWS: [Row; 7] = [
     ),
 ];
 
-/// The call was granted, or refused for want of memory.
+/// Checks that the call succeeded, or returned `Memory`.
 fn check_read(rt: &impl Abort, fault: Option<ReadFault>, granted: bool) {
     let expected = if granted {
         None
@@ -51,7 +51,7 @@ fn check_read(rt: &impl Abort, fault: Option<ReadFault>, granted: bool) {
     assert_eq!(rt; fault, expected);
 }
 
-/// The sink has the byte 7, and this text where the call was granted.
+/// Checks that the sink has the byte 7, and these bytes after it if the call succeeded.
 fn check_written(
     rt: &impl Abort,
     refused: Option<Refused>,
@@ -68,7 +68,7 @@ fn check_written(
     assert_eq!(rt; sink.split_first(), Some((&7, after)));
 }
 
-/// The types are written as this text.
+/// Checks that the types encode to these bytes.
 fn check_types(rt: &impl Abort, heap: Heap<'_>, types: &[TypeEntry<Heap<'_>>], text: &[u8]) {
     for nth in 1..MOST {
         heap.refuse(0);
@@ -84,7 +84,7 @@ fn check_types(rt: &impl Abort, heap: Heap<'_>, types: &[TypeEntry<Heap<'_>>], t
     panic!(rt; "no call was granted")
 }
 
-/// The types are read, and written as this text.
+/// Checks that the types decode, and encode to these bytes.
 fn check_row(rt: &impl Abort, heap: Heap<'_>, bytes: &[u8], text: &[u8]) {
     for nth in 1..MOST {
         heap.refuse(nth);

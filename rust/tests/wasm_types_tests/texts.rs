@@ -1,5 +1,5 @@
 // Written by tools/to-rust from tests/wasm_types_tests/src/texts.rtt: change that.
-// The text of each type, with ample memory.
+// Tests of the encoding of each type, with ample memory.
 
 use dolzhytik::fallible::Vec;
 use crate::checks::check_text;
@@ -47,7 +47,7 @@ fn continuations() {
     );
 }
 
-/// The parameters and results are these.
+/// Checks the parameters and results.
 fn check_lists(rt: &impl Abort, ty: &FuncType, params: &[ValType], results: &[ValType]) {
     assert_eq!(rt; ty.params(), params);
     assert_eq!(rt; ty.results(), results);
@@ -76,7 +76,7 @@ fn structures() {
     check_text(&rt, rt.alloc(), &same, &[0x5F, 2, 0x78, 1, 0x7C, 0])
 }
 
-/// The inner type and a copy of it are written as these bytes.
+/// Checks that the inner type and a copy of it encode to these bytes.
 fn check_inner(rt: &impl Abort, alloc: Global, inner: CompositeInnerType, expected: &[u8]) {
     check_text(rt, alloc, &inner, expected);
     let same = inner.clone().expect("accepted");
@@ -114,7 +114,7 @@ fn inner_types() {
     )
 }
 
-/// The composite type and a copy of it are written as these bytes.
+/// Checks that the composite type and a copy of it encode to these bytes.
 fn check_composite(rt: &impl Abort, alloc: Global, ty: CompositeType, expected: &[u8]) {
     check_text(rt, alloc, &ty, expected);
     let same = ty.clone().expect("accepted");
@@ -142,7 +142,7 @@ fn composite_types() {
     )
 }
 
-/// The subtype and a copy of it are written as these bytes.
+/// Checks that the subtype and a copy of it encode to these bytes.
 fn check_sub(rt: &impl Abort, alloc: Global, ty: SubType, expected: &[u8]) {
     check_text(rt, alloc, &ty, expected);
     let same = ty.clone().expect("accepted");

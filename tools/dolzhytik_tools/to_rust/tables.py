@@ -85,6 +85,7 @@ CORE_STD = {
     'std::cell::Cell',
     'std::default::Default',
     'std::marker::PhantomData',
+    'std::result',
     'std::slice',
 }
 TURNED_STD = {
@@ -109,7 +110,7 @@ PLACES = [
     Place('wasm_base/src/modules.rt', 'self.bytes.allocator().clone()?', 'self.bytes.allocator().clone()'),
     # A vector with `Clone` is std's.
     Place('callers/src/segments.rt', "segment: &DataSegment<'a, Vec<u8>>", "segment: &DataSegment<'a, std::vec::Vec<u8>>"),
-    Place('callers/src/segments.rt', "-> R<DataSegment<'a, Vec<u8>>>", "-> R<DataSegment<'a, std::vec::Vec<u8>>>"),
+    Place('callers/src/segments.rt', "-> Result<DataSegment<'a, Vec<u8>>>", "-> Result<DataSegment<'a, std::vec::Vec<u8>>>"),
     # The caller's bytes have their own `Clone`.
     Place('wasm_sections/src/data.rt', 'self.bytes.clone()?', 'self.bytes.clone()'),
     # The proof saves the bounds check of bytes that are copied 16 at a time. Rust copies a run of any

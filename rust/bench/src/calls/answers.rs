@@ -1,5 +1,5 @@
 // Written by tools/to-rust from crates/wasm_bench/src/answers.rt: change that.
-// What workloads answer.
+// The results of workloads.
 
 use dolzhytik::fallible::Vec;
 use dolzhytik::fallible::Global;
@@ -9,15 +9,15 @@ use dolzhytik::fallible::NameSection;
 use dolzhytik::fallible::{CountedSection, ItemKind};
 use dolzhytik::fallible::TypeSection;
 
-/// The answer of a workload whose input is wrong, or of which the library has refused a call.
+/// The result of a workload whose input is wrong, or in which a call of the library failed.
 pub const NO_ANSWER: u64 = 18446744073709551615;
 
-/// Why a workload has no answer.
+/// The error of a workload.
 #[derive(Clone, Copy)]
 pub(crate) enum Fault {
-    /// The input is none that the workload reads.
+    /// The input is not one of the workload.
     WrongInput,
-    /// The library has refused a call.
+    /// A call of the library failed.
     Refused,
 }
 
@@ -32,7 +32,7 @@ impl From<Refused> for Fault {
     }
 }
 
-/// Copies the bytes to the front of `out`, where it has room for them, and answers how many they are.
+/// Copies the bytes to the front of `out`, if `out` holds all of them, and returns their number.
 ///
 /// # Proved
 ///
@@ -42,8 +42,8 @@ impl From<Refused> for Fault {
 fn copied(bytes: &[u8], out: &mut [u8]) -> u64 {
     let count = bytes.len();
     if count <= out.len() {
-        let (room, _) = out.split_at_mut(count);
-        room.copy_from_slice(bytes);
+        let (spare, _) = out.split_at_mut(count);
+        spare.copy_from_slice(bytes);
     }
     count as u64
 }
@@ -57,7 +57,8 @@ fn copied(bytes: &[u8], out: &mut [u8]) -> u64 {
 /// content: { Self → List ℕ }
 /// ```
 pub(crate) trait Entries: Section {
-    /// How many bytes the entries have together, without their number; none where these are more than can be counted.
+    /// Returns the length of all entries together in bytes, without their number, or `None` if it
+    /// does not fit 64 bits.
     ///
     /// # Proved
     ///
@@ -89,7 +90,7 @@ impl Entries for NameSection {
     }
 }
 
-/// The entries are asked for one by one, since the section does not tell how many bytes they have.
+/// Adds the lengths of the entries one by one, since the section does not report the total.
 ///
 /// # Defined
 ///
@@ -107,7 +108,7 @@ impl<K: ItemKind> Entries for CountedSection<K> {
     }
 }
 
-/// As of a counted section.
+/// The same as for a counted section.
 ///
 /// # Defined
 ///
@@ -125,13 +126,13 @@ impl Entries for TypeSection {
     }
 }
 
-/// What a workload gives that has built this section: in phase 0 how many bytes its entries have, in phase 1 the section, and in phase 2
-/// a module of this section alone.
+/// Returns the result of a workload that built this section: in phase 0 the length of its entries
+/// in bytes, in phase 1 the section, and in phase 2 a module of this section alone.
 ///
 /// # Proved
 ///
 /// ```text
-/// ensures answers { Answers (S.id_of section.now) (S.content section.now) (S.text section.now) phase out.old out.new result }
+/// ensures answers { Answers (S.id_of section.now) (S.content section.now) (S.encoding section.now) phase out.old out.new result }
 /// ensures wrong { IfErr result (λ fault. fault ≡ faults.WrongInput → 2 < phase) }
 /// ```
 pub(crate) fn answer<S: Entries>(
@@ -156,7 +157,7 @@ pub(crate) fn answer<S: Entries>(
     }
 }
 
-/// The answer as a number.
+/// Returns the result as a number.
 ///
 /// # Proved
 ///

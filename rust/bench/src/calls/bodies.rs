@@ -2,10 +2,10 @@
 // Bodies that have no instructions yet.
 
 use dolzhytik::fallible::Global;
-use dolzhytik::fallible::{R, ValType};
+use dolzhytik::fallible::{Result, ValType};
 use dolzhytik::fallible::Function;
 
-/// A function with these runs of locals.
-pub(crate) fn with_locals(alloc: Global, runs: &[(u32, ValType)]) -> R<Function> {
+/// Returns a function with these runs of locals.
+pub(crate) fn with_locals(alloc: Global, runs: &[(u32, ValType)]) -> Result<Function> {
     Function::new(alloc, runs.iter().copied())
 }

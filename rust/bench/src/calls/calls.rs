@@ -1,5 +1,5 @@
 // Written by tools/to-rust from crates/wasm_bench/src/calls.rt: change that.
-// Named calls of a sink, by the words of a workload.
+// Calls of the instruction sink, by the words of a workload.
 
 use crate::calls::answers::Fault;
 use crate::calls::codes;
@@ -24,7 +24,7 @@ pub(crate) fn mem_arg(words: &mut Words<'_>) -> Result<MemArg, Fault> {
     })
 }
 
-/// A branch by a table: the number of labels, these, and the default one.
+/// Adds a branch by a table: the words are the number of labels, the labels, and the default label.
 ///
 /// # Proved
 ///
@@ -39,7 +39,7 @@ fn table_call(sink: &mut Sink<'_>, words: &mut Words<'_>) -> Result<(), Fault> {
     Ok(())
 }
 
-/// A call through a table: the index of the table, and that of the type.
+/// Adds a call through a table: the words are the index of the table, and the index of the type.
 ///
 /// # Proved
 ///
@@ -53,7 +53,7 @@ fn indirect_call(sink: &mut Sink<'_>, words: &mut Words<'_>) -> Result<(), Fault
     Ok(())
 }
 
-/// Control; no other code is known.
+/// Adds a control instruction. No other codes exist.
 ///
 /// # Proved
 ///
@@ -76,7 +76,7 @@ fn control_call(sink: &mut Sink<'_>, code: u32, words: &mut Words<'_>) -> Result
     }
 }
 
-/// Accesses of memory, and calls without operands; other codes go on.
+/// Adds an access of memory, or an instruction without operands. Passes other codes on.
 ///
 /// # Proved
 ///
@@ -98,7 +98,7 @@ fn plain_call(sink: &mut Sink<'_>, code: u32, words: &mut Words<'_>) -> Result<(
     }
 }
 
-/// Constants; other codes go on.
+/// Adds a constant. Passes other codes on.
 ///
 /// # Proved
 ///
@@ -109,16 +109,16 @@ fn plain_call(sink: &mut Sink<'_>, code: u32, words: &mut Words<'_>) -> Result<(
 fn constant_call(sink: &mut Sink<'_>, code: u32, words: &mut Words<'_>) -> Result<(), Fault> {
     match code {
         codes::I32_CONST => Ok(sink.i32_const(words.next()?.cast_signed())?),
-        codes::I64_CONST => Ok(sink.i64_const(words.wide()?.cast_signed())?),
+        codes::I64_CONST => Ok(sink.i64_const(words.padded()?.cast_signed())?),
         codes::F32_CONST => Ok(sink.f32_const(Ieee32::new(words.next()?))?),
-        codes::F64_CONST => Ok(sink.f64_const(Ieee64::new(words.wide()?))?),
+        codes::F64_CONST => Ok(sink.f64_const(Ieee64::new(words.padded()?))?),
         codes::V128_CONST => Ok(sink.v128_const(i128::from(words.next()?))?),
         codes::REF_FUNC => Ok(sink.ref_func(words.next()?)?),
         _ => plain_call(sink, code, words),
     }
 }
 
-/// Locals and globals; other codes go on.
+/// Adds an access of a local or a global. Passes other codes on.
 ///
 /// # Proved
 ///
@@ -137,8 +137,8 @@ fn variable_call(sink: &mut Sink<'_>, code: u32, words: &mut Words<'_>) -> Resul
     }
 }
 
-/// Reads an instruction, and makes the call of its name. Each of the functions above knows some codes and hands the others on, so
-/// that the compiler makes one jump of them.
+/// Reads an instruction, and makes the call of its name. Each of the functions above handles some
+/// codes and passes the others on, so that the compiler makes one jump of them.
 ///
 /// # Proved
 ///

@@ -1,5 +1,5 @@
 // Written by tools/to-rust from crates/wasm_bench/src/code.rt: change that.
-// Functions and their code.
+// The workload of functions and their code.
 
 use crate::calls::answers::{Fault, answer, number};
 use crate::calls::bodies::with_locals;
@@ -28,7 +28,7 @@ fn add_by_values(function: &mut Function, words: &mut Words<'_>, count: u32) -> 
     Ok(())
 }
 
-/// Reads a function: the number of its instructions, and these.
+/// Reads a function: the number of its instructions, and the instructions.
 fn read_function(alloc: Global, words: &mut Words<'_>, mode: u32) -> Result<Function, Fault> {
     let count = words.next()?;
     let mut function = with_locals(alloc, &[(2, ValType::I32), (1, ValType::F64)])?;
@@ -40,7 +40,7 @@ fn read_function(alloc: Global, words: &mut Words<'_>, mode: u32) -> Result<Func
     Ok(function)
 }
 
-/// Reads the number of functions, and these: in mode 0 by calls, in mode 1 as values.
+/// Reads the number of functions, and the functions: in mode 0 by calls, in mode 1 as values.
 ///
 /// # Proved
 ///
@@ -66,7 +66,7 @@ fn read_code(alloc: Global, words: &[u32], mode: u32) -> Result<CodeSection, Fau
     }
 }
 
-/// Reads functions, and answers their code section.
+/// Reads functions, and returns their code section.
 ///
 /// # Proved
 ///
@@ -85,7 +85,7 @@ fn code_section(
     answer(alloc, &code, phase, out)
 }
 
-/// A code section of the functions that the words tell.
+/// Builds a code section of the functions in the words.
 ///
 /// # Proved
 ///

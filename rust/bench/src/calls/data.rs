@@ -1,25 +1,26 @@
 // Written by tools/to-rust from crates/wasm_bench/src/data.rt: change that.
-// The data section.
+// The workload of the data section.
 
 use crate::calls::answers::{Fault, answer, number};
 use dolzhytik::fallible::Global;
-use dolzhytik::fallible::R;
+use dolzhytik::fallible::Result;
 use dolzhytik::fallible::ConstExpr;
 use dolzhytik::fallible::DataSection;
 
-/// Adds an active segment of these bytes, which begins at this place.
+/// Adds an active segment of these bytes, which begins at the offset `start`.
 ///
 /// # Proved
 ///
 /// ```text
 /// ensures { OnOk result (length section.new ≡ length section.old + 1) }
 /// ```
-fn add(alloc: Global, section: &mut DataSection, start: i32, bytes: &[u8]) -> R<()> {
+fn add(alloc: Global, section: &mut DataSection, start: i32, bytes: &[u8]) -> Result<()> {
     let offset = ConstExpr::i32_const(alloc, start)?;
     section.active(0, &offset, bytes.iter().copied())
 }
 
-/// A section of segments of so many bytes each, but for the last one. All of them begin below 2 GiB.
+/// Returns a section of segments of `segment` bytes each, but for the last one. All of them begin
+/// below 2 GiB.
 ///
 /// # Asks
 ///
@@ -66,7 +67,7 @@ fn data_section(
     answer(alloc, &section, phase, out)
 }
 
-/// A section of active segments of memory 0, one for each so many bytes.
+/// Builds a section of active segments of memory 0, one for each `segment` bytes.
 ///
 /// # Proved
 ///

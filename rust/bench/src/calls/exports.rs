@@ -1,5 +1,5 @@
 // Written by tools/to-rust from crates/wasm_bench/src/exports.rt: change that.
-// The export section.
+// The workload of the export section.
 
 use crate::calls::answers::{Fault, answer, number};
 use crate::calls::kinds::export_kind_of;
@@ -7,7 +7,7 @@ use crate::calls::names::Names;
 use dolzhytik::fallible::Global;
 use dolzhytik::fallible::ExportSection;
 
-/// A section of exports: the length of the name, the kind and the index of each.
+/// Returns a section of exports, from the length of the name, the kind and the index of each.
 ///
 /// # Proved
 ///
@@ -56,7 +56,7 @@ fn export_section(
     answer(alloc, &section, phase, out)
 }
 
-/// A section of exports. The names lie one after another, and have these lengths.
+/// Builds a section of exports. The names lie one after another, and have these lengths.
 ///
 /// # Proved
 ///

@@ -1,19 +1,19 @@
 // Written by tools/to-rust from crates/wasm_bench/src/functions.rt: change that.
-// The function section.
+// The workload of the function section.
 
 use crate::calls::answers::{Fault, answer, number};
 use dolzhytik::fallible::Global;
-use dolzhytik::fallible::R;
+use dolzhytik::fallible::Result;
 use dolzhytik::fallible::FunctionSection;
 
-/// A section of functions of these types.
+/// Returns a section of functions of these types.
 ///
 /// # Proved
 ///
 /// ```text
-/// ensures { IfOk result (λ section. section ≡ map unsigned_text types.now) }
+/// ensures { IfOk result (λ section. section ≡ map unsigned_encoding types.now) }
 /// ```
-fn build(alloc: Global, types: &[u32]) -> R<FunctionSection> {
+fn build(alloc: Global, types: &[u32]) -> Result<FunctionSection> {
     let mut section = FunctionSection::new(alloc);
     for &type_index in types {
         section.function(type_index)?;
@@ -32,7 +32,7 @@ fn function_section(alloc: Global, types: &[u32], phase: u32, out: &mut [u8]) ->
     answer(alloc, &section, phase, out)
 }
 
-/// A section of functions of the types of these indices.
+/// Builds a section of functions of the types of these indices.
 ///
 /// # Proved
 ///

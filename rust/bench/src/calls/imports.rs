@@ -1,5 +1,5 @@
 // Written by tools/to-rust from crates/wasm_bench/src/imports.rt: change that.
-// The import section.
+// The workload of the import section.
 
 use crate::calls::answers::{Fault, answer, number};
 use crate::calls::kinds::export_kind_of;
@@ -8,7 +8,7 @@ use dolzhytik::fallible::Global;
 use dolzhytik::fallible::{RefType, ValType};
 use dolzhytik::fallible::{EntityType, ExportKind, GlobalType, ImportSection, MemoryType, TableType, TagKind, TagType};
 
-/// A table of functions.
+/// Returns a table of functions.
 fn table(minimum: u32) -> EntityType {
     EntityType::Table(TableType {
         element_type: RefType::FUNCREF,
@@ -19,7 +19,7 @@ fn table(minimum: u32) -> EntityType {
     })
 }
 
-/// A memory of 32-bit addresses.
+/// Returns a memory of 32-bit addresses.
 fn memory(minimum: u32) -> EntityType {
     EntityType::Memory(MemoryType {
         minimum: u64::from(minimum),
@@ -30,7 +30,7 @@ fn memory(minimum: u32) -> EntityType {
     })
 }
 
-/// A number of 64 bits, which can be set where the index is odd.
+/// Returns a number of 64 bits, which is mutable if the index is odd.
 fn global(index: u32) -> EntityType {
     EntityType::Global(GlobalType {
         val_type: ValType::I64,
@@ -39,7 +39,7 @@ fn global(index: u32) -> EntityType {
     })
 }
 
-/// The type of an import of this kind. The index is that of a type, or a minimum.
+/// Returns the type of an import of this kind. The index is that of a type, or a minimum.
 fn entity(kind: ExportKind, index: u32) -> EntityType {
     match kind {
         ExportKind::Func => EntityType::Function(index),
@@ -53,7 +53,8 @@ fn entity(kind: ExportKind, index: u32) -> EntityType {
     }
 }
 
-/// A section of imports: the lengths of the module and the name, the kind and the index of each.
+/// Returns a section of imports, from the lengths of the module and the name, the kind and the
+/// index of each.
 ///
 /// # Proved
 ///
@@ -106,7 +107,8 @@ fn import_section(
     answer(alloc, &section, phase, out)
 }
 
-/// A section of imports. The modules and names lie one after another by turns, and have these lengths.
+/// Builds a section of imports. The modules and names alternate, lie one after another, and have
+/// these lengths.
 ///
 /// # Proved
 ///

@@ -4,7 +4,7 @@
 use crate::calls::answers::Fault;
 use dolzhytik::fallible::ExportKind;
 
-/// The kind of this number.
+/// Returns the kind of this number.
 ///
 /// # Proved
 ///

@@ -1,14 +1,14 @@
 // Written by tools/to-rust from crates/wasm_bench/src/line.rt: change that.
-// A long line of calls.
+// The workload of a long line of calls.
 
 use crate::calls::answers::{Fault, answer, number};
 use crate::calls::bodies::with_locals;
 use dolzhytik::fallible::Global;
-use dolzhytik::fallible::R;
+use dolzhytik::fallible::Result;
 use dolzhytik::fallible::{CodeSection, Function};
 use dolzhytik::fallible::{InstructionSink, MemArg, MemArgTarget};
 
-/// Eight calls, with four operands.
+/// Makes eight calls, with four operands.
 ///
 /// # Proved
 ///
@@ -21,7 +21,7 @@ fn eight_calls(
     constant: u32,
     callee: u32,
     offset: u32,
-) -> R<()> {
+) -> Result<()> {
     let argument = MemArg {
         offset: u64::from(offset),
         align: 2,
@@ -38,7 +38,7 @@ fn eight_calls(
     sink.end()
 }
 
-/// A function of eight calls for each four operands.
+/// Returns a function of eight calls for each four operands.
 fn long_line(alloc: Global, operands: &[u32]) -> Result<Function, Fault> {
     let (rows, others) = operands.as_chunks::<4>();
     if !others.is_empty() {
@@ -65,7 +65,8 @@ fn line_section(alloc: Global, operands: &[u32], phase: u32, out: &mut [u8]) -> 
     answer(alloc, &code, phase, out)
 }
 
-/// A code section of one function: eight calls for each four operands, with nothing to decode.
+/// Builds a code section of one function: eight calls for each four operands, with nothing to
+/// decode.
 ///
 /// # Proved
 ///

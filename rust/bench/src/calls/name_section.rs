@@ -1,12 +1,12 @@
 // Written by tools/to-rust from crates/wasm_bench/src/name_section.rt: change that.
-// The name section.
+// The workload of the name section.
 
 use crate::calls::answers::{Fault, answer, number};
 use crate::calls::names::Names;
 use dolzhytik::fallible::Global;
 use dolzhytik::fallible::{NameMap, NameSection};
 
-/// The names of functions: the length and the index of each.
+/// Returns the names of functions, from the length and the index of each.
 ///
 /// # Proved
 ///
@@ -49,7 +49,8 @@ fn name_section(
     answer(alloc, &section, phase, out)
 }
 
-/// A name section of the names of functions. The names lie one after another, and have these lengths.
+/// Builds a name section of the names of functions. The names lie one after another, and have these
+/// lengths.
 ///
 /// # Proved
 ///

@@ -3,13 +3,13 @@
 
 use crate::calls::answers::Fault;
 
-/// Names that are cut from a text one after another.
+/// Splits a string into names, one after another.
 pub(crate) struct Names<'a> {
     rest: &'a str,
 }
 
 impl<'a> Names<'a> {
-    /// The bytes have to be UTF-8.
+    /// Returns the names in these bytes, or an error if they are not UTF-8.
     ///
     /// # Proved
     ///
@@ -19,12 +19,12 @@ impl<'a> Names<'a> {
     /// ```
     pub(crate) fn new(bytes: &'a [u8]) -> Result<Self, Fault> {
         match str::from_utf8(bytes) {
-            Ok(text) => Ok(Names { rest: text }),
+            Ok(encoding) => Ok(Names { rest: encoding }),
             Err(_) => Err(Fault::WrongInput),
         }
     }
 
-    /// Whether no byte is left.
+    /// Returns `true` if no byte remains.
     ///
     /// # Proved
     ///
@@ -35,7 +35,7 @@ impl<'a> Names<'a> {
         self.rest.is_empty()
     }
 
-    /// The name of so many bytes.
+    /// Returns the name of the next `count` bytes.
     ///
     /// # Proved
     ///

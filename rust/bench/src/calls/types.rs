@@ -1,12 +1,12 @@
 // Written by tools/to-rust from crates/wasm_bench/src/types.rt: change that.
-// The type section.
+// The workload of the type section.
 
 use crate::calls::answers::{Fault, answer, number};
 use dolzhytik::fallible::Global;
 use dolzhytik::fallible::ValType;
 use dolzhytik::fallible::TypeSection;
 
-/// The type of numbers of this code.
+/// Returns the number type of this code.
 fn val_type(code: u8) -> Result<ValType, Fault> {
     match code {
         0 => Ok(ValType::I32),
@@ -17,14 +17,14 @@ fn val_type(code: u8) -> Result<ValType, Fault> {
     }
 }
 
-/// The types of a word: a byte for each of three parameters and for the result.
+/// Returns the types of a word: a byte for each of three parameters and for the result.
 fn types_of(word: u32) -> Result<([ValType; 3], ValType), Fault> {
     let [first, second, third, result] = word.to_le_bytes();
     let params = [val_type(first)?, val_type(second)?, val_type(third)?];
     Ok((params, val_type(result)?))
 }
 
-/// A section of a function type for each word.
+/// Returns a section of a function type for each word.
 ///
 /// # Proved
 ///
@@ -51,7 +51,8 @@ fn type_section(alloc: Global, words: &[u32], phase: u32, out: &mut [u8]) -> Res
     answer(alloc, &section, phase, out)
 }
 
-/// A section of function types, each of three parameters and a result, whose types a word tells.
+/// Builds a section of function types, each of three parameters and a result, whose types a word
+/// encodes.
 ///
 /// # Proved
 ///

@@ -8,7 +8,8 @@ use crate::calls::words::Words;
 use dolzhytik::fallible::{CowSlice, ValType};
 use dolzhytik::fallible::{BlockType, Ieee32, Ieee64, Instruction, Numeric, VectorImmediate};
 
-/// A branch by a table: the number of labels, these, and the default one.
+/// Returns a branch by a table: the words are the number of labels, the labels, and the default
+/// label.
 fn table<'a>(words: &mut Words<'a>) -> Result<Instruction<'a>, Fault> {
     let count = words.next()?;
     let labels = words.take(count)?;
@@ -16,7 +17,7 @@ fn table<'a>(words: &mut Words<'a>) -> Result<Instruction<'a>, Fault> {
     Ok(Instruction::BrTable(CowSlice::Borrowed(labels), default))
 }
 
-/// A call through a table: the index of the table, and that of the type.
+/// Returns a call through a table: the words are the index of the table, and the index of the type.
 fn indirect<'a>(words: &mut Words<'a>) -> Result<Instruction<'a>, Fault> {
     let table_index = words.next()?;
     let type_index = words.next()?;
@@ -26,7 +27,7 @@ fn indirect<'a>(words: &mut Words<'a>) -> Result<Instruction<'a>, Fault> {
     })
 }
 
-/// Control; no other code is known.
+/// Returns a control instruction. No other codes exist.
 #[inline]
 fn control<'a>(code: u32, words: &mut Words<'a>) -> Result<Instruction<'a>, Fault> {
     match code {
@@ -43,7 +44,7 @@ fn control<'a>(code: u32, words: &mut Words<'a>) -> Result<Instruction<'a>, Faul
     }
 }
 
-/// Accesses of memory, and instructions without operands; other codes go on.
+/// Returns an access of memory, or an instruction without operands. Passes other codes on.
 #[inline]
 fn plain<'a>(code: u32, words: &mut Words<'a>) -> Result<Instruction<'a>, Fault> {
     match code {
@@ -59,26 +60,26 @@ fn plain<'a>(code: u32, words: &mut Words<'a>) -> Result<Instruction<'a>, Fault>
     }
 }
 
-/// A vector of these low bits.
+/// Returns a vector of these low bits.
 fn vector<'a>(low: u32) -> Instruction<'a> {
     Instruction::VectorImmediate(VectorImmediate::V128Const(i128::from(low)))
 }
 
-/// Constants; other codes go on.
+/// Returns a constant. Passes other codes on.
 #[inline]
 fn constant<'a>(code: u32, words: &mut Words<'a>) -> Result<Instruction<'a>, Fault> {
     match code {
         codes::I32_CONST => Ok(Instruction::I32Const(words.next()?.cast_signed())),
-        codes::I64_CONST => Ok(Instruction::I64Const(words.wide()?.cast_signed())),
+        codes::I64_CONST => Ok(Instruction::I64Const(words.padded()?.cast_signed())),
         codes::F32_CONST => Ok(Instruction::F32Const(Ieee32::new(words.next()?))),
-        codes::F64_CONST => Ok(Instruction::F64Const(Ieee64::new(words.wide()?))),
+        codes::F64_CONST => Ok(Instruction::F64Const(Ieee64::new(words.padded()?))),
         codes::V128_CONST => Ok(vector(words.next()?)),
         codes::REF_FUNC => Ok(Instruction::RefFunc(words.next()?)),
         _ => plain(code, words),
     }
 }
 
-/// Locals and globals; other codes go on.
+/// Returns an access of a local or a global. Passes other codes on.
 #[inline]
 fn variable<'a>(code: u32, words: &mut Words<'a>) -> Result<Instruction<'a>, Fault> {
     match code {
@@ -91,8 +92,8 @@ fn variable<'a>(code: u32, words: &mut Words<'a>) -> Result<Instruction<'a>, Fau
     }
 }
 
-/// Reads an instruction. Each of the functions above knows some codes and hands the others on, so that the compiler makes one jump of
-/// them.
+/// Reads an instruction. Each of the functions above handles some codes and passes the others on,
+/// so that the compiler makes one jump of them.
 pub(crate) fn value<'a>(words: &mut Words<'a>) -> Result<Instruction<'a>, Fault> {
     let code = words.next()?;
     variable(code, words)

@@ -18,7 +18,7 @@ impl<'a> Words<'a> {
         Words { rest: words }
     }
 
-    /// Whether there is no word left.
+    /// Returns `true` if no words remain.
     ///
     /// # Proved
     ///
@@ -29,7 +29,7 @@ impl<'a> Words<'a> {
         self.rest.is_empty()
     }
 
-    /// The next word.
+    /// Returns the next word.
     ///
     /// # Proved
     ///
@@ -47,7 +47,7 @@ impl<'a> Words<'a> {
         }
     }
 
-    /// A number of 64 bits: the low word, and the high one.
+    /// Returns a number of 64 bits: the low word, and the high one.
     ///
     /// # Proved
     ///
@@ -55,13 +55,13 @@ impl<'a> Words<'a> {
     /// ensures ok { IfOk result (λ n. (low : ℕ) × (high : ℕ) × (self.old.rest.now ≡ low ∷ high ∷ self.new.rest.now) × (n ≡ low + 2 ^ 32 * high)) }
     /// ensures err { OnErr result (length self.old.rest.now < 2) }
     /// ```
-    pub(crate) fn wide(&mut self) -> Result<u64, Fault> {
+    pub(crate) fn padded(&mut self) -> Result<u64, Fault> {
         let low = self.next()?;
         let high = self.next()?;
         Ok(u64::from(low) | (u64::from(high) << 32))
     }
 
-    /// The next `count` words.
+    /// Returns the next `count` words.
     ///
     /// # Proved
     ///

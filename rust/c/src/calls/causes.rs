@@ -1,10 +1,10 @@
 // Written by tools/to-rust from crates/wasm_c/src/causes.rt: change that.
-// Texts of causes.
+// Messages of causes, for C.
 
 use crate::calls::NO_ANSWER;
 use crate::calls::recipes::copied;
 
-/// What is wrong with the bytes of a section or a module, where a fault has the number.
+/// Returns the message of an error of a section or a module, if one has this number.
 ///
 /// # Proved
 ///
@@ -27,7 +27,7 @@ fn fault_text(cause: u32) -> Option<&'static str> {
     }
 }
 
-/// What is wrong with a recipe, where a cause has the number.
+/// Returns the message of an error of a recipe, if one has this number.
 ///
 /// # Proved
 ///
@@ -47,13 +47,15 @@ fn recipe_text(cause: u32) -> Option<&'static str> {
     }
 }
 
-/// The text of a cause of [`dz_list`](crate::calls::listing::dz_list), [`dz_outline`](crate::calls::outlining::dz_outline), [`dz_shorten`](crate::calls::shortest::dz_shorten) or
-/// [`dz_shorten_module`](crate::calls::whole::dz_shorten_module), in ASCII and without an end.
+/// Writes the message of a cause of [`dz_list`](crate::calls::listing::dz_list),
+/// [`dz_outline`](crate::calls::outlining::dz_outline), [`dz_shorten`](crate::calls::shortest::dz_shorten) or
+/// [`dz_shorten_module`](crate::calls::whole::dz_shorten_module), in ASCII and without a terminating NUL.
+/// Returns its length in bytes, or [`NO_ANSWER`] for any other number.
 ///
 /// # Proved
 ///
 /// ```text
-/// ensures { Tells (text_numbered fault_texts cause) out.old out.new result }
+/// ensures { Determines (text_numbered fault_texts cause) out.old out.new result }
 /// ```
 pub fn dz_cause(cause: u32, out: &mut [u8]) -> u64 {
     match fault_text(cause) {
@@ -62,12 +64,13 @@ pub fn dz_cause(cause: u32, out: &mut [u8]) -> u64 {
     }
 }
 
-/// The text of a cause of [`dz_assemble`](crate::calls::recipes::dz_assemble), in ASCII and without an end.
+/// Writes the message of a cause of [`dz_assemble`](crate::calls::recipes::dz_assemble), in ASCII and
+/// without a terminating NUL. Returns its length in bytes, or [`NO_ANSWER`] for any other number.
 ///
 /// # Proved
 ///
 /// ```text
-/// ensures { Tells (text_numbered recipe_texts cause) out.old out.new result }
+/// ensures { Determines (text_numbered recipe_texts cause) out.old out.new result }
 /// ```
 pub fn dz_recipe_cause(cause: u32, out: &mut [u8]) -> u64 {
     match recipe_text(cause) {

@@ -1,23 +1,23 @@
 // Written by tools/to-rust from crates/wasm_c/src/listing.rt: change that.
-// Lists of sections.
+// Lists of sections, for C.
 
 use crate::calls::NO_ANSWER;
 use dolzhytik::fallible::Global;
 use dolzhytik::reader::{Listed, list_module};
 use dolzhytik::reader::ReadFault;
 
-/// A section of a module.
+/// A section in the listing of a module.
 #[derive(Clone, Copy)]
 #[repr(C)]
 pub struct DzSection {
-    /// How many items it has, or [`NO_ANSWER`] where they are not counted.
+    /// The number of its items, or [`NO_ANSWER`] if they are not counted.
     pub items: u64,
-    /// How many bytes stand behind its size.
+    /// The length of its payload, in bytes.
     pub size: u32,
     pub id: u32,
 }
 
-/// The number of a fault.
+/// Returns the number of an error.
 ///
 /// # Proved
 ///
@@ -53,7 +53,8 @@ fn section(line: &Listed) -> DzSection {
     }
 }
 
-/// Puts a section for each line to the front of `out`, where it has room for them, and answers how many they are.
+/// Copies a section for each line to the front of `out`, if `out` holds all of them, and returns
+/// their number.
 ///
 /// # Proved
 ///
@@ -70,8 +71,11 @@ fn put(lines: &[Listed], out: &mut [DzSection]) -> u64 {
     count as u64
 }
 
-/// Lists the sections of a module, in order. Where the bytes are none, `place` is the number of the section at which they are not, counted from 1, or 0 where
-/// they don't begin with the header, and `cause` the number of what is wrong there, or that memory was refused; both are 0 where there is a list.
+/// Lists the sections of a module, in order. Returns their number.
+///
+/// On an error, `place` is the number of the section at which the bytes stop being a module,
+/// counted from 1. It is 0 if they do not begin with the header. `cause` is the number of the
+/// error, which may be a failed allocation. On success both are 0.
 ///
 /// # Proved
 ///

@@ -1,20 +1,21 @@
 // Written by tools/to-rust from crates/wasm_c/src/lib.rt: change that.
-//! The encoder and the reader for programs in C and Rust: recipes are assembled, the sections of modules are listed and outlined, and sections and modules are written as shortly
-//! as can be.
+//! The encoder and the reader for programs in C and Rust: recipes are assembled, the sections of
+//! modules are listed and outlined, and sections and modules are minimized.
 //!
-//! Slices are handed over as a pointer and a length. A function answers how many bytes or sections there are, and copies them to the front of
-//! `out` where it has room for all of them; where there is no answer it is [`NO_ANSWER`], and `out` is as it was.
+//! A slice is passed as a pointer and a length. A function returns the number of bytes or sections
+//! of its result. It copies them to the front of `out`, if `out` holds all of them. On an error it
+//! returns [`NO_ANSWER`], and `out` is unchanged.
 
 pub(crate) mod causes;
 pub(crate) mod listing;
+pub(crate) mod minimal;
 pub(crate) mod outlining;
 pub(crate) mod recipes;
-pub(crate) mod shortest;
 #[cfg(test)]
 pub(crate) mod tests;
 pub(crate) mod whole;
 
-/// The answer of a call that has none.
+/// The return value of a call that fails.
 pub const NO_ANSWER: u64 = 18446744073709551615;
 
 pub use listing::DzSection;

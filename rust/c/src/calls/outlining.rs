@@ -1,29 +1,31 @@
 // Written by tools/to-rust from crates/wasm_c/src/outlining.rt: change that.
-// Outlines of modules.
+// Outlines of modules, for C.
 
 use crate::calls::NO_ANSWER;
 use crate::calls::listing::number_of;
 use dolzhytik::fallible::Global;
 use dolzhytik::reader::{Outlined, outline};
 
-/// A section of a module, as an outline has it.
+/// A section in the outline of a module.
 #[derive(Clone, Copy)]
 #[repr(C)]
 pub struct DzOutlined {
-    /// How many items it has, or [`NO_ANSWER`] where it is not read as a section of its kind, or its items are not counted.
+    /// The number of its items, or [`NO_ANSWER`] if it does not decode as its kind, or its items
+    /// are not counted.
     pub items: u64,
-    /// How many bytes of the module stand before what its frame holds.
+    /// The offset of the payload in the module, in bytes.
     pub offset: u64,
-    /// How many bytes of the module stand before the name of a custom section, or [`NO_ANSWER`] where no name stands there.
+    /// The offset of a custom section's name in the module, in bytes, or [`NO_ANSWER`] if the
+    /// payload does not begin with a name.
     pub name_offset: u64,
-    /// How many bytes the name has, or [`NO_ANSWER`].
+    /// The length of the name in bytes, or [`NO_ANSWER`].
     pub name_size: u64,
-    /// How many bytes its frame holds.
+    /// The length of the payload, in bytes.
     pub size: u32,
     pub id: u32,
 }
 
-/// The place behind the number that stands at this one.
+/// Returns the offset after the LEB128 number at this offset.
 ///
 /// # Asks
 ///
@@ -73,7 +75,8 @@ fn section(bytes: &[u8], line: &Outlined<'_>) -> DzOutlined {
     }
 }
 
-/// Puts a section for each line to the front of `out`, where it has room for them, and answers how many they are.
+/// Copies a section for each line to the front of `out`, if `out` holds all of them, and returns
+/// their number.
 ///
 /// # Asks
 ///
@@ -96,8 +99,11 @@ fn put(bytes: &[u8], lines: &[Outlined<'_>], out: &mut [DzOutlined]) -> u64 {
     count as u64
 }
 
-/// Outlines a module, section by section, whatever their frames hold. Where the bytes are none, `place` is the number of the first section that is no frame of an id, counted from 1,
-/// or 0 where they don't begin with the header, and `cause` the number of what is wrong there, or that memory was refused; both are 0 where there is an outline.
+/// Lists the sections of a module, whatever their payloads are. Returns their number.
+///
+/// On an error, `place` is the number of the first section that is not an id and a size-prefixed
+/// payload, counted from 1. It is 0 if the bytes do not begin with the header. `cause` is the
+/// number of the error, which may be a failed allocation. On success both are 0.
 ///
 /// # Proved
 ///

@@ -1,14 +1,14 @@
 // Written by tools/to-rust from crates/wasm_c/src/recipes.rt: change that.
-// Recipes.
+// Recipes, for C.
 
 use crate::calls::NO_ANSWER;
 use dolzhytik::fallible::Global;
 use dolzhytik::fallible::recipe::{RecipeCause, assemble};
 
-/// The number of the cause that a recipe is no text.
+/// The number of the cause of a recipe that is not UTF-8.
 const NOT_TEXT: u32 = 7;
 
-/// The number of a cause.
+/// Returns the number of a cause.
 ///
 /// # Proved
 ///
@@ -26,7 +26,7 @@ pub(crate) fn number_of(cause: RecipeCause) -> u32 {
     }
 }
 
-/// Copies the bytes to the front of `out`, where it has room for them, and answers how many they are.
+/// Copies the bytes to the front of `out`, if `out` holds all of them, and returns their number.
 ///
 /// # Proved
 ///
@@ -42,8 +42,10 @@ pub(crate) fn copied(bytes: &[u8], out: &mut [u8]) -> u64 {
     count as u64
 }
 
-/// Assembles a recipe. Where it is refused, `line` is the line of its first fault, counted from 1, or 0, and `cause` the number of what is wrong there;
-/// both are 0 where there is a module.
+/// Assembles a recipe. Returns the length of the module in bytes.
+///
+/// On an error, `line` is the first line with an error, counted from 1, or 0, and `cause` is the
+/// number of the error. On success both are 0.
 ///
 /// # Proved
 ///

@@ -1,12 +1,12 @@
 // Written by tools/to-rust from crates/wasm_c/src/tests.rt: change that.
-// Each call, with ample room, too little and none.
+// Tests of each call, with an output that is ample, too short and empty.
 
 use crate::calls::NO_ANSWER;
 use crate::calls::causes::{dz_cause, dz_recipe_cause};
 use crate::calls::listing::{DzSection, dz_list, number_of as fault_number};
+use crate::calls::minimal::dz_shorten;
 use crate::calls::outlining::{DzOutlined, dz_outline};
 use crate::calls::recipes::{dz_assemble, number_of as cause_number};
-use crate::calls::shortest::dz_shorten;
 use crate::calls::whole::dz_shorten_module;
 use dolzhytik::fallible::Global;
 use crate::host::Abort;
@@ -16,7 +16,8 @@ use dolzhytik::fallible::recipe::RecipeCause;
 /// The module of a recipe of one body.
 const MODULE: &[u8] = b"\0asm\x01\0\0\0\x0A\x04\x01\x02\0\x0B";
 
-/// What a recipe is answered: how many bytes, the line and the cause, and what stands in the room then.
+/// Checks the result of a recipe: the length, the line and the cause, and the content of `room`
+/// afterwards.
 fn check_recipe(
     rt: &impl Abort,
     alloc: Global,
@@ -43,7 +44,8 @@ fn recipes() {
     check_recipe(&rt, alloc, &[0xFF], &mut [9], (NO_ANSWER, 0, 7), &[9]);
 }
 
-/// What a module is answered: how many sections, and the place and the cause.
+/// Checks the result of a module's listing: the number of sections, the section number and the
+/// cause.
 fn check_list(
     rt: &impl Abort,
     alloc: Global,
@@ -57,7 +59,7 @@ fn check_list(
     assert_eq!(rt; (answer, place, cause), expected);
 }
 
-/// The section is this.
+/// Checks a listed section.
 fn check_section(rt: &impl Abort, section: DzSection, expected: (u32, u32, u64)) {
     assert_eq!(rt; (section.id, section.size, section.items), expected);
 }
@@ -86,7 +88,8 @@ fn lists() {
     check_list(&rt, alloc, MODULE, &mut [], (1, 0, 0));
 }
 
-/// What a section of a kind is answered: how many bytes its shortest text has, how many it takes and the cause, and what stands in the room then.
+/// Checks the result for a section of a kind: the length of its minimal encoding, its length in the
+/// input, the cause, and the content of `room` afterwards.
 fn check_text(
     rt: &impl Abort,
     alloc: Global,
@@ -104,11 +107,19 @@ fn check_text(
 }
 
 #[test]
-fn shortest_texts() {
+fn minimal_encodings() {
     let rt = crate::host::HostRuntime;
     let alloc = rt.alloc();
     let padded: &[u8] = &[0x86, 0x00, 0x01, 0x85, 0x80, 0x80, 0x80, 0x00, 0x99];
-    check_text(&rt, alloc, 5, padded, &mut [9; 4], (3, 8, 0), &[2, 1, 5, 9]);
+    check_text(
+        &rt,
+        alloc,
+        5,
+        padded,
+        &mut [9; 4],
+        (3, 8, 0),
+        &[2, 1, 5, 9],
+    );
     check_text(&rt, alloc, 5, padded, &mut [9; 2], (3, 8, 0), &[9; 2]);
     check_text(
         &rt,
@@ -166,7 +177,7 @@ fn no_section_stands() {
     check_text(&rt, alloc, 5, &[], &mut [], (NO_ANSWER, 0, 1), &[]);
 }
 
-/// What an outline is answered: how many sections, and the place and the cause.
+/// Checks the result of an outline: the number of sections, the section number and the cause.
 fn check_outline(
     rt: &impl Abort,
     alloc: Global,
@@ -180,7 +191,8 @@ fn check_outline(
     assert_eq!(rt; (answer, place, cause), expected);
 }
 
-/// The section is this: its id, offset, size and items, and the place and the length of its name.
+/// Checks an outlined section: its id, offset, size and items, and the offset and length of its
+/// name.
 fn check_outlined(
     rt: &impl Abort,
     section: DzOutlined,
@@ -204,7 +216,8 @@ const NOT_OUTLINED: DzOutlined = DzOutlined {
     id: 77,
 };
 
-/// A type, a custom section called `name` of padded numbers, one without a name, seven functions that don't stand there, and one that does.
+/// A type, a custom section called `name` of padded numbers, one without a name, one that counts
+/// seven functions and holds none, and one of a function.
 const OUTLINED: &[u8] =
     b"\0asm\x01\0\0\0\x01\x04\x01\x60\0\0\0\x87\0\x84\0name\xFF\0\x01\x05\x03\x01\x07\x03\x02\x01\0";
 
@@ -223,7 +236,7 @@ fn outlines() {
     check_outlined(&rt, room[5], (77, 7, 7, 7), (7, 7));
 }
 
-/// Too little room, none, and bytes that are no module.
+/// An output that is too short, an empty one, and bytes that are not a module.
 #[test]
 fn no_outlines() {
     let rt = crate::host::HostRuntime;
@@ -237,7 +250,8 @@ fn no_outlines() {
     check_outlined(&rt, room[0], (77, 7, 7, 7), (7, 7));
 }
 
-/// What a module is answered: how many bytes its shortest text has, how many sections are kept, the place and the cause, and what stands in the room then.
+/// Checks the result for a whole module: the length of its minimal encoding, the number of kept
+/// sections, the section number and the cause, and the content of `room` afterwards.
 fn check_whole(
     rt: &impl Abort,
     alloc: Global,
@@ -263,14 +277,14 @@ fn check_whole(
     assert_eq!(rt; &*room, left);
 }
 
-/// A padded section of functions, and one of which seven functions don't stand there.
+/// A padded section of functions, and one that counts seven functions and holds none.
 const PADDED: &[u8] = b"\0asm\x01\0\0\0\x03\x86\0\x01\x85\x80\x80\x80\0\x03\x01\x07";
 
 /// A padded code section, and symbols, which hold offsets into it.
 const SYMBOLS: &[u8] = b"\0asm\x01\0\0\0\x0A\x84\0\x01\x02\0\x0B\0\x08\x07linking";
 
 #[test]
-fn shortest_modules() {
+fn minimal_modules() {
     let rt = crate::host::HostRuntime;
     let alloc = rt.alloc();
     let short = b"\0asm\x01\0\0\0\x03\x02\x01\x05\x03\x01\x07\x09";
@@ -280,7 +294,7 @@ fn shortest_modules() {
     check_whole(&rt, alloc, SYMBOLS, 1, &mut [9; 14], (14, 0, 0, 0), MODULE);
 }
 
-/// A section whose offsets would be lost, and bytes that are no module.
+/// A section whose offsets would become wrong, and bytes that are not a module.
 #[test]
 fn modules_that_are_refused() {
     let rt = crate::host::HostRuntime;
@@ -306,13 +320,13 @@ fn modules_that_are_refused() {
     check_whole(&rt, alloc, &[], 1, &mut [], (NO_ANSWER, 0, 0, 1), &[]);
 }
 
-/// A text of a cause.
+/// The message of a cause.
 struct TextRow {
     cause: u32,
     text: &'static [u8],
 }
 
-/// What is wrong with the bytes of sections and modules.
+/// The messages of errors of sections and modules.
 const FAULT_TEXTS: [TextRow; 10] = [
     TextRow {
         cause: 1,
@@ -356,7 +370,7 @@ const FAULT_TEXTS: [TextRow; 10] = [
     },
 ];
 
-/// What is wrong with recipes.
+/// The messages of errors of recipes.
 const RECIPE_TEXTS: [TextRow; 7] = [
     TextRow {
         cause: 1,
@@ -388,7 +402,7 @@ const RECIPE_TEXTS: [TextRow; 7] = [
     },
 ];
 
-/// The text stands at the front of the room, and is all that was written.
+/// Checks that the message is at the front of the output, and is all that was written.
 fn check_told(rt: &impl Abort, answer: u64, room: &[u8], text: &[u8]) {
     assert_eq!(rt; answer, text.len() as u64);
     assert!(rt; room.starts_with(text));
@@ -430,7 +444,7 @@ fn texts_of_recipe_causes() {
     assert_eq!(rt; dz_recipe_cause(7, &mut []), 8);
 }
 
-/// The faults of the reader.
+/// The errors of the reader.
 const FAULTS: [ReadFault; 8] = [
     ReadFault::Ended,
     ReadFault::NotShortest,
@@ -442,7 +456,7 @@ const FAULTS: [ReadFault; 8] = [
     ReadFault::Memory,
 ];
 
-/// The causes of a recipe's fault.
+/// The causes of a recipe's error.
 const CAUSES: [RecipeCause; 6] = [
     RecipeCause::UnknownCommand,
     RecipeCause::BadNumber,
@@ -452,7 +466,7 @@ const CAUSES: [RecipeCause; 6] = [
     RecipeCause::TooLong,
 ];
 
-/// The texts are those that the faults and causes print themselves.
+/// The messages are those that the errors and causes print themselves.
 #[test]
 fn texts_that_are_printed() {
     let rt = crate::host::HostRuntime;

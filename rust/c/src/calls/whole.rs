@@ -1,5 +1,5 @@
 // Written by tools/to-rust from crates/wasm_c/src/whole.rt: change that.
-// Shortest texts of modules.
+// Minimal encodings of modules, for C.
 
 use dolzhytik::fallible::Vec;
 use crate::calls::NO_ANSWER;
@@ -8,10 +8,11 @@ use crate::calls::recipes::copied;
 use dolzhytik::fallible::Global;
 use dolzhytik::reader::{ModuleFault, Offsets, shorten_module};
 
-/// The number of the cause that a section holds offsets.
+/// The number of the cause of a section whose offsets would become wrong.
 const OFFSETS: u32 = 10;
 
-/// What is done with sections that hold offsets: 0 refuses them, any other number leaves them out.
+/// Returns the treatment of sections that hold offsets: 0 is an error, and any other number leaves
+/// them out.
 ///
 /// # Proved
 ///
@@ -26,8 +27,11 @@ fn offsets_of(drop_offsets: u32) -> Offsets {
     }
 }
 
-/// Writes a module with each section in its one shortest text. `kept` is how many sections are kept as they stand, since they are not read as sections of their kinds. Where there is no
-/// text, `place` is the number of the section that is refused, counted from 1, or 0, and `cause` the number of what is wrong there; both are 0 where there is one.
+/// Writes a module with each section in its minimal encoding. Returns its length in bytes.
+///
+/// `kept` is the number of sections that are kept unchanged, since they do not decode as their
+/// kinds. On an error, `place` is the number of the section, counted from 1, or 0, and `cause` is
+/// the number of the error. On success both are 0.
 ///
 /// # Proved
 ///

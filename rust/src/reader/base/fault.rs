@@ -1,27 +1,28 @@
 // Written by tools/to-rust from crates/wasm_reader_base/src/fault.rt: change that.
-// Why nothing was read.
+// The error of calls that decode.
 
 use crate::alloc::{AllocError, AllocFailed};
 use crate::base::{NoGroups, Refused};
 
-/// Why nothing was read. A cause other than `Memory` says that no reading exists. Which of the others it is, tests show, and no contract says.
+/// The cause of a failed decoding. Any cause but `Memory` means that the bytes encode no such
+/// value. Tests show which of the other causes a call returns; no contract says that.
 #[derive(Clone, Copy, PartialEq, Eq, Debug)]
 pub enum ReadFault {
     /// The bytes end before the value does.
     Ended,
-    /// A number is padded. Padded numbers are read, so this is never given.
+    /// A number is padded. No call returns it, since padded numbers are accepted.
     NotShortest,
     /// A number is out of the range of its type, or has more bytes than the type's limit.
     TooLarge,
-    /// A byte, a number or a name that tells what stands there is none that the grammar knows there.
+    /// A byte, a number or a name that selects a case is unknown to the grammar.
     UnknownTag,
     /// No instruction has the opcode.
     UnknownOpcode,
     /// The bytes of a name are not UTF-8.
     NotUtf8,
-    /// Bytes of a frame are left after what it should hold.
+    /// Payload bytes remain after the value that a size prefix delimits.
     SizeMismatch,
-    /// A request for memory was refused.
+    /// An allocation failed.
     Memory,
 }
 
@@ -61,9 +62,10 @@ impl From<NoGroups> for ReadFault {
     }
 }
 
-/// An error of a call that appends becomes `Memory`. Such a call never returns `TooLong` for a value
-/// that has an encoding, as each decoded value has (`too_long` of [`Shorten`](crate::reader::base::Shorten)).
-/// A body that is passed without its size may be too long for one: that becomes `Memory` too.
+/// An error of a call that appends becomes `Memory`. Such a call never returns `TooLong` for a
+/// value that has an encoding, as each decoded value has (`too_long` of
+/// [`Shorten`](crate::reader::base::Shorten)). A body that is passed without its size may be too long for a size
+/// prefix: that becomes `Memory` too.
 ///
 /// # Defined
 ///

@@ -1,8 +1,8 @@
 // Written by tools/to-rust from crates/wasm_reader_base/src/fixed.rt: change that.
-// Fixed bytes: a byte, floats, vectors of 128 bits and lanes.
+// Decoding of fixed-width bytes: one byte, floats, vectors of 128 bits and lanes.
 
 use crate::reader::base::fault::ReadFault;
-use crate::reader::base::readable::{Readable, Spelled};
+use crate::reader::base::readable::{Layout, Readable};
 use crate::alloc::Allocator;
 use crate::immediates::{Ieee32, Ieee64};
 
@@ -13,7 +13,7 @@ use crate::immediates::{Ieee32, Ieee64};
 /// format = { byte }
 /// view = { λ b. b }
 /// ```
-impl Spelled for u8 {
+impl Layout for u8 {
     fn laws() {}
 }
 
@@ -27,7 +27,7 @@ impl<'a, A: Allocator + Copy> Readable<'a, A> for u8 {
     }
 }
 
-/// A float's four bytes, the least first.
+/// A float's four bytes, little-endian.
 ///
 /// # Defined
 ///
@@ -36,7 +36,7 @@ impl<'a, A: Allocator + Copy> Readable<'a, A> for u8 {
 /// format = { little_endian 4 }
 /// view = { λ float. float.bits }
 /// ```
-impl Spelled for Ieee32 {
+impl Layout for Ieee32 {
     fn laws() {}
 }
 
@@ -49,7 +49,7 @@ impl<'a, A: Allocator + Copy> Readable<'a, A> for Ieee32 {
     }
 }
 
-/// A float's eight bytes, the least first.
+/// A float's eight bytes, little-endian.
 ///
 /// # Defined
 ///
@@ -58,7 +58,7 @@ impl<'a, A: Allocator + Copy> Readable<'a, A> for Ieee32 {
 /// format = { little_endian 8 }
 /// view = { λ float. float.bits }
 /// ```
-impl Spelled for Ieee64 {
+impl Layout for Ieee64 {
     fn laws() {}
 }
 
@@ -71,7 +71,7 @@ impl<'a, A: Allocator + Copy> Readable<'a, A> for Ieee64 {
     }
 }
 
-/// A vector's sixteen bytes, the least first, in two's complement.
+/// A vector's sixteen bytes, little-endian, in two's complement.
 ///
 /// # Defined
 ///
@@ -80,7 +80,7 @@ impl<'a, A: Allocator + Copy> Readable<'a, A> for Ieee64 {
 /// format = { vector_format }
 /// view = { λ v. v }
 /// ```
-impl Spelled for i128 {
+impl Layout for i128 {
     fn laws() {}
 }
 
@@ -93,8 +93,8 @@ impl<'a, A: Allocator + Copy> Readable<'a, A> for i128 {
     }
 }
 
-/// Sixteen lanes, a byte each.
-impl Spelled for [u8; 16] {
+/// Sixteen lanes, one byte each.
+impl Layout for [u8; 16] {
     fn laws() {}
 }
 

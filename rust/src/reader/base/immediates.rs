@@ -1,10 +1,11 @@
 // Written by tools/to-rust from crates/wasm_reader_base/src/immediates.rt: change that.
-// What follows opcodes: orderings, memory arguments, block types, and clauses that catch and handle.
+// Decoding of immediates: orderings, memory arguments, block types, and the clauses of `try_table`
+// and `resume`.
 
 use crate::reader::base::fault::ReadFault;
 use crate::reader::base::leb128::read_index;
 use crate::reader::base::optional::read_optional;
-use crate::reader::base::readable::{Readable, Spelled};
+use crate::reader::base::readable::{Layout, Readable};
 use crate::reader::base::types::read_val_after;
 use crate::alloc::Allocator;
 use crate::immediates::{BlockType, Catch, Handle, MemArg, MemArgOrdering, MemArgTarget, Ordering};
@@ -16,7 +17,7 @@ use crate::immediates::{BlockType, Catch, Handle, MemArg, MemArgOrdering, MemArg
 /// format = { ordering_format }
 /// view = { λ o. o }
 /// ```
-impl Spelled for Ordering {
+impl Layout for Ordering {
     fn laws() {}
 }
 
@@ -38,7 +39,7 @@ impl<'a, A: Allocator + Copy> Readable<'a, A> for Ordering {
 /// format = { mem_ordering }
 /// view = { λ o. o }
 /// ```
-impl Spelled for MemArgOrdering {
+impl Layout for MemArgOrdering {
     fn laws() {}
 }
 
@@ -54,13 +55,13 @@ impl<'a, A: Allocator + Copy> Readable<'a, A> for MemArgOrdering {
     }
 }
 
-/// What is accessed, where the flags say that this is an array or another memory than 0.
+/// Decodes the index of an array type, or of a memory other than 0, as the flags select.
 ///
 /// # Proved
 ///
 /// ```text
-/// ensures found { IfOk result (λ x. Reads (target_of array other) wide bytes.now x.0 x.1.now) }
-/// ensures none { IfErr result (λ e. e ≢ Memory → ReadsNothing (target_of array other) wide bytes.now) }
+/// ensures found { IfOk result (λ x. Decodes (target_of array other) padded bytes.now x.0 x.1.now) }
+/// ensures none { IfErr result (λ e. e ≢ Memory → Rejects (target_of array other) padded bytes.now) }
 /// ```
 fn read_target<'a, A: Allocator + Copy>(
     array: bool,
@@ -85,13 +86,13 @@ fn read_target<'a, A: Allocator + Copy>(
     }
 }
 
-/// A memory argument. Out of line, for flags of any bits.
+/// Decodes a memory argument with any flags. Out of line.
 ///
 /// # Proved
 ///
 /// ```text
-/// ensures found { IfOk result (λ x. Reads mem_arg wide bytes.now x.0 x.1.now) }
-/// ensures none { IfErr result (λ e. e ≢ Memory → ReadsNothing mem_arg wide bytes.now) }
+/// ensures found { IfOk result (λ x. Decodes mem_arg padded bytes.now x.0 x.1.now) }
+/// ensures none { IfErr result (λ e. e ≢ Memory → Rejects mem_arg padded bytes.now) }
 /// ```
 #[inline(never)]
 fn read_any_memory<'a, A: Allocator + Copy>(
@@ -127,7 +128,7 @@ fn read_any_memory<'a, A: Allocator + Copy>(
 /// format = { mem_arg }
 /// view = { λ m. m }
 /// ```
-impl Spelled for MemArg {
+impl Layout for MemArg {
     fn laws() {}
 }
 
@@ -150,13 +151,13 @@ impl<'a, A: Allocator + Copy> Readable<'a, A> for MemArg {
     }
 }
 
-/// A block type. Out of line, for those with a type.
+/// Decodes a block type. Out of line, for those with a type.
 ///
 /// # Proved
 ///
 /// ```text
-/// ensures found { IfOk result (λ x. Reads block_type wide bytes.now x.0 x.1.now) }
-/// ensures none { IfErr result (λ e. e ≢ Memory → ReadsNothing block_type wide bytes.now) }
+/// ensures found { IfOk result (λ x. Decodes block_type padded bytes.now x.0 x.1.now) }
+/// ensures none { IfErr result (λ e. e ≢ Memory → Rejects block_type padded bytes.now) }
 /// ```
 #[inline(never)]
 fn read_any_block<'a, A: Allocator + Copy>(
@@ -184,7 +185,7 @@ fn read_any_block<'a, A: Allocator + Copy>(
 /// format = { block_type }
 /// view = { λ b. b }
 /// ```
-impl Spelled for BlockType {
+impl Layout for BlockType {
     fn laws() {}
 }
 
@@ -206,7 +207,7 @@ impl<'a, A: Allocator + Copy> Readable<'a, A> for BlockType {
 /// format = { catch_format }
 /// view = { λ c. c }
 /// ```
-impl Spelled for Catch {
+impl Layout for Catch {
     fn laws() {}
 }
 
@@ -242,7 +243,7 @@ impl<'a, A: Allocator + Copy> Readable<'a, A> for Catch {
 /// format = { handle_format }
 /// view = { λ h. h }
 /// ```
-impl Spelled for Handle {
+impl Layout for Handle {
     fn laws() {}
 }
 

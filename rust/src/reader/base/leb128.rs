@@ -1,14 +1,14 @@
 // Written by tools/to-rust from crates/wasm_reader_base/src/leb128.rt: change that.
-// Numbers in LEB128, padded or not. One byte is read in place, up to five in 64 bits.
+// Decoding of LEB128, minimal or padded. One byte is decoded inline, up to five in 64 bits.
 
 use crate::vec::Sink;
 use crate::reader::base::fault::ReadFault;
-use crate::reader::base::readable::{Readable, Spelled};
+use crate::reader::base::readable::{Layout, Readable};
 use crate::reader::base::shorten::Shorten;
 use crate::alloc::Allocator;
-use crate::base::{Encode, Groups, NoGroups, R, read_groups};
+use crate::base::{Encode, Groups, NoGroups, Result, read_groups};
 
-/// The number that the groups spell in two's complement.
+/// Returns the number that the groups encode in two's complement.
 ///
 /// # Asks
 ///
@@ -29,7 +29,7 @@ fn signed(groups: Groups) -> i128 {
     }
 }
 
-/// The number that one group spells in two's complement.
+/// Returns the number that one group encodes in two's complement.
 ///
 /// # Asks
 ///
@@ -51,7 +51,7 @@ fn signed_byte(group: u8) -> i16 {
     }
 }
 
-/// At most five groups, as [`Groups`] has them, in 64 bits.
+/// At most five groups, as in [`Groups`], in 64 bits.
 #[derive(Clone, Copy)]
 struct FewGroups {
     sum: u64,
@@ -59,7 +59,7 @@ struct FewGroups {
     last: u8,
 }
 
-/// The groups at the front, of which there may be five, and the bytes after them.
+/// Decodes the groups at the front, at most five, and returns them with the remaining bytes.
 ///
 /// # Proved
 ///
@@ -67,7 +67,7 @@ struct FewGroups {
 /// ensures found { IfOk result (λ x. HasGroups 5 bytes.now x.0.sum x.0.power x.0.last x.1.now) }
 /// ensures power { IfOk result (λ x. x.0.power ≤ 2 ^ 35) }
 /// ensures below { IfOk result (λ x. x.0.sum < x.0.power) }
-/// ensures none { IfErr result (λ _. ReadsNothing (groups 5) wide bytes.now) }
+/// ensures none { IfErr result (λ _. Rejects (groups 5) padded bytes.now) }
 /// ```
 #[inline]
 fn read_few_groups(bytes: &[u8]) -> Result<(FewGroups, &[u8]), NoGroups> {
@@ -93,7 +93,7 @@ fn read_few_groups(bytes: &[u8]) -> Result<(FewGroups, &[u8]), NoGroups> {
     Err(NoGroups::TooMany)
 }
 
-/// The number that a few groups spell in two's complement.
+/// Returns the number that at most five groups encode in two's complement.
 ///
 /// # Asks
 ///
@@ -115,13 +115,13 @@ fn signed_few(groups: FewGroups) -> i64 {
     }
 }
 
-/// A number of 32 bits. Out of line, for those of several bytes.
+/// Decodes an unsigned number of 32 bits. Out of line, for those of several bytes.
 ///
 /// # Proved
 ///
 /// ```text
-/// ensures found { IfOk result (λ x. Reads u32_format wide bytes.now x.0 x.1.now) }
-/// ensures none { IfErr result (λ e. e ≢ Memory → ReadsNothing u32_format wide bytes.now) }
+/// ensures found { IfOk result (λ x. Decodes u32_format padded bytes.now x.0 x.1.now) }
+/// ensures none { IfErr result (λ e. e ≢ Memory → Rejects u32_format padded bytes.now) }
 /// ```
 #[inline(never)]
 fn read_long_u32(bytes: &[u8]) -> Result<(u32, &[u8]), ReadFault> {
@@ -133,13 +133,13 @@ fn read_long_u32(bytes: &[u8]) -> Result<(u32, &[u8]), ReadFault> {
     }
 }
 
-/// A number of 64 bits. Out of line, for those of several bytes.
+/// Decodes an unsigned number of 64 bits. Out of line, for those of several bytes.
 ///
 /// # Proved
 ///
 /// ```text
-/// ensures found { IfOk result (λ x. Reads u64_format wide bytes.now x.0 x.1.now) }
-/// ensures none { IfErr result (λ e. e ≢ Memory → ReadsNothing u64_format wide bytes.now) }
+/// ensures found { IfOk result (λ x. Decodes u64_format padded bytes.now x.0 x.1.now) }
+/// ensures none { IfErr result (λ e. e ≢ Memory → Rejects u64_format padded bytes.now) }
 /// ```
 #[inline(never)]
 fn read_long_u64(bytes: &[u8]) -> Result<(u64, &[u8]), ReadFault> {
@@ -154,13 +154,13 @@ fn read_long_u64(bytes: &[u8]) -> Result<(u64, &[u8]), ReadFault> {
     }
 }
 
-/// A signed number of 32 bits. Out of line, for those of several bytes.
+/// Decodes a signed number of 32 bits. Out of line, for those of several bytes.
 ///
 /// # Proved
 ///
 /// ```text
-/// ensures found { IfOk result (λ x. Reads s32 wide bytes.now x.0 x.1.now) }
-/// ensures none { IfErr result (λ e. e ≢ Memory → ReadsNothing s32 wide bytes.now) }
+/// ensures found { IfOk result (λ x. Decodes s32 padded bytes.now x.0 x.1.now) }
+/// ensures none { IfErr result (λ e. e ≢ Memory → Rejects s32 padded bytes.now) }
 /// ```
 #[inline(never)]
 fn read_long_i32(bytes: &[u8]) -> Result<(i32, &[u8]), ReadFault> {
@@ -176,13 +176,13 @@ fn read_long_i32(bytes: &[u8]) -> Result<(i32, &[u8]), ReadFault> {
     }
 }
 
-/// A signed number of 64 bits. Out of line, for those of several bytes.
+/// Decodes a signed number of 64 bits. Out of line, for those of several bytes.
 ///
 /// # Proved
 ///
 /// ```text
-/// ensures found { IfOk result (λ x. Reads s64 wide bytes.now x.0 x.1.now) }
-/// ensures none { IfErr result (λ e. e ≢ Memory → ReadsNothing s64 wide bytes.now) }
+/// ensures found { IfOk result (λ x. Decodes s64 padded bytes.now x.0 x.1.now) }
+/// ensures none { IfErr result (λ e. e ≢ Memory → Rejects s64 padded bytes.now) }
 /// ```
 #[inline(never)]
 fn read_long_i64(bytes: &[u8]) -> Result<(i64, &[u8]), ReadFault> {
@@ -208,7 +208,7 @@ fn read_long_i64(bytes: &[u8]) -> Result<(i64, &[u8]), ReadFault> {
 /// format = { u32_format }
 /// view = { λ n. n }
 /// ```
-impl Spelled for u32 {
+impl Layout for u32 {
     fn laws() {}
 }
 
@@ -231,7 +231,7 @@ impl<'a, A: Allocator + Copy> Readable<'a, A> for u32 {
 /// format = { u64_format }
 /// view = { λ n. n }
 /// ```
-impl Spelled for u64 {
+impl Layout for u64 {
     fn laws() {}
 }
 
@@ -254,7 +254,7 @@ impl<'a, A: Allocator + Copy> Readable<'a, A> for u64 {
 /// format = { s32 }
 /// view = { λ n. n }
 /// ```
-impl Spelled for i32 {
+impl Layout for i32 {
     fn laws() {}
 }
 
@@ -277,7 +277,7 @@ impl<'a, A: Allocator + Copy> Readable<'a, A> for i32 {
 /// format = { s64 }
 /// view = { λ n. n }
 /// ```
-impl Spelled for i64 {
+impl Layout for i64 {
     fn laws() {}
 }
 
@@ -293,13 +293,14 @@ impl<'a, A: Allocator + Copy> Readable<'a, A> for i64 {
     }
 }
 
-/// An index, spelled as a signed number of 33 bits. Negative ones stand for types, of which the known ones were told by their byte.
+/// Decodes an index, encoded as a signed number of 33 bits. Negative numbers encode types, whose
+/// known bytes the caller has already matched.
 ///
 /// # Proved
 ///
 /// ```text
-/// ensures found { IfOk result (λ x. Reads s33 wide bytes.now x.0 x.1.now) }
-/// ensures none { IfErr result (λ e. e ≢ Memory → ReadsNothing s33 wide bytes.now) }
+/// ensures found { IfOk result (λ x. Decodes s33 padded bytes.now x.0 x.1.now) }
+/// ensures none { IfErr result (λ e. e ≢ Memory → Rejects s33 padded bytes.now) }
 /// ```
 #[inline]
 pub(crate) fn read_index(bytes: &[u8]) -> Result<(u32, &[u8]), ReadFault> {
@@ -315,7 +316,7 @@ pub(crate) fn read_index(bytes: &[u8]) -> Result<(u32, &[u8]), ReadFault> {
 }
 
 impl Shorten for u32 {
-    fn write_minimal<B: Sink>(&self, out: &mut B) -> R<()> {
-        self.encode(out)
+    fn write_minimal<B: Sink>(&self, sink: &mut B) -> Result<()> {
+        self.encode(sink)
     }
 }

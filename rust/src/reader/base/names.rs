@@ -1,27 +1,27 @@
 // Written by tools/to-rust from crates/wasm_reader_base/src/names.rt: change that.
-// Framed bytes and names, which are slices of the input.
+// Size-prefixed bytes and names, which are slices of the input.
 
 use crate::vec::Sink;
 use crate::reader::base::fault::ReadFault;
-use crate::reader::base::readable::{Readable, Spelled};
+use crate::reader::base::readable::{Layout, Readable};
 use crate::reader::base::shorten::Shorten;
 use crate::alloc::Allocator;
-use crate::base::{Encode, R, encode_frame};
+use crate::base::{Encode, Result, encode_size_prefixed};
 
-/// The bytes of a frame.
+/// The payload of size-prefixed bytes.
 ///
 /// # Defined
 ///
 /// ```text
 /// Value = { List ℕ }
-/// format = { frame any_bytes }
+/// format = { size_prefixed any_bytes }
 /// view = { λ b. b.now }
 /// ```
-impl<'a> Spelled for &'a [u8] {
+impl<'a> Layout for &'a [u8] {
     /// # Proved
     ///
     /// ```text
-    /// ensures { UniqueReading (frame any_bytes) }
+    /// ensures { Unambiguous (size_prefixed any_bytes) }
     /// ```
     fn laws() {}
 }
@@ -45,19 +45,19 @@ impl<'a, A: Allocator + Copy> Readable<'a, A> for &'a [u8] {
 /// format = { name }
 /// view = { λ s. s.now }
 /// ```
-impl<'a> Spelled for &'a str {
+impl<'a> Layout for &'a str {
     /// # Proved
     ///
     /// ```text
-    /// ensures { UniqueReading name }
+    /// ensures { Unambiguous name }
     /// ```
     fn laws() {}
 }
 
 impl<'a, A: Allocator + Copy> Readable<'a, A> for &'a str {
     fn read(bytes: &'a [u8], alloc: A) -> Result<(&'a str, &'a [u8]), ReadFault> {
-        let (text, rest) = <&'a [u8] as Readable<'a, A>>::read(bytes, alloc)?;
-        match str::from_utf8(text) {
+        let (encoding, rest) = <&'a [u8] as Readable<'a, A>>::read(bytes, alloc)?;
+        match str::from_utf8(encoding) {
             Ok(name) => Ok((name, rest)),
             Err(_) => Err(ReadFault::NotUtf8),
         }
@@ -65,13 +65,13 @@ impl<'a, A: Allocator + Copy> Readable<'a, A> for &'a str {
 }
 
 impl Shorten for &[u8] {
-    fn write_minimal<B: Sink>(&self, out: &mut B) -> R<()> {
-        encode_frame(out, self)
+    fn write_minimal<B: Sink>(&self, sink: &mut B) -> Result<()> {
+        encode_size_prefixed(sink, self)
     }
 }
 
 impl Shorten for &str {
-    fn write_minimal<B: Sink>(&self, out: &mut B) -> R<()> {
-        self.encode(out)
+    fn write_minimal<B: Sink>(&self, sink: &mut B) -> Result<()> {
+        self.encode(sink)
     }
 }

@@ -1,17 +1,21 @@
 // Written by tools/to-rust from crates/wasm_reader_base/src/optional.rt: change that.
-// Values that a flag tells.
+// Decoding of values whose presence a flag reports.
 
 use crate::reader::base::fault::ReadFault;
 use crate::reader::base::readable::Readable;
 use crate::alloc::Allocator;
 
-/// A value where the flag is set, and nothing where it isn't.
+/// Decodes a value if the flag is set, and returns `None` otherwise.
+///
+/// # Errors
+///
+/// Any error but `Memory` means that the flag is set, and no such value is at the front.
 ///
 /// # Proved
 ///
 /// ```text
-/// ensures found { IfOk result (λ x. Reads (optional flag T.format) wide bytes.now (option_map T.view x.0) x.1.now) }
-/// ensures none { IfErr result (λ e. e ≢ Memory → ReadsNothing (optional flag T.format) wide bytes.now) }
+/// ensures found { IfOk result (λ x. Decodes (optional flag T.format) padded bytes.now (option_map T.view x.0) x.1.now) }
+/// ensures none { IfErr result (λ e. e ≢ Memory → Rejects (optional flag T.format) padded bytes.now) }
 /// ```
 pub fn read_optional<'a, T: Readable<'a, A>, A: Allocator + Copy>(
     flag: bool,

@@ -1,10 +1,10 @@
 // Written by tools/to-rust from crates/wasm_reader_base/src/readable.rt: change that.
-// What bytes spell, and what can be read of them.
+// The traits of decoding: the format of a value, and its decoder.
 
 use crate::reader::base::fault::ReadFault;
 use crate::alloc::Allocator;
 
-/// A value that bytes spell.
+/// A value with a format, which defines the bytes that encode it.
 ///
 /// # Defined
 ///
@@ -13,30 +13,37 @@ use crate::alloc::Allocator;
 /// format: { Mode → List ℕ → Value → Type 0 }
 /// view: { Self → Value }
 /// ```
-pub trait Spelled {
-    // The value without where it lies in memory.
+pub trait Layout {
+    // The value, without its location in memory.
 
-    // What bytes spell.
+    // The format: which bytes encode which value.
 
-    /// One value stands at the front of bytes, whatever follows. The function does nothing.
+    /// Proves that the format is unambiguous: one value decodes from the front, whatever follows.
+    /// The function does nothing.
     ///
     /// # Proved
     ///
     /// ```text
-    /// ensures { UniqueReading format }
+    /// ensures { Unambiguous format }
     /// ```
     fn laws();
 }
 
-/// A value that stands at the front of bytes. Lists take their memory from `A`; names and bytes are slices of the input.
-pub trait Readable<'a, A: Allocator + Copy>: Spelled + Sized {
-    /// The value at the front, its numbers padded or not, and the bytes after it.
+/// A value that can be decoded from the front of bytes. Lists are allocated in `A`; names and bytes
+/// are slices of the input.
+pub trait Readable<'a, A: Allocator + Copy>: Layout + Sized {
+    /// Decodes the value at the front, padded numbers included, and returns it with the remaining
+    /// bytes.
+    ///
+    /// # Errors
+    ///
+    /// Any error but `Memory` means that no such value is at the front.
     ///
     /// # Proved
     ///
     /// ```text
-    /// ensures found { IfOk result (λ x. Reads Self.format wide bytes.now (Self.view x.0) x.1.now) }
-    /// ensures none { IfErr result (λ e. e ≢ Memory → ReadsNothing Self.format wide bytes.now) }
+    /// ensures found { IfOk result (λ x. Decodes Self.format padded bytes.now (Self.view x.0) x.1.now) }
+    /// ensures none { IfErr result (λ e. e ≢ Memory → Rejects Self.format padded bytes.now) }
     /// ```
     fn read(bytes: &'a [u8], alloc: A) -> Result<(Self, &'a [u8]), ReadFault>;
 }

@@ -1,12 +1,12 @@
 // Written by tools/to-rust from crates/wasm_reader_base/src/tuples.rt: change that.
-// Values one after the other.
+// Decoding of pairs: one value after the other.
 
 use crate::vec::Sink;
 use crate::reader::base::fault::ReadFault;
-use crate::reader::base::readable::{Readable, Spelled};
+use crate::reader::base::readable::{Layout, Readable};
 use crate::reader::base::shorten::Shorten;
 use crate::alloc::Allocator;
-use crate::base::R;
+use crate::base::Result;
 
 /// One value, and then another.
 ///
@@ -17,7 +17,7 @@ use crate::base::R;
 /// format = { pair T.format U.format }
 /// view = { λ p. (T.view p.0, U.view p.1) }
 /// ```
-impl<T: Spelled, U: Spelled> Spelled for (T, U) {
+impl<T: Layout, U: Layout> Layout for (T, U) {
     fn laws() {
         T::laws();
         U::laws();
@@ -35,8 +35,8 @@ impl<'a, A: Allocator + Copy, T: Readable<'a, A>, U: Readable<'a, A>> Readable<'
 }
 
 impl<T: Shorten, U: Shorten> Shorten for (T, U) {
-    fn write_minimal<B: Sink>(&self, out: &mut B) -> R<()> {
-        self.0.write_minimal(out)?;
-        self.1.write_minimal(out)
+    fn write_minimal<B: Sink>(&self, sink: &mut B) -> Result<()> {
+        self.0.write_minimal(sink)?;
+        self.1.write_minimal(sink)
     }
 }

@@ -1,15 +1,15 @@
 // Written by tools/to-rust from crates/wasm_reader_base/src/types.rt: change that.
-// Heap types, reference types and value types.
+// Decoding of heap types, reference types and value types.
 
 use crate::vec::Sink;
 use crate::reader::base::fault::ReadFault;
 use crate::reader::base::leb128::read_index;
-use crate::reader::base::readable::{Readable, Spelled};
+use crate::reader::base::readable::{Layout, Readable};
 use crate::reader::base::shorten::Shorten;
 use crate::alloc::Allocator;
-use crate::base::{AbstractHeapType, Encode, HeapType, R, RefType, ValType};
+use crate::base::{AbstractHeapType, Encode, HeapType, RefType, Result, ValType};
 
-/// The type of this byte.
+/// Returns the abstract heap type of this byte.
 ///
 /// # Proved
 ///
@@ -43,7 +43,7 @@ fn abstract_of(byte: u8) -> Option<AbstractHeapType> {
 /// format = { abstract_type }
 /// view = { λ ty. ty }
 /// ```
-impl Spelled for AbstractHeapType {
+impl Layout for AbstractHeapType {
     fn laws() {}
 }
 
@@ -64,7 +64,7 @@ impl<'a, A: Allocator + Copy> Readable<'a, A> for AbstractHeapType {
 /// format = { heap_type }
 /// view = { λ heap. heap }
 /// ```
-impl Spelled for HeapType {
+impl Layout for HeapType {
     fn laws() {}
 }
 
@@ -91,7 +91,7 @@ impl<'a, A: Allocator + Copy> Readable<'a, A> for HeapType {
     }
 }
 
-/// Whether the nullable reference to it has a byte of its own.
+/// Returns `true` if the nullable reference to the heap type has a one-byte encoding.
 ///
 /// # Proved
 ///
@@ -109,13 +109,13 @@ fn has_own_byte(heap: HeapType) -> bool {
     }
 }
 
-/// What follows the first byte of a reference type.
+/// Decodes a reference type after its first byte, `tag`.
 ///
 /// # Proved
 ///
 /// ```text
-/// ensures found { IfOk result (λ x. Reads (choice ref_tags (λ b. impossible) tag) wide bytes.now x.0 x.1.now) }
-/// ensures none { IfErr result (λ e. e ≢ Memory → ReadsNothing (choice ref_tags (λ b. impossible) tag) wide bytes.now) }
+/// ensures found { IfOk result (λ x. Decodes (choice ref_tags (λ b. impossible) tag) padded bytes.now x.0 x.1.now) }
+/// ensures none { IfErr result (λ e. e ≢ Memory → Rejects (choice ref_tags (λ b. impossible) tag) padded bytes.now) }
 /// ```
 fn read_ref_after<'a, A: Allocator + Copy>(
     tag: u8,
@@ -159,7 +159,7 @@ fn read_ref_after<'a, A: Allocator + Copy>(
 /// format = { ref_type }
 /// view = { λ r. r }
 /// ```
-impl Spelled for RefType {
+impl Layout for RefType {
     fn laws() {}
 }
 
@@ -170,13 +170,13 @@ impl<'a, A: Allocator + Copy> Readable<'a, A> for RefType {
     }
 }
 
-/// What follows the first byte of a value type.
+/// Decodes a value type after its first byte, `tag`.
 ///
 /// # Proved
 ///
 /// ```text
-/// ensures found { IfOk result (λ x. Reads (choice val_tags val_ref tag) wide bytes.now x.0 x.1.now) }
-/// ensures none { IfErr result (λ e. e ≢ Memory → ReadsNothing (choice val_tags val_ref tag) wide bytes.now) }
+/// ensures found { IfOk result (λ x. Decodes (choice val_tags val_ref tag) padded bytes.now x.0 x.1.now) }
+/// ensures none { IfErr result (λ e. e ≢ Memory → Rejects (choice val_tags val_ref tag) padded bytes.now) }
 /// ```
 pub fn read_val_after<'a, A: Allocator + Copy>(
     tag: u8,
@@ -203,7 +203,7 @@ pub fn read_val_after<'a, A: Allocator + Copy>(
 /// format = { val_type }
 /// view = { λ ty. ty }
 /// ```
-impl Spelled for ValType {
+impl Layout for ValType {
     fn laws() {}
 }
 
@@ -215,7 +215,7 @@ impl<'a, A: Allocator + Copy> Readable<'a, A> for ValType {
 }
 
 impl Shorten for ValType {
-    fn write_minimal<B: Sink>(&self, out: &mut B) -> R<()> {
-        self.encode(out)
+    fn write_minimal<B: Sink>(&self, sink: &mut B) -> Result<()> {
+        self.encode(sink)
     }
 }

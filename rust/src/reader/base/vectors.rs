@@ -1,14 +1,15 @@
 // Written by tools/to-rust from crates/wasm_reader_base/src/vectors.rt: change that.
-// Vectors.
+// Decoding and minimal encoding of vectors.
 
 use crate::vec::{Sink, Vec};
 use crate::reader::base::fault::ReadFault;
-use crate::reader::base::readable::{Readable, Spelled};
+use crate::reader::base::readable::{Layout, Readable};
 use crate::reader::base::shorten::Shorten;
 use crate::alloc::Allocator;
-use crate::base::{Encode, R};
+use crate::base::{Encode, Result};
 
-/// A count, and that many members. Memory is taken for members that stand there, and not by the count.
+/// A count, and that many members. Memory grows with the members that decode, and is not allocated
+/// by the count.
 ///
 /// # Defined
 ///
@@ -17,7 +18,7 @@ use crate::base::{Encode, R};
 /// format = { vec T.format }
 /// view = { λ v. map T.view v.items }
 /// ```
-impl<A: Allocator, T: Spelled> Spelled for Vec<T, A> {
+impl<A: Allocator, T: Layout> Layout for Vec<T, A> {
     fn laws() {
         T::laws();
     }
@@ -37,44 +38,46 @@ impl<'a, A: Allocator + Copy, T: Readable<'a, A>> Readable<'a, A> for Vec<T, A> 
     }
 }
 
-/// Writes what [`append_all`] appends. After an error, a part of it may be behind the old bytes.
+/// Writes the bytes that [`append_all`] appends. After an error, part of them may follow the old
+/// bytes.
 ///
 /// # Proved
 ///
 /// ```text
-/// ensures ok { OnOk result (AppendsShortest (members T.format) (map T.view items.now) out.old.items out.new.items) }
-/// ensures front { IsFrontOf out.old.items out.new.items }
+/// ensures ok { OnOk result (AppendsMinimal (members T.format) (map T.view items.now) sink.old.items sink.new.items) }
+/// ensures front { IsFrontOf sink.old.items sink.new.items }
 /// ensures too_long { HasEncoding (members T.format) (map T.view items.now) → result ≢ Err TooLong }
 /// ```
-fn write_all<T: Shorten, B: Sink>(items: &[T], out: &mut B) -> R<()> {
+fn write_all<T: Shorten, B: Sink>(items: &[T], sink: &mut B) -> Result<()> {
     for item in items {
-        item.write_minimal(out)?;
+        item.write_minimal(sink)?;
     }
     Ok(())
 }
 
-/// Appends the minimal encodings of the values, one after another. On an error, the sink is as it was.
+/// Appends the minimal encodings of the values, one after another. On an error, the sink is
+/// unchanged.
 ///
 /// # Proved
 ///
 /// ```text
-/// ensures ok { OnOk result (AppendsShortest (members T.format) (map T.view items.now) out.old.items out.new.items) }
-/// ensures err { OnErr result (out.new.items ≡ out.old.items) }
+/// ensures ok { OnOk result (AppendsMinimal (members T.format) (map T.view items.now) sink.old.items sink.new.items) }
+/// ensures err { OnErr result (sink.new.items ≡ sink.old.items) }
 /// ensures too_long { HasEncoding (members T.format) (map T.view items.now) → result ≢ Err TooLong }
 /// ```
-pub fn append_all<T: Shorten, B: Sink>(items: &[T], out: &mut B) -> R<()> {
-    let start = out.len();
-    let written = write_all(items, out);
+pub fn append_all<T: Shorten, B: Sink>(items: &[T], sink: &mut B) -> Result<()> {
+    let start = sink.len();
+    let written = write_all(items, sink);
     if written.is_err() {
-        out.truncate(start);
+        sink.truncate(start);
     }
     written
 }
 
-/// The number of the values, and the values.
+/// Writes the number of values, and the values.
 impl<T: Shorten, A: Allocator> Shorten for Vec<T, A> {
-    fn write_minimal<B: Sink>(&self, out: &mut B) -> R<()> {
-        self.len().encode(out)?;
-        write_all(self, out)
+    fn write_minimal<B: Sink>(&self, sink: &mut B) -> Result<()> {
+        self.len().encode(sink)?;
+        write_all(self, sink)
     }
 }

@@ -1,18 +1,22 @@
 // Written by tools/to-rust from crates/wasm_reader_base/src/whole.rt: change that.
-// Values that all of the bytes spell.
+// Decoding of values that occupy all of the bytes.
 
 use crate::vec::Vec;
 use crate::reader::base::fault::ReadFault;
 use crate::reader::base::readable::Readable;
 use crate::alloc::Allocator;
 
-/// The value that all of the bytes spell.
+/// Decodes a value that occupies all of the bytes.
+///
+/// # Errors
+///
+/// Any error but `Memory` means that the bytes as a whole encode no such value.
 ///
 /// # Proved
 ///
 /// ```text
-/// ensures found { IfOk result (λ x. T.format wide bytes.now (T.view x)) }
-/// ensures none { IfErr result (λ e. e ≢ Memory → FillsNothing T.format bytes.now) }
+/// ensures found { IfOk result (λ x. T.format padded bytes.now (T.view x)) }
+/// ensures none { IfErr result (λ e. e ≢ Memory → RejectsWhole T.format bytes.now) }
 /// ```
 pub fn read_whole<'a, T: Readable<'a, A>, A: Allocator + Copy>(
     bytes: &'a [u8],
@@ -27,7 +31,12 @@ pub fn read_whole<'a, T: Readable<'a, A>, A: Allocator + Copy>(
     }
 }
 
-/// Values one after another, up to the last byte, none of which is empty. Memory is taken for values that stand there.
+/// Decodes values one after another, up to the last byte; no encoding of one is empty. Memory grows
+/// with the values that decode.
+///
+/// # Errors
+///
+/// Any error but `Memory` means that the bytes as a whole encode no such values.
 ///
 /// # Asks
 ///
@@ -38,8 +47,8 @@ pub fn read_whole<'a, T: Readable<'a, A>, A: Allocator + Copy>(
 /// # Proved
 ///
 /// ```text
-/// ensures found { IfOk result (λ x. members T.format wide bytes.now (map T.view x.items)) }
-/// ensures none { IfErr result (λ e. e ≢ Memory → FillsNothing (members T.format) bytes.now) }
+/// ensures found { IfOk result (λ x. members T.format padded bytes.now (map T.view x.items)) }
+/// ensures none { IfErr result (λ e. e ≢ Memory → RejectsWhole (members T.format) bytes.now) }
 /// ```
 pub fn read_to_end<'a, T: Readable<'a, A>, A: Allocator + Copy>(
     bytes: &'a [u8],

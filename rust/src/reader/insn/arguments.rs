@@ -1,13 +1,13 @@
 // Written by tools/to-rust from crates/wasm_reader_insn/src/arguments.rt: change that.
-// The arguments of instructions.
+// Decoding and encoding of the arguments (immediates) of instructions.
 
 use crate::vec::{Sink, Vec};
 use crate::alloc::{Allocator, Global};
-use crate::base::{Encode, HeapType, R, ValType};
+use crate::base::{Encode, HeapType, Result, ValType};
 use crate::insn::{BlockType, Catch, Handle, Ieee32, Ieee64, MemArg, Ordering, Part, Shape};
 use crate::reader::base::{ReadFault, Readable};
 
-/// An argument of an instruction. Each is given for a part of the instruction's shape.
+/// An argument of an instruction, decoded from one immediate of its shape.
 #[derive(Debug)]
 pub enum Arg<A: Allocator = Global> {
     /// A number of 32 bits: an index, a label or a length.
@@ -27,22 +27,23 @@ pub enum Arg<A: Allocator = Global> {
     Block(BlockType),
     Heap(HeapType),
     Order(Ordering),
-    /// The labels of a branch by a table, without its default.
+    /// The labels of a branch table, without its default.
     Labels(Vec<u32, A>),
     Catches(Vec<Catch, A>),
     Types(Vec<ValType, A>),
     Handles(Vec<Handle, A>),
-    /// The flags of a cast, below 4: bit 0 is set where the first of its two types is nullable, bit 1 where the second is.
+    /// The flags of a cast, below 4: bit 0 is set if the first of its two types is nullable, bit 1
+    /// if the second is.
     Flag(u8),
 }
 
-/// A number.
+/// Decodes an unsigned number of 32 bits.
 ///
 /// # Proved
 ///
 /// ```text
-/// ensures found { IfOk result (λ x. Reads (part parts.Unsigned) wide bytes.now (argument_view x.0) x.1.now) }
-/// ensures none { IfErr result (λ e. e ≢ Memory → ReadsNothing (part parts.Unsigned) wide bytes.now) }
+/// ensures found { IfOk result (λ x. Decodes (part parts.Unsigned) padded bytes.now (argument_view x.0) x.1.now) }
+/// ensures none { IfErr result (λ e. e ≢ Memory → Rejects (part parts.Unsigned) padded bytes.now) }
 /// ```
 #[inline(always)]
 pub(crate) fn read_unsigned<'a, A: Allocator + Copy>(
@@ -53,13 +54,13 @@ pub(crate) fn read_unsigned<'a, A: Allocator + Copy>(
     Ok((Arg::U32(value), rest))
 }
 
-/// A signed number of 32 bits.
+/// Decodes a signed number of 32 bits.
 ///
 /// # Proved
 ///
 /// ```text
-/// ensures found { IfOk result (λ x. Reads (part parts.Signed32) wide bytes.now (argument_view x.0) x.1.now) }
-/// ensures none { IfErr result (λ e. e ≢ Memory → ReadsNothing (part parts.Signed32) wide bytes.now) }
+/// ensures found { IfOk result (λ x. Decodes (part parts.Signed32) padded bytes.now (argument_view x.0) x.1.now) }
+/// ensures none { IfErr result (λ e. e ≢ Memory → Rejects (part parts.Signed32) padded bytes.now) }
 /// ```
 #[inline(always)]
 pub(crate) fn read_signed32<'a, A: Allocator + Copy>(
@@ -70,13 +71,13 @@ pub(crate) fn read_signed32<'a, A: Allocator + Copy>(
     Ok((Arg::S32(value), rest))
 }
 
-/// A signed number of 64 bits.
+/// Decodes a signed number of 64 bits.
 ///
 /// # Proved
 ///
 /// ```text
-/// ensures found { IfOk result (λ x. Reads (part parts.Signed64) wide bytes.now (argument_view x.0) x.1.now) }
-/// ensures none { IfErr result (λ e. e ≢ Memory → ReadsNothing (part parts.Signed64) wide bytes.now) }
+/// ensures found { IfOk result (λ x. Decodes (part parts.Signed64) padded bytes.now (argument_view x.0) x.1.now) }
+/// ensures none { IfErr result (λ e. e ≢ Memory → Rejects (part parts.Signed64) padded bytes.now) }
 /// ```
 #[inline(always)]
 pub(crate) fn read_signed64<'a, A: Allocator + Copy>(
@@ -87,13 +88,13 @@ pub(crate) fn read_signed64<'a, A: Allocator + Copy>(
     Ok((Arg::S64(value), rest))
 }
 
-/// A float of 32 bits.
+/// Decodes a float of 32 bits.
 ///
 /// # Proved
 ///
 /// ```text
-/// ensures found { IfOk result (λ x. Reads (part parts.Float32) wide bytes.now (argument_view x.0) x.1.now) }
-/// ensures none { IfErr result (λ e. e ≢ Memory → ReadsNothing (part parts.Float32) wide bytes.now) }
+/// ensures found { IfOk result (λ x. Decodes (part parts.Float32) padded bytes.now (argument_view x.0) x.1.now) }
+/// ensures none { IfErr result (λ e. e ≢ Memory → Rejects (part parts.Float32) padded bytes.now) }
 /// ```
 #[inline(never)]
 fn read_float32<'a, A: Allocator + Copy>(
@@ -104,13 +105,13 @@ fn read_float32<'a, A: Allocator + Copy>(
     Ok((Arg::F32(value), rest))
 }
 
-/// A float of 64 bits.
+/// Decodes a float of 64 bits.
 ///
 /// # Proved
 ///
 /// ```text
-/// ensures found { IfOk result (λ x. Reads (part parts.Float64) wide bytes.now (argument_view x.0) x.1.now) }
-/// ensures none { IfErr result (λ e. e ≢ Memory → ReadsNothing (part parts.Float64) wide bytes.now) }
+/// ensures found { IfOk result (λ x. Decodes (part parts.Float64) padded bytes.now (argument_view x.0) x.1.now) }
+/// ensures none { IfErr result (λ e. e ≢ Memory → Rejects (part parts.Float64) padded bytes.now) }
 /// ```
 #[inline(never)]
 fn read_float64<'a, A: Allocator + Copy>(
@@ -121,13 +122,13 @@ fn read_float64<'a, A: Allocator + Copy>(
     Ok((Arg::F64(value), rest))
 }
 
-/// A vector.
+/// Decodes a vector of 128 bits.
 ///
 /// # Proved
 ///
 /// ```text
-/// ensures found { IfOk result (λ x. Reads (part parts.Vector) wide bytes.now (argument_view x.0) x.1.now) }
-/// ensures none { IfErr result (λ e. e ≢ Memory → ReadsNothing (part parts.Vector) wide bytes.now) }
+/// ensures found { IfOk result (λ x. Decodes (part parts.Vector) padded bytes.now (argument_view x.0) x.1.now) }
+/// ensures none { IfErr result (λ e. e ≢ Memory → Rejects (part parts.Vector) padded bytes.now) }
 /// ```
 #[inline(never)]
 fn read_vector<'a, A: Allocator + Copy>(
@@ -138,13 +139,13 @@ fn read_vector<'a, A: Allocator + Copy>(
     Ok((Arg::V128(value), rest))
 }
 
-/// A memory argument.
+/// Decodes a memory argument.
 ///
 /// # Proved
 ///
 /// ```text
-/// ensures found { IfOk result (λ x. Reads (part parts.Memory) wide bytes.now (argument_view x.0) x.1.now) }
-/// ensures none { IfErr result (λ e. e ≢ Memory → ReadsNothing (part parts.Memory) wide bytes.now) }
+/// ensures found { IfOk result (λ x. Decodes (part parts.Memory) padded bytes.now (argument_view x.0) x.1.now) }
+/// ensures none { IfErr result (λ e. e ≢ Memory → Rejects (part parts.Memory) padded bytes.now) }
 /// ```
 #[inline(always)]
 pub(crate) fn read_memory<'a, A: Allocator + Copy>(
@@ -155,13 +156,13 @@ pub(crate) fn read_memory<'a, A: Allocator + Copy>(
     Ok((Arg::Mem(value), rest))
 }
 
-/// A lane.
+/// Decodes a lane.
 ///
 /// # Proved
 ///
 /// ```text
-/// ensures found { IfOk result (λ x. Reads (part parts.Lane) wide bytes.now (argument_view x.0) x.1.now) }
-/// ensures none { IfErr result (λ e. e ≢ Memory → ReadsNothing (part parts.Lane) wide bytes.now) }
+/// ensures found { IfOk result (λ x. Decodes (part parts.Lane) padded bytes.now (argument_view x.0) x.1.now) }
+/// ensures none { IfErr result (λ e. e ≢ Memory → Rejects (part parts.Lane) padded bytes.now) }
 /// ```
 fn read_lane<'a, A: Allocator + Copy>(
     bytes: &'a [u8],
@@ -171,13 +172,13 @@ fn read_lane<'a, A: Allocator + Copy>(
     Ok((Arg::Lane(value), rest))
 }
 
-/// Sixteen lanes.
+/// Decodes sixteen lanes.
 ///
 /// # Proved
 ///
 /// ```text
-/// ensures found { IfOk result (λ x. Reads (part parts.Lanes) wide bytes.now (argument_view x.0) x.1.now) }
-/// ensures none { IfErr result (λ e. e ≢ Memory → ReadsNothing (part parts.Lanes) wide bytes.now) }
+/// ensures found { IfOk result (λ x. Decodes (part parts.Lanes) padded bytes.now (argument_view x.0) x.1.now) }
+/// ensures none { IfErr result (λ e. e ≢ Memory → Rejects (part parts.Lanes) padded bytes.now) }
 /// ```
 #[inline(never)]
 fn read_lanes<'a, A: Allocator + Copy>(
@@ -188,13 +189,13 @@ fn read_lanes<'a, A: Allocator + Copy>(
     Ok((Arg::Lanes(value), rest))
 }
 
-/// A block type.
+/// Decodes a block type.
 ///
 /// # Proved
 ///
 /// ```text
-/// ensures found { IfOk result (λ x. Reads (part parts.Block) wide bytes.now (argument_view x.0) x.1.now) }
-/// ensures none { IfErr result (λ e. e ≢ Memory → ReadsNothing (part parts.Block) wide bytes.now) }
+/// ensures found { IfOk result (λ x. Decodes (part parts.Block) padded bytes.now (argument_view x.0) x.1.now) }
+/// ensures none { IfErr result (λ e. e ≢ Memory → Rejects (part parts.Block) padded bytes.now) }
 /// ```
 #[inline(always)]
 pub(crate) fn read_block<'a, A: Allocator + Copy>(
@@ -205,13 +206,13 @@ pub(crate) fn read_block<'a, A: Allocator + Copy>(
     Ok((Arg::Block(value), rest))
 }
 
-/// A heap type.
+/// Decodes a heap type.
 ///
 /// # Proved
 ///
 /// ```text
-/// ensures found { IfOk result (λ x. Reads (part parts.Heap) wide bytes.now (argument_view x.0) x.1.now) }
-/// ensures none { IfErr result (λ e. e ≢ Memory → ReadsNothing (part parts.Heap) wide bytes.now) }
+/// ensures found { IfOk result (λ x. Decodes (part parts.Heap) padded bytes.now (argument_view x.0) x.1.now) }
+/// ensures none { IfErr result (λ e. e ≢ Memory → Rejects (part parts.Heap) padded bytes.now) }
 /// ```
 #[inline(never)]
 fn read_heap<'a, A: Allocator + Copy>(
@@ -222,13 +223,13 @@ fn read_heap<'a, A: Allocator + Copy>(
     Ok((Arg::Heap(value), rest))
 }
 
-/// An ordering.
+/// Decodes an ordering.
 ///
 /// # Proved
 ///
 /// ```text
-/// ensures found { IfOk result (λ x. Reads (part parts.Ordering) wide bytes.now (argument_view x.0) x.1.now) }
-/// ensures none { IfErr result (λ e. e ≢ Memory → ReadsNothing (part parts.Ordering) wide bytes.now) }
+/// ensures found { IfOk result (λ x. Decodes (part parts.Ordering) padded bytes.now (argument_view x.0) x.1.now) }
+/// ensures none { IfErr result (λ e. e ≢ Memory → Rejects (part parts.Ordering) padded bytes.now) }
 /// ```
 #[inline(never)]
 fn read_ordering<'a, A: Allocator + Copy>(
@@ -239,13 +240,13 @@ fn read_ordering<'a, A: Allocator + Copy>(
     Ok((Arg::Order(value), rest))
 }
 
-/// Labels.
+/// Decodes a vector of labels.
 ///
 /// # Proved
 ///
 /// ```text
-/// ensures found { IfOk result (λ x. Reads (part parts.Labels) wide bytes.now (argument_view x.0) x.1.now) }
-/// ensures none { IfErr result (λ e. e ≢ Memory → ReadsNothing (part parts.Labels) wide bytes.now) }
+/// ensures found { IfOk result (λ x. Decodes (part parts.Labels) padded bytes.now (argument_view x.0) x.1.now) }
+/// ensures none { IfErr result (λ e. e ≢ Memory → Rejects (part parts.Labels) padded bytes.now) }
 /// ```
 #[inline(never)]
 fn read_labels<'a, A: Allocator + Copy>(
@@ -256,13 +257,13 @@ fn read_labels<'a, A: Allocator + Copy>(
     Ok((Arg::Labels(value), rest))
 }
 
-/// Clauses that catch.
+/// Decodes a vector of catch clauses.
 ///
 /// # Proved
 ///
 /// ```text
-/// ensures found { IfOk result (λ x. Reads (part parts.Catches) wide bytes.now (argument_view x.0) x.1.now) }
-/// ensures none { IfErr result (λ e. e ≢ Memory → ReadsNothing (part parts.Catches) wide bytes.now) }
+/// ensures found { IfOk result (λ x. Decodes (part parts.Catches) padded bytes.now (argument_view x.0) x.1.now) }
+/// ensures none { IfErr result (λ e. e ≢ Memory → Rejects (part parts.Catches) padded bytes.now) }
 /// ```
 #[inline(never)]
 fn read_catches<'a, A: Allocator + Copy>(
@@ -273,13 +274,13 @@ fn read_catches<'a, A: Allocator + Copy>(
     Ok((Arg::Catches(value), rest))
 }
 
-/// Value types.
+/// Decodes a vector of value types.
 ///
 /// # Proved
 ///
 /// ```text
-/// ensures found { IfOk result (λ x. Reads (part parts.Types) wide bytes.now (argument_view x.0) x.1.now) }
-/// ensures none { IfErr result (λ e. e ≢ Memory → ReadsNothing (part parts.Types) wide bytes.now) }
+/// ensures found { IfOk result (λ x. Decodes (part parts.Types) padded bytes.now (argument_view x.0) x.1.now) }
+/// ensures none { IfErr result (λ e. e ≢ Memory → Rejects (part parts.Types) padded bytes.now) }
 /// ```
 #[inline(never)]
 fn read_types<'a, A: Allocator + Copy>(
@@ -290,13 +291,13 @@ fn read_types<'a, A: Allocator + Copy>(
     Ok((Arg::Types(value), rest))
 }
 
-/// Clauses that handle.
+/// Decodes a vector of handle clauses.
 ///
 /// # Proved
 ///
 /// ```text
-/// ensures found { IfOk result (λ x. Reads (part parts.Handles) wide bytes.now (argument_view x.0) x.1.now) }
-/// ensures none { IfErr result (λ e. e ≢ Memory → ReadsNothing (part parts.Handles) wide bytes.now) }
+/// ensures found { IfOk result (λ x. Decodes (part parts.Handles) padded bytes.now (argument_view x.0) x.1.now) }
+/// ensures none { IfErr result (λ e. e ≢ Memory → Rejects (part parts.Handles) padded bytes.now) }
 /// ```
 #[inline(never)]
 fn read_handles<'a, A: Allocator + Copy>(
@@ -307,13 +308,13 @@ fn read_handles<'a, A: Allocator + Copy>(
     Ok((Arg::Handles(value), rest))
 }
 
-/// The flags of a cast.
+/// Decodes the flags of a cast.
 ///
 /// # Proved
 ///
 /// ```text
-/// ensures found { IfOk result (λ x. Reads (part parts.Flag) wide bytes.now (argument_view x.0) x.1.now) }
-/// ensures none { IfErr result (λ e. e ≢ Memory → ReadsNothing (part parts.Flag) wide bytes.now) }
+/// ensures found { IfOk result (λ x. Decodes (part parts.Flag) padded bytes.now (argument_view x.0) x.1.now) }
+/// ensures none { IfErr result (λ e. e ≢ Memory → Rejects (part parts.Flag) padded bytes.now) }
 /// ```
 fn read_flag<'a, A: Allocator + Copy>(
     bytes: &'a [u8],
@@ -327,13 +328,14 @@ fn read_flag<'a, A: Allocator + Copy>(
     }
 }
 
-/// One argument. Arms that are rare or long are not put in place: with all of them there, what each leaves is moved by all.
+/// Decodes one argument. Rare and long arms are not inlined: with all of them inline, the compiler
+/// moves the result of each arm through all of them.
 ///
 /// # Proved
 ///
 /// ```text
-/// ensures found { IfOk result (λ x. Reads (part wanted) wide bytes.now (argument_view x.0) x.1.now) }
-/// ensures none { IfErr result (λ e. e ≢ Memory → ReadsNothing (part wanted) wide bytes.now) }
+/// ensures found { IfOk result (λ x. Decodes (part wanted) padded bytes.now (argument_view x.0) x.1.now) }
+/// ensures none { IfErr result (λ e. e ≢ Memory → Rejects (part wanted) padded bytes.now) }
 /// ```
 pub(crate) fn read_part<'a, A: Allocator + Copy>(
     wanted: Part,
@@ -361,7 +363,8 @@ pub(crate) fn read_part<'a, A: Allocator + Copy>(
     }
 }
 
-/// Appends an argument for each part, and answers the bytes after them.
+/// Decodes one argument for each of `wanted`, appends it to `args`, and returns the remaining
+/// bytes.
 ///
 /// # Asks
 ///
@@ -372,8 +375,8 @@ pub(crate) fn read_part<'a, A: Allocator + Copy>(
 /// # Proved
 ///
 /// ```text
-/// ensures found { IfOk result (λ rest. Reads (arguments wanted.now) wide bytes.now (map argument_view args.new.items) rest.now) }
-/// ensures none { IfErr result (λ e. e ≢ Memory → ReadsNothing (arguments wanted.now) wide bytes.now) }
+/// ensures found { IfOk result (λ rest. Decodes (arguments wanted.now) padded bytes.now (map argument_view args.new.items) rest.now) }
+/// ensures none { IfErr result (λ e. e ≢ Memory → Rejects (arguments wanted.now) padded bytes.now) }
 /// ```
 fn read_parts<'a, A: Allocator + Copy>(
     wanted: &[Part],
@@ -390,13 +393,14 @@ fn read_parts<'a, A: Allocator + Copy>(
     Ok(rest)
 }
 
-/// The arguments of any shape, in memory of just their number. Out of line, for those that are rare.
+/// Decodes the arguments of any shape, into a list of exactly their number. Out of line, for rare
+/// shapes.
 ///
 /// # Proved
 ///
 /// ```text
-/// ensures found { IfOk result (λ x. Reads (arguments (parts_of shape)) wide bytes.now (map argument_view x.0.items) x.1.now) }
-/// ensures none { IfErr result (λ e. e ≢ Memory → ReadsNothing (arguments (parts_of shape)) wide bytes.now) }
+/// ensures found { IfOk result (λ x. Decodes (arguments (parts_of shape)) padded bytes.now (map argument_view x.0.items) x.1.now) }
+/// ensures none { IfErr result (λ e. e ≢ Memory → Rejects (arguments (parts_of shape)) padded bytes.now) }
 /// ```
 #[inline(never)]
 fn read_any<'a, A: Allocator + Copy>(
@@ -410,7 +414,7 @@ fn read_any<'a, A: Allocator + Copy>(
     Ok((args, rest))
 }
 
-/// The list of the one argument that was read, and the bytes after it.
+/// Returns the list of the one decoded argument, and the remaining bytes.
 ///
 /// # Proved
 ///
@@ -429,13 +433,14 @@ fn list_one<'a, A: Allocator + Copy>(
     Ok((args, rest))
 }
 
-/// The arguments that follow an op of the shape, in memory of just their number. Those of common shapes are read in place.
+/// Decodes the arguments of an opcode of this shape, into a list of exactly their number. Common
+/// shapes are decoded inline.
 ///
 /// # Proved
 ///
 /// ```text
-/// ensures found { IfOk result (λ x. Reads (arguments (parts_of shape)) wide bytes.now (map argument_view x.0.items) x.1.now) }
-/// ensures none { IfErr result (λ e. e ≢ Memory → ReadsNothing (arguments (parts_of shape)) wide bytes.now) }
+/// ensures found { IfOk result (λ x. Decodes (arguments (parts_of shape)) padded bytes.now (map argument_view x.0.items) x.1.now) }
+/// ensures none { IfErr result (λ e. e ≢ Memory → Rejects (arguments (parts_of shape)) padded bytes.now) }
 /// ```
 #[inline]
 pub(crate) fn read_arguments<'a, A: Allocator + Copy>(
@@ -454,13 +459,13 @@ pub(crate) fn read_arguments<'a, A: Allocator + Copy>(
     }
 }
 
-/// The arguments of any shape, in the memory of the list. Out of line, for those that are rare.
+/// Decodes the arguments of any shape into the memory of `args`. Out of line, for rare shapes.
 ///
 /// # Proved
 ///
 /// ```text
-/// ensures found { IfOk result (λ rest. Reads (arguments (parts_of shape)) wide bytes.now (map argument_view args.new.items) rest.now) }
-/// ensures none { IfErr result (λ e. e ≢ Memory → ReadsNothing (arguments (parts_of shape)) wide bytes.now) }
+/// ensures found { IfOk result (λ rest. Decodes (arguments (parts_of shape)) padded bytes.now (map argument_view args.new.items) rest.now) }
+/// ensures none { IfErr result (λ e. e ≢ Memory → Rejects (arguments (parts_of shape)) padded bytes.now) }
 /// ```
 #[inline(never)]
 fn read_any_into<'a, A: Allocator + Copy>(
@@ -473,7 +478,7 @@ fn read_any_into<'a, A: Allocator + Copy>(
     read_parts(shape.parts(), bytes, alloc, args)
 }
 
-/// Makes the argument that was read the only one of the list, and answers the bytes after it.
+/// Makes the decoded argument the only one of the list, and returns the remaining bytes.
 ///
 /// # Proved
 ///
@@ -496,13 +501,14 @@ fn keep_one<'a, A: Allocator + Copy>(
     Ok(rest)
 }
 
-/// The arguments that follow an op of the shape, in the memory of the list, which loses what it had. Those of common shapes are read in place.
+/// Decodes the arguments of an opcode of this shape into the memory of `args`, and drops its old
+/// ones. Common shapes are decoded inline.
 ///
 /// # Proved
 ///
 /// ```text
-/// ensures found { IfOk result (λ rest. Reads (arguments (parts_of shape)) wide bytes.now (map argument_view args.new.items) rest.now) }
-/// ensures none { IfErr result (λ e. e ≢ Memory → ReadsNothing (arguments (parts_of shape)) wide bytes.now) }
+/// ensures found { IfOk result (λ rest. Decodes (arguments (parts_of shape)) padded bytes.now (map argument_view args.new.items) rest.now) }
+/// ensures none { IfErr result (λ e. e ≢ Memory → Rejects (arguments (parts_of shape)) padded bytes.now) }
 /// ```
 #[inline]
 pub(crate) fn read_arguments_into<'a, A: Allocator + Copy>(
@@ -525,52 +531,52 @@ pub(crate) fn read_arguments_into<'a, A: Allocator + Copy>(
     }
 }
 
-/// Appends the text of the argument.
+/// Appends the minimal encoding of the argument.
 ///
 /// # Proved
 ///
 /// ```text
-/// ensures ok { OnOk result (out.new.items ≡ out.old.items ++ argument_text (argument_view arg.now)) }
-/// ensures err { OnErr result (out.new.items ≡ out.old.items) }
-/// ensures too_long { IsPlainArgument (argument_view arg.now) → result ≢ Err TooLong }
+/// ensures ok { OnOk result (sink.new.items ≡ sink.old.items ++ argument_encoding (argument_view arg.now)) }
+/// ensures err { OnErr result (sink.new.items ≡ sink.old.items) }
+/// ensures too_long { IsWellFormedArgument (argument_view arg.now) → result ≢ Err TooLong }
 /// ```
-fn append_argument<A: Allocator, B: Sink>(arg: &Arg<A>, out: &mut B) -> R<()> {
+fn append_argument<A: Allocator, B: Sink>(arg: &Arg<A>, sink: &mut B) -> Result<()> {
     match arg {
-        Arg::U32(n) => n.encode(out),
-        Arg::S32(n) => n.encode(out),
-        Arg::S64(n) => n.encode(out),
-        Arg::F32(float) => float.encode(out),
-        Arg::F64(float) => float.encode(out),
-        Arg::V128(vector) => vector.to_le_bytes().encode(out),
-        Arg::Mem(memory) => memory.encode(out),
-        Arg::Lane(lane) => lane.encode(out),
-        Arg::Lanes(lanes) => lanes.encode(out),
-        Arg::Block(block) => block.encode(out),
-        Arg::Heap(heap) => heap.encode(out),
-        Arg::Order(ordering) => ordering.encode(out),
-        Arg::Labels(labels) => labels.as_slice().encode(out),
-        Arg::Catches(catches) => catches.as_slice().encode(out),
-        Arg::Types(types) => types.as_slice().encode(out),
-        Arg::Handles(handles) => handles.as_slice().encode(out),
-        Arg::Flag(flag) => flag.encode(out),
+        Arg::U32(n) => n.encode(sink),
+        Arg::S32(n) => n.encode(sink),
+        Arg::S64(n) => n.encode(sink),
+        Arg::F32(float) => float.encode(sink),
+        Arg::F64(float) => float.encode(sink),
+        Arg::V128(vector) => vector.to_le_bytes().encode(sink),
+        Arg::Mem(memory) => memory.encode(sink),
+        Arg::Lane(lane) => lane.encode(sink),
+        Arg::Lanes(lanes) => lanes.encode(sink),
+        Arg::Block(block) => block.encode(sink),
+        Arg::Heap(heap) => heap.encode(sink),
+        Arg::Order(ordering) => ordering.encode(sink),
+        Arg::Labels(labels) => labels.as_slice().encode(sink),
+        Arg::Catches(catches) => catches.as_slice().encode(sink),
+        Arg::Types(types) => types.as_slice().encode(sink),
+        Arg::Handles(handles) => handles.as_slice().encode(sink),
+        Arg::Flag(flag) => flag.encode(sink),
     }
 }
 
-/// Appends the texts of the arguments.
+/// Appends the minimal encodings of the arguments.
 ///
 /// # Proved
 ///
 /// ```text
-/// ensures ok { OnOk result (out.new.items ≡ out.old.items ++ flat_map (λ a. argument_text (argument_view a)) args.now) }
-/// ensures front { IsFrontOf out.old.items out.new.items }
-/// ensures too_long { ArePlain (map argument_view args.now) → result ≢ Err TooLong }
+/// ensures ok { OnOk result (sink.new.items ≡ sink.old.items ++ flat_map (λ a. argument_encoding (argument_view a)) args.now) }
+/// ensures front { IsFrontOf sink.old.items sink.new.items }
+/// ensures too_long { AreWellFormed (map argument_view args.now) → result ≢ Err TooLong }
 /// ```
 pub(crate) fn append_arguments<A: Allocator, B: Sink>(
     args: &[Arg<A>],
-    out: &mut B,
-) -> R<()> {
+    sink: &mut B,
+) -> Result<()> {
     for arg in args {
-        append_argument(arg, out)?;
+        append_argument(arg, sink)?;
     }
     Ok(())
 }

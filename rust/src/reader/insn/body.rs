@@ -1,23 +1,28 @@
 // Written by tools/to-rust from crates/wasm_reader_insn/src/body.rt: change that.
-// Lists of instructions up to the last byte, and functions' bodies.
+// Decoding and minimal encoding of instruction lists and function bodies.
 
 use crate::vec::{Sink, Vec};
 use crate::reader::insn::instruction::{Plain, append_instruction};
 use crate::reader::insn::walk::Instructions;
 use crate::alloc::{Allocator, Global};
-use crate::base::{R, ValType};
-use crate::reader::base::{ReadFault, Readable, Shorten, Spelled, frame_since};
+use crate::base::{Result, ValType};
+use crate::reader::base::{Layout, ReadFault, Readable, Shorten, prefix_size_since};
 
-/// A list is made with room for an instruction of so many bytes each, and grows where they are shorter.
+/// The capacity of a new list allows for one instruction per this many bytes. The list grows if
+/// they are shorter.
 const BYTES_OF_ONE: usize = 4;
 
-/// The instructions up to the last byte.
+/// Decodes instructions that occupy all of the bytes.
+///
+/// # Errors
+///
+/// Any error but `Memory` means that the bytes as a whole encode no instructions.
 ///
 /// # Proved
 ///
 /// ```text
-/// ensures found { IfOk result (λ x. members (instruction table) wide bytes.now (map plain_view x.items)) }
-/// ensures none { IfErr result (λ e. e ≢ Memory → FillsNothing (members (instruction table)) bytes.now) }
+/// ensures found { IfOk result (λ x. members (instruction table) padded bytes.now (map plain_view x.items)) }
+/// ensures none { IfErr result (λ e. e ≢ Memory → RejectsWhole (members (instruction table)) bytes.now) }
 /// ```
 pub fn read_code<'a, A: Allocator + Copy>(
     bytes: &'a [u8],
@@ -35,39 +40,44 @@ pub fn read_code<'a, A: Allocator + Copy>(
     }
 }
 
-/// Appends the shortest texts of the instructions.
+/// Appends the minimal encodings of the instructions.
 ///
 /// # Proved
 ///
 /// ```text
-/// ensures ok { OnOk result (AppendsShortest (members (instruction table)) (map plain_view code.now) out.old.items out.new.items) }
-/// ensures front { IsFrontOf out.old.items out.new.items }
+/// ensures ok { OnOk result (AppendsMinimal (members (instruction table)) (map plain_view code.now) sink.old.items sink.new.items) }
+/// ensures front { IsFrontOf sink.old.items sink.new.items }
 /// ensures too_long { HasEncoding (members (instruction table)) (map plain_view code.now) → result ≢ Err TooLong }
 /// ```
 pub(crate) fn append_code<A: Allocator, B: Sink>(
     code: &[Plain<A>],
-    out: &mut B,
-) -> R<()> {
+    sink: &mut B,
+) -> Result<()> {
     for instruction in code {
-        instruction.write_minimal(out)?;
+        instruction.write_minimal(sink)?;
     }
     Ok(())
 }
 
-/// A function's body: the runs of its locals, each a count and a type, and its instructions, each `End` among them.
+/// A function body: the runs of its locals, each a count and a type, and its instructions,
+/// including each `End`.
 #[derive(Debug)]
 pub struct Body<A: Allocator = Global> {
     pub runs: Vec<(u32, ValType), A>,
     pub code: Vec<Plain<A>, A>,
 }
 
-/// The body that all of the bytes spell, which are those in its frame.
+/// Decodes a body that occupies all of the bytes, which are a payload without its size prefix.
+///
+/// # Errors
+///
+/// Any error but `Memory` means that the bytes as a whole encode no body.
 ///
 /// # Proved
 ///
 /// ```text
-/// ensures found { IfOk result (λ x. body wide bytes.now (body_view x)) }
-/// ensures none { IfErr result (λ e. e ≢ Memory → FillsNothing body bytes.now) }
+/// ensures found { IfOk result (λ x. body padded bytes.now (body_view x)) }
+/// ensures none { IfErr result (λ e. e ≢ Memory → RejectsWhole body bytes.now) }
 /// ```
 pub fn read_body<'a, A: Allocator + Copy>(bytes: &'a [u8], alloc: A) -> Result<Body<A>, ReadFault> {
     let (runs, rest) = <Vec<(u32, ValType), A> as Readable<'a, A>>::read(bytes, alloc)?;
@@ -75,16 +85,16 @@ pub fn read_body<'a, A: Allocator + Copy>(bytes: &'a [u8], alloc: A) -> Result<B
     Ok(Body { runs, code })
 }
 
-/// A body in its frame, as it stands in a code section.
+/// A body with its size prefix, as in a code section.
 ///
 /// # Defined
 ///
 /// ```text
 /// Value = { BodyModel }
-/// format = { frame body }
+/// format = { size_prefixed body }
 /// view = { body_view }
 /// ```
-impl<A: Allocator> Spelled for Body<A> {
+impl<A: Allocator> Layout for Body<A> {
     fn laws() {}
 }
 
@@ -97,62 +107,68 @@ impl<'a, A: Allocator + Copy> Readable<'a, A> for Body<A> {
 }
 
 impl<A: Allocator> Shorten for Body<A> {
-    fn write_minimal<B: Sink>(&self, out: &mut B) -> R<()> {
-        let start = out.len();
-        self.runs.write_minimal(out)?;
-        append_code(&self.code, out)?;
-        frame_since(out, start)
+    fn write_minimal<B: Sink>(&self, sink: &mut B) -> Result<()> {
+        let start = sink.len();
+        self.runs.write_minimal(sink)?;
+        append_code(&self.code, sink)?;
+        prefix_size_since(sink, start)
     }
 }
 
-/// Writes what [`shorten_body`] appends. After an error, a part of it may be behind the old bytes.
+/// Writes the bytes that [`shorten_body`] appends. After an error, part of them may follow the old
+/// bytes.
 ///
 /// # Proved
 ///
 /// ```text
-/// ensures found { OnOk result ((x : BodyModel) × body wide bytes.now x × AppendsShortest (frame body) x out.old.items out.new.items) }
-/// ensures none { IfErr result (λ e. e ≢ Memory → FillsNothing body bytes.now) }
-/// ensures front { IsFrontOf out.old.items out.new.items }
+/// ensures found { OnOk result ((x : BodyModel) × body padded bytes.now x × AppendsMinimal (size_prefixed body) x sink.old.items sink.new.items) }
+/// ensures none { IfErr result (λ e. e ≢ Memory → RejectsWhole body bytes.now) }
+/// ensures front { IsFrontOf sink.old.items sink.new.items }
 /// ```
 fn write_body<A: Allocator + Copy, B: Sink>(
     bytes: &[u8],
     alloc: A,
-    out: &mut B,
+    sink: &mut B,
 ) -> Result<(), ReadFault> {
-    let start = out.len();
+    let start = sink.len();
     let (runs, mut instructions) = Instructions::of_body(bytes, alloc)?;
-    runs.write_minimal(out)?;
+    runs.write_minimal(sink)?;
     while let Some(step) = instructions.next()? {
-        append_instruction(step.op, instructions.args(), out)?;
+        append_instruction(step.op, instructions.args(), sink)?;
     }
-    frame_since(out, start)?;
+    prefix_size_since(sink, start)?;
     Ok(())
 }
 
-/// Appends the minimal encoding of a function's body, with its size, as a code section has it. The bytes are those of the body without its size. It
-/// goes over the instructions and keeps one of them. On an error, the sink is as it was.
+/// Appends the minimal encoding of a function body with its size prefix, as in a code section. The
+/// bytes are those of the body without its size prefix. The call visits the instructions, and keeps
+/// one at a time. On an error, the sink is unchanged.
 ///
 /// ```text
 /// shorten_body(&[0x80, 0x00, 0x20, 0x81, 0x00, 0x0B], alloc, &mut out)?;
 /// // 04 00 20 01 0B was appended: a body of no locals, `LocalGet(1)` and `End`
 /// ```
 ///
+/// # Errors
+///
+/// Any error but `Memory` means that the bytes as a whole encode no body.
+///
 /// # Proved
 ///
 /// ```text
-/// ensures found { OnOk result ((x : BodyModel) × body wide bytes.now x × AppendsShortest (frame body) x out.old.items out.new.items) }
-/// ensures none { IfErr result (λ e. e ≢ Memory → FillsNothing body bytes.now) }
-/// ensures err { OnErr result (out.new.items ≡ out.old.items) }
+/// ensures found { OnOk result ((x : BodyModel) × body padded bytes.now x × AppendsMinimal (size_prefixed body) x sink.old.items sink.new.items) }
+/// ensures none { IfErr result (λ e. e ≢ Memory → RejectsWhole body bytes.now) }
+/// ensures err { OnErr result (sink.new.items ≡ sink.old.items) }
 /// ```
 pub fn shorten_body<A: Allocator + Copy, B: Sink>(
     bytes: &[u8],
     alloc: A,
-    out: &mut B,
+    sink: &mut B,
 ) -> Result<(), ReadFault> {
-    let start = out.len();
-    let written = write_body(bytes, alloc, out);
+    let start = sink.len();
+    let written = write_body(bytes, alloc, sink);
     if written.is_err() {
-        out.truncate(start);
+        sink.truncate(start);
     }
     written
 }

@@ -1,17 +1,17 @@
 // Written by tools/to-rust from crates/wasm_reader_insn/src/expression.rt: change that.
-// Constant expressions: instructions up to `End`.
+// Decoding and minimal encoding of constant expressions: instructions up to `End`.
 
 use crate::vec::{Sink, Vec};
 use crate::reader::insn::body::append_code;
 use crate::reader::insn::instruction::Plain;
 use crate::alloc::{Allocator, Global};
-use crate::base::R;
-use crate::reader::base::{ReadFault, Readable, Shorten, Spelled};
+use crate::base::Result;
+use crate::reader::base::{Layout, ReadFault, Readable, Shorten};
 
 /// The opcode of `End`.
 pub(crate) const END: u8 = 0x0B;
 
-/// The instructions of a constant expression, without the `End` that ends it.
+/// The instructions of a constant expression, without its final `End`.
 #[derive(Debug)]
 pub struct Expression<A: Allocator = Global>(pub Vec<Plain<A>, A>);
 
@@ -22,7 +22,7 @@ pub struct Expression<A: Allocator = Global>(pub Vec<Plain<A>, A>);
 /// format = { expression }
 /// view = { λ e. map plain_view e.0.items }
 /// ```
-impl<A: Allocator> Spelled for Expression<A> {
+impl<A: Allocator> Layout for Expression<A> {
     fn laws() {}
 }
 
@@ -45,9 +45,9 @@ impl<'a, A: Allocator + Copy> Readable<'a, A> for Expression<A> {
 }
 
 impl<A: Allocator> Shorten for Expression<A> {
-    fn write_minimal<B: Sink>(&self, out: &mut B) -> R<()> {
-        append_code(&self.0, out)?;
-        out.push(END)?;
+    fn write_minimal<B: Sink>(&self, sink: &mut B) -> Result<()> {
+        append_code(&self.0, sink)?;
+        sink.push(END)?;
         Ok(())
     }
 }

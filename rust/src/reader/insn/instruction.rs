@@ -1,27 +1,29 @@
 // Written by tools/to-rust from crates/wasm_reader_insn/src/instruction.rt: change that.
-// Instructions: an opcode, and an argument for each part of its shape.
+// Decoding and minimal encoding of one instruction: an opcode, and an argument for each immediate
+// of its shape.
 
 use crate::vec::{Sink, Vec};
 use crate::reader::insn::arguments::{Arg, append_arguments, read_arguments, read_arguments_into};
 use crate::alloc::{Allocator, Global};
-use crate::base::{Encode, R};
+use crate::base::{Encode, Result};
 use crate::insn::Op;
-use crate::reader::base::{ReadFault, Readable, Shorten, Spelled};
+use crate::reader::base::{Layout, ReadFault, Readable, Shorten};
 
-/// An instruction in normal form: its opcode, and an argument for each part of the opcode's shape.
+/// An instruction in normal form: its opcode, and an argument for each immediate of the opcode's
+/// shape.
 #[derive(Debug)]
 pub struct Plain<A: Allocator = Global> {
     pub op: Op,
     pub args: Vec<Arg<A>, A>,
 }
 
-/// The opcode that the bytes begin with, and the bytes after it.
+/// Decodes the opcode at the front, and returns it with the remaining bytes.
 ///
 /// # Proved
 ///
 /// ```text
-/// ensures found { IfOk result (λ x. Reads opcode wide bytes.now x.0 x.1.now) }
-/// ensures none { IfErr result (λ e. e ≢ Memory → ReadsNothing opcode wide bytes.now) }
+/// ensures found { IfOk result (λ x. Decodes opcode padded bytes.now x.0 x.1.now) }
+/// ensures none { IfErr result (λ e. e ≢ Memory → Rejects opcode padded bytes.now) }
 /// ```
 #[inline]
 pub(crate) fn read_op<'a, A: Allocator + Copy>(
@@ -46,7 +48,7 @@ pub(crate) fn read_op<'a, A: Allocator + Copy>(
 /// format = { instruction table }
 /// view = { plain_view }
 /// ```
-impl<A: Allocator> Spelled for Plain<A> {
+impl<A: Allocator> Layout for Plain<A> {
     fn laws() {}
 }
 
@@ -61,14 +63,14 @@ impl<'a, A: Allocator + Copy> Readable<'a, A> for Plain<A> {
     }
 }
 
-/// The opcode of the instruction that the bytes begin with, and the bytes after the instruction. Its arguments are in the list, which
-/// loses what it had.
+/// Decodes the instruction at the front: returns its opcode and the remaining bytes, and replaces
+/// the content of `args` by its arguments.
 ///
 /// # Proved
 ///
 /// ```text
-/// ensures found { IfOk result (λ x. Reads (instruction table) wide bytes.now (record { op = x.0; arguments = map argument_view args.new.items }) x.1.now) }
-/// ensures none { IfErr result (λ e. e ≢ Memory → ReadsNothing (instruction table) wide bytes.now) }
+/// ensures found { IfOk result (λ x. Decodes (instruction table) padded bytes.now (record { op = x.0; arguments = map argument_view args.new.items }) x.1.now) }
+/// ensures none { IfErr result (λ e. e ≢ Memory → Rejects (instruction table) padded bytes.now) }
 /// ```
 pub(crate) fn read_instruction_into<'a, A: Allocator + Copy>(
     bytes: &'a [u8],
@@ -83,26 +85,26 @@ pub(crate) fn read_instruction_into<'a, A: Allocator + Copy>(
     Ok((op, rest))
 }
 
-/// Appends the shortest text of the instruction.
+/// Appends the minimal encoding of the instruction.
 ///
 /// # Proved
 ///
 /// ```text
-/// ensures ok { OnOk result (AppendsShortest (instruction table) (record { op = op; arguments = map argument_view args.now }) out.old.items out.new.items) }
-/// ensures front { IsFrontOf out.old.items out.new.items }
+/// ensures ok { OnOk result (AppendsMinimal (instruction table) (record { op = op; arguments = map argument_view args.now }) sink.old.items sink.new.items) }
+/// ensures front { IsFrontOf sink.old.items sink.new.items }
 /// ensures too_long { HasEncoding (instruction table) (record { op = op; arguments = map argument_view args.now }) → result ≢ Err TooLong }
 /// ```
 pub(crate) fn append_instruction<A: Allocator, B: Sink>(
     op: Op,
     args: &[Arg<A>],
-    out: &mut B,
-) -> R<()> {
-    op.encode(out)?;
-    append_arguments(args, out)
+    sink: &mut B,
+) -> Result<()> {
+    op.encode(sink)?;
+    append_arguments(args, sink)
 }
 
 impl<A: Allocator> Shorten for Plain<A> {
-    fn write_minimal<B: Sink>(&self, out: &mut B) -> R<()> {
-        append_instruction(self.op, &self.args, out)
+    fn write_minimal<B: Sink>(&self, sink: &mut B) -> Result<()> {
+        append_instruction(self.op, &self.args, sink)
     }
 }

@@ -1,12 +1,14 @@
 // Written by tools/to-rust from crates/wasm_reader_insn/src/laws.rt: change that.
-//! What is promised of all lists of bytes, and not of a call: the function does nothing, and its clause is the promise.
+//! A law about the offsets of instructions, for all byte sequences: the function does nothing, and
+//! its clause is the law.
 
-/// The places of a walk over a body are those that `Function::byte_len` of `wasm_code` told: after as many instructions as a raw body
-/// has, the walk over whatever goes on from it is at that raw body's length, and what it went over is that body.
+/// The visitor of a body reports the offsets that `Function::byte_len` of `wasm_code` returned.
+/// After as many instructions as a raw body has, a visitor of a longer body that begins with it is
+/// at that raw body's length. It has then visited exactly that body.
 ///
 /// # Proved
 ///
 /// ```text
-/// ensures { HasPlaces }
+/// ensures { OffsetLaws }
 /// ```
-pub fn places() {}
+pub fn offsets() {}

@@ -1,16 +1,18 @@
 // Written by tools/to-rust from crates/wasm_reader_insn/src/lib.rt: change that.
-//! Reads instructions, exactly: an opcode and an argument for each part of its shape, padded numbers too.
+//! Decodes instructions, exactly: an opcode and an argument for each immediate of its shape, padded
+//! numbers included.
 //!
-//! [`Plain`] is an instruction, [`Expression`] a constant expression, [`Body`] a function's body.
-//! [`Instructions`] goes over the instructions of a body or an expression and keeps one of them; [`laws`] says what its places are.
-//! By `Passed` of `wasm_reader_base` bodies and expressions are gone over, and nothing is kept.
+//! [`Plain`] is an instruction, [`Expression`] a constant expression, [`Body`] a function body.
+//! [`Instructions`] visits the instructions of a body or an expression and keeps one at a time;
+//! [`laws`] states which offsets it reports. Through `Skip` of `wasm_reader_base`, bodies and
+//! expressions are skipped, and nothing is kept.
 
 mod arguments;
 mod body;
 mod expression;
 mod instruction;
 pub mod laws;
-mod passed;
+mod skip;
 mod walk;
 
 pub use arguments::Arg;

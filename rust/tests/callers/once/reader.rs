@@ -11,5 +11,5 @@ fn walk() {
     );
     let _ = instructions.next_before_end().expect("read");
     let _ = instructions.args();
-    let _ = instructions.place();
+    let _ = instructions.offset();
 }

@@ -5,7 +5,7 @@ use dolzhytik::fallible::{CowSlice, RefType, ValType};
 use dolzhytik::fallible::laws::sections::{plain_export, plain_global, plain_table};
 use dolzhytik::fallible::{DataSection, DataSegment, DataSegmentMode, ElementMode, ElementSection, ElementSegment, Elements, Export, ExportKind, GlobalType, MemoryType, TableType, TagKind, TagSection, TagType};
 
-/// A byte that is not active.
+/// Returns a passive segment of one byte.
 fn passive_byte<'a>() -> DataSegment<'a, [u8; 1]> {
     DataSegment {
         mode: DataSegmentMode::Passive,
@@ -13,7 +13,7 @@ fn passive_byte<'a>() -> DataSegment<'a, [u8; 1]> {
     }
 }
 
-/// The function 7.
+/// Returns a reference to the function 7.
 fn seventh<'a>() -> Elements<'a> {
     Elements::Functions(CowSlice::Borrowed(&[7]))
 }

@@ -4,13 +4,13 @@
 use dolzhytik::fallible::ValType;
 use dolzhytik::fallible::{ArrayType, CompositeInnerType, CompositeType, ContType, FieldType, FuncType, StorageType, SubType, TypeSection};
 
-/// A byte that can be set.
+/// A mutable byte.
 const BYTE: FieldType = FieldType {
     element_type: StorageType::I8,
     mutable: true,
 };
 
-/// A subtype without further ones: an array of bytes.
+/// Returns a final subtype: an array of bytes.
 fn bytes() -> SubType {
     SubType {
         is_final: true,

@@ -102,25 +102,25 @@ module _ (B : Al) {M : Type 1} {𝓤 : Ura M} (𝓛 : Logic 𝓤) (mem : Memory 
     walk : n < 2 ^ 64 → a < 2 ^ 64
         → ent 𝓤 ((walk_of 𝓛 (ended B) (stayed B) (clauses B 𝓛 mem runs)).pre (bound B 𝓛 mem runs κ ι q s inside r n a τ))
         (WpFn 𝓤 H 𝓣.C 𝓣.Λ (here B) vals (Post B 𝓛 mem runs κ ι q s inside r n a τ))
-    walk n_encodable a_encodable =
+    walk n_fits a_fits =
         let y = bound B 𝓛 mem runs κ ι q s inside r n a τ in
         let End : Val → SProp 𝓤 = Post B 𝓛 mem runs κ ι q s inside r n a τ in
-        let Encodable : Type 0 = (capped (size τ) ≡ n) × (capped (align τ) ≡ a) in
+        let Fits : Type 0 = (capped (size τ) ≡ n) × (capped (align τ) ≡ a) in
         let h : B.row.Denot = r.now.inner in
         let p : ℕ × ℕ = inner_at B r.ref_ptr in
         let g : ℕ × ℕ = gate_at B r.ref_ptr in
         let z : (Takes B 𝓛 mem runs).Ghost = at_takes B 𝓛 mem runs κ q p h n a τ in
-        let size_prefixed = fm_of 𝓤 H 𝓛.laws 𝓣 in
-        qed 𝓛 (((‵ (flft κ q) ⊛ ‵ (flft ι s) ⊛ ‵ ftrue) ⊛ ‵ (owns (types_at (ended B).signature.params y.0.0) y.0.3 y.0.4)) ∷ (raw (fact 𝓤 (ι ⊑ B.row.lives)) ⊛ raw (fact 𝓤 Encodable)) ∷ []) ∵
-        move ! (1 ∷ []) $ split ! $ heard ! (ι ⊑ B.row.lives) (λ lives. heard ! Encodable (λ encodable.
+        let frame = fm_of 𝓤 H 𝓛.laws 𝓣 in
+        qed 𝓛 (((‵ (flft κ q) ⊛ ‵ (flft ι s) ⊛ ‵ ftrue) ⊛ ‵ (owns (types_at (ended B).signature.params y.0.0) y.0.3 y.0.4)) ∷ (raw (fact 𝓤 (ι ⊑ B.row.lives)) ⊛ raw (fact 𝓤 Fits)) ∷ []) ∵
+        move ! (1 ∷ []) $ split ! $ heard ! (ι ⊑ B.row.lives) (λ lives. heard ! Fits (λ fits.
         -- [the inner allocator; the gate; the tokens of κ and ι]
         split ! $ split ! $ move ! (2 ∷ []) $ fsplit ! $ fsplit ! $ move ! (1 ∷ []) $
         use1 𝓛 (‵ (seen B κ p h) ⊛ ‵ (gate_seen κ g r.now.gate)) (parts 𝓛 B κ r.ref_ptr r.now) $ split ! $ keep ! (0 ∷ 1 ∷ 4 ∷ 5 ∷ []) $
-        enter ! 𝓣.C 𝓣.Λ (here B) vals _ $ alloc_all ! (λ l. pass_all ! refl ((tt, tt), ((tt, record { encodable = n_encodable }), ((tt, record { encodable = a_encodable }), tt))) $
+        enter ! 𝓣.C 𝓣.Λ (here B) vals _ $ alloc_all ! (λ l. pass_all ! refl ((tt, tt), ((tt, record { fits = n_fits }), ((tt, record { fits = a_fits }), tt))) $
         -- The call asks the gate.
         sets ! (addr ! (through ! refl (fld ! refl (stop !)))) refl (tt, tt) $ move ! (1 ∷ 2 ∷ []) $
         use2 𝓛 (raw ((Verdict 𝓛 mem runs).pre (asked 𝓛 mem runs κ q g r.now.gate))) (asks 𝓛 mem runs κ q g r.now.gate) $
-        calls_at ! size_prefixed (Verdict 𝓛 mem runs) verdict (asked 𝓛 mem runs κ q g r.now.gate) (and_then ! (get ! refl) (no_more !)) (λ v.
+        calls_at ! frame (Verdict 𝓛 mem runs) verdict (asked 𝓛 mem runs κ q g r.now.gate) (and_then ! (get ! refl) (no_more !)) (λ v.
         use1 𝓛 (later (some (λ (refused : Bool). given (v ≡ vbool refused) (‵ (flft κ q))))) (tells 𝓛 mem runs κ q g r.now.gate v) $
         await ! tt $ pick ! (λ refused. learn ! (λ is. lands_as ! is refl (tt, tt) $ first ! $ branches ! (get ! refl)
         -- The gate refuses.
@@ -131,8 +131,8 @@ module _ (B : Al) {M : Type 1} {𝓤 : Ura M} (𝓛 : Logic 𝓤) (mem : Memory 
         -- The request is passed on.
         (λ t. skips ! $ exec ! 𝓣.C 𝓣.Λ (env (here B).locals l) (after 3 (here B).body) (at_ret (env (here B).locals l) End) $
         sets ! (addr ! (through ! refl (fld ! refl (stop !)))) refl (tt, tt) $ move ! (1 ∷ 0 ∷ []) $
-        use2 𝓛 (raw ((Takes B 𝓛 mem runs).pre z)) (Takes-goes B 𝓛 mem runs κ q p h (⊑_trans κ ι B.row.lives inside lives) n a τ encodable.0 encodable.1 n_encodable a_encodable) $
-        calls_at ! size_prefixed (Takes B 𝓛 mem runs) inner z (and_then ! (get ! refl) (and_then ! (get ! refl) (and_then ! (get ! refl) (no_more !)))) (λ v'.
+        use2 𝓛 (raw ((Takes B 𝓛 mem runs).pre z)) (Takes-goes B 𝓛 mem runs κ q p h (⊑_trans κ ι B.row.lives inside lives) n a τ fits.0 fits.1 n_fits a_fits) $
+        calls_at ! frame (Takes B 𝓛 mem runs) inner z (and_then ! (get ! refl) (and_then ! (get ! refl) (and_then ! (get ! refl) (no_more !)))) (λ v'.
         use1 𝓛 (later (raw (Answered B 𝓛 mem runs h τ v') ⊛ ‵ (flft κ q))) (Takes-gives B 𝓛 mem runs κ q p h n a τ v') $ await ! tt $ split ! $
         answers B ! mem runs h τ v'
         (λ b o is'. fjoin ! $ lands_as ! is' refl (Answer-typed true b o) $ returns ! (look_at ! 0 refl) $ free_all ! refl $

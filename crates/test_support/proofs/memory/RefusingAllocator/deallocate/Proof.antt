@@ -90,8 +90,8 @@ module _ (B : Al) {M : Type 1} {𝓤 : Ura M} (𝓛 : Logic 𝓤) (mem : Memory 
     abbrev vals : Ptr → List Val
     vals x = vptr r.ref_ptr.0 r.ref_ptr.1 ∷ ptr_val x ∷ vint w64 n ∷ vint w64 a ∷ []
 
-    abbrev Encodable : Type 0
-    Encodable = (capped (size τ) ≡ n) × (capped (align τ) ≡ a)
+    abbrev Fits : Type 0
+    Fits = (capped (size τ) ≡ n) × (capped (align τ) ≡ a)
 
     abbrev Goal : Ptr → Type 1
     Goal x = ent 𝓤 ((walk_of 𝓛 (ended B) (stayed B) (clauses B 𝓛 mem runs)).pre (bound B 𝓛 mem runs κ ι q s inside r n a τ x))
@@ -105,27 +105,27 @@ module _ (B : Al) {M : Type 1} {𝓤 : Ura M} (𝓛 : Logic 𝓤) (mem : Memory 
     at_null =
         let y = started null_ptr in
         qed 𝓛 (((‵ (flft κ q) ⊛ ‵ (flft ι s) ⊛ ‵ ftrue) ⊛ ‵ (owns (types_at (ended B).signature.params y.0.0) y.0.3 y.0.4)) ∷
-        (raw (fact 𝓤 (ι ⊑ B.row.lives)) ⊛ raw (fact 𝓤 Encodable) ⊛ ‵ (fsep ffalse (token B r.now.inner τ null_ptr))) ∷ []) ∵
+        (raw (fact 𝓤 (ι ⊑ B.row.lives)) ⊛ raw (fact 𝓤 Fits) ⊛ ‵ (fsep ffalse (token B r.now.inner τ null_ptr))) ∷ []) ∵
         move ! (1 ∷ []) $ split3 ! $ move ! (2 ∷ []) $ fsplit ! $ keep ! (0 ∷ []) $ by ! (never_e 𝓤 _)
 
     at_block : n < 2 ^ 64 → a < 2 ^ 64 → (b o : ℕ) → Goal (block_ptr b o)
-    at_block n_encodable a_encodable b o =
+    at_block n_fits a_fits b o =
         let x : Ptr = block_ptr b o in
         let y = started x in
         let h : B.row.Denot = r.now.inner in
         let p : ℕ × ℕ = inner_at B r.ref_ptr in
         let z : (Gives B 𝓛 mem runs).Ghost = at_gives B 𝓛 mem runs κ q p h b o n a τ in
         qed 𝓛 (((‵ (flft κ q) ⊛ ‵ (flft ι s) ⊛ ‵ ftrue) ⊛ ‵ (owns (types_at (ended B).signature.params y.0.0) y.0.3 y.0.4)) ∷
-        (raw (fact 𝓤 (ι ⊑ B.row.lives)) ⊛ raw (fact 𝓤 Encodable) ⊛ ‵ (fsep (froom τ b o) (token B h τ x))) ∷ []) ∵
-        move ! (1 ∷ []) $ split3 ! $ heard ! (ι ⊑ B.row.lives) (λ lives. heard ! Encodable (λ encodable.
+        (raw (fact 𝓤 (ι ⊑ B.row.lives)) ⊛ raw (fact 𝓤 Fits) ⊛ ‵ (fsep (froom τ b o) (token B h τ x))) ∷ []) ∵
+        move ! (1 ∷ []) $ split3 ! $ heard ! (ι ⊑ B.row.lives) (λ lives. heard ! Fits (λ fits.
         fsplit ! $ move ! (2 ∷ []) $ split ! $ split ! $ move ! (2 ∷ []) $ fsplit ! $ fsplit ! $ move ! (1 ∷ []) $
         use1 𝓛 (‵ (seen B κ p h) ⊛ ‵ (gate_seen κ (gate_at B r.ref_ptr) r.now.gate)) (parts 𝓛 B κ r.ref_ptr r.now) $ split ! $
         -- [the arguments of the call: the bytes of the block, the right to free it, the inner
         -- allocator, the token of κ; the token of ι]
         keep ! (0 ∷ 4 ∷ 7 ∷ 6 ∷ 5 ∷ []) $ join ! $ move ! (1 ∷ 0 ∷ []) $ join ! $ move ! (1 ∷ 0 ∷ []) $ join ! $
-        enter ! 𝓣.C 𝓣.Λ (here B) (vals x) _ $ alloc_all ! (λ l. pass_all ! refl ((tt, tt), ((tt, tt), ((tt, record { encodable = n_encodable }), ((tt, record { encodable = a_encodable }), tt)))) $
+        enter ! 𝓣.C 𝓣.Λ (here B) (vals x) _ $ alloc_all ! (λ l. pass_all ! refl ((tt, tt), ((tt, tt), ((tt, record { fits = n_fits }), ((tt, record { fits = a_fits }), tt)))) $
         sets ! (addr ! (through ! refl (fld ! refl (stop !)))) refl (tt, tt) $
-        use1 𝓛 (raw ((Gives B 𝓛 mem runs).pre z)) (Gives-goes B 𝓛 mem runs κ q p h (⊑_trans κ ι B.row.lives inside lives) b o n a τ encodable.0 encodable.1 n_encodable a_encodable) $
+        use1 𝓛 (raw ((Gives B 𝓛 mem runs).pre z)) (Gives-goes B 𝓛 mem runs κ q p h (⊑_trans κ ι B.row.lives inside lives) b o n a τ fits.0 fits.1 n_fits a_fits) $
         calls_at ! (fm_of 𝓤 H 𝓛.laws 𝓣) (Gives B 𝓛 mem runs) inner z
         (and_then ! (get ! refl) (and_then ! (get ! refl) (and_then ! (get ! refl) (and_then ! (get ! refl) (no_more !))))) (λ v.
         use1 𝓛 (later (given (v ≡ vunit) (‵ (flft κ q)))) (Gives-Gives B 𝓛 mem runs κ q p h b o n a τ v) $ await ! tt $
@@ -133,8 +133,8 @@ module _ (B : Al) {M : Type 1} {𝓤 : Ura M} (𝓛 : Logic 𝓤) (mem : Memory 
         suffices ! _ (meets B 𝓛 mem runs κ ι q s inside r n a τ x) $ done !)))))
 
     walk : n < 2 ^ 64 → a < 2 ^ 64 → (x : Ptr) → Goal x
-    walk n_encodable a_encodable null_ptr = at_null
-    walk n_encodable a_encodable (block_ptr b o) = at_block n_encodable a_encodable b o
+    walk n_fits a_fits null_ptr = at_null
+    walk n_fits a_fits (block_ptr b o) = at_block n_fits a_fits b o
 
 pub deallocate_spec : {M : Type 1} → statement M
 unfolding tables_of

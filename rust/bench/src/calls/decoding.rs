@@ -1,5 +1,5 @@
-// Written by tools/to-rust from crates/wasm_bench/src/reading.rt: change that.
-// Code sections and bodies, read.
+// Written by tools/to-rust from crates/wasm_bench/src/decoding.rt: change that.
+// The workloads that decode code sections and bodies.
 
 use crate::calls::answers::NO_ANSWER;
 use dolzhytik::fallible::Global;
@@ -7,7 +7,7 @@ use dolzhytik::reader::{Items, SectionKind, read_section};
 use dolzhytik::reader::ReadFault;
 use dolzhytik::reader::{Body, Instructions};
 
-/// How many instructions the bodies have together; none where these are more than can be counted.
+/// Returns the number of instructions in all bodies together, or `None` if it does not fit 64 bits.
 ///
 /// # Proved
 ///
@@ -22,7 +22,8 @@ fn instructions(bodies: &[Body]) -> Option<u64> {
     Some(count)
 }
 
-/// Reads a code section, whose bytes begin at its size, into a list of its bodies, and answers how many instructions these have.
+/// Decodes a code section, whose bytes begin at its size prefix, into a list of its bodies, and
+/// returns the number of their instructions.
 ///
 /// # Proved
 ///
@@ -36,7 +37,7 @@ pub fn wb_read(alloc: Global, section: &[u8]) -> u64 {
     }
 }
 
-/// How many instructions a walk goes over.
+/// Returns the number of instructions that a visitor visits.
 ///
 /// # Proved
 ///
@@ -52,7 +53,8 @@ fn walked(alloc: Global, body: &[u8]) -> Result<u64, ReadFault> {
     Ok(count)
 }
 
-/// Goes over the instructions of a body, whose bytes are those without its size, and answers how many they are.
+/// Visits the instructions of a body, whose bytes are those without its size prefix, and returns
+/// their number.
 ///
 /// # Proved
 ///

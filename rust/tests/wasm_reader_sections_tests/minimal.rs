@@ -1,5 +1,5 @@
-// Written by tools/to-rust from tests/wasm_reader_sections_tests/src/shortest.rtt: change that.
-// Sections that are shortened.
+// Written by tools/to-rust from tests/wasm_reader_sections_tests/src/minimal.rtt: change that.
+// Tests of minimized sections.
 
 use dolzhytik::fallible::Vec;
 use crate::checks::check_bytes;
@@ -9,14 +9,14 @@ use crate::read_back::padded_function;
 use dolzhytik::fallible::Global;
 use crate::host::Abort;
 use crate::test_support::{MOST, Refusing};
-use dolzhytik::fallible::R;
+use dolzhytik::fallible::Result;
 use dolzhytik::reader::{SectionKind, shorten};
 use dolzhytik::reader::ReadFault;
 
-/// A byte that stands in the sink before the call.
+/// The byte in the sink before the call.
 const BEFORE: u8 = 0xAA;
 
-/// A section with padded numbers, and its shortest text.
+/// A section with padded numbers, and its minimal encoding.
 type Row = (SectionKind, &'static [u8], &'static [u8]);
 
 static PADDED: [Row; 37] = [
@@ -225,17 +225,18 @@ static PADDED: [Row; 37] = [
     ),
 ];
 
-/// How many bytes a call took, or the cause; and whether the sink has gained the text and nothing else.
+/// The length of the section in bytes, or the error; and whether the sink gained exactly the
+/// expected bytes.
 type Outcome = (usize, Option<ReadFault>, bool);
 
-/// The call, where the request with this number is refused.
+/// Makes the call, with the request of this number failing.
 fn outcome(
     heap: &Refusing<Global>,
     nth: u64,
     kind: SectionKind,
     bytes: &[u8],
     text: &[u8],
-) -> R<Outcome> {
+) -> Result<Outcome> {
     heap.refuse(0);
     let mut sink = Vec::new(heap);
     sink.push(BEFORE)?;
@@ -256,7 +257,8 @@ fn check(rt: &impl Abort, given: Outcome, taken: usize, fault: Option<ReadFault>
     assert_eq!(rt; given, (taken, fault, true));
 }
 
-/// The text of all bytes is appended, and each request for memory that is refused leaves the sink as it was.
+/// Checks that the minimal encoding is appended, and that the section has all of the bytes. If a
+/// request for memory fails, the sink is unchanged.
 fn check_row(
     rt: &impl Abort,
     heap: &Refusing<Global>,
@@ -267,7 +269,8 @@ fn check_row(
     check_taken(rt, heap, kind, bytes, text, bytes.len())
 }
 
-/// The text is appended, and so many bytes are taken. Each request for memory that is refused leaves the sink as it was.
+/// Checks the appended bytes, and the length of the section in bytes. If a request for memory
+/// fails, the sink is unchanged.
 fn check_taken(
     rt: &impl Abort,
     heap: &Refusing<Global>,
@@ -296,7 +299,7 @@ fn padded() {
     }
 }
 
-/// What is as short as can be stays as it is.
+/// Minimal sections are unchanged.
 #[test]
 fn plain() {
     let rt = crate::host::HostRuntime;
@@ -323,7 +326,7 @@ fn passive_data_of_128_bytes() {
     }
 }
 
-/// Where no section stands nothing is appended.
+/// Nothing is appended for bytes that are not a section.
 #[test]
 fn none() {
     let rt = crate::host::HostRuntime;
@@ -334,7 +337,7 @@ fn none() {
     }
 }
 
-/// What follows a section is left.
+/// Bytes after a section are left.
 #[test]
 fn bytes_behind() {
     let rt = crate::host::HostRuntime;

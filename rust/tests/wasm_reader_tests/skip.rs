@@ -1,36 +1,32 @@
-// Written by tools/to-rust from tests/wasm_reader_tests/src/passed.rtt: change that.
-// Values that are gone over and not kept: each request for memory is refused, so that none is made.
+// Written by tools/to-rust from tests/wasm_reader_tests/src/skip.rtt: change that.
+// Tests of values that are skipped and not kept: each request for memory would fail, so that none
+// is made.
 
 use crate::checks::{check_cause, check_left};
 use crate::host::Abort;
 use crate::test_support::{Heap, Refusing};
 use dolzhytik::fallible::ValType;
-use dolzhytik::reader::{Dropped, Passed, ReadFault, pass_many};
+use dolzhytik::reader::{Dropped, ReadFault, Skip, skip_many};
 use dolzhytik::reader::{Body, Expression};
 
-/// A value of the kind stands there, and so many bytes are after it.
-fn check<'a, P: Passed<'a, Heap<'a>>>(
-    rt: &impl Abort,
-    heap: Heap<'a>,
-    bytes: &'a [u8],
-    left: usize,
-) {
+/// Checks that a value of the kind is skipped, and the number of remaining bytes.
+fn check<'a, P: Skip<'a, Heap<'a>>>(rt: &impl Abort, heap: Heap<'a>, bytes: &'a [u8], left: usize) {
     heap.refuse_all();
-    match P::pass(bytes, heap) {
+    match P::skip(bytes, heap) {
         Ok(rest) => check_left(rt, rest, left),
         Err(_) => panic!(rt; "nothing stands there"),
     }
 }
 
-/// None stands there, for this cause.
-fn check_none<'a, P: Passed<'a, Heap<'a>>>(
+/// Checks that skipping fails with this cause.
+fn check_none<'a, P: Skip<'a, Heap<'a>>>(
     rt: &impl Abort,
     heap: Heap<'a>,
     bytes: &'a [u8],
     expected: ReadFault,
 ) {
     heap.refuse_all();
-    let fault = match P::pass(bytes, heap) {
+    let fault = match P::skip(bytes, heap) {
         Ok(_) => None,
         Err(fault) => Some(fault),
     };
@@ -57,23 +53,23 @@ fn many() {
     let rt = crate::host::HostRuntime;
     let heap = Refusing::new(rt.alloc());
     heap.refuse_all();
-    let (count, rest) = pass_many::<Dropped<ValType>, Heap>(
+    let (count, rest) = skip_many::<Dropped<ValType>, Heap>(
         &[0x82, 0x00, 0x7F, 0x64, 0x05, 9],
         &heap,
     ).expect("accepted");
     check_count(&rt, count, 2);
     check_left(&rt, rest, 1);
-    let (count, rest) = pass_many::<Dropped<ValType>, Heap>(&[0, 9], &heap).expect("accepted");
+    let (count, rest) = skip_many::<Dropped<ValType>, Heap>(&[0, 9], &heap).expect("accepted");
     check_count(&rt, count, 0);
     check_left(&rt, rest, 1);
-    let short = match pass_many::<Dropped<ValType>, Heap>(&[2, 0x7F], &heap) {
+    let short = match skip_many::<Dropped<ValType>, Heap>(&[2, 0x7F], &heap) {
         Ok(_) => None,
         Err(fault) => Some(fault),
     };
     check_cause(&rt, short, ReadFault::Ended);
 }
 
-/// Expressions of one instruction: each part of a shape, and each list with two members.
+/// Expressions of one instruction: each immediate of a shape, and each list with two members.
 static EXPRESSIONS: [&[u8]; 24] = [
     &[0x0B],
     &[0x01, 0x0B],

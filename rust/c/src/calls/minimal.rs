@@ -1,5 +1,5 @@
-// Written by tools/to-rust from crates/wasm_c/src/shortest.rt: change that.
-// Shortest texts of sections.
+// Written by tools/to-rust from crates/wasm_c/src/minimal.rt: change that.
+// Minimal encodings of sections, for C.
 
 use dolzhytik::fallible::Vec;
 use crate::calls::NO_ANSWER;
@@ -8,11 +8,14 @@ use crate::calls::recipes::copied;
 use dolzhytik::fallible::Global;
 use dolzhytik::reader::{SectionKind, shorten};
 
-/// The number of the cause that no kind has the number.
+/// The number of the cause of a kind that does not exist.
 const NO_KIND: u32 = 9;
 
-/// Writes the shortest text of the section of a kind that the bytes begin with; both begin at the section's size. `taken` is how many bytes it takes
-/// there. Where there is none, `cause` is the number of what is wrong; else it is 0.
+/// Writes the minimal encoding of the section of a kind at the front of the bytes; both begin at
+/// the section's size prefix. Returns its length in bytes.
+///
+/// `taken` is the length of the section in the input, in bytes. On an error, `cause` is the number
+/// of the error; on success it is 0.
 ///
 /// # Proved
 ///
