@@ -26,7 +26,7 @@ pub fn count_instructions<A: Allocator + Copy>(bytes: &[u8], alloc: A) -> Result
 /// Returns the offset after the first `count` instructions of a body: the result of
 /// `Function::byte_len` when these had been added. The bytes are those of the body without its size
 /// prefix.
-pub fn place_after<A: Allocator + Copy>(
+pub fn offset_after<A: Allocator + Copy>(
     bytes: &[u8],
     count: usize,
     alloc: A,

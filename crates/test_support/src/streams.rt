@@ -31,7 +31,7 @@ impl Countdown {
 /// A failed read consumes nothing, and the reads after it continue.
 #[derive(Drop)]
 pub struct FailingReader<'a> {
-    encoding: &'a [u8],
+    text: &'a [u8],
     chunk: usize,
     countdown: Countdown,
     ghost positive: { 0 < chunk },
@@ -40,14 +40,14 @@ pub struct FailingReader<'a> {
 impl<'a> FailingReader<'a> {
     /// Returns a reader whose reads return at most `chunk` bytes. The read numbered `failing`
     /// fails, counted from 1; at 0 none does.
-    pub fn new(encoding: &'a [u8], chunk: usize, failing: u64) -> FailingReader<'a>
+    pub fn new(text: &'a [u8], chunk: usize, failing: u64) -> FailingReader<'a>
         requires { 0 < chunk }
-        ensures encoding { result.encoding.now ≡ encoding.now }
+        ensures text { result.text.now ≡ text.now }
         ensures chunk { result.chunk ≡ chunk }
         ensures failing { result.countdown.left ≡ failing }
     {
         FailingReader {
-            encoding,
+            text,
             chunk,
             countdown: Countdown { left: failing },
         }
@@ -55,22 +55,22 @@ impl<'a> FailingReader<'a> {
 }
 
 impl Read for FailingReader<'_> {
-    ghost remaining = { λ r. Some r.encoding.now };
+    ghost remaining = { λ r. Some r.text.now };
 
     fn read(&mut self, buf: &mut [u8]) -> Result<usize>
         ensures bound { ReadsAtMost result buf.new }
-        ensures bytes { ReadConsumes (Some self.old.encoding.now) (Some self.new.encoding.now) result
+        ensures bytes { ReadConsumes (Some self.old.text.now) (Some self.new.text.now) result
             buf.new }
-        ensures count { let piece = min (length self.old.encoding.now) self.old.chunk in
+        ensures count { let piece = min (length self.old.text.now) self.old.chunk in
             IfOk result (λ n. n ≡ min piece (length buf.new)) }
         ensures fails { IsErr result ↔ (self.old.countdown.left ≡ 1) }
         ensures counts { self.new.countdown.left ≡ self.old.countdown.left - 1 }
         ensures chunk { self.new.chunk ≡ self.old.chunk }
     {
         self.countdown.step()?;
-        let count = self.encoding.len().min(self.chunk).min(buf.len());
-        buf[..count].copy_from_slice(&self.encoding[..count]);
-        self.encoding = &self.encoding[count..];
+        let count = self.text.len().min(self.chunk).min(buf.len());
+        buf[..count].copy_from_slice(&self.text[..count]);
+        self.text = &self.text[count..];
         Ok(count)
     }
 }

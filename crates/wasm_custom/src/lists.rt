@@ -75,7 +75,7 @@ impl<K: ListKind, A: Allocator> CountedList<K, A> {
     }
 
     /// Proves that the entries are the encodings of a list of members. The function does nothing.
-    pub fn contains(&self)
+    pub fn members_law(&self)
         ensures { ContainsList K.member_encoding K.is_member self.now }
     {
         let _ = self.pieces.len();

@@ -84,7 +84,7 @@ impl<A: Allocator> IndirectNameMap<A> {
     pub fn append<B: Allocator>(&mut self, index: u32, names: &NameMap<B>) -> Result<()>
         ensures { Adds (unsigned_encoding index ++ list_encoding names.now) ⊤ self.old self.new result }
     {
-        names.contains();
+        names.members_law();
         self.add_record(&(index, Lent(names)))
     }
 }

@@ -315,7 +315,7 @@ fn group_kind(bytes: &[u8]) -> Option<(u8, &[u8])>
     ensures { MatchOption result (Rejects (prefixed (0x00 ∷ []) group) padded bytes.now) (λ x. (bytes.now ≡ 0x00 ∷ x.0 ∷ x.1.now) × (0x7E ≤ x.0)) }
 {
     match bytes {
-        [0x00, kind @ 0x7E.., rest @ ..] => Some((*kind, rest)),
+        [0x00, kind @ 0x7E..=0xFF, rest @ ..] => Some((*kind, rest)),
         _ => None,
     }
 }

@@ -1,5 +1,5 @@
 //! The workloads of `bench/` in the build by rustc: the border by which the drivers call them as they call those of the proved build.
-use calls::{code, data, exports, functions, imports, line, name_section, reading, types};
+use calls::{code, data, decoding, exports, functions, imports, line, name_section, types};
 use dolzhytik::fallible::Global;
 use std::slice;
 
@@ -35,5 +35,5 @@ workload!(wb_exports of exports: [names names_len: u8, lens lens_len: u32, kinds
 workload!(wb_imports of imports: [names names_len: u8, lens lens_len: u32, kinds kinds_len: u8, indices indices_len: u32] [phase] [out out_len]);
 workload!(wb_names of name_section: [names names_len: u8, lens lens_len: u32, indices indices_len: u32] [phase] [out out_len]);
 workload!(wb_data of data: [bytes bytes_len: u8] [segment, phase] [out out_len]);
-workload!(wb_read of reading: [section section_len: u8] [] []);
-workload!(wb_walk of reading: [body body_len: u8] [] []);
+workload!(wb_read of decoding: [section section_len: u8] [] []);
+workload!(wb_walk of decoding: [body body_len: u8] [] []);

@@ -1,6 +1,6 @@
 //! The functions of `dolzhytik.h` on any platform. What each does stands in [`calls`], which is written from the proved source; here is the border: pointers and
 //! lengths become slices.
-use calls::{DzOutlined, DzSection, causes, listing, outlining, recipes, shortest, whole};
+use calls::{DzOutlined, DzSection, causes, listing, minimal, outlining, recipes, whole};
 use dolzhytik::fallible::Global;
 use std::slice;
 
@@ -75,7 +75,7 @@ pub unsafe extern "C" fn dz_list(
     listing::dz_list(Global, module, out, place, cause)
 }
 
-/// Writes the shortest text of a section.
+/// Writes the minimal text of a section.
 ///
 /// # Safety
 ///
@@ -92,7 +92,7 @@ pub unsafe extern "C" fn dz_shorten(
 ) -> u64 {
     let bytes = unsafe { list(bytes, bytes_len) };
     let out = unsafe { room(out, out_len) };
-    shortest::dz_shorten(Global, kind, bytes, out, taken, cause)
+    minimal::dz_shorten(Global, kind, bytes, out, taken, cause)
 }
 
 /// Outlines a module.
@@ -114,7 +114,7 @@ pub unsafe extern "C" fn dz_outline(
     outlining::dz_outline(Global, module, out, place, cause)
 }
 
-/// Writes the shortest text of a module.
+/// Writes the minimal text of a module.
 ///
 /// # Safety
 ///

@@ -95,7 +95,7 @@ impl<K: ListKind, A: Allocator> CountedList<K, A> {
     /// ```text
     /// ensures { ContainsList K.member_encoding K.is_member self.now }
     /// ```
-    pub fn contains(&self) {
+    pub fn members_law(&self) {
         let _ = self.pieces.len();
     }
 }

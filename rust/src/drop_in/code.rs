@@ -2,7 +2,7 @@
 use super::entries::{Entries, FEW, Growing, append, append_once};
 use super::{Encode, Instruction, done, listed};
 use crate::alloc::Global;
-use crate::base::{self, R, ValType, vec_of};
+use crate::base::{self, Result, ValType, vec_of};
 use crate::code::code_section::RawBody;
 use crate::{code, insn};
 use alloc_crate::vec::Vec;
@@ -26,7 +26,7 @@ impl<'a> InstructionSink<'a> {
     #[inline]
     pub(super) fn made(
         &mut self,
-        call: impl FnOnce(&mut insn::InstructionSink<'_, Growing<'_>>) -> R<()>,
+        call: impl FnOnce(&mut insn::InstructionSink<'_, Growing<'_>>) -> Result<()>,
     ) -> &mut Self {
         let mut sink = Growing(self.sink);
         done(call(&mut insn::InstructionSink::new(&mut sink)));
@@ -133,7 +133,7 @@ impl Function {
 /// The frame of the body.
 impl Encode for Function {
     fn encode(&self, sink: &mut Vec<u8>) {
-        done(base::encode_frame(&mut Growing(sink), &self.bytes))
+        done(base::encode_size_prefixed(&mut Growing(sink), &self.bytes))
     }
 }
 

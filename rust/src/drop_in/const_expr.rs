@@ -1,7 +1,7 @@
 //! Constant expressions.
 use super::entries::{Bytes, FEW, Growing};
 use super::{Encode, Instruction, done};
-use crate::base::{self, HeapType, Optional, R};
+use crate::base::{self, HeapType, Optional, Result};
 use crate::code;
 use crate::code::const_expr::{END, Stored, function_at_front};
 use crate::code::first::First;
@@ -39,7 +39,7 @@ impl From<code::ConstExpr> for ConstExpr {
 /// The instructions and `end`, by their proved `encode`.
 impl base::Encode for ConstExpr {
     #[inline]
-    fn encode<A: Sink>(&self, sink: &mut A) -> R<()> {
+    fn encode<A: Sink>(&self, sink: &mut A) -> Result<()> {
         match self.first {
             Some(first) if self.rest.is_empty() => (first, END).encode(sink),
             first => (Optional(first), Stored(&self.rest), END).encode(sink),
@@ -127,7 +127,7 @@ impl ConstExpr {
 
     /// With what a proved call appends.
     #[inline]
-    fn with(mut self, call: impl FnOnce(&mut InstructionSink<'_, Bytes>) -> R<()>) -> Self {
+    fn with(mut self, call: impl FnOnce(&mut InstructionSink<'_, Bytes>) -> Result<()>) -> Self {
         done(call(&mut InstructionSink::new(&mut self.rest)));
         self
     }

@@ -61,7 +61,7 @@ pub use types::{
     CompositeInnerType, CompositeType, CoreTypeEncoder, FuncType, StructType, SubType, TypeSection,
 };
 
-use crate::base::{CowSlice, R, Refused};
+use crate::base::{CowSlice, Refused, Result};
 use alloc_crate::alloc::{Layout, handle_alloc_error};
 use alloc_crate::borrow::Cow;
 
@@ -77,7 +77,7 @@ fn refuse(refused: Refused) -> ! {
 
 /// What a proved call answers where it isn't refused.
 #[inline]
-fn done<T>(answer: R<T>) -> T {
+fn done<T>(answer: Result<T>) -> T {
     match answer {
         Ok(done) => done,
         Err(refused) => refuse(refused),

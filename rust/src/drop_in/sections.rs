@@ -1,7 +1,7 @@
 //! The sections of counted items.
 use super::entries::Entries;
 use super::{ConstExpr, ExportKind, TagType, done, listed};
-use crate::base::{CowSlice, Encode, Lent, R, RefType, bytes_of};
+use crate::base::{CowSlice, Encode, Lent, RefType, Result, bytes_of};
 use crate::sections;
 use crate::sections::data::{ACTIVE, ACTIVE_IN_MEMORY, PASSIVE};
 use crate::sections::table::BEFORE_INIT;
@@ -153,7 +153,7 @@ struct WithExpressions<'a> {
 }
 
 impl Encode for WithExpressions<'_> {
-    fn encode<A: Sink>(&self, sink: &mut A) -> R<()> {
+    fn encode<A: Sink>(&self, sink: &mut A) -> Result<()> {
         self.before.encode(sink)?;
         sink.truncate(sink.len() - 1);
         self.expressions.encode(sink)

@@ -349,7 +349,7 @@ impl<'a, A: Allocator + Copy> Readable<'a, A> for ImportCompact<'a> {
 /// ```
 fn group_kind(bytes: &[u8]) -> Option<(u8, &[u8])> {
     match bytes {
-        [0x00, kind @ 0x7E.., rest @ ..] => Some((*kind, rest)),
+        [0x00, kind @ 0x7E..=0xFF, rest @ ..] => Some((*kind, rest)),
         _ => None,
     }
 }

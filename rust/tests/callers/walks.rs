@@ -33,7 +33,7 @@ pub fn count_instructions<A: Allocator + Copy>(bytes: &[u8], alloc: A) -> Result
 /// ```text
 /// ensures { IfOk result (λ offset. (front more : List ℕ) (x : Body) → body padded front x → length x.code ≡ count → bytes.now ≡ front ++ more → offset ≡ length front) }
 /// ```
-pub fn place_after<A: Allocator + Copy>(
+pub fn offset_after<A: Allocator + Copy>(
     bytes: &[u8],
     count: usize,
     alloc: A,

@@ -1,6 +1,6 @@
 //! Builders of every length: what grows, moves or stays in place has the same bytes.
 use crate::checks::encoded;
-use dolzhytik::fallible::{self, Global, R};
+use dolzhytik::fallible::{self, Global, Result};
 use dolzhytik::{
     CodeSection, ConstExpr, DataSection, ElementSection, ExportKind, ExportSection, Function,
     FunctionSection, GlobalSection, GlobalType, ImportSection, Instruction, MemorySection,
@@ -107,7 +107,7 @@ macro_rules! comes_of {
 }
 
 #[test]
-fn sections_come_of_proved_ones() -> R<()> {
+fn sections_come_of_proved_ones() -> Result<()> {
     const MEMORY: MemoryType = MemoryType {
         minimum: 1,
         maximum: Some(300),

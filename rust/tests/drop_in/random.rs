@@ -1,6 +1,6 @@
 //! Random calls, made at the root and in `fallible`: the bytes are the same.
 use crate::checks::encoded;
-use dolzhytik::fallible::{self, CowSlice, Global, R};
+use dolzhytik::fallible::{self, CowSlice, Global, Result};
 use dolzhytik::{
     CodeSection, ConstExpr, DataSection, ElementSection, Elements, Encode, EntityType, ExportKind,
     ExportSection, Function, FunctionSection, GlobalSection, GlobalType, HeapType, ImportSection,
@@ -148,7 +148,7 @@ impl Numbers {
     }
 
     /// The same expression for both, made in one of four ways.
-    fn expression(&mut self) -> R<(ConstExpr, fallible::ConstExpr)> {
+    fn expression(&mut self) -> Result<(ConstExpr, fallible::ConstExpr)> {
         let (value, count) = (self.next().cast_signed(), self.below(8));
         let mut root = ConstExpr::empty();
         let mut proved = fallible::ConstExpr::empty(Global);
@@ -179,9 +179,9 @@ impl Numbers {
         Ok((root, proved))
     }
 
-    fn expressions(&mut self) -> R<(Vec<ConstExpr>, Vec<fallible::ConstExpr>)> {
+    fn expressions(&mut self) -> Result<(Vec<ConstExpr>, Vec<fallible::ConstExpr>)> {
         let count = self.below(5);
-        let both: R<Vec<_>> = (0..count).map(|_| self.expression()).collect();
+        let both: Result<Vec<_>> = (0..count).map(|_| self.expression()).collect();
         Ok(both?.into_iter().unzip())
     }
 }
@@ -190,8 +190,8 @@ impl Numbers {
 fn same<T: Default + Encode, P: fallible::Encode>(
     numbers: &mut Numbers,
     new: fn(Global) -> P,
-    add: fn(&mut Numbers, &mut T, &mut P) -> R<()>,
-) -> R<()> {
+    add: fn(&mut Numbers, &mut T, &mut P) -> Result<()>,
+) -> Result<()> {
     for _ in 0..ROUNDS {
         let (mut root, mut proved) = (T::default(), new(Global));
         for _ in 0..numbers.below(12) {
@@ -205,7 +205,7 @@ fn same<T: Default + Encode, P: fallible::Encode>(
 }
 
 #[test]
-fn types_and_code() -> R<()> {
+fn types_and_code() -> Result<()> {
     let it = &mut Numbers(1);
     same::<TypeSection, _>(it, fallible::TypeSection::new, |it, root, proved| {
         let (params, results) = (it.val_types(), it.val_types());
@@ -230,7 +230,7 @@ fn types_and_code() -> R<()> {
 }
 
 #[test]
-fn records() -> R<()> {
+fn records() -> Result<()> {
     let it = &mut Numbers(2);
     same::<ImportSection, _>(it, fallible::ImportSection::new, |it, root, proved| {
         let (module, name, ty) = (it.name(), it.name(), it.entity_type());
@@ -260,7 +260,7 @@ fn records() -> R<()> {
 }
 
 #[test]
-fn sections_with_expressions() -> R<()> {
+fn sections_with_expressions() -> Result<()> {
     let it = &mut Numbers(3);
     same::<TableSection, _>(it, fallible::TableSection::new, |it, root, proved| {
         let (ty, (init, other)) = (it.table_type(), it.expression()?);

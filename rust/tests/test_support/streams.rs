@@ -32,7 +32,7 @@ impl Countdown {
 /// A reader of bytes, which returns them in chunks. One of its reads fails, if a test wants that.
 /// A failed read consumes nothing, and the reads after it continue.
 pub struct FailingReader<'a> {
-    encoding: &'a [u8],
+    text: &'a [u8],
     chunk: usize,
     countdown: Countdown,
 }
@@ -50,13 +50,13 @@ impl<'a> FailingReader<'a> {
     /// # Proved
     ///
     /// ```text
-    /// ensures encoding { result.encoding.now ≡ encoding.now }
+    /// ensures text { result.text.now ≡ text.now }
     /// ensures chunk { result.chunk ≡ chunk }
     /// ensures failing { result.countdown.left ≡ failing }
     /// ```
-    pub fn new(encoding: &'a [u8], chunk: usize, failing: u64) -> FailingReader<'a> {
+    pub fn new(text: &'a [u8], chunk: usize, failing: u64) -> FailingReader<'a> {
         FailingReader {
-            encoding,
+            text,
             chunk,
             countdown: Countdown { left: failing },
         }
@@ -66,16 +66,16 @@ impl<'a> FailingReader<'a> {
 /// # Defined
 ///
 /// ```text
-/// remaining = { λ r. Some r.encoding.now }
+/// remaining = { λ r. Some r.text.now }
 /// ```
 impl Read for FailingReader<'_> {
     /// # Proved
     ///
     /// ```text
     /// ensures bound { ReadsAtMost result buf.new }
-    /// ensures bytes { ReadConsumes (Some self.old.encoding.now) (Some self.new.encoding.now) result
+    /// ensures bytes { ReadConsumes (Some self.old.text.now) (Some self.new.text.now) result
     ///     buf.new }
-    /// ensures count { let piece = min (length self.old.encoding.now) self.old.chunk in
+    /// ensures count { let piece = min (length self.old.text.now) self.old.chunk in
     ///     IfOk result (λ n. n ≡ min piece (length buf.new)) }
     /// ensures fails { IsErr result ↔ (self.old.countdown.left ≡ 1) }
     /// ensures counts { self.new.countdown.left ≡ self.old.countdown.left - 1 }
@@ -83,9 +83,9 @@ impl Read for FailingReader<'_> {
     /// ```
     fn read(&mut self, buf: &mut [u8]) -> Result<usize> {
         self.countdown.step()?;
-        let count = self.encoding.len().min(self.chunk).min(buf.len());
-        buf[..count].copy_from_slice(&self.encoding[..count]);
-        self.encoding = &self.encoding[count..];
+        let count = self.text.len().min(self.chunk).min(buf.len());
+        buf[..count].copy_from_slice(&self.text[..count]);
+        self.text = &self.text[count..];
         Ok(count)
     }
 }

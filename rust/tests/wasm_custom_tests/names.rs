@@ -50,7 +50,7 @@ fn entries_of_maps() {
     check_text(&rt, rt.alloc(), &map, &[0]);
     map.append(300, "b").expect("accepted");
     map.append(2, "").expect("accepted");
-    map.holds();
+    map.members_law();
     check_len(&rt, map.len(), map.is_empty(), 2);
     check_text(
         &rt,

@@ -82,11 +82,11 @@ fn check_walk(
     rt: &impl Abort,
     given: Result<Option<Step>, ReadFault>,
     expected: Result<Option<Step>, ReadFault>,
-    place: usize,
-    expected_place: usize,
+    offset: usize,
+    expected_offset: usize,
 ) {
     assert_eq!(rt; given, expected);
-    assert_eq!(rt; place, expected_place);
+    assert_eq!(rt; offset, expected_offset);
 }
 
 #[test]
@@ -95,7 +95,7 @@ fn walks() {
     let heap = Refusing::new(rt.alloc());
     let mut walk = Instructions::new(&[0x20, 1, 0x41, 2, 0x0B], &heap);
     let first = Step {
-        place: 0,
+        offset: 0,
         op: Op::Byte(0x20),
     };
     heap.refuse(1);
@@ -109,7 +109,7 @@ fn walks() {
     // The memory of its arguments is there.
     heap.refuse_all();
     let second = Step {
-        place: 2,
+        offset: 2,
         op: Op::Byte(0x41),
     };
     let answer = walk.next_before_end();

@@ -2,7 +2,7 @@
 // Tests of the instruction visitor, with ample memory.
 
 use dolzhytik::fallible::Vec;
-use crate::callers::walks::{count_instructions, place_after};
+use crate::callers::walks::{count_instructions, offset_after};
 use dolzhytik::fallible::Global;
 use crate::host::Abort;
 use dolzhytik::fallible::{Result, ValType};
@@ -13,14 +13,14 @@ use dolzhytik::reader::{Instructions, Step};
 use dolzhytik::reader::laws::insn as laws;
 
 /// Checks the step.
-fn check_step(rt: &impl Abort, given: Option<Step>, place: usize, op: Op) {
-    assert_eq!(rt; given, Some(Step { place, op }));
+fn check_step(rt: &impl Abort, given: Option<Step>, offset: usize, op: Op) {
+    assert_eq!(rt; given, Some(Step { offset, op }));
 }
 
 /// Checks that no instruction remains, and the offset of the end.
-fn check_end(rt: &impl Abort, given: Option<Step>, place: usize, expected: usize) {
+fn check_end(rt: &impl Abort, given: Option<Step>, offset: usize, expected: usize) {
     assert_eq!(rt; given, None);
-    assert_eq!(rt; place, expected);
+    assert_eq!(rt; offset, expected);
 }
 
 fn check_count(rt: &impl Abort, given: usize, expected: usize) {
@@ -98,7 +98,7 @@ fn function(alloc: Global) -> Result<(Vec<u8>, [usize; 3])> {
 }
 
 #[test]
-fn places_that_were_told() {
+fn offsets_of_instructions() {
     let rt = crate::host::HostRuntime;
     let (body, offsets) = function(rt.alloc()).expect("accepted");
     check_count(
@@ -106,16 +106,16 @@ fn places_that_were_told() {
         count_instructions(&body, rt.alloc()).expect("accepted"),
         3,
     );
-    for (count, place) in offsets.iter().enumerate() {
+    for (count, offset) in offsets.iter().enumerate() {
         check_count(
             &rt,
-            place_after(&body, count, rt.alloc()).expect("accepted"),
-            *place,
+            offset_after(&body, count, rt.alloc()).expect("accepted"),
+            *offset,
         );
     }
     check_count(
         &rt,
-        place_after(&body, 3, rt.alloc()).expect("accepted"),
+        offset_after(&body, 3, rt.alloc()).expect("accepted"),
         body.len(),
     );
 }

@@ -9,7 +9,7 @@ use wasm_custom::{
 fn names(rt: HostRuntime) {
     let mut map = NameMap::new(rt.alloc());
     map.append(0, "a").expect(&rt, "accepted");
-    map.contains();
+    map.members_law();
     let mut section = NameSection::new(rt.alloc());
     section.tags(&map).expect(&rt, "accepted");
     section.data(&map).expect(&rt, "accepted")
@@ -66,6 +66,6 @@ fn core_dumps(rt: HostRuntime) {
     let mut stack = CoreDumpStackSection::new(rt.alloc(), "main").expect(&rt, "accepted");
     let missing = CoreDumpValue::Missing;
     stack
-        .size_prefixed(0, 42, 51, [missing], [missing])
+        .frame(0, 42, 51, [missing], [missing])
         .expect(&rt, "accepted")
 }

@@ -8,7 +8,7 @@ fn names() {
     let rt = crate::host::HostRuntime;
     let mut map = NameMap::new(rt.alloc());
     map.append(0, "a").expect("accepted");
-    map.contains();
+    map.members_law();
     let mut section = NameSection::new(rt.alloc());
     section.tags(&map).expect("accepted");
     section.data(&map).expect("accepted")
@@ -70,6 +70,6 @@ fn core_dumps() {
     let mut stack = CoreDumpStackSection::new(rt.alloc(), "main").expect("accepted");
     let missing = CoreDumpValue::Missing;
     stack
-        .size_prefixed(0, 42, 51, [missing], [missing])
+        .frame(0, 42, 51, [missing], [missing])
         .expect("accepted")
 }

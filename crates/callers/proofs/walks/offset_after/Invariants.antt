@@ -1,7 +1,7 @@
 use Rattle.std.proofs.Common.{◌≡◌, ◌≤◌, length}
 use Rattle.wasm_code.specs.Bodies.{Body}
 use Rattle.wasm_reader_insn.specs.Laws.{HasVisited}
-use Rattle.callers.proofs.walks.place_after.Given as goal
+use Rattle.callers.proofs.walks.offset_after.Given as goal
 
 -- The instructions that the reader has visited.
 abbrev pub invariant-loop-taken : goal.invariant-loop-taken

@@ -10,7 +10,7 @@ use Rattle.wasm_insn.specs.Table.{table}
 use Rattle.wasm_reader_insn.specs.Laws.{HasVisited}
 use Rattle.wasm_reader_insn.specs.Walks.{ahead}
 use Rattle.wasm_reader_insn.proofs.Calls.{of_some}
-use Rattle.callers.proofs.walks.place_after.Goals as goal
+use Rattle.callers.proofs.walks.offset_after.Goals as goal
 
 pub loop-taken-init : goal.loop-taken-init
 loop-taken-init g c =
