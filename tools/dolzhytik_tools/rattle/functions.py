@@ -1,4 +1,8 @@
-"""The functions of a Rattle source file: where each begins and ends, and how the prover names it."""
+"""The functions of a source, and their names in the prover.
+
+The ledger covers the code of this module but for comments and docstrings (mutants/judging.py): any
+other change of it makes every checksum of tools/mutants.ledger differ.
+"""
 from __future__ import annotations
 
 import re
@@ -7,6 +11,7 @@ from dataclasses import dataclass
 
 @dataclass(frozen=True)
 class Function:
+    """A function: its file, its module, its name, its lines, and the expression of its owner's name."""
     path: str
     module: str
     name: str
@@ -15,12 +20,12 @@ class Function:
     owner: str
 
     def has_symbol(self, symbol):
-        """Returns whether the prover may call the function so: another impl in its module can have one of its name."""
+        """Returns whether this may be the name of the function: another impl of its module can have the same."""
         parts = symbol.split("::")[1:]
         return self.name in parts and "::".join(parts).startswith(self.module)
 
     def is_symbol(self, symbol):
-        """Returns whether the prover calls the function so, and no function of another impl."""
+        """Returns whether this is the name of the function, and of no function of another impl."""
         path = "::".join(symbol.split("::")[1:])
         return bool(re.fullmatch(re.escape(f"{self.module}::") * bool(self.module) + self.owner + self.name, path))
 
@@ -32,7 +37,7 @@ def blanked(text):
 
 
 def closing(text, at):
-    """Returns the place after the brace that closes the one at `at`."""
+    """Returns the offset after the brace that closes the one at `at`."""
     depth = 0
     for i in range(at, len(text)):
         depth += {"{": 1, "}": -1}.get(text[i], 0)
@@ -42,7 +47,7 @@ def closing(text, at):
 
 
 def body_at(text, at):
-    """Returns where the body begins of the function whose name ends at `at`, past its clauses, or None where it has none."""
+    """Returns the offset of the body of the function whose name ends at `at`, or None if it has none."""
     begun = at
     while stop := re.compile(r"\[[^][{}]*\]|[{;]").search(text, at):
         if stop[0].startswith("["):
@@ -67,7 +72,7 @@ def parted(text):
 
 
 def type_in_symbols(text, parameters):
-    """Returns how the prover's names of functions spell a type, in which parameters are left out."""
+    """Returns a type as the names of functions have it, without type parameters."""
     words = []
     for it in re.finditer(r"'\w+|&|\[|\(|(?:\w+::)*(\w+)", text):
         if it[0] == "(":
@@ -80,7 +85,7 @@ def type_in_symbols(text, parameters):
 
 
 def owner_of(text, head):
-    """Returns what the prover's name of a function has before its own name, for the impl or trait that it stands in, as an expression."""
+    """Returns the expression of the impl or trait in the name of a function."""
     if not head or text[head - 1] != " ":
         return ""
     kind, header = re.findall(r"^(?:pub(?:\([^)]*\))? )?(?:unsafe )?(impl|trait)\b([^{]*)", text[:head], re.M)[-1]
@@ -97,14 +102,14 @@ def owner_of(text, head):
 
 
 def functions_of(path, source):
-    """Yields each function of a file that has a body, and where it, its body and its end are."""
+    """Yields each function of a file that has a body, with the offsets of its head, its body and its end."""
     text = blanked(source)
     for it in re.finditer(r"\bfn\s+(\w+)", text):
         body = body_at(text, it.end())
         if body is None:
             continue
         end = closing(text, body)
-        # Its attributes count as its own, since a goal of the whole function is told there.
+        # The attributes belong to the function: a goal of the whole function is reported there.
         head = max(text.rfind(mark, 0, it.start()) for mark in "{};") + 1
         head += re.match(r"\s*", text[head:]).end()
         line = [text.count("\n", 0, at) + 1 for at in (head, end - 1)]
@@ -113,7 +118,7 @@ def functions_of(path, source):
 
 
 def function_around(path, source, first, last):
-    """Returns the innermost function whose body holds the places from first to last, or None."""
+    """Returns the innermost function whose body has the offsets from first to last, or None."""
     found = None
     for function, _, body, end in functions_of(path, source):
         if body < first and last < end:
