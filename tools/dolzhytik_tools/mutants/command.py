@@ -19,7 +19,7 @@ def parser_of(usage: str) -> argparse.ArgumentParser:
     """Returns the parser of the command's options."""
     parser = argparse.ArgumentParser(prog="tools/wrong-bodies", description=usage, formatter_class=argparse.RawDescriptionHelpFormatter)
     parser.add_argument("names", nargs="*", metavar="NAME")
-    parser.add_argument("--folder", default="wrong", choices=FOLDERS)
+    parser.add_argument("--folder", default="public", choices=FOLDERS)
     parser.add_argument("--all", action="store_true")
     parser.add_argument("--share", action="store_true")
     parser.add_argument("--at-once", type=int, default=len(os.sched_getaffinity(0)), help="how many crates are tried at a time; by default one a processor")

@@ -11,8 +11,10 @@ from dataclasses import dataclass, field
 from ..rattle.functions import Function, function_around
 from .crates import PARTS, text_of
 
-# The folders of a crate's mutants. Those under must-fail have a file each, of the form of `rt ci`.
-FOLDERS = ("wrong", "inner", "must-fail")
+# A crate's mutants: those of public and of private functions, in mutants/, and those that `rt ci`
+# tries, with a file each.
+FOLDERS = ("public", "private", "must-fail")
+OF_RT = "must-fail"
 
 
 @dataclass(frozen=True)
@@ -78,7 +80,7 @@ def entries_of(file: str) -> Iterator[Entry]:
 
 def edits_in(crate: str, folder: str) -> list[Edit]:
     """Returns the mutants of a folder."""
-    found, is_by_rt = [], os.path.basename(folder) == "must-fail"
+    found, is_by_rt = [], os.path.basename(folder) == OF_RT
     for name in sorted(os.listdir(folder)) if os.path.isdir(folder) else []:
         file = f"{folder}/{name}"
         if is_by_rt and name.endswith(".edit"):
@@ -92,7 +94,7 @@ def edits_in(crate: str, folder: str) -> list[Edit]:
 
 def edits_of(crate: str, top: str, folders: Sequence[str] = FOLDERS) -> dict[str, list[Edit]]:
     """Returns the mutants of a crate, by their folders. Stops if two have one name."""
-    found = {it: edits_in(crate, f"{top}/{it}") for it in folders}
+    found = {it: edits_in(crate, f"{top}/{it}" if it == OF_RT else f"{top}/mutants/{it}") for it in folders}
     places: dict[str, str] = {}
     for it in (edit for edits in found.values() for edit in edits):
         if it.label in places:

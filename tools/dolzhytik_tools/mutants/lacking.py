@@ -13,7 +13,7 @@ from .say import say
 # Functions whose type leaves one result: `Refusing::new` has one value of the type parameter, and an
 # instruction that is passed by value is in the range of its type.
 SETTLED = {("test_support", "src/memory.rt", "new"), ("wasm_insn", "src/ranged.rt", "ranged")}
-# Crates whose results a driver compares with those of its own encoder: their mutants may be in inner/.
+# Crates whose results a driver compares with those of its own encoder: their mutants may be in mutants/private.
 DRIVEN = {"wasm_bench"}
 
 
@@ -37,12 +37,12 @@ def lacking(repository: Repository, args: argparse.Namespace) -> tuple[int, int]
     for name in args.names or repository:
         if os.path.isfile(f"crates/{name}/src/lib.rt"):
             edits = edits_of(name, f"crates/{name}")
-            has_one += [False] * bad_inner(edits["inner"])
+            has_one += [False] * bad_private(edits["private"])
             has_one += functions_with_one(name, edits)
     return sum(has_one), len(has_one) - sum(has_one)
 
 
-def bad_inner(edits: list[Edit]) -> int:
+def bad_private(edits: list[Edit]) -> int:
     """Names the mutants that cannot be applied, and returns how many there are."""
     bad = [it for it in edits if it.bad]
     for it in bad:
@@ -52,7 +52,7 @@ def bad_inner(edits: list[Edit]) -> int:
 
 def functions_with_one(name: str, edits: dict[str, list[Edit]]) -> list[bool]:
     """Returns of each function that needs a mutant whether it has one, and names those that do not."""
-    edited = {it.target for folder in edits for it in edits[folder] if folder != "inner" or name in DRIVEN}
+    edited = {it.target for folder in edits for it in edits[folder] if folder != "private" or name in DRIVEN}
     has_one = []
     for path in sorted(f"{at}/{file}"[len(f"crates/{name}/") :] for at, _, files in os.walk(f"crates/{name}/src") for file in files):
         source = text_of(f"crates/{name}/{path}")

@@ -33,13 +33,13 @@ BAD_FILES = {
 def read_of(text: str, name: str = "a-b.edits") -> dict[str, str] | str:
     """Returns the mutants of a file by their names, or the message of the tool."""
     with tempfile.TemporaryDirectory(prefix="wrong-bodies-") as top:
-        os.mkdir(f"{top}/wrong")
-        with open(f"{top}/wrong/{name}", "w", encoding="utf-8") as file:
+        os.makedirs(f"{top}/mutants/public")
+        with open(f"{top}/mutants/public/{name}", "w", encoding="utf-8") as file:
             file.write(text)
         try:
-            return {it.label: it.text for it in edits_of("crate", top)["wrong"]}
+            return {it.label: it.text for it in edits_of("crate", top)["public"]}
         except SystemExit as stopped:
-            return str(stopped).replace(f"{top}/wrong/", "")
+            return str(stopped).replace(f"{top}/mutants/public/", "")
 
 
 def reads_files_of_edits() -> bool:

@@ -24,7 +24,7 @@ class Tries:
         self.name, self.words, self.args = name, words, args
         self.checks, self.seconds, self.of_library = 0, 0.0, symbols_of(name)
         self.symbols: dict[Function, str] = {}
-        self.kept = f"{os.getcwd()}/crates/{name}/out/wrong" if args.keep else tempfile.mkdtemp(prefix="wrong-bodies-")
+        self.kept = f"{os.getcwd()}/crates/{name}/out/mutants" if args.keep else tempfile.mkdtemp(prefix="wrong-bodies-")
         os.makedirs(self.kept, exist_ok=True)
 
     def only(self, edits: list[Edit]) -> list[str]:

@@ -169,7 +169,7 @@ def check_trouble() -> str | None:
     with tempfile.TemporaryDirectory() as folder:
         top = pathlib.Path(folder)
         for part in ['crates', 'tests']:
-            shutil.copytree(TOP / part, top / part, ignore=shutil.ignore_patterns('out', 'proofs', 'specs', 'wrong', 'inner', 'must-fail'))
+            shutil.copytree(TOP / part, top / part, ignore=shutil.ignore_patterns('out', 'proofs', 'specs', 'mutants', 'must-fail'))
         command.write(top)
         touched, missing, left = (top / 'rust/src/base' / name for name in ('pieces.rs', 'types.rs', 'gone.rs'))
         found = [command.check(top)]
