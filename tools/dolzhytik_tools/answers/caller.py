@@ -77,7 +77,7 @@ class Caller:
             return self.scope.values[str(self.clause.before)].term
         if kind == "bytes" and isinstance(value, FinishedModule):
             return value.term
-        if kind == "IsPlainBody" and isinstance(value, Body):
+        if kind == "IsWellFormedBody" and isinstance(value, Body):
             return bare(body_term(self.proof, value))
         if kind == "StoresInstructions" and isinstance(value, Constant):
             return value.term
@@ -157,7 +157,7 @@ class Caller:
                 raise Stop("the call `%s` of what is no module" % function.name)
             module.term = self.proof.bind("m", "%s %s" % (call.at, module.term))
             return Nothing()
-        if clause.kind == "IsPlainBody":
+        if clause.kind == "IsWellFormedBody":
             return Body(term=call.at)
         if clause.kind == "StoresInstructions":
             return Constant(term=call.at)

@@ -9,19 +9,19 @@ from .sources import Function
 from .terms import arguments, pair_in, words_of
 
 RESULT = re.compile(r"IfOk result \(λ (\w+)\. (.*)\)", re.S)
-MODULE = re.compile(r"ReadsSections (.*) (\w+)\.old → OnOk result \(ReadsSections (.*) (\w+)\.new\)", re.S)
-BUFFER = re.compile(r"OnOk result \(GainsReading(Wide)? (.*) (\w+)\.old\.items (\w+)\.new\.items\)", re.S)
+MODULE = re.compile(r"DecodesSections (.*) (\w+)\.old → OnOk result \(DecodesSections (.*) (\w+)\.new\)", re.S)
+BUFFER = re.compile(r"OnOk result \(GainsDecoding(Padded)? (.*) (\w+)\.old\.items (\w+)\.new\.items\)", re.S)
 
 
 @dataclass(frozen=True)
 class Clause:
     """`kind` is the form of the result, `items` the term of what was added, `before` the parameter
-    of the module that gains it, and `is_wide` whether numbers may be padded."""
+    of the module that gains it, and `is_padded` whether numbers may be padded."""
 
     kind: str
     items: str
     before: str | None
-    is_wide: bool
+    is_padded: bool
 
 
 def clause_of(function: Function) -> Clause:
@@ -32,12 +32,12 @@ def clause_of(function: Function) -> Clause:
         raise Stop("it has %s" % ("no clause" if not function.ensures else "a clause with a name" if len(function.ensures) == 1 else "several clauses"))
     # A parameter whose name is a word of the prover is in quotes.
     text = re.sub("[«»]", "", function.ensures[0].text)
-    is_wide = "GainsReadingWide" in text or "wide_code_reading" in text
+    is_padded = "GainsDecodingPadded" in text or "padded_code_decoding" in text
     found = of_result(text) or of_module(text) or of_buffer(text)
     if found is None:
         raise Stop("its clause is of no form that the tool knows")
     kind, items, before = found
-    return Clause(kind, items, before, is_wide)
+    return Clause(kind, items, before, is_padded)
 
 
 Form = tuple[str, str, "str | None"]
@@ -49,7 +49,7 @@ def of_result(text: str) -> Form | None:
     if not found:
         return None
     name, said = found.group(1), arguments(words_of(found.group(2)))
-    if len(said) == 3 and said[0] == "ReadsSections" and said[2] == name + ".items":
+    if len(said) == 3 and said[0] == "DecodesSections" and said[2] == name + ".items":
         return "bytes", said[1], None
     if len(said) == 3 and said[1] == name:
         return said[0], said[2], None

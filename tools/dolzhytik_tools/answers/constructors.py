@@ -77,11 +77,11 @@ def constant(caller: Caller, name: str, call: Call) -> Constant:
 
 def begun(caller: Caller, kind: str, term: str) -> str:
     """Returns what a new builder holds: with padded numbers where the clause allows them."""
-    if not caller.clause.is_wide:
+    if not caller.clause.is_padded:
         return term
     if kind == "CodeSection":
-        return "(%s %s)" % (caller.proof.lemma("wasm_code", "spells_wide"), term)
+        return "(%s %s)" % (caller.proof.lemma("wasm_code", "encodes_padded"), term)
     if kind == "GlobalSection":
         caller.proof.use("Rattle.wasm_sections.proofs.GlobalLaws", "globals_section")
-        return "(%s globals_section.held_wide %s)" % (caller.proof.lemma("wasm_base", "holds_wide"), term)
+        return "(%s globals_section.held_padded %s)" % (caller.proof.lemma("wasm_base", "contains_padded"), term)
     raise Stop("a `%s` with padded numbers" % kind)

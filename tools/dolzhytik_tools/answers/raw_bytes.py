@@ -58,7 +58,7 @@ class RawBytes:
             groups = "(omega arith, omega arith, %s)" % groups
         spelled = bare(self.listed(bytes[:size]))
         self.proof.common("arith", "refl")
-        self.proof.use("Rattle.wasm_base.specs.Numbers", "wide")
+        self.proof.use("Rattle.wasm_base.specs.Numbers", "padded")
         if is_signed:
             value -= (1 << 7 * size) if bytes[size - 1] & 0x40 else 0
             self.proof.use("Rattle.wasm_base.specs.Formats", "s32")
@@ -67,7 +67,7 @@ class RawBytes:
             self.proof.use("Rattle.wasm_base.specs.Formats", "u32")
             text, range_ = str(value), "range = omega arith"
         term = "record { groups = %s; total = refl; %s; size = omega arith }" % (groups, range_)
-        return PaddedNumber(value, size, self.proof.bind("n", term, "%s wide (%s) %s" % ("s32" if is_signed else "u32", spelled, text)))
+        return PaddedNumber(value, size, self.proof.bind("n", term, "%s padded (%s) %s" % ("s32" if is_signed else "u32", spelled, text)))
 
     def body(self, bytes: Sequence[int]) -> str:
         """Proves a body without locals, of instructions without fields."""
@@ -80,7 +80,7 @@ class RawBytes:
             if case is None:
                 raise Stop("a body that is spelled already, and has an instruction with parts")
             self.proof.use(GLOBAL, "Global")
-            lemma = self.proof.lemma("wasm_code", "adds_instruction_wide")
+            lemma = self.proof.lemma("wasm_code", "adds_instruction_padded")
             instruction = shown(self.instructions.instruction(case, ()).term)
             term = self.proof.bind("b", "%s {A = Global} %s %s refl tt" % (lemma, term, instruction))
         return term

@@ -17,20 +17,20 @@ use Rattle.std.proofs.Common.{◌++◌, ap, ◌∙◌}
 use Rattle.wasm_reader_base.proofs.Faults.{fault_stays}
 use Rattle.wasm_reader.specs.Kinds.{KIND}
 use Rattle.wasm_reader.specs.declared.kinds.SectionKind.TheVariants as kinds
-use Rattle.wasm_reader.proofs.Calls.{written, reads_written, written_stands, shortens_written}
+use Rattle.wasm_reader.proofs.Calls.{written, decodes_written, written_stands, shortens_written}
 use MODULE.Goals as goal
 
 pub returns-in_err-items-clause-memory : goal.returns-in_err-items-clause-memory
 returns-in_err-items-clause-memory g c = fault_stays c.from_residual-in_err-items.result _ c.from_residual-in_err-items.ensures.1 λ n. written_stands kinds.KIND (c.in_err-items.ensures.none n) (written KIND c.requires WRITTEN)
 
 pub returns-clause-read : goal.returns-clause-read
-returns-clause-read g c = reads_written c.in_ok-items.ensures.found.1 (written KIND c.requires WRITTEN)
+returns-clause-read g c = decodes_written c.in_ok-items.ensures.found.1 (written KIND c.requires WRITTEN)
 
 pub returns-clause-same : goal.returns-clause-same
 returns-clause-same g c =
     let gained = WRITTEN in
     let same = shortens_written c.in_ok-items.ensures.shortened.1 (written KIND c.requires gained) in
-    record { text = gained.text; added = same ∙ ap (λ t. c.args.SINK.now.items ++ t) (gained.added ∙ ap (λ t. t ++ gained.text) c.requires); alone = gained.alone }
+    record { encoding = gained.encoding; added = same ∙ ap (λ t. c.args.SINK.now.items ++ t) (gained.added ∙ ap (λ t. t ++ gained.encoding) c.requires); unique = gained.unique }
 """
 
 

@@ -111,10 +111,10 @@ def of_module(caller: Caller, module: Module, call: Call) -> Value:
 def gain_of_module(caller: Caller, section: Builder) -> str:
     """Returns the lemma of a module that gains a section."""
     lemma = GAINS[section.holds].of_module
-    if caller.clause.is_wide:
+    if caller.clause.is_padded:
         if section.kind != "CodeSection" or section.is_called:
             raise Stop("a section with padded numbers in a module, that is not built here and of code")
-        lemma += "_wide"
+        lemma += "_padded"
     return caller.proof.lemma(section.crate, lemma)
 
 
@@ -160,15 +160,15 @@ def encoded(caller: Caller, section: Builder, call: Call) -> Encoded:
     lemma = gain.of_buffer
     if section.crate == "wasm_custom":
         return encoded_custom(caller, lemma, call, held(caller.proof, section))
-    if caller.clause.is_wide:
-        lemma += "_wide" if section.kind == "CodeSection" else "_wide globals_section.held_wide"
+    if caller.clause.is_padded:
+        lemma += "_padded" if section.kind == "CodeSection" else "_padded globals_section.held_padded"
     caller.proof.lemma(section.crate, lemma.split()[0])
     return Encoded(term="%s %s.appends %s.read %s" % (lemma, call.at, call.at, held(caller.proof, section)))
 
 
 def encoded_custom(caller: Caller, lemma: str, call: Call, content: str) -> Encoded:
     """A buffer that gains the encoding of a custom section, whose format is an argument of the lemma."""
-    if caller.clause.is_wide:
+    if caller.clause.is_padded:
         raise Stop("a custom section with padded numbers")
     caller.proof.lemma("wasm_custom", lemma.split()[0])
     payload = re.search(r"\w+_payload", lemma)
@@ -181,7 +181,7 @@ def encoded_custom(caller: Caller, lemma: str, call: Call, content: str) -> Enco
 def of_process(caller: Caller, process: Process, call: Call) -> Value:
     if call.name != "encode" or call.is_tried:
         raise unknown(call, " of a `CoreDumpSection`")
-    return encoded_custom(caller, "encodes_custom (frame core_payload) _", call, "(%s, %s)" % (process.utf8, process.term))
+    return encoded_custom(caller, "encodes_custom (size_prefixed core_payload) _", call, "(%s, %s)" % (process.utf8, process.term))
 
 
 def of_type(caller: Caller, encoder: TypeEncoder, call: Call) -> Value:
@@ -228,7 +228,7 @@ def of_plain(caller: Caller, value: Plain, call: Call) -> Value:
             number = caller.evidence.number(*tree.fields.values()).term
             caller.proof.common("◌≡◌", "refl")
             caller.proof.use("Rattle.wasm_base.specs.Formats", "frame", "u32")
-            return encoded_custom(caller, "encodes_custom (frame u32) (λ said. said ≡ %s)" % number, call, "refl")
+            return encoded_custom(caller, "encodes_custom (size_prefixed u32) (λ said. said ≡ %s)" % number, call, "refl")
     if call.name == "iter" and isinstance(value.tree, Path) and not call.is_tried:
         return SliceIterator(parameter=value.tree.names[0], called=call.step)
     raise unknown(call)

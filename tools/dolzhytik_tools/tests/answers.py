@@ -38,7 +38,7 @@ STOPS = [
     ("a list that is not written out", EXPORTS, ("(item name.now 7 ∷ [])", "(items name.now)"), "written out"),
     ("a word of no import", EXPORTS, ("(item name.now 7 ∷ [])", "(thing name.now 7 ∷ [])"), "`thing`"),
     ("a name that is not ASCII", EXPORTS, ("export(name,", 'export("é",'), "ASCII"),
-    ("padded numbers", EXPORTS, ("GainsReading ", "GainsReadingWide "), "padded"),
+    ("padded numbers", EXPORTS, ("GainsDecoding ", "GainsDecodingPadded "), "padded"),
     ("raw bytes that are no body", CODE, ("section.function(&sum(alloc, 0)?)?", "section.raw(&[0, 11])?"), "no padded"),
     ("another clause", SUM, ("IfOk result", "IfErr result"), "no form"),
     ("another answer", CODE, ("Ok(section)", "Ok(sum)"), "answers"),
@@ -46,7 +46,7 @@ STOPS = [
     ("no end", CODE, ("    Ok(section)\n", ""), "answers nothing"),
     ("a symbol's name that is no option", SYMBOLS, ("Some(name)", "name"), "neither"),
     ("symbols that no function says", LINKING, ("&symbols(alloc, name)?", "&given"), "nothing is known"),
-    ("a custom section with padded numbers", LINKING, ("GainsReading ", "GainsReadingWide "), "padded"),
+    ("a custom section with padded numbers", LINKING, ("GainsDecoding ", "GainsDecodingPadded "), "padded"),
     ("hints that are no array", HINTS, ("[hint]", "given"), "no array"),
     ("a value of a core dump that is a float", STACK, ("CoreDumpValue::Missing", "CoreDumpValue::F32(one)"), "core dump"),
 ]

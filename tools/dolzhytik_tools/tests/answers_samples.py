@@ -2,7 +2,7 @@
 
 HEAD = """// Callers.
 ghost use Rattle.std.specs.Prelude.{[], ◌∷◌, IfOk, OnOk};
-ghost use Rattle.wasm_base.specs.Modules.{ReadsSections, GainsReading, GainsReadingWide};
+ghost use Rattle.wasm_base.specs.Modules.{DecodesSections, GainsDecoding, GainsDecodingPadded};
 ghost use Rattle.mine.specs.Said.{body, sections, item};
 
 use std::alloc::Allocator;
@@ -11,7 +11,7 @@ use std::alloc::Allocator;
 # Callers: the signature from the name on, the clause, and the body.
 SUM = (
     "sum<A: Allocator>(alloc: A, index: u32) -> R<Function<A>>",
-    "IfOk result (λ function. IsPlainBody function (body index))",
+    "IfOk result (λ function. IsWellFormedBody function (body index))",
     """
     let mut function = Function::new(alloc, [(1, ValType::I32)])?;
     let mut sink = function.instructions();
@@ -24,7 +24,7 @@ SUM = (
 )
 CODE = (
     "code<A: Allocator + Copy>(alloc: A) -> R<CodeSection<A>>",
-    "IfOk result (λ section. SpellsBodies section (body 0 ∷ body 0 ∷ []))",
+    "IfOk result (λ section. EncodesBodies section (body 0 ∷ body 0 ∷ []))",
     """
     let mut section = CodeSection::new(alloc);
     section.function(&sum(alloc, 0)?)?;
@@ -34,7 +34,7 @@ CODE = (
 )
 EXPORTS = (
     "exports(sink: &mut Vec<u8>, name: &str) -> R<()>",
-    "OnOk result (GainsReading (counted_format export) (item name.now 7 ∷ []) sink.old.items sink.new.items)",
+    "OnOk result (GainsDecoding (counted_format export) (item name.now 7 ∷ []) sink.old.items sink.new.items)",
     """
     let mut section = ExportSection::new(*sink.allocator());
     section.export(name, ExportKind::Func, 7)?;
@@ -43,7 +43,7 @@ EXPORTS = (
 )
 MODULE = (
     "add<A: Allocator + Copy>(built: &mut Module<A>, alloc: A) -> R<()>",
-    "ReadsSections [] built.old → OnOk result (ReadsSections sections built.new)",
+    "DecodesSections [] built.old → OnOk result (DecodesSections sections built.new)",
     """
     built.section(&code(alloc)?)?;
     built.section(&StartSection { function_index: 0 })?;
@@ -63,7 +63,7 @@ SYMBOLS = (
 )
 LINKING = (
     "linking<A: Allocator + Copy>(sink: &mut Vec<u8, A>, name: &str) -> R<()>",
-    "OnOk result (GainsReading (frame linking_payload) (item name.now 7) sink.old.items sink.new.items)",
+    "OnOk result (GainsDecoding (size_prefixed linking_payload) (item name.now 7) sink.old.items sink.new.items)",
     """
     let alloc = *sink.allocator();
     let mut section = LinkingSection::new(alloc);
@@ -74,7 +74,7 @@ LINKING = (
 )
 PRODUCERS = (
     "producers<A: Allocator + Copy>(alloc: A, version: &str) -> R<ProducersSection<A>>",
-    "IfOk result (λ section. HoldsFields section (item version.now 0))",
+    "IfOk result (λ section. ContainsFields section (item version.now 0))",
     """
     let mut values = ProducersField::new(alloc);
     values.value("mine", version)?;
@@ -85,7 +85,7 @@ PRODUCERS = (
 )
 HINTS = (
     "hints<A: Allocator + Copy>(alloc: A, index: u32) -> R<BranchHints<A>>",
-    "IfOk result (λ section. HoldsHints section (item index 0))",
+    "IfOk result (λ section. ContainsHints section (item index 0))",
     """
     let hint = BranchHint { branch_func_offset: 3, branch_hint_value: 1 };
     let mut section = BranchHints::new(alloc);
@@ -107,7 +107,7 @@ READ = """
 pub fn read<'a, A: Allocator + Copy + 'a>(text: &'a mut Vec<u8, A>, name: &str, sink: &mut Vec<u8, A>) -> Result<Items<'a, A>, ReadFault>
     requires { text.old.items ≡ [] }
     ensures read { IfOk result (λ items. contents_of items ≡ Linking (item name.now 7)) }
-    ensures same { OnOk result (GainsReading (frame linking_payload) (item name.now 7) sink.old.items sink.new.items) }
+    ensures same { OnOk result (GainsDecoding (size_prefixed linking_payload) (item name.now 7) sink.old.items sink.new.items) }
     ensures memory { IfErr result (λ e. e ≢ Memory → ⊥) }
 {
     linking(text, name)?;
@@ -182,8 +182,8 @@ use Rattle.mine.proofs.adding.symbols.Goals as goal
 
 pub returns : goal.returns
 returns g c =
-    let s1 = adds_symbol (new_symbols c.new-table.ensures) (item c.args.name.now 1) c.in_ok-function.ensures.ok c.in_ok-function.ensures.counted (omega arith, omega arith, (c.utf8.name, c.in_ok-function.ensures.fitted)) in
-    adds_symbol s1 (item c.args.name.now 2) c.in_ok-data.ensures.ok c.in_ok-data.ensures.counted (omega arith, (ascii refl, c.in_ok-data.ensures.fitted), tt)
+    let s1 = adds_symbol (new_symbols c.new-table.ensures) (item c.args.name.now 1) c.in_ok-function.ensures.ok c.in_ok-function.ensures.counted (omega arith, omega arith, (c.utf8.name, c.in_ok-function.ensures.was_encodable)) in
+    adds_symbol s1 (item c.args.name.now 2) c.in_ok-data.ensures.ok c.in_ok-data.ensures.counted (omega arith, (ascii refl, c.in_ok-data.ensures.was_encodable), tt)
 """,
     "linking": """-- Written by tools/answers.
 use Rattle.std.proofs.Common.{refl}
@@ -198,7 +198,7 @@ pub returns : goal.returns
 returns g c =
     let s1 = adds_symbols (new_linking c.new-section.ensures) c.in_ok-symbols.ensures c.in_ok-symbol_table.ensures.ok (refl, (refl, tt)) in
     let s2 = adds_target s1 (codes "wasm32") c.in_ok-target_arch.ensures.ok (ascii refl) in
-    encodes_entries (frame linking_payload) _ _ c.encode.ensures.appends c.encode.ensures.read s2
+    encodes_entries (size_prefixed linking_payload) _ _ c.encode.ensures.appends c.encode.ensures.read s2
 """,
     "producers": """-- Written by tools/answers.
 use Rattle.std.proofs.Common.{refl}
@@ -246,19 +246,19 @@ use Rattle.std.proofs.Common.{◌++◌, ap, ◌∙◌}
 use Rattle.wasm_reader_base.proofs.Faults.{fault_stays}
 use Rattle.wasm_reader.specs.Kinds.{Linking}
 use Rattle.wasm_reader.specs.declared.kinds.SectionKind.TheVariants as kinds
-use Rattle.wasm_reader.proofs.Calls.{written, reads_written, written_stands, shortens_written}
+use Rattle.wasm_reader.proofs.Calls.{written, decodes_written, written_stands, shortens_written}
 use Rattle.mine.proofs.adding.read.Goals as goal
 
 pub returns-in_err-items-clause-memory : goal.returns-in_err-items-clause-memory
 returns-in_err-items-clause-memory g c = fault_stays c.from_residual-in_err-items.result _ c.from_residual-in_err-items.ensures.1 λ n. written_stands kinds.Linking (c.in_err-items.ensures.none n) (written Linking c.requires c.in_ok-linking.ensures)
 
 pub returns-clause-read : goal.returns-clause-read
-returns-clause-read g c = reads_written c.in_ok-items.ensures.found.1 (written Linking c.requires c.in_ok-linking.ensures)
+returns-clause-read g c = decodes_written c.in_ok-items.ensures.found.1 (written Linking c.requires c.in_ok-linking.ensures)
 
 pub returns-clause-same : goal.returns-clause-same
 returns-clause-same g c =
     let gained = c.in_ok-linking.ensures in
     let same = shortens_written c.in_ok-items.ensures.shortened.1 (written Linking c.requires gained) in
-    record { text = gained.text; added = same ∙ ap (λ t. c.args.sink.now.items ++ t) (gained.added ∙ ap (λ t. t ++ gained.text) c.requires); alone = gained.alone }
+    record { encoding = gained.encoding; added = same ∙ ap (λ t. c.args.sink.now.items ++ t) (gained.added ∙ ap (λ t. t ++ gained.encoding) c.requires); unique = gained.unique }
 """,
 }

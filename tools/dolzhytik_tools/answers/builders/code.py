@@ -16,17 +16,17 @@ def function(caller: Caller, section: Builder, call: Call) -> str:
     body, proof = call.values[0], caller.proof
     if not isinstance(body, Body):
         raise Stop("a function of which nothing is known")
-    if caller.clause.is_wide:
-        lemma, wider = proof.lemma("wasm_code", "adds_body_wide"), proof.lemma("wasm_code", "wider_body")
+    if caller.clause.is_padded:
+        lemma, wider = proof.lemma("wasm_code", "adds_body_padded"), proof.lemma("wasm_code", "included_body")
         return "%s %s %s.ok (%s %s)" % (lemma, section.term, call.at, wider, body_term(proof, body))
     return "%s %s %s.ok %s" % (proof.lemma("wasm_code", "adds_body"), section.term, call.at, body_term(proof, body))
 
 
 def raw(caller: Caller, section: Builder, call: Call) -> str:
-    if not caller.clause.is_wide:
+    if not caller.clause.is_padded:
         raise Stop("a body that is spelled already, where the clause speaks of no padded numbers")
     body = caller.raw.body(caller.raw.bytes_of(call.arguments[0]))
-    return "%s %s %s.ok %s" % (caller.proof.lemma("wasm_code", "adds_body_wide"), section.term, call.at, body)
+    return "%s %s %s.ok %s" % (caller.proof.lemma("wasm_code", "adds_body_padded"), section.term, call.at, body)
 
 
 ADDERS: Adders = {("CodeSection", "function"): function, ("CodeSection", "raw"): raw}

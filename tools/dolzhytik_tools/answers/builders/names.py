@@ -50,7 +50,7 @@ def raw(caller: Caller, section: Builder, call: Call) -> str:
     caller.proof.common("refl")
     id = caller.evidence.number(call.arguments[0]).term
     parameter = caller.scope.parameter(caller.scope.settled(call.arguments[1]), BYTES_TYPE)
-    if parameter is None or caller.clause.is_wide:
+    if parameter is None or caller.clause.is_padded:
         raise Stop("bytes of a name section that are no parameter")
     lemma = caller.proof.lemma("wasm_custom", "adds_other_names")
     return "%s %s %s c.args.%s.now %s.ok refl" % (lemma, section.term, id, parameter, call.at)

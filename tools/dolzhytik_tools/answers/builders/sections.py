@@ -43,7 +43,7 @@ def table(caller: Caller, section: Builder, call: Call) -> str:
 def table_with_init(caller: Caller, section: Builder, call: Call) -> str:
     why, init = caller.evidence.record(call.arguments[0], "TableType"), call.values[1]
     item = caller.clause_terms.item(section)
-    if not isinstance(init, Constant) or init.rows is None or init.term is None or caller.clause.is_wide:
+    if not isinstance(init, Constant) or init.rows is None or init.term is None or caller.clause.is_padded:
         raise Stop("a first value of which nothing is known")
     lemma, rows = caller.proof.lemma("wasm_sections", "adds_table_with_init"), caller.evidence.list_of(init.rows)
     return "%s %s %s.table_type %s _ %s.ok (%s) %s" % (lemma, section.term, item, rows, call.at, why, init.term)
@@ -54,29 +54,29 @@ def global_(caller: Caller, section: Builder, call: Call) -> str:
     if not isinstance(init, Constant):
         raise Stop("a first value of which nothing is known")
     why = caller.evidence.record(call.arguments[0], "GlobalType")
-    if caller.clause.is_wide:
+    if caller.clause.is_padded:
         item = caller.clause_terms.item(section)
-        lemma = proof.lemma("wasm_sections", "adds_global_wide")
-        return "%s %s %s _ %s.ok %s %s" % (lemma, section.term, item, call.at, why, stored_wide(caller, init, item))
+        lemma = proof.lemma("wasm_sections", "adds_global_padded")
+        return "%s %s %s _ %s.ok %s %s" % (lemma, section.term, item, call.at, why, stored_padded(caller, init, item))
     if init.term is None:
         raise Stop("an expression that is spelled already, where the clause speaks of no padded numbers")
     lemma, item = proof.lemma("wasm_sections", "adds_global"), caller.clause_terms.item(section)
     return "%s %s %s _ %s.ok %s %s" % (lemma, section.term, item, call.at, why, init.term)
 
 
-def stored_wide(caller: Caller, constant: Constant, item: str) -> str:
+def stored_padded(caller: Caller, constant: Constant, item: str) -> str:
     """Why an expression stores what an item says, with padded numbers too."""
     if constant.wide:
         return constant.wide
-    return "(%s _ %s.init %s)" % (caller.proof.lemma("wasm_code", "wider_constant"), item, constant.term)
+    return "(%s _ %s.init %s)" % (caller.proof.lemma("wasm_code", "included_constant"), item, constant.term)
 
 
 def raw_global(caller: Caller, section: Builder, call: Call) -> str:
     bytes = caller.raw.bytes_of(call.arguments[0])
-    if not caller.clause.is_wide or bytes[0] != 0x7F or bytes[1] > 1 or bytes[-1] != 0x0B:
+    if not caller.clause.is_padded or bytes[0] != 0x7F or bytes[1] > 1 or bytes[-1] != 0x0B:
         raise Stop("a global that is spelled already, and is no constant of 32 bits")
     stored = caller.raw.constant(bytes[2:-1]).term
-    lemma, item = caller.proof.lemma("wasm_sections", "adds_global_wide"), caller.clause_terms.item(section)
+    lemma, item = caller.proof.lemma("wasm_sections", "adds_global_padded"), caller.clause_terms.item(section)
     return "%s %s %s %s %s.ok tt %s" % (lemma, section.term, item, caller.raw.listed(bytes[2:-1]), call.at, stored)
 
 

@@ -21,7 +21,7 @@ def symbol(caller: Caller, table: Builder, call: Call) -> str:
     if named == NONE:
         fits = "tt"
     elif isinstance(named, PathCall) and named.path == ("Some",):
-        fits = "(%s, %s.fitted)" % (caller.evidence.utf8(named.arguments[0]), call.at)
+        fits = "(%s, %s.was_encodable)" % (caller.evidence.utf8(named.arguments[0]), call.at)
     else:
         raise Stop("the name of a symbol, which is neither `None` nor `Some`")
     return added_symbol(caller, table, call, "%s, %s, %s" % (flags, index, fits))
@@ -37,7 +37,7 @@ def data(caller: Caller, table: Builder, call: Call) -> str:
         why = "record { index = %s; offset = %s; size = %s }" % tuple(caller.evidence.number(it).why for it in fields)
     else:
         raise Stop("the definition of a symbol, which is neither `None` nor `Some`")
-    return added_symbol(caller, table, call, "%s, (%s, %s.fitted), %s" % (flags, utf8, call.at, why))
+    return added_symbol(caller, table, call, "%s, (%s, %s.was_encodable), %s" % (flags, utf8, call.at, why))
 
 
 def added_symbol(caller: Caller, table: Builder, call: Call, whys: str) -> str:

@@ -4,5 +4,5 @@ use Rattle.examples.proofs.trees.compile_tree.Goals as goal
 
 pub returns : goal.returns
 returns g c =
-    let begun = new_function c.in_ok-function.ensures ((omega (arith, c.ranges.locals.encodable), tt), tt) in
+    let begun = new_function c.in_ok-function.ensures ((omega (arith, c.ranges.locals.fits), tt), tt) in
     c.in_ok-emit.ensures.plain _ (c.in_ok-emit_statements.ensures.plain _ begun)
