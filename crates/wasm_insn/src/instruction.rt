@@ -26,6 +26,7 @@ use wasm_immediates::{BlockType, Catch, Handle, Ieee32, Ieee64, MemArg};
 /// others are in an enum for each group of ops. Those without fields have a constant here, so that `Instruction::I32Add` is an instruction too.
 #[derive(Drop)]
 pub enum Instruction<'a, A: Allocator = Global> {
+    // begin: written by tools/instructions
     Unreachable,
     Nop,
     Block(BlockType),
@@ -240,6 +241,7 @@ pub enum Instruction<'a, A: Allocator = Global> {
     VectorImmediate(VectorImmediate),
     /// Atomic instructions: those after the prefix FE.
     Atomic(Atomic),
+    // end: written by tools/instructions
 }
 
 /// Bit 0 says that the first type is nullable, bit 1 that the second is.
@@ -306,6 +308,7 @@ impl<'a, A: Allocator> Instruction<'a, A> {
         ensures { result ≡ (row_of self.now).op }
     {
         match self {
+            // begin: written by tools/instructions
             Instruction::Unreachable => Op::Byte(0x00),
             Instruction::Nop => Op::Byte(0x01),
             Instruction::Block(..) => Op::Byte(0x02),
@@ -434,6 +437,7 @@ impl<'a, A: Allocator> Instruction<'a, A> {
             Instruction::Vector(i) => i.op(),
             Instruction::VectorImmediate(i) => i.op(),
             Instruction::Atomic(i) => i.op(),
+            // end: written by tools/instructions
         }
     }
 
@@ -442,6 +446,7 @@ impl<'a, A: Allocator> Instruction<'a, A> {
         ensures { Appends (arguments_text (row_of self.now).arguments) (arguments_fit (row_of self.now).arguments) sink.old sink.new result }
     {
         match self {
+            // begin: written by tools/instructions
             Instruction::Block(a)
             | Instruction::Loop(a)
             | Instruction::If(a)
@@ -650,6 +655,7 @@ impl<'a, A: Allocator> Instruction<'a, A> {
             | Instruction::Vector(_) => Ok(()),
             Instruction::VectorImmediate(a) => a.encode_arguments(sink),
             Instruction::Atomic(a) => a.encode_arguments(sink),
+            // end: written by tools/instructions
         }
     }
 }
@@ -662,6 +668,7 @@ impl<'a, A: Allocator + Copy> Instruction<'a, A> {
         ensures err { result ≢ Err Refused.TooLong }
     {
         Ok(match self {
+            // begin: written by tools/instructions
             Instruction::Unreachable => Instruction::Unreachable,
             Instruction::Nop => Instruction::Nop,
             Instruction::Block(a) => Instruction::Block(*a),
@@ -703,6 +710,7 @@ impl<'a, A: Allocator + Copy> Instruction<'a, A> {
             Instruction::TypedSelect(a) => Instruction::TypedSelect(*a),
             Instruction::TypedSelectMulti(a) => Instruction::TypedSelectMulti(a.clone()?),
             Instruction::TryTable(a, b) => Instruction::TryTable(*a, b.clone()?),
+            // end: written by tools/instructions
             _ => return self.clone_access(),
         })
     }
@@ -713,6 +721,7 @@ impl<'a, A: Allocator + Copy> Instruction<'a, A> {
         ensures err { result ≢ Err Refused.TooLong }
     {
         Ok(match self {
+            // begin: written by tools/instructions
             Instruction::LocalGet(a) => Instruction::LocalGet(*a),
             Instruction::LocalSet(a) => Instruction::LocalSet(*a),
             Instruction::LocalTee(a) => Instruction::LocalTee(*a),
@@ -745,6 +754,7 @@ impl<'a, A: Allocator + Copy> Instruction<'a, A> {
             Instruction::I64Store32(a) => Instruction::I64Store32(*a),
             Instruction::MemorySize(a) => Instruction::MemorySize(*a),
             Instruction::MemoryGrow(a) => Instruction::MemoryGrow(*a),
+            // end: written by tools/instructions
             _ => return self.clone_reference(),
         })
     }
@@ -755,6 +765,7 @@ impl<'a, A: Allocator + Copy> Instruction<'a, A> {
         ensures err { result ≢ Err Refused.TooLong }
     {
         Ok(match self {
+            // begin: written by tools/instructions
             Instruction::I32Const(a) => Instruction::I32Const(*a),
             Instruction::I64Const(a) => Instruction::I64Const(*a),
             Instruction::F32Const(a) => Instruction::F32Const(*a),
@@ -805,6 +816,7 @@ impl<'a, A: Allocator + Copy> Instruction<'a, A> {
                 cont_type_index: *cont_type_index,
                 tag_index: *tag_index,
             },
+            // end: written by tools/instructions
             _ => return self.clone_aggregate(),
         })
     }
@@ -815,6 +827,7 @@ impl<'a, A: Allocator + Copy> Instruction<'a, A> {
         ensures err { result ≢ Err Refused.TooLong }
     {
         Ok(match self {
+            // begin: written by tools/instructions
             Instruction::StructNew(a) => Instruction::StructNew(*a),
             Instruction::StructNewDefault(a) => Instruction::StructNewDefault(*a),
             Instruction::StructGet {
@@ -939,6 +952,7 @@ impl<'a, A: Allocator + Copy> Instruction<'a, A> {
                 from_ref_type: *from_ref_type,
                 to_ref_type: *to_ref_type,
             },
+            // end: written by tools/instructions
             _ => return self.clone_bulk(),
         })
     }
@@ -949,6 +963,7 @@ impl<'a, A: Allocator + Copy> Instruction<'a, A> {
         ensures err { result ≢ Err Refused.TooLong }
     {
         Ok(match self {
+            // begin: written by tools/instructions
             Instruction::MemoryInit { data_index, mem } => Instruction::MemoryInit {
                 data_index: *data_index,
                 mem: *mem,
@@ -981,6 +996,7 @@ impl<'a, A: Allocator + Copy> Instruction<'a, A> {
             Instruction::Vector(i) => Instruction::Vector(*i),
             Instruction::VectorImmediate(i) => Instruction::VectorImmediate(*i),
             Instruction::Atomic(i) => Instruction::Atomic(*i),
+            // end: written by tools/instructions
             // Not reached: the functions above have copied all other cases.
             _ => return Err(Refused::Memory),
         })

@@ -15,6 +15,7 @@ pub enum Op {
 /// Which parts follow an opcode.
 #[derive(Clone, Copy, PartialEq, Eq, Hash, Debug)]
 pub enum Shape {
+    // begin: written by tools/instructions
     Nothing,
     /// A number.
     U,
@@ -60,6 +61,7 @@ pub enum Shape {
     Uh,
     /// Two numbers and clauses that handle.
     Uuh,
+    // end: written by tools/instructions
 }
 
 /// The byte, or the prefix and the number.

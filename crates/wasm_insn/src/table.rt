@@ -13,6 +13,7 @@ pub(crate) struct Run(u32, u32, Shape);
 /// The shapes of one-byte ops, each at its op's place: eight places a line.
 #[rattlefmt::skip]
 static ONE_BYTE: [Option<Shape>; 256] = [
+    // begin: written by tools/instructions
     Some(Shape::Nothing), Some(Shape::Nothing), Some(Shape::B), Some(Shape::B), Some(Shape::B), Some(Shape::Nothing), Some(Shape::B), Some(Shape::U),
     Some(Shape::U), Some(Shape::U), Some(Shape::Nothing), Some(Shape::Nothing), Some(Shape::U), Some(Shape::U), Some(Shape::Bt), Some(Shape::Nothing),
     Some(Shape::U), Some(Shape::Uu), Some(Shape::U), Some(Shape::Uu), Some(Shape::U), Some(Shape::U), None, None,
@@ -45,9 +46,11 @@ static ONE_BYTE: [Option<Shape>; 256] = [
     None, None, None, None, None, None, None, None,
     None, None, None, None, None, None, None, None,
     None, None, None, None, None, None, None, None,
+    // end: written by tools/instructions
 ];
 
 /// Ops after the prefix FB.
+// begin: written by tools/instructions
 static AFTER_FB: [Run; 14] = [
     Run(0, 1, Shape::U),
     Run(2, 5, Shape::Uu),
@@ -63,9 +66,11 @@ static AFTER_FB: [Run; 14] = [
     Run(32, 34, Shape::U),
     Run(35, 36, Shape::H),
     Run(37, 38, Shape::K),
+    // end: written by tools/instructions
 ];
 
 /// Ops after the prefix FC.
+// begin: written by tools/instructions
 static AFTER_FC: [Run; 10] = [
     Run(0, 7, Shape::Nothing),
     Run(8, 8, Shape::Uu),
@@ -77,9 +82,11 @@ static AFTER_FC: [Run; 10] = [
     Run(14, 14, Shape::Uu),
     Run(15, 18, Shape::U),
     Run(19, 22, Shape::Nothing),
+    // end: written by tools/instructions
 ];
 
 /// Ops after the prefix FD.
+// begin: written by tools/instructions
 static AFTER_FD: [Run; 21] = [
     Run(0, 11, Shape::M),
     Run(12, 12, Shape::V),
@@ -102,9 +109,11 @@ static AFTER_FD: [Run; 21] = [
     Run(213, 225, Shape::Nothing),
     Run(227, 237, Shape::Nothing),
     Run(239, 275, Shape::Nothing),
+    // end: written by tools/instructions
 ];
 
 /// Ops after the prefix FE.
+// begin: written by tools/instructions
 static AFTER_FE: [Run; 8] = [
     Run(0x00, 0x02, Shape::M),
     Run(0x03, 0x03, Shape::O),
@@ -114,6 +123,7 @@ static AFTER_FE: [Run; 8] = [
     Run(0x5C, 0x66, Shape::Ouu),
     Run(0x67, 0x71, Shape::Ou),
     Run(0x72, 0x72, Shape::Nothing),
+    // end: written by tools/instructions
 ];
 
 /// The shape of the op of this number among the runs.
