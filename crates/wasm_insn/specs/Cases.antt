@@ -49,6 +49,7 @@ pub record Given (A : Type 0) : Type 0 where
 -- Each case of the enums once, with these fields.
 abbrev pub all_cases : {A : Type 0} → Given A → List (Instruction A)
 all_cases given =
+    -- begin: written by tools/instructions
     cases.Unreachable ∷
     cases.Nop ∷
     cases.Block given.block ∷
@@ -677,6 +678,7 @@ all_cases given =
     cases.Atomic (atomic.ArrayAtomicRmwXchg given.ordering given.index) ∷
     cases.Atomic (atomic.ArrayAtomicRmwCmpxchg given.ordering given.index) ∷
     cases.Atomic atomic.RefI31Shared ∷
+    -- end: written by tools/instructions
     []
 
 -- The cases are the rows of the table in order: each has the opcode of its row, and the immediates

@@ -3,7 +3,9 @@
 use Rattle.std.specs.Prelude.{◌≡◌, ◌↔◌, ℕ, ◌+◌, ◌*◌, List, [], ◌∷◌, Bool, true, false}
 use Rattle.wasm_base.specs.Decoding.{DecodesUniquely}
 use Rattle.wasm_insn.specs.declared.instruction.Instruction.{Instruction}
+-- begin: written by tools/instructions
 use Rattle.wasm_insn.specs.declared.instruction.Instruction.TheVariants.{Unreachable, Nop, Block, Loop, If, Else, Try, Catch, Throw, Rethrow, ThrowRef, End, Br, BrIf, BrTable, Return, Call, CallIndirect, ReturnCall, ReturnCallIndirect, CallRef, ReturnCallRef, Delegate, CatchAll, Drop, Select, TypedSelect, TypedSelectMulti, TryTable, LocalGet, LocalSet, LocalTee, GlobalGet, GlobalSet, TableGet, TableSet, I32Load, I64Load, F32Load, F64Load, I32Load8S, I32Load8U, I32Load16S, I32Load16U, I64Load8S, I64Load8U, I64Load16S, I64Load16U, I64Load32S, I64Load32U, I32Store, I64Store, F32Store, F64Store, I32Store8, I32Store16, I64Store8, I64Store16, I64Store32, MemorySize, MemoryGrow, I32Const, I64Const, F32Const, F64Const, RefNull, RefIsNull, RefFunc, RefEq, RefAsNonNull, BrOnNull, BrOnNonNull, ContNew, ContBind, Suspend, Resume, ResumeThrow, ResumeThrowRef, Switch, StructNew, StructNewDefault, StructGet, StructGetS, StructGetU, StructSet, ArrayNew, ArrayNewDefault, ArrayNewFixed, ArrayNewData, ArrayNewElem, ArrayGet, ArrayGetS, ArrayGetU, ArraySet, ArrayFill, ArrayCopy, ArrayInitData, ArrayInitElem, RefTestNonNull, RefTestNullable, RefCastNonNull, RefCastNullable, BrOnCast, BrOnCastFail, StructNewDesc, StructNewDefaultDesc, RefGetDesc, RefCastDescEqNonNull, RefCastDescEqNullable, BrOnCastDescEq, BrOnCastDescEqFail, MemoryInit, DataDrop, MemoryCopy, MemoryFill, TableInit, ElemDrop, TableCopy, TableGrow, TableSize, TableFill, MemoryDiscard, Numeric, Aggregate, PrefixedNumeric, Vector, VectorImmediate, Atomic}
+-- end: written by tools/instructions
 use Rattle.wasm_insn.specs.declared.op.Op.TheVariants.{Byte, Prefixed}
 use Rattle.wasm_base.specs.declared.types.RefType.{RefType}
 use Rattle.wasm_base.specs.Cow.{items_of}
@@ -28,6 +30,7 @@ cast_flag_of from to = bit_of from.nullable + 2 * bit_of to.nullable
 
 -- The opcode and the immediates of an instruction.
 abbrev pub row_of : {A : Type 0} → Instruction A → Plain
+-- begin: written by tools/instructions
 row_of Unreachable = record { op = Byte 0x00; arguments = [] }
 row_of Nop = record { op = Byte 0x01; arguments = [] }
 row_of (Block a) = record { op = Byte 0x02; arguments = block a ∷ [] }
@@ -156,6 +159,8 @@ row_of (PrefixedNumeric i) = record { op = Prefixed 0xFC (prefixed_numeric_numbe
 row_of (Vector i) = record { op = Prefixed 0xFD (vector_number i); arguments = [] }
 row_of (VectorImmediate i) = vector_immediate_row i
 row_of (Atomic i) = atomic_row i
+
+-- end: written by tools/instructions
 
 -- The encoding of an instruction: its opcode, then its immediates.
 abbrev pub instruction_encoding : {A : Type 0} → Instruction A → List ℕ

@@ -1,12 +1,15 @@
 -- This file defines which immediates follow an opcode, by the shape of the instruction.
 use Rattle.std.specs.Prelude.{List, [], ◌∷◌}
 use Rattle.wasm_insn.specs.declared.op.Shape.{Shape}
+-- begin: written by tools/instructions
 use Rattle.wasm_insn.specs.declared.op.Shape.TheVariants.{Nothing, U, Uu, M, Ml, L, B, H, O, Ou, Ouu, C32, C64, F32, F64, V, Ls, Bt, Tt, Ts, K, Uh, Uuh}
+-- end: written by tools/instructions
 use Rattle.wasm_insn.specs.declared.part.Part.{Part}
 use Rattle.wasm_insn.specs.declared.part.Part.TheVariants as parts
 
 -- The types of the immediates of a shape, in order.
 abbrev pub parts_of : Shape → List Part
+-- begin: written by tools/instructions
 parts_of Nothing = []
 parts_of U = parts.Unsigned ∷ []
 parts_of Uu = parts.Unsigned ∷ parts.Unsigned ∷ []
@@ -30,3 +33,5 @@ parts_of Ts = parts.Types ∷ []
 parts_of K = parts.Flag ∷ parts.Unsigned ∷ parts.Heap ∷ parts.Heap ∷ []
 parts_of Uh = parts.Unsigned ∷ parts.Handles ∷ []
 parts_of Uuh = parts.Unsigned ∷ parts.Unsigned ∷ parts.Handles ∷ []
+
+-- end: written by tools/instructions

@@ -7,7 +7,9 @@ use Rattle.std.specs.Option.{option_map}
 use Rattle.wasm_insn.specs.declared.op.Op.{Op}
 use Rattle.wasm_insn.specs.declared.op.Op.TheVariants.{Byte, Prefixed}
 use Rattle.wasm_insn.specs.declared.op.Shape.{Shape}
+-- begin: written by tools/instructions
 use Rattle.wasm_insn.specs.declared.op.Shape.TheVariants.{Nothing, U, Uu, M, Ml, L, B, H, O, Ou, Ouu, C32, C64, F32, F64, V, Ls, Bt, Tt, Ts, K, Uh, Uuh}
+-- end: written by tools/instructions
 use Rattle.wasm_insn.specs.declared.table.Run.{Run}
 use Rattle.wasm_insn.specs.Opcodes.{op_encoding}
 use Rattle.wasm_insn.specs.Parts.{parts_of}
@@ -21,6 +23,7 @@ run first last shape = record { 0 = first; 1 = last; 2 = shape }
 -- One-byte opcodes. 1C has two rows, for `TypedSelect` and `TypedSelectMulti`.
 abbrev pub one_byte : List Run
 one_byte =
+    -- begin: written by tools/instructions
     run 0x00 0x01 Nothing ∷
     run 0x02 0x04 B ∷
     run 0x05 0x05 Nothing ∷
@@ -60,11 +63,13 @@ one_byte =
     run 0xE4 0xE4 Uuh ∷
     run 0xE5 0xE5 Uh ∷
     run 0xE6 0xE6 Uu ∷
+    -- end: written by tools/instructions
     []
 
 -- Opcodes after the prefix FB.
 abbrev pub after_fb : List Run
 after_fb =
+    -- begin: written by tools/instructions
     run 0 1 U ∷
     run 2 5 Uu ∷
     run 6 7 U ∷
@@ -79,11 +84,13 @@ after_fb =
     run 32 34 U ∷
     run 35 36 H ∷
     run 37 38 K ∷
+    -- end: written by tools/instructions
     []
 
 -- Opcodes after the prefix FC.
 abbrev pub after_fc : List Run
 after_fc =
+    -- begin: written by tools/instructions
     run 0 7 Nothing ∷
     run 8 8 Uu ∷
     run 9 9 U ∷
@@ -94,11 +101,13 @@ after_fc =
     run 14 14 Uu ∷
     run 15 18 U ∷
     run 19 22 Nothing ∷
+    -- end: written by tools/instructions
     []
 
 -- Opcodes after the prefix FD.
 abbrev pub after_fd : List Run
 after_fd =
+    -- begin: written by tools/instructions
     run 0 11 M ∷
     run 12 12 V ∷
     run 13 13 Ls ∷
@@ -120,11 +129,13 @@ after_fd =
     run 213 225 Nothing ∷
     run 227 237 Nothing ∷
     run 239 275 Nothing ∷
+    -- end: written by tools/instructions
     []
 
 -- Opcodes after the prefix FE.
 abbrev pub after_fe : List Run
 after_fe =
+    -- begin: written by tools/instructions
     run 0x00 0x02 M ∷
     run 0x03 0x03 O ∷
     run 0x04 0x04 Nothing ∷
@@ -133,6 +144,7 @@ after_fe =
     run 0x5C 0x66 Ouu ∷
     run 0x67 0x71 Ou ∷
     run 0x72 0x72 Nothing ∷
+    -- end: written by tools/instructions
     []
 
 -- The first `k` numbers from `n` on.
@@ -197,10 +209,12 @@ ops_of [] = []
 ops_of (row ∷ []) = row.0 ∷ []
 ops_of (row ∷ next ∷ rows) = cond (same_op row.0 next.0) (ops_of (next ∷ rows)) (row.0 ∷ ops_of (next ∷ rows))
 
+-- begin: written by tools/instructions
 -- The table has 628 rows on 627 ops, in ascending order; two neighbours share an op, 1C, and no others do.
 pub record IsOpcodeTable (rows : Table) : Type 0 where
   pub row_count : length rows ≡ 628
   pub op_count : length (ops_of rows) ≡ 627
+  -- end: written by tools/instructions
   pub ops : AllByRecursion (λ row. IsTableOp row.0) rows
   pub ascending : IsTrue (ascends rows)
   pub shared : shared_ops rows ≡ Byte 0x1C ∷ []

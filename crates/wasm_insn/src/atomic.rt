@@ -13,6 +13,7 @@ use wasm_immediates::{MemArg, Ordering};
 /// Atomic instructions: those after the prefix FE.
 #[derive(Clone, Copy, Debug)]
 pub enum Atomic {
+    // begin: written by tools/instructions
     MemoryAtomicNotify(MemArg),
     MemoryAtomicWait32(MemArg),
     MemoryAtomicWait64(MemArg),
@@ -233,6 +234,7 @@ pub enum Atomic {
         array_type_index: u32,
     },
     RefI31Shared,
+    // end: written by tools/instructions
 }
 
 impl Atomic {
@@ -241,6 +243,7 @@ impl Atomic {
         ensures { result ≡ (atomic_row self).op }
     {
         match self {
+            // begin: written by tools/instructions
             Atomic::MemoryAtomicNotify(..) => Op::Prefixed(0xFE, 0x00),
             Atomic::MemoryAtomicWait32(..) => Op::Prefixed(0xFE, 0x01),
             Atomic::MemoryAtomicWait64(..) => Op::Prefixed(0xFE, 0x02),
@@ -345,6 +348,7 @@ impl Atomic {
             Atomic::ArrayAtomicRmwXchg { .. } => Op::Prefixed(0xFE, 0x70),
             Atomic::ArrayAtomicRmwCmpxchg { .. } => Op::Prefixed(0xFE, 0x71),
             Atomic::RefI31Shared => Op::Prefixed(0xFE, 0x72),
+            // end: written by tools/instructions
         }
     }
 
@@ -353,6 +357,7 @@ impl Atomic {
         ensures { Appends (arguments_encoding (atomic_row self).arguments) (arguments_encodable (atomic_row self).arguments) sink.old sink.new result }
     {
         match self {
+            // begin: written by tools/instructions
             Atomic::MemoryAtomicNotify(a)
             | Atomic::MemoryAtomicWait32(a)
             | Atomic::MemoryAtomicWait64(a)
@@ -572,13 +577,16 @@ impl Atomic {
                 field_index: c,
             } => (a, b, c).encode(sink),
             Atomic::Pause | Atomic::RefI31Shared => Ok(()),
+            // end: written by tools/instructions
         }
     }
 }
 
 /// The instructions without fields, by their names on `Instruction`.
 impl Instruction<'static> {
+    // begin: written by tools/instructions
     pub const Pause: Self = Instruction::Atomic(Atomic::Pause);
 
     pub const RefI31Shared: Self = Instruction::Atomic(Atomic::RefI31Shared);
+    // end: written by tools/instructions
 }

@@ -27,6 +27,7 @@ use wasm_immediates::{BlockType, Catch, Handle, Ieee32, Ieee64, MemArg};
 /// without fields also have a constant here, such as `Instruction::I32Add`.
 #[derive(Drop)]
 pub enum Instruction<'a, A: Allocator = Global> {
+    // begin: written by tools/instructions
     Unreachable,
     Nop,
     Block(BlockType),
@@ -241,6 +242,7 @@ pub enum Instruction<'a, A: Allocator = Global> {
     VectorImmediate(VectorImmediate),
     /// Atomic instructions: those after the prefix FE.
     Atomic(Atomic),
+    // end: written by tools/instructions
 }
 
 /// Returns the flags of a cast: bit 0 for a nullable first type, bit 1 for a nullable second type.
@@ -313,6 +315,7 @@ impl<'a, A: Allocator> Instruction<'a, A> {
         ensures { result ≡ (row_of self.now).op }
     {
         match self {
+            // begin: written by tools/instructions
             Instruction::Unreachable => Op::Byte(0x00),
             Instruction::Nop => Op::Byte(0x01),
             Instruction::Block(..) => Op::Byte(0x02),
@@ -441,6 +444,7 @@ impl<'a, A: Allocator> Instruction<'a, A> {
             Instruction::Vector(i) => i.op(),
             Instruction::VectorImmediate(i) => i.op(),
             Instruction::Atomic(i) => i.op(),
+            // end: written by tools/instructions
         }
     }
 
@@ -449,6 +453,7 @@ impl<'a, A: Allocator> Instruction<'a, A> {
         ensures { Appends (arguments_encoding (row_of self.now).arguments) (arguments_encodable (row_of self.now).arguments) sink.old sink.new result }
     {
         match self {
+            // begin: written by tools/instructions
             Instruction::Block(a)
             | Instruction::Loop(a)
             | Instruction::If(a)
@@ -657,6 +662,7 @@ impl<'a, A: Allocator> Instruction<'a, A> {
             | Instruction::Vector(_) => Ok(()),
             Instruction::VectorImmediate(a) => a.encode_arguments(sink),
             Instruction::Atomic(a) => a.encode_arguments(sink),
+            // end: written by tools/instructions
         }
     }
 }
@@ -670,6 +676,7 @@ impl<'a, A: Allocator + Copy> Instruction<'a, A> {
         ensures err { result ≢ Err Refused.TooLong }
     {
         Ok(match self {
+            // begin: written by tools/instructions
             Instruction::Unreachable => Instruction::Unreachable,
             Instruction::Nop => Instruction::Nop,
             Instruction::Block(a) => Instruction::Block(*a),
@@ -711,6 +718,7 @@ impl<'a, A: Allocator + Copy> Instruction<'a, A> {
             Instruction::TypedSelect(a) => Instruction::TypedSelect(*a),
             Instruction::TypedSelectMulti(a) => Instruction::TypedSelectMulti(a.clone()?),
             Instruction::TryTable(a, b) => Instruction::TryTable(*a, b.clone()?),
+            // end: written by tools/instructions
             _ => return self.clone_access(),
         })
     }
@@ -722,6 +730,7 @@ impl<'a, A: Allocator + Copy> Instruction<'a, A> {
         ensures err { result ≢ Err Refused.TooLong }
     {
         Ok(match self {
+            // begin: written by tools/instructions
             Instruction::LocalGet(a) => Instruction::LocalGet(*a),
             Instruction::LocalSet(a) => Instruction::LocalSet(*a),
             Instruction::LocalTee(a) => Instruction::LocalTee(*a),
@@ -754,6 +763,7 @@ impl<'a, A: Allocator + Copy> Instruction<'a, A> {
             Instruction::I64Store32(a) => Instruction::I64Store32(*a),
             Instruction::MemorySize(a) => Instruction::MemorySize(*a),
             Instruction::MemoryGrow(a) => Instruction::MemoryGrow(*a),
+            // end: written by tools/instructions
             _ => return self.clone_reference(),
         })
     }
@@ -765,6 +775,7 @@ impl<'a, A: Allocator + Copy> Instruction<'a, A> {
         ensures err { result ≢ Err Refused.TooLong }
     {
         Ok(match self {
+            // begin: written by tools/instructions
             Instruction::I32Const(a) => Instruction::I32Const(*a),
             Instruction::I64Const(a) => Instruction::I64Const(*a),
             Instruction::F32Const(a) => Instruction::F32Const(*a),
@@ -815,6 +826,7 @@ impl<'a, A: Allocator + Copy> Instruction<'a, A> {
                 cont_type_index: *cont_type_index,
                 tag_index: *tag_index,
             },
+            // end: written by tools/instructions
             _ => return self.clone_aggregate(),
         })
     }
@@ -825,6 +837,7 @@ impl<'a, A: Allocator + Copy> Instruction<'a, A> {
         ensures err { result ≢ Err Refused.TooLong }
     {
         Ok(match self {
+            // begin: written by tools/instructions
             Instruction::StructNew(a) => Instruction::StructNew(*a),
             Instruction::StructNewDefault(a) => Instruction::StructNewDefault(*a),
             Instruction::StructGet {
@@ -949,6 +962,7 @@ impl<'a, A: Allocator + Copy> Instruction<'a, A> {
                 from_ref_type: *from_ref_type,
                 to_ref_type: *to_ref_type,
             },
+            // end: written by tools/instructions
             _ => return self.clone_bulk(),
         })
     }
@@ -960,6 +974,7 @@ impl<'a, A: Allocator + Copy> Instruction<'a, A> {
         ensures err { result ≢ Err Refused.TooLong }
     {
         Ok(match self {
+            // begin: written by tools/instructions
             Instruction::MemoryInit { data_index, mem } => Instruction::MemoryInit {
                 data_index: *data_index,
                 mem: *mem,
@@ -992,6 +1007,7 @@ impl<'a, A: Allocator + Copy> Instruction<'a, A> {
             Instruction::Vector(i) => Instruction::Vector(*i),
             Instruction::VectorImmediate(i) => Instruction::VectorImmediate(*i),
             Instruction::Atomic(i) => Instruction::Atomic(*i),
+            // end: written by tools/instructions
             // Not reached: the functions above have copied all other cases.
             _ => return Err(Refused::Memory),
         })

@@ -15,6 +15,7 @@ pub enum Op {
 /// The list of immediates of an opcode.
 #[derive(Clone, Copy, PartialEq, Eq, Hash, Debug)]
 pub enum Shape {
+    // begin: written by tools/instructions
     Nothing,
     /// A number.
     U,
@@ -60,6 +61,7 @@ pub enum Shape {
     Uh,
     /// Two numbers and clauses that handle.
     Uuh,
+    // end: written by tools/instructions
 }
 
 /// Encodes the byte, or the prefix and the number.

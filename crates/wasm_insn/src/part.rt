@@ -49,6 +49,7 @@ impl Shape {
         ensures { result.now ≡ parts_of self }
     {
         match self {
+            // begin: written by tools/instructions
             Shape::Nothing => &[],
             Shape::U => &[Part::Unsigned],
             Shape::Uu => &[Part::Unsigned, Part::Unsigned],
@@ -72,6 +73,7 @@ impl Shape {
             Shape::K => &[Part::Flag, Part::Unsigned, Part::Heap, Part::Heap],
             Shape::Uh => &[Part::Unsigned, Part::Handles],
             Shape::Uuh => &[Part::Unsigned, Part::Unsigned, Part::Handles],
+            // end: written by tools/instructions
         }
     }
 }

@@ -105,6 +105,7 @@ impl Ranged for Atomic {
 
     fn ranged(self) {
         match self {
+            // begin: written by tools/instructions
             Atomic::MemoryAtomicNotify(a)
             | Atomic::MemoryAtomicWait32(a)
             | Atomic::MemoryAtomicWait64(a)
@@ -327,6 +328,7 @@ impl Ranged for Atomic {
                 c.ranged();
             }
             Atomic::Pause | Atomic::RefI31Shared => {}
+            // end: written by tools/instructions
         }
     }
 }
@@ -354,6 +356,7 @@ pub(crate) fn arguments_ranged<A: Allocator>(instruction: &Instruction<'_, A>)
     ensures { IsWellFormedWhereAligned instruction.now }
 {
     match instruction {
+        // begin: written by tools/instructions
         Instruction::Block(a) | Instruction::Loop(a) | Instruction::If(a) | Instruction::Try(a) =>
             a.ranged(),
         Instruction::Catch(a)
@@ -582,5 +585,6 @@ pub(crate) fn arguments_ranged<A: Allocator>(instruction: &Instruction<'_, A>)
         | Instruction::Vector(_) => {}
         Instruction::VectorImmediate(a) => a.ranged(),
         Instruction::Atomic(a) => a.ranged(),
+        // end: written by tools/instructions
     }
 }

@@ -14,6 +14,7 @@ pub(crate) struct Run(u32, u32, Shape);
 /// The shapes of one-byte opcodes, indexed by opcode, eight a line.
 #[rattlefmt::skip]
 static ONE_BYTE: [Option<Shape>; 256] = [
+    // begin: written by tools/instructions
     Some(Shape::Nothing), Some(Shape::Nothing), Some(Shape::B), Some(Shape::B), Some(Shape::B), Some(Shape::Nothing), Some(Shape::B), Some(Shape::U),
     Some(Shape::U), Some(Shape::U), Some(Shape::Nothing), Some(Shape::Nothing), Some(Shape::U), Some(Shape::U), Some(Shape::Bt), Some(Shape::Nothing),
     Some(Shape::U), Some(Shape::Uu), Some(Shape::U), Some(Shape::Uu), Some(Shape::U), Some(Shape::U), None, None,
@@ -46,9 +47,11 @@ static ONE_BYTE: [Option<Shape>; 256] = [
     None, None, None, None, None, None, None, None,
     None, None, None, None, None, None, None, None,
     None, None, None, None, None, None, None, None,
+    // end: written by tools/instructions
 ];
 
 /// Ops after the prefix FB.
+// begin: written by tools/instructions
 static AFTER_FB: [Run; 14] = [
     Run(0, 1, Shape::U),
     Run(2, 5, Shape::Uu),
@@ -64,9 +67,11 @@ static AFTER_FB: [Run; 14] = [
     Run(32, 34, Shape::U),
     Run(35, 36, Shape::H),
     Run(37, 38, Shape::K),
+    // end: written by tools/instructions
 ];
 
 /// Ops after the prefix FC.
+// begin: written by tools/instructions
 static AFTER_FC: [Run; 10] = [
     Run(0, 7, Shape::Nothing),
     Run(8, 8, Shape::Uu),
@@ -78,9 +83,11 @@ static AFTER_FC: [Run; 10] = [
     Run(14, 14, Shape::Uu),
     Run(15, 18, Shape::U),
     Run(19, 22, Shape::Nothing),
+    // end: written by tools/instructions
 ];
 
 /// Ops after the prefix FD.
+// begin: written by tools/instructions
 static AFTER_FD: [Run; 21] = [
     Run(0, 11, Shape::M),
     Run(12, 12, Shape::V),
@@ -103,9 +110,11 @@ static AFTER_FD: [Run; 21] = [
     Run(213, 225, Shape::Nothing),
     Run(227, 237, Shape::Nothing),
     Run(239, 275, Shape::Nothing),
+    // end: written by tools/instructions
 ];
 
 /// Ops after the prefix FE.
+// begin: written by tools/instructions
 static AFTER_FE: [Run; 8] = [
     Run(0x00, 0x02, Shape::M),
     Run(0x03, 0x03, Shape::O),
@@ -115,6 +124,7 @@ static AFTER_FE: [Run; 8] = [
     Run(0x5C, 0x66, Shape::Ouu),
     Run(0x67, 0x71, Shape::Ou),
     Run(0x72, 0x72, Shape::Nothing),
+    // end: written by tools/instructions
 ];
 
 /// Returns the shape of the opcode of this number among the runs.

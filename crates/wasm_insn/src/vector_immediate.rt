@@ -21,6 +21,7 @@ pub(crate) fn vector_bytes(value: i128) -> [u8; 16]
 /// Vector instructions with immediates: those after the prefix FD.
 #[derive(Clone, Copy, Debug)]
 pub enum VectorImmediate {
+    // begin: written by tools/instructions
     V128Load(MemArg),
     V128Load8x8S(MemArg),
     V128Load8x8U(MemArg),
@@ -59,6 +60,7 @@ pub enum VectorImmediate {
     V128Store64Lane { memarg: MemArg, lane: Lane },
     V128Load32Zero(MemArg),
     V128Load64Zero(MemArg),
+    // end: written by tools/instructions
 }
 
 impl VectorImmediate {
@@ -67,6 +69,7 @@ impl VectorImmediate {
         ensures { result ≡ (vector_immediate_row self).op }
     {
         match self {
+            // begin: written by tools/instructions
             VectorImmediate::V128Load(..) => Op::Prefixed(0xFD, 0),
             VectorImmediate::V128Load8x8S(..) => Op::Prefixed(0xFD, 1),
             VectorImmediate::V128Load8x8U(..) => Op::Prefixed(0xFD, 2),
@@ -105,6 +108,7 @@ impl VectorImmediate {
             VectorImmediate::V128Store64Lane { .. } => Op::Prefixed(0xFD, 91),
             VectorImmediate::V128Load32Zero(..) => Op::Prefixed(0xFD, 92),
             VectorImmediate::V128Load64Zero(..) => Op::Prefixed(0xFD, 93),
+            // end: written by tools/instructions
         }
     }
 
@@ -113,6 +117,7 @@ impl VectorImmediate {
         ensures { Appends (arguments_encoding (vector_immediate_row self).arguments) (arguments_encodable (vector_immediate_row self).arguments) sink.old sink.new result }
     {
         match self {
+            // begin: written by tools/instructions
             VectorImmediate::V128Load(a)
             | VectorImmediate::V128Load8x8S(a)
             | VectorImmediate::V128Load8x8U(a)
@@ -151,6 +156,7 @@ impl VectorImmediate {
             | VectorImmediate::V128Store16Lane { memarg: a, lane: b }
             | VectorImmediate::V128Store32Lane { memarg: a, lane: b }
             | VectorImmediate::V128Store64Lane { memarg: a, lane: b } => (a, b).encode(sink),
+            // end: written by tools/instructions
         }
     }
 }

@@ -93,7 +93,7 @@ def of_module(caller: Caller, module: Module, call: Call) -> Value:
         return FinishedModule(term="%s %s %s" % (caller.proof.lemma("wasm_base", "finished"), module.term, call.at))
     if call.name != "section" or not call.is_tried:
         raise unknown(call, " of a module")
-    clauses = "%s.read %s.fitted %s.section" % (call.at, call.at, call.at)
+    clauses = "%s.read %s.was_encodable %s.section" % (call.at, call.at, call.at)
     section, tree = call.values[0], caller.scope.settled(call.arguments[0])
     if isinstance(section, Builder) and section.holds in GAINS:
         term = "%s %s %s %s" % (gain_of_module(caller, section), module.term, clauses, held(caller.proof, section))
@@ -173,7 +173,7 @@ def encoded_custom(caller: Caller, lemma: str, call: Call, content: str) -> Enco
     caller.proof.lemma("wasm_custom", lemma.split()[0])
     payload = re.search(r"\w+_payload", lemma)
     if payload:
-        caller.proof.use("Rattle.wasm_base.specs.Formats", "frame")
+        caller.proof.use("Rattle.wasm_base.specs.Formats", "size_prefixed")
         caller.proof.use("Rattle.wasm_custom.specs." + PAYLOADS[payload.group()], payload.group())
     return Encoded(term="%s %s.appends %s.read %s" % (lemma, call.at, call.at, content))
 
@@ -227,7 +227,7 @@ def of_plain(caller: Caller, value: Plain, call: Call) -> Value:
         if tree.path[0] in NUMBERS:
             number = caller.evidence.number(*tree.fields.values()).term
             caller.proof.common("◌≡◌", "refl")
-            caller.proof.use("Rattle.wasm_base.specs.Formats", "frame", "u32")
+            caller.proof.use("Rattle.wasm_base.specs.Formats", "size_prefixed", "u32")
             return encoded_custom(caller, "encodes_custom (size_prefixed u32) (λ said. said ≡ %s)" % number, call, "refl")
     if call.name == "iter" and isinstance(value.tree, Path) and not call.is_tried:
         return SliceIterator(parameter=value.tree.names[0], called=call.step)

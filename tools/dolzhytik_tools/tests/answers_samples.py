@@ -157,7 +157,7 @@ use Rattle.mine.proofs.adding.exports.Goals as goal
 
 pub returns : goal.returns
 returns c =
-    let s1 = adds_export (new_exports c.new-section.ensures) (item c.args.name.now 7) c.in_ok-export.ensures.ok c.in_ok-export.ensures.fitted c.utf8.name (omega arith) in
+    let s1 = adds_export (new_exports c.new-section.ensures) (item c.args.name.now 7) c.in_ok-export.ensures.ok c.in_ok-export.ensures.was_encodable c.utf8.name (omega arith) in
     encodes_items c.encode.ensures.appends c.encode.ensures.read s1
 """,
     "add": """-- Written by tools/answers.
@@ -167,8 +167,8 @@ use Rattle.mine.proofs.adding.add.Goals as goal
 
 pub returns : goal.returns
 returns g c before =
-    let m1 = gains_code before c.in_ok-section.ensures.read c.in_ok-section.ensures.fitted c.in_ok-section.ensures.section c.in_ok-code.ensures in
-    gains_number m1 c.in_ok-section-2.ensures.read c.in_ok-section-2.ensures.fitted c.in_ok-section-2.ensures.section
+    let m1 = gains_code before c.in_ok-section.ensures.read c.in_ok-section.ensures.was_encodable c.in_ok-section.ensures.section c.in_ok-code.ensures in
+    gains_number m1 c.in_ok-section-2.ensures.read c.in_ok-section-2.ensures.was_encodable c.in_ok-section-2.ensures.section
 """,
 }
 
@@ -209,8 +209,8 @@ use Rattle.mine.proofs.adding.producers.Goals as goal
 
 pub returns : goal.returns
 returns g c =
-    let s1 = adds_value (new_field c.new-values.ensures) (codes "mine", c.args.version.now) c.in_ok-value.ensures.ok c.in_ok-value.ensures.counted c.in_ok-value.ensures.fitted (ascii refl) c.utf8.version in
-    adds_field (new_producers c.new-section.ensures) (codes "language") s1 c.in_ok-field.ensures.ok c.in_ok-field.ensures.fitted (ascii refl)
+    let s1 = adds_value (new_field c.new-values.ensures) (codes "mine", c.args.version.now) c.in_ok-value.ensures.ok c.in_ok-value.ensures.counted c.in_ok-value.ensures.was_encodable (ascii refl) c.utf8.version in
+    adds_field (new_producers c.new-section.ensures) (codes "language") s1 c.in_ok-field.ensures.ok c.in_ok-field.ensures.was_encodable (ascii refl)
 """,
     "hints": """-- Written by tools/answers.
 use Rattle.std.proofs.Common.{arith}

@@ -6,7 +6,7 @@ import pathlib
 import sys
 from collections.abc import Iterator, Sequence
 
-from .. import widths
+from .. import generated_files, widths
 from ..errors import Stop
 from ..repository import TOP, text_of
 from .asks import asks
@@ -59,29 +59,19 @@ def stale(files: dict[str, str], top: pathlib.Path = TOP) -> Iterator[str]:
             yield str(relative)
 
 
-def is_same(path: pathlib.Path, text: str) -> bool:
-    """Returns whether a file has this text."""
-    return path.is_file() and text_of(path) == text
-
-
 def write(top: pathlib.Path = TOP) -> None:
     """Writes the files that differ, and removes those that are left over."""
     files = generated(top)
     for path in stale(files, top):
         (top / 'rust' / path).unlink()
-    for path, text in files.items():
-        target = top / 'rust' / path
-        target.parent.mkdir(parents=True, exist_ok=True)
-        if not is_same(target, text):
-            target.write_text(text, encoding='utf-8')
+    generated_files.write(files, top / 'rust')
     print(f'to-rust: {len(files)} files')
 
 
 def check(top: pathlib.Path = TOP) -> int:
     """Reports the files that differ, and returns the exit status."""
     files = generated(top)
-    wrong = list(stale(files, top))
-    wrong += [path for path, text in files.items() if not is_same(top / 'rust' / path, text)]
+    wrong = [*stale(files, top), *generated_files.differing(files, top / 'rust')]
     for path in wrong:
         print(f'to-rust: rust/{path} is not what is written')
     return 1 if wrong else 0
@@ -89,7 +79,7 @@ def check(top: pathlib.Path = TOP) -> int:
 
 def main(words: Sequence[str], usage: str) -> int:
     """Runs the command. `usage` is the head of its script."""
-    if words not in ([], ['--check']):
+    if list(words) not in ([], ['--check']):
         print(usage.split('\n\n')[1], file=sys.stderr)
         return 2
     try:

@@ -2,12 +2,14 @@
 from .attributes import erase_attributes
 from .bounds import erase_drop_bounds, erase_runtime
 from .ghosts import erase_clauses, erase_ghosts, erase_models, turn_proved_constants
+from .marks import erase_marks
 from .modules import need_features, share_modules, skip_layout, turn_border, turn_places
 from .paths import turn_links, turn_paths
 from .sinks import turn_pairs, turn_sinks
 from .uses import turn_uses
 
 STEPS = [
+    erase_marks,
     erase_ghosts,
     erase_models,
     erase_clauses,

@@ -16,7 +16,7 @@ if TYPE_CHECKING:
 def module(caller: Caller, section: Builder, call: Call) -> str:
     lemma, name = caller.proof.lemma("wasm_custom", "adds_core_module"), caller.evidence.name(call.arguments[0])
     why = shown(caller.evidence.utf8(call.arguments[0]))
-    return "%s %s %s %s.ok %s.fitted %s" % (lemma, section.term, name.term, call.at, call.at, why)
+    return "%s %s %s %s.ok %s.was_encodable %s" % (lemma, section.term, name.term, call.at, call.at, why)
 
 
 def instance(caller: Caller, section: Builder, call: Call) -> str:

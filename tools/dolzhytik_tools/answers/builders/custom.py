@@ -28,7 +28,7 @@ def value(caller: Caller, field: Builder, call: Call) -> str:
     whys = [shown(caller.evidence.utf8(it)) for it in call.arguments]
     (name, version), (name_why, version_why) = words, whys
     lemma = caller.proof.lemma("wasm_custom", "adds_value")
-    oks = "%s.ok %s.counted %s.fitted" % (call.at, call.at, call.at)
+    oks = "%s.ok %s.counted %s.was_encodable" % (call.at, call.at, call.at)
     return "%s %s (%s, %s) %s %s %s" % (lemma, field.term, name, version, oks, name_why, version_why)
 
 
@@ -38,7 +38,7 @@ def field(caller: Caller, section: Builder, call: Call) -> str:
         raise Stop("values of which nothing is known")
     lemma, name = caller.proof.lemma("wasm_custom", "adds_field"), caller.evidence.name(call.arguments[0])
     why = shown(caller.evidence.utf8(call.arguments[0]))
-    return "%s %s %s %s %s.ok %s.fitted %s" % (lemma, section.term, name.term, values.term, call.at, call.at, why)
+    return "%s %s %s %s %s.ok %s.was_encodable %s" % (lemma, section.term, name.term, values.term, call.at, call.at, why)
 
 
 def function_hints(caller: Caller, section: Builder, call: Call) -> str:

@@ -42,7 +42,7 @@ def element_segment(caller: Caller, section: Builder, call: Call) -> str:
         numbers = [caller.evidence.number(it.tree) for it in listed]
         why = chained([it.why for it in numbers])
         lemma, terms = caller.proof.lemma("wasm_sections", "adds_functions"), caller.evidence.list_of([it.term for it in numbers])
-        return "%s %s %s %s %s.ok %s.fitted %s %s" % (lemma, section.term, place.term, terms, call.at, call.at, place.why, why)
+        return "%s %s %s %s %s.ok %s.was_encodable %s %s" % (lemma, section.term, place.term, terms, call.at, call.at, place.why, why)
     return expressions(caller, section, call, place, elements.tree, listed)
 
 
@@ -67,7 +67,7 @@ def expressions(caller: Caller, section: Builder, call: Call, place: Shown, tree
     why = chained([str(it.term) for it in constants])
     lemma = caller.proof.lemma("wasm_sections", "adds_expressions")
     segment = "%s %s %s" % (place.term, kind.term, stored)
-    return "%s %s %s %s.ok %s.fitted %s %s %s" % (lemma, section.term, segment, call.at, call.at, place.why, kind.why, why)
+    return "%s %s %s %s.ok %s.was_encodable %s %s %s" % (lemma, section.term, segment, call.at, call.at, place.why, kind.why, why)
 
 
 def data(caller: Caller, tree: Tree, at: str) -> Shown:

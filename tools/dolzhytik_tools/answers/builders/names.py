@@ -18,7 +18,7 @@ def append_name(caller: Caller, section: Builder, call: Call) -> str:
     index, name = caller.evidence.number(call.arguments[0]), caller.evidence.name(call.arguments[1])
     caller.evidence.use_why(name)
     lemma, pair = caller.proof.lemma("wasm_custom", "adds_name"), "(%s, %s)" % (index.term, bare(name.term))
-    return "%s %s %s %s.ok %s.counted %s.fitted (%s) %s" % (lemma, section.term, pair, call.at, call.at, call.at, index.why, shown(name.why))
+    return "%s %s %s %s.ok %s.counted %s.was_encodable (%s) %s" % (lemma, section.term, pair, call.at, call.at, call.at, index.why, shown(name.why))
 
 
 def append_names(caller: Caller, section: Builder, call: Call) -> str:

@@ -83,7 +83,7 @@ def raw_global(caller: Caller, section: Builder, call: Call) -> str:
 def export(caller: Caller, section: Builder, call: Call) -> str:
     utf8, why = caller.evidence.utf8(call.arguments[0]), caller.evidence.number(call.arguments[2]).why
     lemma, item = caller.proof.lemma("wasm_sections", "adds_export"), caller.clause_terms.item(section)
-    return "%s %s %s %s.ok %s.fitted %s (%s)" % (lemma, section.term, item, call.at, call.at, shown(utf8), why)
+    return "%s %s %s %s.ok %s.was_encodable %s (%s)" % (lemma, section.term, item, call.at, call.at, shown(utf8), why)
 
 
 def import_(caller: Caller, section: Builder, call: Call) -> str:
@@ -112,7 +112,7 @@ def imports(caller: Caller, section: Builder, call: Call) -> str:
     caller.evidence.use_why(module)
     lemma = caller.proof.lemma("wasm_sections", "adds_alike")
     of = "%s (%s %s) c.args.%s.now" % (module.term, entity.kind, entity.index, name)
-    whys = "%s.ok %s.fitted %s (%s) %s" % (call.at, call.at, shown(module.why), entity.why, promise.term)
+    whys = "%s.ok %s.was_encodable %s (%s) %s" % (call.at, call.at, shown(module.why), entity.why, promise.term)
     return "%s %s %s %s" % (lemma, section.term, of, whys)
 
 

@@ -1,0 +1,86 @@
+"""Regions that the tool writes within files that people write.
+
+A region is between a line `// begin: written by tools/instructions` and a line `// end: ..`, in .antt
+files with `--`. Both keep the indentation of the lines between them.
+"""
+from __future__ import annotations
+
+from collections.abc import Sequence
+from dataclasses import dataclass
+
+from ..errors import Stop
+
+COMMENTS = {".rt": "//", ".antt": "--"}
+BY = "written by tools/instructions"
+
+
+@dataclass(frozen=True)
+class Region:
+    """The text of a region, and the lines before it: each of `behind` begins a line, in this order, and
+    the region is right behind the last one. The first one begins no other line of the file."""
+
+    behind: tuple[str, ...]
+    text: str
+
+    @property
+    def lines(self) -> list[str]:
+        return self.text.split("\n")[:-1]
+
+
+@dataclass(frozen=True)
+class Marks:
+    """The lines around each region of a file."""
+
+    begin: str
+    end: str
+
+    @staticmethod
+    def of(path: str) -> Marks:
+        comment = COMMENTS[path[path.rindex(".") :]]
+        return Marks(f"{comment} begin: {BY}", f"{comment} end: {BY}")
+
+    def around(self, lines: list[str]) -> list[str]:
+        """Returns the lines of a region with its marks."""
+        first, last = (it[: len(it) - len(it.lstrip(" "))] for it in (lines[0], lines[-1]))
+        # `rt fmt` has an empty line before a comment behind an equation.
+        is_equation = self.end.startswith("--") and not lines[-1].startswith((" ", "use "))
+        return [first + self.begin, *lines, *([""] if is_equation else []), last + self.end]
+
+    def check(self, path: str, lines: list[str], count: int) -> None:
+        """Stops unless the file has the marks of so many regions, each begin before its end."""
+        begins, wanted = 0, self.begin
+        for number, line in enumerate(lines, 1):
+            found = line.strip()
+            if found in (self.begin, self.end):
+                if found != wanted:
+                    raise Stop(f"{path}:{number}: '{found}' where '{wanted}' must be")
+                begins += found == self.begin
+                wanted = self.end if found == self.begin else self.begin
+        if wanted == self.end or begins != count:
+            missing = self.end if wanted == self.end else self.begin
+            raise Stop(f"{path}:{len(lines)}: {begins} regions begin with '{self.begin}', and {count} must; '{missing}' is missing or is there too often")
+
+
+def place(path: str, lines: Sequence[str], at: int, begins: str) -> int:
+    """Returns the index of the first line from `at` on that begins so; an empty text is an empty line."""
+    for i in range(at, len(lines)):
+        if lines[i].startswith(begins) if begins else not lines[i]:
+            return i
+    raise Stop(f"{path}:{at + 1}: no line from here on begins with '{begins}'")
+
+
+def filled(path: str, text: str, regions: Sequence[Region]) -> str:
+    """Returns a file with the texts of its regions."""
+    lines, marks = text.split("\n"), Marks.of(path)
+    marks.check(path, lines, len(regions))
+    for it in regions:
+        at = 0
+        for begins in it.behind:
+            at = place(path, lines, at, begins) + 1
+        if sum(line.startswith(it.behind[0]) for line in lines) != 1:
+            raise Stop(f"{path}:{at}: not the only line that begins with '{it.behind[0]}'")
+        if lines[at].strip() != marks.begin:
+            raise Stop(f"{path}:{at + 1}: not '{marks.begin}'")
+        end = next(i for i in range(at, len(lines)) if lines[i].strip() == marks.end)
+        lines[at : end + 1] = marks.around(it.lines)
+    return "\n".join(lines)

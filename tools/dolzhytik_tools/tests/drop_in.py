@@ -1,0 +1,65 @@
+"""Tests of tools/drop-in: a proved sink that the table does not fit, the enum's match, and changed files."""
+from __future__ import annotations
+
+import pathlib
+import re
+import tempfile
+
+from ..drop_in.cases import Case, proved_calls, read
+from ..drop_in.command import SINK
+from ..drop_in.command import main as main_of_tool
+from ..drop_in.enum_file import instruction_file
+from ..drop_in.test_file import test_file
+from ..errors import Stop
+from ..instructions.table import TABLE
+from ..repository import TOP, text_of
+from .report import end, report
+
+USAGE = "The tool.\n\nusage\n\nMore."
+
+
+def cases() -> list[Case]:
+    return read(text_of(TOP / TABLE))
+
+
+def proved_trouble() -> str | None:
+    """A proved call with other parameters stops the tool, and so does one that no line has."""
+    text = text_of(TOP / SINK)
+    for changed in (text.replace("fn br(&mut self, label: u32)", "fn br(&mut self)"), text.replace("fn nop(", "fn noop(")):
+        if changed == text:
+            return "the text is not there"
+        try:
+            proved_calls(cases(), changed)
+        except Stop:
+            continue
+        return "it was not stopped at"
+    return None
+
+
+def match_trouble() -> str | None:
+    """The enum may grow, and the match of the test has an arm for each case and a wildcard."""
+    if "#[non_exhaustive]\npub enum Instruction<" not in instruction_file(cases()):
+        return "the enum is exhaustive"
+    arms = re.search(r"Some\(match instruction \{\n(.*?)        _ => return None,\n", test_file(cases()), re.DOTALL)
+    named = re.findall(r"Instruction::(\w+)", arms.group(1)) if arms else []
+    return None if named and sorted(named) == sorted(it.name for it in cases()) else "the match has other cases than the table"
+
+
+def check_trouble() -> str | None:
+    """`--check` reports missing and changed files."""
+    with tempfile.TemporaryDirectory() as folder:
+        top = pathlib.Path(folder)
+        for path in (TABLE, SINK):
+            (top / path).parent.mkdir(parents=True, exist_ok=True)
+            (top / path).write_bytes((TOP / path).read_bytes())
+        found = [main_of_tool(words, USAGE, top) for words in (["--check"], [], ["--check"])]
+        written = top / "rust/src/drop_in/calls.rs"
+        written.write_text(re.sub("br_if", "br_unless", text_of(written)), encoding="utf-8")
+        found += [main_of_tool(words, USAGE, top) for words in (["--check"], ["--check", "again"])]
+    return None if found == [1, 0, 0, 1, 2] else f"the answers were {found}"
+
+
+def main() -> int:
+    """Runs the tests."""
+    troubles = {"touched files": check_trouble, "the proved sink": proved_trouble, "matches": match_trouble}
+    return end([report("drop-in-test", name, trouble()) for name, trouble in troubles.items()])
