@@ -69,7 +69,7 @@ class Proof:
         name, number = found.group(1), found.group(3)
         goal = "%s-requires%s%s" % (name, "-" + number if number else "", "-clause-" + clause if clause else "")
         self.use("Rattle.wasm_base.proofs.KnownLengths", "drained_array")
-        self.prove(goal, "record { can = λ it b. tt; told = λ it xs b d. drained_array it xs d }")
+        self.prove(goal, "record { can = λ it b. tt; reported = λ it xs b d. drained_array it xs d }")
 
     def text(self, last: str, module_parameter: str | None) -> str:
         """Returns the file, whose main goal `last` proves."""

@@ -57,7 +57,7 @@ TEMPLATE = """//! All instructions, as cases of one enum.
 
 use super::Encode;
 use super::entries::append;
-use crate::base::{self, CowSlice, HeapType, Lent, R, RefType, ValType};
+use crate::base::{self, CowSlice, HeapType, Lent, RefType, Result, ValType};
 use crate::insn::{self, BlockType, Catch, Handle, Ieee32, Ieee64, Lane, MemArg, Op, Ordering};
 use crate::vec::Sink;
 use alloc_crate::borrow::Cow;
@@ -96,7 +96,7 @@ struct Vector<'a>(&'a i128);
 
 impl base::Encode for Vector<'_> {
     #[inline]
-    fn encode<A: Sink>(&self, sink: &mut A) -> R<()> {
+    fn encode<A: Sink>(&self, sink: &mut A) -> Result<()> {
         self.0.to_le_bytes().encode(sink)
     }
 }

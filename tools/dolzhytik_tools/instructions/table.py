@@ -1,4 +1,4 @@
-"""Reads tools /instructions.tsv: the cases, and the enum of each. The head of tools/instructions has
+"""Reads tools/instructions.tsv: the cases, and the enum of each. The head of tools/instructions has
 the columns."""
 from __future__ import annotations
 

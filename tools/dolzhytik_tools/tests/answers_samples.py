@@ -137,7 +137,7 @@ returns g c =
     lent b5 (search rules)
 
 pub new-requires : goal.new-requires
-new-requires g c = record { can = λ it b. tt; told = λ it xs b d. drained_array it xs d }
+new-requires g c = record { can = λ it b. tt; reported = λ it xs b d. drained_array it xs d }
 """,
     "code": """-- Written by tools/answers.
 use Rattle.wasm_code.proofs.Calls.{new_code, adds_body}
@@ -189,7 +189,7 @@ returns g c =
 use Rattle.std.proofs.Common.{refl}
 use Rattle.std.specs.Prelude.{codes}
 use Rattle.wasm_base.proofs.Calls.{ascii}
-use Rattle.wasm_base.specs.Formats.{frame}
+use Rattle.wasm_base.specs.Formats.{size_prefixed}
 use Rattle.wasm_custom.proofs.Calls.{new_linking, adds_symbols, adds_target, encodes_entries}
 use Rattle.wasm_custom.specs.Linking.{linking_payload}
 use Rattle.mine.proofs.adding.linking.Goals as goal
@@ -222,7 +222,7 @@ pub returns : goal.returns
 returns g c = adds_hints (new_hints c.new-section.ensures) c.args.index c.in_ok-function_hints.ensures (omega (arith, c.ranges.index.fits)) (record { offset = omega arith; value = omega arith }, tt)
 
 pub function_hints-requires : goal.function_hints-requires
-function_hints-requires g c = record { can = λ it b. tt; told = λ it xs b d. drained_array it xs d }
+function_hints-requires g c = record { can = λ it b. tt; reported = λ it xs b d. drained_array it xs d }
 """,
     "stack": """-- Written by tools/answers.
 use Rattle.std.proofs.Common.{arith}
@@ -236,10 +236,10 @@ pub returns : goal.returns
 returns g c = adds_frame (new_stack c.in_ok-section.ensures.is c.utf8.name) (item 0 0) c.in_ok-frame.ensures.adds c.frame.ensures.same_thread (omega arith) (omega arith) (omega arith) (tt, tt) ((omega (arith, ints), omega (arith, ints)), tt)
 
 pub frame-requires-clause-locals : goal.frame-requires-clause-locals
-frame-requires-clause-locals g c = record { can = λ it b. tt; told = λ it xs b d. drained_array it xs d }
+frame-requires-clause-locals g c = record { can = λ it b. tt; reported = λ it xs b d. drained_array it xs d }
 
 pub frame-requires-clause-stack : goal.frame-requires-clause-stack
-frame-requires-clause-stack g c = record { can = λ it b. tt; told = λ it xs b d. drained_array it xs d }
+frame-requires-clause-stack g c = record { can = λ it b. tt; reported = λ it xs b d. drained_array it xs d }
 """,
     "read": """-- Written by tools/answers.
 use Rattle.std.proofs.Common.{◌++◌, ap, ◌∙◌}

@@ -18,4 +18,4 @@ returns g c =
     adds_passive s1 (1 ∷ 2 ∷ 3 ∷ []) (array_added c.in_ok-passive.ensures (1 ∷ 2 ∷ 3 ∷ []) (λ it b. b.0))
 
 pub passive-requires : goal.passive-requires
-passive-requires g c = record { can = λ it b. tt; told = λ it xs b d. drained_array it xs d }
+passive-requires g c = record { can = λ it b. tt; reported = λ it xs b d. drained_array it xs d }

@@ -19,7 +19,7 @@ returns g c =
     lent b8 (search rules)
 
 pub new-requires : goal.new-requires
-new-requires g c = record { can = λ it b. tt; told = λ it xs b d. drained_array it xs d }
+new-requires g c = record { can = λ it b. tt; reported = λ it xs b d. drained_array it xs d }
 
 pub br_table-requires : goal.br_table-requires
-br_table-requires g c = record { can = λ it b. tt; told = λ it xs b d. drained_array it xs d }
+br_table-requires g c = record { can = λ it b. tt; reported = λ it xs b d. drained_array it xs d }

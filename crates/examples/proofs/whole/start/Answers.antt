@@ -16,4 +16,4 @@ returns g c =
     lent b6 (search rules)
 
 pub new-requires : goal.new-requires
-new-requires g c = record { can = λ it b. tt; told = λ it xs b d. drained_array it xs d }
+new-requires g c = record { can = λ it b. tt; reported = λ it xs b d. drained_array it xs d }

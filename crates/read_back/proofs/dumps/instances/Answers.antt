@@ -14,4 +14,4 @@ returns g c =
     adds_instance_of first (other_instance c.args.index (7 ∷ [])) c.in_ok-instance-2.ensures memories globals (omega (arith, c.ranges.index.fits)) (omega arith, tt) (omega arith, tt)
 
 pub instance-requires-2-clause-memories : goal.instance-requires-2-clause-memories
-instance-requires-2-clause-memories g c = record { can = λ it b. tt; told = λ it xs b d. drained_vec it xs d }
+instance-requires-2-clause-memories g c = record { can = λ it b. tt; reported = λ it xs b d. drained_vec it xs d }

@@ -23,4 +23,4 @@ returns g c =
     encodes_items c.encode.ensures.appends c.encode.ensures.read (adds_raw first byte_later c.in_ok-raw.ensures.ok raw)
 
 pub active-requires : goal.active-requires
-active-requires g c = record { can = λ it b. tt; told = λ it xs b d. drained_array it xs d }
+active-requires g c = record { can = λ it b. tt; reported = λ it xs b d. drained_array it xs d }

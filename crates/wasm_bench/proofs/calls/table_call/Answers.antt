@@ -2,4 +2,4 @@ use Rattle.wasm_base.proofs.KnownLengths.{drained_copied}
 use Rattle.wasm_bench.proofs.calls.table_call.Goals as goal
 
 pub br_table-requires : goal.br_table-requires
-br_table-requires c = record { can = λ it b. tt; told = λ it xs b d. drained_copied it xs d }
+br_table-requires c = record { can = λ it b. tt; reported = λ it xs b d. drained_copied it xs d }

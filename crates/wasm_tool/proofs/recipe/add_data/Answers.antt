@@ -5,7 +5,7 @@ use Rattle.wasm_sections.proofs.DataLaws.{adds_these}
 use Rattle.wasm_tool.proofs.recipe.add_data.Goals as goal
 
 pub active-requires : goal.active-requires
-active-requires g c = record { can = λ it b. tt; told = λ it xs b d. lengths.drained_vec it xs d }
+active-requires g c = record { can = λ it b. tt; reported = λ it xs b d. lengths.drained_vec it xs d }
 
 pub returns : goal.returns
 returns g c =

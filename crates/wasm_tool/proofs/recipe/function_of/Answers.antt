@@ -5,7 +5,7 @@ use Rattle.wasm_code.proofs.BodyLaws.{no_locals}
 use Rattle.wasm_tool.proofs.recipe.function_of.Goals as goal
 
 pub new-requires : goal.new-requires
-new-requires g c = record { can = λ it b. tt; told = λ it xs b d. drained_array it xs d }
+new-requires g c = record { can = λ it b. tt; reported = λ it xs b d. drained_array it xs d }
 
 pub returns-clause-ok : goal.returns-clause-ok
 returns-clause-ok g c =

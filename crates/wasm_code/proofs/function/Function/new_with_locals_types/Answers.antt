@@ -5,7 +5,7 @@ use Rattle.wasm_code.proofs.RunLaws.{types_given}
 use Rattle.wasm_code.proofs.function.Function.new_with_locals_types.Goals as goal
 
 pub new-requires : goal.new-requires
-new-requires g c = record { can = λ it b. tt; told = λ it xs b d. drained_length it xs d }
+new-requires g c = record { can = λ it b. tt; reported = λ it xs b d. drained_length it xs d }
 
 pub returns : goal.returns
 returns g c =
