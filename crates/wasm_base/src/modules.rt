@@ -32,7 +32,7 @@ impl<A: Allocator> Module<A> {
     ///
     /// # Errors
     ///
-    /// Returns [`Refused::Memory`] if the allocation of the header fails.
+    /// Returns [`Memory`](crate::Refused::Memory) if the allocation of the header fails.
     #[tactic(auto, using(crate::proofs::ModuleLaws::module_empty))]
     pub fn new(alloc: A) -> Result<Module<A>>
         ensures bytes { IfOk result (λ m. m ≡ header) }
@@ -48,8 +48,8 @@ impl<A: Allocator> Module<A> {
     ///
     /// # Errors
     ///
-    /// Returns [`Refused`], and leaves the module unchanged, if the section is too long or an
-    /// allocation fails.
+    /// Returns [`Refused`](crate::Refused), and leaves the module unchanged, if the section is too
+    /// long or an allocation fails.
     pub fn section<S: Section>(&mut self, section: &S) -> Result<()>
         ensures ok { OnOk result (self.new ≡ self.old ++ (S.id_of section.now ∷ S.encoding section.now)) }
         ensures read { OnOk result (DecodesOneMore (S.payload section.now) (S.id_of section.now) self.old self.new) }

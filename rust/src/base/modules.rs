@@ -28,7 +28,7 @@ impl<A: Allocator> Module<A> {
     ///
     /// # Errors
     ///
-    /// Returns [`Refused::Memory`] if the allocation of the header fails.
+    /// Returns [`Memory`](crate::base::Refused::Memory) if the allocation of the header fails.
     ///
     /// # Proved
     ///
@@ -47,7 +47,7 @@ impl<A: Allocator> Module<A> {
     ///
     /// # Errors
     ///
-    /// Returns [`Refused`], and leaves the module unchanged, if the section is too long or an
+    /// Returns [`Refused`](crate::base::Refused), and leaves the module unchanged, if the section is too long or an
     /// allocation fails.
     ///
     /// # Proved
