@@ -1,5 +1,6 @@
 // Heap types, reference types and value types.
-ghost use Rattle.std.specs.Prelude.{◌≡◌, ◌∷◌, [], ⊤};
+ghost use Rattle.std.specs.Prelude.{◌≡◌, ◌∷◌, [], ⊤, cond};
+ghost use Rattle.wasm_base.specs.Calls.{Appends};
 ghost use Rattle.wasm_base.specs.Types.{abstract_code, heap_encoding, ref_encoding, val_encoding};
 
 use crate::encode::Encode;
@@ -122,13 +123,25 @@ impl Encode for HeapType {
     }
 }
 
+impl RefType {
+    /// Appends the byte that says whether null is admitted, and the heap type. Out of line: most
+    /// reference types have a byte of their own.
+    #[inline(never)]
+    fn encode_heap_type<A: Allocator>(self, sink: &mut Vec<u8, A>) -> Result<()>
+        ensures { Appends (cond self.nullable 0x63 0x64 ∷ heap_encoding self.heap_type) ⊤ sink.old sink.new result }
+    {
+        let byte: u8 = if self.nullable { 0x63 } else { 0x64 };
+        (byte, self.heap_type).encode(sink)
+    }
+}
+
 /// Encodes `FUNCREF` and `EXTERNREF` as one byte, and all others as a byte and the heap type.
 impl Encode for RefType {
     ghost encoding = { ref_encoding };
 
     ghost encodable = { λ _. ⊤ };
 
-    #[inline]
+    #[inline(always)]
     fn encode<A: Allocator>(&self, sink: &mut Vec<u8, A>) -> Result<()> {
         let byte: u8 = match (self.nullable, self.heap_type) {
             (
@@ -145,8 +158,7 @@ impl Encode for RefType {
                     ty: AbstractHeapType::Extern,
                 },
             ) => 0x6F,
-            (true, heap_type) => return (0x63u8, heap_type).encode(sink),
-            (false, heap_type) => return (0x64u8, heap_type).encode(sink),
+            _ => return self.encode_heap_type(sink),
         };
         byte.encode(sink)
     }

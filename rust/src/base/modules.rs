@@ -47,8 +47,8 @@ impl<A: Allocator> Module<A> {
     ///
     /// # Errors
     ///
-    /// Returns [`Refused`](crate::base::Refused), and leaves the module unchanged, if the section is too long or an
-    /// allocation fails.
+    /// Returns [`Refused`](crate::base::Refused), and leaves the module unchanged, if the section is too
+    /// long or an allocation fails.
     ///
     /// # Proved
     ///

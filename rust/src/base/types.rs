@@ -131,6 +131,22 @@ impl Encode for HeapType {
     }
 }
 
+impl RefType {
+    /// Appends the byte that says whether null is admitted, and the heap type. Out of line: most
+    /// reference types have a byte of their own.
+    ///
+    /// # Proved
+    ///
+    /// ```text
+    /// ensures { Appends (cond self.nullable 0x63 0x64 ∷ heap_encoding self.heap_type) ⊤ sink.old sink.new result }
+    /// ```
+    #[inline(never)]
+    fn encode_heap_type<A: Sink>(self, sink: &mut A) -> Result<()> {
+        let byte: u8 = if self.nullable { 0x63 } else { 0x64 };
+        (byte, self.heap_type).encode(sink)
+    }
+}
+
 /// Encodes `FUNCREF` and `EXTERNREF` as one byte, and all others as a byte and the heap type.
 ///
 /// # Defined
@@ -140,7 +156,7 @@ impl Encode for HeapType {
 /// encodable = { λ _. ⊤ }
 /// ```
 impl Encode for RefType {
-    #[inline]
+    #[inline(always)]
     fn encode<A: Sink>(&self, sink: &mut A) -> Result<()> {
         let byte: u8 = match (self.nullable, self.heap_type) {
             (
@@ -157,8 +173,7 @@ impl Encode for RefType {
                     ty: AbstractHeapType::Extern,
                 },
             ) => 0x6F,
-            (true, heap_type) => return (0x63u8, heap_type).encode(sink),
-            (false, heap_type) => return (0x64u8, heap_type).encode(sink),
+            _ => return self.encode_heap_type(sink),
         };
         byte.encode(sink)
     }
