@@ -118,14 +118,14 @@ pub fn shortened_function<A: Allocator + Copy>(
 /// # Proved
 ///
 /// ```text
-/// ensures read { IfOk result (λ items. (rest : List ℕ) → Decodes (section kinds.Functions) padded padded.now (Functions (index ∷ [])) rest → contents_of items ≡ Functions (index ∷ [])) }
-/// ensures same { OnOk result ((rest : List ℕ) → Decodes (section kinds.Functions) padded padded.now (Functions (index ∷ [])) rest → sink.new.items ≡ sink.old.items ++ encoding.new.items) }
-/// ensures memory { IfErr result (λ e. e ≢ Memory → (rest : List ℕ) → Decodes (section kinds.Functions) padded padded.now (Functions (index ∷ [])) rest → ⊥) }
+/// ensures read { IfOk result (λ items. (rest : List ℕ) → Decodes (section kinds.Functions) padded input.now (Functions (index ∷ [])) rest → contents_of items ≡ Functions (index ∷ [])) }
+/// ensures same { OnOk result ((rest : List ℕ) → Decodes (section kinds.Functions) padded input.now (Functions (index ∷ [])) rest → sink.new.items ≡ sink.old.items ++ encoding.new.items) }
+/// ensures memory { IfErr result (λ e. e ≢ Memory → (rest : List ℕ) → Decodes (section kinds.Functions) padded input.now (Functions (index ∷ [])) rest → ⊥) }
 /// ```
 pub fn padded_function<'a, A: Allocator + Copy + 'a>(
     encoding: &mut Vec<u8, A>,
     index: u32,
-    padded: &'a [u8],
+    input: &'a [u8],
     sink: &mut Vec<u8, A>,
 ) -> Result<Items<'a, A>, ReadFault> {
     let alloc = *encoding.allocator();
@@ -133,8 +133,8 @@ pub fn padded_function<'a, A: Allocator + Copy + 'a>(
         Ok(()) => {}
         Err(_) => return Err(ReadFault::Memory),
     }
-    let (items, _taken) = read_section(alloc, SectionKind::Functions, padded)?;
-    let _taken = shorten(SectionKind::Functions, padded, sink)?;
+    let (items, _taken) = read_section(alloc, SectionKind::Functions, input)?;
+    let _taken = shorten(SectionKind::Functions, input, sink)?;
     Ok(items)
 }
 
