@@ -102,8 +102,8 @@ IsHeapTag b = (0x62 ≤ b) × (b < 0x68)
 tagged_heap_begins : BeginsWith IsHeapTag (tagged byte (choice heap_tags (λ b. impossible)))
 tagged_heap_begins = choice_begins IsHeapTag heap_tags (λ b. impossible) ((omega arith, omega arith), ((omega arith, omega arith), tt)) (λ b mode s x h. absurd h)
 
-abbrev unshared_or_index : Format HeapType
-unshared_or_index = one_of (tagged byte (choice heap_tags (λ b. impossible))) (mapped Concrete s33)
+abbrev tagged_or_index : Format HeapType
+tagged_or_index = one_of (tagged byte (choice heap_tags (λ b. impossible))) (mapped Concrete s33)
 
 -- The number of the heap type's form, out of four.
 abbrev form : HeapType → ℕ
@@ -112,8 +112,8 @@ form (Abstract true ty) = 1
 form (Concrete n) = 2
 form (Exact n) = 3
 
-told_unambiguous : Unambiguous unshared_or_index
-told_unambiguous =
+tagged_or_index_unambiguous : Unambiguous tagged_or_index
+tagged_or_index_unambiguous =
     one_of_unambiguous IsHeapTag IsIndexByte
     (λ b p q. types_apart b (omega (arith, p.0, p.1)) q) tagged_heap_begins (begins_mapped IsIndexByte Concrete begins_s33)
     (none_in_common (λ x. form x ≢ 2) (λ x. form x ≡ 2) (λ x p q. p q)
@@ -121,14 +121,14 @@ told_unambiguous =
     (values_mapped (λ x. form x ≡ 2) Concrete _ (λ x. refl)))
     tagged_heap_unambiguous (mapped_unambiguous Concrete (λ x y e. cc) s33_unambiguous)
 
-told_begins : BeginsWith (λ b. IsHeapTag b ⊎ IsIndexByte b) unshared_or_index
-told_begins =
+tagged_or_index_begins : BeginsWith (λ b. IsHeapTag b ⊎ IsIndexByte b) tagged_or_index
+tagged_or_index_begins =
     begins_one_of (λ b. IsHeapTag b ⊎ IsIndexByte b)
     (begins_weaker IsHeapTag (λ b. IsHeapTag b ⊎ IsIndexByte b) (λ b p. inl p) tagged_heap_begins)
     (begins_weaker IsIndexByte (λ b. IsHeapTag b ⊎ IsIndexByte b) (λ b p. inr p) (begins_mapped IsIndexByte Concrete begins_s33))
 
-told_values : AllValues (λ x. 0 < form x) unshared_or_index
-told_values =
+tagged_or_index_values : AllValues (λ x. 0 < form x) tagged_or_index
+tagged_or_index_values =
     values_one_of (λ x. 0 < form x)
     (values_tagged (λ x. 0 < form x) heap_tags (values_mapped (λ x. 0 < form x) shared _ (λ x. omega arith), (values_mapped (λ x. 0 < form x) Exact _ (λ x. omega arith), tt)))
     (values_mapped (λ x. 0 < form x) Concrete _ (λ x. omega arith))
@@ -140,9 +140,9 @@ pub heap_unambiguous : Unambiguous heap_type
 heap_unambiguous =
     one_of_unambiguous IsAbstractByte (λ b. IsHeapTag b ⊎ IsIndexByte b)
     (λ b p q. elim q [ inl h ↦ omega (arith, p.0, h.1) | inr i ↦ types_apart b (omega (arith, p.0, p.1)) i ])
-    (mapped_heap_begins IsAbstractByte (λ b p q. (p, q))) told_begins
-    (none_in_common (λ x. form x ≡ 0) (λ x. 0 < form x) (λ x p q. omega (arith, p, q)) (values_mapped (λ x. form x ≡ 0) unshared _ (λ x. refl)) told_values)
-    (mapped_unambiguous unshared (λ x y e. cc) abstract_unambiguous) told_unambiguous
+    (mapped_heap_begins IsAbstractByte (λ b p q. (p, q))) tagged_or_index_begins
+    (none_in_common (λ x. form x ≡ 0) (λ x. 0 < form x) (λ x p q. omega (arith, p, q)) (values_mapped (λ x. form x ≡ 0) unshared _ (λ x. refl)) tagged_or_index_values)
+    (mapped_unambiguous unshared (λ x y e. cc) abstract_unambiguous) tagged_or_index_unambiguous
 
 -- ---- reference types
 

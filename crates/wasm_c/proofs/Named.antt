@@ -75,4 +75,4 @@ lines_named front (s ∷ ss) [] h o = absurd o
 
 -- The names of an outline are at the offsets that it reports.
 pub all_named : (bytes : List ℕ) (lines : List Outlined) → HasOutline bytes lines → All (IsNamed bytes) lines
-all_named bytes lines h = All-from_recursion (IsNamed bytes) lines (subst (λ z. AllByRecursion (IsNamed z) lines) (sym h.has.joined) (lines_named header h.sections lines h.has.each h.told))
+all_named bytes lines h = All-from_recursion (IsNamed bytes) lines (subst (λ z. AllByRecursion (IsNamed z) lines) (sym h.has.joined) (lines_named header h.sections lines h.has.each h.are_outlines))

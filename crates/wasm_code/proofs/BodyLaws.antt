@@ -149,7 +149,7 @@ runs_given becomes gives remaining Encodable elements it old new made e h =
     let given = h.ok in
     record {
       ok = (it, given.1, made, subst (λ i. Drains gives i given.1) given.2 given.3, given.4.count, has_locals given.1 new.items (given.5 ∙ ap (λ z. z ++ locals_encoding given.1) e));
-      too_long = λ told is. absurd (cc is);
+      too_long = λ in_limit is. absurd (cc is);
       too_many = λ many. absurd (cc (h.too_many (λ i same. subst (λ j. longest < size (remaining j)) (sym same) (many it made))));
     }
 

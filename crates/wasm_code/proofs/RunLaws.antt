@@ -131,16 +131,16 @@ pub types_given : {U S V W A : Type 0} (becomes : U → S → Type 0) (gives : S
     (elements : U) (given : V) (runs : Vec Run A) (result : Result (List ℕ) Refused)
     → ((it : W) (xs : List Run) → vec_becomes given it → Drains vec_gives it xs → xs ≡ runs.items) → ((it : W) → vec_becomes given it → size (remaining it) ≡ length runs.items)
     → GathersRuns becomes gives elements (Ok runs) → BeginsWithRuns vec_becomes vec_gives remaining given result → BeginsWithTypes becomes gives elements result
-types_given becomes gives vec_becomes vec_gives remaining elements given runs (Err e) items told h g =
+types_given becomes gives vec_becomes vec_gives remaining elements given runs (Err e) items in_limit h g =
     let all = h.ok in
     let left = all.3.1 in
     record {
       ok = tt;
       too_long = λ encodable.
           let fit = encodable all.0 left.0 all.1 runs.items all.2 left.1 all.4 in
-          g.too_long (λ it b. omega (arith, told it b, fit.count));
+          g.too_long (λ it b. omega (arith, in_limit it b, fit.count));
     }
-types_given becomes gives vec_becomes vec_gives remaining elements given runs (Ok bytes) items told h g =
+types_given becomes gives vec_becomes vec_gives remaining elements given runs (Ok bytes) items in_limit h g =
     let all = h.ok in
     let begun = g.ok in
     let same : begun.1 ≡ runs.items = items begun.0 begun.1 begun.2 begun.3 in

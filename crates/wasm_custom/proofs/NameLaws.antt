@@ -227,17 +227,17 @@ other_appended id bytes old new e = mapped_appended (Other id) any_bytes bytes o
 
 -- ---- subsections
 
-held_told : (k : NameKind) (id : ℕ) (s : List ℕ) (x : NameItem) → after_id k id padded s x → held_by x ≡ k
-held_told of_module id s x h = sym (ap held_by h.1)
-held_told of_map id s x h = sym (ap held_by h.1)
-held_told of_indirect id s x h = sym (ap held_by h.1)
-held_told of_other id s x h = sym (ap held_by h.1)
+held_determines : (k : NameKind) (id : ℕ) (s : List ℕ) (x : NameItem) → after_id k id padded s x → held_by x ≡ k
+held_determines of_module id s x h = sym (ap held_by h.1)
+held_determines of_map id s x h = sym (ap held_by h.1)
+held_determines of_indirect id s x h = sym (ap held_by h.1)
+held_determines of_other id s x h = sym (ap held_by h.1)
 
-id_told : (x : NameItem) (s : List ℕ) (id : ℕ) → after_id (name_kind_of id) id padded s x → id ≡ id_of x
-id_told (Module n) s id h = tells padded id s (Module n) h
-id_told (Map i names) s id h = tells padded id s (Map i names) h
-id_told (Indirect i maps) s id h = tells padded id s (Indirect i maps) h
-id_told (Other i bytes) s id h = tells padded id s (Other i bytes) h
+id_determines : (x : NameItem) (s : List ℕ) (id : ℕ) → after_id (name_kind_of id) id padded s x → id ≡ id_of x
+id_determines (Module n) s id h = tells padded id s (Module n) h
+id_determines (Map i names) s id h = tells padded id s (Map i names) h
+id_determines (Indirect i maps) s id h = tells padded id s (Indirect i maps) h
+id_determines (Other i bytes) s id h = tells padded id s (Other i bytes) h
 
 -- The image of a size-prefixed value is encoded as the size-prefixed image.
 module _ {X : Type 0} (f : X → NameItem) (F : Format X) {mode : Mode} {s : List ℕ} {x : NameItem} where
@@ -265,7 +265,7 @@ after_appended x old new a = record {
   appended = a.appended;
   encodes = λ s h.
       let id = id_of x in
-      let is = held_told (name_kind_of id) id s x h in
+      let is = held_determines (name_kind_of id) id s x h in
       let given = subst (λ k. after_id k id padded s x) (sym is) h in
       subst (λ k. after_id k id minimal a.encoding x) is (behind_content (held_by x) id (a.encodes s (sized (held_by x) id given)));
 }
@@ -273,7 +273,7 @@ after_appended x old new a = record {
 pub subsection_appended : (x : NameItem) (start : ℕ) (old front middle new : List ℕ) → front ≡ old ++ id_of x ∷ [] → start ≡ length front → AppendsMinimal (inside (held_by x) (id_of x)) x front middle → HasEncodableSize (drop start middle)
     → new ≡ take start middle ++ size_prefixed_encoding (drop start middle) → AppendsMinimal subsection x old new
 subsection_appended x start old front middle new e l a encodable is =
-    tagged_appended byte (λ id. after_id (name_kind_of id) id) (λ s z h. id_told x s z h) (encoding_appended byte (id_of x) (id_of x ∷ []) old front (λ s h. refl) e)
+    tagged_appended byte (λ id. after_id (name_kind_of id) id) (λ s z h. id_determines x s z h) (encoding_appended byte (id_of x) (id_of x ∷ []) old front (λ s h. refl) e)
     (after_appended x front new (size_prefixed_appended (inside (held_by x) (id_of x)) x start front middle new l a encodable is))
 
 -- ---- sections
@@ -295,8 +295,8 @@ indirect_encoded id maps h = mapped_encoded (Indirect id) indirect_map maps (λ 
 sized_encoded : (x : NameItem) → HasEncoding subsection x → HasEncoding (size_prefixed (inside (held_by x) (id_of x))) x
 sized_encoded x h =
     let id = id_of x in
-    let behind = tagged_encoded byte (λ b. after_id (name_kind_of b) b) id x (λ s z k. id_told x s z k) h in
-    record { bytes = behind.bytes; decoded = sized (held_by x) id (subst (λ k. after_id k id padded behind.bytes x) (sym (held_told (name_kind_of id) id behind.bytes x behind.decoded)) behind.decoded) }
+    let behind = tagged_encoded byte (λ b. after_id (name_kind_of b) b) id x (λ s z k. id_determines x s z k) h in
+    record { bytes = behind.bytes; decoded = sized (held_by x) id (subst (λ k. after_id k id padded behind.bytes x) (sym (held_determines (name_kind_of id) id behind.bytes x behind.decoded)) behind.decoded) }
 
 pub held_encoded : (x : NameItem) → HasEncoding subsection x → HasEncoding (inside (held_by x) (id_of x)) x
 held_encoded x h = content_encoded (inside (held_by x) (id_of x)) x (sized_encoded x h)

@@ -210,8 +210,8 @@ known x s b h =
     (λ mode s x h. ap code_of (h.2.second.1 ∙ h.1), (λ mode s x h. ap code_of (h.2.second.1 ∙ h.1), (λ mode s x h. ap code_of (h.2.second.1 ∙ h.1), (λ mode s x h. ap code_of (h.2.second.1 ∙ h.1), tt))))
     (λ b mode s x h. absurd h) padded b s x h
 
-flagged_told : (kind : SymbolKind) (x : Symbol) (s : List ℕ) (f : ℕ) → mapped (indexed_of kind f) (pair u32 (optional (has_name f) name)) padded s x → f ≡ flags_of x
-flagged_told kind x s f h = ap flags_of h.1
+flagged_determines : (kind : SymbolKind) (x : Symbol) (s : List ℕ) (f : ℕ) → mapped (indexed_of kind f) (pair u32 (optional (has_name f) name)) padded s x → f ≡ flags_of x
+flagged_determines kind x s f h = ap flags_of h.1
 
 behind : (kind : SymbolKind) (flags index : ℕ) (n : Option (List ℕ)) (old first second new : List ℕ) → AppendsMinimal u32 flags old first → AppendsMinimal u32 index first second → AppendsMinimal (optional (has_name flags) name) n second new
     → AppendsMinimal (indexed_symbol kind) (indexed kind flags index n) old new

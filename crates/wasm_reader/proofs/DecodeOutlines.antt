@@ -133,16 +133,16 @@ pub record HasOutlined (section_start : ℕ) (start : List ℕ) (lines : List Ou
   pub sections : List Section
   pub joined : start ≡ flat_map bytes_of sections ++ rest
   pub each : AllByRecursion IsSection sections
-  pub told : AreOutlines section_start sections lines
+  pub are_outlines : AreOutlines section_start sections lines
 
 pub outlined_start : (section_start : ℕ) (start : List ℕ) → HasOutlined section_start start [] start
-outlined_start section_start start = record { sections = []; joined = refl; each = tt; told = tt }
+outlined_start section_start start = record { sections = []; joined = refl; each = tt; are_outlines = tt }
 
-told_more : (section_start : ℕ) (sections : List Section) (lines : List Outlined) (s : Section) (line : Outlined) → AreOutlines section_start sections lines → IsOutline (section_start + length (flat_map bytes_of sections)) s line → AreOutlines section_start (sections ++ s ∷ []) (lines ++ line ∷ [])
-told_more section_start [] [] s line h g = (subst (λ z. IsOutline z s line) (omega arith) g, tt)
-told_more section_start (t ∷ ts) (l ∷ ls) s line h g = (h.0, told_more (section_start + length (bytes_of t)) ts ls s line h.1 (subst (λ z. IsOutline z s line) (omega (arith, length-append (bytes_of t) (flat_map bytes_of ts))) g))
-told_more section_start [] (l ∷ ls) s line h g = absurd h
-told_more section_start (t ∷ ts) [] s line h g = absurd h
+outlines_more : (section_start : ℕ) (sections : List Section) (lines : List Outlined) (s : Section) (line : Outlined) → AreOutlines section_start sections lines → IsOutline (section_start + length (flat_map bytes_of sections)) s line → AreOutlines section_start (sections ++ s ∷ []) (lines ++ line ∷ [])
+outlines_more section_start [] [] s line h g = (subst (λ z. IsOutline z s line) (omega arith) g, tt)
+outlines_more section_start (t ∷ ts) (l ∷ ls) s line h g = (h.0, outlines_more (section_start + length (bytes_of t)) ts ls s line h.1 (subst (λ z. IsOutline z s line) (omega (arith, length-append (bytes_of t) (flat_map bytes_of ts))) g))
+outlines_more section_start [] (l ∷ ls) s line h g = absurd h
+outlines_more section_start (t ∷ ts) [] s line h g = absurd h
 
 pub joined_more : {X : Type 0} (f : X → List ℕ) (start rest after : List ℕ) (xs : List X) (x : X) → start ≡ flat_map f xs ++ rest → rest ≡ f x ++ after → start ≡ flat_map f (xs ++ x ∷ []) ++ after
 joined_more f start rest after xs x e d =
@@ -153,23 +153,23 @@ outlined_step section_start at start rest after lines line s h i e o l = record 
   sections = h.sections ++ s ∷ [];
   joined = joined_more bytes_of start rest after h.sections s h.joined e;
   each = All-append IsSection h.sections (s ∷ []) h.each (i, tt);
-  told = told_more section_start h.sections lines s line h.told (subst (λ z. IsOutline z s line) (omega (arith, l, ap length h.joined, length-append (flat_map bytes_of h.sections) rest)) o);
+  are_outlines = outlines_more section_start h.sections lines s line h.are_outlines (subst (λ z. IsOutline z s line) (omega (arith, l, ap length h.joined, length-append (flat_map bytes_of h.sections) rest)) o);
 }
 
 pub place_is : (bytes start rest : List ℕ) (lines : List Outlined) → bytes ≡ header ++ start → HasOutlined (length header) start lines rest → length bytes - length rest + length rest ≡ length header + length start
 place_is bytes start rest lines e h = omega (arith, ap length e, ap length h.joined, length-append header start, length-append (flat_map bytes_of h.sections) rest)
 
-told_length : (section_start : ℕ) (sections : List Section) (lines : List Outlined) → AreOutlines section_start sections lines → length sections ≡ length lines
-told_length section_start [] [] h = refl
-told_length section_start (s ∷ ss) (l ∷ ls) h = ap suc (told_length (section_start + length (bytes_of s)) ss ls h.1)
-told_length section_start [] (l ∷ ls) h = absurd h
-told_length section_start (s ∷ ss) [] h = absurd h
+outlines_length : (section_start : ℕ) (sections : List Section) (lines : List Outlined) → AreOutlines section_start sections lines → length sections ≡ length lines
+outlines_length section_start [] [] h = refl
+outlines_length section_start (s ∷ ss) (l ∷ ls) h = ap suc (outlines_length (section_start + length (bytes_of s)) ss ls h.1)
+outlines_length section_start [] (l ∷ ls) h = absurd h
+outlines_length section_start (s ∷ ss) [] h = absurd h
 
 pub outlined_done : (bytes start rest : List ℕ) (lines : List Outlined) → bytes ≡ header ++ start → HasOutlined (length header) start lines rest → rest ≡ [] → HasOutline bytes lines
 outlined_done bytes start rest lines e h l = record {
   sections = h.sections;
   has = record { joined = e ∙ ap (λ z. header ++ z) (h.joined ∙ ap (λ z. flat_map bytes_of h.sections ++ z) l ∙ append-nil (flat_map bytes_of h.sections)); each = h.each };
-  told = h.told;
+  are_outlines = h.are_outlines;
 }
 
 module _ (bytes start rest : List ℕ) (lines : List Outlined) (e : bytes ≡ header ++ start) (h : HasOutlined (length header) start lines rest) (more : rest ≢ []) (n : Rejects any_section padded rest) where
@@ -177,7 +177,7 @@ module _ (bytes start rest : List ℕ) (lines : List Outlined) (e : bytes ≡ he
   read = sections_read start rest h.sections h.each h.joined
 
   pub outlined_ends : EndsAt bytes (suc (length lines))
-  outlined_ends = subst (λ z. EndsAt bytes (suc z)) (length-map h.sections any_of ∙ told_length (length header) h.sections lines h.told) (ends_behind bytes start rest (map any_of h.sections) e read more n)
+  outlined_ends = subst (λ z. EndsAt bytes (suc z)) (length-map h.sections any_of ∙ outlines_length (length header) h.sections lines h.are_outlines) (ends_behind bytes start rest (map any_of h.sections) e read more n)
 
   pub outlined_none : RejectsWhole wasm_module bytes
   outlined_none = no_module bytes start rest (map any_of h.sections) e read more n

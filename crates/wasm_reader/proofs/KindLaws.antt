@@ -335,8 +335,8 @@ custom_kept n s t rest x h g r =
     let a = h.2 in
     let b = g.2 in
     let same : n ≡ h.0.0 = (decodes_same name_unambiguous r (record { front = a.front; split = a.joined; encodes = a.first })).0 in
-    let told : h.0 ≡ g.0 = cc (h.1 ∙ sym g.1) in
-    (b.back, subst (λ z. Decodes name padded t z b.back) (sym (same ∙ ap (λ z. z.0) told)) (record { front = b.front; split = b.joined; encodes = name_unambiguous.encodings.included minimal padded tt b.front g.0.0 b.first }))
+    let same_key : h.0 ≡ g.0 = cc (h.1 ∙ sym g.1) in
+    (b.back, subst (λ z. Decodes name padded t z b.back) (sym (same ∙ ap (λ z. z.0) same_key)) (record { front = b.front; split = b.joined; encodes = name_unambiguous.encodings.included minimal padded tt b.front g.0.0 b.first }))
 
 -- Each of the kinds keeps each name.
 abbrev AllKeepNames : List (List ℕ × SectionKind) → Type 0

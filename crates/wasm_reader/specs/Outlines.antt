@@ -91,7 +91,7 @@ AreOutlines section_start (s ∷ ss) [] = ⊥
 pub record HasOutline (bytes : List ℕ) (lines : List Outlined) : Type 0 where
   pub sections : List Section
   pub has : HasSections bytes sections
-  pub told : AreOutlines (length header) sections lines
+  pub are_outlines : AreOutlines (length header) sections lines
 
 -- ---- bytes that are not a module
 

@@ -169,17 +169,17 @@ after_block b = choice block_tags block_result b
 abbrev tagged_block : Format BlockType
 tagged_block = tagged byte after_block
 
-block_told : {bytes rest : List ℕ} {x : BlockType} → Decodes tagged_block padded bytes x rest → Decodes block_type padded bytes x rest
-block_told r = one_of_left (mapped blocks.FunctionType s33) r
+block_tagged : {bytes rest : List ℕ} {x : BlockType} → Decodes tagged_block padded bytes x rest → Decodes block_type padded bytes x rest
+block_tagged r = one_of_left (mapped blocks.FunctionType s33) r
 
 is_result : (b : ℕ) → b ≢ 0x40 → after_block b ≡ block_result b
 is_result b p = choice_other block_tags block_result b (p, tt)
 
 pub block_empty : (bytes rest : List ℕ) (b : ℕ) → Decodes byte padded bytes b rest → b ≡ 0x40 → Decodes block_type padded bytes blocks.Empty rest
-block_empty bytes rest b h e = block_told (tagged_decodes {G = after_block} h (subst (λ c. Decodes (after_block c) padded rest blocks.Empty rest) (sym e) (fixed_decodes rest blocks.Empty)))
+block_empty bytes rest b h e = block_tagged (tagged_decodes {G = after_block} h (subst (λ c. Decodes (after_block c) padded rest blocks.Empty rest) (sym e) (fixed_decodes rest blocks.Empty)))
 
 pub block_result_decodes : (bytes rest last : List ℕ) (b : ℕ) (v : ValType) → Decodes byte padded bytes b rest → b ≢ 0x40 → Decodes (choice val_tags val_ref b) padded rest v last → Decodes block_type padded bytes (blocks.Result v) last
-block_result_decodes bytes rest last b v h p g = block_told (tagged_decodes {G = after_block} h (subst (λ F. Decodes {X = BlockType} F padded rest (blocks.Result v) last) (sym (is_result b p)) (mapped_decodes blocks.Result g)))
+block_result_decodes bytes rest last b v h p g = block_tagged (tagged_decodes {G = after_block} h (subst (λ F. Decodes {X = BlockType} F padded rest (blocks.Result v) last) (sym (is_result b p)) (mapped_decodes blocks.Result g)))
 
 pub block_index : (bytes rest : List ℕ) (n : ℕ) → Decodes s33 padded bytes n rest → Decodes block_type padded bytes (blocks.FunctionType n) rest
 block_index bytes rest n h = one_of_right tagged_block (mapped_decodes blocks.FunctionType h)

@@ -118,10 +118,10 @@ memory_is mode s m h = subst IsNormalMemory h.1 (after h.0.0 mode h.2.back h.0.1
 -- ---- block types, catch clauses and handle clauses
 
 pub block_is : AllValues IsWellFormedBlock block_type
-block_is = values_one_of IsWellFormedBlock told (λ mode s x h. subst IsWellFormedBlock h.1 (index_is mode s h.0 h.2))
+block_is = values_one_of IsWellFormedBlock tagged_blocks (λ mode s x h. subst IsWellFormedBlock h.1 (index_is mode s h.0 h.2))
   where
-    told : AllValues IsWellFormedBlock (tagged byte (choice block_tags block_result))
-    told mode s x h =
+    tagged_blocks : AllValues IsWellFormedBlock (tagged byte (choice block_tags block_result))
+    tagged_blocks mode s x h =
         subst IsWellFormedBlock h.1
         (values_choice IsWellFormedBlock block_tags block_result (λ mode s x h. subst IsWellFormedBlock (sym h.1) tt, tt) (λ b mode s x h. subst IsWellFormedBlock h.1 (val_is b mode s h.0 h.2)) h.0.0 mode h.2.back h.0.1 h.2.second)
 

@@ -39,25 +39,25 @@ pub ruleset abstract_type_steps = (abstract_decodes, abstract_none, abstract_unk
 
 -- ---- heap types
 
-abbrev told : Format HeapType
-told = tagged byte (choice heap_tags (λ b. impossible))
+abbrev tagged_heap : Format HeapType
+tagged_heap = tagged byte (choice heap_tags (λ b. impossible))
 
-heap_told : {bytes rest : List ℕ} {h : HeapType} → Decodes told padded bytes h rest → Decodes heap_type padded bytes h rest
-heap_told r = one_of_right (mapped unshared abstract_type) (one_of_left (mapped Concrete s33) r)
+heap_tagged : {bytes rest : List ℕ} {h : HeapType} → Decodes tagged_heap padded bytes h rest → Decodes heap_type padded bytes h rest
+heap_tagged r = one_of_right (mapped unshared abstract_type) (one_of_left (mapped Concrete s33) r)
 
 pub heap_exact : (bytes rest last : List ℕ) (b n : ℕ) → Decodes byte padded bytes b rest → b ≡ 0x62 → Decodes u32 padded rest n last → Decodes heap_type padded bytes (Exact n) last
-heap_exact bytes rest last b n h e g = heap_told (tagged_decodes {G = choice heap_tags (λ b. impossible)} h (subst (λ c. Decodes (choice heap_tags (λ b. impossible) c) padded rest (Exact n) last) (sym e) (mapped_decodes Exact g)))
+heap_exact bytes rest last b n h e g = heap_tagged (tagged_decodes {G = choice heap_tags (λ b. impossible)} h (subst (λ c. Decodes (choice heap_tags (λ b. impossible) c) padded rest (Exact n) last) (sym e) (mapped_decodes Exact g)))
 
 pub heap_shared : (bytes rest last : List ℕ) (b : ℕ) (ty : AbstractHeapType) → Decodes byte padded bytes b rest → b ≡ 0x65 → Decodes abstract_type padded rest ty last → Decodes heap_type padded bytes (Abstract true ty) last
-heap_shared bytes rest last b ty h e g = heap_told (tagged_decodes {G = choice heap_tags (λ b. impossible)} h (subst (λ c. Decodes (choice heap_tags (λ b. impossible) c) padded rest (Abstract true ty) last) (sym e) (mapped_decodes shared g)))
+heap_shared bytes rest last b ty h e g = heap_tagged (tagged_decodes {G = choice heap_tags (λ b. impossible)} h (subst (λ c. Decodes (choice heap_tags (λ b. impossible) c) padded rest (Abstract true ty) last) (sym e) (mapped_decodes shared g)))
 
 pub heap_abstract : (bytes rest : List ℕ) (b : ℕ) (ty : AbstractHeapType) → Decodes byte padded bytes b rest → b ≡ abstract_code ty → Decodes heap_type padded bytes (Abstract false ty) rest
-heap_abstract bytes rest b ty h e = one_of_left (one_of told (mapped Concrete s33)) (mapped_decodes unshared (abstract_decodes bytes rest b ty h e))
+heap_abstract bytes rest b ty h e = one_of_left (one_of tagged_heap (mapped Concrete s33)) (mapped_decodes unshared (abstract_decodes bytes rest b ty h e))
 
 pub heap_index : (bytes rest : List ℕ) (n : ℕ) → Decodes s33 padded bytes n rest → Decodes heap_type padded bytes (Concrete n) rest
-heap_index bytes rest n h = one_of_right (mapped unshared abstract_type) (one_of_right told (mapped_decodes Concrete h))
+heap_index bytes rest n h = one_of_right (mapped unshared abstract_type) (one_of_right tagged_heap (mapped_decodes Concrete h))
 
-heap_rejects : (bytes : List ℕ) → Rejects abstract_type padded bytes → Rejects told padded bytes → Rejects s33 padded bytes → Rejects heap_type padded bytes
+heap_rejects : (bytes : List ℕ) → Rejects abstract_type padded bytes → Rejects tagged_heap padded bytes → Rejects s33 padded bytes → Rejects heap_type padded bytes
 heap_rejects bytes f g h = one_of_rejects (mapped_rejects unshared f) (one_of_rejects g (mapped_rejects Concrete h))
 
 pub heap_none : (bytes : List ℕ) → Rejects byte padded bytes → Rejects heap_type padded bytes

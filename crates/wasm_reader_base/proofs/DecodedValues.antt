@@ -28,10 +28,10 @@ module _ {X Y : Type 0} (F : Format X) where
 
   -- The value after a tag that it determines has an encoding.
   pub tagged_encoded : (G : X → Format Y) (x : X) (y : Y) → ((s : List ℕ) (z : X) → G z padded s y → z ≡ x) → HasEncoding (tagged F G) y → HasEncoding (G x) y
-  tagged_encoded G x y told h =
+  tagged_encoded G x y same_tag h =
       let d = h.decoded in
       let at_y : G d.0.0 padded d.2.back y = subst (λ z. G d.0.0 padded d.2.back z) d.1 d.2.second in
-      record { bytes = d.2.back; decoded = subst (λ z. G z padded d.2.back y) (told d.2.back d.0.0 at_y) at_y }
+      record { bytes = d.2.back; decoded = subst (λ z. G z padded d.2.back y) (same_tag d.2.back d.0.0 at_y) at_y }
 
 -- The value after fixed bytes has an encoding.
 pub prefixed_encoded : {X : Type 0} (head : List ℕ) (F : Format X) (x : X) → HasEncoding (prefixed head F) x → HasEncoding F x

@@ -62,13 +62,13 @@ module _ {X Y : Type 0} {x : X} {y : Y} {old middle new : List ℕ} where
 
   -- A tag that the value determines, then the value.
   pub tagged_appended : (F : Format X) (G : X → Format Y) → ((s : List ℕ) (z : X) → G z padded s y → z ≡ x) → AppendsMinimal F x old middle → AppendsMinimal (G x) y middle new → AppendsMinimal (tagged F G) y old new
-  tagged_appended F G told a b =
+  tagged_appended F G same_tag a b =
       let both = then_appended F G a b in
       record {
         encoding = both.encoding;
         appended = both.appended;
         encodes = λ s h.
-            let is : h.0 ≡ (x, y) = λ i. (told h.2.back h.0.0 (subst (λ z. G h.0.0 padded h.2.back z) h.1 h.2.second) i, h.1 i) in
+            let is : h.0 ≡ (x, y) = λ i. (same_tag h.2.back h.0.0 (subst (λ z. G h.0.0 padded h.2.back z) h.1 h.2.second) i, h.1 i) in
             ((x, y), refl, both.encodes s (subst (λ z. Then F G padded s z) is h.2));
       }
 

@@ -29,7 +29,7 @@ use wasm_reader_base::{ReadFault, Readable};
 /// ```text
 /// let (_runs, mut instructions) = Instructions::of_body(bytes, alloc)?;
 /// while let Some(step) = instructions.next()? {
-///     // step.op begins at step.place, and instructions.args() are its arguments
+///     // step.op begins at step.offset, and instructions.args() are its arguments
 /// }
 /// ```
 ///

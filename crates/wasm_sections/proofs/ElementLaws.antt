@@ -93,8 +93,8 @@ elements_unambiguous explicit of_expressions =
     (mapped_unambiguous list_of (λ x y e. ap list_parts e) (pair_unambiguous (when_unambiguous explicit ref_unambiguous (fixed_unambiguous [] FUNCREF)) (vec_unambiguous expression_unambiguous)))
     (mapped_unambiguous functions (λ x y e. cc) (prefixed_unambiguous (cond explicit (0x00 ∷ []) []) vec_u32_unambiguous))
 
-inactive_told : (f : ElementFlag) (mode : Mode) (s : List ℕ) (p : SegmentMode (List Plain)) → segment_mode f mode s p → f.not_active ≡ is_inactive p
-inactive_told f mode s p h = go f.not_active f.second h
+inactive_explicit : (f : ElementFlag) (mode : Mode) (s : List ℕ) (p : SegmentMode (List Plain)) → segment_mode f mode s p → f.not_active ≡ is_inactive p
+inactive_explicit f mode s p h = go f.not_active f.second h
   where
     go : (a b : Bool) → segment_mode (record { not_active = a; second = b; expressions = f.expressions }) mode s p → a ≡ is_inactive p
     go true true h = sym (ap is_inactive h.1)
@@ -102,8 +102,8 @@ inactive_told f mode s p h = go f.not_active f.second h
     go false true h = ap is_inactive h.1
     go false false h = ap is_inactive h.1
 
-second_told : (f : ElementFlag) (mode : Mode) (s : List ℕ) (p : SegmentMode (List Plain)) → segment_mode f mode s p → f.second ≡ is_second p
-second_told f mode s p h = go f.not_active f.second h
+second_explicit : (f : ElementFlag) (mode : Mode) (s : List ℕ) (p : SegmentMode (List Plain)) → segment_mode f mode s p → f.second ≡ is_second p
+second_explicit f mode s p h = go f.not_active f.second h
   where
     go : (a b : Bool) → segment_mode (record { not_active = a; second = b; expressions = f.expressions }) mode s p → b ≡ is_second p
     go true true h = sym (ap is_second h.1)
@@ -111,15 +111,15 @@ second_told f mode s p h = go f.not_active f.second h
     go false true h = ap is_second h.1
     go false false h = ap is_second h.1
 
-expressions_told : (explicit of_expressions : Bool) (mode : Mode) (s : List ℕ) (e : ElementList (List Plain)) → elements_as explicit of_expressions mode s e → of_expressions ≡ are_expressions e
-expressions_told explicit true mode s e h = ap are_expressions h.1
-expressions_told explicit false mode s e h = ap are_expressions h.1
+expressions_explicit : (explicit of_expressions : Bool) (mode : Mode) (s : List ℕ) (e : ElementList (List Plain)) → elements_as explicit of_expressions mode s e → of_expressions ≡ are_expressions e
+expressions_explicit explicit true mode s e h = ap are_expressions h.1
+expressions_explicit explicit false mode s e h = ap are_expressions h.1
 
-pub flag_told : DeterminesTag (λ f. mapped segment_of (pair (segment_mode f) (elements_as (has_kind f) f.expressions))) flag_of
-flag_told mode f s x h =
-    let a = inactive_told f mode h.2.front h.0.0 h.2.first in
-    let b = second_told f mode h.2.front h.0.0 h.2.first in
-    let c = expressions_told (has_kind f) f.expressions mode h.2.back h.0.1 h.2.second in
+pub flag_explicit : DeterminesTag (λ f. mapped segment_of (pair (segment_mode f) (elements_as (has_kind f) f.expressions))) flag_of
+flag_explicit mode f s x h =
+    let a = inactive_explicit f mode h.2.front h.0.0 h.2.first in
+    let b = second_explicit f mode h.2.front h.0.0 h.2.first in
+    let c = expressions_explicit (has_kind f) f.expressions mode h.2.back h.0.1 h.2.second in
     let explicit : f ≡ flag_of (segment_of h.0) = λ i. record { not_active = a i; second = b i; expressions = c i } in
     explicit ∙ ap flag_of h.1
 
@@ -128,7 +128,7 @@ element_flag_unambiguous = numbered_unambiguous flag_code decode (λ f. back_of 
 
 pub element_unambiguous : Unambiguous element
 element_unambiguous =
-    tagged_unambiguous flag_of flag_told element_flag_unambiguous λ f.
+    tagged_unambiguous flag_of flag_explicit element_flag_unambiguous λ f.
     mapped_unambiguous segment_of (λ x y e. ap (λ s. (s.segment_mode, s.elements)) e) (pair_unambiguous (segment_mode_unambiguous f) (elements_unambiguous (has_kind f) f.expressions))
 
 -- ---- encodings
@@ -201,12 +201,12 @@ settled_encodes mode of s plain short =
 
 -- ---- normal form
 
-kind_told : (needed : Bool) (p : SegmentMode Stored) → cond (is_inactive (settled_segment_mode needed p)) true (is_second (settled_segment_mode needed p)) ≡ false → needed ≡ false
-kind_told needed passive e = absurd (cc e)
-kind_told needed declared e = absurd (cc e)
-kind_told needed (active (Some table) offset) e = absurd (cc e)
-kind_told true (active None offset) e = absurd (cc e)
-kind_told false (active None offset) e = refl
+kind_explicit : (needed : Bool) (p : SegmentMode Stored) → cond (is_inactive (settled_segment_mode needed p)) true (is_second (settled_segment_mode needed p)) ≡ false → needed ≡ false
+kind_explicit needed passive e = absurd (cc e)
+kind_explicit needed declared e = absurd (cc e)
+kind_explicit needed (active (Some table) offset) e = absurd (cc e)
+kind_explicit true (active None offset) e = absurd (cc e)
+kind_explicit false (active None offset) e = refl
 
 settled_segment_mode-plain : (mode : Mode) (needed : Bool) (p : SegmentMode Stored) → IsSegmentModeIn mode p → IsSegmentModeIn mode (settled_segment_mode needed p)
 settled_segment_mode-plain mode needed passive plain = plain
@@ -217,7 +217,7 @@ settled_segment_mode-plain mode false (active None offset) plain = plain
 
 pub element_encodes : (mode : Mode) → IsOfBuilders mode → (s : ElementItem Stored) → IsSegmentIn mode s → element mode (element_encoding s) (element_of s)
 element_encodes mode of s plain =
-    settled_encodes mode of (settled s) (record { segment_mode = settled_segment_mode-plain mode (needs_table s.elements) s.segment_mode plain.segment_mode; elements = plain.elements }) (kind_told (needs_table s.elements) s.segment_mode)
+    settled_encodes mode of (settled s) (record { segment_mode = settled_segment_mode-plain mode (needs_table s.elements) s.segment_mode plain.segment_mode; elements = plain.elements }) (kind_explicit (needs_table s.elements) s.segment_mode)
 
 pub element_laws : ItemLaws element_items
 element_laws = record { unique = element_unambiguous; encodes = λ s plain encodable. element_encodes minimal tt s plain }
@@ -307,13 +307,13 @@ segment_mode_in_table f bytes rest table is p q h = placed f p q (mapped_decodes
 pub segment_mode_no_table : (f : ElementFlag) (bytes : List ℕ) → f.not_active ≡ false → f.second ≡ true → Rejects (pair u32 expression) padded bytes → Rejects (segment_mode f) padded bytes
 segment_mode_no_table f bytes p q n = not_placed f p q (mapped_rejects in_table n)
 
-pub segment_mode_untold : (f : ElementFlag) (bytes rest : List ℕ) (is : List Plain) → f.not_active ≡ false → f.second ≡ false → Decodes expression padded bytes is rest → Decodes (segment_mode f) padded bytes (active None is) rest
-segment_mode_untold f bytes rest is p q h = placed f p q (mapped_decodes in_no_table h)
+pub segment_mode_implicit : (f : ElementFlag) (bytes rest : List ℕ) (is : List Plain) → f.not_active ≡ false → f.second ≡ false → Decodes expression padded bytes is rest → Decodes (segment_mode f) padded bytes (active None is) rest
+segment_mode_implicit f bytes rest is p q h = placed f p q (mapped_decodes in_no_table h)
 
 pub segment_mode_no_offset : (f : ElementFlag) (bytes : List ℕ) → f.not_active ≡ false → f.second ≡ false → Rejects expression padded bytes → Rejects (segment_mode f) padded bytes
 segment_mode_no_offset f bytes p q n = not_placed f p q (mapped_rejects in_no_table n)
 
-pub ruleset segment_mode_steps = (segment_mode_declared, segment_mode_passive, segment_mode_in_table, segment_mode_no_table, segment_mode_untold, segment_mode_no_offset)
+pub ruleset segment_mode_steps = (segment_mode_declared, segment_mode_passive, segment_mode_in_table, segment_mode_no_table, segment_mode_implicit, segment_mode_no_offset)
 
 -- ---- functions
 
@@ -349,13 +349,13 @@ functions_none explicit bytes rest b p h e n = no_functions_at explicit p (mappe
 pub functions_unique : (explicit : Bool) (bytes last : List ℕ) (fs : List ℕ) → explicit ≡ false → Decodes (vec u32) padded bytes fs last → Decodes (elements_as explicit false) padded bytes (functions fs) last
 functions_unique explicit bytes last fs p g = functions_at explicit p (mapped_decodes functions (prefixed_decodes [] (vec u32) refl g))
 
-pub functions_untold : (explicit : Bool) (bytes last : List ℕ) (fs : List ℕ) → explicit ≡ false → Decodes (vec u32) padded bytes (map (λ n. n) fs) last → Decodes (elements_as explicit false) padded bytes (functions fs) last
-functions_untold explicit bytes last fs p g = functions_unique explicit bytes last fs p (subst (λ z. Decodes (vec u32) padded bytes z last) (map-id fs) g)
+pub functions_implicit : (explicit : Bool) (bytes last : List ℕ) (fs : List ℕ) → explicit ≡ false → Decodes (vec u32) padded bytes (map (λ n. n) fs) last → Decodes (elements_as explicit false) padded bytes (functions fs) last
+functions_implicit explicit bytes last fs p g = functions_unique explicit bytes last fs p (subst (λ z. Decodes (vec u32) padded bytes z last) (map-id fs) g)
 
-pub functions_none_untold : (explicit : Bool) (bytes : List ℕ) → explicit ≡ false → Rejects (vec u32) padded bytes → Rejects (elements_as explicit false) padded bytes
-functions_none_untold explicit bytes p n = no_functions_at explicit p (mapped_rejects functions (prefixed_rejects [] (vec u32) refl n))
+pub functions_none_implicit : (explicit : Bool) (bytes : List ℕ) → explicit ≡ false → Rejects (vec u32) padded bytes → Rejects (elements_as explicit false) padded bytes
+functions_none_implicit explicit bytes p n = no_functions_at explicit p (mapped_rejects functions (prefixed_rejects [] (vec u32) refl n))
 
-pub ruleset function_steps = (functions_read, functions_no_kind, functions_other, functions_none, functions_untold, functions_none_untold)
+pub ruleset function_steps = (functions_read, functions_no_kind, functions_other, functions_none, functions_implicit, functions_none_implicit)
 
 -- ---- expressions
 
@@ -374,11 +374,11 @@ expressions_read explicit bytes last r es p h = expressions_at explicit p (mappe
 pub expressions_none : (explicit : Bool) (bytes : List ℕ) → explicit ≡ true → Rejects (pair ref_type (vec expression)) padded bytes → Rejects (elements_as explicit true) padded bytes
 expressions_none explicit bytes p n = no_expressions_at explicit p (mapped_rejects list_of n)
 
-pub expressions_untold : (explicit : Bool) (bytes last : List ℕ) (es : List (List Plain)) → explicit ≡ false → Decodes (vec expression) padded bytes es last → Decodes (elements_as explicit true) padded bytes (expressions FUNCREF es) last
-expressions_untold explicit bytes last es p h = expressions_at explicit p (mapped_decodes list_of (then_decodes (fixed_decodes bytes FUNCREF) h))
+pub expressions_implicit : (explicit : Bool) (bytes last : List ℕ) (es : List (List Plain)) → explicit ≡ false → Decodes (vec expression) padded bytes es last → Decodes (elements_as explicit true) padded bytes (expressions FUNCREF es) last
+expressions_implicit explicit bytes last es p h = expressions_at explicit p (mapped_decodes list_of (then_decodes (fixed_decodes bytes FUNCREF) h))
 
-pub expressions_none_untold : (explicit : Bool) (bytes : List ℕ) → explicit ≡ false → Rejects (vec expression) padded bytes → Rejects (elements_as explicit true) padded bytes
-expressions_none_untold explicit bytes p n = no_expressions_at explicit p (mapped_rejects list_of (then_rejects_second (fixed_unambiguous [] FUNCREF) (fixed_decodes bytes FUNCREF) n))
+pub expressions_none_implicit : (explicit : Bool) (bytes : List ℕ) → explicit ≡ false → Rejects (vec expression) padded bytes → Rejects (elements_as explicit true) padded bytes
+expressions_none_implicit explicit bytes p n = no_expressions_at explicit p (mapped_rejects list_of (then_rejects_second (fixed_unambiguous [] FUNCREF) (fixed_decodes bytes FUNCREF) n))
 
 pub ruleset expression_steps = (expressions_read)
 
@@ -425,7 +425,7 @@ element_appended x old flag middle new e a b =
     let f = flag_of x in
     let inside = pair_appended (segment_mode f) (elements_as (has_kind f) f.expressions) a b in
     let rest = mapped_appended segment_of (pair (segment_mode f) (elements_as (has_kind f) f.expressions)) (x.segment_mode, x.elements) flag new (λ z k. ap (λ s. (s.segment_mode, s.elements)) k) inside in
-    tagged_appended (numbered flag_code) (λ g. mapped segment_of (pair (segment_mode g) (elements_as (has_kind g) g.expressions))) (λ s z h. flag_told padded z s x h)
+    tagged_appended (numbered flag_code) (λ g. mapped segment_of (pair (segment_mode g) (elements_as (has_kind g) g.expressions))) (λ s z h. flag_explicit padded z s x h)
     (encoding_appended (numbered flag_code) f (unsigned_encoding (flag_code f)) old flag (λ s h. u32_encodes (flag_code f) h.range) e) rest
 
 -- The segment of this mode and these elements.
@@ -451,13 +451,13 @@ in_table_appended given table offset old middle new e is a =
     subst (λ t. AppendsMinimal (segment_mode (in_any (is_given t))) (active t offset) old new) (sym e)
     (mapped_appended in_table (pair u32 expression) (table, offset) old new (λ z k. ap table_parts k) (pair_appended u32 expression (u32_appended table old middle is) a))
 
-pub functions_told_appended : (explicit : Bool) (fs : List ℕ) (old middle new : List ℕ) → explicit ≡ true → middle ≡ old ++ 0x00 ∷ [] → AppendsMinimal (vec u32) (map (λ n. n) fs) middle new → AppendsMinimal (elements_as explicit false) (functions fs) old new
-functions_told_appended explicit fs old middle new e is a =
+pub functions_explicit_appended : (explicit : Bool) (fs : List ℕ) (old middle new : List ℕ) → explicit ≡ true → middle ≡ old ++ 0x00 ∷ [] → AppendsMinimal (vec u32) (map (λ n. n) fs) middle new → AppendsMinimal (elements_as explicit false) (functions fs) old new
+functions_explicit_appended explicit fs old middle new e is a =
     subst (λ t. AppendsMinimal (elements_as t false) (functions fs) old new) (sym e)
     (mapped_appended functions (prefixed (0x00 ∷ []) (vec u32)) fs old new (λ z k. cc k) (prefixed_appended (0x00 ∷ []) (vec u32) fs old middle new is (subst (λ z. AppendsMinimal (vec u32) z middle new) (map-id fs) a)))
 
-pub functions_untold_appended : (explicit : Bool) (fs : List ℕ) (old new : List ℕ) → explicit ≡ false → AppendsMinimal (vec u32) (map (λ n. n) fs) old new → AppendsMinimal (elements_as explicit false) (functions fs) old new
-functions_untold_appended explicit fs old new e a =
+pub functions_implicit_appended : (explicit : Bool) (fs : List ℕ) (old new : List ℕ) → explicit ≡ false → AppendsMinimal (vec u32) (map (λ n. n) fs) old new → AppendsMinimal (elements_as explicit false) (functions fs) old new
+functions_implicit_appended explicit fs old new e a =
     subst (λ t. AppendsMinimal (elements_as t false) (functions fs) old new) (sym e)
     (mapped_appended functions (prefixed [] (vec u32)) fs old new (λ z k. cc k) (prefixed_appended [] (vec u32) fs old old new (sym (append-nil old)) (subst (λ z. AppendsMinimal (vec u32) z old new) (map-id fs) a)))
 
@@ -465,12 +465,12 @@ typed : (explicit : Bool) (r : RefType) (es : List (List Plain)) (old middle new
 typed explicit r es old middle new a b =
     mapped_appended list_of (pair (when explicit ref_type (fixed [] FUNCREF)) (vec expression)) (r, es) old new (λ z k. ap list_parts k) (pair_appended (when explicit ref_type (fixed [] FUNCREF)) (vec expression) a b)
 
-pub expressions_told_appended : (explicit : Bool) (r : RefType) (es : List (List Plain)) (old middle new : List ℕ) → explicit ≡ true → middle ≡ old ++ ref_encoding r → AppendsMinimal (vec expression) es middle new → AppendsMinimal (elements_as explicit true) (expressions r es) old new
-expressions_told_appended explicit r es old middle new e is a =
+pub expressions_explicit_appended : (explicit : Bool) (r : RefType) (es : List (List Plain)) (old middle new : List ℕ) → explicit ≡ true → middle ≡ old ++ ref_encoding r → AppendsMinimal (vec expression) es middle new → AppendsMinimal (elements_as explicit true) (expressions r es) old new
+expressions_explicit_appended explicit r es old middle new e is a =
     subst (λ t. AppendsMinimal (elements_as t true) (expressions r es) old new) (sym e) (typed true r es old middle new (fitting_appended ref_type IsRef ref_encoding r old middle ref-encodings ref_is is) a)
 
-pub expressions_untold_appended : (explicit : Bool) (r : RefType) (es : List (List Plain)) (old new : List ℕ) → explicit ≡ false → AppendsMinimal (vec expression) es old new → AppendsMinimal (elements_as explicit true) (expressions r es) old new
-expressions_untold_appended explicit r es old new e a =
+pub expressions_implicit_appended : (explicit : Bool) (r : RefType) (es : List (List Plain)) (old new : List ℕ) → explicit ≡ false → AppendsMinimal (vec expression) es old new → AppendsMinimal (elements_as explicit true) (expressions r es) old new
+expressions_implicit_appended explicit r es old new e a =
     subst (λ t. AppendsMinimal (elements_as t true) (expressions r es) old new) (sym e) (typed false r es old old new (nothing_appended (fixed [] FUNCREF) r old (λ s h. (refl, h.1))) a)
 
 -- ---- parts that have encodings
@@ -479,7 +479,7 @@ parts_encoded : (x : ElementItem (List Plain)) → HasEncoding element x → Has
 parts_encoded x h =
     let f = flag_of x in
     mapped_encoded segment_of (pair (segment_mode f) (elements_as (has_kind f) f.expressions)) (x.segment_mode, x.elements) (λ z k. ap (λ s. (s.segment_mode, s.elements)) k)
-    (tagged_encoded (numbered flag_code) after_flag f x (λ s z k. flag_told padded z s x k) h)
+    (tagged_encoded (numbered flag_code) after_flag f x (λ s z k. flag_explicit padded z s x k) h)
 
 pub segment_mode_encoded : (x : ElementItem (List Plain)) → HasEncoding element x → HasEncoding (segment_mode (flag_of x)) x.segment_mode
 segment_mode_encoded x h = left_encoded (segment_mode (flag_of x)) (elements_as (has_kind (flag_of x)) (are_expressions x.elements)) x.segment_mode x.elements (parts_encoded x h)

@@ -36,8 +36,8 @@ values_choice {X} Q (c ∷ cs) other h g b mode s x k = go (values_choice Q cs o
     go more true k = h.0 mode s x k
     go more false k = more k
 
-told_values : {X : Type 0} (Q : X → Type 0) (G : ℕ → Format X) → ((b : ℕ) → AllValues Q (G b)) → AllValues Q (tagged byte G)
-told_values Q G all mode s x h = subst Q h.1 (all h.0.0 mode h.2.back h.0.1 h.2.second)
+tagged_values : {X : Type 0} (Q : X → Type 0) (G : ℕ → Format X) → ((b : ℕ) → AllValues Q (G b)) → AllValues Q (tagged byte G)
+tagged_values Q G all mode s x h = subst Q h.1 (all h.0.0 mode h.2.back h.0.1 h.2.second)
 
 after_storage_is : (b : ℕ) → AllValues IsStorage (choice storage_tags storage_val b)
 after_storage_is =
@@ -45,7 +45,7 @@ after_storage_is =
     (λ b mode s x h. subst IsStorage h.1 (val_type_is mode (b ∷ s) h.0 (tagged_encodes {G = choice val_tags val_ref} mode b s h.0 h.2)))
 
 storage_is : AllValues IsStorage storage_type
-storage_is = told_values IsStorage (choice storage_tags storage_val) after_storage_is
+storage_is = tagged_values IsStorage (choice storage_tags storage_val) after_storage_is
 
 field_is : AllValues IsField field_type
 field_is mode s x h = subst IsField h.1 (storage_is mode h.2.front h.0.0 h.2.first)
@@ -70,7 +70,7 @@ IsIndexAnd P p = IsGivenIndex p.0 × P p.1
 index_values : {X : Type 0} (P : X → Type 0) (tag : ℕ) (F : ℕ → Format X) → ((b : ℕ) → AllValues P (F b)) → (b : ℕ) → AllValues (IsIndexAnd P) (with_index tag F b)
 index_values P tag F all =
     values_choice (IsIndexAnd P) ((tag, mapped given_index (pair u32 (tagged byte F))) ∷ []) (λ c. mapped no_index (F c))
-    (λ mode s x h. subst (IsIndexAnd P) h.1 (h.2.first.range, told_values P F all mode h.2.back h.0.1 h.2.second), tt)
+    (λ mode s x h. subst (IsIndexAnd P) h.1 (h.2.first.range, tagged_values P F all mode h.2.back h.0.1 h.2.second), tt)
     (λ b mode s x h. subst (IsIndexAnd P) h.1 (tt, all b mode s h.0 h.2))
 
 abbrev IsDescribed : Option ℕ × Shape → Type 0
@@ -91,14 +91,14 @@ of_parts shared p h = record { describes = h.0; descriptor = h.1.0; shape = h.1.
 composite_is : (b : ℕ) → AllValues IsComposite (after_composite b)
 composite_is =
     values_choice IsComposite ((0x65, mapped (composite_of true) (tagged byte after_describes)) ∷ []) (λ c. mapped (composite_of false) (after_describes c))
-    (λ mode s x h. subst IsComposite h.1 (of_parts true h.0 (told_values IsDescribing after_describes describing_is mode s h.0 h.2)), tt)
+    (λ mode s x h. subst IsComposite h.1 (of_parts true h.0 (tagged_values IsDescribing after_describes describing_is mode s h.0 h.2)), tt)
     (λ b mode s x h. subst IsComposite h.1 (of_parts false h.0 (describing_is b mode s h.0 h.2)))
 
 abbrev AreSupertypesAnd : List ℕ × Composite → Type 0
 AreSupertypesAnd p = IsEncodableVec (IsUnsignedInRange 32) p.0 × IsComposite p.1
 
 supertypes_are : AllValues AreSupertypesAnd (pair (vec u32) composite_type)
-supertypes_are mode s p h = (vec_is (IsUnsignedInRange 32) u32 (λ mode s n k. k.range) mode h.front p.0 h.first, told_values IsComposite after_composite composite_is mode h.back p.1 h.second)
+supertypes_are mode s p h = (vec_is (IsUnsignedInRange 32) u32 (λ mode s n k. k.range) mode h.front p.0 h.first, tagged_values IsComposite after_composite composite_is mode h.back p.1 h.second)
 
 sub_is : (b : ℕ) → AllValues IsSub (after_sub b)
 sub_is =
@@ -111,11 +111,11 @@ sub_is =
 after_type_is : (b : ℕ) → AllValues IsType (after_type b)
 after_type_is =
     values_choice IsType ((0x4E, mapped group (vec sub_type)) ∷ []) (λ c. mapped single (after_sub c))
-    (λ mode s x h. subst IsType h.1 (vec_is IsSub sub_type (told_values IsSub after_sub sub_is) mode s h.0 h.2), tt)
+    (λ mode s x h. subst IsType h.1 (vec_is IsSub sub_type (tagged_values IsSub after_sub sub_is) mode s h.0 h.2), tt)
     (λ b mode s x h. subst IsType h.1 (sub_is b mode s h.0 h.2))
 
 pub type_is : AllValues IsType type_item
-type_is = told_values IsType after_type after_type_is
+type_is = tagged_values IsType after_type after_type_is
 
 -- ---- encodings
 

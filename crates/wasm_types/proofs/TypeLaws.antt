@@ -25,8 +25,8 @@ use Rattle.wasm_base.proofs.SectionLaws.{SectionLaws, counted_laws}
 -- ---- one tag before other values
 
 -- A format that its first byte determines is unambiguous.
-told_unambiguous : {X : Type 0} (tag : X → ℕ) {G : ℕ → Format X} → DeterminesTag G tag → ((b : ℕ) → Unambiguous (G b)) → Unambiguous (tagged byte G)
-told_unambiguous tag {G} tells all = tagged_unambiguous tag tells byte_unambiguous all
+by_tag_unambiguous : {X : Type 0} (tag : X → ℕ) {G : ℕ → Format X} → DeterminesTag G tag → ((b : ℕ) → Unambiguous (G b)) → Unambiguous (tagged byte G)
+by_tag_unambiguous tag {G} tells all = tagged_unambiguous tag tells byte_unambiguous all
 
 -- A byte other than the tag selects the format without it.
 other_at : {X : Type 0} (tag : ℕ) (F : Format X) (G : ℕ → Format X) (b : ℕ) → b ≢ tag → (mode : Mode) (s : List ℕ) (x : X) → G b mode s x → choice ((tag, F) ∷ []) G b mode s x
@@ -55,7 +55,7 @@ storage_determines =
     (λ b mode s x h. val_determines mode b s h.0 h.2 ∙ ap storage_tag h.1)
 
 pub storage_unambiguous : Unambiguous storage_type
-storage_unambiguous = told_unambiguous storage_tag storage_determines (choice_unambiguous storage_tags storage_val (fixed_unambiguous [] I8, (fixed_unambiguous [] I16, tt)) (λ b. mapped_unambiguous Val (λ x y e. cc) (val_choice_unambiguous b)))
+storage_unambiguous = by_tag_unambiguous storage_tag storage_determines (choice_unambiguous storage_tags storage_val (fixed_unambiguous [] I8, (fixed_unambiguous [] I16, tt)) (λ b. mapped_unambiguous Val (λ x y e. cc) (val_choice_unambiguous b)))
 
 mutable_decode : ℕ → Bool
 mutable_decode zero = false
@@ -146,10 +146,10 @@ describes_determines : DeterminesTag after_describes describes_tag
 describes_determines = index_determines 0x4C descriptor_tag after_descriptor descriptor_determines
 
 descriptor_after_unambiguous : (b : ℕ) → Unambiguous (after_descriptor b)
-descriptor_after_unambiguous = index_unambiguous 0x4D after_shape (told_unambiguous shape_tag shape_determines shape_after_unambiguous) shape_after_unambiguous
+descriptor_after_unambiguous = index_unambiguous 0x4D after_shape (by_tag_unambiguous shape_tag shape_determines shape_after_unambiguous) shape_after_unambiguous
 
 describes_after_unambiguous : (b : ℕ) → Unambiguous (after_describes b)
-describes_after_unambiguous = index_unambiguous 0x4C after_descriptor (told_unambiguous descriptor_tag descriptor_determines descriptor_after_unambiguous) descriptor_after_unambiguous
+describes_after_unambiguous = index_unambiguous 0x4C after_descriptor (by_tag_unambiguous descriptor_tag descriptor_determines descriptor_after_unambiguous) descriptor_after_unambiguous
 
 abbrev composite_parts : Composite → Option ℕ × (Option ℕ × Shape)
 composite_parts c = (c.describes, (c.descriptor, c.shape))
@@ -172,11 +172,11 @@ composite_determines =
 composite_after_unambiguous : (b : ℕ) → Unambiguous (after_composite b)
 composite_after_unambiguous =
     choice_unambiguous shared_tags not_shared
-    (mapped_unambiguous (composite_of true) (λ x y e. ap composite_parts e) (told_unambiguous describes_tag describes_determines describes_after_unambiguous), tt)
+    (mapped_unambiguous (composite_of true) (λ x y e. ap composite_parts e) (by_tag_unambiguous describes_tag describes_determines describes_after_unambiguous), tt)
     (λ b. mapped_unambiguous (composite_of false) (λ x y e. ap composite_parts e) (describes_after_unambiguous b))
 
 pub composite_unambiguous : Unambiguous composite_type
-composite_unambiguous = told_unambiguous composite_tag composite_determines composite_after_unambiguous
+composite_unambiguous = by_tag_unambiguous composite_tag composite_determines composite_after_unambiguous
 
 -- ---- subtypes
 
@@ -212,7 +212,7 @@ sub_after_unambiguous =
     (λ b. mapped_unambiguous alone_of (λ x y e. ap (λ s. s.composite) e) (composite_after_unambiguous b))
 
 pub sub_unambiguous : Unambiguous sub_type
-sub_unambiguous = told_unambiguous sub_tag sub_determines sub_after_unambiguous
+sub_unambiguous = by_tag_unambiguous sub_tag sub_determines sub_after_unambiguous
 
 -- ---- entries
 
@@ -230,7 +230,7 @@ type_determines : DeterminesTag after_type type_tag
 type_determines = choice_determines type_tag group_tags not_group (λ mode s x h. ap type_tag h.1, tt) (λ b mode s x h. sub_determines mode b s h.0 h.2 ∙ ap type_tag h.1)
 
 pub type_unambiguous : Unambiguous type_item
-type_unambiguous = told_unambiguous type_tag type_determines (choice_unambiguous group_tags not_group (mapped_unambiguous group (λ x y e. cc) (vec_unambiguous sub_unambiguous), tt) (λ b. mapped_unambiguous single (λ x y e. cc) (sub_after_unambiguous b)))
+type_unambiguous = by_tag_unambiguous type_tag type_determines (choice_unambiguous group_tags not_group (mapped_unambiguous group (λ x y e. cc) (vec_unambiguous sub_unambiguous), tt) (λ b. mapped_unambiguous single (λ x y e. cc) (sub_after_unambiguous b)))
 
 -- ---- encodings
 

@@ -2,13 +2,13 @@ use Rattle.std.proofs.Common.{map}
 use Rattle.wasm_base.proofs.Outcomes.{on_ok}
 use Rattle.wasm_sections.specs.Constants.{instructions_view}
 use Rattle.wasm_sections.proofs.element_items.append_expressions.Goals as goal
-use Rattle.wasm_sections.proofs.ElementLaws.{expressions_told_appended, expressions_untold_appended}
+use Rattle.wasm_sections.proofs.ElementLaws.{expressions_explicit_appended, expressions_implicit_appended}
 
 pub returns-then-explicit-clause-ok : goal.returns-then-explicit-clause-ok
 returns-then-explicit-clause-ok g c =
     on_ok c.write_minimal.result _ _ c.write_minimal.ensures.ok λ a.
-    expressions_told_appended c.args.explicit c.args.ty (map instructions_view c.args.elements.now.items) c.args.sink.now.items c.encode.new.sink.items c.write_minimal.new.sink.items c.if-explicit.true c.in_ok-encode.ensures.appends.ok a
+    expressions_explicit_appended c.args.explicit c.args.ty (map instructions_view c.args.elements.now.items) c.args.sink.now.items c.encode.new.sink.items c.write_minimal.new.sink.items c.if-explicit.true c.in_ok-encode.ensures.appends.ok a
 
 pub returns-clause-ok : goal.returns-clause-ok
 returns-clause-ok g c =
-    on_ok c.write_minimal-2.result _ _ c.write_minimal-2.ensures.ok λ a. expressions_untold_appended c.args.explicit c.args.ty (map instructions_view c.args.elements.now.items) c.args.sink.now.items c.write_minimal-2.new.sink.items c.if-explicit.false a
+    on_ok c.write_minimal-2.result _ _ c.write_minimal-2.ensures.ok λ a. expressions_implicit_appended c.args.explicit c.args.ty (map instructions_view c.args.elements.now.items) c.args.sink.now.items c.write_minimal-2.new.sink.items c.if-explicit.false a

@@ -1,11 +1,11 @@
 use Rattle.wasm_base.proofs.Outcomes.{on_ok}
 use Rattle.wasm_sections.proofs.element_items.append_functions.Goals as goal
-use Rattle.wasm_sections.proofs.ElementLaws.{functions_told_appended, functions_untold_appended}
+use Rattle.wasm_sections.proofs.ElementLaws.{functions_explicit_appended, functions_implicit_appended}
 
 pub returns-then-explicit-clause-ok : goal.returns-then-explicit-clause-ok
 returns-then-explicit-clause-ok g c =
     on_ok c.write_minimal.result _ _ c.write_minimal.ensures.ok λ a.
-    functions_told_appended c.args.explicit c.args.indices.now.items c.args.sink.now.items c.encode.new.sink.items c.write_minimal.new.sink.items c.if-explicit.true c.in_ok-encode.ensures.appends.ok a
+    functions_explicit_appended c.args.explicit c.args.indices.now.items c.args.sink.now.items c.encode.new.sink.items c.write_minimal.new.sink.items c.if-explicit.true c.in_ok-encode.ensures.appends.ok a
 
 pub returns-clause-ok : goal.returns-clause-ok
-returns-clause-ok g c = on_ok c.write_minimal-2.result _ _ c.write_minimal-2.ensures.ok λ a. functions_untold_appended c.args.explicit c.args.indices.now.items c.args.sink.now.items c.write_minimal-2.new.sink.items c.if-explicit.false a
+returns-clause-ok g c = on_ok c.write_minimal-2.result _ _ c.write_minimal-2.ensures.ok λ a. functions_implicit_appended c.args.explicit c.args.indices.now.items c.args.sink.now.items c.write_minimal-2.new.sink.items c.if-explicit.false a

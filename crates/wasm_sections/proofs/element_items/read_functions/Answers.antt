@@ -1,5 +1,5 @@
 use Rattle.wasm_reader_base.proofs.Faults.{fault_stays}
-use Rattle.wasm_sections.proofs.ElementLaws.{functions_read, functions_no_kind, functions_other, functions_none, functions_untold, functions_none_untold}
+use Rattle.wasm_sections.proofs.ElementLaws.{functions_read, functions_no_kind, functions_other, functions_none, functions_implicit, functions_none_implicit}
 use Rattle.wasm_sections.proofs.element_items.read_functions.Goals as goal
 
 pub returns-in_err-kind-clause-none : goal.returns-in_err-kind-clause-none
@@ -16,7 +16,7 @@ pub returns-then-explicit-clause-found : goal.returns-then-explicit-clause-found
 returns-then-explicit-clause-found g c = functions_read c.args.explicit c.args.bytes.now _ _ _ _ c.if-explicit.true c.in_ok-kind.ensures.found c.if-kind-ne0.false c.in_ok-functions.ensures.found
 
 pub returns-in_err-functions-2-clause-none : goal.returns-in_err-functions-2-clause-none
-returns-in_err-functions-2-clause-none g c = fault_stays c.from_residual-in_err-functions-2.result _ c.from_residual-in_err-functions-2.ensures.1 λ n. functions_none_untold c.args.explicit c.args.bytes.now c.if-explicit.false (c.in_err-functions-2.ensures.none n)
+returns-in_err-functions-2-clause-none g c = fault_stays c.from_residual-in_err-functions-2.result _ c.from_residual-in_err-functions-2.ensures.1 λ n. functions_none_implicit c.args.explicit c.args.bytes.now c.if-explicit.false (c.in_err-functions-2.ensures.none n)
 
 pub returns-clause-found : goal.returns-clause-found
-returns-clause-found g c = functions_untold c.args.explicit c.args.bytes.now _ _ c.if-explicit.false c.in_ok-functions-2.ensures.found
+returns-clause-found g c = functions_implicit c.args.explicit c.args.bytes.now _ _ c.if-explicit.false c.in_ok-functions-2.ensures.found

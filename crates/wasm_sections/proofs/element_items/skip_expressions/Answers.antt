@@ -1,7 +1,7 @@
 use Rattle.wasm_reader_base.proofs.Faults.{fault_stays}
 use Rattle.wasm_base.proofs.DecodingSteps.{then_decodes, then_rejects_first, then_rejects_second}
 use Rattle.wasm_base.proofs.TypeLaws.{ref_unambiguous}
-use Rattle.wasm_sections.proofs.ElementLaws.{expressions_read, expressions_none, expressions_none_untold, expressions_untold}
+use Rattle.wasm_sections.proofs.ElementLaws.{expressions_read, expressions_none, expressions_none_implicit, expressions_implicit}
 use Rattle.wasm_sections.proofs.element_items.skip_expressions.Goals as goal
 
 pub returns-in_err-_type-clause-none : goal.returns-in_err-_type-clause-none
@@ -16,9 +16,9 @@ returns-then-explicit-clause-found g c =
     (_, expressions_read c.args.explicit c.args.bytes.now _ _ xs.0 c.if-explicit.true (then_decodes c.in_ok-_type.ensures.found xs.1))
 
 pub returns-in_err-_count-2-clause-none : goal.returns-in_err-_count-2-clause-none
-returns-in_err-_count-2-clause-none g c = fault_stays c.from_residual-in_err-_count-2.result _ c.from_residual-in_err-_count-2.ensures.1 λ n. expressions_none_untold c.args.explicit c.args.bytes.now c.if-explicit.false (c.in_err-_count-2.ensures.none n)
+returns-in_err-_count-2-clause-none g c = fault_stays c.from_residual-in_err-_count-2.result _ c.from_residual-in_err-_count-2.ensures.1 λ n. expressions_none_implicit c.args.explicit c.args.bytes.now c.if-explicit.false (c.in_err-_count-2.ensures.none n)
 
 pub returns-clause-found : goal.returns-clause-found
 returns-clause-found g c =
     let xs = c.in_ok-_count-2.ensures.found in
-    (_, expressions_untold c.args.explicit c.args.bytes.now _ xs.0 c.if-explicit.false xs.1)
+    (_, expressions_implicit c.args.explicit c.args.bytes.now _ xs.0 c.if-explicit.false xs.1)

@@ -1,5 +1,5 @@
 use Rattle.wasm_reader_base.proofs.Faults.{fault_stays}
-use Rattle.wasm_sections.proofs.ElementLaws.{functions_behind, functions_no_kind, functions_other, functions_none, functions_unique, functions_none_untold}
+use Rattle.wasm_sections.proofs.ElementLaws.{functions_behind, functions_no_kind, functions_other, functions_none, functions_unique, functions_none_implicit}
 use Rattle.wasm_sections.proofs.element_items.skip_functions.Goals as goal
 
 pub returns-in_err-kind-clause-none : goal.returns-in_err-kind-clause-none
@@ -17,7 +17,7 @@ returns-then-explicit-clause-found g c =
     (_, functions_behind c.args.explicit c.args.bytes.now _ _ _ xs.0 c.if-explicit.true c.in_ok-kind.ensures.found c.if-kind-ne0.false xs.1)
 
 pub returns-in_err-_count-2-clause-none : goal.returns-in_err-_count-2-clause-none
-returns-in_err-_count-2-clause-none g c = fault_stays c.from_residual-in_err-_count-2.result _ c.from_residual-in_err-_count-2.ensures.1 λ n. functions_none_untold c.args.explicit c.args.bytes.now c.if-explicit.false (c.in_err-_count-2.ensures.none n)
+returns-in_err-_count-2-clause-none g c = fault_stays c.from_residual-in_err-_count-2.result _ c.from_residual-in_err-_count-2.ensures.1 λ n. functions_none_implicit c.args.explicit c.args.bytes.now c.if-explicit.false (c.in_err-_count-2.ensures.none n)
 
 pub returns-clause-found : goal.returns-clause-found
 returns-clause-found g c =

@@ -1,6 +1,6 @@
 use Rattle.wasm_reader_base.proofs.Faults.{fault_stays}
 use Rattle.wasm_sections.specs.Elements.{element_flag_view}
-use Rattle.wasm_sections.proofs.ElementLaws.{segment_mode_declared, segment_mode_passive, segment_mode_in_table, segment_mode_no_table, segment_mode_untold, segment_mode_no_offset}
+use Rattle.wasm_sections.proofs.ElementLaws.{segment_mode_declared, segment_mode_passive, segment_mode_in_table, segment_mode_no_table, segment_mode_implicit, segment_mode_no_offset}
 use Rattle.wasm_sections.proofs.element_items.skip_segment_mode.Goals as goal
 
 pub returns-in-true-true-clause-found : goal.returns-in-true-true-clause-found
@@ -23,4 +23,4 @@ returns-in_err-rest-in-false-false-clause-none g c = fault_stays c.from_residual
 pub returns-in_ok-rest-in-false-false-clause-found : goal.returns-in_ok-rest-in-false-false-clause-found
 returns-in_ok-rest-in-false-false-clause-found g c =
     let x = c.in_ok-rest-in-false-false.ensures.found in
-    (_, segment_mode_untold (element_flag_view c.args.flag) c.args.bytes.now _ x.0 c.in-false-false.is-0 c.in-false-false.is-1 x.1)
+    (_, segment_mode_implicit (element_flag_view c.args.flag) c.args.bytes.now _ x.0 c.in-false-false.is-0 c.in-false-false.is-1 x.1)
