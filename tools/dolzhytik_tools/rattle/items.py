@@ -209,7 +209,10 @@ class Items:
         generics, at = self.generics(at + 1)
         begin = at
         while self.words[at] not in ("{", ";"):
-            at = behind_angle(self.words, at) if self.words[at] == "<" else at + 1
+            if self.words[at] in ("(", "["):
+                at = behind(self.words, at)
+            else:
+                at = behind_angle(self.words, at) if self.words[at] == "<" else at + 1
         if self.words[at] == ";":
             return Block(kind, generics, Span(begin, at)), at + 1
         after = behind(self.words, at)

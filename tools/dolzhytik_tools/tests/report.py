@@ -1,7 +1,7 @@
 """The lines of a test command."""
 from __future__ import annotations
 
-from collections.abc import Iterable
+from collections.abc import Callable, Iterable, Sequence
 
 
 def report(tool: str, name: str, trouble: str | None) -> bool:
@@ -15,3 +15,16 @@ def end(passed: Iterable[bool]) -> int:
     found = list(passed)
     print(f"{sum(found)} passed, {len(found) - sum(found)} failed")
     return 0 if all(found) else 1
+
+
+def run_all(tool: str, tests: Sequence[Callable[[], None]]) -> int:
+    """Runs tests that assert, reports those that fail, and returns the exit status."""
+    failed = 0
+    for test in tests:
+        try:
+            test()
+        except AssertionError as error:
+            failed += 1
+            print(f"{tool}: {test.__name__}: {error}")
+    print(f"{len(tests) - failed} passed, {failed} failed")
+    return 1 if failed else 0
