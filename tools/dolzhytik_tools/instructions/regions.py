@@ -57,8 +57,8 @@ class Marks:
                 begins += found == self.begin
                 wanted = self.end if found == self.begin else self.begin
         if wanted == self.end or begins != count:
-            missing = self.end if wanted == self.end else self.begin
-            raise Stop(f"{path}:{len(lines)}: {begins} regions begin with '{self.begin}', and {count} must; '{missing}' is missing or is there too often")
+            found = f"{begins} regions that begin with '{self.begin}'"
+            raise Stop(f"{path}:{len(lines)}: {found}, of {count}" if begins != count else f"{path}:{len(lines)}: no '{self.end}' up to here")
 
 
 def place(path: str, lines: Sequence[str], at: int, begins: str) -> int:

@@ -11,9 +11,9 @@ from ..repository import TOP
 from .answers_samples import (
     CODE, EXPORTS, HEAD, HINTS, LINKING, MODULE, PRODUCERS, READ, STACK, SUM, SYMBOLS, WRITTEN, WRITTEN_OF_CUSTOM,
 )
-from .report import end, report
+from .report import end, report, usage_of
 
-USAGE = "The tool.\n\nusage\n\nMore."
+USAGE = usage_of("answers")
 Sample = tuple[str, str, str]
 
 # Forms at which the tool stops: a caller, a change of it, and a part of the report.

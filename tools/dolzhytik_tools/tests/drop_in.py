@@ -13,9 +13,9 @@ from ..drop_in.test_file import test_file
 from ..errors import Stop
 from ..instructions.table import TABLE
 from ..repository import TOP, text_of
-from .report import end, report
+from .report import end, report, usage_of
 
-USAGE = "The tool.\n\nusage\n\nMore."
+USAGE = usage_of("drop-in")
 
 
 def cases() -> list[Case]:

@@ -13,9 +13,9 @@ from ..instructions.regions import filled
 from ..instructions.table import TABLE, read
 from ..repository import TOP, text_of
 from .report import end as end_of
-from .report import report
+from .report import report, usage_of
 
-USAGE = "The tool.\n\nusage\n\nMore."
+USAGE = usage_of("instructions")
 
 # Bad lines: a name, a line of the table and its change.
 BAD = [

@@ -1,7 +1,17 @@
 """The lines of a test command."""
 from __future__ import annotations
 
+import ast
 from collections.abc import Callable, Iterable, Sequence
+
+from ..repository import TOP, text_of
+
+
+def usage_of(tool: str) -> str:
+    """Returns the head of a command's script, which it prints for unknown options."""
+    found = ast.get_docstring(ast.parse(text_of(TOP / "tools" / tool)), clean=False)
+    assert found, tool
+    return found
 
 
 def report(tool: str, name: str, trouble: str | None) -> bool:

@@ -30,20 +30,13 @@ def define(source: Source, place: int, end: int) -> None:
 
 def enclosing(source: Source, place: int) -> int | None:
     """Returns the first token of the trait or impl around a token, or None for an impl that is erased."""
-    depth = 0
-    at = place
-    while depth >= 0:
-        at -= 1
-        if at < 0:
-            source.stop(place, 'a ghost outside of a trait, an impl and a struct')
-        depth += {'}': 1, '{': -1}.get(source.tokens[at], 0)
-    first = at
-    while first > 0 and source.tokens[first - 1] not in (';', '{', '}'):
-        first -= 1
-    words = source.solid(first, at)
+    header = source.header_around(place)
+    if header is None:
+        source.stop(place, 'a ghost outside of a trait, an impl and a struct')
+    words = source.solid(header.begin, header.end)
     if 'Model' in words or 'struct' in words or not {'trait', 'impl'} & set(words):
         return None
-    return source.skip(first)
+    return source.skip(header.begin)
 
 
 def erase_clauses(source: Source) -> None:

@@ -21,8 +21,8 @@ class Feature:
     item: str
     feature: str
 
-# The libraries, and the module of the package that each becomes. A module within another is declared there. All but `reader` are
-# private in the package.
+# The libraries, and the module of the package that each becomes. A module within another is declared
+# there. All but `reader` are private in the package.
 LIBRARIES = {
     'wasm_base': 'base',
     'wasm_immediates': 'immediates',
