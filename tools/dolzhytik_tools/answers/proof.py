@@ -85,7 +85,7 @@ class Proof:
         return "\n".join([MARK, *self.imports(last), "", "pub %s : goal.%s" % (self.goal, self.goal), *body, ""])
 
     def inlined(self, last: str) -> str:
-        """Returns the term of the last line where `last` is only its name."""
+        """Returns the term of the last line, if `last` is only its name."""
         if self.lines and re.fullmatch(r"let %s = .* in" % re.escape(last), self.lines[-1]):
             return self.lines.pop()[len("let %s = " % last) : -len(" in")]
         return last

@@ -23,7 +23,7 @@ class NamedClause:
 
 @dataclass
 class Function:
-    """A function outside of impls: what it takes and promises, and the tokens of its body."""
+    """A function outside of impls: its signature, its clauses, and the tokens of its body."""
 
     source: Source
     name: str
@@ -41,7 +41,7 @@ class Function:
 
 @dataclass
 class Source:
-    """A file of src/, its functions by their names, and where imported names are from."""
+    """A file of src/: its functions and constants by their names, and the modules of imported names."""
 
     crate: Crate
     path: pathlib.Path

@@ -1,4 +1,4 @@
-"""What the sources of crates define: functions, type aliases, fields and constants."""
+"""The definitions of sources: functions, type aliases, fields and constants."""
 from __future__ import annotations
 
 import pathlib

@@ -23,7 +23,7 @@ from dataclasses import dataclass
 
 from ..rattle import lexer
 from ..rattle.functions import Function, functions_of
-from .crates import text_of
+from ..repository import text_of
 from .edits import Edit
 
 # The proof files of one function. No other function cites them.

@@ -6,16 +6,11 @@ import os
 import sys
 from typing import NamedTuple
 
+from ..repository import text_of
 from .kit import KIT
 from .processes import started
 
 PARTS = ("src", "specs", "proofs")
-
-
-def text_of(file: str) -> str:
-    """Returns the text of a file."""
-    with open(file, encoding="utf-8") as it:
-        return it.read()
 
 
 class Listed(NamedTuple):

@@ -9,7 +9,8 @@ from collections.abc import Iterator, Sequence
 from dataclasses import dataclass, field
 
 from ..rattle.functions import Function, function_around
-from .crates import PARTS, text_of
+from ..repository import text_of
+from .crates import PARTS
 
 # The folders of a crate's mutants. Those under must-fail have a file each, of the form of `rt ci`.
 FOLDERS = ("wrong", "inner", "must-fail")

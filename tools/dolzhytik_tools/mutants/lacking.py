@@ -6,7 +6,8 @@ import os
 import re
 
 from ..rattle.functions import Function, blanked, functions_of
-from .crates import Repository, text_of
+from ..repository import text_of
+from .crates import Repository
 from .edits import Edit, edits_of
 from .say import say
 

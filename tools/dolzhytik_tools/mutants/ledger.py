@@ -12,7 +12,8 @@ import tempfile
 from collections.abc import Iterator, Sequence
 from datetime import date
 
-from .crates import text_of
+from ..repository import text_of
+
 
 # After how many gates each mutant of the ledger is tried again, with a commit a day.
 SHARES = 20

@@ -7,8 +7,9 @@ import tempfile
 from datetime import date
 
 from ..rattle.functions import functions_of
+from ..repository import text_of
 from . import checksums, ledger
-from .crates import Repository, build_below, text_of, words_of
+from .crates import Repository, build_below, words_of
 from .edits import Edit, edits_of
 from .judging import judging
 from .say import say

@@ -1,4 +1,4 @@
-"""What a check reports of each function that it did not prove."""
+"""The report of a check on the functions that it did not prove."""
 from __future__ import annotations
 
 import re

@@ -1,4 +1,4 @@
-"""What the generator of Rust erases and changes, and where each crate goes. Each entry has its reason."""
+"""The lists of the generator of Rust: crates, and what it erases or changes, each with its reason."""
 from __future__ import annotations
 
 from dataclasses import dataclass
