@@ -19,7 +19,8 @@ TEXTS = ['a', 'main', 'add one', '  spaces  ', 'na\u00efve', '\u65e5\u672c', 'x'
 
 
 def line_of(rng: random.Random) -> str:
-    """Returns a line: a command with its arguments, at times with others, with one more or one less."""
+    """Returns a line: a command with its arguments, at times with others, with one more or one
+    less."""
     command = rng.choice(WORDS[:9]) if rng.random() < 0.93 else rng.choice(WORDS)
     number = rng.choice(PLACES) if rng.random() < 0.3 else str(rng.randrange(1 << rng.randrange(1, 40)))
     data = ''.join(rng.choice('0123456789abcdefABCDEF') for _ in range(2 * rng.randrange(40)))
@@ -38,7 +39,8 @@ def line_of(rng: random.Random) -> str:
 
 
 def recipe_of(rng: random.Random) -> bytes:
-    """Returns a recipe: lines, at times empty ones, with either line end, and at times bytes that are not UTF-8."""
+    """Returns a recipe: lines, at times empty ones, with either line end, and at times bytes that
+    are not UTF-8."""
     lines = [line_of(rng) if rng.random() < 0.95 else '' for _ in range(rng.choice([0, 1, 1, 2, 3, 5, 8, 13, 40]))]
     text = rng.choice(['\n', '\n', '\n', '\r\n']).join(lines).encode()
     if rng.random() < 0.03:

@@ -1,4 +1,5 @@
-"""The proofs of bodies and builders after a borrow: the prover finds that the borrow changed nothing."""
+"""The proofs of bodies and builders after a borrow: the prover finds that the borrow changed
+nothing."""
 from __future__ import annotations
 
 from .proof import Proof

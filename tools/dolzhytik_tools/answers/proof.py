@@ -54,7 +54,8 @@ class Proof:
         return name
 
     def step(self, name: str) -> str:
-        """Returns the prover's name of a step: the first of a name has no number, the next ones have."""
+        """Returns the prover's name of a step: the first of a name has no number, the next ones
+        have."""
         self.steps[name] = self.steps.get(name, 0) + 1
         return name if self.steps[name] == 1 else "%s-%d" % (name, self.steps[name])
 

@@ -21,8 +21,8 @@ class Scope:
         self.iterations: dict[str, CopiedSteps] = {}
 
     def settled(self, tree: Tree) -> Tree:
-        """Returns the tree that a name was bound to, or the value of a constant. A name that a call bound
-        stays."""
+        """Returns the tree that a name was bound to, or the value of a constant. A name that a call
+        bound stays."""
         while isinstance(tree, (Reference, Path)):
             if isinstance(tree, Reference):
                 tree = tree.inner

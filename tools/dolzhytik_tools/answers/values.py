@@ -59,8 +59,8 @@ class Body(Known):
 
 @dataclass
 class Constant(Known):
-    """An expression. `rows` are its instructions, if they are known. `wide` proves an expression that
-    was given as bytes, with padded numbers."""
+    """An expression. `rows` are its instructions, if they are known. `wide` proves an expression
+    that was given as bytes, with padded numbers."""
 
     rows: list[str] | None = None
     wide: str | None = None

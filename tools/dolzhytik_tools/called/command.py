@@ -24,8 +24,8 @@ class Exempt:
     key: Key
 
 
-# Each with its reason. One that begins with `awaits` says that a caller is still to be written. An entry
-# that is not needed is a failure.
+# Each with its reason. One that begins with `awaits` says that a caller is still to be written. An
+# entry that is not needed is a failure.
 EXCEPTIONS: dict[Exempt, str] = {}
 
 MODULE = re.compile(r"^pub mod (\w+);", re.MULTILINE)

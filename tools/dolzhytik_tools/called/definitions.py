@@ -38,7 +38,8 @@ class Function:
 
     @property
     def shown_owner(self) -> str:
-        """The name of the owner with the arguments that the impl does not leave open, or an empty text."""
+        """The name of the owner with the arguments that the impl does not leave open, or an empty
+        text."""
         if self.owner is None:
             return ""
         closed = [it.name for it in self.owner.arguments if it.name not in self.generics]

@@ -11,7 +11,8 @@ from .types import UNKNOWN, Parsed, Type, types_in
 UNWRAPPING = {"unwrap", "expect", "unwrap_or", "unwrap_or_default"}
 RESULTS = {"R", "Result", "Option"}
 LISTS = ("[]", "Vec", "Iter", "IntoIter")
-# Methods of std whose result has the type of the receiver here, and those that return an item of it.
+# Methods of std whose result has the type of the receiver here, and those that return an item of
+# it.
 SAME = ("iter", "into_iter", "as_slice", "iter_mut", "as_ref", "as_mut", "map_err", "ok", "by_ref")
 ITEM = ("next", "first", "last", "get", "pop")
 
@@ -119,7 +120,8 @@ class Expressions:
         return self.known.settled(near[0].result) if len({it.result for it in near}) == 1 else UNKNOWN
 
     def method(self, type_: Type, name: str) -> Function | None:
-        """Adds the methods of this name that a value of the type may have, and returns the first one."""
+        """Adds the methods of this name that a value of the type may have, and returns the first
+        one."""
         known = self.known.methods.get((type_.name, name), [])
         fits = [it for it in known if it.owner and type_.has_methods_of(self.known.settled(it.owner), it.generics)]
         self.called.update(it.key for it in fits)

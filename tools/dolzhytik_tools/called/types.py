@@ -29,8 +29,8 @@ class Type:
         return self.arguments[index] if index < len(self.arguments) else UNKNOWN
 
     def has_methods_of(self, owner: Type, generics: Collection[str]) -> bool:
-        """Returns whether a value of this type has the methods of an impl for `owner`, which leaves its
-        generics open."""
+        """Returns whether a value of this type has the methods of an impl for `owner`, which leaves
+        its generics open."""
         if owner.name != self.name:
             return False
         for wanted, given in zip(owner.arguments, self.arguments):

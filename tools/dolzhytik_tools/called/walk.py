@@ -96,7 +96,8 @@ class Walk:
         return Binding(self.ends(at, end), pattern, found)
 
     def ends(self, at: int, end: int) -> int:
-        """Returns where names begin to hold: behind the statement, or in the block behind the condition."""
+        """Returns where names begin to hold: behind the statement, or in the block behind the
+        condition."""
         while at < end and self.words[at] not in (";", "{", "else"):
             at = behind(self.words, at) if self.words[at] in ("(", "[") else at + 1
         return at

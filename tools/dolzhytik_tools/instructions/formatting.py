@@ -51,8 +51,8 @@ def split(text: str) -> list[str]:
 
 
 def is_short(text: str) -> bool:
-    """Returns whether the fields, arguments and items of a value are short enough for one line. A list
-    that is the only argument counts alone."""
+    """Returns whether the fields, arguments and items of a value are short enough for one line. A
+    list that is the only argument counts alone."""
     for it in re.finditer(r"[\[{]|\((?!&?\[)", text):
         depth, end = 1, it.end()
         while depth:

@@ -1,7 +1,7 @@
 """Regions that the tool writes within files that people write.
 
-A region is between a line `// begin: written by tools/instructions` and a line `// end: ..`, in .antt
-files with `--`. Both keep the indentation of the lines between them.
+A region is between a line `// begin: written by tools/instructions` and a line `// end: ..`, in
+.antt files with `--`. Both keep the indentation of the lines between them.
 """
 from __future__ import annotations
 
@@ -16,8 +16,8 @@ BY = "written by tools/instructions"
 
 @dataclass(frozen=True)
 class Region:
-    """The text of a region, and the lines before it: each of `behind` begins a line, in this order, and
-    the region is right behind the last one. The first one begins no other line of the file."""
+    """The text of a region, and the lines before it: each of `behind` begins a line, in this order,
+    and the region is right behind the last one. The first one begins no other line of the file."""
 
     behind: tuple[str, ...]
     text: str
@@ -62,7 +62,8 @@ class Marks:
 
 
 def place(path: str, lines: Sequence[str], at: int, begins: str) -> int:
-    """Returns the index of the first line from `at` on that begins so; an empty text is an empty line."""
+    """Returns the index of the first line from `at` on that begins so; an empty text is an empty
+    line."""
     for i in range(at, len(lines)):
         if lines[i].startswith(begins) if begins else not lines[i]:
             return i

@@ -132,8 +132,8 @@ def case_of(line: int, text: str) -> Case:
 
 
 def read(text: str) -> list[Case]:
-    """Returns the cases of the table. Each is there once, in the order of opcodes; only the forms of one
-    instruction share an opcode."""
+    """Returns the cases of the table. Each is there once, in the order of opcodes; only the forms
+    of one instruction share an opcode."""
     head, *lines = text.removesuffix("\n").split("\n")
     if head != HEAD:
         raise Stop(f"{TABLE}:1: not the names of the columns")

@@ -73,7 +73,8 @@ def symbols_of(name: str) -> list[str]:
 
 
 def build_below(repository: Repository, names: list[str]) -> None:
-    """Builds the libraries below crates by `rt lib`, unless `rt ci` has built all: the two do not mix."""
+    """Builds the libraries below crates by `rt lib`, unless `rt ci` has built all: the two do not
+    mix."""
     needed = list(dict.fromkeys(dep for name in names for dep in below(repository, name)))
     if all(map(is_of_the_gate, needed)):
         return

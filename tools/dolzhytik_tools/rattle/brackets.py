@@ -79,7 +79,8 @@ def behind_item(words: Sequence[str], at: int) -> int:
 
 
 def parts(words: Sequence[str], within: Span) -> Iterator[Span]:
-    """Yields what is between the commas of a list that are in no brackets; empty parts are left out."""
+    """Yields what is between the commas of a list that are in no brackets; empty parts are left
+    out."""
     at = start = within.begin
     while at < within.end:
         if words[at] in CLOSING:

@@ -1,4 +1,5 @@
-"""Tests of tools/answers: proof files that are written, forms at which the tool stops, files that a person wrote, and `--check`. They need no prover."""
+"""Tests of tools/answers: proof files that are written, forms at which the tool stops, files that a
+person wrote, and `--check`. They need no prover."""
 from __future__ import annotations
 
 import contextlib
@@ -109,7 +110,8 @@ def stop_trouble(caller: Sample, change: tuple[str, str], part: str) -> str | No
 
 
 def clause_trouble() -> str | None:
-    """A function with a `requires`, and one with two clauses, are left; one with no clause has no answers."""
+    """A function with a `requires`, and one with two clauses, are left; one with no clause has no
+    answers."""
     with tempfile.TemporaryDirectory() as name:
         text = function_of(SUM)
         folder = Folder(name, text.replace("    ensures", "    requires { index ≡ 0 }\n    ensures"))

@@ -10,8 +10,8 @@ from ..called.command import CRATES, EXCEPTIONS, OUTERMOST, Exempt, check
 from ..called.definitions import Key
 from .report import run_all
 
-# A library: two types with methods of one name, a type over a kind with an alias of each, and a free
-# function.
+# A library: two types with methods of one name, a type over a kind with an alias of each, and a
+# free function.
 ROOT = """
 mod parts;
 pub use parts::{First, Second, Counted, Ones, Twos, One, Two, Whole, make};

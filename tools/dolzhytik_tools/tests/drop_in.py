@@ -1,4 +1,5 @@
-"""Tests of tools/drop-in: a proved sink that the table does not fit, the enum's match, and changed files."""
+"""Tests of tools/drop-in: a proved sink that the table does not fit, the enum's match, and changed
+files."""
 from __future__ import annotations
 
 import pathlib

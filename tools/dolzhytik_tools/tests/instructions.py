@@ -1,5 +1,5 @@
-"""Tests of tools/instructions: lines of the table at which it stops, and the files that change with a line,
-a source and the lines around a region."""
+"""Tests of tools/instructions: lines of the table at which it stops, and the files that change with
+a line, a source and the lines around a region."""
 from __future__ import annotations
 
 import pathlib

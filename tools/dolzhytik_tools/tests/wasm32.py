@@ -1,4 +1,5 @@
-"""Tests of tools/wasm32: copies of tests, a machine without a compiler, and apt's lists that lack one."""
+"""Tests of tools/wasm32: copies of tests, a machine without a compiler, and apt's lists that lack
+one."""
 from __future__ import annotations
 
 import os
@@ -90,7 +91,8 @@ mod inner {
 pub use other::{A, B};
 '''
 
-# Stand-ins. The compiler has the target in `lib`. apt's lists lack the package, and newer ones have it.
+# Stand-ins. The compiler has the target in `lib`. apt's lists lack the package, and newer ones have
+# it.
 STAND_INS = {
     'cargo': 'exit 0',
     'rustc': 'echo "$PWD/lib"',

@@ -30,7 +30,8 @@ def asked(crate: Crate, source: Source, place: int) -> str:
 
 @dataclass(frozen=True)
 class Owner:
-    """The type or trait of a function, and whether it is a public trait, whose functions are public."""
+    """The type or trait of a function, and whether it is a public trait, whose functions are
+    public."""
 
     name: str = ''
     is_public_trait: bool = False

@@ -6,8 +6,8 @@ from .source import Source
 
 
 def erase_ghosts(source: Source) -> None:
-    """Erases ghost members and ghost `use`s with their documentation: up to the semicolon, or the comma of
-    a field."""
+    """Erases ghost members and ghost `use`s with their documentation: up to the semicolon, or the
+    comma of a field."""
     for place, token in enumerate(source.tokens):
         if token != 'ghost' or source.taken[place]:
             continue
@@ -29,7 +29,8 @@ def define(source: Source, place: int, end: int) -> None:
 
 
 def enclosing(source: Source, place: int) -> int | None:
-    """Returns the first token of the trait or impl around a token, or None for an impl that is erased."""
+    """Returns the first token of the trait or impl around a token, or None for an impl that is
+    erased."""
     header = source.header_around(place)
     if header is None:
         source.stop(place, 'a ghost outside of a trait, an impl and a struct')
@@ -59,7 +60,8 @@ def erase_clauses(source: Source) -> None:
 
 
 def turn_proved_constants(source: Source) -> None:
-    """Has rustc evaluate what is proved of constants: `const _: () = prove!(..);` becomes an `assert!`."""
+    """Has rustc evaluate what is proved of constants: `const _: () = prove!(..);` becomes an
+    `assert!`."""
     for place, token in enumerate(source.tokens):
         if token == 'prove' and source.solid(max(0, place - 16), place)[-6:] == ['const', '_', ':', '(', ')', '=']:
             source.edit(place, place + 1, 'assert', 'constant')

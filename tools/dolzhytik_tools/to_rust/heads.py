@@ -69,8 +69,8 @@ def head_and_rest(text: str) -> tuple[str, str]:
 
 
 def inner_modules(crate: Crate, relative: str | pathlib.Path) -> str:
-    """Returns what a file has of the libraries within its crate's module: the root has their names, and
-    the module of laws their laws."""
+    """Returns what a file has of the libraries within its crate's module: the root has their names,
+    and the module of laws their laws."""
     inner = inner_libraries(crate)
     if str(relative) == 'lib.rt':
         lines = [f'pub(crate) mod {module};' for module, _ in inner] + [f'pub use {module}::*;' for module, _ in inner]

@@ -87,7 +87,8 @@ class Source:
             self.stop(place, str(unclosed))
 
     def after(self, place: int, *words: str) -> int | None:
-        """Returns the token after these, which begin at `place` but for spaces and comments, or None."""
+        """Returns the token after these, which begin at `place` but for spaces and comments, or
+        None."""
         for word in words:
             place = self.skip(place)
             if place >= len(self.tokens) or self.tokens[place] != word:
@@ -105,7 +106,8 @@ class Source:
         return [self.tokens[at] for at in range(first, end) if not self.blank[at]]
 
     def header_around(self, place: int) -> brackets.Span | None:
-        """Returns the tokens before the brace of the block around a token, or None outside of blocks."""
+        """Returns the tokens before the brace of the block around a token, or None outside of
+        blocks."""
         depth, at = 0, place
         while depth >= 0:
             at -= 1

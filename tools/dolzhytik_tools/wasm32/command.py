@@ -19,8 +19,8 @@ NOT_RUN = 77
 
 
 def run(names: list[str]) -> tuple[int, int]:
-    """Runs test programs, and compares recipes, whose native results are made meanwhile. Returns how many
-    tests passed and failed."""
+    """Runs test programs, and compares recipes, whose native results are made meanwhile. Returns
+    how many tests passed and failed."""
     compiler()
     if not shutil.which('node'):
         raise NotRun('there is no node')

@@ -1,7 +1,8 @@
 """Turns a file of Rust tests into one that needs no std, for tools/wasm32.
 
-`#[test]` needs std, so the copy has plain functions, whose paths it lists. Paths of `std` become paths of the harness
-(rust/wasm32/harness.rs), and each module uses the prelude of the harness. The file is laid out as rustfmt does it.
+`#[test]` needs std, so the copy has plain functions, whose paths it lists. Paths of `std` become
+paths of the harness (rust/wasm32/harness.rs), and each module uses the prelude of the harness.
+The file is laid out as rustfmt does it.
 """
 from __future__ import annotations
 
@@ -57,7 +58,8 @@ def without_name(line: str, name: str) -> str:
 
 
 def without(text: str, heads: list[str]) -> str:
-    """Returns the text of a file without the items that begin so, and the names of the form `name of use path`."""
+    """Returns the text of a file without the items that begin so, and the names of the form `name
+    of use path`."""
     lines = text.split('\n')
     for head in heads:
         name, _, use = head.rpartition(' of ')

@@ -17,8 +17,8 @@ PROGRAMS = [
 SHARED = ['callers', 'examples', 'read_back', 'support', 'test_support']
 PROCESS = 'a process'
 NEED_PROCESSES = {'compiled', 'program'}
-# The items that are left out, by their files and their needs. A `usize` literal past 32 bits doesn't
-# compile.
+# The items that are left out, by their files and their needs. A `usize` literal past 32 bits
+# doesn't compile.
 LONG = 'a length past 32 bits'
 STREAMS = 'std::io'
 LEFT_OUT = {

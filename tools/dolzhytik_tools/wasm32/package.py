@@ -63,7 +63,8 @@ def folder(name: str, root: list[str]) -> list[str]:
 
 
 def program(name: str) -> list[str]:
-    """Writes the copy of a test program, whose root has the harness and the list of its tests, and returns their names."""
+    """Writes the copy of a test program, whose root has the harness and the list of its tests, and
+    returns their names."""
     main = HARNESS / 'limits.rs' if name == 'limits' else TESTS / name / 'main.rs'
     root = copy(main, f'{name}/main', [])
     tests = root.tests + folder(name, [])

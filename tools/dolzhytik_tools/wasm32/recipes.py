@@ -1,7 +1,9 @@
-"""Assembles random recipes by the native program `wasmrow` and by `assemble` of the JavaScript package, for tools/wasm32.
+"""Assembles random recipes by the native program `wasmrow` and by `assemble` of the JavaScript
+package, for tools/wasm32.
 
-tools/both-builds makes the recipes. The modules, and the lines and causes of errors, must be equal. The recipes and the
-native results are kept in rust/target/wasm32/recipes while the program and the generator stay the same.
+tools/both-builds makes the recipes. The modules, and the lines and causes of errors, must be
+equal. The recipes and the native results are kept in rust/target/wasm32/recipes while the
+program and the generator stay the same.
 """
 from __future__ import annotations
 

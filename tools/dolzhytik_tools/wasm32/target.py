@@ -1,8 +1,10 @@
-"""Finds or makes a compiler for wasm32-unknown-unknown: rustup's, where that target is installed, or one of Debian's packages.
+"""Finds or makes a compiler for wasm32-unknown-unknown: rustup's, where that target is installed,
+or one of Debian's packages.
 
-Debian's rustc-web is unpacked, not installed, and core and alloc are compiled from its source, which takes a minute once.
-Where apt's lists lack the package, or name one that is gone, newer lists are fetched into a folder of their own. All
-that is made is in rust/target/wasm32. There is no std.
+Debian's rustc-web is unpacked, not installed, and core and alloc are compiled from its source,
+which takes a minute once. Where apt's lists lack the package, or name one that is gone, newer
+lists are fetched into a folder of their own. All that is made is in rust/target/wasm32. There is
+no std.
 """
 from __future__ import annotations
 
@@ -100,7 +102,8 @@ def apt(command: str, *words: str, options: dict[str, str] = APT_OPTIONS, second
 
 
 def fetched(folder: pathlib.Path) -> bool:
-    """Downloads the packages, by apt's lists or newer ones of its own, and returns whether they are there."""
+    """Downloads the packages, by apt's lists or newer ones of its own, and returns whether they are
+    there."""
     for made in ('state/lists/partial', 'cache/archives/partial'):
         (APT / made).mkdir(parents=True, exist_ok=True)
     if downloaded(folder, APT_OPTIONS):
@@ -119,8 +122,8 @@ def downloaded(folder: pathlib.Path, options: dict[str, str]) -> bool:
 
 
 def packages(options: dict[str, str]) -> list[str]:
-    """Returns the packages of the compiler, of its libraries and of its source, or none if apt knows no
-    compiler that is new enough."""
+    """Returns the packages of the compiler, of its libraries and of its source, or none if apt
+    knows no compiler that is new enough."""
     wanted: list[str] = []
     new = ['rustc-web', 'rust-web-src']
     while new:
@@ -135,7 +138,8 @@ def packages(options: dict[str, str]) -> list[str]:
 
 
 def sysroot(folder: pathlib.Path) -> pathlib.Path:
-    """Compiles the libraries of the target from the unpacked source, and writes a rustc that uses them."""
+    """Compiles the libraries of the target from the unpacked source, and writes a rustc that uses
+    them."""
     usr = folder / 'root/usr'
     source = next(usr.glob('src/rustc-*/library'))
     libraries = folder / 'made/lib/rustlib' / TARGET / 'lib'
@@ -160,7 +164,8 @@ def sysroot(folder: pathlib.Path) -> pathlib.Path:
 
 
 def replace_links(folder: pathlib.Path) -> None:
-    """Puts files in the place of links to them, and removes other links: `rt ci` rejects links in the repository."""
+    """Puts files in the place of links to them, and removes other links: `rt ci` rejects links in
+    the repository."""
     for link in [path for path in folder.rglob('*') if path.is_symlink()]:
         file = link.resolve()
         link.unlink()

@@ -52,8 +52,8 @@ class Both:
         return json.loads(self.node.stdout.readline())
 
     def of_program(self, path: pathlib.Path, *words: str | pathlib.Path) -> tuple[str | None, str | None]:
-        """Returns the output of `dolzhytik`, or its message as JavaScript has it: without the names of the
-        program and of the file, and with the JavaScript name of the option."""
+        """Returns the output of `dolzhytik`, or its message as JavaScript has it: without the names
+        of the program and of the file, and with the JavaScript name of the option."""
         done = subprocess.run([self.programs / 'dolzhytik', *words], capture_output=True)
         if done.returncode == 0:
             return done.stdout.decode(), None

@@ -27,8 +27,8 @@ def build() -> None:
 
 
 def modules(folder: pathlib.Path) -> list[pathlib.Path]:
-    """Builds the modules that rustc makes of the package: its own, one with debugging information, and one
-    for a linker, with relocations."""
+    """Builds the modules that rustc makes of the package: its own, one with debugging information,
+    and one for a linker, with relocations."""
     cargo('build', '--locked', '--manifest-path', MANIFEST, '--config', 'profile.release.strip=false', '--config', 'profile.release.debug=2')
     shutil.copyfile(OUT / TARGET / 'release/dolzhytik_web.wasm', folder / 'debug.wasm')
     cargo('rustc', '--locked', '--manifest-path', MANIFEST, '--', '--emit', f'obj={folder / "linked.wasm"}')
