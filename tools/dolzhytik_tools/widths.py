@@ -1,9 +1,10 @@
-"""Finds arithmetic and casts in Rust, for the table tools/widths.tsv of why each is right where `usize` has 32 bits.
+"""Finds arithmetic and casts in Rust, for the table tools/widths.tsv of why each is right where
+`usize` has 32 bits.
 
-An expression is listed by the file, the function and its text: each that has `+`, `-`, `*`, `<<`, a
-cast to a primitive type, or a call of an integer's method that adds, subtracts, multiplies or shifts.
-Its type is not known here: the table says it. Division and remainder are not listed, since their
-results are not larger than what is divided.
+An expression is listed by the file, the function and its text: each that has `+`, `-`, `*`,
+`<<`, a cast to a primitive type, or a call of an integer's method that adds, subtracts,
+multiplies or shifts. Its type is not known here: the table says it. Division and remainder are
+not listed, since their results are not larger than what is divided.
 """
 from __future__ import annotations
 

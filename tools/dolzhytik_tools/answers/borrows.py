@@ -1,4 +1,5 @@
-"""What is known of a builder that another value has borrowed: the prover finds that it is the same after."""
+"""The proofs of bodies and builders after a borrow: the prover finds that the borrow changed
+nothing."""
 from __future__ import annotations
 
 from .proof import Proof

@@ -1,4 +1,4 @@
-"""The clause of a function: what is to be proved of its result."""
+"""The clause of a function, which the tool proves."""
 from __future__ import annotations
 
 import re

@@ -29,7 +29,8 @@ class ClauseTerms:
         return shown(self.term(listed[section.count - 1]))
 
     def term(self, text: str) -> str:
-        """Returns a term of the clause in the proof: parameters become `c.args`, and words are imported."""
+        """Returns a term of the clause in the proof: parameters become `c.args`, and words are
+        imported."""
         found = joined([self.word(it) for it in words_of(text)])
         if re.search(r"λ (\w+)\.", text):
             raise Stop("a function in its clause")

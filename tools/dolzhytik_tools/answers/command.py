@@ -34,7 +34,7 @@ class Answer:
 
 @dataclass
 class Counts:
-    """How many files are as the tool writes them, and how many are not."""
+    """The numbers of files that are as the tool writes them, and of others."""
 
     passed: int = 0
     failed: int = 0

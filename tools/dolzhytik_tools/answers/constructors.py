@@ -76,7 +76,7 @@ def constant(caller: Caller, name: str, call: Call) -> Constant:
 
 
 def begun(caller: Caller, kind: str, term: str) -> str:
-    """Returns what a new builder holds: with padded numbers where the clause allows them."""
+    """Returns the proof of a new builder, with padded numbers if the clause allows them."""
     if not caller.clause.is_padded:
         return term
     if kind == "CodeSection":

@@ -60,7 +60,7 @@ class Evidence:
         return "(neg_ℤ (pos %d))" % -value if value < 0 else "(pos %d)" % value
 
     def name(self, tree: Tree) -> Shown:
-        """A name, and why it is UTF-8. The caller imports the lemma `ascii` where it uses the reason."""
+        """A name, and why it is UTF-8. A caller that uses the reason also calls `use_why`."""
         tree = self.scope.settled(tree)
         if isinstance(tree, Text):
             if not tree.value.isascii() or "\\" in tree.value:
@@ -78,7 +78,7 @@ class Evidence:
             self.proof.lemma("wasm_base", "ascii")
 
     def utf8(self, tree: Tree) -> str:
-        """Why a name is UTF-8."""
+        """Returns why a name is UTF-8."""
         name = self.name(tree)
         self.use_why(name)
         return name.why
@@ -113,7 +113,7 @@ class Evidence:
         return [tree.fields[it] for it in wanted]
 
     def record(self, tree: Tree, name: str) -> str:
-        """Why a record of a section is in range."""
+        """Returns why a record of a section is in range."""
         if name == "MemoryType":
             minimum, maximum, page = self.fields(tree, name, "minimum", "maximum", "page_size_log2")
             whys = self.number(minimum).why, self.optional(maximum).why, self.optional(page).why
@@ -141,7 +141,7 @@ class Evidence:
         raise Stop("what is imported")
 
     def symbol_flags(self, tree: Tree) -> str:
-        """Why the flags of a symbol are in range."""
+        """Returns why the flags of a symbol are in range."""
         tree = self.scope.settled(tree)
         if isinstance(tree, Path) and len(tree.names) == 2 and tree.names[0] == "SymbolTable":
             self.proof.common("arith")
@@ -149,7 +149,7 @@ class Evidence:
         return self.number(tree).why
 
     def core_value(self, tree: Tree) -> str:
-        """Why a value of a core dump is in range."""
+        """Returns why a value of a core dump is in range."""
         tree = self.scope.settled(tree)
         if tree == Path(("CoreDumpValue", "Missing")):
             return "tt"

@@ -112,7 +112,7 @@ class InstructionTerms:
         return "normal_row {A = Global} %s" % shown(text)
 
     def why_written_out(self, tree: Tree) -> str:
-        """Why an instruction that is written as a value is in range."""
+        """Returns why an instruction that is written as a value is in range."""
         if isinstance(tree, Path) and len(tree.names) == 2 and tree.names[0] == "Instruction":
             name, parts = tree.names[1], ()
         elif isinstance(tree, PathCall) and len(tree.path) == 2 and tree.path[0] == "Instruction":

@@ -54,7 +54,8 @@ class Proof:
         return name
 
     def step(self, name: str) -> str:
-        """Returns the prover's name of a step: the first of a name has no number, the next ones have."""
+        """Returns the prover's name of a step: the first of a name has no number, the next ones
+        have."""
         self.steps[name] = self.steps.get(name, 0) + 1
         return name if self.steps[name] == 1 else "%s-%d" % (name, self.steps[name])
 
@@ -85,7 +86,7 @@ class Proof:
         return "\n".join([MARK, *self.imports(last), "", "pub %s : goal.%s" % (self.goal, self.goal), *body, ""])
 
     def inlined(self, last: str) -> str:
-        """Returns the term of the last line where `last` is only its name."""
+        """Returns the term of the last line, if `last` is only its name."""
         if self.lines and re.fullmatch(r"let %s = .* in" % re.escape(last), self.lines[-1]):
             return self.lines.pop()[len("let %s = " % last) : -len(" in")]
         return last

@@ -15,7 +15,8 @@ I32_CONST = 0x41
 
 @dataclass(frozen=True)
 class PaddedNumber:
-    """A LEB128 at the head of bytes: its value, its length in bytes, and the name of the proof of both."""
+    """A LEB128 at the head of bytes: its value, its length in bytes, and the name of the proof of
+    both."""
 
     value: int
     size: int

@@ -43,14 +43,15 @@ class Reading:
 
 
 def reads_back(function: Function) -> bool:
-    """Returns whether a function requires an empty buffer, and promises the section that is read, the
-    bytes of its minimal encoding, and that only memory may lack."""
+    """Returns whether a function requires an empty buffer, and promises the section that is read,
+    the bytes of its minimal encoding, and that only memory may lack."""
     requires, ensures = function.requires, [it.name for it in function.ensures]
     return [it.name for it in requires] == [None] and requires[0].text.endswith(".old.items ≡ []") and ensures == ["read", "same", "memory"]
 
 
 def read_back(function: Function) -> str:
-    """Returns the proof file of such a function: a call that encodes, and one of `read_and_shorten`."""
+    """Returns the proof file of such a function: a call that encodes, and one of
+    `read_and_shorten`."""
     statements, end = Parser(function.body).body()
     buffer = Path((function.requires[0].text.partition(".")[0],))
     if len(statements) != 2 or end != PathCall(("Ok",), (Path(("items",)),)):

@@ -167,7 +167,8 @@ def encoded(caller: Caller, section: Builder, call: Call) -> Encoded:
 
 
 def encoded_custom(caller: Caller, lemma: str, call: Call, content: str) -> Encoded:
-    """A buffer that gains the encoding of a custom section, whose format is an argument of the lemma."""
+    """A buffer that gains the encoding of a custom section, whose format is an argument of the
+    lemma."""
     if caller.clause.is_padded:
         raise Stop("a custom section with padded numbers")
     caller.proof.lemma("wasm_custom", lemma.split()[0])

@@ -21,7 +21,8 @@ class Scope:
         self.iterations: dict[str, CopiedSteps] = {}
 
     def settled(self, tree: Tree) -> Tree:
-        """Returns what a name was bound to without a call, or the value of a constant."""
+        """Returns the tree that a name was bound to, or the value of a constant. A name that a call
+        bound stays."""
         while isinstance(tree, (Reference, Path)):
             if isinstance(tree, Reference):
                 tree = tree.inner

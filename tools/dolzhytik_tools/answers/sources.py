@@ -23,7 +23,7 @@ class NamedClause:
 
 @dataclass
 class Function:
-    """A function outside of impls: what it takes and promises, and the tokens of its body."""
+    """A function outside of impls: its signature, its clauses, and the tokens of its body."""
 
     source: Source
     name: str
@@ -41,7 +41,8 @@ class Function:
 
 @dataclass
 class Source:
-    """A file of src/, its functions by their names, and where imported names are from."""
+    """A file of src/: its functions and constants by their names, and the modules of imported
+    names."""
 
     crate: Crate
     path: pathlib.Path
@@ -83,7 +84,8 @@ class SourceReader:
 
     def function(self, item: items.Function) -> Function:
         parameters = {it.name: list(it.type.of(self.words)) for it in item.parameters}
-        # The tool has no form for a result that is an array, and skips such a function without a word.
+        # The tool has no form for a result that is an array, and skips such a function without a
+        # word.
         is_array = item.result is not None and ";" in item.result.of(self.words)
         known = () if is_array else item.clauses
         clauses = {kind: [self.clause(it) for it in known if it.kind == kind] for kind in ("requires", "ensures")}

@@ -59,8 +59,8 @@ class Body(Known):
 
 @dataclass
 class Constant(Known):
-    """An expression. `rows` are its instructions, where they are known, and `wide` proves the
-    expression with padded numbers, where it was given as bytes."""
+    """An expression. `rows` are its instructions, if they are known. `wide` proves an expression
+    that was given as bytes, with padded numbers."""
 
     rows: list[str] | None = None
     wide: str | None = None
@@ -109,7 +109,7 @@ class Encoded(Known):
 
 @dataclass
 class Promise(Known):
-    """What a call has shown of a list of names."""
+    """The proof by a call that each name of a list is in range."""
 
     names: Tree | None = None
 

@@ -26,7 +26,8 @@ def documentation(case: Case, proved: dict[str, str]) -> str:
 
 
 def body(case: Case, proved: dict[str, str]) -> str:
-    """Returns the body of a call: the proved call, or the encoding of the opcode and the immediates."""
+    """Returns the body of a call: the proved call, or the encoding of the opcode and the
+    immediates."""
     parts = [name for name, _ in case.parts]
     op = "[%s]" % ", ".join("0x%02X" % byte for byte in case.op_bytes()) if case.prefix else "0x%02X_u8" % case.code
     if case.call in proved:

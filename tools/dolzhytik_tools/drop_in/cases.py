@@ -43,7 +43,8 @@ class Case:
         return [self.code] if self.prefix is None else [self.prefix] + unsigned(self.code)
 
     def of(self, parts: list[str]) -> str:
-        """Returns the case with these immediates, in the order of the layout: a value, or a pattern."""
+        """Returns the case with these immediates, in the order of the layout: a value, or a
+        pattern."""
         if self.fields:
             return "%s { %s }" % (self.name, ", ".join(a if a == b else "%s: %s" % (a, b) for a, b in zip(self.fields, parts)))
         return self.name + ("(%s)" % ", ".join(parts) if parts else "")
@@ -68,7 +69,8 @@ def read(text: str) -> list[Case]:
 
 
 def proved_calls(cases: list[Case], text: str) -> dict[str, str]:
-    """Returns the names of calls in the proved sink, whose text this is. Their parameters must be as many."""
+    """Returns the names of calls in the proved sink, whose text this is. Their parameters must be
+    as many."""
     found = re.findall(r"pub fn (\w+)(?:<[^(]*>)?\(&mut self(?:, ([^)]*))?\)", text)
     given = {name: len(re.findall(r"\w+: ", parameters)) for name, parameters in found if name != "op"}
     names = {case.call: PROVED_NAMES.get(case.call, case.call) for case in cases}

@@ -37,8 +37,8 @@ def written_part(case: Case, it: str, ty: str) -> str:
 
 
 def written(case: Case) -> str:
-    """Returns the call that encodes a case: its opcode and its immediates, or the proved value if the fields
-    are not the immediates one by one."""
+    """Returns the call that encodes a case: its opcode and its immediates, or the proved value if
+    the fields are not the immediates one by one."""
     if case.shape == "k":
         return "write_proved(self, sink)"
     parts = [written_part(case, it, ty) for it, ty in zip(case.letters(), case.types)]

@@ -1,1 +1,2 @@
-"""tools/instructions: writes the code, definitions and test rows that follow from the table of instructions."""
+"""tools/instructions: writes the code, definitions and test rows that follow from the table of
+instructions."""

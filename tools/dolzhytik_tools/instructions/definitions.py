@@ -64,8 +64,8 @@ abbrev pub {enum.module}_row : {enum.name} → Plain
 
 
 def all_cases(cases: list[Case]) -> str:
-    """Returns a value of each case, in the order of the table. The second index of a case differs from
-    its first one."""
+    """Returns a value of each case, in the order of the table. The second index of a case differs
+    from its first one."""
     text = ""
     for it in cases:
         fields = " ".join("given.second_index" if part == NUMBER and NUMBER in it.given.parts[:i] else f"given.{part.given}" for i, part in enumerate(it.given.parts))

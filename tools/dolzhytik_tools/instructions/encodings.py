@@ -29,7 +29,8 @@ def little_endian(size: int, n: int) -> list[int]:
 Value = tuple[str, list[int]]
 ANY = "HeapType::Abstract { shared: false, ty: AbstractHeapType::Any }"
 EQ = "HeapType::Abstract { shared: false, ty: AbstractHeapType::Eq }"
-# The fields of each layout, as code and as bytes. Neighbours differ, and some numbers need two bytes.
+# The fields of each layout, as code and as bytes. Neighbours differ, and some numbers need two
+# bytes.
 ONE_BYTE, TWO_BYTES, DEFAULT = ("1", [1]), ("300", unsigned(300)), ("5", [5])
 MEMARG, THIRD_LANE, ACQ_REL = ("MEMARG", unsigned(0x42) + unsigned(1) + unsigned(300)), ("3", [3]), ("Ordering::AcqRel", [1])
 CLAUSES = ("CowSlice::Borrowed(&[Handle::OnLabel { tag: 3, label: 4 }, Handle::OnSwitch { tag: 5 }])", [2, 0, 3, 4, 1, 5])

@@ -18,8 +18,8 @@ CRATE = "crates/wasm_insn"
 TESTS = "tests/wasm_insn_tests/src"
 ATOMIC, VECTOR_IMMEDIATE = ENUMS["Atomic"], ENUMS["VectorImmediate"]
 
-# The functions that clone the cases of `Instruction`, each with the last byte or prefix that it clones. The
-# last function clones the nested enums too.
+# The functions that clone the cases of `Instruction`, each with the last byte or prefix that it
+# clones. The last function clones the nested enums too.
 COPIES = (
     ("pub fn clone(", 0x1F),
     ("fn clone_access(", 0x40),
@@ -42,8 +42,8 @@ def copies(cases: list[Case]) -> list[Region]:
 
 
 def with_arms(enum: Enum, cases: list[Case]) -> list[Region]:
-    """Returns the regions of an enum with fields: its cases, their opcodes, and the code that encodes the
-    fields."""
+    """Returns the regions of an enum with fields: its cases, their opcodes, and the code that
+    encodes the fields."""
     match, indent = "        match self {", " " * 12
     visibility = "" if enum == INSTRUCTION else "pub(crate) "
     return [

@@ -4,6 +4,8 @@ from __future__ import annotations
 import re
 from collections.abc import Iterable
 
+from ..rattle import lexer
+from ..rattle.brackets import Span, parts
 from .table import Case
 
 WIDTH, FIELDS_WIDTH, CASE_WIDTH, LIST_WIDTH = 100, 18, 35, 60
@@ -43,16 +45,14 @@ def block(statements: list[str], indent: str) -> str:
 
 def split(text: str) -> list[str]:
     """Returns the parts of a text between the commas that are in no brackets."""
-    depth, parts = 0, [""]
-    for it in text:
-        depth += (it in "([{") - (it in ")]}")
-        parts = [*parts, ""] if it == "," and not depth else [*parts[:-1], parts[-1] + it]
-    return [it.strip() for it in parts if it.strip()]
+    words = lexer.words_of(text)
+    found = ["".join(it.of(words)).strip() for it in parts(words, Span(0, len(words)))]
+    return [it for it in found if it]
 
 
 def is_short(text: str) -> bool:
-    """Returns whether the fields, arguments and items of a value are short enough for one line. A list
-    that is the only argument counts alone."""
+    """Returns whether the fields, arguments and items of a value are short enough for one line. A
+    list that is the only argument counts alone."""
     for it in re.finditer(r"[\[{]|\((?!&?\[)", text):
         depth, end = 1, it.end()
         while depth:

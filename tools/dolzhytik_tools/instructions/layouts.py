@@ -6,8 +6,8 @@ from dataclasses import dataclass
 
 @dataclass(frozen=True)
 class Part:
-    """A field: its type, its argument in a row, its field in `Given`, and the type of its items if it
-    is a list."""
+    """A field: its type, its argument in a row, its field in `Given`, and the type of its items if
+    it is a list."""
 
     type: str
     argument: str
@@ -31,9 +31,9 @@ TYPES, HANDLES = list_of("ValType", "types"), list_of("Handle", "handles")
 
 @dataclass(frozen=True)
 class Layout:
-    """The immediates of an opcode: the shape and its doc comment, and the fields. `appends` and `looks`
-    are the functions that encode and check the fields, where no method does. `arguments` are those
-    of a row, where they are not those of the fields."""
+    """The immediates of an opcode: the shape and its doc comment, and the fields. `appends` and
+    `looks` are the functions that encode and check the fields, where no method does. `arguments`
+    are those of a row, where they are not those of the fields."""
 
     shape: str
     says: str

@@ -1,7 +1,7 @@
 """Regions that the tool writes within files that people write.
 
-A region is between a line `// begin: written by tools/instructions` and a line `// end: ..`, in .antt
-files with `--`. Both keep the indentation of the lines between them.
+A region is between a line `// begin: written by tools/instructions` and a line `// end: ..`, in
+.antt files with `--`. Both keep the indentation of the lines between them.
 """
 from __future__ import annotations
 
@@ -16,8 +16,8 @@ BY = "written by tools/instructions"
 
 @dataclass(frozen=True)
 class Region:
-    """The text of a region, and the lines before it: each of `behind` begins a line, in this order, and
-    the region is right behind the last one. The first one begins no other line of the file."""
+    """The text of a region, and the lines before it: each of `behind` begins a line, in this order,
+    and the region is right behind the last one. The first one begins no other line of the file."""
 
     behind: tuple[str, ...]
     text: str
@@ -57,12 +57,13 @@ class Marks:
                 begins += found == self.begin
                 wanted = self.end if found == self.begin else self.begin
         if wanted == self.end or begins != count:
-            missing = self.end if wanted == self.end else self.begin
-            raise Stop(f"{path}:{len(lines)}: {begins} regions begin with '{self.begin}', and {count} must; '{missing}' is missing or is there too often")
+            found = f"{begins} regions that begin with '{self.begin}'"
+            raise Stop(f"{path}:{len(lines)}: {found}, of {count}" if begins != count else f"{path}:{len(lines)}: no '{self.end}' up to here")
 
 
 def place(path: str, lines: Sequence[str], at: int, begins: str) -> int:
-    """Returns the index of the first line from `at` on that begins so; an empty text is an empty line."""
+    """Returns the index of the first line from `at` on that begins so; an empty text is an empty
+    line."""
     for i in range(at, len(lines)):
         if lines[i].startswith(begins) if begins else not lines[i]:
             return i

@@ -52,7 +52,8 @@ Body = Callable[[Case, str], tuple[tuple[str, ...], str]]
 
 
 def shared_arms(enum: Enum, cases: list[Case], body: Body, of_nested: str, nothing: str, indent: str) -> str:
-    """Returns the arms of a match in which cases of one layout share an arm, those without fields last."""
+    """Returns the arms of a match in which cases of one layout share an arm, those without fields
+    last."""
     alike: dict[tuple[str, str], list[Case]] = {}
     for it in cases:
         alike.setdefault((it.layout, it.form), []).append(it)

@@ -102,7 +102,7 @@ class Case:
 
 
 def case_of(line: int, text: str) -> Case:
-    """The case of a line."""
+    """Returns the case of a line."""
 
     def stop(why: str) -> Stop:
         return Stop(f"{TABLE}:{line}: {why}: {text}")
@@ -132,7 +132,8 @@ def case_of(line: int, text: str) -> Case:
 
 
 def read(text: str) -> list[Case]:
-    """The cases of the table, each once and in the order of their ops, of which only the forms of one may be the same."""
+    """Returns the cases of the table. Each is there once, in the order of opcodes; only the forms
+    of one instruction share an opcode."""
     head, *lines = text.removesuffix("\n").split("\n")
     if head != HEAD:
         raise Stop(f"{TABLE}:1: not the names of the columns")

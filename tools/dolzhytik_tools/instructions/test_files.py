@@ -5,8 +5,8 @@ from .encodings import bytes_of, value_of
 from .formatting import laid_out
 from .table import INSTRUCTION, NESTED, TABLE, Case, Enum, of_enum
 
-# The order of enums in the tests, and how many instructions one function makes: of all, and of those
-# without fields.
+# The order of enums in the tests, and how many instructions one function makes: of all, and of
+# those without fields.
 TESTED = (INSTRUCTION, *NESTED)
 STEP, NAMES_STEP = 41, 61
 NOTE = f"// Written by tools/instructions from {TABLE}: do not edit.\n"
@@ -28,7 +28,8 @@ const MEMARG: MemArg = MemArg {
 
 
 def named(cases: list[Case]) -> list[Case]:
-    """Returns the cases of nested enums that have no fields: each is a constant of `Instruction` too."""
+    """Returns the cases of nested enums that have no fields: each is a constant of `Instruction`
+    too."""
     return [it for enum in NESTED for it in of_enum(cases, enum) if not it.given.parts]
 
 

@@ -23,7 +23,7 @@ from dataclasses import dataclass
 
 from ..rattle import lexer
 from ..rattle.functions import Function, functions_of
-from .crates import text_of
+from ..repository import text_of
 from .edits import Edit
 
 # The proof files of one function. No other function cites them.
@@ -93,8 +93,9 @@ def functions_in(path: str, source: str) -> dict[Function, str]:
 
 
 def of_function(top: str, function: Function) -> list[str]:
-    """Returns the source of a function, and the proof files of all functions of its name. The functions of
-    a cycle have one proof, so those of a cycle have each other's sources and proof files too."""
+    """Returns the source of a function, and the proof files of all functions of its name. The
+    functions of a cycle have one proof, so those of a cycle have each other's sources and proof
+    files too."""
     own = functions_in(function.path, text_of(f"{top}/{function.path}"))[function]
     others, names = [], {function.name}
     if cycle := CYCLE.search(own):

@@ -6,16 +6,11 @@ import os
 import sys
 from typing import NamedTuple
 
+from ..repository import text_of
 from .kit import KIT
 from .processes import started
 
 PARTS = ("src", "specs", "proofs")
-
-
-def text_of(file: str) -> str:
-    """Returns the text of a file."""
-    with open(file, encoding="utf-8") as it:
-        return it.read()
 
 
 class Listed(NamedTuple):
@@ -78,7 +73,8 @@ def symbols_of(name: str) -> list[str]:
 
 
 def build_below(repository: Repository, names: list[str]) -> None:
-    """Builds the libraries below crates by `rt lib`, unless `rt ci` has built all: the two do not mix."""
+    """Builds the libraries below crates by `rt lib`, unless `rt ci` has built all: the two do not
+    mix."""
     needed = list(dict.fromkeys(dep for name in names for dep in below(repository, name)))
     if all(map(is_of_the_gate, needed)):
         return

@@ -9,7 +9,8 @@ from collections.abc import Iterator, Sequence
 from dataclasses import dataclass, field
 
 from ..rattle.functions import Function, function_around
-from .crates import PARTS, text_of
+from ..repository import text_of
+from .crates import PARTS
 
 # A crate's mutants: those of public and of private functions, in mutants/, and those that `rt ci`
 # tries, with a file each.
@@ -29,8 +30,8 @@ class Place:
 
 @dataclass(eq=False)
 class Edit:
-    """A mutant. `bad` is why it cannot be applied, `target` its function if it changes only one, and `said`
-    the line of the check that is its verdict."""
+    """A mutant. `bad` is why it cannot be applied, `target` its function if it changes only one,
+    and `said` the line of the check that is its verdict."""
 
     label: str
     text: str
@@ -136,7 +137,8 @@ def read_edit(crate, name, text, at=""):
 
 
 def place_of(old, behind, text):
-    """Returns the offset of a text that is in another once, or of the first one behind a text that is; or None."""
+    """Returns the offset of a text that is in another once, or of the first one behind a text that
+    is; or None."""
     if text.count(behind or old) != 1:
         return None
     at = text.find(old, text.find(behind) + len(behind))

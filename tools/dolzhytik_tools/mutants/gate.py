@@ -26,8 +26,8 @@ class Gate:
         self.waiting = self.not_held()
 
     def not_held(self) -> dict[str, list[Edit]]:
-        """Returns the mutants of each crate to try: those that the ledger lacks, and those of the day's
-        share, or all."""
+        """Returns the mutants of each crate to try: those that the ledger lacks, and those of the
+        day's share, or all."""
         lines = ledger.Ledger(LEDGER).lines()
         held = [label for label, it in self.sums.items() if lines.get(label) == it]
         again: set[str] = set()
@@ -64,7 +64,8 @@ class Gate:
         say(f"{tries.name}: {len(tried)} mutants in {tries.checks} checks, {tries.seconds:.0f} s of processor time")
 
     def run(self) -> tuple[int, int]:
-        """Tries the mutants, those of large crates first. Returns how many were rejected, and how many not."""
+        """Tries the mutants, those of large crates first. Returns how many were rejected, and how
+        many not."""
         names = sorted(filter(self.waiting.get, self.waiting), key=lambda it: -self.size(it))
         build_below(self.repository, names)
         with ThreadPoolExecutor(self.args.at_once) as pool:

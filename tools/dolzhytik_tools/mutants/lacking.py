@@ -6,20 +6,22 @@ import os
 import re
 
 from ..rattle.functions import Function, blanked, functions_of
-from .crates import Repository, text_of
+from ..repository import text_of
+from .crates import Repository
 from .edits import Edit, edits_of
 from .say import say
 
-# Functions whose type leaves one result: `Refusing::new` has one value of the type parameter, and an
-# instruction that is passed by value is in the range of its type.
+# Functions whose type leaves one result: `Refusing::new` has one value of the type parameter, and
+# an instruction that is passed by value is in the range of its type.
 SETTLED = {("test_support", "src/memory.rt", "new"), ("wasm_insn", "src/ranged.rt", "ranged")}
-# Crates whose results a driver compares with those of its own encoder: their mutants may be in mutants/private.
+# Crates whose results a driver compares with those of its own encoder: their mutants may be in
+# inner/.
 DRIVEN = {"wasm_bench"}
 
 
 def owes_edit(source: str, function: Function, head: int, body: int, end: int) -> bool:
-    """Returns whether a function needs a mutant: its body is not empty, and it is public with a clause, or of
-    a trait."""
+    """Returns whether a function needs a mutant: its body is not empty, and it is public with a
+    clause, or of a trait."""
     text = blanked(source)
     if function.name == "drop" or not re.sub(r"//[^\n]*", "", source[body + 1 : end - 1]).strip():
         return False
@@ -31,8 +33,9 @@ def owes_edit(source: str, function: Function, head: int, body: int, end: int) -
 
 
 def lacking(repository: Repository, args: argparse.Namespace) -> tuple[int, int]:
-    """Names the functions that need a mutant and have none, and the mutants of private functions that cannot
-    be applied. Returns how many functions have a mutant, and how many of both were named."""
+    """Names the functions that need a mutant and have none, and the mutants of private functions
+    that cannot be applied. Returns how many functions have a mutant, and how many of both were
+    named."""
     has_one: list[bool] = []
     for name in args.names or repository:
         if os.path.isfile(f"crates/{name}/src/lib.rt"):

@@ -1,5 +1,5 @@
-"""The ledger of rejected mutants: tools/mutants.ledger, a line 'CRATE/MUTANT CHECKSUM' for each mutant that
-the prover rejected. checksums.py says of what a checksum is."""
+"""The ledger of rejected mutants: tools/mutants.ledger, a line 'CRATE/MUTANT CHECKSUM' for each
+mutant that the prover rejected. checksums.py says of what a checksum is."""
 from __future__ import annotations
 
 import contextlib
@@ -12,7 +12,8 @@ import tempfile
 from collections.abc import Iterator, Sequence
 from datetime import date
 
-from .crates import text_of
+from ..repository import text_of
+
 
 # After how many gates each mutant of the ledger is tried again, with a commit a day.
 SHARES = 20
@@ -25,14 +26,15 @@ def day_of_commit() -> date:
 
 
 def share_of(names: Sequence[str], day: date) -> set[str]:
-    """Returns the twentieth of the names that is tried again on a day. They are neighbours, which share
-    checks. Twenty consecutive days have all names."""
+    """Returns the twentieth of the names that is tried again on a day. They are neighbours, which
+    share checks. Twenty consecutive days have all names."""
     share = day.toordinal() % SHARES
     return set(names[len(names) * share // SHARES : len(names) * (share + 1) // SHARES])
 
 
 class Ledger:
-    """The file. Each change reads it anew and writes it as a whole, so that no run loses lines of another."""
+    """The file. Each change reads it anew and writes it as a whole, so that no run loses lines of
+    another."""
 
     def __init__(self, path: str):
         self.path = path
@@ -48,8 +50,8 @@ class Ledger:
         return found
 
     def record(self, crate: str, names: set[str], verdicts: dict[str, str]) -> None:
-        """Records verdicts of a crate with mutants of these names: the checksum of each rejected one, and an
-        empty text of each other one."""
+        """Records verdicts of a crate with mutants of these names: the checksum of each rejected
+        one, and an empty text of each other one."""
         with self.locked():
             lines = {name: it for name, it in self.lines().items() if not name.startswith(f"{crate}/") or name in names}
             self.write({name: it for name, it in {**lines, **verdicts}.items() if it})

@@ -7,8 +7,9 @@ import tempfile
 from datetime import date
 
 from ..rattle.functions import functions_of
+from ..repository import text_of
 from . import checksums, ledger
-from .crates import Repository, build_below, text_of, words_of
+from .crates import Repository, build_below, words_of
 from .edits import Edit, edits_of
 from .judging import judging
 from .say import say
@@ -43,15 +44,16 @@ def read_of(text: str, name: str = "a-b.edits") -> dict[str, str] | str:
 
 
 def reads_files_of_edits() -> bool:
-    """Returns whether mutants do not depend on others of their file, and bad files are reported with the line."""
+    """Returns whether mutants do not depend on others of their file, and bad files are reported
+    with the line."""
     both = read_of(GOOD_FILE)
     one, two = (read_of(GOOD_FILE.replace(it, "")) for it in ("\n== two\nafter: z\nold: x\nnew:\n", "\n== one\nold: x\nnew: y\n"))
     stops = all(str(read_of(GOOD_FILE.replace(*it))).startswith(f"wrong-bodies: a-b.edits:{line}: ") for it, line in BAD_FILES.items())
     return both == {**one, **two} and list(both) == ["crate/one", "crate/two"] and stops and "no file of edits" in read_of(GOOD_FILE, "one.edit")
 
 
-# A crate whose function `add` has a mutant, and one below it. Then changes of a file, and whether the
-# mutant's checksum must change.
+# A crate whose function `add` has a mutant, and one below it. Then changes of a file, and whether
+# the mutant's checksum must change.
 SMALL_FILES = {
     "low/src/lib.rt": "/// Adds one.\npub fn one(n: u32) -> u32\n    ensures { result ≡ n + 1 }\n{\n    n + 1\n}\n",
     "low/specs/Lib.antt": "abbrev Low := 1\n",
@@ -98,7 +100,8 @@ def small_sum(old: str = "", new: str = "", changed: str = "", text: str ="file:
 
 
 def ledger_covers_what_matters() -> bool:
-    """Returns whether a checksum changes with everything that a verdict depends on, and nothing else."""
+    """Returns whether a checksum changes with everything that a verdict depends on, and nothing
+    else."""
     same = small_sum()
     applies = all(old in SMALL_FILES[path] for path, old, _, _ in SMALL_CHANGES)
     covered = all((small_sum(old, new, path) != same) == matters for path, old, new, matters in SMALL_CHANGES)
@@ -106,15 +109,16 @@ def ledger_covers_what_matters() -> bool:
 
 
 def days_share_all() -> bool:
-    """Returns whether twenty consecutive days try each line of the ledger once, in shares of one size."""
+    """Returns whether twenty consecutive days try each line of the ledger once, in shares of one
+    size."""
     names = [str(it) for it in range(813)]
     shares = [ledger.share_of(names, date.fromordinal(738000 + day)) for day in range(ledger.SHARES)]
     return sorted(it for share in shares for it in share) == sorted(names) and {len(it) for it in shares} == {40, 41}
 
 
 def ledger_keeps_lines() -> bool:
-    """Returns whether a record replaces the lines of tried mutants, drops those of removed ones, and keeps
-    the others."""
+    """Returns whether a record replaces the lines of tried mutants, drops those of removed ones,
+    and keeps the others."""
     with tempfile.TemporaryDirectory(prefix="wrong-bodies-") as room:
         file = ledger.Ledger(f"{room}/ledger")
         one, two = "1" * 32, "2" * 32

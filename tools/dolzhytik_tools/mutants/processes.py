@@ -16,7 +16,8 @@ RUNNING, STARTING = set(), threading.RLock()
 
 @contextlib.contextmanager
 def started(words: Sequence[str], folder: str) -> Iterator[subprocess.Popen]:
-    """Starts a command, whose output the caller reads. The command and its own processes end with the tool."""
+    """Starts a command, whose output the caller reads. The command and its own processes end with
+    the tool."""
     how = {"stdin": subprocess.DEVNULL, "stdout": subprocess.PIPE, "stderr": subprocess.STDOUT, "text": True, "errors": "replace"}
     with STARTING:
         ran = subprocess.Popen(words, cwd=folder, start_new_session=True, **how)
@@ -29,7 +30,8 @@ def started(words: Sequence[str], folder: str) -> Iterator[subprocess.Popen]:
 
 
 def stop(*_: object) -> None:
-    """Ends all commands, and the tool, at the first Ctrl-C. Nothing starts any more, since the lock is kept."""
+    """Ends all commands, and the tool, at the first Ctrl-C. Nothing starts any more, since the lock
+    is kept."""
     STARTING.acquire()
     for it in [*RUNNING]:
         with contextlib.suppress(ProcessLookupError):

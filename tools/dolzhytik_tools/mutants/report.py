@@ -1,10 +1,11 @@
-"""What a check reports of each function that it did not prove."""
+"""The report of a check on the functions that it did not prove."""
 from __future__ import annotations
 
 import re
 from dataclasses import dataclass
 
-# Messages of a proof file that names what a mutant removed, and of a function that waits for another.
+# Messages of a proof file that names what a mutant removed, and of a function that waits for
+# another.
 MISSING_NAME = re.compile(r"has no field|is not in scope|has no `|was not admitted")
 ELSEWHERE = re.compile(r"it calls|it passes|a call of|it waits for|depends on")
 
@@ -61,7 +62,8 @@ class Report:
         return any(function.has_symbol(it.symbol) and it.waits() for it in self.failures)
 
     def false_constant(self):
-        """Returns the line of a false `prove!` of a constant, or None. After it nothing else is checked."""
+        """Returns the line of a false `prove!` of a constant, or None. After it nothing else is
+        checked."""
         return next((it for it in self.lines if "error[failed-constant-evaluation]" in it), None)
 
     def any_reason(self):

@@ -28,15 +28,16 @@ class Tries:
         os.makedirs(self.kept, exist_ok=True)
 
     def only(self, edits: list[Edit]) -> list[str]:
-        """Returns the arguments that confine a check to the functions, or to modules of unknown ones."""
+        """Returns the arguments that confine a check to the functions, or to modules of unknown
+        ones."""
         if not all(it.target for it in edits):
             return []
         paths = {path for it in edits for path in self.paths(it.target)}
         return [] if "" in paths else [word for it in sorted(paths) for word in ("--only", it)]
 
     def paths(self, function: Function) -> list[str]:
-        """Returns the paths to check for a function: its names in an earlier check or in the library, or its
-        module."""
+        """Returns the paths to check for a function: its names in an earlier check or in the
+        library, or its module."""
         if function in self.symbols:
             return [self.symbols[function]]
         return [it.partition("::")[2] for it in self.of_library if function.has_symbol(it)] or [function.module]
@@ -78,7 +79,8 @@ class Tries:
             edit.end(False, "NOT REJECTED: something is not proved, but no goal of its own function failed")
 
     def together(self, edits):
-        """Tries mutants of different functions in one check. Returns those to try together again, and alone."""
+        """Tries mutants of different functions in one check. Returns those to try together again,
+        and alone."""
         report, again, alone = self.check(edits), [], []
         for it in edits:
             reason, symbol = report.reason(it.target)

@@ -63,6 +63,14 @@ def behind_angle(words: Sequence[str], at: int) -> int:
     raise Unclosed(">")
 
 
+def behind_angle_or(words: Sequence[str], at: int, end: int) -> int:
+    """Returns the index after the `>` that closes the `<` at `at`, or `end` for a comparison."""
+    try:
+        return behind_angle(words, at)
+    except Unclosed:
+        return end
+
+
 def behind_item(words: Sequence[str], at: int) -> int:
     """Returns the index after the `;` that ends the item at `at`, outside of brackets."""
     while at < len(words) and words[at] != ";":
@@ -71,13 +79,14 @@ def behind_item(words: Sequence[str], at: int) -> int:
 
 
 def parts(words: Sequence[str], within: Span) -> Iterator[Span]:
-    """Yields what is between the commas of a list that are in no brackets; empty parts are left out."""
+    """Yields what is between the commas of a list that are in no brackets; empty parts are left
+    out."""
     at = start = within.begin
     while at < within.end:
         if words[at] in CLOSING:
             at = behind(words, at)
         elif words[at] == "<":
-            at = behind_angle(words, at)
+            at = behind_angle_or(words, at, within.end)
         elif words[at] == ",":
             if start < at:
                 yield Span(start, at)

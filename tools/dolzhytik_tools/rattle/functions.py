@@ -11,7 +11,8 @@ from dataclasses import dataclass
 
 @dataclass(frozen=True)
 class Function:
-    """A function: its file, its module, its name, its lines, and the expression of its owner's name."""
+    """A function: its file, its module, its name, its lines, and the expression of its owner's
+    name."""
     path: str
     module: str
     name: str
@@ -20,7 +21,8 @@ class Function:
     owner: str
 
     def has_symbol(self, symbol):
-        """Returns whether this may be the name of the function: another impl of its module can have the same."""
+        """Returns whether this may be the name of the function: another impl of its module can have
+        the same."""
         parts = symbol.split("::")[1:]
         return self.name in parts and "::".join(parts).startswith(self.module)
 
@@ -47,7 +49,8 @@ def closing(text, at):
 
 
 def body_at(text, at):
-    """Returns the offset of the body of the function whose name ends at `at`, or None if it has none."""
+    """Returns the offset of the body of the function whose name ends at `at`, or None if it has
+    none."""
     begun = at
     while stop := re.compile(r"\[[^][{}]*\]|[{;]").search(text, at):
         if stop[0].startswith("["):
@@ -102,7 +105,8 @@ def owner_of(text, head):
 
 
 def functions_of(path, source):
-    """Yields each function of a file that has a body, with the offsets of its head, its body and its end."""
+    """Yields each function of a file that has a body, with the offsets of its head, its body and
+    its end."""
     text = blanked(source)
     for it in re.finditer(r"\bfn\s+(\w+)", text):
         body = body_at(text, it.end())

@@ -42,7 +42,8 @@ class Function:
 
 @dataclass(frozen=True)
 class Block:
-    """An `impl`, a `trait` or a `mod`: its header after the generics, and the items between its braces."""
+    """An `impl`, a `trait` or a `mod`: its header after the generics, and the items between its
+    braces."""
 
     kind: str
     generics: tuple[Span, ...]
@@ -126,7 +127,8 @@ class Items:
         return word in ("fn", "ghost", "impl", "trait", "struct", "enum", "type", "use", "static", "macro_rules")
 
     def item(self, at: int, is_public: bool) -> tuple[Item | None, int]:
-        """Returns the item that begins at `at`, or None for one without meaning here, and the index after it."""
+        """Returns the item that begins at `at`, or None for one without meaning here, and the index
+        after it."""
         word = self.words[at]
         if word == "fn":
             return self.function(at + 1, is_public)
@@ -209,7 +211,10 @@ class Items:
         generics, at = self.generics(at + 1)
         begin = at
         while self.words[at] not in ("{", ";"):
-            at = behind_angle(self.words, at) if self.words[at] == "<" else at + 1
+            if self.words[at] in ("(", "["):
+                at = behind(self.words, at)
+            else:
+                at = behind_angle(self.words, at) if self.words[at] == "<" else at + 1
         if self.words[at] == ";":
             return Block(kind, generics, Span(begin, at)), at + 1
         after = behind(self.words, at)

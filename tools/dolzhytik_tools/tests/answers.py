@@ -1,4 +1,5 @@
-"""Tests of tools/answers: proof files that are written, forms at which the tool stops, files that a person wrote, and `--check`. They need no prover."""
+"""Tests of tools/answers: proof files that are written, forms at which the tool stops, files that a
+person wrote, and `--check`. They need no prover."""
 from __future__ import annotations
 
 import contextlib
@@ -11,9 +12,9 @@ from ..repository import TOP
 from .answers_samples import (
     CODE, EXPORTS, HEAD, HINTS, LINKING, MODULE, PRODUCERS, READ, STACK, SUM, SYMBOLS, WRITTEN, WRITTEN_OF_CUSTOM,
 )
-from .report import end, report
+from .report import end, report, usage_of
 
-USAGE = "The tool.\n\nusage\n\nMore."
+USAGE = usage_of("answers")
 Sample = tuple[str, str, str]
 
 # Forms at which the tool stops: a caller, a change of it, and a part of the report.
@@ -109,7 +110,8 @@ def stop_trouble(caller: Sample, change: tuple[str, str], part: str) -> str | No
 
 
 def clause_trouble() -> str | None:
-    """A function with a `requires`, and one with two clauses, are left; one with no clause has no answers."""
+    """A function with a `requires`, and one with two clauses, are left; one with no clause has no
+    answers."""
     with tempfile.TemporaryDirectory() as name:
         text = function_of(SUM)
         folder = Folder(name, text.replace("    ensures", "    requires { index ≡ 0 }\n    ensures"))

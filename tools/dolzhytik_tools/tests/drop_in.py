@@ -1,4 +1,5 @@
-"""Tests of tools/drop-in: a proved sink that the table does not fit, the enum's match, and changed files."""
+"""Tests of tools/drop-in: a proved sink that the table does not fit, the enum's match, and changed
+files."""
 from __future__ import annotations
 
 import pathlib
@@ -13,9 +14,9 @@ from ..drop_in.test_file import test_file
 from ..errors import Stop
 from ..instructions.table import TABLE
 from ..repository import TOP, text_of
-from .report import end, report
+from .report import end, report, usage_of
 
-USAGE = "The tool.\n\nusage\n\nMore."
+USAGE = usage_of("drop-in")
 
 
 def cases() -> list[Case]:

@@ -1,5 +1,5 @@
-"""Tests of tools/instructions: lines of the table at which it stops, and the files that change with a line,
-a source and the lines around a region."""
+"""Tests of tools/instructions: lines of the table at which it stops, and the files that change with
+a line, a source and the lines around a region."""
 from __future__ import annotations
 
 import pathlib
@@ -13,9 +13,9 @@ from ..instructions.regions import filled
 from ..instructions.table import TABLE, read
 from ..repository import TOP, text_of
 from .report import end as end_of
-from .report import report
+from .report import report, usage_of
 
-USAGE = "The tool.\n\nusage\n\nMore."
+USAGE = usage_of("instructions")
 
 # Bad lines: a name, a line of the table and its change.
 BAD = [

@@ -1,7 +1,8 @@
 """Tests of tools/to-rust, of all sources and of small ones.
 
-The tokens of a source are those of its Rust but for edits, each of a form that its reason allows. Bad
-inputs stop the tool at their line. Generated files that are changed, missing or left over are reported.
+The tokens of a source are those of its Rust but for edits, each of a form that its reason
+allows. Bad inputs stop the tool at their line. Generated files that are changed, missing or left
+over are reported.
 """
 from __future__ import annotations
 
@@ -23,7 +24,8 @@ from ..to_rust.written import written as written_of
 from ..widths import Expressions
 from .report import end, report
 
-# For each reason the erased tokens and those in their place: pairs of patterns over tokens that spaces join.
+# For each reason the erased tokens and those in their place: pairs of patterns over tokens that
+# spaces join.
 DERIVES = r'# \[ derive \( (?:\w+ (?:, )?)*\) \]'
 FORMS = {
     # A comment has no tokens, and is not counted.

@@ -8,8 +8,8 @@ from .tables import BORDERS, ERASED_ATTRIBUTES, ERASED_DERIVES, KEPT_ATTRIBUTES,
 
 
 def erase_attributes(source: Source) -> None:
-    """Erases attributes of the prover and the formatter, and derived traits of Rattle. Errors get an impl
-    of Display."""
+    """Erases attributes of the prover and the formatter, and derived traits of Rattle. Errors get
+    an impl of Display."""
     for place, token in enumerate(source.tokens):
         if token != '#' or source.taken[place]:
             continue

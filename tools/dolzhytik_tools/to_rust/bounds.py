@@ -5,8 +5,8 @@ from .source import Source
 
 
 def erase_drop_bounds(source: Source) -> None:
-    """Erases `Drop` as a bound: every value can be dropped in Rust. A trait whose values are returned needs
-    `Sized` instead."""
+    """Erases `Drop` as a bound: every value can be dropped in Rust. A trait whose values are
+    returned needs `Sized` instead."""
     for place, token in enumerate(source.tokens):
         if token != 'Drop' or source.taken[place]:
             continue
@@ -35,7 +35,8 @@ def declares_trait(source: Source, place: int) -> bool:
 
 
 def in_where(source: Source, colon: int) -> bool:
-    """Returns whether the bound of this colon is in a `where`, and not between the angles of an item."""
+    """Returns whether the bound of this colon is in a `where`, and not between the angles of an
+    item."""
     at = colon
     while source.tokens[at] not in ('where', '(', '{', ';', 'fn', 'impl'):
         at -= 1
@@ -43,7 +44,8 @@ def in_where(source: Source, colon: int) -> bool:
 
 
 def predicate_start(source: Source, colon: int) -> int:
-    """Returns the first token of the predicate with this colon, or of its `where` if it is the only one."""
+    """Returns the first token of the predicate with this colon, or of its `where` if it is the only
+    one."""
     at = colon
     while source.tokens[at] not in ('where', ','):
         at -= 1
@@ -56,7 +58,8 @@ def predicate_start(source: Source, colon: int) -> int:
 
 
 def erase_runtime(source: Source) -> None:
-    """Has tests make the runtime of the host, which they take as an argument in Rattle, as `expect` does."""
+    """Has tests make the runtime of the host, which they take as an argument in Rattle, as `expect`
+    does."""
     for place, token in enumerate(source.tokens):
         if source.taken[place]:
             continue

@@ -37,7 +37,8 @@ def table_of_widths() -> widths.Table:
 
 
 def check_widths(files: dict[str, str]) -> None:
-    """Stops at arithmetic or a cast of a library that the table lacks, and at a row that no file has."""
+    """Stops at arithmetic or a cast of a library that the table lacks, and at a row that no file
+    has."""
     libraries = {path[4:]: text for path, text in files.items() if path.startswith('src/') and path.endswith('.rs')}
     found = {widths.Row(path, *row): None for path, text in libraries.items() for row in widths.Expressions(text).rows()}
     known = table_of_widths()

@@ -1,4 +1,4 @@
-"""Where the files of a crate go below rust/, and what paths become there."""
+"""The folder of each crate below rust/, and its paths there."""
 from __future__ import annotations
 
 import pathlib

@@ -6,8 +6,8 @@ from .source import Source
 
 
 def erase_ghosts(source: Source) -> None:
-    """Erases ghost members and ghost `use`s with their documentation: up to the semicolon, or the comma of
-    a field."""
+    """Erases ghost members and ghost `use`s with their documentation: up to the semicolon, or the
+    comma of a field."""
     for place, token in enumerate(source.tokens):
         if token != 'ghost' or source.taken[place]:
             continue
@@ -29,21 +29,15 @@ def define(source: Source, place: int, end: int) -> None:
 
 
 def enclosing(source: Source, place: int) -> int | None:
-    """Returns the first token of the trait or impl around a token, or None for an impl that is erased."""
-    depth = 0
-    at = place
-    while depth >= 0:
-        at -= 1
-        if at < 0:
-            source.stop(place, 'a ghost outside of a trait, an impl and a struct')
-        depth += {'}': 1, '{': -1}.get(source.tokens[at], 0)
-    first = at
-    while first > 0 and source.tokens[first - 1] not in (';', '{', '}'):
-        first -= 1
-    words = source.solid(first, at)
+    """Returns the first token of the trait or impl around a token, or None for an impl that is
+    erased."""
+    header = source.header_around(place)
+    if header is None:
+        source.stop(place, 'a ghost outside of a trait, an impl and a struct')
+    words = source.solid(header.begin, header.end)
     if 'Model' in words or 'struct' in words or not {'trait', 'impl'} & set(words):
         return None
-    return source.skip(first)
+    return source.skip(header.begin)
 
 
 def erase_clauses(source: Source) -> None:
@@ -66,7 +60,8 @@ def erase_clauses(source: Source) -> None:
 
 
 def turn_proved_constants(source: Source) -> None:
-    """Has rustc evaluate what is proved of constants: `const _: () = prove!(..);` becomes an `assert!`."""
+    """Has rustc evaluate what is proved of constants: `const _: () = prove!(..);` becomes an
+    `assert!`."""
     for place, token in enumerate(source.tokens):
         if token == 'prove' and source.solid(max(0, place - 16), place)[-6:] == ['const', '_', ':', '(', ')', '=']:
             source.edit(place, place + 1, 'assert', 'constant')

@@ -1,4 +1,4 @@
-"""What a generated file has besides the tokens of its source: imports, inner modules, runnable examples."""
+"""The lines of a generated file that its source lacks: imports, inner modules, runnable examples."""
 from __future__ import annotations
 
 import pathlib
@@ -55,8 +55,8 @@ def prelude(source: Source, text: str) -> str:
     paths = ['vec::Sink', 'vec::Vec', 'string::String']
     if not source.has_sinks:
         words.discard('Sink')
-    uses = [source.crate.by_hand(path) for path in paths if path.split('::')[1] in words]
-    return ''.join(use + '\n' for use in grouped(uses))
+    found = [source.crate.by_hand(path) for path in paths if path.split('::')[1] in words]
+    return ''.join(use + '\n' for use in grouped(found))
 
 
 def head_and_rest(text: str) -> tuple[str, str]:
@@ -69,8 +69,8 @@ def head_and_rest(text: str) -> tuple[str, str]:
 
 
 def inner_modules(crate: Crate, relative: str | pathlib.Path) -> str:
-    """Returns what a file has of the libraries within its crate's module: the root has their names, and
-    the module of laws their laws."""
+    """Returns what a file has of the libraries within its crate's module: the root has their names,
+    and the module of laws their laws."""
     inner = inner_libraries(crate)
     if str(relative) == 'lib.rt':
         lines = [f'pub(crate) mod {module};' for module, _ in inner] + [f'pub use {module}::*;' for module, _ in inner]

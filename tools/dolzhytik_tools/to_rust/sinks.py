@@ -1,4 +1,5 @@
-"""Sinks: functions over the allocator of a buffer are functions over the buffer, and bytes are pushed in pairs."""
+"""Sinks: functions over the allocator of a buffer are functions over the buffer, and bytes are
+pushed in pairs."""
 from __future__ import annotations
 
 from dataclasses import dataclass
@@ -9,8 +10,8 @@ from .source import Source
 
 
 def turn_sinks(source: Source) -> None:
-    """Makes the sink the type parameter of functions that have one for the allocator of its bytes alone, so
-    that std's vectors are sinks too."""
+    """Makes the sink the type parameter of functions that have one for the allocator of its bytes
+    alone, so that std's vectors are sinks too."""
     for place, token in enumerate(source.tokens):
         if token != 'fn' or source.taken[place]:
             continue
@@ -67,8 +68,8 @@ def turn_buffer(source: Source) -> None:
 
 
 def turn_pairs(source: Source) -> None:
-    """Pushes two bytes after one test of the capacity: Rattle's vector has no test for reserved capacity,
-    and Rust's has one a byte."""
+    """Pushes two bytes after one test of the capacity: Rattle's vector has no test for reserved
+    capacity, and Rust's has one a byte."""
     place = 0
     while place < len(source.tokens):
         first = pushed(source, place)

@@ -3,6 +3,7 @@ from __future__ import annotations
 
 from collections.abc import Sequence
 from dataclasses import dataclass, field
+from typing import NoReturn
 
 from ..errors import Stop
 from ..rattle import brackets, lexer
@@ -49,7 +50,7 @@ class Source:
         """Returns the number of a token's line."""
         return ''.join(self.tokens[:place]).count('\n') + 1
 
-    def stop(self, place: int, why: str) -> None:
+    def stop(self, place: int, why: str) -> NoReturn:
         """Stops the tool at a token."""
         raise Stop(f'{self.path}:{self.line(place)}: {why}')
 
@@ -76,17 +77,18 @@ class Source:
         try:
             return brackets.behind(self.tokens, place)
         except brackets.Unclosed as unclosed:
-            raise Stop(f'{self.path}:{self.line(place)}: {unclosed}') from None
+            self.stop(place, str(unclosed))
 
     def closing_angle(self, place: int) -> int:
         """Returns the token after the `>` that closes the `<` at `place`."""
         try:
             return brackets.behind_angle(self.tokens, place)
         except brackets.Unclosed as unclosed:
-            raise Stop(f'{self.path}:{self.line(place)}: {unclosed}') from None
+            self.stop(place, str(unclosed))
 
     def after(self, place: int, *words: str) -> int | None:
-        """Returns the token after these, which begin at `place` but for spaces and comments, or None."""
+        """Returns the token after these, which begin at `place` but for spaces and comments, or
+        None."""
         for word in words:
             place = self.skip(place)
             if place >= len(self.tokens) or self.tokens[place] != word:
@@ -102,6 +104,20 @@ class Source:
     def solid(self, first: int, end: int) -> list[str]:
         """Returns the texts of tokens but spaces and comments."""
         return [self.tokens[at] for at in range(first, end) if not self.blank[at]]
+
+    def header_around(self, place: int) -> brackets.Span | None:
+        """Returns the tokens before the brace of the block around a token, or None outside of
+        blocks."""
+        depth, at = 0, place
+        while depth >= 0:
+            at -= 1
+            if at < 0:
+                return None
+            depth += {'}': 1, '{': -1}.get(self.tokens[at], 0)
+        first = at
+        while first > 0 and self.tokens[first - 1] not in (';', '{', '}'):
+            first -= 1
+        return brackets.Span(first, at)
 
     def text(self, first: int, end: int) -> str:
         return ''.join(self.tokens[first:end])

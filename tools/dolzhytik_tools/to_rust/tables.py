@@ -1,4 +1,4 @@
-"""What the generator of Rust erases and changes, and where each crate goes. Each entry has its reason."""
+"""The lists of the generator of Rust: crates, and what it erases or changes, each with its reason."""
 from __future__ import annotations
 
 from dataclasses import dataclass
@@ -21,8 +21,8 @@ class Feature:
     item: str
     feature: str
 
-# The libraries, and the module of the package that each becomes. A module within another is declared there. All but `reader` are
-# private in the package.
+# The libraries, and the module of the package that each becomes. A module within another is
+# declared there. All but `reader` are private in the package.
 LIBRARIES = {
     'wasm_base': 'base',
     'wasm_immediates': 'immediates',
@@ -36,8 +36,8 @@ LIBRARIES = {
     'wasm_reader': 'reader',
     'wasm_tool': 'recipe',
 }
-# The public modules of a library, where that is not `fallible`, and of its laws, where that is not a
-# module of `fallible::laws`.
+# The public modules of a library, where that is not `fallible`, and of its laws, where that is not
+# a module of `fallible::laws`.
 PUBLIC = {
     'wasm_reader_base': 'reader',
     'wasm_reader_insn': 'reader',
@@ -47,7 +47,8 @@ PUBLIC = {
 PUBLIC_LAWS = {'wasm_reader': 'reader::laws', 'wasm_reader_insn': 'reader::laws::insn'}
 # Hand-written pages below rust/src: each is before the documentation of a library's module.
 PAGES = {'wasm_reader': 'reader.md'}
-# The libraries whose private items the root of the package uses, such as the first bytes of segments.
+# The libraries whose private items the root of the package uses, such as the first bytes of
+# segments.
 BELOW_ROOT = {'wasm_types', 'wasm_code', 'wasm_sections'}
 # Crates of tests, under tests/: each becomes a test program of its own, under rust/tests.
 TESTS = [
@@ -113,8 +114,8 @@ PLACES = [
     Place('callers/src/segments.rt', "-> Result<DataSegment<'a, Vec<u8>>>", "-> Result<DataSegment<'a, std::vec::Vec<u8>>>"),
     # The caller's bytes have their own `Clone`.
     Place('wasm_sections/src/data.rt', 'self.bytes.clone()?', 'self.bytes.clone()'),
-    # The proof saves the bounds check of bytes that are copied 16 at a time. Rust copies a run of any
-    # length as a whole.
+    # The proof saves the bounds check of bytes that are copied 16 at a time. Rust copies a run of
+    # any length as a whole.
     Place('wasm_base/src/once.rt', 'append_blocks(sink, &mut items, len);', ''),
     # A type argument of a trait has a size.
     Place('wasm_sections_tests/src/section_refusals.rtt', 'trait SectionCalls: ItemKind {', 'trait SectionCalls: ItemKind + Sized {'),

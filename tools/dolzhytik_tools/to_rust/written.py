@@ -13,8 +13,8 @@ from .tables import PAGES, PROVERS_WORDS
 
 
 class Written:
-    """A generated file: the page at its head, what is before and behind the tokens of its source, and
-    its text."""
+    """A generated file: the page at its head, what is before and behind the tokens of its source,
+    and its text."""
 
     def __init__(self, crate: Crate, relative: str | pathlib.Path, text: str):
         self.path = f'{crate.sources}/{relative}'

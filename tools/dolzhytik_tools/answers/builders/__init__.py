@@ -1,4 +1,4 @@
-"""Calls that add to a builder: the term of what it holds then, by the builder and the call."""
+"""Calls that add to a builder: functions that return the proof of its new content."""
 from __future__ import annotations
 
 from typing import TYPE_CHECKING

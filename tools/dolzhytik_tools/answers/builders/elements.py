@@ -16,7 +16,7 @@ if TYPE_CHECKING:
 
 
 def placement(caller: Caller, call: Call) -> Shown:
-    """Where an element segment goes, and why it is in range."""
+    """Returns the mode of an element segment, and why it is in range."""
     if call.name in ("passive", "declared"):
         caller.proof.use("Rattle.wasm_sections.specs.Elements", call.name)
         return Shown(call.name, "tt")

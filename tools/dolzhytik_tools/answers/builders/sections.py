@@ -65,7 +65,7 @@ def global_(caller: Caller, section: Builder, call: Call) -> str:
 
 
 def stored_padded(caller: Caller, constant: Constant, item: str) -> str:
-    """Why an expression stores what an item says, with padded numbers too."""
+    """Returns why an expression stores what an item says, with padded numbers too."""
     if constant.wide:
         return constant.wide
     return "(%s _ %s.init %s)" % (caller.proof.lemma("wasm_code", "included_constant"), item, constant.term)

@@ -1,16 +1,21 @@
-"""Finds or makes a compiler for wasm32-unknown-unknown: rustup's, where that target is installed, or one of Debian's packages.
+"""Finds or makes a compiler for wasm32-unknown-unknown: rustup's, where that target is installed,
+or one of Debian's packages.
 
-Debian's rustc-web is unpacked, not installed, and core and alloc are compiled from its source, which takes a minute once.
-Where apt's lists lack the package, or name one that is gone, newer lists are fetched into a folder of their own. All
-that is made is in rust/target/wasm32. There is no std.
+Debian's rustc-web is unpacked, not installed, and core and alloc are compiled from its source,
+which takes a minute once. Where apt's lists lack the package, or name one that is gone, newer
+lists are fetched into a folder of their own. All that is made is in rust/target/wasm32. There is
+no std.
 """
+from __future__ import annotations
+
 import os
 import pathlib
 import re
 import shutil
 import subprocess
 
-TOP = pathlib.Path(__file__).resolve().parent.parent
+from ..repository import TOP
+
 OUT = TOP / 'rust/target/wasm32'
 TARGET = 'wasm32-unknown-unknown'
 OLDEST_RUSTC = (1, 88)
@@ -30,11 +35,11 @@ PACKAGES_SECONDS = 600
 
 
 class NotRun(Exception):
-    """Why nothing can be run here."""
+    """The reason why nothing can run here."""
 
 
-def ran(*words, seconds=60, cwd=None):
-    """The output of a command; None where it fails, is not there or takes too long."""
+def ran(*words: str, seconds: int = 60, cwd: pathlib.Path | None = None) -> str | None:
+    """Returns the output of a command, or None if it fails, is missing or takes too long."""
     env = {**os.environ, 'LC_ALL': 'C'}
     try:
         return subprocess.run(words, capture_output=True, text=True, check=True, timeout=seconds, cwd=cwd, env=env).stdout
@@ -42,13 +47,13 @@ def ran(*words, seconds=60, cwd=None):
         return None
 
 
-def output(*words):
-    """The output of a command, or no text where it fails."""
+def output(*words: str) -> str:
+    """Returns the output of a command, or an empty text if it fails."""
     return ran(*words) or ''
 
 
-def compiler():
-    """The variables of Cargo by which it finds a compiler and a linker of the target."""
+def compiler() -> dict[str, str]:
+    """Returns the variables by which Cargo finds a compiler and a linker of the target."""
     if not shutil.which('cargo'):
         raise NotRun('there is no cargo')
     folder = output('rustc', '--print', 'target-libdir', '--target', TARGET).strip()
@@ -57,8 +62,8 @@ def compiler():
     return {**linker(), 'RUSTC': str(debian())}
 
 
-def linker():
-    """The linker of the rustc on the path, or else the newest wasm-ld."""
+def linker() -> dict[str, str]:
+    """Returns the variable of the linker: of the rustc on the path, or the newest wasm-ld."""
     lines = output('rustc', '-vV').split('\n')
     host = next((line[6:] for line in lines if line.startswith('host: ')), '')
     own = pathlib.Path(output('rustc', '--print', 'sysroot').strip()) / f'lib/rustlib/{host}/bin/rust-lld'
@@ -69,8 +74,8 @@ def linker():
     return {'CARGO_TARGET_WASM32_UNKNOWN_UNKNOWN_LINKER': found[0]}
 
 
-def debian():
-    """A rustc with core and alloc for the target, made of Debian's packages. It is kept."""
+def debian() -> pathlib.Path:
+    """Returns a rustc with core and alloc for the target, of Debian's packages. It is kept."""
     folder = OUT / 'sysroot'
     rustc = folder / 'rustc'
     if rustc.exists():
@@ -90,14 +95,15 @@ def debian():
     return sysroot(folder)
 
 
-def apt(command, *words, options=APT_OPTIONS, **how):
-    """The output of a command of apt with these options; None where it fails."""
+def apt(command: str, *words: str, options: dict[str, str] = APT_OPTIONS, seconds: int = 60, cwd: pathlib.Path | None = None) -> str | None:
+    """Returns the output of a command of apt with these options, or None if it fails."""
     given = [word for name, value in options.items() for word in ('-o', f'{name}={value}')]
-    return ran(command, '-q', *given, *words, **how)
+    return ran(command, '-q', *given, *words, seconds=seconds, cwd=cwd)
 
 
-def fetched(folder):
-    """Downloads the packages, by apt's lists or newer ones of its own, and returns whether they are there."""
+def fetched(folder: pathlib.Path) -> bool:
+    """Downloads the packages, by apt's lists or newer ones of its own, and returns whether they are
+    there."""
     for made in ('state/lists/partial', 'cache/archives/partial'):
         (APT / made).mkdir(parents=True, exist_ok=True)
     if downloaded(folder, APT_OPTIONS):
@@ -107,7 +113,7 @@ def fetched(folder):
     return downloaded(folder, options)
 
 
-def downloaded(folder, options):
+def downloaded(folder: pathlib.Path, options: dict[str, str]) -> bool:
     """Downloads the packages, and returns whether they are there."""
     names = packages(options)
     for left_over in folder.glob('*.deb'):
@@ -115,9 +121,11 @@ def downloaded(folder, options):
     return bool(names) and apt('apt-get', 'download', *names, options=options, seconds=PACKAGES_SECONDS, cwd=folder) is not None
 
 
-def packages(options):
-    """The packages of the compiler, of its libraries and of its source; none where apt knows no compiler that is new enough."""
-    wanted, new = [], ['rustc-web', 'rust-web-src']
+def packages(options: dict[str, str]) -> list[str]:
+    """Returns the packages of the compiler, of its libraries and of its source, or none if apt
+    knows no compiler that is new enough."""
+    wanted: list[str] = []
+    new = ['rustc-web', 'rust-web-src']
     while new:
         shown = apt('apt-cache', 'show', '--no-all-versions', *new, options=options) or ''
         version = re.search(r'^Package: rustc-web\n(?:.+\n)*?Version: (\d+)\.(\d+)\.', shown, re.M)
@@ -129,8 +137,9 @@ def packages(options):
     return wanted
 
 
-def sysroot(folder):
-    """Compiles the libraries of the target from the unpacked source, and writes a rustc that uses them."""
+def sysroot(folder: pathlib.Path) -> pathlib.Path:
+    """Compiles the libraries of the target from the unpacked source, and writes a rustc that uses
+    them."""
     usr = folder / 'root/usr'
     source = next(usr.glob('src/rustc-*/library'))
     libraries = folder / 'made/lib/rustlib' / TARGET / 'lib'
@@ -154,8 +163,9 @@ def sysroot(folder):
     return rustc
 
 
-def replace_links(folder):
-    """Puts files in the place of links to them, and removes other links: `rt ci` rejects links in the repository."""
+def replace_links(folder: pathlib.Path) -> None:
+    """Puts files in the place of links to them, and removes other links: `rt ci` rejects links in
+    the repository."""
     for link in [path for path in folder.rglob('*') if path.is_symlink()]:
         file = link.resolve()
         link.unlink()
@@ -163,7 +173,7 @@ def replace_links(folder):
             shutil.copy(file, link)
 
 
-def cargo(command, *words):
+def cargo(command: str, *words: str) -> None:
     """Runs a command of Cargo for the target, in release."""
     env = compiler()
     flags = {'RUSTFLAGS': '-C linker-flavor=wasm-ld'} if 'RUSTC' in env else {}

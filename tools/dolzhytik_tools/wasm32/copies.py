@@ -1,9 +1,14 @@
 """Turns a file of Rust tests into one that needs no std, for tools/wasm32.
 
-`#[test]` needs std, so the copy has plain functions, whose paths it lists. Paths of `std` become paths of the harness
-(rust/wasm32/harness.rs), and each module uses the prelude of the harness. The file is laid out as rustfmt does it.
+`#[test]` needs std, so the copy has plain functions, whose paths it lists. Paths of `std` become
+paths of the harness (rust/wasm32/harness.rs), and each module uses the prelude of the harness.
+The file is laid out as rustfmt does it.
 """
+from __future__ import annotations
+
 import re
+from collections.abc import Iterator
+from typing import NamedTuple
 
 TEST = '#[test]'
 PRELUDE = 'use crate::harness::prelude::*;'
@@ -15,10 +20,17 @@ NOT_RUN_AS_IT_IS = re.compile(r'#\[(?:ignore|should_panic)\b')
 
 
 class Unknown(Exception):
-    """The text has a form of which no copy is made."""
+    """A text that the tool cannot copy."""
 
 
-def first(lines, head):
+class Inner(NamedTuple):
+    """A module within the file: its indentation and its name."""
+
+    indent: str
+    name: str
+
+
+def first(lines: list[str], head: str) -> int:
     """Returns the number of the one line that begins an item, such as `fn name`."""
     heads = [number for number, line in enumerate(lines) if re.match(rf' *(?:pub )?{head}\b', line)]
     if len(heads) != 1:
@@ -26,7 +38,7 @@ def first(lines, head):
     return heads[0]
 
 
-def item(lines, head):
+def item(lines: list[str], head: str) -> slice:
     """Returns the range of lines of an item, with its attributes and comments."""
     begin = last = first(lines, head)
     indent = re.match(' *', lines[begin])[0]
@@ -37,7 +49,7 @@ def item(lines, head):
     return slice(begin, last + 1)
 
 
-def without_name(line, name):
+def without_name(line: str, name: str) -> str:
     """Returns a `use` of one line without a name in its list."""
     shorter = re.sub(rf'\b{name}, |, {name}\b', '', line, count=1)
     if shorter == line:
@@ -45,8 +57,9 @@ def without_name(line, name):
     return shorter
 
 
-def without(text, heads):
-    """Returns the text of a file without the items that begin so, and the names of the form `name of use path`."""
+def without(text: str, heads: list[str]) -> str:
+    """Returns the text of a file without the items that begin so, and the names of the form `name
+    of use path`."""
     lines = text.split('\n')
     for head in heads:
         name, _, use = head.rpartition(' of ')
@@ -61,10 +74,10 @@ def without(text, heads):
 class Copy:
     """The copy of a text, whose module has this path, and the paths of its tests."""
 
-    def __init__(self, text, path):
+    def __init__(self, text: str, path: list[str]):
         self.path = ['crate', *path]
-        self.inner = []
-        self.tests = []
+        self.inner: list[Inner] = []
+        self.tests: list[str] = []
         lines = text.split('\n')
         head = next((number for number, line in enumerate(lines) if not HEAD.match(line)), len(lines))
         self.head = '\n'.join(lines[:head])
@@ -72,7 +85,7 @@ class Copy:
         if len(self.tests) != text.count(TEST) or NOT_RUN_AS_IT_IS.search(text):
             raise Unknown('a test of an unknown form')
 
-    def turned(self, lines):
+    def turned(self, lines: list[str]) -> Iterator[str]:
         """Yields the lines of the copy."""
         is_test = False
         for line in lines:
@@ -85,15 +98,15 @@ class Copy:
             elif line.strip() != '#[cfg(test)]':
                 yield self.module(line)
 
-    def test(self, line):
+    def test(self, line: str) -> str:
         """Lists a test, and returns the head of a function that the root can call."""
-        names = [name for _, name in self.inner]
+        names = [it.name for it in self.inner]
         self.tests.append('::'.join([*self.path, *names, FUNCTION.match(line)[1]]))
         return line.replace('fn', 'pub(crate) fn', 1)
 
-    def module(self, line):
-        """Returns a line: where it declares a module, one that the root has a path to, with the prelude in it."""
-        if self.inner and line == self.inner[-1][0] + '}':
+    def module(self, line: str) -> str:
+        """Returns a line. A module that it declares is visible to the root, and uses the prelude."""
+        if self.inner and line == self.inner[-1].indent + '}':
             self.inner.pop()
         declared = MODULE.match(line)
         if not declared:
@@ -101,5 +114,5 @@ class Copy:
         indent, name, end = declared.groups()
         if end == ';':
             return f'{indent}pub(crate) mod {name};'
-        self.inner.append((indent, name))
+        self.inner.append(Inner(indent, name))
         return f'{indent}pub(crate) mod {name} {{ {PRELUDE}'

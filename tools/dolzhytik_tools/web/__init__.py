@@ -1,0 +1,1 @@
+"""tools/web: builds and tests the JavaScript package, rust/web."""

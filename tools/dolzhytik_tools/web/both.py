@@ -1,0 +1,154 @@
+"""The JavaScript package and the programs, which are called with the same modules and recipes."""
+from __future__ import annotations
+
+import json
+import pathlib
+import random
+import subprocess
+import tempfile
+from collections.abc import Iterator
+
+from ..both_builds import recipe_of
+from ..repository import TOP
+from .builds import WEB, modules, native
+from .outlines import line_of, row_of, rows_of
+
+# How often each module is damaged, and how many recipes are assembled.
+DAMAGES = 40
+RECIPES = 200
+NO_HEADER = "no module: it doesn't begin with 00 61 73 6d 01 00 00 00"
+
+
+def same(call: object, path: pathlib.Path, first: object, second: object) -> bool:
+    """Compares two answers, and reports those that differ."""
+    if first != second:
+        print(f'web: {call} {path}: {str(first)[:300]} and {str(second)[:300]}')
+    return first == second
+
+
+def said(passed: bool, name: str) -> bool:
+    """Reports how a test ended, and returns whether it passed."""
+    print(f'web: {name}: {"passed" if passed else "failed"}', flush=True)
+    return bool(passed)
+
+
+class Both:
+    """The package in node, and the programs `dolzhytik` and `wasmrow`."""
+
+    def __init__(self, folder: pathlib.Path):
+        native('build', '--release', '--features', 'programs', '--bins', '--manifest-path', str(TOP / 'rust/Cargo.toml'))
+        self.programs = TOP / 'rust/target/release'
+        self.node = subprocess.Popen(['node', WEB / 'answer.mjs'], stdin=subprocess.PIPE, stdout=subprocess.PIPE, text=True)
+        self.outputs = [folder / 'package.out', folder / 'program.out']
+
+    def close(self) -> None:
+        """Ends node."""
+        self.node.stdin.close()
+        self.node.wait()
+
+    def of_package(self, **request: object) -> dict:
+        """Calls the package."""
+        print(json.dumps(request), file=self.node.stdin, flush=True)
+        return json.loads(self.node.stdout.readline())
+
+    def of_program(self, path: pathlib.Path, *words: str | pathlib.Path) -> tuple[str | None, str | None]:
+        """Returns the output of `dolzhytik`, or its message as JavaScript has it: without the names
+        of the program and of the file, and with the JavaScript name of the option."""
+        done = subprocess.run([self.programs / 'dolzhytik', *words], capture_output=True)
+        if done.returncode == 0:
+            return done.stdout.decode(), None
+        message = done.stderr.decode().removeprefix(f'dolzhytik: {path}: ').removesuffix('\n')
+        return None, message.replace('--drop-offsets', 'dropOffsets')
+
+    def outline(self, path: pathlib.Path) -> bool:
+        """Compares outlines of a module."""
+        answer = self.of_package(call='outline', input=str(path))
+        output, message = self.of_program(path, 'outline', path)
+        if message is not None:
+            return same('outline', path, answer, {'message': message})
+        return same('outline', path, [row_of(section) for section in answer.get('result', [])], rows_of(output))
+
+    def list(self, path: pathlib.Path) -> bool:
+        """Compares lists of a module. `wasmrow` reports another message for a missing header."""
+        answer = self.of_package(call='list', input=str(path))
+        done = subprocess.run([self.programs / 'wasmrow', '--read'], input=path.read_bytes().hex().encode(), capture_output=True)
+        if done.returncode == 0:
+            return same('list', path, ''.join(line_of(section) for section in answer.get('result', [])), done.stdout.decode())
+        message = done.stderr.decode().removesuffix('\n')
+        if message.startswith('section 0: '):
+            return same('list', path, answer, {'message': NO_HEADER})
+        return same('list', path, answer, {'message': message})
+
+    def written(self, path: pathlib.Path, request: dict, words: tuple[str, ...]) -> bool:
+        """Compares written modules."""
+        first, second = self.outputs
+        answer = self.of_package(**request, input=str(path), output=str(first))
+        _, message = self.of_program(path, *words, path, '-o', second)
+        if message is not None:
+            return same([*words], path, answer, {'message': message})
+        return same([*words], path, answer, {'result': None}) and same([*words], path, first.read_bytes(), second.read_bytes())
+
+    def module(self, path: pathlib.Path) -> bool:
+        """Compares the answers of all calls for a module."""
+        minimal = self.written(path, {'call': 'minimize'}, ('shorten',))
+        without_offsets = self.written(path, {'call': 'minimize', 'dropOffsets': True}, ('shorten', '--drop-offsets'))
+        return self.outline(path) and self.list(path) and minimal and without_offsets
+
+    def recipe(self, path: pathlib.Path) -> bool:
+        """Compares the modules of a recipe."""
+        return self.written(path, {'call': 'assemble'}, ('build',))
+
+
+def damaged(rng: random.Random, module: bytes) -> bytes:
+    """Returns a module with a few other bytes, or that ends early."""
+    changed = bytearray(module)
+    for _ in range(rng.choice([0, 1, 1, 4])):
+        # Mostly before the first body, where the sizes are.
+        changed[rng.randrange(min(len(changed), rng.choice([40, 4000, len(changed)])))] = rng.randrange(256)
+    return changed[:rng.choice([len(changed), rng.randrange(len(changed))])]
+
+
+def same_modules(both: Both, folder: pathlib.Path, paths: list[pathlib.Path]) -> Iterator[bool]:
+    """Compares the answers for modules and damaged ones."""
+    rng = random.Random(1)
+    bad = folder / 'damaged.wasm'
+    for path in paths:
+        module = path.read_bytes()
+        same = [both.module(path)]
+        for _ in range(DAMAGES):
+            bad.write_bytes(damaged(rng, module))
+            same.append(both.module(bad))
+        yield said(all(same), f'{path.name}, {len(module)} bytes, and {DAMAGES} damaged ones, as the programs have them')
+
+
+def is_text(recipe: bytes) -> bool:
+    try:
+        recipe.decode()
+    except UnicodeDecodeError:
+        return False
+    return True
+
+
+def same_recipes(both: Both, folder: pathlib.Path) -> bool:
+    """Compares the modules of random recipes, some of them faulty. A string of JavaScript is text."""
+    rng = random.Random(1)
+    recipes = filter(is_text, (recipe_of(rng) for _ in range(RECIPES)))
+    path = folder / 'recipe'
+    same = []
+    for recipe in recipes:
+        path.write_bytes(recipe)
+        same.append(both.recipe(path))
+    return said(all(same), f'{len(same)} recipes, as the program has them')
+
+
+def compared() -> Iterator[bool]:
+    """Compares the package and the programs."""
+    with tempfile.TemporaryDirectory() as name:
+        folder = pathlib.Path(name)
+        paths = modules(folder)
+        both = Both(folder)
+        try:
+            yield from same_modules(both, folder, paths)
+            yield same_recipes(both, folder)
+        finally:
+            both.close()
