@@ -17,7 +17,7 @@ use crate::reader::base::{ReadFault, Readable};
 /// ```text
 /// let (_runs, mut instructions) = Instructions::of_body(bytes, alloc)?;
 /// while let Some(step) = instructions.next()? {
-///     // step.op begins at step.place, and instructions.args() are its arguments
+///     // step.op begins at step.offset, and instructions.args() are its arguments
 /// }
 /// ```
 ///
