@@ -6,7 +6,7 @@ use dolzhytik::fallible::{
     self, CodeSection, ConstExpr, CoreDumpModulesSection, CoreDumpSection, CoreDumpStackSection,
     CowSlice, CowStr, CustomSection, DataSection, ElementSection, Encode, EntityType, ExportKind,
     ExportSection, Global, GlobalSection, ImportSection, LinkingSection, NameMap, NameSection,
-    ProducersField, R, RawSection, Refused, Section, SymbolTable,
+    ProducersField, RawSection, Refused, Result, Section, SymbolTable,
 };
 use dolzhytik::reader::{Outlined, outline};
 
@@ -23,14 +23,14 @@ fn custom<'a>(name: &'a str, bytes: &'a [u8]) -> CustomSection<'a> {
     }
 }
 
-fn encoded(value: &impl Encode) -> R<Vec<u8>> {
+fn encoded(value: &impl Encode) -> Result<Vec<u8>> {
     let mut bytes = vec![];
     value.encode(&mut bytes)?;
     Ok(bytes)
 }
 
 /// Checks that a section is refused, and that the sink and the module go on as they were.
-fn check_section(long: &impl Section, refused: Refused) -> R<()> {
+fn check_section(long: &impl Section, refused: Refused) -> Result<()> {
     let mut sink = vec![7];
     assert_eq!(long.encode(&mut sink), Err(refused));
     assert_eq!(sink, [7]);
@@ -47,7 +47,7 @@ fn check_section(long: &impl Section, refused: Refused) -> R<()> {
 }
 
 #[test]
-fn sections_that_memory_does_not_hold() -> R<()> {
+fn sections_that_memory_does_not_hold() -> Result<()> {
     let text = zeros(HALF);
     let bytes = text.as_bytes();
     check_section(&custom("long", bytes), Refused::Memory)?;
@@ -65,7 +65,7 @@ fn sections_that_memory_does_not_hold() -> R<()> {
 
 /// The size of the section is twice the length, and the five bytes of the name's length: at most 4294967295.
 #[test]
-fn a_name_and_data_whose_sum_passes_32_bits() -> R<()> {
+fn a_name_and_data_whose_sum_passes_32_bits() -> Result<()> {
     let text = zeros(MOST);
     for (len, refused) in [
         (MOST, Refused::TooLong),
@@ -81,9 +81,9 @@ fn a_name_and_data_whose_sum_passes_32_bits() -> R<()> {
 /// Checks that a builder of one entry refuses long ones, keeps its bytes, and takes another entry.
 fn check_builder<B: Encode>(
     new: fn(Global) -> B,
-    short: fn(&mut B) -> R<()>,
-    long: &[&dyn Fn(&mut B) -> R<()>],
-) -> R<()> {
+    short: fn(&mut B) -> Result<()>,
+    long: &[&dyn Fn(&mut B) -> Result<()>],
+) -> Result<()> {
     let mut expected = new(Global);
     short(&mut expected)?;
     let one = encoded(&expected)?;
@@ -101,7 +101,7 @@ fn check_builder<B: Encode>(
 }
 
 #[test]
-fn entries_of_given_bytes() -> R<()> {
+fn entries_of_given_bytes() -> Result<()> {
     let text = zeros(MOST);
     let bytes = text.as_bytes();
     let offset = ConstExpr::i32_const(Global, 0)?;
@@ -137,7 +137,7 @@ fn entries_of_given_bytes() -> R<()> {
 
 /// Two names in one entry have up to 2^32 - 2 bytes together.
 #[test]
-fn entries_with_names() -> R<()> {
+fn entries_with_names() -> Result<()> {
     let text = zeros(MOST);
     for long in [&text[..HALF], &text] {
         check_builder(
@@ -168,7 +168,7 @@ fn entries_with_names() -> R<()> {
 }
 
 #[test]
-fn entries_of_custom_sections() -> R<()> {
+fn entries_of_custom_sections() -> Result<()> {
     let text = zeros(MOST);
     for long in [&text[..HALF], &text] {
         check_builder(
@@ -232,7 +232,7 @@ fn names_at_the_root() {
 
 /// A section that memory holds, whose size takes five bytes, and where the reader finds it.
 #[test]
-fn a_section_of_2_to_the_28_bytes() -> R<()> {
+fn a_section_of_2_to_the_28_bytes() -> Result<()> {
     const SIZE: u32 = (1 << 28) + 2;
     let mut bytes = vec![0; 1 << 28];
     bytes[0] = 1;
