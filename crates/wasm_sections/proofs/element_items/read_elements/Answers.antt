@@ -1,12 +1,19 @@
-use Rattle.wasm_reader_base.proofs.Faults.{fault_stays}
-use Rattle.wasm_sections.proofs.ElementLaws.{no_expressions, no_functions, as_functions}
+use Rattle.std.proofs.Common.{◌≢◌, sym, subst}
+use Rattle.std.specs.Prelude.{IfOk, IfErr}
+use Rattle.wasm_base.specs.Decoding.{Decodes, Rejects}
+use Rattle.wasm_base.specs.Numbers.{padded}
+use Rattle.wasm_reader_base.specs.declared.fault.ReadFault.TheVariants.{Memory}
+use Rattle.wasm_sections.specs.Elements.{elements_as, list_view}
 use Rattle.wasm_sections.proofs.element_items.read_elements.Goals as goal
 
-pub returns-in_err-elements-clause-none : goal.returns-in_err-elements-clause-none
-returns-in_err-elements-clause-none g c = fault_stays c.from_residual.result _ c.from_residual.ensures.1 λ n. no_expressions c.args.explicit c.args.of_expressions c.args.bytes.now c.if-of_expressions.true (c.in_err-elements.ensures.none n)
+pub returns-then-of_expressions-clause-found : goal.returns-then-of_expressions-clause-found
+returns-then-of_expressions-clause-found g c = subst (λ b. IfOk c.read_expressions.result (λ x. Decodes (elements_as c.args.explicit b) padded c.args.bytes.now (list_view x.0) x.1.now)) (sym c.if-of_expressions.true) c.read_expressions.ensures.found
 
-pub returns-in_err-elements-2-clause-none : goal.returns-in_err-elements-2-clause-none
-returns-in_err-elements-2-clause-none g c = fault_stays c.from_residual-in_err-elements-2.result _ c.from_residual-in_err-elements-2.ensures.1 λ n. no_functions c.args.explicit c.args.of_expressions c.args.bytes.now c.if-of_expressions.false (c.in_err-elements-2.ensures.none n)
+pub returns-then-of_expressions-clause-none : goal.returns-then-of_expressions-clause-none
+returns-then-of_expressions-clause-none g c = subst (λ b. IfErr c.read_expressions.result (λ e. e ≢ Memory → Rejects (elements_as c.args.explicit b) padded c.args.bytes.now)) (sym c.if-of_expressions.true) c.read_expressions.ensures.none
 
-pub returns-clause-found : goal.returns-clause-found
-returns-clause-found g c = as_functions c.args.explicit c.args.of_expressions c.args.bytes.now _ _ c.if-of_expressions.false c.in_ok-elements-2.ensures.found
+pub returns-else-of_expressions-clause-found : goal.returns-else-of_expressions-clause-found
+returns-else-of_expressions-clause-found g c = subst (λ b. IfOk c.read_functions.result (λ x. Decodes (elements_as c.args.explicit b) padded c.args.bytes.now (list_view x.0) x.1.now)) (sym c.if-of_expressions.false) c.read_functions.ensures.found
+
+pub returns-else-of_expressions-clause-none : goal.returns-else-of_expressions-clause-none
+returns-else-of_expressions-clause-none g c = subst (λ b. IfErr c.read_functions.result (λ e. e ≢ Memory → Rejects (elements_as c.args.explicit b) padded c.args.bytes.now)) (sym c.if-of_expressions.false) c.read_functions.ensures.none
