@@ -382,22 +382,6 @@ expressions_none_implicit explicit bytes p n = no_expressions_at explicit p (map
 
 pub ruleset expression_steps = (expressions_read)
 
--- ---- elements of both kinds
-
-pub as_expressions : (explicit of_expressions : Bool) (bytes rest : List ℕ) (x : ElementList (List Plain)) → of_expressions ≡ true → Decodes (elements_as explicit true) padded bytes x rest → Decodes (elements_as explicit of_expressions) padded bytes x rest
-as_expressions explicit of_expressions bytes rest x e h = subst (λ z. Decodes (elements_as explicit z) padded bytes x rest) (sym e) h
-
-pub no_expressions : (explicit of_expressions : Bool) (bytes : List ℕ) → of_expressions ≡ true → Rejects (elements_as explicit true) padded bytes → Rejects (elements_as explicit of_expressions) padded bytes
-no_expressions explicit of_expressions bytes e n = subst (λ z. Rejects (elements_as explicit z) padded bytes) (sym e) n
-
-pub as_functions : (explicit of_expressions : Bool) (bytes rest : List ℕ) (x : ElementList (List Plain)) → of_expressions ≡ false → Decodes (elements_as explicit false) padded bytes x rest → Decodes (elements_as explicit of_expressions) padded bytes x rest
-as_functions explicit of_expressions bytes rest x e h = subst (λ z. Decodes (elements_as explicit z) padded bytes x rest) (sym e) h
-
-pub no_functions : (explicit of_expressions : Bool) (bytes : List ℕ) → of_expressions ≡ false → Rejects (elements_as explicit false) padded bytes → Rejects (elements_as explicit of_expressions) padded bytes
-no_functions explicit of_expressions bytes e n = subst (λ z. Rejects (elements_as explicit z) padded bytes) (sym e) n
-
-pub ruleset list_steps = (as_expressions)
-
 -- ---- segments
 
 abbrev after_flag : ElementFlag → Format (ElementItem (List Plain))

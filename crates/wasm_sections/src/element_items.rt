@@ -175,7 +175,6 @@ fn read_expressions<'a, A: Allocator + Copy>(
 }
 
 /// Decodes the elements of the kind that the flag selects.
-#[tactic(auto, using(crate::proofs::ElementLaws::list_steps))]
 fn read_elements<'a, A: Allocator + Copy>(
     explicit: bool,
     of_expressions: bool,
