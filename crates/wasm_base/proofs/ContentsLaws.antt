@@ -15,12 +15,12 @@ zip_more R (a ∷ xs) [] x y h r = absurd h
 zip_more R (a ∷ xs) (b ∷ ys) x y h r = (h.0, zip_more R xs ys x y h.1 r)
 
 -- A property that each added record keeps is kept by adding all records of a list.
-all_steps : {Record Item : Type 0} (encoding : Record → List ℕ) (normal_form : Record → Item) (P : Record → Type 0) (Contains : List (List ℕ) → List Item → Type 0)
-    → ((pieces : List (List ℕ)) (items : List Item) (given : Record) → Contains pieces items → P given → Contains (pieces ++ encoding given ∷ []) (items ++ normal_form given ∷ []))
-    → (pieces : List (List ℕ)) (items : List Item) (given : List Record) → Contains pieces items → AllByRecursion P given → Contains (pieces ++ map encoding given) (items ++ map normal_form given)
-all_steps encoding normal_form P Contains step pieces items [] contains plain = rw (append-nil pieces, append-nil items) contains
-all_steps encoding normal_form P Contains step pieces items (g ∷ given) contains plain =
-    let rest = all_steps encoding normal_form P Contains step (pieces ++ encoding g ∷ []) (items ++ normal_form g ∷ []) given (step pieces items g contains plain.0) plain.1 in
+all_steps : {Record Item : Type 0} (encoding : Record → List ℕ) (normal_form : Record → Item) (P : Record → Type 0) (Has : List (List ℕ) → List Item → Type 0)
+    → ((pieces : List (List ℕ)) (items : List Item) (given : Record) → Has pieces items → P given → Has (pieces ++ encoding given ∷ []) (items ++ normal_form given ∷ []))
+    → (pieces : List (List ℕ)) (items : List Item) (given : List Record) → Has pieces items → AllByRecursion P given → Has (pieces ++ map encoding given) (items ++ map normal_form given)
+all_steps encoding normal_form P Has step pieces items [] contains plain = rw (append-nil pieces, append-nil items) contains
+all_steps encoding normal_form P Has step pieces items (g ∷ given) contains plain =
+    let rest = all_steps encoding normal_form P Has step (pieces ++ encoding g ∷ []) (items ++ normal_form g ∷ []) given (step pieces items g contains plain.0) plain.1 in
     rw (append_assoc pieces (encoding g ∷ []) (map encoding given), append_assoc items (normal_form g ∷ []) (map normal_form given)) at rest
 
 module _ {Record Item : Type 0} (kind : Kind Record Item) where
