@@ -141,7 +141,7 @@ impl Encode for RefType {
 
     ghost encodable = { λ _. ⊤ };
 
-    #[inline(always)]
+    #[inline(never)]
     fn encode<A: Allocator>(&self, sink: &mut Vec<u8, A>) -> Result<()> {
         let byte: u8 = match (self.nullable, self.heap_type) {
             (

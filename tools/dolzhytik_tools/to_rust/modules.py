@@ -23,7 +23,7 @@ def turn_places(source: Source) -> None:
     """Makes the replacements of `PLACES`."""
     for it in PLACES:
         if source.path.partition('/')[2] == it.path:
-            place = the_place(source, it.old)
+            place = the_place(source, f'{it.old} {it.behind}')
             source.edit(place, source.after(place, *solid_words(it.old)), it.new, 'place')
 
 
