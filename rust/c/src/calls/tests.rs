@@ -111,15 +111,7 @@ fn minimal_encodings() {
     let rt = crate::host::HostRuntime;
     let alloc = rt.alloc();
     let padded: &[u8] = &[0x86, 0x00, 0x01, 0x85, 0x80, 0x80, 0x80, 0x00, 0x99];
-    check_text(
-        &rt,
-        alloc,
-        5,
-        padded,
-        &mut [9; 4],
-        (3, 8, 0),
-        &[2, 1, 5, 9],
-    );
+    check_text(&rt, alloc, 5, padded, &mut [9; 4], (3, 8, 0), &[2, 1, 5, 9]);
     check_text(&rt, alloc, 5, padded, &mut [9; 2], (3, 8, 0), &[9; 2]);
     check_text(
         &rt,
