@@ -1,12 +1,10 @@
 -- This file proves how a body gains the instructions of operations, one after another.
-use Rattle.std.proofs.Common.{◌≡◌, ℕ, ◌+◌, ◌<◌, List, [], ◌∷◌, ◌++◌, length, take, get_or, Result, Ok, Err, sym, ap, subst, ◌∙◌, append_assoc, append-nil}
-use Rattle.std.specs.List.{flat_map}
-use Rattle.std.specs.Prelude.{OnOk}
-use Rattle.std.proofs.lemmas.List.{map-append, take_more, flat_map_more}
+use Rattle.wasm_base.proofs.Words.{◌≡◌, ℕ, ◌+◌, ◌<◌, List, [], ◌∷◌, ◌++◌, length, take, get_or, Result, Ok, Err, sym, ap, subst, ◌∙◌, append_assoc, append-nil, flat_map, OnOk, map-append, take_more}
+use Rattle.wasm_base.proofs.Words.{flat_map_more}
 use Rattle.std.specs.declared.alloc.Global.{Global}
 use Rattle.wasm_base.specs.declared.refused.Refused.{Refused}
-use Rattle.wasm_code.specs.Bodies.{AddsInstruction, IsWellFormedBody, and_then}
-use Rattle.wasm_insn.specs.Instructions.{IsWellFormedInstruction}
+use Rattle.wasm_code.proofs.Words.{AddsInstruction, IsWellFormedBody, and_then}
+use Rattle.wasm_insn.proofs.Words.{IsWellFormedInstruction}
 use Rattle.wasm_insn.specs.declared.instruction.Instruction.{Instruction}
 use Rattle.examples.specs.Bodies.{row}
 use Rattle.examples.specs.Lowering.{instruction_of, rows_of, GainsOperations}

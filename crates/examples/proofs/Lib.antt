@@ -1,2 +1,5 @@
 pub mod Gains
 pub mod Rows
+pub mod Branch
+pub mod DecodeBodies
+pub mod OneByte

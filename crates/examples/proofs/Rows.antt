@@ -1,14 +1,13 @@
 -- This file proves the operations of a tree whose children are a slice.
-use Rattle.std.proofs.Common.{◌≡◌, ℕ, List, [], ◌∷◌, ◌++◌, refl, sym, ap, ◌∙◌}
+use Rattle.wasm_base.proofs.Words.{◌≡◌, ℕ, List, [], ◌∷◌, ◌++◌, refl, sym, ap, ◌∙◌, flat_map}
 use Rattle.std.specs.Borrow.{Bor}
-use mathlib.Core.Former.{Count}
-use Rattle.std.specs.List.{flat_map}
 use Rattle.examples.specs.Trees.{expr_operations, argument_operations, while_operations, statement_operations, body_operations}
-use Rattle.examples.specs.declared.lowering.Operation.TheVariants as operations
 use Rattle.examples.specs.declared.trees.Expr.{Expr, Row_of-Expr, end_of-Expr, more_of-Expr, items-the_row-Expr, items_hidden-the_row-Expr-0}
 use Rattle.examples.specs.declared.trees.Expr.TheVariants.{Call, Call'}
 use Rattle.examples.specs.declared.trees.Statement.{Statement, Row_of-Statement, end_of-Statement, more_of-Statement, items-the_row-Statement, items_hidden-the_row-Statement-0}
 use Rattle.examples.specs.declared.trees.Statement.TheVariants.{While, While'}
+use mathlib.Core.Former.{Count}
+use Rattle.examples.specs.declared.lowering.Operation.TheVariants as operations
 
 -- The arguments of a call.
 abbrev arguments_of : Expr → (shape : Count) × Row_of-Expr shape

@@ -1,17 +1,14 @@
 -- This file defines the module of a function that adds two numbers.
 use Rattle.std.specs.Prelude.{List, [], ◌∷◌}
 use Rattle.std.specs.declared.alloc.Global.{Global}
-use Rattle.wasm_base.specs.Modules.{SectionDecoding}
+use Rattle.wasm_base.specs.Words.{SectionDecoding}
 use Rattle.wasm_base.specs.declared.types.ValType.TheVariants.{I32}
-use Rattle.wasm_code.specs.Bodies.{Body}
-use Rattle.wasm_code.specs.Code.{code_decoding}
-use Rattle.wasm_code.specs.Expressions.{normal_row}
+use Rattle.wasm_code.specs.Words.{Body, code_decoding, normal_row}
 use Rattle.wasm_insn.specs.declared.instruction.Instruction.TheVariants.{LocalGet, Numeric, End}
 use Rattle.wasm_insn.specs.declared.numeric.Numeric.TheVariants.{I32Add}
-use Rattle.wasm_sections.specs.Exports.{ExportItem, export_decoding}
-use Rattle.wasm_sections.specs.Functions.{function_decoding}
+use Rattle.wasm_sections.specs.Words.{ExportItem, export_decoding, function_decoding}
 use Rattle.wasm_sections.specs.declared.export.ExportKind.TheVariants.{Func}
-use Rattle.wasm_types.specs.RecTypes.{TypeItem, func, type_decoding, plain_type}
+use Rattle.wasm_types.specs.Words.{TypeItem, func, type_decoding, plain_type}
 
 -- The type of a function of two numbers that returns one.
 abbrev pub adding_type : TypeItem

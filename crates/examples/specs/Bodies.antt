@@ -2,11 +2,9 @@
 use Rattle.std.specs.Prelude.{ℕ, [], ◌∷◌, pos}
 use Rattle.std.specs.declared.alloc.Global.{Global}
 use Rattle.wasm_base.specs.declared.types.ValType.TheVariants.{I32}
-use Rattle.wasm_code.specs.Bodies.{Body}
-use Rattle.wasm_code.specs.Expressions.{normal_row}
-use Rattle.wasm_code.specs.Laws.{br_table_row}
+use Rattle.wasm_code.specs.Words.{Body, normal_row, br_table_row}
 use Rattle.wasm_immediates.specs.declared.block_type.BlockType.TheVariants.{Empty}
-use Rattle.wasm_insn.specs.Plain.{Plain}
+use Rattle.wasm_insn.specs.Words.{Plain}
 use Rattle.wasm_insn.specs.declared.instruction.Instruction.{Instruction}
 use Rattle.wasm_insn.specs.declared.instruction.Instruction.TheVariants.{Block, LocalGet, Numeric, BrIf, I32Const, Call, Return, End}
 use Rattle.wasm_insn.specs.declared.numeric.Numeric.TheVariants.{I32Eqz, I32Sub, I32Mul}

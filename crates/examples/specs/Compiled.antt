@@ -1,13 +1,11 @@
 -- This file defines the module of compiled functions.
 use Rattle.std.specs.Prelude.{List, [], ◌∷◌, pos, codes}
-use Rattle.wasm_base.specs.Modules.{SectionDecoding}
+use Rattle.wasm_base.specs.Words.{SectionDecoding}
 use Rattle.wasm_base.specs.declared.types.ValType.TheVariants.{I32}
-use Rattle.wasm_code.specs.Bodies.{Body}
-use Rattle.wasm_code.specs.Code.{code_decoding}
-use Rattle.wasm_sections.specs.Exports.{ExportItem, export_decoding}
-use Rattle.wasm_sections.specs.Functions.{function_decoding}
+use Rattle.wasm_code.specs.Words.{Body, code_decoding}
+use Rattle.wasm_sections.specs.Words.{ExportItem, export_decoding, function_decoding}
 use Rattle.wasm_sections.specs.declared.export.ExportKind.TheVariants.{Func}
-use Rattle.wasm_types.specs.RecTypes.{TypeItem, func, type_decoding, plain_type}
+use Rattle.wasm_types.specs.Words.{TypeItem, func, type_decoding, plain_type}
 use Rattle.examples.specs.Adding.{adding_type}
 use Rattle.examples.specs.Lowering.{body_of}
 use Rattle.examples.specs.declared.lowering.Operator.TheVariants.{Add, Subtract, Multiply}

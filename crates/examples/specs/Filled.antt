@@ -1,18 +1,13 @@
 -- This file defines the module that fills a table and a memory.
 use Rattle.std.specs.Prelude.{ℕ, List, [], ◌∷◌, false, None, pos}
-use Rattle.wasm_base.specs.Modules.{SectionDecoding, raw_decoding}
-use Rattle.wasm_base.specs.Types.{FUNCREF}
-use Rattle.wasm_insn.specs.Plain.{Plain}
+use Rattle.wasm_base.specs.Words.{SectionDecoding, raw_decoding, FUNCREF}
+use Rattle.wasm_insn.specs.Words.{Plain}
 use Rattle.wasm_insn.specs.declared.instruction.Instruction.TheVariants.{I32Const, RefFunc}
-use Rattle.wasm_sections.specs.DataSegments as segments
-use Rattle.wasm_sections.specs.Elements as elements
-use Rattle.wasm_sections.specs.DataSegments.{data_count_decoding, data_decoding}
-use Rattle.wasm_sections.specs.Elements.{element_decoding}
-use Rattle.wasm_sections.specs.Imports.{import_decoding}
-use Rattle.wasm_sections.specs.Memories.{memory_decoding}
-use Rattle.wasm_sections.specs.Tables.{TableItem, table_decoding}
+use Rattle.wasm_sections.specs.Words.{data_count_decoding, data_decoding, element_decoding, import_decoding, memory_decoding, TableItem, table_decoding}
 use Rattle.examples.specs.Bodies.{row}
 use Rattle.examples.specs.Whole.{ready, one_page}
+use Rattle.wasm_sections.specs.DataSegments as segments
+use Rattle.wasm_sections.specs.Elements as elements
 
 -- The payload of a type section with one type, of a function without parameters and results.
 abbrev pub one_type : List ℕ

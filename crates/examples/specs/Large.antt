@@ -1,10 +1,9 @@
 -- This file defines the module of 64-bit numbers.
 use Rattle.std.specs.Prelude.{List, [], ◌∷◌, true, false, Some, None, pos, neg_ℤ}
-use Rattle.wasm_base.specs.Modules.{SectionDecoding}
+use Rattle.wasm_base.specs.Words.{SectionDecoding}
 use Rattle.wasm_base.specs.declared.types.ValType.TheVariants.{I64}
 use Rattle.wasm_insn.specs.declared.instruction.Instruction.TheVariants.{I64Const}
-use Rattle.wasm_sections.specs.Globals.{GlobalItem, global_decoding}
-use Rattle.wasm_sections.specs.Memories.{memory_decoding}
+use Rattle.wasm_sections.specs.Words.{GlobalItem, global_decoding, memory_decoding}
 use Rattle.wasm_sections.specs.declared.memory.MemoryType.{MemoryType}
 use Rattle.examples.specs.Bodies.{row}
 

@@ -10,3 +10,11 @@ pub mod Trees
 pub mod Compiled
 pub mod Object
 pub mod Large
+pub mod Customs
+pub mod Declarations
+pub mod Decodings
+pub mod Dumps
+pub mod FirstValues
+pub mod Handed
+pub mod ReadPadded
+pub mod Stored

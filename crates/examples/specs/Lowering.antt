@@ -2,11 +2,10 @@
 use Rattle.std.specs.Prelude.{ℕ, List, [], ◌∷◌, ◌++◌, map}
 use Rattle.std.specs.declared.alloc.Global.{Global}
 use Rattle.wasm_base.specs.declared.types.ValType.TheVariants.{I32}
-use Rattle.wasm_code.specs.Bodies.{Body, IsWellFormedBody, and_then}
+use Rattle.wasm_code.specs.Words.{Body, IsWellFormedBody, and_then}
 use Rattle.wasm_immediates.specs.declared.block_type.BlockType.TheVariants.{Empty}
-use Rattle.wasm_insn.specs.Plain.{Plain}
+use Rattle.wasm_insn.specs.Words.{Plain}
 use Rattle.wasm_insn.specs.declared.instruction.Instruction.{Instruction}
-use Rattle.wasm_insn.specs.declared.instruction.Instruction.TheVariants as instructions
 use Rattle.wasm_insn.specs.declared.numeric.Numeric.{Numeric}
 use Rattle.wasm_insn.specs.declared.numeric.Numeric.TheVariants.{I32Add, I32Sub, I32Mul, I32Eq, I32LtS, I32Eqz}
 use Rattle.examples.specs.Bodies.{row}
@@ -14,6 +13,7 @@ use Rattle.examples.specs.declared.lowering.Operator.{Operator}
 use Rattle.examples.specs.declared.lowering.Operator.TheVariants.{Add, Subtract, Multiply, Equal, Less}
 use Rattle.examples.specs.declared.lowering.Operation.{Operation}
 use Rattle.examples.specs.declared.lowering.Operation.TheVariants.{Constant, Get, Set, Binary, IsZero, Block, Loop, Branch, BranchIf, Call, Return, End}
+use Rattle.wasm_insn.specs.declared.instruction.Instruction.TheVariants as instructions
 
 -- The numeric instruction of an operator.
 unfoldable pub numeric_of : Operator → Numeric

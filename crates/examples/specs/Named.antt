@@ -1,6 +1,6 @@
 -- This file defines names for debuggers.
 use Rattle.std.specs.Prelude.{ℕ, List, [], ◌∷◌, codes}
-use Rattle.wasm_custom.specs.Names.{Naming, NameItem, Module, Map, Indirect}
+use Rattle.wasm_custom.specs.Words.{Naming, NameItem, Module, Map, Indirect}
 
 -- The name "x" of local 0.
 abbrev pub x_at_0 : List Naming

@@ -1,24 +1,19 @@
 -- This file defines the module for a linker.
 use Rattle.std.specs.Prelude.{List, [], ◌∷◌, Some, None, pos, codes}
-use Rattle.wasm_base.specs.Modules.{SectionDecoding}
+use Rattle.wasm_base.specs.Words.{SectionDecoding}
 use Rattle.wasm_base.specs.declared.types.ValType.TheVariants.{I32}
-use Rattle.wasm_code.specs.Bodies.{Body}
-use Rattle.wasm_code.specs.Code.{code_decoding}
-use Rattle.wasm_custom.specs.Hints.{Hints, hints_decoding}
-use Rattle.wasm_custom.specs.Linking.{LinkItem, Symbols, linking_decoding}
-use Rattle.wasm_custom.specs.Producers.{Field, producers_decoding}
-use Rattle.wasm_custom.specs.Symbols.{Symbol, indexed}
-use Rattle.wasm_custom.specs.declared.symbols.SymbolKind.TheVariants as kinds
+use Rattle.wasm_code.specs.Words.{Body, code_decoding}
+use Rattle.wasm_custom.specs.Words.{Hints, hints_decoding, LinkItem, Symbols, linking_decoding, Field, producers_decoding, Symbol, indexed}
 use Rattle.wasm_immediates.specs.declared.block_type.BlockType.TheVariants.{Empty}
 use Rattle.wasm_immediates.specs.declared.memory.MemArg.{MemArg}
 use Rattle.wasm_immediates.specs.declared.memory.MemArgTarget.TheVariants.{Memory}
 use Rattle.wasm_insn.specs.declared.instruction.Instruction.TheVariants.{Block, LocalGet, I32Load, I32Store, Numeric, BrIf, I32Const, End}
 use Rattle.wasm_insn.specs.declared.numeric.Numeric.TheVariants.{I32Eqz, I32Sub}
-use Rattle.wasm_sections.specs.Functions.{function_decoding}
-use Rattle.wasm_sections.specs.Memories.{memory_decoding}
-use Rattle.wasm_types.specs.RecTypes.{TypeItem, func, type_decoding, plain_type}
+use Rattle.wasm_sections.specs.Words.{function_decoding, memory_decoding}
+use Rattle.wasm_types.specs.Words.{TypeItem, func, type_decoding, plain_type}
 use Rattle.examples.specs.Bodies.{row}
 use Rattle.examples.specs.Whole.{one_page}
+use Rattle.wasm_custom.specs.declared.symbols.SymbolKind.TheVariants as kinds
 
 -- The type of a function of an address that returns nothing.
 abbrev pub address_type : TypeItem

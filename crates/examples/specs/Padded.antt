@@ -1,9 +1,9 @@
 -- This file defines the items of sections with padded LEB128.
 use Rattle.std.specs.Prelude.{[], ◌∷◌, false, ℤ}
 use Rattle.wasm_base.specs.declared.types.ValType.TheVariants.{I32}
-use Rattle.wasm_code.specs.Bodies.{Body}
+use Rattle.wasm_code.specs.Words.{Body}
 use Rattle.wasm_insn.specs.declared.instruction.Instruction.TheVariants.{I32Const, End}
-use Rattle.wasm_sections.specs.Globals.{GlobalItem}
+use Rattle.wasm_sections.specs.Words.{GlobalItem}
 use Rattle.examples.specs.Bodies.{row}
 
 -- A body without locals, and `end`.

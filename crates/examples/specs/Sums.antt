@@ -1,10 +1,10 @@
 -- This file defines the globals whose initial value is a sum.
 use Rattle.std.specs.Prelude.{ℕ, [], ◌∷◌, false, List, pos}
 use Rattle.wasm_base.specs.declared.types.ValType.TheVariants.{I32}
-use Rattle.wasm_insn.specs.Plain.{Plain}
+use Rattle.wasm_insn.specs.Words.{Plain}
 use Rattle.wasm_insn.specs.declared.instruction.Instruction.TheVariants.{GlobalGet, I32Const, Numeric}
 use Rattle.wasm_insn.specs.declared.numeric.Numeric.TheVariants.{I32Add}
-use Rattle.wasm_sections.specs.Globals.{GlobalItem}
+use Rattle.wasm_sections.specs.Words.{GlobalItem}
 use Rattle.examples.specs.Bodies.{row}
 
 -- The expression that adds 5 to the global of this index.

@@ -1,11 +1,11 @@
 -- This file defines the operations that expressions and statements compile to.
 use Rattle.std.specs.Prelude.{List, [], ◌∷◌, ◌++◌}
 use Rattle.examples.specs.declared.lowering.Operation.{Operation}
-use Rattle.examples.specs.declared.lowering.Operation.TheVariants as operations
 use Rattle.examples.specs.declared.trees.Expr.{Expr, Row_of-Expr, end_of-Expr, more_of-Expr}
 use Rattle.examples.specs.declared.trees.Expr.TheVariants.{Constant, Local, Binary', Call'}
 use Rattle.examples.specs.declared.trees.Statement.{Statement, Row_of-Statement, end_of-Statement, more_of-Statement}
 use Rattle.examples.specs.declared.trees.Statement.TheVariants.{Set, While', Return}
+use Rattle.examples.specs.declared.lowering.Operation.TheVariants as operations
 
 abbrev mutual
   -- The operations of an expression: those of its operands, then its own.

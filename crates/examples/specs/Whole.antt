@@ -1,18 +1,13 @@
 -- This file defines the module of eight sections.
 use Rattle.std.specs.Prelude.{ℕ, List, [], ◌∷◌, ◌++◌, true, false, None, pos}
-use Rattle.wasm_base.specs.Modules.{SectionDecoding, raw_decoding}
+use Rattle.wasm_base.specs.Words.{SectionDecoding, raw_decoding}
 use Rattle.wasm_base.specs.declared.types.ValType.TheVariants.{I32}
-use Rattle.wasm_code.specs.Bodies.{Body}
-use Rattle.wasm_code.specs.Code.{code_decoding}
+use Rattle.wasm_code.specs.Words.{Body, code_decoding}
 use Rattle.wasm_insn.specs.declared.instruction.Instruction.TheVariants.{GlobalGet, GlobalSet, I32Const, Call, End}
-use Rattle.wasm_sections.specs.Exports.{ExportItem, export_decoding}
-use Rattle.wasm_sections.specs.Globals.{GlobalItem, global_decoding}
-use Rattle.wasm_sections.specs.Imports.{ImportItem, single, alike, import_decoding}
-use Rattle.wasm_sections.specs.Functions.{function_decoding, start_decoding}
-use Rattle.wasm_sections.specs.Memories.{memory_decoding}
+use Rattle.wasm_sections.specs.Words.{ExportItem, export_decoding, GlobalItem, global_decoding, ImportItem, single, alike, import_decoding, function_decoding, start_decoding, memory_decoding}
+use Rattle.wasm_sections.specs.declared.memory.MemoryType.{MemoryType}
 use Rattle.wasm_sections.specs.declared.export.ExportKind.TheVariants.{Func, Memory}
 use Rattle.wasm_sections.specs.declared.import.EntityType.TheVariants.{Function}
-use Rattle.wasm_sections.specs.declared.memory.MemoryType.{MemoryType}
 use Rattle.examples.specs.Bodies.{row, factorial_body}
 
 -- The payload of a type section with two types: of nothing to nothing, and of a number to a number.

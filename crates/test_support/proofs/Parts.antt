@@ -1,6 +1,7 @@
 -- This file proves that a `&` to a `Refusing` is one to its allocator and one to its gate. It
 -- assumes `Logic`.
 use Rattle.std.proofs.Common.{ℕ, ◌+◌, [], ◌∷◌}
+use Rattle.std.proofs.alloc.Calls.{Al, α, seen}
 use seplogic.Ra.Ura.{Ura}
 use base.Logic.{ent, sep, id⊢}
 use base.Fml.{Lft, Fml}
@@ -11,7 +12,6 @@ use denote.RattleType.{RattleType}
 use denote.Memory.{hidden_shr}
 use denote.Opens.{unhide}
 use denote.Param.{param}
-use Rattle.std.proofs.alloc.Calls.{Al, α, seen}
 use Rattle.test_support.specs.contracts.memory.Gate as gate
 use Rattle.test_support.specs.contracts.memory.Refusing as refusing
 

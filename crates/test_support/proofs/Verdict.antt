@@ -1,6 +1,7 @@
 -- This file proves a call of `Gate::refuses`: it takes a `&` to the gate, and returns a `bool`. It
 -- assumes `Logic`.
 use Rattle.std.proofs.Common.{◌≡◌, ℕ, List, [], ◌∷◌, refl, ap}
+use Rattle.test_support.proofs.Parts.{gate_seen}
 use seplogic.Ra.Ura.{Ura}
 use mathlib.Core.Bool.{Bool}
 use mir.Val.{Val, vbool, vptr}
@@ -15,7 +16,6 @@ use denote.Builtin.{bool}
 use denote.Steps.{nothing, only}
 use denote.Triple.Spec.{triple_of}
 use denote.Triple.Statement.{Contract}
-use Rattle.test_support.proofs.Parts.{gate_seen}
 use Rattle.test_support.specs.contracts.memory.Gate as gate
 use Rattle.test_support.specs.contracts.memory.Gate.refuses as refuses
 

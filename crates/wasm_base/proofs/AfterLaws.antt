@@ -1,8 +1,6 @@
 -- This file proves that a format without a value, then one with a value, is unambiguous.
-use Rattle.std.proofs.Common.{ℕ, List, ◌++◌, refl}
-use Rattle.wasm_base.specs.Formats.{Format, just, after}
-use Rattle.wasm_base.specs.Numbers.{Mode}
-use Rattle.wasm_base.specs.Decoding.{Unambiguous, UnambiguousWhole}
+use Rattle.wasm_base.proofs.Std.{ℕ, List, ◌++◌, refl}
+use Rattle.wasm_base.specs.{Format, just, after, Mode, Unambiguous, UnambiguousWhole}
 use Rattle.wasm_base.proofs.FormatLaws.{mapped_whole, pair_whole}
 
 pub just_unambiguous : {X : Type 0} (x : X) {F : Format X} → Unambiguous F → Unambiguous (just x F)

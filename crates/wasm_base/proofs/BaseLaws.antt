@@ -1,11 +1,10 @@
 -- This file proves the laws of this crate's formats.
-use Rattle.std.proofs.Common.{ℕ, List, [], ◌∷◌, ◌++◌, length, pos, refl, arith}
+use Rattle.wasm_base.proofs.Std.{ℕ, List, [], ◌∷◌, ◌++◌, length, pos, refl, arith, ◌≡◌, ◌+◌, ap, ℤ, negsuc}
 use Rattle.std.specs.Prelude.{IsUtf8}
-use Rattle.wasm_base.specs.Numbers.{minimal, padded, unsigned_encoding, signed_encoding}
-use Rattle.wasm_base.specs.Formats.{Format, u32, u64, s32, s64, s33, little_endian, byte, any_bytes, members, pair, vec, size_prefixed, name, custom, wasm_module}
-use Rattle.wasm_base.specs.Decoding.{Unambiguous, UnambiguousWhole, HasMinimalEncodings, UnambiguousPadded, UnambiguousWholePadded}
-use Rattle.wasm_base.specs.Encodings.{vec_encoding, IsEncodableVec, size_prefixed_encoding, HasEncodableSize, little_endian_encoding}
-use Rattle.wasm_base.specs.Laws.{IsUnsignedInRange, IsByteNumberInRange, IsSigned32InRange, IsSigned64InRange, IsEncodableName, custom_encoding, IsEncodableCustom}
+use Rattle.wasm_base.specs.{minimal, padded, unsigned_encoding, signed_encoding, Format, u32, u64, s32, s64, s33, little_endian, byte, any_bytes, members, pair, vec, size_prefixed, name, custom}
+use Rattle.wasm_base.specs.{wasm_module, twos_complement, vector_format, IsVector, Unambiguous, UnambiguousWhole, HasMinimalEncodings, UnambiguousPadded, UnambiguousWholePadded, vec_encoding}
+use Rattle.wasm_base.specs.{IsEncodableVec, size_prefixed_encoding, HasEncodableSize, little_endian_encoding, IsUnsignedInRange, IsByteNumberInRange, IsSigned32InRange, IsSigned64InRange}
+use Rattle.wasm_base.specs.{IsEncodableName, custom_encoding, IsEncodableCustom}
 use Rattle.wasm_base.proofs.NumberLaws.{unsigned_unambiguous, signed_unambiguous, u32_unambiguous}
 use Rattle.wasm_base.proofs.FormatLaws.{little_endian_unambiguous, byte_unambiguous, any_bytes_whole, pair_whole, vec_unambiguous, size_prefixed_unambiguous, such_unambiguous}
 use Rattle.wasm_base.proofs.EncodingLaws.{little_endian_encodes, u32_encodes, u64_encodes, s32_encodes, s64_encodes, s33_encodes, size_prefixed_encodes, name_encodes, vec_encodes}
@@ -173,3 +172,23 @@ pub padded-module : UnambiguousWholePadded wasm_module
 padded-module = unambiguous_whole_padded module_whole
 
 pub ruleset padded_laws = (padded-u32, padded-u64, padded-s32, padded-s64, padded-s33, padded-fixed_4, padded-fixed_8, padded-fixed_16, padded-name, padded-vec-bytes, padded-vec-u32, padded-vec-names, padded-size_prefixed, padded-custom, padded-module)
+
+same_vector : (v w : ℤ) → IsVector v → IsVector w → twos_complement 128 v ≡ twos_complement 128 w → v ≡ w
+same_vector (pos n) (pos m) h g e = ap pos e
+same_vector (pos n) (negsuc m) h g e = absurd (omega (arith, h, g, e))
+same_vector (negsuc n) (pos m) h g e = absurd (omega (arith, h, g, e))
+same_vector (negsuc n) (negsuc m) h g e = let same : n ≡ m = omega (arith, h, g, e) in ap negsuc same
+
+pub vector_unambiguous : Unambiguous vector_format
+vector_unambiguous =
+    let f = little_endian_unambiguous 16 in
+    record {
+      unique = λ mode s t r q x y h g e.
+          let a = f.unique mode s t r q (twos_complement 128 x) (twos_complement 128 y) h.0 g.0 e in
+          (same_vector x y h.1 g.1 a.0, a.1, a.2);
+      encodings = record {
+        one = λ w s t x h g. f.encodings.one w s t (twos_complement 128 x) h.0 g.0;
+        included = λ m n below s x h. h;
+        shorter = λ w s x h. let a = f.encodings.shorter w s (twos_complement 128 x) h.0 in (a.0, (a.1, h.1), a.2);
+      };
+    }

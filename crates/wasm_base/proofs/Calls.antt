@@ -1,22 +1,12 @@
 -- This file proves the effect of each call on a builder or a module: lemmas that a caller's proof
 -- cites.
-use Rattle.std.proofs.Common.{◌≡◌, ℕ, zero, suc, ◌<◌, List, [], ◌∷◌, ◌++◌, Bool, true, ltb, ◌&&◌, slice_index, map, IsUtf8, Result, Ok, Err, arith, refl, sym, subst}
-use Rattle.std.proofs.lemmas.Bool.{ltb-true, and_parts}
-use Rattle.std.proofs.lemmas.List.Elements.{All-head, All-tail}
-use Rattle.std.proofs.lemmas.Str.{IsUtf8-from_ascii}
-use Rattle.std.specs.List.{All, AllByRecursion}
-use Rattle.std.specs.Prelude.{OnOk}
-use Rattle.std.specs.declared.vec.Vec.{Vec}
+use Rattle.wasm_base.proofs.Std.{◌≡◌, ℕ, zero, suc, ◌<◌, List, [], ◌∷◌, ◌++◌, Bool, true, ltb, ◌&&◌, slice_index, map, IsUtf8, Result, Ok, Err, arith, refl, sym, subst, ltb-true, and_parts, All-head}
+use Rattle.wasm_base.proofs.Std.{All-tail, IsUtf8-from_ascii, All, AllByRecursion, OnOk, Vec}
 use Rattle.wasm_base.specs.declared.refused.Refused.{Refused}
-use Rattle.wasm_base.specs.Calls.{AddsEach, Appends, DecodesOneMore, DecodesBack, DecodesBackBoth}
-use Rattle.wasm_base.specs.Entries.{Kind, ContainsItems, ContainsPadded, counted_format}
-use Rattle.wasm_base.specs.Laws.{ContainsMorePadded}
-use Rattle.wasm_base.specs.Numbers.{minimal, padded}
-use Rattle.wasm_base.specs.Formats.{Format, any_bytes, size_prefixed, vec, wasm_module}
-use Rattle.wasm_base.specs.Modules.{SectionDecoding, decoding_of, padded_decoding_of, raw_decoding, AreDecoded, DecodesSections, DecodesPayloads, GainsDecoding, GainsDecodingPadded}
-use Rattle.wasm_base.specs.Pieces.{SectionPayload, IsEncodableSection, section_encoding, section_sized}
-use Rattle.wasm_base.specs.Decoding.{DecodesUniquely, DecodesUniquelyPadded, DecodesWhole}
-use Rattle.wasm_base.specs.Encodings.{IsSizePrefixed, size_prefixed_encoding, HasEncodableSize, raw_sized}
+use Rattle.wasm_base.specs.{AddsEach, Appends, DecodesOneMore, DecodesBack, DecodesBackBoth, Kind, ContainsItems, ContainsPadded, counted_format, ContainsMorePadded, minimal, padded, Format}
+use Rattle.wasm_base.specs.{any_bytes, size_prefixed, vec, wasm_module, SectionDecoding, decoding_of, padded_decoding_of, raw_decoding, AreDecoded, DecodesSections, DecodesPayloads, GainsDecoding}
+use Rattle.wasm_base.specs.{GainsDecodingPadded, SectionPayload, IsEncodableSection, section_encoding, section_sized, DecodesUniquely, DecodesUniquelyPadded, DecodesWhole, IsSizePrefixed}
+use Rattle.wasm_base.specs.{size_prefixed_encoding, HasEncodableSize, raw_sized}
 use Rattle.wasm_base.proofs.ContentsLaws.{contains_more}
 use Rattle.wasm_base.proofs.Payloads.{bytes-payload, payload-decodes-padded}
 

@@ -1,11 +1,6 @@
 -- This file proves which items a builder holds as calls add to it.
-use Rattle.std.proofs.Common.{ℕ, List, [], ◌∷◌, ◌++◌, map, refl, sym, ap, subst, ◌∙◌, append_assoc, append-nil}
-use Rattle.std.proofs.lemmas.List.{map-append}
-use Rattle.std.specs.List.{AllByRecursion, AllZip}
-use Rattle.wasm_base.specs.Entries.{Kind, Entry, Given, Raw, entry_encoding, Means, ContainsItems, EncodesPadded, ContainsPadded, ItemLaws}
-use Rattle.wasm_base.specs.Laws.{ContainsMore, ContainsMorePadded}
-use Rattle.wasm_base.specs.Numbers.{padded, minimal}
-use Rattle.wasm_base.specs.Encodings.{HasEncodableSize}
+use Rattle.wasm_base.proofs.Std.{ℕ, List, [], ◌∷◌, ◌++◌, map, refl, sym, ap, subst, ◌∙◌, append_assoc, append-nil, map-append, AllByRecursion, AllZip}
+use Rattle.wasm_base.specs.{Kind, Entry, Given, Raw, entry_encoding, Means, ContainsItems, EncodesPadded, ContainsPadded, ItemLaws, ContainsMore, ContainsMorePadded, padded, minimal, HasEncodableSize}
 use Rattle.wasm_base.proofs.EntryLaws.{entry_encodes}
 
 zip_more : {X Y : Type 0} (R : X → Y → Type 0) (xs : List X) (ys : List Y) (x : X) (y : Y) → AllZip R xs ys → R x y → AllZip R (xs ++ x ∷ []) (ys ++ y ∷ [])

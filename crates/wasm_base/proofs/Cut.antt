@@ -1,8 +1,7 @@
 -- This file proves where the pieces of one buffer begin and end.
-use Rattle.std.proofs.Common.{◌≡◌, ℕ, ◌+◌, ◌-◌, ◌<◌, ◌≤◌, List, [], ◌∷◌, ◌++◌, length, take, drop, get_or, refl, sym, ap, ◌∙◌, arith, append_assoc, subst, append-nil, length-append, Some, zero, suc}
-use Rattle.std.proofs.Math.Seq.{take-append_seam, drop-append_seam, drop-append-add}
-use Rattle.std.specs.List.{slice_get}
-use Rattle.wasm_base.specs.Pieces.{joined, ends_from, cut_from, IsCut}
+use Rattle.wasm_base.proofs.Std.{◌≡◌, ℕ, ◌+◌, ◌-◌, ◌<◌, ◌≤◌, List, [], ◌∷◌, ◌++◌, length, take, drop, get_or, refl, sym, ap, ◌∙◌, arith, append_assoc, subst, append-nil, length-append, Some, zero}
+use Rattle.wasm_base.proofs.Std.{suc, take-append_seam, drop-append_seam, drop-append-add, slice_get}
+use Rattle.wasm_base.specs.{joined, ends_from, cut_from, IsCut}
 
 -- Cutting the joined pieces at their ends gives the pieces.
 pub cut_joined : (from : ℕ) (ps : List (List ℕ)) → cut_from from (ends_from from ps) (joined ps) ≡ ps

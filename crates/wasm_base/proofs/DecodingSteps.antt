@@ -1,9 +1,8 @@
 -- This file proves that the steps of a reader decode the whole, or show that it does not decode.
-use Rattle.std.proofs.Common.{◌≡◌, ℕ, ◌<◌, ◌≤◌, List, [], ◌∷◌, ◌++◌, length, take, drop, slice_index_or, suc, ◌-◌, refl, sym, ap, subst, ◌∙◌, append_assoc, append-nil, arith}
-use Rattle.std.proofs.lemmas.List.{length-append, take-append-drop, length-take-le, take_all}
-use Rattle.wasm_base.specs.Numbers.{Mode, padded}
-use Rattle.wasm_base.specs.Formats.{Format, u32, byte, Then, mapped, such, members, vec, size_prefixed}
-use Rattle.wasm_base.specs.Decoding.{Unambiguous, Decodes, Rejects}
+use Rattle.wasm_base.proofs.Std.{◌≡◌, ℕ, ◌<◌, ◌≤◌, List, [], ◌∷◌, ◌++◌, length, take, drop, slice_index_or, suc, ◌-◌, refl, sym, ap, subst, ◌∙◌, append_assoc, append-nil, arith, take-append-drop}
+use Rattle.wasm_base.proofs.Std.{length-take-le, take_all}
+use Rattle.std.proofs.lemmas.List.{length-append}
+use Rattle.wasm_base.specs.{Mode, padded, Format, u32, byte, Then, mapped, such, members, vec, size_prefixed, Unambiguous, Decodes, Rejects}
 use Rattle.wasm_base.proofs.NumberLaws.{u32_unambiguous}
 
 -- If a format decodes the same bytes twice, the values and the suffixes are equal.

@@ -1,18 +1,11 @@
 -- This file proves that encodings encode their values, and decode to them alone.
-use Rattle.std.proofs.Common.{◌≡◌, ℕ, zero, suc, ◌+◌, ◌-◌, ◌/◌, ◌%◌, ◌^◌, ◌<◌, ◌≤◌, ◌⊎◌, List, [], ◌∷◌, ◌++◌, length, Bool, true, false, refl, sym, ap, subst, ◌∙◌, arith, inl, inr, ℤ, pos, negsuc, neg_ℤ, ◌+ℤ◌, ◌*ℤ◌, ◌≤ℤ◌, ◌<ℤ◌, IsUtf8, le_refl}
-use Rattle.std.proofs.lemmas.Bool.{cases_lt}
-use Rattle.std.proofs.lemmas.Int.{ints}
-use Rattle.std.proofs.Math.Nat.{pow-suc}
-use Rattle.std.proofs.lemmas.List.Elements.{All-head, All-tail}
-use Rattle.std.specs.List.{All, AllZip, flat_map}
-use Rattle.wasm_base.specs.Numbers.{Mode, minimal, padded, AreGroups, groups_sum, IsUnsignedSize, signed_sum, IsMinimalSigned, next_group, last_group, groups_encoding, unsigned_encoding, signed_encoding, standard_minimal, standard, builders, IsOfBuilders}
-use Rattle.wasm_base.specs.Formats.{Format, u32, u64, s32, s64, s33, byte, any_bytes, little_endian, tagged, members, vec, size_prefixed, name}
-use Rattle.wasm_base.specs.Decoding.{DecodesUniquely, DecodesUniquelyPadded, DecodesWhole, Unambiguous, UnambiguousWhole, HasEncodings, IsIncludedIn}
-use Rattle.wasm_base.specs.Encodings.{longest, vec_encoding, IsEncodableVec, size_prefixed_encoding, HasEncodableSize, little_endian_encoding}
-use Rattle.wasm_base.specs.Pieces.{joined, section_encoding, IsEncodableSection}
-use Rattle.wasm_base.specs.Calls.{DecodesBack}
-use Rattle.wasm_base.specs.Laws.{IsSigned32InRange, IsSigned64InRange}
-use Rattle.wasm_base.proofs.NumberLaws.{u32_unambiguous, one_more, last_of_one, single_low, single_high, signed_step}
+use Rattle.wasm_base.proofs.Std.{◌≡◌, ℕ, zero, suc, ◌+◌, ◌-◌, ◌/◌, ◌%◌, ◌^◌, ◌<◌, ◌≤◌, ◌⊎◌, List, [], ◌∷◌, ◌++◌, length, Bool, true, false, refl, sym, ap, subst, ◌∙◌, arith, inl, inr, ℤ, pos, negsuc}
+use Rattle.wasm_base.proofs.Std.{neg_ℤ, ◌+ℤ◌, ◌*ℤ◌, ◌≤ℤ◌, ◌<ℤ◌, IsUtf8, le_refl, cases_lt, ints, pow-suc, All-head, All-tail, All, AllZip, flat_map}
+use Rattle.wasm_base.specs.{Mode, minimal, padded, AreGroups, groups_sum, IsUnsignedSize, signed_sum, IsMinimalSigned, next_group, last_group, groups_encoding, unsigned_encoding, signed_encoding}
+use Rattle.wasm_base.specs.{standard_minimal, standard, builders, IsOfBuilders, Format, u32, u64, s32, s64, s33, byte, any_bytes, little_endian, tagged, members, vec, size_prefixed, name}
+use Rattle.wasm_base.specs.{DecodesUniquely, DecodesUniquelyPadded, DecodesWhole, Unambiguous, UnambiguousWhole, HasEncodings, IsIncludedIn, longest, vec_encoding, IsEncodableVec}
+use Rattle.wasm_base.specs.{size_prefixed_encoding, HasEncodableSize, little_endian_encoding, joined, section_encoding, IsEncodableSection, DecodesBack, IsSigned32InRange, IsSigned64InRange}
+use Rattle.wasm_base.proofs.NumberLaws.{u32_unambiguous, one_group_more, last_of_one, single_low, single_high, signed_step}
 use Rattle.wasm_base.proofs.NumberEncodings.{groups_encoding-last, groups_encoding-more}
 use Rattle.wasm_base.proofs.FormatLaws.{any_bytes_whole, size_prefixed_unambiguous}
 
@@ -67,7 +60,7 @@ IsEncodingOf s n = AreGroups s × (groups_sum s ≡ n) × IsUnsignedSize minimal
 one_more_group : (n : ℕ) → 128 ≤ n → (t : List ℕ) → IsEncodingOf t (n / 128) → IsEncodingOf ((n % 128 + 128) ∷ t) n
 one_more_group n high t rest =
     let some : 0 < groups_sum t = omega (arith, rest.1) in
-    let grown = one_more (n % 128) t (omega arith) rest.0 (last_of_one t rest.0 some rest.2) in
+    let grown = one_group_more (n % 128) t (omega arith) rest.0 (last_of_one t rest.0 some rest.2) in
     (grown.0, omega (arith, grown.1, rest.1), inr grown.2)
 
 unsigned_encoding-encodes : (more n : ℕ) → n ≤ more → IsEncodingOf (unsigned_encoding n) n

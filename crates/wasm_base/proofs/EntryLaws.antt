@@ -1,13 +1,7 @@
 -- This file proves that a section of counted items decodes to these alone.
-use Rattle.std.proofs.Common.{ℕ, ◌≤◌, List, [], ◌∷◌, length, map, sym, subst, arith, length-append}
-use Rattle.std.specs.List.{AllZip}
-use Rattle.wasm_base.specs.Numbers.{minimal, padded, unsigned_encoding}
-use Rattle.wasm_base.specs.Formats.{Format}
-use Rattle.wasm_base.specs.Decoding.{Unambiguous, DecodesUniquely}
-use Rattle.wasm_base.specs.Encodings.{longest}
-use Rattle.wasm_base.specs.Pieces.{joined, section_encoding, IsEncodableSection}
-use Rattle.wasm_base.specs.Calls.{DecodesBack, DecodesBackPadded, DecodesBackBoth}
-use Rattle.wasm_base.specs.Entries.{Kind, Entry, Given, Raw, entry_encoding, Means, ContainsItems, EncodesPadded, ContainsPadded, counted_format, ItemLaws}
+use Rattle.wasm_base.proofs.Std.{ℕ, ◌≤◌, List, [], ◌∷◌, length, map, sym, subst, arith, length-append, AllZip}
+use Rattle.wasm_base.specs.{minimal, padded, unsigned_encoding, Format, Unambiguous, DecodesUniquely, longest, joined, section_encoding, IsEncodableSection, DecodesBack, DecodesBackPadded}
+use Rattle.wasm_base.specs.{DecodesBackBoth, Kind, Entry, Given, Raw, entry_encoding, Means, ContainsItems, EncodesPadded, ContainsPadded, counted_format, ItemLaws}
 use Rattle.wasm_base.proofs.FormatLaws.{vec_unambiguous, size_prefixed_unambiguous, whole_from_unique}
 use Rattle.wasm_base.proofs.EncodingLaws.{section_unique, section_unique_padded}
 

@@ -1,10 +1,10 @@
 -- This file proves that the combinators keep a format unambiguous.
-use Rattle.std.proofs.Common.{◌≡◌, ◌≢◌, ℕ, ◌<◌, List, [], ◌∷◌, ◌++◌, length, Bool, true, false, eqb, Some, None, refl, sym, ap, ap₂, subst, ◌∙◌, append_assoc, append-nil, le_refl, arith, inl, inr}
-use Rattle.std.proofs.lemmas.Bool.{eqb-true}
-use Rattle.std.proofs.lemmas.List.{length-append, append_cancel_left}
-use Rattle.wasm_base.specs.Numbers.{Mode, minimal, padded, Grammar, Below, minimal_of, padded_of, standard_minimal, standard, builders, admitted}
-use Rattle.wasm_base.specs.Formats.{Format, u32, AreBytes, byte, any_bytes, raw_bytes, bytes_sum, little_endian, when, Then, pair, mapped, such, fixed, impossible, tagged, members, vec, size_prefixed, ended, optional, one_of, coded, choice, prefixed, by_mode}
-use Rattle.wasm_base.specs.Decoding.{DeterminesPrefix, DeterminesWhole, HasOneEncoding, IsIncludedIn, ShrinksTo, HasEncodings, Unambiguous, UnambiguousWhole, BeginsWith}
+use Rattle.wasm_base.proofs.Std.{◌≡◌, ◌≢◌, ℕ, ◌<◌, List, [], ◌∷◌, ◌++◌, length, Bool, true, false, eqb, Some, None, refl, sym, ap, ap₂, subst, ◌∙◌, append_assoc, append-nil, le_refl, arith, inl, inr}
+use Rattle.wasm_base.proofs.Std.{eqb-true, append_cancel_left}
+use Rattle.std.proofs.lemmas.List.{length-append}
+use Rattle.wasm_base.specs.{Mode, minimal, padded, Grammar, Below, minimal_of, padded_of, standard_minimal, standard, builders, admitted, Format, u32, AreBytes, byte, any_bytes, raw_bytes, bytes_sum}
+use Rattle.wasm_base.specs.{little_endian, when, Then, pair, mapped, such, fixed, impossible, tagged, members, vec, size_prefixed, ended, optional, one_of, coded, choice, prefixed, by_mode}
+use Rattle.wasm_base.specs.{DeterminesPrefix, DeterminesWhole, HasOneEncoding, IsIncludedIn, ShrinksTo, HasEncodings, Unambiguous, UnambiguousWhole, BeginsWith}
 use Rattle.wasm_base.proofs.NumberLaws.{u32_unambiguous, u32-less, below_cases}
 
 -- ---- lists

@@ -1,9 +1,7 @@
 -- This file proves how LEB128 groups decode and how large their sums are.
-use Rattle.std.proofs.Common.{◌≡◌, ℕ, ◌<◌, ◌%◌, ◌*◌, ◌^◌, List, [], ◌∷◌, ◌++◌, length, add-one, ◌+◌, ◌-◌, ◌≤◌, ◌≢◌, Result, Ok, Err, IfErr, refl, sym, ap, subst, ◌∙◌, arith}
-use Rattle.std.proofs.Math.Nat.{pow-suc, pow-le-pow_right}
-use Rattle.wasm_base.specs.Numbers.{padded, AreGroups, last_byte}
-use Rattle.wasm_base.specs.Decoding.{Rejects}
-use Rattle.wasm_base.specs.Groups.{groups, HasGroups}
+use Rattle.wasm_base.proofs.Std.{◌≡◌, ℕ, ◌<◌, ◌%◌, ◌*◌, ◌^◌, List, [], ◌∷◌, ◌++◌, length, add-one, ◌+◌, ◌-◌, ◌≤◌, ◌≢◌, Result, Ok, Err, IfErr, refl, sym, ap, subst, ◌∙◌, arith, pow-suc}
+use Rattle.wasm_base.proofs.Std.{pow-le-pow_right}
+use Rattle.wasm_base.specs.{padded, AreGroups, last_byte, Rejects, groups, HasGroups}
 
 -- ---- groups
 

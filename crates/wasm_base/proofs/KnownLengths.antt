@@ -1,16 +1,7 @@
 -- This file proves that std's iterators yield as many items as they report.
-use Rattle.std.proofs.Common.{◌≡◌, ℕ, suc, ◌+◌, List, [], ◌∷◌, ◌++◌, length, refl, sym, ap, ◌∙◌, Option, Some, None, arith, append-nil}
-use Rattle.std.proofs.lemmas.Iterator.{YieldsList-from_slice, items_from_drains}
-use Rattle.std.proofs.lemmas.Iterator.Consumers.{YieldsList-from_copied}
-use Rattle.std.proofs.lemmas.List.{map-id}
-use Rattle.std.specs.Array.Iter.{array_into_iter_items, array_steps}
-use Rattle.std.specs.Iterator.{Drains, Yields}
-use Rattle.std.specs.Iterator.Adapters.{copied_source, copied_steps}
-use Rattle.std.specs.Slice.Iter.{iter_rest, iter_steps}
-use Rattle.std.specs.Vec.Iter.{into_iter_len, into_iter_steps}
-use Rattle.std.specs.declared.array.IntoIter.{IntoIter}
-use Rattle.std.specs.declared.iter.Copied.{Copied}
-use Rattle.std.specs.declared.slice.Iter.{Iter}
+use Rattle.wasm_base.proofs.Std.{◌≡◌, ℕ, suc, ◌+◌, List, [], ◌∷◌, ◌++◌, length, refl, sym, ap, ◌∙◌, Option, Some, None, arith, append-nil, YieldsList-from_slice, items_from_drains}
+use Rattle.wasm_base.proofs.Std.{YieldsList-from_copied, map-id, array_into_iter_items, array_steps, Drains, Yields, copied_source, copied_steps, iter_rest, iter_steps, into_iter_len, into_iter_steps}
+use Rattle.wasm_base.proofs.Std.{IntoIter, Copied, Iter}
 use Rattle.std.specs.declared.vec.IntoIter.{IntoIter as VecIter}
 
 module _ {S A : Type 0} (gives : S → Option A → S → Type 0) (left : S → ℕ)

@@ -1,3 +1,6 @@
+-- The lemmas of the crate, each file. `Words` passes on what the crates above use.
+pub mod Std
+pub mod Words
 pub mod NumberLaws
 pub mod FormatLaws
 pub mod NumberEncodings
@@ -22,3 +25,14 @@ pub mod Yielded
 pub mod DecodingSteps
 pub mod Tags
 pub mod GroupLaws
+pub mod DecodeFixed
+pub mod DecodeNumbers
+pub mod DecodePlain
+pub mod DecodeSizePrefixed
+pub mod DecodeTypes
+pub mod DecodeVectors
+pub mod DecodeWhole
+pub mod DecodedValues
+pub mod Faults
+pub mod MinimalEncodings
+pub mod SkipLaws

@@ -1,11 +1,7 @@
 -- This file proves that a module decodes to its sections, as ids and payloads.
-use Rattle.std.proofs.Common.{◌≡◌, ℕ, List, [], ◌∷◌, ◌++◌, refl, sym, ap, subst, ◌∙◌, append_assoc, append-nil}
-use Rattle.std.specs.List.{flat_map}
-use Rattle.wasm_base.specs.Numbers.{Mode, minimal}
-use Rattle.wasm_base.specs.Formats.{Format, byte, any_bytes, size_prefixed, members, any_section, wasm_module, header}
-use Rattle.wasm_base.specs.Decoding.{DecodesWhole, Unambiguous, UnambiguousWhole, HasMinimalEncodings, BeginsWith}
-use Rattle.wasm_base.specs.Encodings.{size_prefixed_encoding, IsSizePrefixed, any_section_encoding, IsEncodableAnySection, module_encoding, IsEncodableModule}
-use Rattle.wasm_base.specs.Calls.{DecodesOneMore}
+use Rattle.wasm_base.proofs.Std.{◌≡◌, ℕ, List, [], ◌∷◌, ◌++◌, refl, sym, ap, subst, ◌∙◌, append_assoc, append-nil, flat_map}
+use Rattle.wasm_base.specs.{Mode, minimal, Format, byte, any_bytes, size_prefixed, members, any_section, wasm_module, header, DecodesWhole, Unambiguous, UnambiguousWhole, HasMinimalEncodings}
+use Rattle.wasm_base.specs.{BeginsWith, size_prefixed_encoding, IsSizePrefixed, any_section_encoding, IsEncodableAnySection, module_encoding, IsEncodableModule, DecodesOneMore}
 use Rattle.wasm_base.proofs.FormatLaws.{begins_then, pair_unambiguous, size_prefixed_unambiguous, byte_unambiguous, any_bytes_whole, members_whole, prefixed_whole}
 use Rattle.wasm_base.proofs.EncodingLaws.{decodes_whole, size_prefixed_encodes, members_encodes}
 

@@ -1,8 +1,6 @@
 -- This file proves the equations of LEB128 encodings and the bounds of their lengths.
-use Rattle.std.proofs.Common.{◌≡◌, ℕ, Bool, zero, suc, ◌+◌, ◌*◌, ◌/◌, ◌^◌, ◌<◌, ◌≤◌, [], ◌∷◌, length, refl, sym, ap, ◌∙◌, arith, inl, inr}
-use Rattle.std.proofs.lemmas.Bool.{cases_lt, lt-ltb, le-ltb}
-use Rattle.std.proofs.Math.Nat.{pow-suc}
-use Rattle.wasm_base.specs.Numbers.{next_group, last_group, groups_of, groups_encoding}
+use Rattle.wasm_base.proofs.Std.{◌≡◌, ℕ, Bool, zero, suc, ◌+◌, ◌*◌, ◌/◌, ◌^◌, ◌<◌, ◌≤◌, [], ◌∷◌, length, refl, sym, ap, ◌∙◌, arith, inl, inr, cases_lt, lt-ltb, le-ltb, pow-suc}
+use Rattle.wasm_base.specs.{next_group, last_group, groups_of, groups_encoding}
 
 module _ (b : Bool) (limit : ℕ) where
   groups_of-last : (more n : ℕ) → n < limit → groups_of b limit more n ≡ last_group b n ∷ []

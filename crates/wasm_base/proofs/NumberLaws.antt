@@ -1,12 +1,9 @@
 -- This file proves that LEB128 is unambiguous and that a number has one minimal encoding.
-use Rattle.std.proofs.Common.{◌≡◌, ℕ, ◌+◌, ◌-◌, ◌*◌, ◌/◌, ◌%◌, ◌^◌, ◌<◌, ◌≤◌, ◌⊎◌, List, [], ◌∷◌, ◌++◌, length, Bool, true, false, cond, refl, sym, ap, ap₂, ◌∙◌, le_refl, arith, inl, inr, pos, negsuc, neg_ℤ, ◌-ℤ◌, ◌+ℤ◌, ◌*ℤ◌, nat_lt, ◌≤ℤ◌, ◌<ℤ◌}
-use Rattle.std.proofs.lemmas.Bool.{cases_lt, cases_eq, lt-ltb, le-ltb}
-use Rattle.std.proofs.lemmas.Nat.{pow-add}
-use Rattle.std.proofs.Math.Nat.{pow-suc, pow-le-pow_right}
-use Rattle.std.proofs.lemmas.Int.{ints}
-use Rattle.wasm_base.specs.Numbers.{Mode, minimal, padded, AreGroups, groups_sum, last_byte, byte_limit, IsUnsignedSize, Unsigned, signed_sum, IsMinimalSigned, Signed, Grammar, Below, minimal_of, padded_of, standard_minimal, standard, builders, admitted}
-use Rattle.wasm_base.specs.Formats.{Format, u32}
-use Rattle.wasm_base.specs.Decoding.{Unambiguous, HasOneEncoding, IsIncludedIn, ShrinksTo}
+use Rattle.wasm_base.proofs.Std.{◌≡◌, ℕ, ◌+◌, ◌-◌, ◌*◌, ◌/◌, ◌%◌, ◌^◌, ◌<◌, ◌≤◌, ◌⊎◌, List, [], ◌∷◌, ◌++◌, length, Bool, true, false, cond, refl, sym, ap, ap₂, ◌∙◌, le_refl, arith, inl, inr, pos}
+use Rattle.wasm_base.proofs.Std.{negsuc, neg_ℤ, ◌-ℤ◌, ◌+ℤ◌, ◌*ℤ◌, ◌≤ℤ◌, ◌<ℤ◌, cases_lt, cases_eq, lt-ltb, le-ltb, pow-add, pow-suc, pow-le-pow_right, ints}
+use Rattle.std.proofs.Common.{nat_lt}
+use Rattle.wasm_base.specs.{Mode, minimal, padded, AreGroups, groups_sum, last_byte, byte_limit, IsUnsignedSize, Unsigned, signed_sum, IsMinimalSigned, Signed, Grammar, Below, minimal_of, padded_of}
+use Rattle.wasm_base.specs.{standard_minimal, standard, builders, admitted, Format, u32, Unambiguous, HasOneEncoding, IsIncludedIn, ShrinksTo}
 
 -- Groups are prefix-free, since bit 7 marks the last byte.
 pub groups_apart : (s t r q : List ℕ) → AreGroups s → AreGroups t → s ++ r ≡ t ++ q → (s ≡ t) × (r ≡ q)
@@ -72,9 +69,9 @@ last_of_one (c ∷ []) h l k = omega arith
 last_of_one (c ∷ d ∷ t) h l (inl k) = absurd (omega arith)
 last_of_one (c ∷ d ∷ t) h l (inr k) = k
 
-pub one_more : (d : ℕ) (t : List ℕ) → d < 128 → AreGroups t → 0 < last_byte t → AreGroups ((d + 128) ∷ t) × (groups_sum ((d + 128) ∷ t) ≡ d + 128 * groups_sum t) × (0 < last_byte ((d + 128) ∷ t))
-one_more d [] l h k = absurd h
-one_more d (c ∷ t) l h k = ((omega arith, omega arith, h), omega arith, k)
+pub one_group_more : (d : ℕ) (t : List ℕ) → d < 128 → AreGroups t → 0 < last_byte t → AreGroups ((d + 128) ∷ t) × (groups_sum ((d + 128) ∷ t) ≡ d + 128 * groups_sum t) × (0 < last_byte ((d + 128) ∷ t))
+one_group_more d [] l h k = absurd h
+one_group_more d (c ∷ t) l h k = ((omega arith, omega arith, h), omega arith, k)
 
 -- A number up to the sum of groups has minimal groups that are no longer.
 lesser : (s : List ℕ) (v : ℕ) → AreGroups s → v ≤ groups_sum s → (t : List ℕ) × AreGroups t × (groups_sum t ≡ v) × IsUnsignedSize minimal 0 t × (length t ≤ length s)
@@ -84,7 +81,7 @@ lesser (b ∷ c ∷ s) v h l =
     elim (cases_lt v 128) [
       | inl lt ↦ (v ∷ [], lt, omega arith, inl refl, omega arith)
       | inr le ↦ let more = lesser (c ∷ s) (v / 128) h.2 (omega arith) in
-          let grown = one_more (v % 128) more.0 (omega arith) more.1 (last_of_one more.0 more.1 (omega (arith, more.2)) more.3) in
+          let grown = one_group_more (v % 128) more.0 (omega arith) more.1 (last_of_one more.0 more.1 (omega (arith, more.2)) more.3) in
           ((v % 128 + 128) ∷ more.0, grown.0, omega (arith, grown.1, more.2), inr grown.2, omega (arith, more.4))
     ]
 

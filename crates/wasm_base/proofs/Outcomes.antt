@@ -1,6 +1,5 @@
 -- This file proves the consequences of a call that succeeds.
-use Rattle.std.proofs.Common.{Result, Ok, Err}
-use Rattle.std.specs.Prelude.{OnOk}
+use Rattle.wasm_base.proofs.Std.{Result, Ok, Err, OnOk}
 
 pub on_ok : {T E : Type 0} (r : Result T E) (P Q : Type 0) → OnOk r P → (P → Q) → OnOk r Q
 on_ok (Ok x) P Q p f = f p

@@ -1,10 +1,7 @@
 -- This file proves that the encodings of an item's fields encode the fields.
-use Rattle.std.proofs.Common.{◌≡◌, ℕ, List, ◌++◌, length, ◌<◌, [], ◌∷◌, Bool, true, false, Option, Some, None, IsUtf8, refl, sym, ap, subst, ◌∙◌, arith, length-append}
-use Rattle.std.specs.Prelude.{IfSome}
-use Rattle.wasm_base.specs.Formats.{Format, u32, byte, name, pair, tagged, prefixed, optional, numbered, vec, members, is_given}
-use Rattle.wasm_base.specs.Numbers.{Mode, minimal, unsigned_encoding}
-use Rattle.wasm_base.specs.Encodings.{size_prefixed_encoding, HasEncodableSize, optional_encoding}
-use Rattle.wasm_base.specs.Decoding.{Unambiguous, BeginsWith}
+use Rattle.wasm_base.proofs.Std.{◌≡◌, ℕ, List, ◌++◌, length, ◌<◌, [], ◌∷◌, Bool, true, false, Option, Some, None, IsUtf8, refl, sym, ap, subst, ◌∙◌, arith, length-append, IfSome}
+use Rattle.wasm_base.specs.{Format, u32, byte, name, pair, tagged, prefixed, optional, numbered, vec, members, is_given, Mode, minimal, unsigned_encoding, size_prefixed_encoding, HasEncodableSize}
+use Rattle.wasm_base.specs.{optional_encoding, Unambiguous, BeginsWith}
 use Rattle.wasm_base.proofs.NumberLaws.{u32_unambiguous}
 use Rattle.wasm_base.proofs.NumberEncodings.{groups_encoding-last}
 use Rattle.wasm_base.proofs.EncodingLaws.{name_encodes, u32_encodes}

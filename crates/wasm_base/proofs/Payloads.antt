@@ -1,10 +1,6 @@
 -- This file proves that the payload of a section decodes to its items alone.
-use Rattle.std.proofs.Common.{List, [], ℕ, refl, sym, subst}
-use Rattle.wasm_base.specs.Numbers.{Mode, minimal, padded}
-use Rattle.wasm_base.specs.Formats.{Format, u32, any_bytes, vec, size_prefixed, name, pair}
-use Rattle.wasm_base.specs.Modules.{DecodesPayloads, DecodesPayloadsPadded}
-use Rattle.wasm_base.specs.Decoding.{Unambiguous, UnambiguousWhole}
-use Rattle.wasm_base.specs.Encodings.{IsSizePrefixed}
+use Rattle.wasm_base.proofs.Std.{List, [], ℕ, refl, sym, subst}
+use Rattle.wasm_base.specs.{Mode, minimal, padded, Format, u32, any_bytes, vec, size_prefixed, name, pair, DecodesPayloads, DecodesPayloadsPadded, Unambiguous, UnambiguousWhole, IsSizePrefixed}
 use Rattle.wasm_base.proofs.BaseLaws.{size_prefixed_bytes_unambiguous, name_unambiguous}
 use Rattle.wasm_base.proofs.FormatLaws.{any_bytes_whole, pair_whole, vec_unambiguous, whole_from_unique}
 use Rattle.wasm_base.proofs.NumberLaws.{u32_unambiguous}
@@ -45,6 +41,6 @@ u32-payload = payload-decodes (whole_from_unique u32_unambiguous)
 pub custom-payload : DecodesPayloads (pair name any_bytes)
 custom-payload = payload-decodes (pair_whole name_unambiguous any_bytes_whole)
 
-pub ruleset payloads = (bytes-payload, u32-payload, custom-payload)
+pub ruleset raw_payloads = (bytes-payload, u32-payload, custom-payload)
 
 pub ruleset padded_payloads = (payload-decodes-padded)

@@ -1,10 +1,6 @@
 -- This file proves that certain bytes decode to no section.
-use Rattle.std.proofs.Common.{◌≡◌, ℕ, ◌<◌, List, ◌∷◌, ◌++◌, length, arith}
-use Rattle.wasm_base.specs.Entries.{counted_format}
-use Rattle.wasm_base.specs.Formats.{Format, vec}
-use Rattle.wasm_base.specs.Laws.{RejectsAllAfterPadded}
-use Rattle.wasm_base.specs.Numbers.{Mode, IsOfBuilders, minimal, padded, standard_minimal, standard}
-use Rattle.wasm_base.specs.Decoding.{Decodes, Unambiguous}
+use Rattle.wasm_base.proofs.Std.{◌≡◌, ℕ, ◌<◌, List, ◌∷◌, ◌++◌, length, arith}
+use Rattle.wasm_base.specs.{counted_format, Format, vec, RejectsAllAfterPadded, Mode, IsOfBuilders, minimal, padded, standard_minimal, standard, Decodes, Unambiguous}
 use Rattle.wasm_base.proofs.FormatLaws.{size_prefixed_of, vec_of_one}
 use Rattle.wasm_base.proofs.NumberLaws.{u32_small}
 

@@ -1,16 +1,10 @@
 -- This file proves the laws of the sections of a kind from the laws of its items.
-use Rattle.wasm_base.specs.Entries.{Kind, ItemLaws}
-use Rattle.wasm_base.specs.Formats.{Format, size_prefixed, vec}
-use Rattle.wasm_base.specs.Laws.{ContainsMore, ContainsMorePadded}
-use Rattle.wasm_base.specs.Modules.{DecodesPayloads}
-use Rattle.wasm_base.specs.Numbers.{padded}
-use Rattle.wasm_base.specs.Decoding.{Unambiguous, UnambiguousWhole, UnambiguousPadded}
-use Rattle.wasm_base.specs.Encodings.{HasEncodableSize}
+use Rattle.wasm_base.specs.{Kind, ItemLaws, Format, size_prefixed, vec, ContainsMore, ContainsMorePadded, DecodesPayloads, padded, Unambiguous, UnambiguousWhole, UnambiguousPadded, HasEncodableSize}
 use Rattle.wasm_base.proofs.BaseLaws.{unambiguous_padded}
 use Rattle.wasm_base.proofs.FormatLaws.{size_prefixed_unambiguous, vec_unambiguous, whole_from_unique}
 use Rattle.wasm_base.proofs.ContentsLaws.{contains_more as more, contains_more_padded, plain_more_padded}
 use Rattle.wasm_base.proofs.Payloads.{payload-decodes}
-use Rattle.std.proofs.Common.{List}
+use Rattle.wasm_base.proofs.Std.{List}
 
 -- The laws of a kind's sections: the payload is unambiguous as a whole, and items have their laws.
 -- Possibly padded items are held as `ContainsMorePadded` states.

@@ -1,18 +1,17 @@
 -- This file proves that reference types in the standard's grammar are unambiguous.
-use Rattle.std.proofs.Common.{◌≡◌, ◌⊎◌, ℕ, ◌<◌, ◌≤◌, List, [], ◌∷◌, ◌++◌, length, Bool, true, false, cond, eqb, refl, sym, ap, ap₂, subst, ◌∙◌, le_refl, arith, inl, inr}
-use Rattle.std.proofs.lemmas.Bool.{eqb-true}
-use Rattle.wasm_base.specs.Numbers.{Mode, minimal, padded, standard_minimal, standard, admitted}
-use Rattle.wasm_base.specs.Formats.{Format, byte, impossible, fixed, mapped, such, choice, tagged, one_of, when}
-use Rattle.wasm_base.specs.Decoding.{Unambiguous, BeginsWith, IsIncludedIn, ShrinksTo, DeterminesPrefix}
+use Rattle.wasm_base.proofs.Std.{◌≡◌, ◌⊎◌, ℕ, ◌<◌, ◌≤◌, List, [], ◌∷◌, ◌++◌, length, Bool, true, false, cond, eqb, refl, sym, ap, ap₂, subst, ◌∙◌, le_refl, arith, inl, inr, eqb-true}
+use Rattle.wasm_base.specs.{Mode, padded, standard_minimal, standard, admitted, Format, byte, impossible, fixed, mapped, such, choice, tagged, when, Unambiguous, BeginsWith, IsIncludedIn, ShrinksTo}
+use Rattle.wasm_base.specs.{DeterminesPrefix, abstract_code, abstract_type, unshared, heap_type, FUNCREF, EXTERNREF, nullable_to, to, HasNoByte, ref_tags, ref_type, nullable_abstract, HasNoCode}
+use Rattle.wasm_base.specs.{tight_tags, admitted_tags, tight_ref, admitted_ref, ref_type_in}
 use Rattle.wasm_base.specs.declared.types.AbstractHeapType.{AbstractHeapType}
-use Rattle.wasm_base.specs.declared.types.AbstractHeapType.TheVariants as kinds
 use Rattle.wasm_base.specs.declared.types.HeapType.{HeapType}
-use Rattle.wasm_base.specs.declared.types.HeapType.TheVariants.{Abstract, Concrete, Exact}
 use Rattle.wasm_base.specs.declared.types.RefType.{RefType}
-use Rattle.wasm_base.specs.Types.{abstract_code, abstract_type, unshared, heap_type, FUNCREF, EXTERNREF, nullable_to, to, HasNoByte, ref_tags, ref_type, nullable_abstract, HasNoCode, tight_tags, admitted_tags, tight_ref, admitted_ref, ref_type_in}
-use Rattle.wasm_base.proofs.FormatLaws.{AreApart, mapped_unambiguous, such_unambiguous, byte_unambiguous, begins_mapped, begins_coded, choice_of, choice_begins, AllValues, values_mapped, values_tagged, none_in_common, AllDetermine, AllUnambiguous, one_of_unambiguous, one_of_unique, begin_apart, by_mode_unambiguous}
+use Rattle.wasm_base.specs.declared.types.HeapType.TheVariants.{Abstract, Concrete, Exact}
+use Rattle.wasm_base.proofs.FormatLaws.{AreApart, mapped_unambiguous, such_unambiguous, byte_unambiguous, begins_mapped, begins_coded, choice_of, choice_begins, AllValues, values_mapped}
+use Rattle.wasm_base.proofs.FormatLaws.{values_tagged, none_in_common, AllDetermine, one_of_unambiguous, one_of_unique, begin_apart, by_mode_unambiguous}
 use Rattle.wasm_base.proofs.EncodingLaws.{tagged_encodes}
 use Rattle.wasm_base.proofs.TypeLaws.{abstract_unambiguous, abstract_bytes, heap_unambiguous, ref_unambiguous}
+use Rattle.wasm_base.specs.declared.types.AbstractHeapType.TheVariants as kinds
 
 -- ---- elimination of choices
 

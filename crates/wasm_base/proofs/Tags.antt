@@ -1,9 +1,6 @@
 -- This file proves the laws of flags, tags and one-byte codes.
-use Rattle.std.proofs.Common.{◌≡◌, ◌≢◌, inl, inr, ℕ, List, [], ◌∷◌, ◌++◌, Bool, true, false, Option, Some, None, refl, sym, ap, subst, ◌∙◌}
-use Rattle.std.proofs.lemmas.Bool.{ne_eqb}
-use Rattle.wasm_base.specs.Numbers.{padded}
-use Rattle.wasm_base.specs.Formats.{Format, byte, optional, tagged, when, impossible, choice, coded, one_of, fixed}
-use Rattle.wasm_base.specs.Decoding.{Unambiguous, BeginsWith, Decodes, Rejects}
+use Rattle.wasm_base.proofs.Std.{◌≡◌, ◌≢◌, inl, inr, ℕ, List, [], ◌∷◌, ◌++◌, Bool, true, false, Option, Some, None, refl, sym, ap, subst, ◌∙◌, ne_eqb}
+use Rattle.wasm_base.specs.{padded, Format, byte, optional, tagged, when, impossible, choice, coded, one_of, fixed, Unambiguous, BeginsWith, Decodes, Rejects}
 use Rattle.wasm_base.proofs.FormatLaws.{byte_unambiguous}
 use Rattle.wasm_base.proofs.DecodingSteps.{decodes_same, then_decodes, then_rejects_first, then_rejects_second, mapped_decodes, mapped_rejects}
 

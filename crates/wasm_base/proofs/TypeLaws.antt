@@ -1,22 +1,21 @@
 -- This file proves that types are unambiguous and that their encodings encode them.
-use Rattle.std.proofs.Common.{◌≡◌, ◌≢◌, ◌⊎◌, ℕ, ◌<◌, ◌≤◌, List, [], ◌∷◌, Bool, true, false, cond, eqb, refl, sym, ap, ◌∙◌, arith, inl, inr, pos}
-use Rattle.std.proofs.lemmas.Int.{ints}
-use Rattle.std.proofs.lemmas.Bool.{cases_lt, ne_eqb}
-use Rattle.wasm_base.specs.Numbers.{minimal, signed_sum, unsigned_encoding}
-use Rattle.wasm_base.specs.Formats.{Format, byte, s33, impossible, mapped, choice, tagged, one_of}
-use Rattle.wasm_base.specs.Decoding.{Unambiguous, HasMinimalEncodings, UnambiguousPadded, BeginsWith}
+use Rattle.wasm_base.proofs.Std.{◌≡◌, ◌≢◌, ◌⊎◌, ℕ, ◌<◌, ◌≤◌, List, [], ◌∷◌, Bool, true, false, cond, eqb, refl, sym, ap, ◌∙◌, arith, inl, inr, pos, ints, cases_lt, ne_eqb}
+use Rattle.wasm_base.specs.{minimal, signed_sum, unsigned_encoding, Format, byte, s33, impossible, mapped, choice, tagged, one_of, Unambiguous, HasMinimalEncodings, UnambiguousPadded, BeginsWith}
+use Rattle.wasm_base.specs.{abstract_code, abstract_type, unshared, shared, heap_tags, heap_type, FUNCREF, EXTERNREF, nullable_to, to, HasNoByte, ref_tags, ref_type, val_tags, val_ref, val_type}
+use Rattle.wasm_base.specs.{IsIndexByte, heap_encoding, nullable_encoding, ref_bytes, ref_encoding, val_encoding, IsHeap, IsRef, IsVal}
 use Rattle.wasm_base.specs.declared.types.AbstractHeapType.{AbstractHeapType}
-use Rattle.wasm_base.specs.declared.types.AbstractHeapType.TheVariants as kinds
 use Rattle.wasm_base.specs.declared.types.HeapType.{HeapType}
-use Rattle.wasm_base.specs.declared.types.HeapType.TheVariants.{Abstract, Concrete, Exact}
 use Rattle.wasm_base.specs.declared.types.RefType.{RefType}
 use Rattle.wasm_base.specs.declared.types.ValType.{ValType}
+use Rattle.wasm_base.specs.declared.types.HeapType.TheVariants.{Abstract, Concrete, Exact}
 use Rattle.wasm_base.specs.declared.types.ValType.TheVariants.{I32, I64, F32, F64, V128, Ref}
-use Rattle.wasm_base.specs.Types.{abstract_code, abstract_type, unshared, shared, heap_tags, heap_type, FUNCREF, EXTERNREF, nullable_to, to, HasNoByte, ref_tags, ref_type, val_tags, val_ref, val_type, IsIndexByte, heap_encoding, nullable_encoding, ref_bytes, ref_encoding, val_encoding, IsHeap, IsRef, IsVal}
-use Rattle.wasm_base.proofs.FormatLaws.{DeterminesTag, AreApart, mapped_unambiguous, such_unambiguous, coded_unambiguous, fixed_unambiguous, impossible_unambiguous, tagged_unambiguous, one_of_unambiguous, byte_unambiguous, begins_mapped, begins_coded, begins_weaker, begins_one_of, choice_of, choice_begins, choice_determines, choice_unambiguous, choice_tags, AllValues, values_mapped, values_tagged, values_one_of, none_in_common, AllDetermine, AllUnambiguous}
+use Rattle.wasm_base.proofs.FormatLaws.{DeterminesTag, AreApart, mapped_unambiguous, such_unambiguous, coded_unambiguous, fixed_unambiguous, impossible_unambiguous, tagged_unambiguous}
+use Rattle.wasm_base.proofs.FormatLaws.{one_of_unambiguous, byte_unambiguous, begins_mapped, begins_coded, begins_weaker, begins_one_of, choice_of, choice_begins, choice_determines}
+use Rattle.wasm_base.proofs.FormatLaws.{choice_unambiguous, choice_tags, AllValues, values_mapped, values_tagged, values_one_of, none_in_common, AllDetermine, AllUnambiguous}
 use Rattle.wasm_base.proofs.NumberLaws.{u32_unambiguous, single_high}
 use Rattle.wasm_base.proofs.EncodingLaws.{u32_encodes, s33_encodes, tagged_encodes}
 use Rattle.wasm_base.proofs.BaseLaws.{s33_unambiguous, unambiguous_padded}
+use Rattle.wasm_base.specs.declared.types.AbstractHeapType.TheVariants as kinds
 
 abstract_decode : ℕ → AbstractHeapType
 abstract_decode b = cond (eqb b 0x70) kinds.Func (cond (eqb b 0x6F) kinds.Extern (cond (eqb b 0x6E) kinds.Any (cond (eqb b 0x6D) kinds.Eq (cond (eqb b 0x6C) kinds.I31 (cond (eqb b 0x6B) kinds.Struct (cond (eqb b 0x6A) kinds.Array (cond (eqb b 0x69) kinds.Exn (cond (eqb b 0x74) kinds.NoExn (cond (eqb b 0x73) kinds.NoFunc (cond (eqb b 0x72) kinds.NoExtern (cond (eqb b 0x71) kinds.None (cond (eqb b 0x68) kinds.Cont kinds.NoCont))))))))))))

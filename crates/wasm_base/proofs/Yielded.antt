@@ -1,9 +1,5 @@
 -- This file proves how the items that an iterator yields are joined.
-use Rattle.std.proofs.Common.{ℕ, ◌<◌, ◌≤◌, List, [], ◌∷◌, ◌++◌, length, Some, None, Option, refl, sym, subst, arith}
-use Rattle.std.specs.Prelude.{IsSome}
-use Rattle.std.specs.Iterator.{Drains, Yields}
-use Rattle.std.specs.List.{All}
-use Rattle.std.proofs.lemmas.List.Elements.{All-head, All-tail}
+use Rattle.wasm_base.proofs.Std.{ℕ, ◌<◌, ◌≤◌, List, [], ◌∷◌, ◌++◌, length, Some, None, Option, refl, sym, subst, arith, IsSome, Drains, Yields, All, All-head, All-tail}
 
 pub Yields-push : {S T : Type 0} (gives : S → Option T → S → Type 0) (s : S) (xs : List T) (t : S) (x : T) (u : S) → Yields gives s xs t → gives t (Some x) u → Yields gives s (xs ++ x ∷ []) u
 Yields-push gives s [] t x u y g = (u, subst (λ z. gives z (Some x) u) (sym y) g, refl)

@@ -1,8 +1,8 @@
 -- This file defines the contents of slices and strings that are borrowed or owned.
 use Rattle.std.specs.Prelude.{ℕ, List, string_bytes}
 use Rattle.wasm_base.specs.declared.cow.CowSlice.{CowSlice}
-use Rattle.wasm_base.specs.declared.cow.CowSlice.TheVariants as slices
 use Rattle.wasm_base.specs.declared.cow.CowStr.{CowStr}
+use Rattle.wasm_base.specs.declared.cow.CowSlice.TheVariants as slices
 use Rattle.wasm_base.specs.declared.cow.CowStr.TheVariants as encodings
 
 -- The items of a slice, borrowed or owned.

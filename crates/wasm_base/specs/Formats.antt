@@ -1,6 +1,6 @@
 -- This file defines formats, which relate bytes to the values that they encode, and the combinators
 -- that build formats.
-use Rattle.std.specs.Prelude.{◌≡◌, ◌⊎◌, ℕ, ◌+◌, ◌*◌, ◌<◌, List, [], ◌∷◌, ◌++◌, length, IsUtf8, ℤ, pos, Option, Some, None, Bool, true, false, cond, ◌==◌}
+use Rattle.std.specs.Prelude.{◌≡◌, ◌⊎◌, ℕ, ◌+◌, ◌*◌, ◌<◌, List, [], ◌∷◌, ◌++◌, length, IsUtf8, ℤ, pos, Option, Some, None, Bool, true, false, cond, ◌==◌, suc, ◌-◌, ◌^◌, negsuc}
 use Rattle.std.specs.List.{AllByRecursion}
 use Rattle.wasm_base.specs.Numbers.{Mode, minimal, padded, standard_minimal, standard, Unsigned, Signed}
 
@@ -195,3 +195,19 @@ by_mode F G H minimal = F minimal
 by_mode F G H padded = F padded
 by_mode F G H standard_minimal = G standard_minimal
 by_mode F G H standard = H standard
+
+-- ---- vectors of 128 bits
+
+-- The two's complement of an integer, of this many bits.
+abbrev pub twos_complement : ℕ → ℤ → ℕ
+twos_complement bits (pos n) = n
+twos_complement bits (negsuc n) = 2 ^ bits - suc n
+
+-- A signed number of 128 bits.
+abbrev pub IsVector : ℤ → Type 0
+IsVector (pos n) = n < 2 ^ 127
+IsVector (negsuc n) = n < 2 ^ 127
+
+-- A vector of 128 bits: 16 little-endian bytes in two's complement.
+abbrev pub vector_format : Format ℤ
+vector_format mode s v = little_endian 16 mode s (twos_complement 128 v) × IsVector v

@@ -1,3 +1,5 @@
+-- The definitions of the crate, each file, and all of them by one import.
+pub mod Words
 pub mod Numbers
 pub mod Formats
 pub mod Decoding
@@ -14,3 +16,23 @@ pub mod Cow
 pub mod Laws
 pub mod Groups
 pub mod Continuing
+pub mod Faults
+pub mod Minimal
+unfoldable pub use Rattle.wasm_base.specs.Numbers.*
+unfoldable pub use Rattle.wasm_base.specs.Formats.*
+unfoldable pub use Rattle.wasm_base.specs.Decoding.*
+unfoldable pub use Rattle.wasm_base.specs.Encodings.*
+unfoldable pub use Rattle.wasm_base.specs.Iterators.*
+unfoldable pub use Rattle.wasm_base.specs.Pieces.*
+unfoldable pub use Rattle.wasm_base.specs.Calls.*
+unfoldable pub use Rattle.wasm_base.specs.Modules.*
+unfoldable pub use Rattle.wasm_base.specs.Entries.*
+unfoldable pub use Rattle.wasm_base.specs.Once.*
+unfoldable pub use Rattle.wasm_base.specs.SectionId.*
+unfoldable pub use Rattle.wasm_base.specs.Types.*
+unfoldable pub use Rattle.wasm_base.specs.Cow.*
+unfoldable pub use Rattle.wasm_base.specs.Laws.*
+unfoldable pub use Rattle.wasm_base.specs.Groups.*
+unfoldable pub use Rattle.wasm_base.specs.Continuing.*
+unfoldable pub use Rattle.wasm_base.specs.Faults.*
+unfoldable pub use Rattle.wasm_base.specs.Minimal.*

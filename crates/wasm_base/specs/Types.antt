@@ -4,12 +4,12 @@ use Rattle.std.specs.Prelude.{◌≢◌, ℕ, ◌^◌, ◌<◌, ◌≤◌, ◌�
 use Rattle.wasm_base.specs.Numbers.{unsigned_encoding, signed_encoding}
 use Rattle.wasm_base.specs.Formats.{Format, u32, byte, s33, fixed, impossible, coded, mapped, such, choice, tagged, one_of, by_mode}
 use Rattle.wasm_base.specs.declared.types.AbstractHeapType.{AbstractHeapType}
-use Rattle.wasm_base.specs.declared.types.AbstractHeapType.TheVariants as kinds
 use Rattle.wasm_base.specs.declared.types.HeapType.{HeapType}
 use Rattle.wasm_base.specs.declared.types.HeapType.TheVariants.{Abstract, Concrete, Exact}
 use Rattle.wasm_base.specs.declared.types.RefType.{RefType}
 use Rattle.wasm_base.specs.declared.types.ValType.{ValType}
 use Rattle.wasm_base.specs.declared.types.ValType.TheVariants.{I32, I64, F32, F64, V128, Ref}
+use Rattle.wasm_base.specs.declared.types.AbstractHeapType.TheVariants as kinds
 
 -- ---- encodings
 

@@ -79,7 +79,7 @@ pub fn frames()
 
 /// Suppose that a module decodes to ids and payloads, and that a payload with its size prefix
 /// decodes to one value alone. Then the payload decodes to this value alone.
-#[tactic(auto, using(crate::proofs::Payloads::payloads))]
+#[tactic(auto, using(crate::proofs::Payloads::raw_payloads))]
 pub fn payloads()
     ensures bytes { DecodesPayloads any_bytes }
     ensures u32 { DecodesPayloads u32_format }

@@ -1,14 +1,20 @@
-// LEB128: encodes numbers in their minimal form, and decodes groups of seven bits.
-ghost use Rattle.std.specs.Prelude.{◌≡◌, ◌+◌, ◌*◌, ◌^◌, ◌≤◌, ◌<◌, ◌++◌, ◌∷◌, [], length, vec_len, vec_capacity, ⊤, IfOk, IfErr};
+// LEB128 numbers: encodes them in their minimal form, and decodes minimal and padded ones. One byte is
+// decoded inline, up to five in 64 bits.
+ghost use Rattle.std.specs.Prelude.{◌≡◌, ◌+◌, ◌*◌, ◌^◌, ◌≤◌, ◌<◌, ◌++◌, [], length, vec_len, vec_capacity, ⊤, IfOk, IfErr, ◌≢◌, ℕ, ℤ};
 ghost use Rattle.wasm_base.specs.Calls.{Appends};
-ghost use Rattle.wasm_base.specs.Groups.{groups, HasGroups};
+ghost use Rattle.wasm_base.specs.Groups.{groups, HasGroups, signed_of};
 ghost use Rattle.wasm_base.specs.Numbers.{padded, next_group, last_group, groups_encoding, unsigned_encoding, signed_encoding};
-ghost use Rattle.wasm_base.specs.Decoding.{Rejects};
+ghost use Rattle.wasm_base.specs.Decoding.{Rejects, Decodes};
 ghost use Rattle.wasm_base.specs.Encodings.{longest};
 ghost use Rattle.wasm_base.specs.declared.leb128.NoGroups.TheVariants.{Ended, TooMany};
+ghost use Rattle.wasm_base.specs.Formats.{u32 as u32_format, u64 as u64_format, s32, s64, s33};
+ghost use Rattle.wasm_base.specs.declared.fault.ReadFault.TheVariants.{Memory};
 
 use crate::encode::Encode;
+use crate::fault::ReadFault;
+use crate::readable::{Layout, Readable};
 use crate::refused::{Refused, Result};
+use crate::shorten::Shorten;
 use std::alloc::Allocator;
 
 /// An unsigned number below this is one group, the last one.
@@ -177,19 +183,6 @@ fn append_signed<A: Allocator>(sink: &mut Vec<u8, A>, n: i64) -> Result<()>
     append_long_signed(sink, negative, n)
 }
 
-/// Encodes the number as one byte.
-impl Encode for u8 {
-    ghost encoding = { λ n. n ∷ [] };
-
-    ghost encodable = { λ _. ⊤ };
-
-    #[inline]
-    fn encode<A: Allocator>(&self, sink: &mut Vec<u8, A>) -> Result<()> {
-        sink.push(*self)?;
-        Ok(())
-    }
-}
-
 /// Encodes the number as unsigned LEB128.
 impl Encode for u32 {
     ghost encoding = { unsigned_encoding };
@@ -308,5 +301,277 @@ pub fn read_groups(bytes: &[u8], limit: u8) -> Result<(Groups, &[u8]), NoGroups>
             };
             Ok((groups, rest))
         }
+    }
+}
+
+/// Returns the number that the groups encode in two's complement.
+fn signed(groups: Groups) -> i128
+    requires { groups.sum < 2 ^ 70 × groups.power ≤ 2 ^ 70 }
+    ensures { result ≡ signed_of groups.sum groups.power groups.last }
+{
+    if groups.last < 0x40 {
+        groups.sum as i128
+    } else {
+        groups.sum as i128 - groups.power as i128
+    }
+}
+
+/// Returns the number that one group encodes in two's complement.
+#[inline]
+fn signed_byte(group: u8) -> i16
+    requires { group < 0x80 }
+    ensures { result ≡ signed_of group 0x80 group }
+{
+    if group < 0x40 {
+        i16::from(group)
+    } else {
+        i16::from(group) - 0x80
+    }
+}
+
+/// At most five groups, as in [`Groups`], in 64 bits.
+#[derive(Clone, Copy)]
+struct FewGroups {
+    sum: u64,
+    power: u64,
+    last: u8,
+}
+
+/// Decodes the groups at the front, at most five, and returns them with the remaining bytes.
+#[inline]
+fn read_few_groups(bytes: &[u8]) -> Result<(FewGroups, &[u8]), NoGroups>
+    ensures found { IfOk result (λ x. HasGroups 5 bytes.now x.0.sum x.0.power x.0.last x.1.now) }
+    ensures power { IfOk result (λ x. x.0.power ≤ 2 ^ 35) }
+    ensures below { IfOk result (λ x. x.0.sum < x.0.power) }
+    ensures none { IfErr result (λ _. Rejects (groups 5) padded bytes.now) }
+{
+    let mut rest = bytes;
+    let mut sum: u64 = 0;
+    let mut power: u64 = 1;
+    for _group in 0..5u8 {
+        let [b, after @ ..] = rest else {
+            return Err(NoGroups::Ended);
+        };
+        sum += power * u64::from(*b % 0x80);
+        power *= 0x80;
+        if *b < 0x80 {
+            let few = FewGroups {
+                sum,
+                power,
+                last: *b,
+            };
+            return Ok((few, after));
+        }
+        rest = after;
+    }
+    Err(NoGroups::TooMany)
+}
+
+/// Returns the number that at most five groups encode in two's complement.
+#[inline]
+fn signed_few(groups: FewGroups) -> i64
+    requires { groups.sum < 2 ^ 35 × groups.power ≤ 2 ^ 35 }
+    ensures { result ≡ signed_of groups.sum groups.power groups.last }
+{
+    if groups.last < 0x40 {
+        groups.sum as i64
+    } else {
+        groups.sum as i64 - groups.power as i64
+    }
+}
+
+/// Decodes an unsigned number of 32 bits. Out of line, for those of several bytes.
+#[inline(never)]
+#[tactic(auto, using(crate::proofs::DecodeNumbers::u32_steps))]
+fn read_long_u32(bytes: &[u8]) -> Result<(u32, &[u8]), ReadFault>
+    ensures found { IfOk result (λ x. Decodes u32_format padded bytes.now x.0 x.1.now) }
+    ensures none { IfErr result (λ e. e ≢ Memory → Rejects u32_format padded bytes.now) }
+{
+    let (groups, rest) = read_few_groups(bytes)?;
+    if groups.sum < 1 << 32 {
+        Ok((groups.sum as u32, rest))
+    } else {
+        Err(ReadFault::TooLarge)
+    }
+}
+
+/// Decodes an unsigned number of 64 bits. Out of line, for those of several bytes.
+#[inline(never)]
+#[tactic(auto, using(crate::proofs::DecodeNumbers::u64_steps))]
+fn read_long_u64(bytes: &[u8]) -> Result<(u64, &[u8]), ReadFault>
+    ensures found { IfOk result (λ x. Decodes u64_format padded bytes.now x.0 x.1.now) }
+    ensures none { IfErr result (λ e. e ≢ Memory → Rejects u64_format padded bytes.now) }
+{
+    if let Ok((groups, rest)) = read_few_groups(bytes) {
+        return Ok((groups.sum, rest));
+    }
+    let (groups, rest) = read_groups(bytes, 10)?;
+    if groups.sum < 1 << 64 {
+        Ok((groups.sum as u64, rest))
+    } else {
+        Err(ReadFault::TooLarge)
+    }
+}
+
+/// Decodes a signed number of 32 bits. Out of line, for those of several bytes.
+#[inline(never)]
+#[tactic(auto, using(crate::proofs::DecodeNumbers::s32_steps))]
+fn read_long_i32(bytes: &[u8]) -> Result<(i32, &[u8]), ReadFault>
+    ensures found { IfOk result (λ x. Decodes s32 padded bytes.now x.0 x.1.now) }
+    ensures none { IfErr result (λ e. e ≢ Memory → Rejects s32 padded bytes.now) }
+{
+    let (groups, rest) = read_few_groups(bytes)?;
+    let value = signed_few(groups);
+    if value < -0x8000_0000 {
+        return Err(ReadFault::TooLarge);
+    }
+    if value < 0x8000_0000 {
+        Ok((value as i32, rest))
+    } else {
+        Err(ReadFault::TooLarge)
+    }
+}
+
+/// Decodes a signed number of 64 bits. Out of line, for those of several bytes.
+#[inline(never)]
+#[tactic(auto, using(crate::proofs::DecodeNumbers::s64_steps))]
+fn read_long_i64(bytes: &[u8]) -> Result<(i64, &[u8]), ReadFault>
+    ensures found { IfOk result (λ x. Decodes s64 padded bytes.now x.0 x.1.now) }
+    ensures none { IfErr result (λ e. e ≢ Memory → Rejects s64 padded bytes.now) }
+{
+    if let Ok((groups, rest)) = read_few_groups(bytes) {
+        return Ok((signed_few(groups), rest));
+    }
+    let (groups, rest) = read_groups(bytes, 10)?;
+    let value = signed(groups);
+    if value < -0x8000_0000_0000_0000 {
+        return Err(ReadFault::TooLarge);
+    }
+    if value < 0x8000_0000_0000_0000 {
+        Ok((value as i64, rest))
+    } else {
+        Err(ReadFault::TooLarge)
+    }
+}
+
+impl Layout for u32 {
+    ghost Value = { ℕ };
+
+    ghost format = { u32_format };
+
+    ghost view = { λ n. n };
+
+    #[tactic(auto, using(crate::proofs::NumberLaws::u32_unambiguous))]
+    fn laws() {}
+}
+
+impl<'a, A: Allocator + Copy> Readable<'a, A> for u32 {
+    #[tactic(auto, using(crate::proofs::DecodeNumbers::u32_steps))]
+    #[inline]
+    fn read(bytes: &'a [u8], _alloc: A) -> Result<(u32, &'a [u8]), ReadFault> {
+        if let [b, rest @ ..] = bytes {
+            if *b < 0x80 {
+                return Ok((u32::from(*b), rest));
+            }
+        }
+        read_long_u32(bytes)
+    }
+}
+
+impl Layout for u64 {
+    ghost Value = { ℕ };
+
+    ghost format = { u64_format };
+
+    ghost view = { λ n. n };
+
+    #[tactic(auto, using(crate::proofs::BaseLaws::u64_unambiguous))]
+    fn laws() {}
+}
+
+impl<'a, A: Allocator + Copy> Readable<'a, A> for u64 {
+    #[tactic(auto, using(crate::proofs::DecodeNumbers::u64_steps))]
+    #[inline]
+    fn read(bytes: &'a [u8], _alloc: A) -> Result<(u64, &'a [u8]), ReadFault> {
+        if let [b, rest @ ..] = bytes {
+            if *b < 0x80 {
+                return Ok((u64::from(*b), rest));
+            }
+        }
+        read_long_u64(bytes)
+    }
+}
+
+impl Layout for i32 {
+    ghost Value = { ℤ };
+
+    ghost format = { s32 };
+
+    ghost view = { λ n. n };
+
+    #[tactic(auto, using(crate::proofs::BaseLaws::s32_unambiguous))]
+    fn laws() {}
+}
+
+impl<'a, A: Allocator + Copy> Readable<'a, A> for i32 {
+    #[tactic(auto, using(crate::proofs::DecodeNumbers::s32_steps))]
+    #[inline]
+    fn read(bytes: &'a [u8], _alloc: A) -> Result<(i32, &'a [u8]), ReadFault> {
+        if let [b, rest @ ..] = bytes {
+            if *b < 0x80 {
+                return Ok((i32::from(signed_byte(*b)), rest));
+            }
+        }
+        read_long_i32(bytes)
+    }
+}
+
+impl Layout for i64 {
+    ghost Value = { ℤ };
+
+    ghost format = { s64 };
+
+    ghost view = { λ n. n };
+
+    #[tactic(auto, using(crate::proofs::BaseLaws::s64_unambiguous))]
+    fn laws() {}
+}
+
+impl<'a, A: Allocator + Copy> Readable<'a, A> for i64 {
+    #[tactic(auto, using(crate::proofs::DecodeNumbers::s64_steps))]
+    #[inline]
+    fn read(bytes: &'a [u8], _alloc: A) -> Result<(i64, &'a [u8]), ReadFault> {
+        if let [b, rest @ ..] = bytes {
+            if *b < 0x80 {
+                return Ok((i64::from(signed_byte(*b)), rest));
+            }
+        }
+        read_long_i64(bytes)
+    }
+}
+
+/// Decodes an index, encoded as a signed number of 33 bits. Negative numbers encode types, whose
+/// known bytes the caller has already matched.
+#[tactic(auto, using(crate::proofs::DecodeNumbers::index_steps))]
+#[inline]
+pub fn read_index(bytes: &[u8]) -> Result<(u32, &[u8]), ReadFault>
+    ensures found { IfOk result (λ x. Decodes s33 padded bytes.now x.0 x.1.now) }
+    ensures none { IfErr result (λ e. e ≢ Memory → Rejects s33 padded bytes.now) }
+{
+    let (groups, rest) = read_few_groups(bytes)?;
+    if groups.last >= 0x40 {
+        return Err(ReadFault::UnknownTag);
+    }
+    if groups.sum < 1 << 32 {
+        Ok((groups.sum as u32, rest))
+    } else {
+        Err(ReadFault::TooLarge)
+    }
+}
+
+impl Shorten for u32 {
+    #[tactic(auto, using(crate::proofs::DecodePlain::u32_appended))]
+    fn write_minimal<B: Allocator>(&self, sink: &mut Vec<u8, B>) -> Result<()> {
+        self.encode(sink)
     }
 }

@@ -9,37 +9,50 @@
 mod counted;
 mod cow;
 mod encode;
+mod fault;
 mod fixed;
 mod frames;
 mod kind;
 pub mod laws;
 mod leb128;
 mod modules;
+mod names;
 mod once;
 mod parts;
 mod pieces;
+mod readable;
 mod refused;
 mod section_id;
 mod sections;
+mod shorten;
+mod skip;
 mod tuples;
 mod types;
 mod vectors;
+mod whole;
 
 pub use counted::{Counted, add_all};
 pub use cow::{CowSlice, CowStr};
 pub use encode::Encode;
-pub use frames::{begin_size_prefixed, encode_section, encode_size_prefixed};
+pub use fault::ReadFault;
+pub use frames::{
+    SizePrefixed, begin_size_prefixed, encode_section, encode_size_prefixed, prefix_size_since,
+};
 pub use kind::Kind;
-pub use leb128::{Groups, NoGroups, encoding_size, read_groups};
+pub use leb128::{Groups, NoGroups, encoding_size, read_groups, read_index};
 pub use modules::Module;
 pub use once::{BytesOf, EncodeOnce, VecOf, bytes_of, vec_of};
-pub use parts::{Lent, Optional};
+pub use parts::{Lent, Optional, read_optional};
 pub use pieces::Pieces;
+pub use readable::{Layout, Readable};
 pub use refused::{Refused, Result};
 pub use section_id::{
     CORE_FUNCTION_EXACT_SORT, CORE_FUNCTION_SORT, CORE_GLOBAL_SORT, CORE_MEMORY_SORT,
     CORE_TABLE_SORT, CORE_TAG_SORT, SectionId,
 };
 pub use sections::{RawSection, Section};
-pub use types::{AbstractHeapType, HeapType, RefType, ValType};
-pub use vectors::encode_vec;
+pub use shorten::Shorten;
+pub use skip::{Dropped, Skip, skip_many};
+pub use types::{AbstractHeapType, HeapType, RefType, ValType, read_val_after};
+pub use vectors::{append_all, encode_vec};
+pub use whole::{read_to_end, read_whole};

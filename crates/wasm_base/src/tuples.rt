@@ -1,9 +1,14 @@
-// Encodings of several values one after another.
+// Several values one after another.
 ghost use Rattle.std.specs.Prelude.{◌++◌};
 ghost use Rattle.wasm_base.specs.Calls.{Appends};
+ghost use Rattle.wasm_base.specs.Formats.{pair};
 
 use crate::encode::Encode;
+use crate::fault::ReadFault;
+use crate::readable::{Layout, Readable};
 use crate::refused::Result;
+use crate::shorten::Shorten;
+use crate::skip::Skip;
 use std::alloc::Allocator;
 
 /// Appends the encodings of both values, or of neither.
@@ -51,5 +56,49 @@ impl<S: Encode, T: Encode, U: Encode> Encode for (S, T, U) {
             return Err(refused);
         }
         Ok(())
+    }
+}
+
+/// One value, and then another.
+impl<'a, A: Allocator + Copy, P: Skip<'a, A>, Q: Skip<'a, A>> Skip<'a, A> for (P, Q) {
+    #[tactic(auto, using(crate::proofs::DecodingSteps::steps))]
+    fn skip(bytes: &'a [u8], alloc: A) -> Result<&'a [u8], ReadFault> {
+        let after = P::skip(bytes, alloc)?;
+        P::laws();
+        let rest = Q::skip(after, alloc)?;
+        Ok(rest)
+    }
+}
+
+/// One value, and then another.
+impl<T: Layout, U: Layout> Layout for (T, U) {
+    ghost Value = { T.Value × U.Value };
+
+    ghost format = { pair T.format U.format };
+
+    ghost view = { λ p. (T.view p.0, U.view p.1) };
+
+    fn laws() {
+        T::laws();
+        U::laws();
+    }
+}
+
+impl<'a, A: Allocator + Copy, T: Readable<'a, A>, U: Readable<'a, A>> Readable<'a, A> for (T, U) {
+    #[tactic(auto, using(crate::proofs::DecodingSteps::steps))]
+    #[inline]
+    fn read(bytes: &'a [u8], alloc: A) -> Result<((T, U), &'a [u8]), ReadFault> {
+        let (first, rest) = T::read(bytes, alloc)?;
+        T::laws();
+        let (second, rest) = U::read(rest, alloc)?;
+        Ok(((first, second), rest))
+    }
+}
+
+impl<T: Shorten, U: Shorten> Shorten for (T, U) {
+    #[tactic(auto, using(crate::proofs::MinimalEncodings::pair_appended, crate::proofs::DecodedValues::left_encoded, crate::proofs::DecodedValues::right_encoded))]
+    fn write_minimal<B: Allocator>(&self, sink: &mut Vec<u8, B>) -> Result<()> {
+        self.0.write_minimal(sink)?;
+        self.1.write_minimal(sink)
     }
 }

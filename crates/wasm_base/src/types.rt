@@ -1,10 +1,22 @@
 // Heap types, reference types and value types.
-ghost use Rattle.std.specs.Prelude.{◌≡◌, ◌∷◌, [], ⊤, cond};
+ghost use Rattle.std.specs.Prelude.{◌≡◌, ◌∷◌, [], ⊤, cond, ◌≢◌, IfOk, IfErr, IsTrue, false, MatchOption};
 ghost use Rattle.wasm_base.specs.Calls.{Appends};
-ghost use Rattle.wasm_base.specs.Types.{abstract_code, heap_encoding, ref_encoding, val_encoding};
+ghost use Rattle.wasm_base.specs.Types.{abstract_code, heap_encoding, ref_encoding, val_encoding, abstract_type, heap_type, ref_tags, ref_type, val_tags, val_ref, val_type, HasNoByte};
+ghost use Rattle.wasm_base.specs.Formats.{choice, impossible};
+ghost use Rattle.wasm_base.specs.Numbers.{padded};
+ghost use Rattle.wasm_base.specs.Decoding.{Decodes, Rejects};
+ghost use Rattle.wasm_base.specs.declared.types.AbstractHeapType.{AbstractHeapType as Abstract};
+ghost use Rattle.wasm_base.specs.declared.types.HeapType.{HeapType as Heap};
+ghost use Rattle.wasm_base.specs.declared.types.RefType.{RefType as Ref};
+ghost use Rattle.wasm_base.specs.declared.types.ValType.{ValType as Val};
+ghost use Rattle.wasm_base.specs.declared.fault.ReadFault.TheVariants.{Memory};
 
 use crate::encode::Encode;
+use crate::fault::ReadFault;
+use crate::leb128::read_index;
+use crate::readable::{Layout, Readable};
 use crate::refused::Result;
+use crate::shorten::Shorten;
 use std::alloc::Allocator;
 
 /// The heap types that have a name, as the core specification ("Heap Types") and its proposals
@@ -181,5 +193,209 @@ impl Encode for ValType {
             ValType::Ref(ty) => return ty.encode(sink),
         };
         byte.encode(sink)
+    }
+}
+
+/// Returns the abstract heap type of this byte.
+#[tactic(auto, using(crate::proofs::DecodeTypes::abstract_steps))]
+fn abstract_of(byte: u8) -> Option<AbstractHeapType>
+    ensures { MatchOption result ((ty : Abstract) → byte ≢ abstract_code ty) (λ ty. byte ≡ abstract_code ty) }
+{
+    match byte {
+        0x70 => Some(AbstractHeapType::Func),
+        0x6F => Some(AbstractHeapType::Extern),
+        0x6E => Some(AbstractHeapType::Any),
+        0x6D => Some(AbstractHeapType::Eq),
+        0x6C => Some(AbstractHeapType::I31),
+        0x6B => Some(AbstractHeapType::Struct),
+        0x6A => Some(AbstractHeapType::Array),
+        0x69 => Some(AbstractHeapType::Exn),
+        0x74 => Some(AbstractHeapType::NoExn),
+        0x73 => Some(AbstractHeapType::NoFunc),
+        0x72 => Some(AbstractHeapType::NoExtern),
+        0x71 => Some(AbstractHeapType::None),
+        0x68 => Some(AbstractHeapType::Cont),
+        0x75 => Some(AbstractHeapType::NoCont),
+        _ => None,
+    }
+}
+
+impl Layout for AbstractHeapType {
+    ghost Value = { Abstract };
+
+    ghost format = { abstract_type };
+
+    ghost view = { λ ty. ty };
+
+    #[tactic(auto, using(crate::proofs::TypeLaws::abstract_unambiguous))]
+    fn laws() {}
+}
+
+impl<'a, A: Allocator + Copy> Readable<'a, A> for AbstractHeapType {
+    #[tactic(auto, using(crate::proofs::DecodeTypes::abstract_type_steps))]
+    fn read(bytes: &'a [u8], alloc: A) -> Result<(AbstractHeapType, &'a [u8]), ReadFault> {
+        let (byte, rest) = <u8 as Readable<'a, A>>::read(bytes, alloc)?;
+        match abstract_of(byte) {
+            Some(ty) => Ok((ty, rest)),
+            None => Err(ReadFault::UnknownTag),
+        }
+    }
+}
+
+impl Layout for HeapType {
+    ghost Value = { Heap };
+
+    ghost format = { heap_type };
+
+    ghost view = { λ heap. heap };
+
+    #[tactic(auto, using(crate::proofs::TypeLaws::heap_unambiguous))]
+    fn laws() {}
+}
+
+impl<'a, A: Allocator + Copy> Readable<'a, A> for HeapType {
+    #[tactic(auto, using(crate::proofs::DecodeTypes::heap_steps))]
+    fn read(bytes: &'a [u8], alloc: A) -> Result<(HeapType, &'a [u8]), ReadFault> {
+        let (tag, rest) = <u8 as Readable<'a, A>>::read(bytes, alloc)?;
+        match tag {
+            0x62 => {
+                let (index, rest) = <u32 as Readable<'a, A>>::read(rest, alloc)?;
+                Ok((HeapType::Exact(index), rest))
+            }
+            0x65 => {
+                let (ty, rest) = <AbstractHeapType as Readable<'a, A>>::read(rest, alloc)?;
+                Ok((HeapType::Abstract { shared: true, ty }, rest))
+            }
+            _ => match abstract_of(tag) {
+                Some(ty) => Ok((HeapType::Abstract { shared: false, ty }, rest)),
+                None => {
+                    let (index, rest) = read_index(bytes)?;
+                    Ok((HeapType::Concrete(index), rest))
+                }
+            },
+        }
+    }
+}
+
+/// Returns `true` if the nullable reference to the heap type has a one-byte encoding.
+#[tactic(auto, using(crate::proofs::DecodeTypes::own_byte_steps))]
+fn has_own_byte(heap: HeapType) -> bool
+    ensures yes { IsTrue result → HasNoByte heap → ⊥ }
+    ensures no { result ≡ false → HasNoByte heap }
+{
+    match heap {
+        HeapType::Abstract {
+            shared: false,
+            ty: AbstractHeapType::Func | AbstractHeapType::Extern,
+        } => true,
+        _ => false,
+    }
+}
+
+/// Decodes a reference type after its first byte, `tag`.
+#[tactic(auto, using(crate::proofs::DecodeTypes::ref_steps))]
+fn read_ref_after<'a, A: Allocator + Copy>(
+    tag: u8,
+    bytes: &'a [u8],
+    alloc: A,
+) -> Result<(RefType, &'a [u8]), ReadFault>
+    ensures found { IfOk result (λ x. Decodes (choice ref_tags (λ b. impossible) tag) padded bytes.now x.0 x.1.now) }
+    ensures none { IfErr result (λ e. e ≢ Memory → Rejects (choice ref_tags (λ b. impossible) tag) padded bytes.now) }
+{
+    match tag {
+        0x70 => Ok((RefType::FUNCREF, bytes)),
+        0x6F => Ok((RefType::EXTERNREF, bytes)),
+        0x64 => {
+            let (heap_type, rest) = <HeapType as Readable<'a, A>>::read(bytes, alloc)?;
+            Ok((
+                RefType {
+                    nullable: false,
+                    heap_type,
+                },
+                rest,
+            ))
+        }
+        0x63 => {
+            let (heap_type, rest) = <HeapType as Readable<'a, A>>::read(bytes, alloc)?;
+            if has_own_byte(heap_type) {
+                return Err(ReadFault::UnknownTag);
+            }
+            Ok((
+                RefType {
+                    nullable: true,
+                    heap_type,
+                },
+                rest,
+            ))
+        }
+        _ => Err(ReadFault::UnknownTag),
+    }
+}
+
+impl Layout for RefType {
+    ghost Value = { Ref };
+
+    ghost format = { ref_type };
+
+    ghost view = { λ r. r };
+
+    #[tactic(auto, using(crate::proofs::TypeLaws::ref_unambiguous))]
+    fn laws() {}
+}
+
+impl<'a, A: Allocator + Copy> Readable<'a, A> for RefType {
+    #[tactic(auto, using(crate::proofs::DecodeTypes::ref_type_steps))]
+    fn read(bytes: &'a [u8], alloc: A) -> Result<(RefType, &'a [u8]), ReadFault> {
+        let (tag, rest) = <u8 as Readable<'a, A>>::read(bytes, alloc)?;
+        read_ref_after(tag, rest, alloc)
+    }
+}
+
+/// Decodes a value type after its first byte, `tag`.
+#[tactic(auto, using(crate::proofs::DecodeTypes::val_steps))]
+pub fn read_val_after<'a, A: Allocator + Copy>(
+    tag: u8,
+    bytes: &'a [u8],
+    alloc: A,
+) -> Result<(ValType, &'a [u8]), ReadFault>
+    ensures found { IfOk result (λ x. Decodes (choice val_tags val_ref tag) padded bytes.now x.0 x.1.now) }
+    ensures none { IfErr result (λ e. e ≢ Memory → Rejects (choice val_tags val_ref tag) padded bytes.now) }
+{
+    match tag {
+        0x7F => Ok((ValType::I32, bytes)),
+        0x7E => Ok((ValType::I64, bytes)),
+        0x7D => Ok((ValType::F32, bytes)),
+        0x7C => Ok((ValType::F64, bytes)),
+        0x7B => Ok((ValType::V128, bytes)),
+        _ => {
+            let (ty, rest) = read_ref_after(tag, bytes, alloc)?;
+            Ok((ValType::Ref(ty), rest))
+        }
+    }
+}
+
+impl Layout for ValType {
+    ghost Value = { Val };
+
+    ghost format = { val_type };
+
+    ghost view = { λ ty. ty };
+
+    #[tactic(auto, using(crate::proofs::TypeLaws::val_unambiguous))]
+    fn laws() {}
+}
+
+impl<'a, A: Allocator + Copy> Readable<'a, A> for ValType {
+    #[tactic(auto, using(crate::proofs::DecodeTypes::val_type_steps))]
+    fn read(bytes: &'a [u8], alloc: A) -> Result<(ValType, &'a [u8]), ReadFault> {
+        let (tag, rest) = <u8 as Readable<'a, A>>::read(bytes, alloc)?;
+        read_val_after(tag, rest, alloc)
+    }
+}
+
+impl Shorten for ValType {
+    #[tactic(auto, using(crate::proofs::DecodePlain::val_appended))]
+    fn write_minimal<B: Allocator>(&self, sink: &mut Vec<u8, B>) -> Result<()> {
+        self.encode(sink)
     }
 }

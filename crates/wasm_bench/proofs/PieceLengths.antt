@@ -1,10 +1,6 @@
 -- This file proves the number of bytes of the first pieces together.
-use Rattle.std.proofs.Common.{◌≡◌, ℕ, zero, suc, ◌≤◌, arith, ◌+◌, List, ◌∷◌, [], ◌++◌, length, get_or, take, ap, ◌∙◌, Some, length-append}
-use Rattle.std.specs.List.{slice_get}
-use Rattle.std.proofs.lemmas.List.{take_more}
-use Rattle.std.proofs.lemmas.Option.{slice_get_within, get_or_from_slice_get}
-use Rattle.wasm_base.specs.Pieces.{joined}
-use Rattle.wasm_base.proofs.Cut.{joined_push}
+use Rattle.wasm_base.proofs.Words.{◌≡◌, ℕ, zero, suc, ◌≤◌, arith, ◌+◌, List, ◌∷◌, [], ◌++◌, length, get_or, take, ap, ◌∙◌, Some, length-append, slice_get, take_more, slice_get_within}
+use Rattle.wasm_base.proofs.Words.{get_or_from_slice_get, joined, joined_push}
 
 pub joined_take_more : (ps : List (List ℕ)) (i : ℕ) (p : List ℕ) → slice_get ps i ≡ Some p → length (joined (take (i + 1) ps)) ≡ length (joined (take i ps)) + length p
 joined_take_more ps i p e =

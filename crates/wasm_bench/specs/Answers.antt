@@ -1,11 +1,7 @@
 -- This file defines the results of workloads that encode.
 use Rattle.std.specs.Prelude.{◌≡◌, ℕ, ◌+◌, ◌*◌, ◌<◌, ◌≤◌, ◌∷◌, [], List, ◌++◌, length, drop, map, Result, IfOk, OnErr, if◌then◌else◌, ◌⊎◌, nat_le}
-use Rattle.wasm_base.specs.Formats.{header}
-use Rattle.wasm_base.specs.Numbers.{unsigned_encoding}
-use Rattle.wasm_base.specs.Pieces.{joined, section_encoding}
-use Rattle.wasm_custom.specs.Customs.{named_encoding, subsection_encoding}
-use Rattle.wasm_custom.specs.Lists.{list_encoding}
-use Rattle.wasm_custom.specs.Names.{name_name}
+use Rattle.wasm_base.specs.Words.{header, unsigned_encoding, joined, section_encoding}
+use Rattle.wasm_custom.specs.Words.{named_encoding, subsection_encoding, list_encoding, name_name}
 use Rattle.wasm_bench.specs.declared.answers.TheConstants.{NO_ANSWER}
 use Rattle.wasm_bench.specs.declared.answers.Fault.{Fault}
 

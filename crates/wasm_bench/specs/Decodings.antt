@@ -1,10 +1,9 @@
 -- This file defines the results of workloads that decode.
 use Rattle.std.specs.Prelude.{◌≡◌, ℕ, List, length}
 use Rattle.std.specs.List.{flat_map}
-use Rattle.wasm_base.specs.Numbers.{padded}
-use Rattle.wasm_code.specs.Bodies.{Body, body}
-use Rattle.wasm_reader.specs.Kinds.{Bodies}
-use Rattle.wasm_reader.specs.Sections.{Takes}
+use Rattle.wasm_base.specs.Words.{padded}
+use Rattle.wasm_code.specs.Words.{Body, body}
+use Rattle.wasm_reader.specs.Words.{Bodies, Takes}
 use Rattle.wasm_reader.specs.declared.kinds.SectionKind.TheVariants as kinds
 
 -- The number of instructions of all bodies together.

@@ -2,13 +2,13 @@
 ghost use Rattle.std.specs.Prelude.{◌≡◌, ◌⊎◌, ⊤, map, IfOk, MatchOption};
 ghost use Rattle.wasm_bench.specs.Decodings.{HasRead, HasWalked, instructions_in};
 ghost use Rattle.wasm_bench.specs.declared.answers.TheConstants.{NO_ANSWER as no_answer};
-ghost use Rattle.wasm_reader_insn.specs.Arguments.{body_view};
+ghost use Rattle.wasm_code.specs.BodyViews.{body_view};
 
 use crate::answers::NO_ANSWER;
 use std::alloc::Global;
+use wasm_base::ReadFault;
+use wasm_code::{Body, Instructions};
 use wasm_reader::{Items, SectionKind, read_section};
-use wasm_reader_base::ReadFault;
-use wasm_reader_insn::{Body, Instructions};
 
 /// Returns the number of instructions in all bodies together, or `None` if it does not fit 64 bits.
 fn instructions(bodies: &[Body]) -> Option<u64>

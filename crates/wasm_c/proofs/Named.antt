@@ -1,14 +1,10 @@
 -- This file proves that the names of sections are in the module, after their lengths.
-use Rattle.std.proofs.Common.{◌≡◌, ℕ, ◌<◌, ◌≤◌, ◌+◌, suc, List, [], ◌∷◌, ◌++◌, length, get_or, drop, Option, Some, None, IfSome, if◌then◌else◌, nat_lt, option_map, refl, sym, ap, subst, ◌∙◌, append_assoc, arith}
+use Rattle.wasm_base.proofs.Words.{◌≡◌, ℕ, ◌<◌, ◌≤◌, ◌+◌, suc, List, [], ◌∷◌, ◌++◌, length, get_or, drop, Option, Some, None, if◌then◌else◌, refl, sym, ap, subst, ◌∙◌, append_assoc, arith}
+use Rattle.wasm_base.proofs.Words.{AllByRecursion, flat_map, drop_at, drop_more, le-ltb, lt-ltb, All-from_recursion, AreGroups, padded, header, name, Decodes}
+use Rattle.std.proofs.Common.{IfSome}
 use Rattle.std.specs.Prelude.{All}
-use Rattle.std.specs.List.{AllByRecursion, flat_map}
-use Rattle.std.proofs.lemmas.List.{length-append, drop_at, drop_more}
-use Rattle.std.proofs.lemmas.Bool.{le-ltb, lt-ltb}
-use Rattle.std.proofs.lemmas.List.Elements.{All-from_recursion}
-use Rattle.wasm_base.specs.Numbers.{AreGroups, padded}
-use Rattle.wasm_base.specs.Formats.{header, name}
-use Rattle.wasm_base.specs.Decoding.{Decodes}
-use Rattle.wasm_reader.specs.Outlines.{Section, IsSection, IsNameOf, IsOutline, AreOutlines, HasOutline, bytes_of}
+use Rattle.std.proofs.lemmas.List.{length-append}
+use Rattle.wasm_reader.proofs.Words.{Section, IsSection, IsNameOf, IsOutline, AreOutlines, HasOutline, bytes_of}
 use Rattle.wasm_reader.specs.declared.outlines.Outlined.{Outlined}
 use Rattle.wasm_c.specs.Outlining.{continued, behind_number, name_of, IsNamed}
 

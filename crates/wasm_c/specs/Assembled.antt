@@ -1,10 +1,7 @@
 -- This file defines the result of `dz_assemble`.
-use Rattle.std.specs.Prelude.{◌≡◌, ℕ, List, ◌++◌, All, IsUtf8, length, drop, if◌then◌else◌, ◌⊎◌, nat_le}
-use Rattle.wasm_base.specs.Formats.{wasm_module}
-use Rattle.wasm_base.specs.Decoding.{DecodesWhole}
-use Rattle.wasm_tool.specs.Lines.{lines_of}
-use Rattle.wasm_tool.specs.Recipe.{IsGood, recipe_module, entries_of, sections_of}
-use Rattle.wasm_tool.specs.Steps.{Explains}
+use Rattle.std.specs.Prelude.{◌≡◌, ℕ, List, ◌++◌, IsUtf8, length, drop, if◌then◌else◌, ◌⊎◌, nat_le, All}
+use Rattle.wasm_base.specs.Words.{wasm_module, DecodesWhole}
+use Rattle.wasm_tool.specs.Words.{lines_of, IsGood, recipe_module, entries_of, sections_of, Explains}
 use Rattle.wasm_tool.specs.declared.fault.RecipeCause.{RecipeCause}
 use Rattle.wasm_tool.specs.declared.fault.RecipeCause.TheVariants.{UnknownCommand, BadNumber, BadHex, MissingWord, Memory, TooLong}
 use Rattle.wasm_c.specs.declared.TheConstants.{NO_ANSWER}

@@ -1,12 +1,9 @@
 -- This file defines the result of `dz_outline`.
-use Rattle.std.specs.Prelude.{◌≡◌, ◌≢◌, ℕ, ◌+◌, List, [], ◌∷◌, length, drop, map, suc, Option, Some, None, option_map, ◌⊎◌, All, IfSome, if◌then◌else◌, nat_lt}
-use Rattle.wasm_base.specs.Formats.{name, wasm_module}
-use Rattle.wasm_base.specs.Continuing.{RejectsWhole}
-use Rattle.wasm_base.specs.Numbers.{padded}
-use Rattle.wasm_base.specs.Decoding.{Decodes}
-use Rattle.wasm_reader_base.specs.declared.fault.ReadFault.{ReadFault}
-use Rattle.wasm_reader_base.specs.declared.fault.ReadFault.TheVariants.{Memory}
-use Rattle.wasm_reader.specs.Outlines.{HasOutline, EndsAt}
+use Rattle.std.specs.Prelude.{◌≡◌, ◌≢◌, ℕ, ◌+◌, List, [], ◌∷◌, length, drop, map, suc, Option, Some, None, option_map, ◌⊎◌, IfSome, if◌then◌else◌, nat_lt, All}
+use Rattle.wasm_base.specs.Words.{name, wasm_module, RejectsWhole, padded, Decodes}
+use Rattle.wasm_base.specs.declared.fault.ReadFault.{ReadFault}
+use Rattle.wasm_base.specs.declared.fault.ReadFault.TheVariants.{Memory}
+use Rattle.wasm_reader.specs.Words.{HasOutline, EndsAt}
 use Rattle.wasm_reader.specs.declared.outlines.Outlined.{Outlined}
 use Rattle.wasm_c.specs.Assembled.{Gives}
 use Rattle.wasm_c.specs.Listing.{count_of, fault_number}

@@ -1,11 +1,9 @@
 -- This file defines the result of `dz_shorten`.
 use Rattle.std.specs.Prelude.{◌≡◌, ◌≢◌, ℕ, List, [], Some, None, ◌⊎◌}
-use Rattle.wasm_base.specs.Numbers.{padded}
-use Rattle.wasm_base.specs.Decoding.{Rejects}
-use Rattle.wasm_reader_base.specs.declared.fault.ReadFault.{ReadFault}
-use Rattle.wasm_reader_base.specs.declared.fault.ReadFault.TheVariants.{Memory}
-use Rattle.wasm_reader.specs.Kinds.{kind_numbered}
-use Rattle.wasm_reader.specs.Sections.{section, Shortens}
+use Rattle.wasm_base.specs.Words.{padded, Rejects}
+use Rattle.wasm_base.specs.declared.fault.ReadFault.{ReadFault}
+use Rattle.wasm_base.specs.declared.fault.ReadFault.TheVariants.{Memory}
+use Rattle.wasm_reader.specs.Words.{kind_numbered, section, Shortens}
 use Rattle.wasm_reader.specs.declared.kinds.SectionKind.{SectionKind}
 use Rattle.wasm_c.specs.Assembled.{Gives}
 use Rattle.wasm_c.specs.Listing.{fault_number}

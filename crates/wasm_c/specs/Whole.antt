@@ -1,13 +1,13 @@
 -- This file defines the result of `dz_shorten_module`.
 use Rattle.std.specs.Prelude.{◌≡◌, ℕ, List, [], ◌⊎◌, cond, ◌==◌}
-use Rattle.wasm_reader_base.specs.declared.fault.ReadFault.{ReadFault}
-use Rattle.wasm_reader.specs.Shortening.{ShortensModule, Explains}
-use Rattle.wasm_reader.specs.declared.whole.ModuleFault.TheVariants as faults
+use Rattle.wasm_base.specs.declared.fault.ReadFault.{ReadFault}
+use Rattle.wasm_reader.specs.Words.{ShortensModule, Explains}
 use Rattle.wasm_reader.specs.declared.whole.Offsets.{Offsets}
 use Rattle.wasm_reader.specs.declared.whole.Offsets.TheVariants.{Refuse, LeaveOut}
 use Rattle.wasm_c.specs.Assembled.{Gives}
 use Rattle.wasm_c.specs.Listing.{fault_number}
 use Rattle.wasm_c.specs.declared.TheConstants.{NO_ANSWER}
+use Rattle.wasm_reader.specs.declared.whole.ModuleFault.TheVariants as faults
 
 -- The treatment of sections that hold offsets: 0 rejects a module that would lose them, any other
 -- number leaves them out.

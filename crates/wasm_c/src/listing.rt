@@ -5,8 +5,8 @@ ghost use Rattle.wasm_c.specs.Listing.{fault_number, section_of, Outcome};
 
 use crate::NO_ANSWER;
 use std::alloc::Global;
+use wasm_base::ReadFault;
 use wasm_reader::{Listed, list_module};
-use wasm_reader_base::ReadFault;
 
 /// A section in the listing of a module.
 #[derive(Clone, Copy)]

@@ -1,28 +1,14 @@
 -- This file proves that bodies are unambiguous, and that a longer body continues where a shorter
 -- one ends.
-use Rattle.std.proofs.Common.{◌≡◌, ◌≢◌, ℕ, List, [], ◌∷◌, ◌++◌, length, false, arith, Ok, Option, refl, sym, ap, subst, ◌∙◌, ◌<◌, append_assoc, append-nil}
-use Rattle.std.specs.Iterator.{Count, Drains, size}
+use Rattle.wasm_base.proofs.Words.{◌≡◌, ◌≢◌, ℕ, List, [], ◌∷◌, ◌++◌, length, false, arith, Ok, Option, refl, sym, ap, subst, ◌∙◌, ◌<◌, append_assoc, append-nil, Count, Drains, size, Mode, minimal}
+use Rattle.wasm_base.proofs.Words.{padded, u32, size_prefixed, pair, members, vec, Unambiguous, UnambiguousWhole, DecodesBack, AppendsVec, longest, size_prefixed_encoding, HasEncodableSize, val_type}
+use Rattle.wasm_base.proofs.Words.{val_encoding, mapped_whole, pair_unambiguous, pair_whole, vec_unambiguous, size_prefixed_unambiguous, members_go_on, u32_unambiguous, groups_encoding-last}
+use Rattle.wasm_base.proofs.Words.{val_unambiguous, val-encodings, decodes_uniquely, size_prefixed_encodes, u32_encodes, vec_encodes}
 use Rattle.std.specs.declared.vec.Vec.{Vec}
-use Rattle.wasm_base.specs.Numbers.{Mode, minimal, padded}
-use Rattle.wasm_base.specs.Formats.{u32, size_prefixed, pair, members, vec}
-use Rattle.wasm_base.specs.Decoding.{Unambiguous, UnambiguousWhole}
-use Rattle.wasm_base.specs.Calls.{DecodesBack}
-use Rattle.wasm_base.specs.Iterators.{AppendsVec}
-use Rattle.wasm_base.specs.Encodings.{longest, size_prefixed_encoding, HasEncodableSize}
-use Rattle.wasm_base.specs.Types.{val_type, val_encoding}
-use Rattle.wasm_base.proofs.FormatLaws.{mapped_whole, pair_unambiguous, pair_whole, vec_unambiguous, size_prefixed_unambiguous, members_go_on}
-use Rattle.wasm_base.proofs.NumberLaws.{u32_unambiguous}
-use Rattle.wasm_base.proofs.NumberEncodings.{groups_encoding-last}
-use Rattle.wasm_base.proofs.TypeLaws.{val_unambiguous, val-encodings}
-use Rattle.wasm_base.proofs.EncodingLaws.{decodes_uniquely, size_prefixed_encodes, u32_encodes, vec_encodes}
 use Rattle.wasm_insn.specs.declared.instruction.Instruction.{Instruction}
-use Rattle.wasm_insn.specs.Plain.{Plain, instruction}
-use Rattle.wasm_insn.specs.Table.{table}
-use Rattle.wasm_insn.specs.Instructions.{instruction_encoding, IsWellFormedInstruction}
-use Rattle.wasm_insn.proofs.InstructionLaws.{unique, any_begins, lists_whole}
-use Rattle.wasm_code.specs.Expressions.{normal_row}
-use Rattle.wasm_code.specs.Bodies.{Run, run_encoding, locals_encoding, IsRun, Body, body_of, body, IsWellFormedBody, IsPaddedBody, and_then, Grows, GrowsBy, HasLocals, BeginsWithRuns}
-use Rattle.wasm_code.specs.Laws.{ContinuesWith, HasOffsets, FindsAdded}
+use Rattle.wasm_insn.proofs.Words.{Plain, instruction, table, instruction_encoding, IsWellFormedInstruction, unique, any_begins, lists_whole}
+use Rattle.wasm_code.specs.{normal_row, Run, run_encoding, locals_encoding, IsRun, Body, body_of, body, IsWellFormedBody, IsPaddedBody, and_then, Grows, GrowsBy, HasLocals, BeginsWithRuns}
+use Rattle.wasm_code.specs.{ContinuesWith, HasOffsets, FindsAdded}
 use Rattle.wasm_code.proofs.ExpressionLaws.{members_join, members_one, normal_encodes}
 
 -- ---- unambiguous

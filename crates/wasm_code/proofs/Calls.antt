@@ -1,45 +1,28 @@
 -- This file proves the effect of each call on functions, expressions and code sections: lemmas that
 -- a caller's proof cites.
-use Rattle.std.proofs.Common.{◌≡◌, ℕ, ◌^◌, ◌<◌, ◌≤◌, List, [], ◌∷◌, ◌++◌, length, map, ℤ, Result, Ok, Err, refl, sym, ap, subst, ◌∙◌, append-nil}
-use Rattle.std.proofs.lemmas.List.{map-append}
-use Rattle.std.proofs.lemmas.List.Elements.{All-nil, All-cons}
-use Rattle.std.specs.Array.Iter.{array_into_iter_items, array_steps, array_steps_back}
-use Rattle.std.specs.Iterator.{Count, Drains}
-use Rattle.std.specs.Iterator.Runs.{EveryRun, ItemsAre, ItemsAreReversed}
-use Rattle.std.specs.List.{All, AllByRecursion, AllZip}
-use Rattle.std.specs.Prelude.{OnOk}
+use Rattle.wasm_base.proofs.Words.{◌≡◌, ℕ, ◌^◌, ◌<◌, ◌≤◌, List, [], ◌∷◌, ◌++◌, length, map, ℤ, Result, Ok, Err, refl, sym, ap, subst, ◌∙◌, append-nil, map-append, All-nil, All-cons}
+use Rattle.wasm_base.proofs.Words.{array_into_iter_items, array_steps, array_steps_back, Count, Drains, EveryRun, ItemsAre, ItemsAreReversed, All, AllByRecursion, AllZip, OnOk, Appends}
+use Rattle.wasm_base.proofs.Words.{DecodesOneMore, AddsEach, u32, s32, any_bytes, size_prefixed, vec, members, such, SectionDecoding, DecodesSections, GainsDecoding, GainsDecodingPadded, Mode}
+use Rattle.wasm_base.proofs.Words.{minimal, padded, SectionPayload, IsEncodableSection, section_encoding, section_sized, longest, IsEncodableVec, size_prefixed_encoding, HasEncodableSize}
+use Rattle.wasm_base.proofs.Words.{gains_section, gains_section_padded, array_items}
 use Rattle.std.specs.declared.alloc.Global.{Global}
 use Rattle.std.specs.declared.vec.Vec.{Vec}
 use Rattle.wasm_base.specs.declared.refused.Refused.{Refused}
 use Rattle.wasm_base.specs.declared.types.ValType.{ValType}
 use Rattle.std.specs.declared.array.IntoIter.{IntoIter}
-use Rattle.wasm_base.specs.Calls.{Appends, DecodesOneMore, AddsEach}
-use Rattle.wasm_base.specs.Formats.{u32, s32, any_bytes, size_prefixed, vec, members}
-use Rattle.wasm_base.specs.Modules.{SectionDecoding, DecodesSections, GainsDecoding, GainsDecodingPadded}
-use Rattle.wasm_base.specs.Numbers.{Mode, minimal, padded}
-use Rattle.wasm_base.specs.Pieces.{SectionPayload, IsEncodableSection, section_encoding, section_sized}
-use Rattle.wasm_base.specs.Encodings.{longest, IsEncodableVec, size_prefixed_encoding, HasEncodableSize}
-use Rattle.wasm_base.proofs.Calls.{gains_section, gains_section_padded}
-use Rattle.wasm_base.proofs.KnownLengths.{array_items}
 use Rattle.wasm_insn.specs.declared.instruction.Instruction.{Instruction}
-use Rattle.wasm_insn.specs.Plain.{Plain, instruction as instruction_format}
-use Rattle.wasm_insn.specs.Sink.{br_table_encoding, WritesLabels}
-use Rattle.wasm_insn.specs.Table.{table}
-use Rattle.wasm_insn.specs.Instructions.{instruction_encoding, IsWellFormedInstruction}
-use Rattle.wasm_insn.specs.Arguments.{signed32}
+use Rattle.wasm_insn.proofs.Words.{Plain, instruction as instruction_format, br_table_encoding, WritesLabels, table, instruction_encoding, IsWellFormedInstruction, signed32, br_table_encodes}
+use Rattle.wasm_insn.proofs.Words.{byte_encodes, one_argument, byte_shape}
 use Rattle.wasm_insn.specs.declared.instruction.Instruction.TheVariants.{I32Const}
 use Rattle.wasm_insn.specs.declared.op.Shape.TheVariants.{C32}
-use Rattle.wasm_insn.specs.declared.part.Part.TheVariants as parts
-use Rattle.wasm_insn.proofs.InstructionLaws.{br_table_encodes, byte_encodes, one_argument}
-use Rattle.wasm_insn.proofs.TableRuns.{byte_shape}
-use Rattle.wasm_code.specs.Bodies.{Run, IsRun, IsRuns, expand, Body, body as body_format, IsWellFormedBody, IsPaddedBody, and_then, Grows, HasLocals, BeginsWithRuns, BeginsWithTypes}
-use Rattle.wasm_code.specs.Code.{code_section, ContainsBodies, EncodesBodiesIn, EncodesBodies, EncodesBodiesPadded, DecodesCode, raw_code_decoding, code_decoding, padded_code_decoding}
-use Rattle.wasm_base.specs.Formats.{such}
-use Rattle.wasm_code.specs.Expressions.{IsNoEnd, StoresInstructions, StoresPadded, Stores, normal_row}
-use Rattle.wasm_code.specs.Laws.{ContainsMoreBodies, GrowsByEncoding, GrowsByLabels, br_table_row, ContainsMoreBodiesPadded, GrowsPadded, GrowsByEncodingPadded, StoresMorePadded}
+use Rattle.wasm_code.specs.{Run, IsRun, IsRuns, expand, Body, body as body_format, IsWellFormedBody, IsPaddedBody, and_then, Grows, HasLocals, BeginsWithRuns, BeginsWithTypes, code_section}
+use Rattle.wasm_code.specs.{ContainsBodies, EncodesBodiesIn, EncodesBodies, EncodesBodiesPadded, DecodesCode, raw_code_decoding, code_decoding, padded_code_decoding, IsNoEnd, StoresInstructions}
+use Rattle.wasm_code.specs.{StoresPadded, Stores, normal_row, ContainsMoreBodies, GrowsByEncoding, GrowsByLabels, br_table_row, ContainsMoreBodiesPadded, GrowsPadded, GrowsByEncodingPadded}
+use Rattle.wasm_code.specs.{StoresMorePadded}
 use Rattle.wasm_code.proofs.BodyLaws.{body_whole, grows, grows_by, body_included, grows_padded, grows_by_instruction}
 use Rattle.wasm_code.proofs.CodeLaws.{raw_code-payload, code_section-payload}
 use Rattle.wasm_code.proofs.ExpressionLaws.{members_one, members_join, stores_included, expression_encodes}
+use Rattle.wasm_insn.specs.declared.part.Part.TheVariants as parts
 
 -- ---- functions
 

@@ -1,18 +1,10 @@
 -- This file proves that the encodings of expressions, bodies and code sections encode them.
-use Rattle.std.proofs.Common.{refl, subst}
-use Rattle.wasm_base.specs.Numbers.{minimal}
-use Rattle.wasm_base.specs.Formats.{any_bytes, such, size_prefixed, u32, pair, vec}
-use Rattle.wasm_base.specs.Decoding.{HasMinimalEncodings}
-use Rattle.wasm_base.specs.Encodings.{HasEncodableSize, size_prefixed_encoding, vec_encoding}
-use Rattle.wasm_base.specs.Types.{val_type}
-use Rattle.wasm_base.proofs.EncodingLaws.{size_prefixed_encodes, members_encodes, vec_encodes}
-use Rattle.wasm_insn.specs.Plain.{Plain, instruction, plain_encoding}
-use Rattle.wasm_insn.specs.Table.{table}
-use Rattle.wasm_insn.proofs.PlainLaws.{plain_encodes}
-use Rattle.wasm_code.specs.Expressions.{IsNoEnd, expression}
-use Rattle.wasm_code.specs.Bodies.{body, IsRun, run_encoding, locals_encoding}
-use Rattle.wasm_code.specs.Code.{raw_code, code_section}
-use Rattle.wasm_code.specs.Laws.{IsNormal, IsNormalInside, code_encoding, IsEncodablePlainExpression, plain_expression_encoding, IsEncodableBody, body_encoding, IsEncodableSizedBody, body_size_prefixed_encoding, IsEncodableRawCode, raw_code_encoding, IsEncodableCodeSection, code_section_encoding}
+use Rattle.wasm_base.proofs.Words.{refl, subst, minimal, any_bytes, such, size_prefixed, u32, pair, vec, HasMinimalEncodings, HasEncodableSize, size_prefixed_encoding, vec_encoding, val_type}
+use Rattle.wasm_base.proofs.Words.{size_prefixed_encodes, members_encodes, vec_encodes}
+use Rattle.wasm_insn.proofs.Words.{Plain, instruction, plain_encoding, table, plain_encodes}
+use Rattle.wasm_code.specs.{IsNoEnd, expression, body, IsRun, run_encoding, locals_encoding, raw_code, code_section, IsNormal, IsNormalInside, code_encoding, IsEncodablePlainExpression}
+use Rattle.wasm_code.specs.{plain_expression_encoding, IsEncodableBody, body_encoding, IsEncodableSizedBody, body_size_prefixed_encoding, IsEncodableRawCode, raw_code_encoding, IsEncodableCodeSection}
+use Rattle.wasm_code.specs.{code_section_encoding}
 use Rattle.wasm_code.proofs.ExpressionLaws.{expression_unambiguous, expression_encodes}
 use Rattle.wasm_code.proofs.BodyLaws.{body_whole, size_prefixed_body_unambiguous, run_encodes}
 use Rattle.wasm_code.proofs.CodeLaws.{raw_code_unambiguous, code_section_unambiguous}

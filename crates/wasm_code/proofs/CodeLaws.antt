@@ -1,21 +1,10 @@
 -- This file proves that a code section decodes alone to its raw bodies, and to the bodies that they
 -- encode.
-use Rattle.std.proofs.Common.{ℕ, ◌≤◌, List, [], ◌∷◌, length, map, refl, sym, subst, arith, length-append}
-use Rattle.std.specs.List.{AllZip}
-use Rattle.wasm_base.specs.Numbers.{Mode, minimal, padded, unsigned_encoding}
-use Rattle.wasm_base.specs.Formats.{Format, any_bytes, size_prefixed, vec}
-use Rattle.wasm_base.specs.Decoding.{Unambiguous, UnambiguousPadded, UnambiguousWholePadded}
-use Rattle.wasm_base.specs.Modules.{DecodesPayloads}
-use Rattle.wasm_base.specs.Encodings.{longest, size_prefixed_encoding}
-use Rattle.wasm_base.specs.Pieces.{joined, section_encoding, IsEncodableSection}
-use Rattle.wasm_base.proofs.BaseLaws.{size_prefixed_bytes_unambiguous, unambiguous_padded, unambiguous_whole_padded}
-use Rattle.wasm_base.proofs.FormatLaws.{vec_unambiguous, size_prefixed_unambiguous, whole_from_unique}
-use Rattle.wasm_base.proofs.Payloads.{counted-payload}
-use Rattle.wasm_base.proofs.EntryLaws.{content_encodable}
-use Rattle.wasm_base.proofs.EncodingLaws.{size_prefixed_in, section_unique, section_unique_padded}
-use Rattle.wasm_code.specs.Expressions.{expression}
-use Rattle.wasm_code.specs.Bodies.{body}
-use Rattle.wasm_code.specs.Code.{raw_code, code_section, ContainsBodies, DecodesCode}
+use Rattle.wasm_base.proofs.Words.{ℕ, ◌≤◌, List, [], ◌∷◌, length, map, refl, sym, subst, arith, length-append, AllZip, Mode, minimal, padded, unsigned_encoding, Format, any_bytes, size_prefixed, vec}
+use Rattle.wasm_base.proofs.Words.{Unambiguous, UnambiguousPadded, UnambiguousWholePadded, DecodesPayloads, longest, size_prefixed_encoding, joined, section_encoding, IsEncodableSection}
+use Rattle.wasm_base.proofs.Words.{size_prefixed_bytes_unambiguous, unambiguous_padded, unambiguous_whole_padded, vec_unambiguous, size_prefixed_unambiguous, whole_from_unique, counted-payload}
+use Rattle.wasm_base.proofs.Words.{content_encodable, size_prefixed_in, section_unique, section_unique_padded}
+use Rattle.wasm_code.specs.{expression, body, raw_code, code_section, ContainsBodies, DecodesCode}
 use Rattle.wasm_code.proofs.ExpressionLaws.{expression_unambiguous}
 use Rattle.wasm_code.proofs.BodyLaws.{body_whole, size_prefixed_body_unambiguous}
 

@@ -1,28 +1,19 @@
 -- This file proves that expressions are unambiguous, and that stored bytes encode them.
-use Rattle.std.proofs.Common.{◌≡◌, ◌≢◌, ℕ, ◌+◌, ◌≤◌, List, [], ◌∷◌, ◌++◌, length, vec_len, vec_capacity, true, false, Option, None, Some, IfSome, Result, Ok, OnOk, map, refl, sym, ap, subst, ◌∙◌, append_assoc, append-nil}
-use Rattle.std.proofs.lemmas.List.Elements.{All-head, All-tail}
-use Rattle.std.specs.Prelude.{⊤}
-use Rattle.std.specs.List.{All, flat_map}
+use Rattle.wasm_base.proofs.Words.{◌≡◌, ◌≢◌, ℕ, ◌+◌, ◌≤◌, List, [], ◌∷◌, ◌++◌, length, vec_len, vec_capacity, true, false, Option, None, Some, Result, Ok, map, refl, sym, ap, subst, ◌∙◌, append_assoc}
+use Rattle.wasm_base.proofs.Words.{append-nil, All-head, All-tail, ⊤, All, flat_map, Mode, minimal, padded, Format, such, members, ended, Unambiguous, UnambiguousWhole, BeginsWith, Appends}
+use Rattle.wasm_base.proofs.Words.{DecodesBack, on_ok, such_unambiguous, ended_unambiguous, members_whole, decodes_uniquely}
 use Rattle.std.specs.declared.alloc.Global.{Global}
-use Rattle.wasm_base.specs.Numbers.{Mode, minimal, padded}
-use Rattle.wasm_base.specs.Formats.{Format, such, members, ended}
-use Rattle.wasm_base.specs.Decoding.{Unambiguous, UnambiguousWhole, BeginsWith}
 use Rattle.std.specs.declared.vec.Vec.{Vec}
-use Rattle.wasm_base.specs.Calls.{Appends, DecodesBack}
 use Rattle.wasm_base.specs.declared.refused.Refused.{Refused}
-use Rattle.wasm_base.proofs.Outcomes.{on_ok}
-use Rattle.wasm_base.proofs.FormatLaws.{such_unambiguous, ended_unambiguous, members_whole}
-use Rattle.wasm_base.proofs.EncodingLaws.{decodes_uniquely}
+use Rattle.std.proofs.Common.{IfSome, OnOk}
 use Rattle.wasm_code.specs.declared.first.First.{First}
-use Rattle.wasm_code.specs.declared.first.First.TheVariants as firsts
 use Rattle.wasm_insn.specs.declared.instruction.Instruction.{Instruction}
 use Rattle.wasm_insn.specs.declared.op.Op.{Op}
+use Rattle.wasm_insn.proofs.Words.{Plain, instruction, op_after, same_op, table, row_of, instruction_encoding, IsEncodableInstruction, IsWellFormedInstruction, unique, decodes}
 use Rattle.wasm_insn.specs.declared.op.Op.TheVariants.{Byte}
-use Rattle.wasm_insn.specs.Plain.{Plain, instruction, op_after, same_op}
-use Rattle.wasm_insn.specs.Table.{table}
-use Rattle.wasm_insn.specs.Instructions.{row_of, instruction_encoding, IsEncodableInstruction, IsWellFormedInstruction}
-use Rattle.wasm_insn.proofs.InstructionLaws.{unique, decodes}
-use Rattle.wasm_code.specs.Expressions.{IsNoEnd, expression, expression_encoding, StoresIn, StoresInstructions, StoresPadded, normal_row, IsWellFormedInside, Stores, StoresAll, AppendsEach, StoresGiven, instruction_of, first_encoding}
+use Rattle.wasm_code.specs.{IsNoEnd, expression, expression_encoding, StoresIn, StoresInstructions, StoresPadded, normal_row, IsWellFormedInside, Stores, StoresAll, AppendsEach, StoresGiven}
+use Rattle.wasm_code.specs.{instruction_of, first_encoding}
+use Rattle.wasm_code.specs.declared.first.First.TheVariants as firsts
 
 -- ---- unambiguous
 

@@ -1,3 +1,5 @@
+-- The lemmas of the crate, each file. `Words` passes on what the crates above use.
+pub mod Words
 pub mod ExpressionLaws
 pub mod RefFuncLaws
 pub mod RunLaws
@@ -8,3 +10,8 @@ pub mod Calls
 pub mod RejectionLaws
 pub mod Drained
 pub mod SameTypes
+pub mod DecodeLists
+pub mod MinimalLists
+pub mod OffsetSteps
+pub mod WalkCalls
+pub mod WalkLaws

@@ -1,16 +1,10 @@
 -- This file proves which index the bytes of `ref.func` encode.
-use Rattle.std.proofs.Common.{◌≡◌, ℕ, ◌<◌, take, drop, slice_index_or, ◌^◌, List, [], ◌∷◌, ◌++◌, length, ◌-◌, ◌≤◌, ◌≢◌, Some, None, IfSome, append-nil, refl, sym, ap, subst, ◌∙◌, arith}
-use Rattle.wasm_base.specs.Numbers.{padded, groups_sum, unsigned_encoding}
-use Rattle.wasm_base.specs.Decoding.{Rejects}
-use Rattle.wasm_base.specs.Formats.{u32, fixed}
-use Rattle.wasm_base.specs.Groups.{groups, HasGroups}
-use Rattle.wasm_base.proofs.FormatLaws.{fixed_unambiguous, tagged_at}
-use Rattle.wasm_base.proofs.NumberLaws.{groups_apart, u32_unambiguous}
-use Rattle.wasm_base.proofs.DecodingSteps.{front_and_rest}
-use Rattle.wasm_base.proofs.EncodingLaws.{u32_in}
+use Rattle.wasm_base.proofs.Words.{◌≡◌, ℕ, ◌<◌, take, drop, slice_index_or, ◌^◌, List, [], ◌∷◌, ◌++◌, length, ◌-◌, ◌≤◌, ◌≢◌, Some, None, append-nil, refl, sym, ap, subst, ◌∙◌, arith, padded}
+use Rattle.wasm_base.proofs.Words.{groups_sum, unsigned_encoding, Rejects, u32, fixed, groups, HasGroups, fixed_unambiguous, tagged_at, groups_apart, u32_unambiguous, front_and_rest, u32_in}
+use Rattle.std.proofs.Common.{IfSome}
 use Rattle.wasm_code.specs.declared.first.First.{First}
+use Rattle.wasm_code.specs.{BeginsWithRefFunc, IsRefFunc, first_encoding, index_of}
 use Rattle.wasm_code.specs.declared.first.First.TheVariants as firsts
-use Rattle.wasm_code.specs.Expressions.{BeginsWithRefFunc, IsRefFunc, first_encoding, index_of}
 
 -- The bytes after the opcode begin with the index.
 after_op : (bytes rest : List ℕ) (f : ℕ) → bytes ≡ 0xD2 ∷ rest → BeginsWithRefFunc bytes f → (t q : List ℕ) × (rest ≡ t ++ q) × u32 padded t f

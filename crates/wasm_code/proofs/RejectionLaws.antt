@@ -1,30 +1,20 @@
 -- This file proves that certain bytes are not a code section.
-use Rattle.std.proofs.Common.{◌≡◌, ℕ, ◌<◌, List, [], ◌∷◌, ◌++◌, length, Option, Some, None, refl, sym, ap, subst, ◌∙◌, append_assoc, append-nil, arith, inl, inr}
-use Rattle.std.proofs.lemmas.List.{length-append}
+use Rattle.wasm_base.proofs.Words.{◌≡◌, ℕ, ◌<◌, List, [], ◌∷◌, ◌++◌, length, Option, Some, None, refl, sym, ap, subst, ◌∙◌, append_assoc, append-nil, arith, inl, inr, minimal, AreGroups}
+use Rattle.wasm_base.proofs.Words.{IsUnsignedSize, u32, u64, fixed, mapped, pair, vec, members, size_prefixed, val_type, byte_unambiguous, fixed_unambiguous, then_at, tagged_at, member_at}
+use Rattle.wasm_base.proofs.Words.{size_prefixed_of, vec_of_one, u32_unambiguous, u32_small, groups_apart}
 use Rattle.std.specs.declared.alloc.Global.{Global}
-use Rattle.wasm_base.specs.Numbers.{minimal, AreGroups, IsUnsignedSize}
-use Rattle.wasm_base.specs.Formats.{u32, u64, fixed, mapped, pair, vec, members, size_prefixed}
-use Rattle.wasm_base.specs.Types.{val_type}
-use Rattle.wasm_base.proofs.FormatLaws.{byte_unambiguous, fixed_unambiguous, then_at, tagged_at, member_at, size_prefixed_of, vec_of_one}
-use Rattle.wasm_base.proofs.NumberLaws.{u32_unambiguous, u32_small, groups_apart}
+use Rattle.std.proofs.lemmas.List.{length-append}
 use Rattle.wasm_insn.specs.declared.instruction.Instruction.{Instruction}
+use Rattle.wasm_insn.proofs.Words.{Argument, Plain, part, arguments, arguments_after, shape_of, instruction, table, IsRow, row_of, opcode_unambiguous, opcode_encodes, instruction_row}
 use Rattle.wasm_insn.specs.declared.instruction.Instruction.TheVariants.{I32Load}
 use Rattle.wasm_immediates.specs.declared.memory.MemArg.{MemArg}
 use Rattle.wasm_immediates.specs.declared.memory.MemArgOrdering.{MemArgOrdering}
+use Rattle.wasm_immediates.proofs.Words.{mem_ordering, mem_arg, after_flags}
 use Rattle.wasm_immediates.specs.declared.memory.MemArgTarget.TheVariants.{Memory}
 use Rattle.wasm_insn.specs.declared.op.Op.TheVariants.{Byte}
-use Rattle.wasm_insn.specs.Arguments.{Argument}
-use Rattle.wasm_insn.specs.declared.part.Part.TheVariants as parts
-use Rattle.wasm_immediates.specs.ImmediateFormats.{mem_ordering, mem_arg, after_flags}
-use Rattle.wasm_insn.specs.Plain.{Plain, part, arguments, arguments_after, shape_of, instruction}
-use Rattle.wasm_insn.specs.Table.{table, IsRow}
-use Rattle.wasm_insn.specs.Instructions.{row_of}
-use Rattle.wasm_insn.proofs.PlainLaws.{opcode_unambiguous, opcode_encodes}
-use Rattle.wasm_insn.proofs.TableRows.{instruction_row}
-use Rattle.wasm_code.specs.Bodies.{Body, body}
-use Rattle.wasm_code.specs.Code.{code_section}
-use Rattle.wasm_code.specs.Laws.{RejectsAllAfter}
+use Rattle.wasm_code.specs.{Body, body, code_section, RejectsAllAfter}
 use Rattle.wasm_code.proofs.BodyLaws.{runs_unambiguous}
+use Rattle.wasm_insn.specs.declared.part.Part.TheVariants as parts
 
 regrouped : (s a b r : List ℕ) → s ≡ a ++ b → s ++ r ≡ a ++ (b ++ r)
 regrouped s a b r e = rw e (append_assoc a b r)

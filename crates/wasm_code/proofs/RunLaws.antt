@@ -1,16 +1,11 @@
 -- This file proves that a list of types has one canonical list of runs.
-use Rattle.std.proofs.Common.{◌≡◌, ◌≢◌, ℕ, zero, suc, ◌+◌, ◌-◌, ◌<◌, ◌≤◌, ◌⊎◌, List, [], ◌∷◌, ◌++◌, refl, sym, ap, ap₂, subst, ◌∙◌, arith, inl, inr, Ok, Err, Option, Result, length, replicate, append_assoc, append-nil}
-use Rattle.std.proofs.lemmas.Bool.{cases_lt}
-use Rattle.std.proofs.lemmas.List.{append_cancel_left, replicate_more}
-use Rattle.std.specs.Iterator.{Count, Drains, size}
+use Rattle.wasm_base.proofs.Words.{◌≡◌, ◌≢◌, ℕ, zero, suc, ◌+◌, ◌-◌, ◌<◌, ◌≤◌, ◌⊎◌, List, [], ◌∷◌, ◌++◌, refl, sym, ap, ap₂, subst, ◌∙◌, arith, inl, inr, Ok, Err, Option, Result, length, replicate}
+use Rattle.wasm_base.proofs.Words.{append_assoc, append-nil, cases_lt, append_cancel_left, replicate_more, Count, Drains, size, same_pair, All-last}
 use Rattle.std.specs.declared.vec.Vec.{Vec}
 use Rattle.wasm_base.specs.declared.refused.Refused.{Refused}
-use Rattle.wasm_base.specs.declared.refused.Refused.TheVariants.{TooLong}
 use Rattle.wasm_base.specs.declared.types.ValType.{ValType}
-use Rattle.wasm_base.proofs.FormatLaws.{same_pair}
-use Rattle.wasm_base.proofs.Yielded.{All-last}
-use Rattle.wasm_code.specs.Bodies.{Run, expand, IsRuns, IsCounted, AreEncodableRuns, AreRunsOf, MoreRuns, IsFull, HasLocals, GathersRuns, BeginsWithRuns, BeginsWithTypes}
-use Rattle.wasm_code.specs.Laws.{HaveOneExpansion}
+use Rattle.wasm_base.specs.declared.refused.Refused.TheVariants.{TooLong}
+use Rattle.wasm_code.specs.{Run, expand, IsRuns, IsCounted, AreEncodableRuns, AreRunsOf, MoreRuns, IsFull, HasLocals, GathersRuns, BeginsWithRuns, BeginsWithTypes, HaveOneExpansion}
 
 count_low : (p : Run) (xs : List Run) → IsRuns (p ∷ xs) → 1 ≤ p.0
 count_low p [] h = h

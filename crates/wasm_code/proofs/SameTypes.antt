@@ -1,17 +1,17 @@
 -- This file proves that value types that `==` finds equal are equal.
-use Rattle.std.proofs.Common.{◌≡◌, Bool, true, false, ap, refl, rules}
-use denote.Enum.Bare.{same_true}
+use Rattle.wasm_base.proofs.Words.{◌≡◌, Bool, true, false, ap, refl, rules}
+use Rattle.wasm_base.specs.declared.types.AbstractHeapType.{AbstractHeapType}
+use Rattle.wasm_base.specs.declared.types.HeapType.{HeapType}
+use Rattle.wasm_base.specs.declared.types.RefType.{RefType}
+use Rattle.wasm_base.specs.declared.types.ValType.{ValType}
+use Rattle.wasm_base.specs.declared.types.ValType.TheVariants.{I32, I64, F32, F64, V128, Ref}
 use Rattle.wasm_base.specs.contracts.types.AbstractHeapType.{the_type}
 use Rattle.wasm_base.specs.contracts.types.AbstractHeapTypePartialEq.TheImpl.{eq-value as abstract_eq}
 use Rattle.wasm_base.specs.contracts.types.HeapTypePartialEq.TheImpl.{eq-value as heap_eq}
 use Rattle.wasm_base.specs.contracts.types.RefTypePartialEq.TheImpl.{eq-value as ref_eq}
 use Rattle.wasm_base.specs.contracts.types.ValTypePartialEq.TheImpl.{eq-value as val_eq}
-use Rattle.wasm_base.specs.declared.types.AbstractHeapType.{AbstractHeapType}
-use Rattle.wasm_base.specs.declared.types.HeapType.{HeapType}
 use Rattle.wasm_base.specs.declared.types.HeapType.TheVariants.{Abstract, Concrete, Exact}
-use Rattle.wasm_base.specs.declared.types.RefType.{RefType}
-use Rattle.wasm_base.specs.declared.types.ValType.{ValType}
-use Rattle.wasm_base.specs.declared.types.ValType.TheVariants.{I32, I64, F32, F64, V128, Ref}
+use denote.Enum.Bare.{same_true}
 
 same_abstract : (a b : AbstractHeapType) → abstract_eq.it a b ≡ true → a ≡ b
 same_abstract a b e = same_true the_type (search rules) a b e

@@ -4,17 +4,12 @@ use Rattle.std.specs.Prelude.{◌≡◌, ◌≢◌, ℕ, ◌^◌, ◌<◌, ◌�
 use Rattle.std.specs.Iterator.{Count, Drains, Yields, size}
 use Rattle.std.specs.List.{All}
 use Rattle.std.specs.declared.vec.Vec.{Vec}
-use Rattle.wasm_base.specs.Numbers.{minimal, padded, unsigned_encoding}
-use Rattle.wasm_base.specs.Formats.{Format, u32, mapped, pair, members, vec}
-use Rattle.wasm_base.specs.Encodings.{longest, vec_encoding}
-use Rattle.wasm_base.specs.Types.{val_encoding, val_type, IsVal}
+use Rattle.wasm_base.specs.Words.{minimal, padded, unsigned_encoding, Format, u32, mapped, pair, members, vec, longest, vec_encoding, val_encoding, val_type, IsVal}
 use Rattle.wasm_base.specs.declared.types.ValType.{ValType}
 use Rattle.wasm_base.specs.declared.refused.Refused.{Refused}
 use Rattle.wasm_base.specs.declared.refused.Refused.TheVariants.{TooLong}
 use Rattle.wasm_insn.specs.declared.instruction.Instruction.{Instruction}
-use Rattle.wasm_insn.specs.Plain.{Plain, instruction}
-use Rattle.wasm_insn.specs.Table.{table}
-use Rattle.wasm_insn.specs.Instructions.{instruction_encoding, IsEncodableInstruction, IsWellFormedInstruction}
+use Rattle.wasm_insn.specs.Words.{Plain, instruction, table, instruction_encoding, IsEncodableInstruction, IsWellFormedInstruction}
 use Rattle.wasm_code.specs.Expressions.{normal_row}
 
 -- ---- locals

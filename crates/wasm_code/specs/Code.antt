@@ -1,14 +1,10 @@
 -- This file defines the code section. Core specification, Binary Format, Modules, Code Section.
 use Rattle.std.specs.Prelude.{◌≡◌, ℕ, List, map}
 use Rattle.std.specs.List.{AllZip}
-use Rattle.wasm_base.specs.Calls.{DecodesBack, DecodesBackPadded}
-use Rattle.wasm_base.specs.Formats.{Format, any_bytes, size_prefixed, vec}
-use Rattle.wasm_base.specs.Modules.{SectionDecoding, decoding_of, padded_decoding_of}
-use Rattle.wasm_base.specs.Numbers.{Mode, minimal, padded}
-use Rattle.wasm_base.specs.SectionId.{number_of}
-use Rattle.wasm_base.specs.Encodings.{size_prefixed_encoding}
-use Rattle.wasm_base.specs.declared.section_id.SectionId.TheVariants as ids
+use Rattle.wasm_base.specs.Words.{DecodesBack, DecodesBackPadded, Format, any_bytes, size_prefixed, vec, SectionDecoding, decoding_of, padded_decoding_of, Mode, minimal, padded, number_of}
+use Rattle.wasm_base.specs.Words.{size_prefixed_encoding}
 use Rattle.wasm_code.specs.Bodies.{Body, body}
+use Rattle.wasm_base.specs.declared.section_id.SectionId.TheVariants as ids
 
 -- The code section with opaque bodies: a size-prefixed vector of size-prefixed bytes.
 abbrev pub raw_code : Format (List (List ℕ))

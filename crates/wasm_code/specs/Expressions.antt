@@ -4,19 +4,15 @@ use Rattle.std.specs.Prelude.{◌≡◌, ◌≢◌, ◌↔◌, ℕ, List, [], �
 use Rattle.std.specs.Iterator.{Drains, Yields}
 use Rattle.std.specs.List.{All, flat_map}
 use Rattle.std.specs.declared.alloc.Global.{Global}
-use Rattle.wasm_base.specs.Numbers.{Mode, minimal, padded}
-use Rattle.wasm_base.specs.Formats.{Format, u32, such, members, ended, prefixed}
-use Rattle.wasm_base.specs.Decoding.{Decodes}
+use Rattle.wasm_base.specs.Words.{Mode, minimal, padded, Format, u32, such, members, ended, prefixed, Decodes}
 use Rattle.wasm_base.specs.declared.refused.Refused.{Refused}
 use Rattle.wasm_base.specs.declared.refused.Refused.TheVariants.{TooLong}
 use Rattle.wasm_code.specs.declared.first.First.{First}
-use Rattle.wasm_code.specs.declared.first.First.TheVariants as firsts
 use Rattle.wasm_insn.specs.declared.instruction.Instruction.{Instruction}
-use Rattle.wasm_insn.specs.declared.instruction.Instruction.TheVariants as instructions
+use Rattle.wasm_insn.specs.Words.{Plain, instruction, normal, same_op, table, row_of, instruction_encoding, IsEncodableInstruction, IsWellFormedInstruction}
 use Rattle.wasm_insn.specs.declared.op.Op.TheVariants.{Byte}
-use Rattle.wasm_insn.specs.Plain.{Plain, instruction, normal, same_op}
-use Rattle.wasm_insn.specs.Table.{table}
-use Rattle.wasm_insn.specs.Instructions.{row_of, instruction_encoding, IsEncodableInstruction, IsWellFormedInstruction}
+use Rattle.wasm_code.specs.declared.first.First.TheVariants as firsts
+use Rattle.wasm_insn.specs.declared.instruction.Instruction.TheVariants as instructions
 
 -- ---- format and encoding
 

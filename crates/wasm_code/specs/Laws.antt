@@ -2,17 +2,10 @@
 -- and the bodies of a code section call by call.
 use Rattle.std.specs.Prelude.{◌≡◌, ◌≢◌, ℕ, ◌^◌, ◌<◌, List, [], ◌∷◌, ◌++◌, map}
 use Rattle.std.specs.List.{All, AllZip, flat_map}
-use Rattle.wasm_base.specs.Numbers.{minimal, padded}
-use Rattle.wasm_base.specs.Formats.{Format, members}
-use Rattle.wasm_base.specs.Decoding.{Rejects}
-use Rattle.wasm_base.specs.Encodings.{vec_encoding, IsEncodableVec, size_prefixed_encoding, HasEncodableSize}
+use Rattle.wasm_base.specs.Words.{minimal, padded, Format, members, Rejects, vec_encoding, IsEncodableVec, size_prefixed_encoding, HasEncodableSize}
 use Rattle.wasm_insn.specs.declared.instruction.Instruction.{Instruction}
+use Rattle.wasm_insn.specs.Words.{labels, unsigned, br_table_encoding, Plain, IsWellFormed, normal, instruction, plain_encoding, table, instruction_encoding, IsWellFormedInstruction}
 use Rattle.wasm_insn.specs.declared.op.Op.TheVariants.{Byte}
-use Rattle.wasm_insn.specs.Arguments.{labels, unsigned}
-use Rattle.wasm_insn.specs.Sink.{br_table_encoding}
-use Rattle.wasm_insn.specs.Plain.{Plain, IsWellFormed, normal, instruction, plain_encoding}
-use Rattle.wasm_insn.specs.Table.{table}
-use Rattle.wasm_insn.specs.Instructions.{instruction_encoding, IsWellFormedInstruction}
 use Rattle.wasm_code.specs.Expressions.{normal_row, IsNoEnd, expression, expression_encoding, StoresInstructions, StoresPadded}
 use Rattle.wasm_code.specs.Bodies.{Body, body, and_then, IsWellFormedBody, IsPaddedBody, Grows, Run, expand, IsRun, IsRuns, locals_encoding}
 use Rattle.wasm_code.specs.Code.{EncodesBodies, EncodesBodiesPadded}

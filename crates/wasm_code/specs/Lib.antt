@@ -1,4 +1,16 @@
+-- The definitions of the crate, each file, and all of them by one import.
+pub mod Words
 pub mod Expressions
 pub mod Bodies
 pub mod Code
 pub mod Laws
+pub mod BodyViews
+pub mod Offsets
+pub mod Walks
+unfoldable pub use Rattle.wasm_code.specs.Expressions.*
+unfoldable pub use Rattle.wasm_code.specs.Bodies.*
+unfoldable pub use Rattle.wasm_code.specs.Code.*
+unfoldable pub use Rattle.wasm_code.specs.Laws.*
+unfoldable pub use Rattle.wasm_code.specs.BodyViews.*
+unfoldable pub use Rattle.wasm_code.specs.Offsets.*
+unfoldable pub use Rattle.wasm_code.specs.Walks.*

@@ -12,30 +12,9 @@ ghost use Rattle.wasm_base.specs.Decoding.{Unambiguous, UnambiguousWhole, HasMin
 ghost use Rattle.wasm_code.specs.Bodies.{Run, body};
 ghost use Rattle.wasm_code.specs.Code.{raw_code, code_section};
 ghost use Rattle.wasm_code.specs.Expressions.{expression};
-ghost use Rattle.wasm_code.specs.Laws.{
-  RejectsAllAfter,
-  HasOffsets,
-  FindsAdded,
-  HaveOneExpansion,
-  ContainsMoreBodies,
-  GrowsByEncoding,
-  GrowsByLabels,
-  ContainsMoreBodiesPadded,
-  GrowsPadded,
-  GrowsByEncodingPadded,
-  StoresMorePadded,
-  IsEncodablePlainExpression,
-  plain_expression_encoding,
-  IsEncodableBody,
-  body_encoding,
-  IsEncodableSizedBody,
-  body_size_prefixed_encoding,
-  IsEncodableRawCode,
-  raw_code_encoding,
-  IsEncodableCodeSection,
-  code_section_encoding,
-};
+ghost use Rattle.wasm_code.specs.Laws.{RejectsAllAfter, HasOffsets, FindsAdded, HaveOneExpansion, ContainsMoreBodies, GrowsByEncoding, GrowsByLabels, ContainsMoreBodiesPadded, GrowsPadded, GrowsByEncodingPadded, StoresMorePadded, IsEncodablePlainExpression, plain_expression_encoding, IsEncodableBody, body_encoding, IsEncodableSizedBody, body_size_prefixed_encoding, IsEncodableRawCode, raw_code_encoding, IsEncodableCodeSection, code_section_encoding};
 ghost use Rattle.wasm_insn.specs.declared.instruction.Instruction.{Instruction};
+ghost use Rattle.wasm_code.specs.Offsets.{OffsetLaws};
 
 use std::alloc::Allocator;
 
@@ -128,4 +107,12 @@ pub fn locals()
 pub fn rejections()
     ensures cut { RejectsAllAfter code_section (6 ∷ 1 ∷ 4 ∷ 0 ∷ 40 ∷ 16 ∷ 0 ∷ []) }
     ensures padded_of { RejectsAllAfter code_section (5 ∷ 1 ∷ 3 ∷ 128 ∷ 0 ∷ 11 ∷ []) }
+{}
+
+/// The visitor of a body reports the offsets that `Function::byte_len` of `wasm_code` returned.
+/// After as many instructions as a raw body has, a visitor of a longer body that begins with it is
+/// at that raw body's length. It has then visited exactly that body.
+#[tactic(auto, using(crate::proofs::OffsetSteps::offsets))]
+pub fn offsets()
+    ensures { OffsetLaws }
 {}

@@ -2,13 +2,19 @@
 //! specification, "Binary Format", "Instructions" and "Modules".
 #![tactic(auto)]
 
+mod body;
 mod code_section;
 mod const_expr;
+mod expression;
 mod first;
 mod function;
 pub mod laws;
 mod locals;
+mod walk;
 
+pub use body::{Body, read_body, read_code, shorten_body};
 pub use code_section::CodeSection;
 pub use const_expr::ConstExpr;
+pub use expression::Expression;
 pub use function::Function;
+pub use walk::{Instructions, Step};

@@ -1,10 +1,8 @@
 -- This file proves the effect of an adding call that takes iterators from the entry that it added.
-use Rattle.std.proofs.Common.{◌≡◌, ℕ, ◌≤◌, List, [], ◌∷◌, ◌++◌, Result, Ok, Err, Option, ap, ap₂, ◌∙◌, subst, arith}
-use Rattle.std.specs.Iterator.{Count, size}
-use Rattle.wasm_base.specs.Once.{AddsOnce, GivesPair, GivesTriple, GivesVec, YieldsEncodable}
-use Rattle.wasm_base.specs.Encodings.{longest, vec_encoding}
+use Rattle.wasm_base.proofs.Words.{◌≡◌, ℕ, ◌≤◌, List, [], ◌∷◌, ◌++◌, Result, Ok, Err, Option, ap, ap₂, ◌∙◌, subst, arith, Count, size, AddsOnce, GivesPair, GivesTriple, GivesVec, YieldsEncodable}
+use Rattle.wasm_base.proofs.Words.{longest, vec_encoding}
 use Rattle.wasm_base.specs.declared.refused.Refused.{Refused}
-use Rattle.wasm_custom.specs.Adding.{AddsList, AddsTwoLists}
+use Rattle.wasm_custom.specs.{AddsList, AddsTwoLists}
 
 module _ {U S T : Type 0} (becomes : U → S → Type 0) (gives : S → Option T → S → Type 0) (remaining : S → Count) (elements : U) (it : S) (from : becomes elements it) (count : ℕ) (known : size (remaining it) ≡ count) (few : count ≤ longest)
     (front : List ℕ) (encodable : Type 0) (was_encodable : encodable) (Encodable : T → Type 0) (encoding : T → List ℕ) where

@@ -1,49 +1,27 @@
 -- This file proves the effect of each call on custom sections: lemmas that a caller's proof cites.
-use Rattle.std.proofs.Common.{◌≡◌, ℕ, ◌^◌, ◌<◌, ◌≤◌, List, [], ◌∷◌, ◌++◌, length, true, false, IsUtf8, Option, Result, Ok, Err, refl, sym, ap, ap₂, subst, ◌∙◌}
-use Rattle.std.proofs.lemmas.Iterator.{items_from_drains}
-use Rattle.std.proofs.lemmas.Iterator.Adapters.{YieldsList-from_vec}
-use Rattle.std.proofs.lemmas.List.{map-id}
-use Rattle.std.proofs.lemmas.List.Elements.{All-nil, All-cons}
-use Rattle.std.specs.Array.Iter.{array_into_iter_items, array_steps, array_steps_back}
-use Rattle.std.specs.Iterator.{Count, Drains}
-use Rattle.std.specs.Iterator.Adapters.{copied_source, copied_steps}
-use Rattle.std.specs.Slice.Iter.{iter_rest, iter_steps}
-use Rattle.std.specs.Vec.Iter.{into_iter_items, into_iter_len, into_iter_steps}
+use Rattle.wasm_base.proofs.Words.{◌≡◌, ℕ, ◌^◌, ◌<◌, ◌≤◌, List, [], ◌∷◌, ◌++◌, length, true, false, IsUtf8, Option, Result, Ok, Err, refl, sym, ap, ap₂, subst, ◌∙◌, items_from_drains}
+use Rattle.wasm_base.proofs.Words.{YieldsList-from_vec, map-id, All-nil, All-cons, array_into_iter_items, array_steps, array_steps_back, Count, Drains, copied_source, copied_steps, iter_rest}
+use Rattle.wasm_base.proofs.Words.{iter_steps, into_iter_items, into_iter_len, into_iter_steps, EveryRun, ItemsAre, ItemsAreReversed, All, AllByRecursion, OnOk, UnambiguousWhole, Appends}
+use Rattle.wasm_base.proofs.Words.{DecodesOneMore, DecodesBack, DecodesBackBoth, ContainsPadded, Format, size_prefixed, name, pair, any_bytes, custom, IsUnsignedInRange, SectionDecoding, decoding_of}
+use Rattle.wasm_base.proofs.Words.{padded_decoding_of, DecodesSections, GainsDecoding, padded, unsigned_encoding, IsSizePrefixed, longest, size_prefixed_encoding, HasEncodableSize, vec_encoding}
+use Rattle.wasm_base.proofs.Words.{IsEncodableVec, gains_section, gains_section_padded, adds_raw_padded, new_section, adds_item, array_items, copied_items, custom_unambiguous, payload-decodes}
+use Rattle.wasm_base.proofs.Words.{custom-payload}
 use Rattle.std.specs.declared.iter.Copied.{Copied}
 use Rattle.std.specs.declared.slice.Iter.{Iter}
-use Rattle.std.specs.declared.vec.IntoIter.{IntoIter as VecIter}
-use Rattle.std.specs.Iterator.Runs.{EveryRun, ItemsAre, ItemsAreReversed}
-use Rattle.std.specs.List.{All, AllByRecursion}
-use Rattle.std.specs.Prelude.{OnOk}
 use Rattle.std.specs.declared.array.IntoIter.{IntoIter}
 use Rattle.std.specs.declared.vec.Vec.{Vec}
-use Rattle.wasm_base.specs.Decoding.{UnambiguousWhole}
-use Rattle.wasm_base.specs.Calls.{Appends, DecodesOneMore, DecodesBack, DecodesBackBoth}
-use Rattle.wasm_base.specs.Entries.{ContainsPadded}
-use Rattle.wasm_base.specs.Formats.{Format, size_prefixed, name, pair, any_bytes, custom}
-use Rattle.wasm_base.specs.Laws.{IsUnsignedInRange}
-use Rattle.wasm_base.specs.Modules.{SectionDecoding, decoding_of, padded_decoding_of, DecodesSections, GainsDecoding}
-use Rattle.wasm_base.specs.Numbers.{padded, unsigned_encoding}
-use Rattle.wasm_base.specs.Encodings.{IsSizePrefixed, longest, size_prefixed_encoding, HasEncodableSize, vec_encoding, IsEncodableVec}
 use Rattle.wasm_base.specs.declared.refused.Refused.{Refused}
-use Rattle.wasm_base.proofs.Calls.{gains_section, gains_section_padded, adds_raw_padded, new_section, adds_item}
-use Rattle.wasm_base.proofs.KnownLengths.{array_items, copied_items}
-use Rattle.wasm_base.proofs.BaseLaws.{custom_unambiguous}
-use Rattle.wasm_base.proofs.Payloads.{payload-decodes, custom-payload}
-use Rattle.wasm_custom.specs.Adding.{AddsList, AddsTwoLists}
-use Rattle.wasm_custom.specs.CoreDumps.{modules_name, instances_name, marked_encoding, core_name, SaysProcess, marked_name, Instance, instance, ContainsModules, ContainsInstances, modules_payload, instances_payload, core_payload}
-use Rattle.wasm_custom.specs.CoreStacks.{StackFrame, stack_name, SaysStack, stack_payload}
-use Rattle.wasm_custom.specs.CoreValues.{value_encoding, IsValue}
-use Rattle.wasm_custom.specs.Customs.{named_payload, named_encoding, IsEncodableNamed, NamedPayload, named_sized, subsection_encoding}
-use Rattle.wasm_custom.specs.Entries.{entries_encoding}
-use Rattle.wasm_custom.specs.Hints.{hints_name, Hints, hint_encoding, IsHint, hints, ContainsHints, hints_payload}
-use Rattle.wasm_custom.specs.Linking.{linking_name, version, LinkItem, Symbols, Target, link, ContainsLinks, linking_payload}
-use Rattle.wasm_custom.specs.Lists.{list_encoding, IsListOf}
-use Rattle.wasm_custom.specs.Names.{name_name, Naming, Inside, NameItem, Module, Map, Indirect, Other, name_map, indirect_map, subsection, of_map, of_indirect, of_other, name_kind_of, AreNamings, AreInsides, ContainsNames, name_payload}
-use Rattle.wasm_custom.specs.Producers.{producers_name, Producer, Field, field, AreProducers, ContainsFields, producers_payload}
-use Rattle.wasm_custom.specs.Symbols.{Symbol, symbol_encoding, IsGivenSymbol, IsAsFlagged, IsSymbol, AreSymbols}
-use Rattle.wasm_custom.specs.declared.core_values.CoreDumpValue.{CoreDumpValue}
+use Rattle.std.specs.declared.vec.IntoIter.{IntoIter as VecIter}
+use Rattle.wasm_custom.specs.{AddsList, AddsTwoLists, modules_name, instances_name, marked_encoding, core_name, SaysProcess, marked_name, Instance, instance, ContainsModules, ContainsInstances}
+use Rattle.wasm_custom.specs.{modules_payload, instances_payload, core_payload, StackFrame, stack_name, SaysStack, stack_payload, value_encoding, IsValue, named_payload, named_encoding}
+use Rattle.wasm_custom.specs.{IsEncodableNamed, NamedPayload, named_sized, subsection_encoding, entries_encoding, hints_name, hint_encoding, IsHint, hints, ContainsHints, hints_payload, linking_name}
+use Rattle.wasm_custom.specs.{version, LinkItem, Target, link, ContainsLinks, linking_payload, list_encoding, IsListOf, name_name, Naming, Inside, NameItem, Module, Map, Indirect, Other, name_map}
+use Rattle.wasm_custom.specs.{indirect_map, subsection, of_map, of_indirect, of_other, name_kind_of, AreNamings, AreInsides, ContainsNames, name_payload, producers_name, Producer, Field, field}
+use Rattle.wasm_custom.specs.{AreProducers, ContainsFields, producers_payload, Symbol, symbol_encoding, IsGivenSymbol, IsAsFlagged, IsSymbol, AreSymbols}
+use Rattle.wasm_custom.specs.Hints.{Hints}
+use Rattle.wasm_custom.specs.Words.{Symbols}
 use Rattle.wasm_custom.specs.declared.hints.BranchHint.{BranchHint}
+use Rattle.wasm_custom.specs.declared.core_values.CoreDumpValue.{CoreDumpValue}
 use Rattle.wasm_custom.proofs.CustomLaws.{custom_back}
 use Rattle.wasm_custom.proofs.ListLaws.{lists_none, lists_more, list_vector}
 use Rattle.wasm_custom.proofs.NameLaws.{names_padded, names_inside_padded, subsection_unambiguous, names_section}

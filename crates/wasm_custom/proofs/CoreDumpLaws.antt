@@ -1,32 +1,15 @@
 -- This file proves that core dumps are unambiguous, and how they are decoded and minimized.
-use Rattle.std.proofs.Common.{◌≡◌, ℕ, List, [], ◌∷◌, ◌++◌, length, true, IsUtf8, refl, sym, ap, subst, arith, length-append, map, ap₂}
-use Rattle.wasm_base.specs.Calls.{DecodesBack}
-use Rattle.wasm_base.specs.Entries.{ItemLaws}
-use Rattle.wasm_base.specs.Formats.{u32, name, pair, vec, fixed, just, prefixed}
-use Rattle.wasm_base.specs.Laws.{IsUnsignedInRange}
-use Rattle.wasm_base.specs.Numbers.{minimal, unsigned_encoding, padded}
-use Rattle.wasm_base.specs.Decoding.{Unambiguous, Decodes, Rejects, UnambiguousWhole}
-use Rattle.wasm_base.specs.Encodings.{size_prefixed_encoding, HasEncodableSize, vec_encoding}
-use Rattle.wasm_base.proofs.BaseLaws.{name_unambiguous, vec_u32_unambiguous}
-use Rattle.wasm_base.proofs.Calls.{ascii}
-use Rattle.wasm_base.proofs.FormatLaws.{mapped_unambiguous, pair_unambiguous, prefixed_unambiguous, whole_from_unique, size_prefixed_unambiguous}
-use Rattle.wasm_base.proofs.NumberLaws.{u32_unambiguous}
-use Rattle.wasm_base.proofs.PartLaws.{pair_encodes, prefixed_encodes}
-use Rattle.wasm_base.proofs.EncodingLaws.{decodes_uniquely, u32_encodes, name_encodes, vec_encodes}
-use Rattle.wasm_custom.specs.CoreDumps.{marked_encoding, marked_name, core_name, core_section, SaysProcess, modules_name, Instance, instance_encoding, IsInstance, instance_of, instance, instances_name, module_items, instance_items, core_payload, modules_payload, instances_payload}
-use Rattle.wasm_custom.specs.Customs.{named_encoding, IsEncodableNamed}
-use Rattle.wasm_custom.specs.Entries.{CustomLayoutLaws}
+use Rattle.wasm_base.proofs.Words.{◌≡◌, ℕ, List, [], ◌∷◌, ◌++◌, length, true, IsUtf8, refl, sym, ap, subst, arith, length-append, map, ap₂, DecodesBack, ItemLaws, u32, name, pair, vec, fixed, just}
+use Rattle.wasm_base.proofs.Words.{prefixed, IsUnsignedInRange, minimal, unsigned_encoding, padded, Unambiguous, Decodes, Rejects, UnambiguousWhole, size_prefixed_encoding, HasEncodableSize}
+use Rattle.wasm_base.proofs.Words.{vec_encoding, name_unambiguous, vec_u32_unambiguous, ascii, mapped_unambiguous, pair_unambiguous, prefixed_unambiguous, whole_from_unique, size_prefixed_unambiguous}
+use Rattle.wasm_base.proofs.Words.{u32_unambiguous, pair_encodes, prefixed_encodes, decodes_uniquely, u32_encodes, name_encodes, vec_encodes, map-id, RejectsWhole, mapped_decodes, mapped_rejects}
+use Rattle.wasm_base.proofs.Words.{after_whole, SectionLaws, AppendsMinimal, HasEncoding, left_encoded, right_encoded, prefixed_encoded, mapped_encoded, pair_appended, prefixed_appended}
+use Rattle.wasm_base.proofs.Words.{mapped_appended}
+use Rattle.wasm_custom.specs.{marked_encoding, marked_name, core_name, core_section, SaysProcess, modules_name, Instance, instance_encoding, IsInstance, instance_of, instance, instances_name}
+use Rattle.wasm_custom.specs.{module_items, instance_items, core_payload, modules_payload, instances_payload, named_encoding, IsEncodableNamed, CustomLayoutLaws}
 use Rattle.wasm_custom.proofs.CustomLaws.{named_encoded, named_encodes, data_encodable, named_appended}
-use Rattle.std.proofs.lemmas.List.{map-id}
-use Rattle.wasm_base.specs.Continuing.{RejectsWhole}
-use Rattle.wasm_base.proofs.DecodingSteps.{mapped_decodes, mapped_rejects}
 use Rattle.wasm_custom.proofs.DecodeNamed.{named_fills, named_none, named_rejects}
-use Rattle.wasm_base.proofs.AfterLaws.{after_whole}
-use Rattle.wasm_base.proofs.SectionLaws.{SectionLaws}
 use Rattle.wasm_custom.proofs.EntriesLaws.{counted_layout, entries_laws}
-use Rattle.wasm_reader_base.specs.Minimal.{AppendsMinimal, HasEncoding}
-use Rattle.wasm_reader_base.proofs.DecodedValues.{left_encoded, right_encoded, prefixed_encoded, mapped_encoded}
-use Rattle.wasm_reader_base.proofs.MinimalEncodings.{pair_appended, prefixed_appended, mapped_appended}
 
 -- ---- names of processes, modules and threads
 

@@ -1,44 +1,25 @@
 -- This file proves that stacks of core dumps are unambiguous, and how they are decoded and
 -- minimized.
-use Rattle.std.proofs.Common.{ℕ, ◌≤◌, List, [], ◌∷◌, ◌++◌, length, map, true, refl, sym, ap, subst, arith, length-append, ◌≡◌, ◌≢◌, ℤ}
-use Rattle.std.specs.List.{AllZip}
-use Rattle.wasm_base.specs.Calls.{DecodesBack}
-use Rattle.wasm_base.specs.Entries.{ItemLaws, entry_encoding}
-use Rattle.wasm_base.specs.Formats.{u32, byte, pair, prefixed, vec, Format, name, just, s32, s64, little_endian, impossible, choice}
-use Rattle.wasm_base.specs.Numbers.{minimal, unsigned_encoding, signed_encoding, padded}
-use Rattle.wasm_base.specs.Pieces.{joined}
-use Rattle.wasm_base.specs.Decoding.{Unambiguous, Decodes, Rejects, UnambiguousWhole}
-use Rattle.wasm_base.specs.Encodings.{longest, HasEncodableSize, vec_encoding, little_endian_encoding, size_prefixed_encoding, IsEncodableVec}
-use Rattle.wasm_base.proofs.BaseLaws.{s32_unambiguous, s64_unambiguous, name_unambiguous}
-use Rattle.wasm_base.proofs.EntryLaws.{entries_encodes}
-use Rattle.wasm_base.proofs.FormatLaws.{mapped_unambiguous, pair_unambiguous, pair_whole, vec_unambiguous, prefixed_unambiguous, fixed_unambiguous, byte_unambiguous, choice_of, little_endian_unambiguous, whole_from_unique, size_prefixed_unambiguous, AllValues, values_tagged}
-use Rattle.wasm_base.proofs.NumberLaws.{u32_unambiguous}
-use Rattle.wasm_base.proofs.EncodingLaws.{decodes_uniquely, tagged_encodes, u32_encodes, s32_encodes, s64_encodes, little_endian_encodes, vec_encodes}
-use Rattle.wasm_custom.specs.CoreDumps.{marked_encoding, marked_name}
-use Rattle.wasm_custom.specs.CoreStacks.{StackFrame, frame_entry, IsFrame, CodeLocation, stack_frame_of, stack_frame, stack_name, stack_section, SaysStack, frame_items, stack_payload}
-use Rattle.wasm_custom.specs.CoreValues.{value_encoding, IsValue, f32_of, f64_of, value_tags, value}
-use Rattle.wasm_custom.specs.Customs.{named_encoding, IsEncodableNamed}
-use Rattle.wasm_custom.specs.Entries.{count_encoding, entries_encoding}
+use Rattle.wasm_base.proofs.Words.{ℕ, ◌≤◌, List, [], ◌∷◌, ◌++◌, length, map, true, refl, sym, ap, subst, arith, length-append, ◌≡◌, ◌≢◌, ℤ, AllZip, DecodesBack, ItemLaws, entry_encoding, u32, byte}
+use Rattle.wasm_base.proofs.Words.{pair, prefixed, vec, Format, name, just, s32, s64, little_endian, impossible, choice, minimal, unsigned_encoding, signed_encoding, padded, joined, Unambiguous}
+use Rattle.wasm_base.proofs.Words.{Decodes, Rejects, UnambiguousWhole, longest, HasEncodableSize, vec_encoding, little_endian_encoding, size_prefixed_encoding, IsEncodableVec, s32_unambiguous}
+use Rattle.wasm_base.proofs.Words.{s64_unambiguous, name_unambiguous, entries_encodes, mapped_unambiguous, pair_unambiguous, pair_whole, vec_unambiguous, prefixed_unambiguous, fixed_unambiguous}
+use Rattle.wasm_base.proofs.Words.{byte_unambiguous, choice_of, little_endian_unambiguous, whole_from_unique, size_prefixed_unambiguous, AllValues, values_tagged, u32_unambiguous, decodes_uniquely}
+use Rattle.wasm_base.proofs.Words.{tagged_encodes, u32_encodes, s32_encodes, s64_encodes, little_endian_encodes, vec_encodes, ascii, pair_encodes, prefixed_encodes, map-id, RejectsWhole, decodes_same}
+use Rattle.wasm_base.proofs.Words.{then_decodes, then_rejects_first, then_rejects_second, mapped_decodes, mapped_rejects, tagged_decodes, tagged_none, tagged_rejects, no_choice, fixed_decodes}
+use Rattle.wasm_base.proofs.Words.{after_whole, AppendsMinimal, HasEncoding, left_encoded, right_encoded, mapped_encoded, counted_encodable, little_endian_below, pair_appended, prefixed_appended}
+use Rattle.wasm_base.proofs.Words.{mapped_appended, records_appended}
+use Rattle.wasm_custom.specs.{marked_encoding, marked_name, StackFrame, frame_entry, IsFrame, CodeLocation, stack_frame_of, stack_frame, stack_name, stack_section, SaysStack, frame_items}
+use Rattle.wasm_custom.specs.{stack_payload, value_encoding, IsValue, f32_of, f64_of, value_tags, value, named_encoding, IsEncodableNamed, count_encoding, entries_encoding}
 use Rattle.wasm_custom.specs.declared.core_values.CoreDumpValue.{CoreDumpValue}
 use Rattle.wasm_custom.specs.declared.core_values.CoreDumpValue.TheVariants.{Missing, I32, I64, F32, F64}
-use Rattle.wasm_base.proofs.Calls.{ascii}
 use Rattle.wasm_custom.proofs.CoreDumpLaws.{marked_unambiguous, marked_encodes}
 use Rattle.wasm_custom.proofs.CustomLaws.{named_encoded, named_encodes, data_encodable, named_appended}
 use Rattle.wasm_custom.proofs.EntriesLaws.{listing_encodes}
-use Rattle.wasm_base.proofs.PartLaws.{pair_encodes, prefixed_encodes}
-use Rattle.std.proofs.lemmas.List.{map-id}
-use Rattle.wasm_base.specs.Continuing.{RejectsWhole}
-use Rattle.wasm_base.proofs.DecodingSteps.{decodes_same, then_decodes, then_rejects_first, then_rejects_second, mapped_decodes, mapped_rejects}
-use Rattle.wasm_base.proofs.Tags.{tagged_decodes, tagged_none, tagged_rejects, no_choice, fixed_decodes}
 use Rattle.wasm_immediates.specs.declared.floats.Ieee32.{Ieee32}
 use Rattle.wasm_immediates.specs.declared.floats.Ieee64.{Ieee64}
 use Rattle.wasm_custom.proofs.DecodeNamed.{named_fills, named_none, named_rejects}
 use Rattle.wasm_custom.specs.declared.core_values.CoreDumpValue.TheVariants as values
-use Rattle.wasm_base.proofs.AfterLaws.{after_whole}
-use Rattle.wasm_reader_base.specs.Minimal.{AppendsMinimal, HasEncoding}
-use Rattle.wasm_reader_base.proofs.DecodedValues.{left_encoded, right_encoded, mapped_encoded, counted_encodable}
-use Rattle.wasm_reader_base.proofs.DecodePlain.{little_endian_below}
-use Rattle.wasm_reader_base.proofs.MinimalEncodings.{pair_appended, prefixed_appended, mapped_appended, records_appended}
 
 -- ---- values
 

@@ -1,20 +1,9 @@
 -- This file proves that custom sections of a name are unambiguous.
-use Rattle.std.proofs.Common.{◌≡◌, ℕ, ◌+◌, ◌≤◌, List, ◌++◌, length, IsUtf8, refl, sym, subst, arith, length-append}
-use Rattle.wasm_base.specs.Calls.{DecodesBack, DecodesBackBoth}
-use Rattle.wasm_base.specs.Formats.{Format, after, name, any_bytes, pair, custom, just}
-use Rattle.wasm_base.specs.Numbers.{Mode, minimal, padded, unsigned_encoding, IsOfBuilders}
-use Rattle.wasm_base.specs.Decoding.{Unambiguous, UnambiguousWhole, DecodesUniquely}
-use Rattle.wasm_base.specs.Encodings.{longest, size_prefixed_encoding, HasEncodableSize}
-use Rattle.wasm_base.proofs.AfterLaws.{after_whole, after_encodes}
-use Rattle.wasm_base.proofs.BaseLaws.{name_unambiguous, custom_unambiguous}
-use Rattle.wasm_base.proofs.FormatLaws.{size_prefixed_unambiguous}
-use Rattle.wasm_base.proofs.EncodingLaws.{encodes_in, decodes_uniquely, decodes_uniquely_padded, size_prefixed_in, size_prefixed_encodes}
-use Rattle.wasm_custom.specs.Customs.{named_section, named_encoding, IsEncodableNamed, subsection_encoding, named_payload}
-use Rattle.wasm_base.proofs.PartLaws.{pair_encodes, front_name_encodes}
-use Rattle.wasm_reader_base.specs.Minimal.{AppendsMinimal, HasEncoding}
-use Rattle.wasm_reader_base.proofs.DecodedValues.{tagged_encoded, name_encodable}
-use Rattle.wasm_reader_base.proofs.DecodePlain.{name_appended}
-use Rattle.wasm_reader_base.proofs.MinimalEncodings.{tagged_appended}
+use Rattle.wasm_base.proofs.Words.{◌≡◌, ℕ, ◌+◌, ◌≤◌, List, ◌++◌, length, IsUtf8, refl, sym, subst, arith, length-append, DecodesBack, DecodesBackBoth, Format, after, name, any_bytes, pair, custom}
+use Rattle.wasm_base.proofs.Words.{just, Mode, minimal, padded, unsigned_encoding, IsOfBuilders, Unambiguous, UnambiguousWhole, DecodesUniquely, longest, size_prefixed_encoding, HasEncodableSize}
+use Rattle.wasm_base.proofs.Words.{after_whole, after_encodes, name_unambiguous, custom_unambiguous, size_prefixed_unambiguous, encodes_in, decodes_uniquely, decodes_uniquely_padded, size_prefixed_in}
+use Rattle.wasm_base.proofs.Words.{size_prefixed_encodes, pair_encodes, front_name_encodes, AppendsMinimal, HasEncoding, tagged_encoded, name_encodable, name_appended, tagged_appended}
+use Rattle.wasm_custom.specs.{named_section, named_encoding, IsEncodableNamed, subsection_encoding, named_payload}
 
 pub named_unambiguous : {X : Type 0} (n : List ℕ) {F : Format X} → UnambiguousWhole F → Unambiguous (named_section n F)
 named_unambiguous n f = size_prefixed_unambiguous (after_whole n name_unambiguous f)

@@ -1,11 +1,6 @@
 -- This file proves how readers decode values after a fixed byte.
-use Rattle.std.proofs.Common.{◌≡◌, ◌≢◌, ℕ, List, [], ◌∷◌, refl, ap, ◌∙◌}
-use Rattle.wasm_base.specs.Numbers.{padded}
-use Rattle.wasm_base.specs.Formats.{Format, byte, fixed, prefixed}
-use Rattle.wasm_base.specs.Decoding.{Decodes, Rejects}
-use Rattle.wasm_base.proofs.FormatLaws.{fixed_unambiguous, byte_unambiguous}
-use Rattle.wasm_base.proofs.DecodingSteps.{decodes_same}
-use Rattle.wasm_base.proofs.Tags.{tagged_decodes, tagged_none, tagged_rejects}
+use Rattle.wasm_base.proofs.Words.{◌≡◌, ◌≢◌, ℕ, List, [], ◌∷◌, refl, ap, ◌∙◌, padded, Format, byte, fixed, prefixed, Decodes, Rejects, fixed_unambiguous, byte_unambiguous, decodes_same}
+use Rattle.wasm_base.proofs.Words.{tagged_decodes, tagged_none, tagged_rejects}
 
 mark_there : {m b : ℕ} {bytes rest : List ℕ} → Decodes byte padded bytes b rest → b ≡ m → Decodes (fixed (m ∷ []) (tt {0})) padded bytes tt rest
 mark_there h e = record { front = h.front; split = h.split; encodes = (h.encodes ∙ ap (λ z. z ∷ []) e, refl) }

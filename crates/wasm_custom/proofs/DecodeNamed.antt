@@ -1,17 +1,7 @@
 -- This file proves how readers decode the bytes after the name of a custom section.
-use Rattle.std.proofs.Common.{◌≡◌, ◌≢◌, ℕ, List, [], length, Bool, true, refl, sym, subst}
-use Rattle.wasm_base.specs.Continuing.{RejectsWhole}
-use Rattle.wasm_base.specs.Numbers.{padded}
-use Rattle.wasm_base.specs.Formats.{Format, name, just, fixed, tagged, vec}
-use Rattle.wasm_base.specs.Decoding.{Unambiguous, Decodes, Rejects}
-use Rattle.wasm_base.proofs.AfterLaws.{just_unambiguous}
-use Rattle.wasm_base.proofs.BaseLaws.{name_unambiguous}
-use Rattle.wasm_base.proofs.FormatLaws.{fixed_unambiguous, vec_unambiguous}
-use Rattle.wasm_base.proofs.DecodingSteps.{decodes_same}
-use Rattle.wasm_base.proofs.Tags.{fixed_decodes}
-use Rattle.wasm_custom.specs.Customs.{named_payload}
-use Rattle.wasm_custom.specs.Entries.{listing, entries, counted_payload}
-use Rattle.wasm_reader_base.proofs.DecodeWhole.{whole_decodes, whole_more, whole_rejects}
+use Rattle.wasm_base.proofs.Words.{◌≡◌, ◌≢◌, ℕ, List, [], length, Bool, true, refl, sym, subst, RejectsWhole, padded, Format, name, just, fixed, tagged, vec, Unambiguous, Decodes, Rejects}
+use Rattle.wasm_base.proofs.Words.{just_unambiguous, name_unambiguous, fixed_unambiguous, vec_unambiguous, decodes_same, fixed_decodes, whole_decodes, whole_more, whole_rejects}
+use Rattle.wasm_custom.specs.{named_payload, listing, entries, counted_payload}
 
 -- ---- a fixed value
 

@@ -1,25 +1,11 @@
 -- This file proves that a custom section of items decodes to these alone.
-use Rattle.std.proofs.Common.{◌≡◌, ℕ, ◌≤◌, List, ◌++◌, length, map, Bool, IsUtf8, true, false, refl, sym, subst, arith, length-append, [], append-nil}
-use Rattle.std.specs.List.{AllZip}
-use Rattle.wasm_base.specs.Calls.{DecodesBack, DecodesBackPadded, DecodesBackBoth}
-use Rattle.wasm_base.specs.Entries.{Kind, entry_encoding, ContainsItems, ContainsPadded, ItemLaws}
-use Rattle.wasm_base.specs.Formats.{Format, fixed, vec}
-use Rattle.wasm_base.specs.Numbers.{Mode, minimal, padded, IsOfBuilders}
-use Rattle.wasm_base.specs.Pieces.{joined}
-use Rattle.wasm_base.specs.Decoding.{Unambiguous, UnambiguousWhole, BeginsWith}
-use Rattle.wasm_base.specs.Encodings.{longest, size_prefixed_encoding, HasEncodableSize}
-use Rattle.wasm_base.proofs.EntryLaws.{entries_encodes, pieces_encodes}
-use Rattle.wasm_base.proofs.FormatLaws.{fixed_unambiguous, vec_unambiguous, members_whole, whole_from_unique, mapped_whole, pair_whole}
-use Rattle.wasm_base.proofs.EncodingLaws.{encodes_in, decodes_uniquely, decodes_uniquely_padded, joined_encodes, vec_of_pieces}
-use Rattle.wasm_custom.specs.Customs.{named_section, named_encoding, IsEncodableNamed, named_payload}
-use Rattle.wasm_custom.specs.Entries.{count_encoding, entries_encoding, listing, entries, counted_payload, CustomLayoutLaws}
+use Rattle.wasm_base.proofs.Words.{◌≡◌, ℕ, ◌≤◌, List, ◌++◌, length, map, Bool, IsUtf8, true, false, refl, sym, subst, arith, length-append, [], append-nil, AllZip, DecodesBack, DecodesBackPadded}
+use Rattle.wasm_base.proofs.Words.{DecodesBackBoth, Kind, entry_encoding, ContainsItems, ContainsPadded, ItemLaws, Format, fixed, vec, Mode, minimal, padded, IsOfBuilders, joined, Unambiguous}
+use Rattle.wasm_base.proofs.Words.{UnambiguousWhole, BeginsWith, longest, size_prefixed_encoding, HasEncodableSize, entries_encodes, pieces_encodes, fixed_unambiguous, vec_unambiguous, members_whole}
+use Rattle.wasm_base.proofs.Words.{whole_from_unique, mapped_whole, pair_whole, encodes_in, decodes_uniquely, decodes_uniquely_padded, joined_encodes, vec_of_pieces, name_unambiguous, after_whole}
+use Rattle.wasm_base.proofs.Words.{SectionLaws, sized_laws, AppendsMinimal, HasEncoding, tagged_encoded, encoding_appended, tagged_appended}
+use Rattle.wasm_custom.specs.{named_section, named_encoding, IsEncodableNamed, named_payload, count_encoding, entries_encoding, listing, entries, counted_payload, CustomLayoutLaws}
 use Rattle.wasm_custom.proofs.CustomLaws.{named_encoded, named_encodable, named_unambiguous, named_encodes, data_encodable, named_appended}
-use Rattle.wasm_base.proofs.BaseLaws.{name_unambiguous}
-use Rattle.wasm_base.proofs.AfterLaws.{after_whole}
-use Rattle.wasm_base.proofs.SectionLaws.{SectionLaws, sized_laws}
-use Rattle.wasm_reader_base.specs.Minimal.{AppendsMinimal, HasEncoding}
-use Rattle.wasm_reader_base.proofs.DecodedValues.{tagged_encoded}
-use Rattle.wasm_reader_base.proofs.MinimalEncodings.{encoding_appended, tagged_appended}
 
 listing_whole : {Item : Type 0} (counted : Bool) {F : Format Item} → (counted ≡ false → BeginsWith (λ b. Unit {0}) F) → Unambiguous F → UnambiguousWhole (listing counted F)
 listing_whole true begins f = whole_from_unique (vec_unambiguous f)

@@ -1,26 +1,13 @@
 -- This file proves that branch hints are unambiguous, and how they are decoded and minimized.
-use Rattle.std.proofs.Common.{◌<◌, [], ◌∷◌, true, false, refl, ap, ℕ, ◌≤◌, ◌≡◌, List, subst, arith, ◌++◌}
-use Rattle.wasm_base.specs.Entries.{ItemLaws}
-use Rattle.wasm_base.specs.Formats.{u32, byte, prefixed, such, vec, fixed, Format}
-use Rattle.wasm_base.specs.Numbers.{minimal, unsigned_encoding, padded}
-use Rattle.wasm_base.specs.Decoding.{Unambiguous, Decodes, Rejects}
-use Rattle.wasm_base.specs.Encodings.{vec_encoding, IsEncodableVec}
-use Rattle.wasm_base.proofs.FormatLaws.{mapped_unambiguous, pair_unambiguous, vec_unambiguous, byte_unambiguous, such_unambiguous, prefixed_unambiguous, AllValues}
-use Rattle.wasm_base.proofs.NumberLaws.{u32_unambiguous}
-use Rattle.wasm_base.proofs.NumberEncodings.{groups_encoding-last}
-use Rattle.wasm_base.proofs.EncodingLaws.{u32_encodes, vec_encodes}
-use Rattle.wasm_custom.specs.Entries.{CustomLayoutLaws}
-use Rattle.wasm_custom.specs.Hints.{hint_encoding, IsHint, Hints, hints_encoding, AreHints, hint_of, hint, hints, hints_name, hint_items, hints_payload}
+use Rattle.wasm_base.proofs.Words.{◌<◌, [], ◌∷◌, true, false, refl, ap, ℕ, ◌≤◌, ◌≡◌, List, subst, arith, ◌++◌, ItemLaws, u32, byte, prefixed, such, vec, fixed, Format, minimal, unsigned_encoding}
+use Rattle.wasm_base.proofs.Words.{padded, Unambiguous, Decodes, Rejects, vec_encoding, IsEncodableVec, mapped_unambiguous, pair_unambiguous, vec_unambiguous, byte_unambiguous, such_unambiguous}
+use Rattle.wasm_base.proofs.Words.{prefixed_unambiguous, AllValues, u32_unambiguous, groups_encoding-last, u32_encodes, vec_encodes, ascii, pair_encodes, prefixed_encodes, map-id, then_decodes}
+use Rattle.wasm_base.proofs.Words.{then_rejects_first, then_rejects_second, mapped_decodes, mapped_rejects, such_decodes, such_none, such_rejects, SectionLaws, AppendsMinimal, HasEncoding}
+use Rattle.wasm_base.proofs.Words.{right_encoded, counted_encodable, pair_appended, records_appended}
+use Rattle.wasm_custom.specs.{CustomLayoutLaws, hint_encoding, IsHint, hints_encoding, AreHints, hint_of, hint, hints, hints_name, hint_items, hints_payload}
+use Rattle.wasm_custom.specs.Hints.{Hints}
 use Rattle.wasm_custom.specs.declared.hints.BranchHint.{BranchHint}
-use Rattle.wasm_base.proofs.Calls.{ascii}
-use Rattle.wasm_base.proofs.PartLaws.{pair_encodes, prefixed_encodes}
-use Rattle.std.proofs.lemmas.List.{map-id}
-use Rattle.wasm_base.proofs.DecodingSteps.{then_decodes, then_rejects_first, then_rejects_second, mapped_decodes, mapped_rejects, such_decodes, such_none, such_rejects}
-use Rattle.wasm_base.proofs.SectionLaws.{SectionLaws}
 use Rattle.wasm_custom.proofs.EntriesLaws.{counted_layout, entries_laws}
-use Rattle.wasm_reader_base.specs.Minimal.{AppendsMinimal, HasEncoding}
-use Rattle.wasm_reader_base.proofs.DecodedValues.{right_encoded, counted_encodable}
-use Rattle.wasm_reader_base.proofs.MinimalEncodings.{pair_appended, records_appended}
 
 pub hint_unambiguous : Unambiguous hint
 hint_unambiguous = mapped_unambiguous hint_of (λ x y e. ap (λ h. (h.branch_func_offset, h.branch_hint_value)) e) (pair_unambiguous u32_unambiguous (prefixed_unambiguous (0x01 ∷ []) (such_unambiguous (λ b. b < 128) byte_unambiguous)))
@@ -57,13 +44,13 @@ value = such (λ b. b < 128) byte
 pub value_decodes : (bytes rest : List ℕ) (b : ℕ) → Decodes byte padded bytes b rest → b < 128 → Decodes value padded bytes b rest
 value_decodes bytes rest b h l = such_decodes (λ b. b < 128) h l
 
-pub value_none : (bytes : List ℕ) → Rejects byte padded bytes → Rejects value padded bytes
-value_none bytes n = such_none (λ b. b < 128) n
+pub hint_value_none : (bytes : List ℕ) → Rejects byte padded bytes → Rejects value padded bytes
+hint_value_none bytes n = such_none (λ b. b < 128) n
 
 pub value_large : (bytes rest : List ℕ) (b : ℕ) → Decodes byte padded bytes b rest → 128 ≤ b → Rejects value padded bytes
 value_large bytes rest b h l = such_rejects (λ b. b < 128) byte_unambiguous h (λ p. omega (arith, p, l))
 
-pub ruleset value_steps = (value_decodes, value_large)
+pub ruleset hint_value_steps = (value_decodes, value_large)
 
 -- ---- hints
 

@@ -1,32 +1,17 @@
 -- This file proves that linking sections are unambiguous, and how they are decoded and minimized.
-use Rattle.std.proofs.Common.{ℕ, [], ◌∷◌, length, false, refl, ap, arith, length-append, ◌≡◌, ◌≢◌, List, sym, subst, ◌++◌, take, drop, ◌∙◌}
-use Rattle.wasm_base.specs.Entries.{ItemLaws}
-use Rattle.wasm_base.specs.Formats.{u32, byte, name, just, vec, Format, any_bytes, size_prefixed, members, impossible, choice}
-use Rattle.wasm_base.specs.Numbers.{minimal, unsigned_encoding, padded}
-use Rattle.wasm_base.specs.Decoding.{Unambiguous, Decodes, Rejects}
-use Rattle.wasm_base.specs.Encodings.{size_prefixed_encoding, HasEncodableSize, vec_encoding}
-use Rattle.wasm_base.proofs.AfterLaws.{just_unambiguous}
-use Rattle.wasm_base.proofs.BaseLaws.{name_unambiguous}
-use Rattle.wasm_base.proofs.Calls.{ascii}
-use Rattle.wasm_base.proofs.FormatLaws.{mapped_unambiguous, vec_unambiguous, size_prefixed_unambiguous, whole_from_unique, byte_unambiguous, choice_of, choice_determines}
-use Rattle.wasm_base.proofs.NumberLaws.{u32_unambiguous}
-use Rattle.wasm_base.proofs.PartLaws.{flag_encodes, tagged_begins}
-use Rattle.wasm_base.proofs.EncodingLaws.{tagged_encodes, name_encodes, vec_encodes, size_prefixed_encodes}
-use Rattle.wasm_custom.specs.Entries.{CustomLayoutLaws, listing, entries}
-use Rattle.wasm_custom.specs.Linking.{LinkItem, Symbols, Target, link_encoding, IsLink, link_tags, link, linking_name, version, link_items, linking_payload}
-use Rattle.wasm_custom.specs.Symbols.{symbol_encoding, IsSymbol, symbol, Symbol}
+use Rattle.wasm_base.proofs.Words.{ℕ, [], ◌∷◌, length, false, refl, ap, arith, length-append, ◌≡◌, ◌≢◌, List, sym, subst, ◌++◌, take, drop, ◌∙◌, ItemLaws, u32, byte, name, just, vec, Format}
+use Rattle.wasm_base.proofs.Words.{any_bytes, size_prefixed, members, impossible, choice, minimal, unsigned_encoding, padded, Unambiguous, Decodes, Rejects, size_prefixed_encoding, HasEncodableSize}
+use Rattle.wasm_base.proofs.Words.{vec_encoding, just_unambiguous, name_unambiguous, ascii, mapped_unambiguous, vec_unambiguous, size_prefixed_unambiguous, whole_from_unique, byte_unambiguous}
+use Rattle.wasm_base.proofs.Words.{choice_of, choice_determines, u32_unambiguous, flag_encodes, tagged_begins, tagged_encodes, name_encodes, vec_encodes, size_prefixed_encodes, RejectsWhole}
+use Rattle.wasm_base.proofs.Words.{mapped_decodes, mapped_rejects, tagged_decodes, tagged_none, tagged_rejects, no_choice, filled_decodes, filled_none, filled_rejects, AppendsMinimal, HasEncoding}
+use Rattle.wasm_base.proofs.Words.{tagged_encoded, mapped_encoded, content_encoded, behind_encodable, u32_appended, encoding_appended, tagged_appended, mapped_appended, size_prefixed_appended}
+use Rattle.wasm_base.proofs.Words.{SectionLaws}
+use Rattle.wasm_custom.specs.{CustomLayoutLaws, listing, entries, LinkItem, Target, link_encoding, IsLink, link_tags, link, linking_name, version, link_items, linking_payload, symbol_encoding}
+use Rattle.wasm_custom.specs.{IsSymbol, symbol, Symbol}
+use Rattle.wasm_custom.specs.Words.{Symbols}
 use Rattle.wasm_custom.proofs.CustomLaws.{named_encoded, content_encodable, just_appended, named_appended}
 use Rattle.wasm_custom.proofs.SymbolLaws.{symbol_unambiguous, symbol_encodes}
-use Rattle.wasm_base.specs.Continuing.{RejectsWhole}
-use Rattle.wasm_base.proofs.DecodingSteps.{mapped_decodes, mapped_rejects}
-use Rattle.wasm_base.proofs.Tags.{tagged_decodes, tagged_none, tagged_rejects, no_choice}
-use Rattle.wasm_reader_base.proofs.DecodeSizePrefixed.{filled_decodes, filled_none, filled_rejects}
 use Rattle.wasm_custom.proofs.DecodeNamed.{just_this, just_none, just_other, behind_fills, behind_none, behind_rejects, named_fills, named_none, named_rejects}
-use Rattle.wasm_reader_base.specs.Minimal.{AppendsMinimal, HasEncoding}
-use Rattle.wasm_reader_base.proofs.DecodedValues.{tagged_encoded, mapped_encoded, content_encoded, behind_encodable}
-use Rattle.wasm_reader_base.proofs.DecodePlain.{u32_appended}
-use Rattle.wasm_reader_base.proofs.MinimalEncodings.{encoding_appended, tagged_appended, mapped_appended, size_prefixed_appended}
-use Rattle.wasm_base.proofs.SectionLaws.{SectionLaws}
 use Rattle.wasm_custom.proofs.EntriesLaws.{entries_laws}
 
 abbrev link_id : LinkItem → ℕ

@@ -1,16 +1,8 @@
 -- This file proves the members of lists that are one argument of a call.
-use Rattle.std.proofs.Common.{◌≡◌, ℕ, ◌^◌, ◌<◌, List, [], ◌∷◌, ◌++◌, length, map, Option, Some, None, IsUtf8, refl, sym, ap, ap₂, ◌∙◌, subst, arith, length-append}
+use Rattle.wasm_base.proofs.Words.{◌≡◌, ℕ, ◌^◌, ◌<◌, List, [], ◌∷◌, ◌++◌, length, map, Option, Some, None, IsUtf8, refl, sym, ap, ap₂, ◌∙◌, subst, arith, length-append, IfSome, length-map, map-append}
+use Rattle.wasm_base.proofs.Words.{All-nil, All-push, flat_map, unsigned_encoding, joined, longest, vec_encoding, size_prefixed_encoding, HasEncodableSize, optional_encoding, IsEncodableName}
 use Rattle.std.specs.Borrow.{Bor}
-use Rattle.std.specs.Prelude.{IfSome}
-use Rattle.std.proofs.lemmas.List.{length-map, map-append}
-use Rattle.std.proofs.lemmas.List.Elements.{All-nil, All-push}
-use Rattle.std.specs.List.{flat_map}
-use Rattle.wasm_base.specs.Numbers.{unsigned_encoding}
-use Rattle.wasm_base.specs.Pieces.{joined}
-use Rattle.wasm_base.specs.Encodings.{longest, vec_encoding, size_prefixed_encoding, HasEncodableSize, optional_encoding}
-use Rattle.wasm_base.specs.Laws.{IsEncodableName}
-use Rattle.wasm_custom.specs.Lists.{list_encoding, IsListOf, ContainsList, IsEncodingOf, IsVectorOf, ListMore, given_name}
-use Rattle.wasm_custom.specs.Names.{naming_encoding, IsNaming, inside_encoding, IsInside}
+use Rattle.wasm_custom.specs.{list_encoding, IsListOf, ContainsList, IsEncodingOf, IsVectorOf, ListMore, given_name, naming_encoding, IsNaming, inside_encoding, IsInside}
 
 -- ---- one more member
 

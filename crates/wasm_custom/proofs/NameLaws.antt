@@ -1,29 +1,16 @@
 -- This file proves that name sections are unambiguous, and how they are decoded and minimized.
-use Rattle.std.proofs.Common.{◌≡◌, ℕ, List, [], length, Bool, true, false, cond, eqb, refl, sym, ap, subst, ◌∙◌, arith, length-append, ◌∷◌, ◌++◌, take, drop}
-use Rattle.std.proofs.lemmas.Bool.{eqb-true}
-use Rattle.wasm_base.specs.Entries.{ItemLaws}
-use Rattle.wasm_base.specs.Formats.{u32, any_bytes, name, pair, fixed, Format, byte, just, size_prefixed, mapped, members}
-use Rattle.wasm_base.specs.Numbers.{Mode, minimal, padded, unsigned_encoding}
-use Rattle.wasm_base.specs.Decoding.{HasEncodings, Unambiguous, Decodes, Rejects}
-use Rattle.wasm_base.specs.Encodings.{size_prefixed_encoding, HasEncodableSize, vec_encoding, IsEncodableVec}
-use Rattle.wasm_base.proofs.BaseLaws.{name_unambiguous}
-use Rattle.wasm_base.proofs.FormatLaws.{DeterminesTag, mapped_unambiguous, mapped_whole, pair_unambiguous, vec_unambiguous, size_prefixed_unambiguous, whole_from_unique, byte_unambiguous, any_bytes_whole, tagged_unambiguous, fixed_unambiguous}
-use Rattle.wasm_base.proofs.NumberLaws.{u32_unambiguous}
-use Rattle.wasm_base.proofs.EncodingLaws.{tagged_encodes, u32_encodes, name_encodes, vec_encodes, size_prefixed_in, size_prefixed_encodes}
-use Rattle.wasm_custom.specs.Customs.{subsection_encoding}
-use Rattle.wasm_custom.specs.Entries.{CustomLayoutLaws}
-use Rattle.wasm_custom.specs.Names.{Naming, Inside, naming_encoding, inside_encoding, IsNaming, IsInside, naming, name_map, indirect_map, NameItem, Module, Map, Indirect, Other, NameKind, of_module, of_map, of_indirect, of_other, is_one_of, map_ids, indirect_ids, name_kind_of, after_id, subsection, name_encoding, IsName, name_name, name_items, inside, id_of, held_by, name_payload}
-use Rattle.wasm_base.proofs.Calls.{ascii}
-use Rattle.wasm_base.proofs.PartLaws.{pair_encodes, tagged_begins}
+use Rattle.wasm_base.proofs.Words.{◌≡◌, ℕ, List, [], length, Bool, true, false, cond, eqb, refl, sym, ap, subst, ◌∙◌, arith, length-append, ◌∷◌, ◌++◌, take, drop, eqb-true, ItemLaws, u32, any_bytes}
+use Rattle.wasm_base.proofs.Words.{name, pair, fixed, Format, byte, just, size_prefixed, mapped, members, Mode, minimal, padded, unsigned_encoding, HasEncodings, Unambiguous, Decodes, Rejects}
+use Rattle.wasm_base.proofs.Words.{size_prefixed_encoding, HasEncodableSize, vec_encoding, IsEncodableVec, name_unambiguous, DeterminesTag, mapped_unambiguous, mapped_whole, pair_unambiguous}
+use Rattle.wasm_base.proofs.Words.{vec_unambiguous, size_prefixed_unambiguous, whole_from_unique, byte_unambiguous, any_bytes_whole, tagged_unambiguous, fixed_unambiguous, u32_unambiguous}
+use Rattle.wasm_base.proofs.Words.{tagged_encodes, u32_encodes, name_encodes, vec_encodes, size_prefixed_in, size_prefixed_encodes, ascii, pair_encodes, tagged_begins, RejectsWhole, tagged_decodes}
+use Rattle.wasm_base.proofs.Words.{tagged_none, tagged_rejects, filled_decodes, filled_none, filled_rejects, AppendsMinimal, HasEncoding, tagged_encoded, mapped_encoded, content_encoded}
+use Rattle.wasm_base.proofs.Words.{behind_encodable, encoding_appended, tagged_appended, mapped_appended, size_prefixed_appended, SectionLaws}
+use Rattle.wasm_custom.specs.{subsection_encoding, CustomLayoutLaws, Naming, Inside, naming_encoding, inside_encoding, IsNaming, IsInside, naming, name_map, indirect_map, NameItem, Module, Map}
+use Rattle.wasm_custom.specs.{Indirect, Other, NameKind, of_module, of_map, of_indirect, of_other, is_one_of, map_ids, indirect_ids, name_kind_of, after_id, subsection, name_encoding, IsName}
+use Rattle.wasm_custom.specs.{name_name, name_items, inside, id_of, held_by, name_payload}
 use Rattle.wasm_custom.proofs.CustomLaws.{content_encodable}
-use Rattle.wasm_base.specs.Continuing.{RejectsWhole}
-use Rattle.wasm_base.proofs.Tags.{tagged_decodes, tagged_none, tagged_rejects}
-use Rattle.wasm_reader_base.proofs.DecodeSizePrefixed.{filled_decodes, filled_none, filled_rejects}
 use Rattle.wasm_custom.proofs.DecodeNamed.{named_none, items_fill, no_items}
-use Rattle.wasm_reader_base.specs.Minimal.{AppendsMinimal, HasEncoding}
-use Rattle.wasm_reader_base.proofs.DecodedValues.{tagged_encoded, mapped_encoded, content_encoded, behind_encodable}
-use Rattle.wasm_reader_base.proofs.MinimalEncodings.{encoding_appended, tagged_appended, mapped_appended, size_prefixed_appended}
-use Rattle.wasm_base.proofs.SectionLaws.{SectionLaws}
 use Rattle.wasm_custom.proofs.EntriesLaws.{entries_laws, items_appended, items_encoded}
 
 pub naming_unambiguous : Unambiguous naming

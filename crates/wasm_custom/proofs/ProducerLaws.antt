@@ -1,18 +1,7 @@
 -- This file proves that producers sections are unambiguous.
-use Rattle.std.proofs.Common.{[], true, refl}
-use Rattle.wasm_base.specs.Entries.{ItemLaws}
-use Rattle.wasm_base.specs.Formats.{name, vec, fixed}
-use Rattle.wasm_base.specs.Numbers.{minimal}
-use Rattle.wasm_base.specs.Decoding.{Unambiguous}
-use Rattle.wasm_base.specs.Encodings.{size_prefixed_encoding, vec_encoding}
-use Rattle.wasm_base.proofs.BaseLaws.{name_unambiguous}
-use Rattle.wasm_base.proofs.Calls.{ascii}
-use Rattle.wasm_base.proofs.FormatLaws.{pair_unambiguous, vec_unambiguous}
-use Rattle.wasm_base.proofs.PartLaws.{pair_encodes}
-use Rattle.wasm_base.proofs.EncodingLaws.{name_encodes, vec_encodes}
-use Rattle.wasm_custom.specs.Entries.{CustomLayoutLaws}
-use Rattle.wasm_custom.specs.Producers.{Producer, producer_encoding, IsProducer, Field, field_encoding, IsField, producer, field, producers_name, field_items, producers_payload}
-use Rattle.wasm_base.proofs.SectionLaws.{SectionLaws}
+use Rattle.wasm_base.proofs.Words.{[], true, refl, ItemLaws, name, vec, fixed, minimal, Unambiguous, size_prefixed_encoding, vec_encoding, name_unambiguous, ascii, pair_unambiguous, vec_unambiguous}
+use Rattle.wasm_base.proofs.Words.{pair_encodes, name_encodes, vec_encodes, SectionLaws}
+use Rattle.wasm_custom.specs.{CustomLayoutLaws, Producer, producer_encoding, IsProducer, Field, field_encoding, IsField, producer, field, producers_name, field_items, producers_payload}
 use Rattle.wasm_custom.proofs.EntriesLaws.{counted_layout, entries_laws}
 
 pub field_unambiguous : Unambiguous field

@@ -1,20 +1,11 @@
 -- This file proves that certain bytes are not a custom section.
-use Rattle.std.proofs.Common.{◌≡◌, ℕ, ◌<◌, List, [], ◌∷◌, ◌++◌, length, IsUtf8, refl, sym, subst, ◌∙◌, append-nil, arith}
-use Rattle.wasm_base.specs.Formats.{Format, u32, byte, name, pair, mapped, tagged, choice, impossible, optional, size_prefixed, vec, members, just, fixed, such, prefixed, Then}
-use Rattle.wasm_base.specs.Laws.{RejectsAllAfterPadded}
-use Rattle.wasm_base.specs.Numbers.{padded, AreGroups}
-use Rattle.wasm_base.specs.Decoding.{Unambiguous}
-use Rattle.wasm_base.proofs.AfterLaws.{just_unambiguous}
-use Rattle.wasm_base.proofs.BaseLaws.{name_unambiguous}
-use Rattle.wasm_base.proofs.Calls.{ascii}
-use Rattle.wasm_base.proofs.FormatLaws.{byte_unambiguous, fixed_unambiguous, size_prefixed_of, vec_of_one, then_at, tagged_at, member_at}
-use Rattle.wasm_base.proofs.RejectionLaws.{rejects_padded}
-use Rattle.wasm_base.proofs.NumberLaws.{u32_unambiguous, u32_small}
+use Rattle.wasm_base.proofs.Words.{◌≡◌, ℕ, ◌<◌, List, [], ◌∷◌, ◌++◌, length, IsUtf8, refl, sym, subst, ◌∙◌, append-nil, arith, Format, u32, byte, name, pair, mapped, tagged, choice, impossible}
+use Rattle.wasm_base.proofs.Words.{optional, size_prefixed, vec, members, just, fixed, such, prefixed, Then, RejectsAllAfterPadded, padded, AreGroups, Unambiguous, just_unambiguous, name_unambiguous}
+use Rattle.wasm_base.proofs.Words.{ascii, byte_unambiguous, fixed_unambiguous, size_prefixed_of, vec_of_one, then_at, tagged_at, member_at, rejects_padded, u32_unambiguous, u32_small}
 use Rattle.wasm_base.proofs.SectionLaws.{unambiguous}
-use Rattle.wasm_custom.specs.Customs.{named_payload}
-use Rattle.wasm_custom.specs.Hints.{Hints, hint, hints, hints_name, hints_payload}
-use Rattle.wasm_custom.specs.Linking.{LinkItem, link_tags, link, linking_name, version, linking_payload}
-use Rattle.wasm_custom.specs.Symbols.{Symbol, has_name, indexed_of, symbol_tags, symbol}
+use Rattle.wasm_custom.specs.{named_payload, hint, hints, hints_name, hints_payload, LinkItem, link_tags, link, linking_name, version, linking_payload, Symbol, has_name, indexed_of, symbol_tags}
+use Rattle.wasm_custom.specs.{symbol}
+use Rattle.wasm_custom.specs.Hints.{Hints}
 use Rattle.wasm_custom.specs.declared.hints.BranchHint.{BranchHint}
 use Rattle.wasm_custom.specs.declared.symbols.SymbolKind.TheVariants.{Function}
 use Rattle.wasm_custom.proofs.HintLaws.{hints_section}

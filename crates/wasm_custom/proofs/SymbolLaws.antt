@@ -1,24 +1,15 @@
 -- This file proves that symbols are unambiguous, and how they are decoded and minimized.
-use Rattle.std.proofs.Common.{◌≡◌, ℕ, ◌^◌, ◌<◌, List, [], ◌++◌, Bool, Option, None, refl, ap, subst, ◌∙◌, ◌≢◌, sym, ◌∷◌, true, false, Some}
-use Rattle.wasm_base.specs.Formats.{Format, u32, byte, name, pair, tagged, mapped, optional, is_given, impossible, choice}
-use Rattle.wasm_base.specs.Laws.{IsEncodableName}
-use Rattle.wasm_base.specs.Numbers.{minimal, unsigned_encoding, padded}
-use Rattle.wasm_base.specs.Decoding.{Unambiguous, Decodes, Rejects}
-use Rattle.wasm_base.specs.Encodings.{size_prefixed_encoding, optional_encoding}
-use Rattle.wasm_base.proofs.BaseLaws.{name_unambiguous}
-use Rattle.wasm_base.proofs.FormatLaws.{mapped_unambiguous, pair_unambiguous, byte_unambiguous, tagged_unambiguous, optional_unambiguous, choice_of, AllValues, choice_determines}
-use Rattle.wasm_base.proofs.NumberLaws.{u32_unambiguous}
-use Rattle.wasm_base.proofs.PartLaws.{pair_encodes, optional_encodes}
-use Rattle.wasm_base.proofs.EncodingLaws.{tagged_encodes, u32_encodes, name_encodes}
-use Rattle.wasm_custom.specs.Symbols.{kind_code, Symbol, indexed, of_data, has_name, has_definition, definition_encoding, symbol_encoding, IsDefinition, IsSymbol, definition, definition_of, indexed_of, data_of, indexed_symbol, data_symbol, symbol_tags, symbol}
+use Rattle.wasm_base.proofs.Words.{◌≡◌, ℕ, ◌^◌, ◌<◌, List, [], ◌++◌, Bool, Option, None, refl, ap, subst, ◌∙◌, ◌≢◌, sym, ◌∷◌, true, false, Some, Format, u32, byte, name, pair, tagged, mapped}
+use Rattle.wasm_base.proofs.Words.{optional, is_given, impossible, choice, IsEncodableName, minimal, unsigned_encoding, padded, Unambiguous, Decodes, Rejects, size_prefixed_encoding}
+use Rattle.wasm_base.proofs.Words.{optional_encoding, name_unambiguous, mapped_unambiguous, pair_unambiguous, byte_unambiguous, tagged_unambiguous, optional_unambiguous, choice_of, AllValues}
+use Rattle.wasm_base.proofs.Words.{choice_determines, u32_unambiguous, pair_encodes, optional_encodes, tagged_encodes, u32_encodes, name_encodes, then_decodes, then_rejects_first, then_rejects_second}
+use Rattle.wasm_base.proofs.Words.{mapped_decodes, mapped_rejects, tagged_decodes, tagged_none, tagged_rejects, no_choice, AppendsMinimal, HasEncoding, left_encoded, right_encoded, tagged_encoded}
+use Rattle.wasm_base.proofs.Words.{mapped_encoded, encoding_appended, nothing_appended, pair_appended, tagged_appended, mapped_appended}
+use Rattle.wasm_custom.specs.{kind_code, Symbol, indexed, of_data, has_name, has_definition, definition_encoding, symbol_encoding, IsDefinition, IsSymbol, definition, definition_of, indexed_of}
+use Rattle.wasm_custom.specs.{data_of, indexed_symbol, data_symbol, symbol_tags, symbol}
 use Rattle.wasm_custom.specs.declared.symbols.DataSymbolDefinition.{DataSymbolDefinition}
 use Rattle.wasm_custom.specs.declared.symbols.SymbolKind.{SymbolKind}
 use Rattle.wasm_custom.specs.declared.symbols.SymbolKind.TheVariants.{Function, Global, Table}
-use Rattle.wasm_base.proofs.DecodingSteps.{then_decodes, then_rejects_first, then_rejects_second, mapped_decodes, mapped_rejects}
-use Rattle.wasm_base.proofs.Tags.{tagged_decodes, tagged_none, tagged_rejects, no_choice}
-use Rattle.wasm_reader_base.specs.Minimal.{AppendsMinimal, HasEncoding}
-use Rattle.wasm_reader_base.proofs.DecodedValues.{left_encoded, right_encoded, tagged_encoded, mapped_encoded}
-use Rattle.wasm_reader_base.proofs.MinimalEncodings.{encoding_appended, nothing_appended, pair_appended, tagged_appended, mapped_appended}
 use Rattle.wasm_custom.specs.declared.symbols.SymbolKind.TheVariants as kinds
 
 -- ---- unambiguous

@@ -2,12 +2,8 @@
 -- formats. Tool conventions, Coredump.
 use Rattle.std.specs.Prelude.{◌≡◌, ℕ, ◌^◌, ◌<◌, List, [], ◌∷◌, ◌++◌, IsUtf8, codes}
 use Rattle.std.specs.declared.vec.Vec.{Vec}
-use Rattle.wasm_base.specs.Entries.{Kind, ContainsItems}
-use Rattle.wasm_base.specs.Formats.{Format, u32, name, mapped, pair, prefixed, vec}
-use Rattle.wasm_base.specs.Laws.{IsUnsignedInRange, IsEncodableName}
-use Rattle.wasm_base.specs.Numbers.{unsigned_encoding}
-use Rattle.wasm_base.specs.Encodings.{size_prefixed_encoding, vec_encoding, IsEncodableVec}
-use Rattle.wasm_base.specs.Modules.{SectionDecoding}
+use Rattle.wasm_base.specs.Words.{Kind, ContainsItems, Format, u32, name, mapped, pair, prefixed, vec, IsUnsignedInRange, IsEncodableName, unsigned_encoding, size_prefixed_encoding, vec_encoding}
+use Rattle.wasm_base.specs.Words.{IsEncodableVec, SectionDecoding}
 use Rattle.wasm_custom.specs.Customs.{named_section, named_payload, decoding_as}
 use Rattle.wasm_custom.specs.Entries.{counted_payload}
 

@@ -1,11 +1,7 @@
 -- This file defines the stacks of a core dump, their encoding and their format. Tool conventions,
 -- Coredump.
 use Rattle.std.specs.Prelude.{◌≡◌, ℕ, ◌^◌, ◌<◌, List, [], ◌∷◌, ◌++◌, IsUtf8, codes}
-use Rattle.wasm_base.specs.Entries.{Kind, ContainsItems}
-use Rattle.wasm_base.specs.Formats.{Format, u32, mapped, pair, prefixed, vec}
-use Rattle.wasm_base.specs.Numbers.{unsigned_encoding}
-use Rattle.wasm_base.specs.Encodings.{vec_encoding, IsEncodableVec}
-use Rattle.wasm_base.specs.Modules.{SectionDecoding}
+use Rattle.wasm_base.specs.Words.{Kind, ContainsItems, Format, u32, mapped, pair, prefixed, vec, unsigned_encoding, vec_encoding, IsEncodableVec, SectionDecoding}
 use Rattle.wasm_custom.specs.CoreDumps.{marked_encoding, marked_name}
 use Rattle.wasm_custom.specs.CoreValues.{value_encoding, IsValue, value}
 use Rattle.wasm_custom.specs.Customs.{named_section, named_payload, decoding_as}

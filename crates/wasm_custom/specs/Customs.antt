@@ -3,13 +3,10 @@
 use Rattle.std.specs.Prelude.{◌≡◌, ℕ, List, ◌∷◌, ◌++◌, Bool, ◌&&◌}
 use Rattle.std.proofs.Common.{sym, ap, subst}
 use Rattle.std.specs.Str.{bytes_eq}
-use Rattle.wasm_base.specs.Cow.{items_of, encoding_of}
-use Rattle.wasm_base.specs.Formats.{Format, after, size_prefixed, name, pair, any_bytes}
-use Rattle.wasm_base.specs.Encodings.{size_prefixed_encoding, HasEncodableSize, IsSizePrefixed}
-use Rattle.wasm_base.specs.Modules.{SectionDecoding, decoding_of}
-use Rattle.wasm_base.specs.SectionId.{number_of}
-use Rattle.wasm_base.specs.declared.section_id.SectionId.TheVariants as ids
+use Rattle.wasm_base.specs.Words.{items_of, encoding_of, Format, after, size_prefixed, name, pair, any_bytes, size_prefixed_encoding, HasEncodableSize, IsSizePrefixed, SectionDecoding, decoding_of}
+use Rattle.wasm_base.specs.Words.{number_of}
 use Rattle.wasm_custom.specs.declared.custom_section.CustomSection.{CustomSection}
+use Rattle.wasm_base.specs.declared.section_id.SectionId.TheVariants as ids
 
 -- The payload of a custom section of this name, whose data encode a value of `F`.
 abbrev pub named_payload : {X : Type 0} → List ℕ → Format X → Format X

@@ -1,9 +1,6 @@
 -- This file defines custom sections that are a list of entries.
 use Rattle.std.specs.Prelude.{◌≡◌, ℕ, List, [], ◌++◌, length, Bool, true, false, cond, IsUtf8}
-use Rattle.wasm_base.specs.Formats.{Format, fixed, tagged, vec, members, when}
-use Rattle.wasm_base.specs.Numbers.{minimal, unsigned_encoding}
-use Rattle.wasm_base.specs.Pieces.{joined}
-use Rattle.wasm_base.specs.Decoding.{Unambiguous, BeginsWith}
+use Rattle.wasm_base.specs.Words.{Format, fixed, tagged, vec, members, when, minimal, unsigned_encoding, joined, Unambiguous, BeginsWith}
 use Rattle.wasm_custom.specs.Customs.{named_payload}
 
 -- The count, if the entries are counted.

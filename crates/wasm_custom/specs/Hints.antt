@@ -2,11 +2,7 @@
 -- `metadata.code.branch_hint`.
 use Rattle.std.specs.Prelude.{ℕ, ◌^◌, ◌<◌, List, [], ◌∷◌, ◌++◌, codes}
 use Rattle.std.specs.declared.vec.Vec.{Vec}
-use Rattle.wasm_base.specs.Entries.{Kind, ContainsItems}
-use Rattle.wasm_base.specs.Formats.{Format, u32, byte, mapped, pair, prefixed, such, vec}
-use Rattle.wasm_base.specs.Numbers.{unsigned_encoding}
-use Rattle.wasm_base.specs.Encodings.{vec_encoding, IsEncodableVec}
-use Rattle.wasm_base.specs.Modules.{SectionDecoding}
+use Rattle.wasm_base.specs.Words.{Kind, ContainsItems, Format, u32, byte, mapped, pair, prefixed, such, vec, unsigned_encoding, vec_encoding, IsEncodableVec, SectionDecoding}
 use Rattle.wasm_custom.specs.Customs.{decoding_as}
 use Rattle.wasm_custom.specs.Entries.{counted_payload}
 use Rattle.wasm_custom.specs.declared.hints.BranchHint.{BranchHint}

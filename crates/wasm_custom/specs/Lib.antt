@@ -1,3 +1,5 @@
+-- The definitions of the crate, each file, and all of them by one import.
+pub mod Words
 pub mod Customs
 pub mod Entries
 pub mod Lists
@@ -10,3 +12,15 @@ pub mod Hints
 pub mod CoreDumps
 pub mod CoreValues
 pub mod CoreStacks
+unfoldable pub use Rattle.wasm_custom.specs.Customs.*
+unfoldable pub use Rattle.wasm_custom.specs.Entries.*
+unfoldable pub use Rattle.wasm_custom.specs.Lists.*
+unfoldable pub use Rattle.wasm_custom.specs.Adding.*
+unfoldable pub use Rattle.wasm_custom.specs.Names.*
+unfoldable pub use Rattle.wasm_custom.specs.Symbols.*
+unfoldable pub use Rattle.wasm_custom.specs.Linking.*
+unfoldable pub use Rattle.wasm_custom.specs.Producers.*
+unfoldable pub use Rattle.wasm_custom.specs.Hints.*
+unfoldable pub use Rattle.wasm_custom.specs.CoreDumps.*
+unfoldable pub use Rattle.wasm_custom.specs.CoreValues.*
+unfoldable pub use Rattle.wasm_custom.specs.CoreStacks.*

@@ -1,10 +1,8 @@
 -- This file defines the linking section, its encoding and its format. Tool conventions, Linking,
 -- Linking Metadata Section.
 use Rattle.std.specs.Prelude.{ℕ, List, [], ◌∷◌, IsUtf8, codes, map, false}
-use Rattle.wasm_base.specs.Entries.{Kind, ContainsItems}
-use Rattle.wasm_base.specs.Formats.{Format, byte, name, impossible, mapped, tagged, choice, vec, size_prefixed, u32, just}
-use Rattle.wasm_base.specs.Encodings.{size_prefixed_encoding, vec_encoding, IsEncodableVec}
-use Rattle.wasm_base.specs.Modules.{SectionDecoding}
+use Rattle.wasm_base.specs.Words.{Kind, ContainsItems, Format, byte, name, impossible, mapped, tagged, choice, vec, size_prefixed, u32, just, size_prefixed_encoding, vec_encoding, IsEncodableVec}
+use Rattle.wasm_base.specs.Words.{SectionDecoding}
 use Rattle.wasm_custom.specs.Customs.{subsection_encoding, named_payload, decoding_as}
 use Rattle.wasm_custom.specs.Symbols.{Symbol, symbol_encoding, IsSymbol, symbol, symbol_view}
 use Rattle.wasm_custom.specs.Entries.{entries}

@@ -1,9 +1,7 @@
 -- This file defines lists that are one argument of a call, as name maps and symbol tables are.
 use Rattle.std.specs.Prelude.{◌≡◌, ℕ, ◌<◌, List, [], ◌∷◌, ◌++◌, length, map, Option, Some, None, ⊤}
 use Rattle.std.specs.Borrow.{Bor}
-use Rattle.wasm_base.specs.Numbers.{unsigned_encoding}
-use Rattle.wasm_base.specs.Pieces.{joined}
-use Rattle.wasm_base.specs.Encodings.{longest, vec_encoding, IsEncodableVec, HasEncodableSize}
+use Rattle.wasm_base.specs.Words.{unsigned_encoding, joined, longest, vec_encoding, IsEncodableVec, HasEncodableSize}
 use Rattle.wasm_custom.specs.Customs.{subsection_encoding}
 
 -- The encoding of a list's entries: their count and the entries.

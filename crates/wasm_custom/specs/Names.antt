@@ -3,12 +3,8 @@
 use Rattle.std.specs.Prelude.{◌≡◌, ℕ, ◌^◌, ◌<◌, List, [], ◌∷◌, ◌++◌, Bool, true, false, cond, ◌==◌, IsUtf8, codes, map}
 use Rattle.std.specs.Borrow.{Bor}
 use Rattle.std.specs.declared.vec.Vec.{Vec}
-use Rattle.wasm_base.specs.Entries.{Kind, ContainsItems}
-use Rattle.wasm_base.specs.Formats.{Format, u32, byte, any_bytes, name, mapped, pair, tagged, vec, size_prefixed, fixed}
-use Rattle.wasm_base.specs.Laws.{IsEncodableName}
-use Rattle.wasm_base.specs.Numbers.{unsigned_encoding}
-use Rattle.wasm_base.specs.Encodings.{size_prefixed_encoding, vec_encoding, IsEncodableVec}
-use Rattle.wasm_base.specs.Modules.{SectionDecoding}
+use Rattle.wasm_base.specs.Words.{Kind, ContainsItems, Format, u32, byte, any_bytes, name, mapped, pair, tagged, vec, size_prefixed, fixed, IsEncodableName, unsigned_encoding, size_prefixed_encoding}
+use Rattle.wasm_base.specs.Words.{vec_encoding, IsEncodableVec, SectionDecoding}
 use Rattle.wasm_custom.specs.Customs.{subsection_encoding, named_payload, decoding_as}
 use Rattle.wasm_custom.specs.Entries.{entries}
 use Rattle.wasm_custom.specs.Lists.{IsListOf}

@@ -3,11 +3,7 @@
 use Rattle.std.specs.Prelude.{ℕ, List, ◌++◌, codes, map}
 use Rattle.std.specs.Borrow.{Bor}
 use Rattle.std.specs.declared.vec.Vec.{Vec}
-use Rattle.wasm_base.specs.Entries.{Kind, ContainsItems}
-use Rattle.wasm_base.specs.Formats.{Format, name, pair, vec}
-use Rattle.wasm_base.specs.Laws.{IsEncodableName}
-use Rattle.wasm_base.specs.Encodings.{size_prefixed_encoding, vec_encoding, IsEncodableVec}
-use Rattle.wasm_base.specs.Modules.{SectionDecoding}
+use Rattle.wasm_base.specs.Words.{Kind, ContainsItems, Format, name, pair, vec, IsEncodableName, size_prefixed_encoding, vec_encoding, IsEncodableVec, SectionDecoding}
 use Rattle.wasm_custom.specs.Customs.{decoding_as}
 use Rattle.wasm_custom.specs.Entries.{counted_payload}
 use Rattle.wasm_custom.specs.Lists.{IsListOf}

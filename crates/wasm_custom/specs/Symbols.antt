@@ -1,12 +1,9 @@
 -- This file defines the symbols of a linking section, their encoding and their format. Tool
 -- conventions, Linking, Linking Metadata Section.
 use Rattle.std.specs.Prelude.{◌≡◌, ℕ, ◌^◌, ◌<◌, List, [], ◌∷◌, ◌++◌, Bool, false, not, cond, Option, IfSome, option_map}
-use Rattle.wasm_base.specs.Formats.{Format, u32, byte, name, impossible, mapped, pair, tagged, choice, optional, is_given}
-use Rattle.wasm_base.specs.Laws.{IsEncodableName}
-use Rattle.wasm_base.specs.Numbers.{unsigned_encoding}
-use Rattle.wasm_base.specs.Encodings.{size_prefixed_encoding, optional_encoding}
+use Rattle.wasm_base.specs.Words.{Format, u32, byte, name, impossible, mapped, pair, tagged, choice, optional, is_given, IsEncodableName, unsigned_encoding, size_prefixed_encoding, optional_encoding}
 use Rattle.wasm_custom.specs.Lists.{IsListOf}
-use Rattle.wasm_immediates.specs.ImmediateFormats.{bit}
+use Rattle.wasm_immediates.specs.Words.{bit}
 use Rattle.wasm_custom.specs.declared.symbols.DataSymbolDefinition.{DataSymbolDefinition}
 use Rattle.wasm_custom.specs.declared.symbols.SymbolKind.{SymbolKind}
 use Rattle.wasm_custom.specs.declared.symbols.SymbolKind.TheVariants.{Function, Global, Table}

@@ -13,8 +13,8 @@ ghost use Rattle.wasm_custom.specs.Adding.{AddsTwoLists};
 ghost use Rattle.wasm_custom.specs.CoreDumps.{instance_items, module_items, marked_encoding, core_name, core_section, SaysProcess, marked_name, modules_name, Instance, instance, instances_name, instance_view, core_payload, modules_payload, instances_payload};
 ghost use Rattle.wasm_custom.specs.Customs.{named_encoding, IsEncodableNamed};
 ghost use Rattle.wasm_custom.specs.Entries.{entries_encoding};
-ghost use Rattle.wasm_reader_base.specs.Minimal.{AppendsMinimal, IsFrontOf, HasEncoding};
-ghost use Rattle.wasm_reader_base.specs.declared.fault.ReadFault.TheVariants.{Memory};
+ghost use Rattle.wasm_base.specs.Minimal.{AppendsMinimal, IsFrontOf, HasEncoding};
+ghost use Rattle.wasm_base.specs.declared.fault.ReadFault.TheVariants.{Memory};
 
 use crate::counted::{DecodesItems, ItemsAs, append_counted, read_counted};
 use crate::custom_section::{CustomSection, begin_custom};
@@ -23,8 +23,9 @@ use crate::marked::{MarkedName, read_marked};
 use crate::named::after_name;
 use std::alloc::{Allocator, Global};
 use std::marker::Model;
-use wasm_base::{Encode, Kind, Result, Section, SectionId, vec_of};
-use wasm_reader_base::{ReadFault, Readable, Shorten, read_whole};
+use wasm_base::{
+    Encode, Kind, ReadFault, Readable, Result, Section, SectionId, Shorten, read_whole, vec_of,
+};
 
 /// The `core` section of a dumped process, modelled as its data: the byte 00, and the name of the
 /// process.

@@ -13,8 +13,8 @@ ghost use Rattle.wasm_custom.specs.CoreStacks.{stack_name, stack_section, SaysSt
 ghost use Rattle.wasm_custom.specs.CoreValues.{value_encoding};
 ghost use Rattle.wasm_custom.specs.Customs.{named_encoding, IsEncodableNamed};
 ghost use Rattle.wasm_custom.specs.Entries.{entries_encoding};
-ghost use Rattle.wasm_reader_base.specs.Minimal.{AppendsMinimal, IsFrontOf, HasEncoding};
-ghost use Rattle.wasm_reader_base.specs.declared.fault.ReadFault.TheVariants.{Memory};
+ghost use Rattle.wasm_base.specs.Minimal.{AppendsMinimal, IsFrontOf, HasEncoding};
+ghost use Rattle.wasm_base.specs.declared.fault.ReadFault.TheVariants.{Memory};
 
 use crate::core_dumps::append_marked;
 use crate::core_values::CoreDumpValue;
@@ -24,8 +24,10 @@ use crate::marked::read_marked;
 use crate::named::after_name;
 use std::alloc::{Allocator, Global};
 use std::marker::Model;
-use wasm_base::{CowSlice, CowStr, Encode, Pieces, Result, Section, SectionId, vec_of};
-use wasm_reader_base::{Layout, ReadFault, Readable, Shorten, read_whole};
+use wasm_base::{
+    CowSlice, CowStr, Encode, Layout, Pieces, ReadFault, Readable, Result, Section, SectionId,
+    Shorten, read_whole, vec_of,
+};
 
 /// The `corestack` section of a thread, modelled as the bytes before its stack frames and the bytes
 /// of each frame. The former are the byte 00 and the name of the thread.

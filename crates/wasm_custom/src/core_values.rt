@@ -4,9 +4,8 @@ ghost use Rattle.wasm_custom.specs.CoreValues.{value_encoding, value as value_fo
 ghost use Rattle.wasm_custom.specs.declared.core_values.CoreDumpValue.{CoreDumpValue as ValueModel};
 
 use std::alloc::Allocator;
-use wasm_base::{Encode, Result};
+use wasm_base::{Encode, Layout, ReadFault, Readable, Result};
 use wasm_immediates::{Ieee32, Ieee64};
-use wasm_reader_base::{Layout, ReadFault, Readable};
 
 /// A value of a local or of the stack, or none if it was optimized away.
 #[derive(Clone, Copy, Debug)]

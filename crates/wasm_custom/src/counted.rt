@@ -6,14 +6,13 @@ ghost use Rattle.wasm_base.specs.Numbers.{Mode, padded};
 ghost use Rattle.wasm_base.specs.Decoding.{Unambiguous, Decodes, Rejects};
 ghost use Rattle.wasm_custom.specs.Entries.{counted_payload};
 ghost use Rattle.wasm_base.specs.declared.refused.Refused.TheVariants.{TooLong};
-ghost use Rattle.wasm_reader_base.specs.Minimal.{AppendsMinimal, IsFrontOf, HasEncoding};
-ghost use Rattle.wasm_reader_base.specs.declared.fault.ReadFault.TheVariants.{Memory};
+ghost use Rattle.wasm_base.specs.Minimal.{AppendsMinimal, IsFrontOf, HasEncoding};
+ghost use Rattle.wasm_base.specs.declared.fault.ReadFault.TheVariants.{Memory};
 
 use crate::entries::CustomKind;
 use crate::named::after_name;
 use std::alloc::Allocator;
-use wasm_base::{Encode, Result};
-use wasm_reader_base::{ReadFault, Readable};
+use wasm_base::{Encode, ReadFault, Readable, Result};
 
 /// A kind whose items can be encoded from a decoded `T`.
 pub(crate) trait ItemsAs<T>: CustomKind {
@@ -49,7 +48,7 @@ pub(crate) trait DecodesItems<'a, T: Drop, A: Allocator + Copy>: ItemsAs<T> {
 
 /// Decodes a count and that many items, and returns them with the remaining bytes. Memory grows
 /// with the items that decode, and is not allocated by the count.
-#[tactic(auto, using(wasm_reader_base::proofs::DecodeVectors::vec_steps))]
+#[tactic(auto, using(wasm_base::proofs::DecodeVectors::vec_steps))]
 fn read_items<'a, K: DecodesItems<'a, T, A>, T: Drop, A: Allocator + Copy>(
     bytes: &'a [u8],
     alloc: A,
@@ -87,7 +86,7 @@ pub(crate) fn read_counted<'a, K: DecodesItems<'a, T, A>, T: Drop, A: Allocator 
 }
 
 /// Appends a count and the items.
-#[tactic(auto, using(wasm_reader_base::proofs::MinimalEncodings::members_start))]
+#[tactic(auto, using(wasm_base::proofs::MinimalEncodings::no_members_appended))]
 fn append_items<K: ItemsAs<T>, T, B: Allocator>(items: &[T], sink: &mut Vec<u8, B>) -> Result<()>
     ensures ok { OnOk result (AppendsMinimal (vec K.format) (map K.view items.now) sink.old.items sink.new.items) }
     ensures front { IsFrontOf sink.old.items sink.new.items }

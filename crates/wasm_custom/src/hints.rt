@@ -9,15 +9,14 @@ ghost use Rattle.wasm_custom.specs.Adding.{AddsList};
 ghost use Rattle.wasm_custom.specs.Hints.{hint_items, hint_encoding, Hints, hints, hints_name, hint, hints_view, hints_payload};
 ghost use Rattle.wasm_custom.specs.declared.hints.BranchHint.{BranchHint as HintModel};
 ghost use Rattle.wasm_base.specs.declared.refused.Refused.TheVariants.{TooLong};
-ghost use Rattle.wasm_reader_base.specs.Minimal.{AppendsMinimal, HasEncoding};
-ghost use Rattle.wasm_reader_base.specs.declared.fault.ReadFault.TheVariants.{Memory};
+ghost use Rattle.wasm_base.specs.Minimal.{AppendsMinimal, HasEncoding};
+ghost use Rattle.wasm_base.specs.declared.fault.ReadFault.TheVariants.{Memory};
 
 use crate::counted::{DecodesItems, ItemsAs, append_counted, read_counted};
 use crate::entries::{CustomEntries, CustomKind};
 use crate::marked::read_marked;
 use std::alloc::{Allocator, Global};
-use wasm_base::{Encode, Kind, Result, vec_of};
-use wasm_reader_base::{Layout, ReadFault, Readable, Shorten};
+use wasm_base::{Encode, Kind, Layout, ReadFault, Readable, Result, Shorten, vec_of};
 
 /// The branch hint section: which branches are likely to be taken, as a list of hints for each
 /// function. It belongs before the code section.
@@ -125,7 +124,7 @@ impl Layout for HintValue {
 }
 
 impl<'a, A: Allocator + Copy> Readable<'a, A> for HintValue {
-    #[tactic(auto, using(crate::proofs::HintLaws::value_steps))]
+    #[tactic(auto, using(crate::proofs::HintLaws::hint_value_steps))]
     fn read(bytes: &'a [u8], alloc: A) -> Result<(HintValue, &'a [u8]), ReadFault> {
         let (value, rest) = <u8 as Readable<'a, A>>::read(bytes, alloc)?;
         if value >= 128 {

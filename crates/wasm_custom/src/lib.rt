@@ -10,7 +10,7 @@
 //! subsections. Linking, producers and core dumps are those of the tool conventions, and branch
 //! hints those of their proposal.
 //!
-//! [`ReadFault::Memory`]: wasm_reader_base::ReadFault::Memory
+//! [`ReadFault::Memory`]: wasm_base::ReadFault::Memory
 #![tactic(auto)]
 
 mod core_dumps;

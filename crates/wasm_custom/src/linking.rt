@@ -10,18 +10,17 @@ ghost use Rattle.wasm_custom.specs.Customs.{subsection_encoding};
 ghost use Rattle.wasm_custom.specs.Linking.{link_items, LinkItem as LinkModel, link, linking_name, version, link_view, linking_payload};
 ghost use Rattle.wasm_custom.specs.Lists.{list_encoding};
 ghost use Rattle.wasm_base.specs.declared.refused.Refused.TheVariants.{TooLong};
-ghost use Rattle.wasm_reader_base.specs.Minimal.{AppendsMinimal, IsFrontOf, HasEncoding};
-ghost use Rattle.wasm_reader_base.specs.declared.fault.ReadFault.TheVariants.{Memory};
+ghost use Rattle.wasm_base.specs.Minimal.{AppendsMinimal, IsFrontOf, HasEncoding};
+ghost use Rattle.wasm_base.specs.declared.fault.ReadFault.TheVariants.{Memory};
 
 use crate::entries::{CustomEntries, CustomKind};
 use crate::named::after_name;
 use crate::subsections::Subsection;
 use crate::symbols::{Symbol, SymbolTable};
 use std::alloc::{Allocator, Global};
-use wasm_base::{Encode, Kind, Result};
-use wasm_reader_base::{
-    Layout, ReadFault, Readable, Shorten, SizePrefixed, append_all, prefix_size_since, read_to_end,
-    read_whole,
+use wasm_base::{
+    Encode, Kind, Layout, ReadFault, Readable, Result, Shorten, SizePrefixed, append_all,
+    prefix_size_since, read_to_end, read_whole,
 };
 
 /// The linking section: the symbols and target of a module for a linker, in version 2 of the

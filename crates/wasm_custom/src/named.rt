@@ -3,10 +3,10 @@ ghost use Rattle.std.specs.Prelude.{◌≢◌, IfOk, IfErr};
 ghost use Rattle.wasm_base.specs.Formats.{just, name as name_format};
 ghost use Rattle.wasm_base.specs.Numbers.{padded};
 ghost use Rattle.wasm_base.specs.Decoding.{Decodes, Rejects};
-ghost use Rattle.wasm_reader_base.specs.declared.fault.ReadFault.TheVariants.{Memory};
+ghost use Rattle.wasm_base.specs.declared.fault.ReadFault.TheVariants.{Memory};
 
 use std::alloc::Allocator;
-use wasm_reader_base::{ReadFault, Readable};
+use wasm_base::{ReadFault, Readable};
 
 /// Skips the section name if it is `name`, and returns the remaining bytes.
 #[tactic(auto, using(crate::proofs::DecodeNamed::name_steps))]

@@ -12,8 +12,8 @@ ghost use Rattle.wasm_custom.specs.Customs.{subsection_encoding};
 ghost use Rattle.wasm_custom.specs.Lists.{list_encoding};
 ghost use Rattle.wasm_custom.specs.Names.{name_items, Naming, naming_encoding, IsNaming, Inside, inside_encoding, IsInside, NameItem as NameModel, subsection, name_name, name_kind_of as kind_of_id, kind_as, inside, held_by, id_of, name_item_view, name_payload};
 ghost use Rattle.wasm_base.specs.declared.refused.Refused.TheVariants.{TooLong};
-ghost use Rattle.wasm_reader_base.specs.Minimal.{AppendsMinimal, IsFrontOf, HasEncoding};
-ghost use Rattle.wasm_reader_base.specs.declared.fault.ReadFault.TheVariants.{Memory};
+ghost use Rattle.wasm_base.specs.Minimal.{AppendsMinimal, IsFrontOf, HasEncoding};
+ghost use Rattle.wasm_base.specs.declared.fault.ReadFault.TheVariants.{Memory};
 
 use crate::custom_section::CustomSection;
 use crate::entries::{CustomEntries, CustomKind};
@@ -21,9 +21,9 @@ use crate::lists::{CountedList, Entries, ListKind};
 use crate::named::after_name;
 use crate::subsections::{RawContent, Subsection};
 use std::alloc::{Allocator, Global};
-use wasm_base::{CowSlice, CowStr, Encode, Kind, Lent, Result};
-use wasm_reader_base::{
-    Layout, ReadFault, Readable, Shorten, append_all, prefix_size_since, read_to_end, read_whole,
+use wasm_base::{
+    CowSlice, CowStr, Encode, Kind, Layout, Lent, ReadFault, Readable, Result, Shorten, append_all,
+    prefix_size_since, read_to_end, read_whole,
 };
 
 /// A name map: indices and their names. The calls check neither their order nor whether an index is

@@ -9,14 +9,13 @@ ghost use Rattle.wasm_custom.specs.Symbols.{kind_code, indexed_encoding, of_data
 ghost use Rattle.wasm_custom.specs.declared.symbols.DataSymbolDefinition.{DataSymbolDefinition as DefinitionModel};
 ghost use Rattle.wasm_custom.specs.declared.symbols.SymbolKind.TheVariants as kinds;
 ghost use Rattle.wasm_base.specs.declared.refused.Refused.TheVariants.{TooLong};
-ghost use Rattle.wasm_reader_base.specs.Minimal.{AppendsMinimal, IsFrontOf, HasEncoding};
-ghost use Rattle.wasm_reader_base.specs.declared.fault.ReadFault.TheVariants.{Memory};
+ghost use Rattle.wasm_base.specs.Minimal.{AppendsMinimal, IsFrontOf, HasEncoding};
+ghost use Rattle.wasm_base.specs.declared.fault.ReadFault.TheVariants.{Memory};
 
 use crate::lists::{CountedList, ListKind};
 use std::alloc::{Allocator, Global};
 use wasm_base::laws::plain_name;
-use wasm_base::{Encode, Optional, Result};
-use wasm_reader_base::{Layout, ReadFault, Readable, Shorten, read_optional};
+use wasm_base::{Encode, Layout, Optional, ReadFault, Readable, Result, Shorten, read_optional};
 
 /// A symbol table: the symbols of a module, in the order in which they are added. It is encoded as
 /// subsection 8 of a linking section.

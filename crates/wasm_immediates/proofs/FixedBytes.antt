@@ -1,11 +1,7 @@
 -- This file proves that the library writes fixed-width numbers as the definitions encode them.
-use Rattle.std.proofs.Common.{◌≡◌, ℕ, zero, suc, ◌/◌, ◌%◌, ◌^◌, ◌∷◌, refl, ap, ap₂, ◌∙◌, arith}
-use Rattle.std.proofs.Math.Nat.{pow-suc, div-div-eq-div-mul}
-use Rattle.std.specs.Int.{w32, w64, w128, to_le_bytes, byte_at, bytes_low_first}
-use Rattle.wasm_base.specs.Encodings.{little_endian_encoding}
-use Rattle.std.proofs.Common.{ℤ, pos, negsuc}
-use Rattle.std.specs.Int.{cast_unsigned}
-use Rattle.wasm_immediates.specs.Immediates.{twos_complement, vector_encoding}
+use Rattle.wasm_base.proofs.Words.{◌≡◌, ℕ, zero, suc, ◌/◌, ◌%◌, ◌^◌, ◌∷◌, refl, ap, ap₂, ◌∙◌, arith, ℤ, pos, negsuc, pow-suc, div-div-eq-div-mul, w32, w64, w128, to_le_bytes, byte_at, bytes_low_first}
+use Rattle.wasm_base.proofs.Words.{cast_unsigned, little_endian_encoding, twos_complement}
+use Rattle.wasm_immediates.specs.{vector_encoding}
 
 byte_at-is : (i n : ℕ) → byte_at i n ≡ n / 256 ^ i % 256
 byte_at-is zero n = omega arith

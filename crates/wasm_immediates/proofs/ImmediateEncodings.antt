@@ -1,34 +1,26 @@
 -- This file proves that the encodings of well-formed immediates encode their normal forms.
-use Rattle.std.proofs.Common.{◌≡◌, ℕ, zero, suc, ◌+◌, ◌*◌, ◌%◌, ◌^◌, ◌<◌, List, [], ◌∷◌, ◌++◌, Bool, true, false, eqb, Option, Some, None, refl, sym, ap, ap₂, subst, ◌∙◌, arith, inl, inr, ℤ, pos, negsuc}
-use Rattle.std.proofs.lemmas.Bool.{lt-ltb, ne_eqb}
-use Rattle.std.proofs.lemmas.Nat.{or_shifted, or_comm}
-use Rattle.std.specs.Int.RustNames.{bit_or}
-use Rattle.std.specs.Prelude.{nat_lt, ⊤}
-use Rattle.wasm_base.specs.Numbers.{minimal, unsigned_encoding}
-use Rattle.wasm_base.specs.Formats.{u32, byte, tagged, pair, optional, choice}
-use Rattle.wasm_base.specs.Decoding.{HasMinimalEncodings, UnambiguousPadded}
-use Rattle.wasm_base.specs.Encodings.{optional_encoding}
-use Rattle.wasm_base.specs.Types.{val_type, val_encoding, val_tags, val_ref}
+use Rattle.wasm_base.proofs.Words.{◌≡◌, ℕ, zero, suc, ◌+◌, ◌*◌, ◌%◌, ◌^◌, ◌<◌, List, [], ◌∷◌, ◌++◌, Bool, true, false, eqb, Option, Some, None, refl, sym, ap, ap₂, subst, ◌∙◌, arith, inl, inr, ℤ, pos}
+use Rattle.wasm_base.proofs.Words.{negsuc, lt-ltb, ne_eqb, or_shifted, or_comm, bit_or, nat_lt, ⊤, minimal, unsigned_encoding, u32, byte, tagged, pair, optional, choice, twos_complement}
+use Rattle.wasm_base.proofs.Words.{vector_format, IsVector, HasMinimalEncodings, UnambiguousPadded, optional_encoding, val_type, val_encoding, val_tags, val_ref, unambiguous_padded}
+use Rattle.wasm_base.proofs.Words.{vector_unambiguous, one_group, val_bytes, val-encodings, decodes_uniquely, u32_encodes, u64_encodes, s33_encodes, little_endian_encodes, tagged_encodes}
 use Rattle.wasm_base.specs.declared.types.ValType.{ValType}
-use Rattle.wasm_base.proofs.BaseLaws.{unambiguous_padded}
-use Rattle.wasm_base.proofs.NumberEncodings.{one_group}
-use Rattle.wasm_base.proofs.TypeLaws.{val_bytes, val-encodings}
-use Rattle.wasm_base.proofs.EncodingLaws.{decodes_uniquely, u32_encodes, u64_encodes, s33_encodes, little_endian_encodes, tagged_encodes}
 use Rattle.wasm_immediates.specs.declared.memory.Ordering.TheVariants.{AcqRel, SeqCst}
 use Rattle.wasm_immediates.specs.declared.memory.MemArgOrdering.{MemArgOrdering}
-use Rattle.wasm_immediates.specs.declared.memory.MemArgOrdering.TheVariants as orders
-use Rattle.wasm_immediates.specs.declared.memory.MemArgTarget.{MemArgTarget}
-use Rattle.wasm_immediates.specs.declared.memory.MemArgTarget.TheVariants.{Memory, Array}
 use Rattle.wasm_immediates.specs.declared.memory.MemArg.{MemArg}
 use Rattle.wasm_immediates.specs.declared.block_type.BlockType.{BlockType}
-use Rattle.wasm_immediates.specs.declared.block_type.BlockType.TheVariants as blocks
 use Rattle.wasm_immediates.specs.declared.control.Catch.{Catch}
-use Rattle.wasm_immediates.specs.declared.control.Catch.TheVariants.{One, OneRef, All, AllRef}
 use Rattle.wasm_immediates.specs.declared.control.Handle.{Handle}
+use Rattle.wasm_immediates.specs.{mem_ordering_code, index_of, has_ordering, is_array, has_memory, where_set, mem_flags, mem_arg_encoding, block_encoding, catch_encoding, handle_encoding}
+use Rattle.wasm_immediates.specs.{vector_encoding, IsNormalMemory, DecodesMemoryArgument, ordering_encoding, ordering_format, normal_ordering, normal_order, normal_memory, IsWellFormedTarget}
+use Rattle.wasm_immediates.specs.{IsWellFormedMemory, IsWellFormedBlock, IsWellFormedCatch, IsWellFormedHandle, block_type, mem_ordering, bit, target_of, mem_arg_with, after_flags, mem_arg, catch}
+use Rattle.wasm_immediates.specs.{handle}
+use Rattle.wasm_immediates.specs.declared.memory.MemArgTarget.{MemArgTarget}
+use Rattle.wasm_immediates.specs.declared.memory.MemArgTarget.TheVariants.{Memory, Array}
+use Rattle.wasm_immediates.specs.declared.control.Catch.TheVariants.{One, OneRef, All, AllRef}
 use Rattle.wasm_immediates.specs.declared.control.Handle.TheVariants.{OnLabel, OnSwitch}
-use Rattle.wasm_immediates.specs.Immediates.{mem_ordering_code, index_of, has_ordering, is_array, has_memory, where_set, mem_flags, mem_arg_encoding, block_encoding, catch_encoding, handle_encoding, twos_complement, vector_encoding}
-use Rattle.wasm_immediates.specs.ImmediateFormats.{IsNormalMemory, DecodesMemoryArgument, ordering_encoding, ordering_format, vector_format, normal_ordering, normal_order, normal_memory, IsWellFormedTarget, IsWellFormedMemory, IsWellFormedBlock, IsWellFormedCatch, IsWellFormedHandle, IsVector, block_type, mem_ordering, bit, target_of, mem_arg_with, after_flags, mem_arg, catch, handle}
-use Rattle.wasm_immediates.proofs.ImmediateLaws.{ordering_unambiguous, mem_arg_unambiguous, block_unambiguous, catch_unambiguous, handle_unambiguous, vector_unambiguous, block_tags, block_result}
+use Rattle.wasm_immediates.proofs.ImmediateLaws.{ordering_unambiguous, mem_arg_unambiguous, block_unambiguous, catch_unambiguous, handle_unambiguous, block_tags, block_result}
+use Rattle.wasm_immediates.specs.declared.memory.MemArgOrdering.TheVariants as orders
+use Rattle.wasm_immediates.specs.declared.block_type.BlockType.TheVariants as blocks
 
 -- ---- the encodings of memory arguments
 

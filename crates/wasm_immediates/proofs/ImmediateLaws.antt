@@ -1,30 +1,25 @@
 -- This file proves that immediates are unambiguous.
-use Rattle.std.proofs.Common.{◌≡◌, ◌≢◌, ℕ, zero, suc, ◌+◌, ◌*◌, ◌/◌, ◌%◌, ◌^◌, ◌<◌, List, [], ◌∷◌, Bool, true, false, cond, eqb, Option, refl, sym, ap, ◌∙◌, arith, ℤ, pos, negsuc}
-use Rattle.std.proofs.lemmas.Bool.{eqb-true, eqb-false, ltb-true}
-use Rattle.std.specs.Prelude.{nat_lt}
-use Rattle.wasm_base.specs.Numbers.{Mode}
-use Rattle.wasm_base.specs.Formats.{Format, u32, byte, fixed, impossible, mapped, when, choice, tagged, pair, optional}
-use Rattle.wasm_base.specs.Decoding.{Unambiguous, BeginsWith}
-use Rattle.wasm_base.specs.Types.{val_tags, val_ref, IsIndexByte}
-use Rattle.wasm_base.proofs.FormatLaws.{IsInjective, DeterminesTag, when_unambiguous, mapped_unambiguous, such_unambiguous, coded_unambiguous, fixed_unambiguous, impossible_unambiguous, tagged_unambiguous, one_of_unambiguous, byte_unambiguous, little_endian_unambiguous, pair_unambiguous, optional_unambiguous, choice_of, choice_unambiguous, choice_determines, choice_begins, choice_tags, begins_mapped, values_mapped, AllValues, none_in_common}
-use Rattle.wasm_base.proofs.NumberLaws.{u32_unambiguous}
-use Rattle.wasm_base.proofs.BaseLaws.{u64_unambiguous, s33_unambiguous}
-use Rattle.wasm_base.proofs.TypeLaws.{val_tag, val_begins, begins_s33, val_choice_unambiguous, val_determines, IsTypeByte, types_apart}
+use Rattle.wasm_base.proofs.Words.{◌≡◌, ◌≢◌, ℕ, zero, suc, ◌+◌, ◌*◌, ◌/◌, ◌%◌, ◌^◌, ◌<◌, List, [], ◌∷◌, Bool, true, false, cond, eqb, Option, refl, sym, ap, ◌∙◌, arith, eqb-true, eqb-false, ltb-true}
+use Rattle.wasm_base.proofs.Words.{nat_lt, Mode, Format, u32, byte, fixed, impossible, mapped, when, choice, tagged, pair, optional, Unambiguous, BeginsWith, val_tags, val_ref, IsIndexByte}
+use Rattle.wasm_base.proofs.Words.{IsInjective, DeterminesTag, when_unambiguous, mapped_unambiguous, such_unambiguous, coded_unambiguous, fixed_unambiguous, impossible_unambiguous, tagged_unambiguous}
+use Rattle.wasm_base.proofs.Words.{one_of_unambiguous, byte_unambiguous, pair_unambiguous, optional_unambiguous, choice_of, choice_unambiguous, choice_determines, choice_begins, choice_tags}
+use Rattle.wasm_base.proofs.Words.{begins_mapped, values_mapped, AllValues, none_in_common, u32_unambiguous, u64_unambiguous, s33_unambiguous, val_tag, val_begins, begins_s33, val_choice_unambiguous}
+use Rattle.wasm_base.proofs.Words.{val_determines, IsTypeByte, types_apart}
 use Rattle.wasm_immediates.specs.declared.memory.Ordering.{Ordering}
-use Rattle.wasm_immediates.specs.declared.memory.Ordering.TheVariants.{AcqRel, SeqCst}
 use Rattle.wasm_immediates.specs.declared.memory.MemArgOrdering.{MemArgOrdering}
-use Rattle.wasm_immediates.specs.declared.memory.MemArgOrdering.TheVariants as orders
-use Rattle.wasm_immediates.specs.declared.memory.MemArgTarget.{MemArgTarget}
-use Rattle.wasm_immediates.specs.declared.memory.MemArgTarget.TheVariants.{Memory, Array}
 use Rattle.wasm_immediates.specs.declared.memory.MemArg.{MemArg}
 use Rattle.wasm_immediates.specs.declared.block_type.BlockType.{BlockType}
-use Rattle.wasm_immediates.specs.declared.block_type.BlockType.TheVariants as blocks
 use Rattle.wasm_immediates.specs.declared.control.Catch.{Catch}
-use Rattle.wasm_immediates.specs.declared.control.Catch.TheVariants.{One, OneRef, All, AllRef}
 use Rattle.wasm_immediates.specs.declared.control.Handle.{Handle}
+use Rattle.wasm_immediates.specs.{ordering_code, has_ordering, is_array, has_memory, where_set, block_type, ordering_format, mem_orderings, mem_ordering, bit, target_of, mem_arg_of, mem_arg_with}
+use Rattle.wasm_immediates.specs.{after_flags, mem_arg, one_of_pair, one_ref_of_pair, catch_tags, catch, on_label_of_pair, handle_tags, handle}
+use Rattle.wasm_immediates.specs.declared.memory.Ordering.TheVariants.{AcqRel, SeqCst}
+use Rattle.wasm_immediates.specs.declared.memory.MemArgTarget.{MemArgTarget}
+use Rattle.wasm_immediates.specs.declared.memory.MemArgTarget.TheVariants.{Memory, Array}
+use Rattle.wasm_immediates.specs.declared.control.Catch.TheVariants.{One, OneRef, All, AllRef}
 use Rattle.wasm_immediates.specs.declared.control.Handle.TheVariants.{OnLabel, OnSwitch}
-use Rattle.wasm_immediates.specs.Immediates.{ordering_code, has_ordering, is_array, has_memory, where_set, twos_complement}
-use Rattle.wasm_immediates.specs.ImmediateFormats.{block_type, ordering_format, mem_orderings, mem_ordering, bit, target_of, mem_arg_of, mem_arg_with, after_flags, mem_arg, one_of_pair, one_ref_of_pair, catch_tags, catch, on_label_of_pair, handle_tags, handle, vector_format, IsVector}
+use Rattle.wasm_immediates.specs.declared.memory.MemArgOrdering.TheVariants as orders
+use Rattle.wasm_immediates.specs.declared.block_type.BlockType.TheVariants as blocks
 
 -- ---- orderings
 
@@ -199,23 +194,3 @@ handle_unambiguous =
     (λ mode s x h. ap handle_tag h.1, (λ mode s x h. ap handle_tag h.1, tt))
 
 -- ---- vectors of 128 bits
-
-same_vector : (v w : ℤ) → IsVector v → IsVector w → twos_complement 128 v ≡ twos_complement 128 w → v ≡ w
-same_vector (pos n) (pos m) h g e = ap pos e
-same_vector (pos n) (negsuc m) h g e = absurd (omega (arith, h, g, e))
-same_vector (negsuc n) (pos m) h g e = absurd (omega (arith, h, g, e))
-same_vector (negsuc n) (negsuc m) h g e = let same : n ≡ m = omega (arith, h, g, e) in ap negsuc same
-
-pub vector_unambiguous : Unambiguous vector_format
-vector_unambiguous =
-    let f = little_endian_unambiguous 16 in
-    record {
-      unique = λ mode s t r q x y h g e.
-          let a = f.unique mode s t r q (twos_complement 128 x) (twos_complement 128 y) h.0 g.0 e in
-          (same_vector x y h.1 g.1 a.0, a.1, a.2);
-      encodings = record {
-        one = λ w s t x h g. f.encodings.one w s t (twos_complement 128 x) h.0 g.0;
-        included = λ m n below s x h. h;
-        shorter = λ w s x h. let a = f.encodings.shorter w s (twos_complement 128 x) h.0 in (a.0, (a.1, h.1), a.2);
-      };
-    }

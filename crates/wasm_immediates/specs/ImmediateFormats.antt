@@ -1,22 +1,20 @@
 -- This file defines well-formed immediates, their normal forms and their formats.
-use Rattle.std.specs.Prelude.{◌≡◌, ℕ, ◌/◌, ◌%◌, ◌^◌, ◌<◌, ℤ, pos, negsuc, List, [], ◌∷◌, Bool, true, false, ◌==◌, nat_lt, Option, Some, None, ⊤}
-use Rattle.wasm_base.specs.Formats.{Format, u32, u64, s33, byte, little_endian, fixed, impossible, coded, mapped, such, when, choice, tagged, one_of, pair, optional}
-use Rattle.wasm_base.specs.Decoding.{DecodesUniquely}
-use Rattle.wasm_base.specs.Types.{val_tags, val_ref, IsVal}
+use Rattle.std.specs.Prelude.{◌≡◌, ℕ, ◌/◌, ◌%◌, ◌^◌, ◌<◌, List, [], ◌∷◌, Bool, true, false, ◌==◌, nat_lt, Option, Some, None, ⊤}
+use Rattle.wasm_base.specs.Words.{Format, u32, u64, s33, byte, fixed, impossible, coded, mapped, such, when, choice, tagged, one_of, pair, optional, DecodesUniquely, val_tags, val_ref, IsVal}
 use Rattle.wasm_immediates.specs.declared.memory.Ordering.{Ordering}
 use Rattle.wasm_immediates.specs.declared.memory.Ordering.TheVariants.{AcqRel, SeqCst}
 use Rattle.wasm_immediates.specs.declared.memory.MemArgOrdering.{MemArgOrdering}
-use Rattle.wasm_immediates.specs.declared.memory.MemArgOrdering.TheVariants as orders
 use Rattle.wasm_immediates.specs.declared.memory.MemArgTarget.{MemArgTarget}
 use Rattle.wasm_immediates.specs.declared.memory.MemArgTarget.TheVariants.{Memory, Array}
 use Rattle.wasm_immediates.specs.declared.memory.MemArg.{MemArg}
 use Rattle.wasm_immediates.specs.declared.block_type.BlockType.{BlockType}
-use Rattle.wasm_immediates.specs.declared.block_type.BlockType.TheVariants as blocks
 use Rattle.wasm_immediates.specs.declared.control.Catch.{Catch}
 use Rattle.wasm_immediates.specs.declared.control.Catch.TheVariants.{One, OneRef, All, AllRef}
 use Rattle.wasm_immediates.specs.declared.control.Handle.{Handle}
 use Rattle.wasm_immediates.specs.declared.control.Handle.TheVariants.{OnLabel, OnSwitch}
-use Rattle.wasm_immediates.specs.Immediates.{ordering_code, mem_arg_encoding, twos_complement}
+use Rattle.wasm_immediates.specs.Immediates.{ordering_code, mem_arg_encoding}
+use Rattle.wasm_immediates.specs.declared.memory.MemArgOrdering.TheVariants as orders
+use Rattle.wasm_immediates.specs.declared.block_type.BlockType.TheVariants as blocks
 
 -- ---- normal form
 
@@ -68,11 +66,6 @@ IsWellFormedCatch (AllRef label) = label < 2 ^ 32
 abbrev pub IsWellFormedHandle : Handle → Type 0
 IsWellFormedHandle (OnLabel tag label) = (tag < 2 ^ 32) × (label < 2 ^ 32)
 IsWellFormedHandle (OnSwitch tag) = tag < 2 ^ 32
-
--- A signed number of 128 bits.
-abbrev pub IsVector : ℤ → Type 0
-IsVector (pos n) = n < 2 ^ 127
-IsVector (negsuc n) = n < 2 ^ 127
 
 -- The memory argument is well-formed and in normal form.
 pub record IsNormalMemory (m : MemArg) : Type 0 where
@@ -162,10 +155,6 @@ handle_tags = (0x00, mapped on_label_of_pair (pair u32 u32)) ∷ (0x01, mapped O
 -- A handle clause: a byte for its kind, a tag, and a label for 00.
 abbrev pub handle : Format Handle
 handle = tagged byte (choice handle_tags (λ b. impossible))
-
--- A vector of 128 bits: 16 little-endian bytes in two's complement.
-abbrev pub vector_format : Format ℤ
-vector_format mode s v = little_endian 16 mode s (twos_complement 128 v) × IsVector v
 
 -- ---- laws
 

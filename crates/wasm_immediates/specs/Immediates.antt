@@ -1,23 +1,21 @@
 -- This file defines the encodings of immediates: memory arguments, block types, catches, handles
 -- and vectors.
-use Rattle.std.specs.Prelude.{ℕ, zero, suc, ◌-◌, ◌^◌, ℤ, pos, negsuc, List, [], ◌∷◌, ◌++◌, Option, Some, None, Bool, true, false}
+use Rattle.wasm_base.specs.Words.{twos_complement, unsigned_encoding, signed_encoding, little_endian_encoding, optional_encoding, val_encoding}
+use Rattle.std.specs.Prelude.{ℕ, zero, suc, ℤ, pos, List, [], ◌∷◌, ◌++◌, Option, Some, None, Bool, true, false}
 use Rattle.std.specs.Int.RustNames.{bit_or}
-use Rattle.wasm_base.specs.Numbers.{unsigned_encoding, signed_encoding}
-use Rattle.wasm_base.specs.Encodings.{little_endian_encoding, optional_encoding}
-use Rattle.wasm_base.specs.Types.{val_encoding}
 use Rattle.wasm_immediates.specs.declared.memory.Ordering.{Ordering}
 use Rattle.wasm_immediates.specs.declared.memory.Ordering.TheVariants.{AcqRel, SeqCst}
 use Rattle.wasm_immediates.specs.declared.memory.MemArgOrdering.{MemArgOrdering}
-use Rattle.wasm_immediates.specs.declared.memory.MemArgOrdering.TheVariants as orders
 use Rattle.wasm_immediates.specs.declared.memory.MemArgTarget.{MemArgTarget}
 use Rattle.wasm_immediates.specs.declared.memory.MemArgTarget.TheVariants.{Memory, Array}
 use Rattle.wasm_immediates.specs.declared.memory.MemArg.{MemArg}
 use Rattle.wasm_immediates.specs.declared.block_type.BlockType.{BlockType}
-use Rattle.wasm_immediates.specs.declared.block_type.BlockType.TheVariants as blocks
 use Rattle.wasm_immediates.specs.declared.control.Catch.{Catch}
 use Rattle.wasm_immediates.specs.declared.control.Catch.TheVariants.{One, OneRef, All, AllRef}
 use Rattle.wasm_immediates.specs.declared.control.Handle.{Handle}
 use Rattle.wasm_immediates.specs.declared.control.Handle.TheVariants.{OnLabel, OnSwitch}
+use Rattle.wasm_immediates.specs.declared.memory.MemArgOrdering.TheVariants as orders
+use Rattle.wasm_immediates.specs.declared.block_type.BlockType.TheVariants as blocks
 
 -- ---- memory arguments
 
@@ -94,11 +92,6 @@ handle_encoding (OnLabel tag label) = 0x00 ∷ (unsigned_encoding tag ++ unsigne
 handle_encoding (OnSwitch tag) = 0x01 ∷ unsigned_encoding tag
 
 -- ---- vectors of 128 bits
-
--- The two's complement of an integer, of this many bits.
-abbrev pub twos_complement : ℕ → ℤ → ℕ
-twos_complement bits (pos n) = n
-twos_complement bits (negsuc n) = 2 ^ bits - suc n
 
 -- The encoding of a vector: 16 little-endian bytes in two's complement.
 unfoldable pub vector_encoding : ℤ → List ℕ

@@ -1,9 +1,14 @@
 // The types of blocks.
-ghost use Rattle.std.specs.Prelude.{⊤};
+ghost use Rattle.std.specs.Prelude.{⊤, ◌≢◌, IfOk, IfErr};
 ghost use Rattle.wasm_immediates.specs.Immediates.{block_encoding};
+ghost use Rattle.wasm_base.specs.Numbers.{padded};
+ghost use Rattle.wasm_base.specs.Decoding.{Decodes, Rejects};
+ghost use Rattle.wasm_immediates.specs.ImmediateFormats.{block_type};
+ghost use Rattle.wasm_immediates.specs.declared.block_type.BlockType.{BlockType as BlockModel};
+ghost use Rattle.wasm_base.specs.declared.fault.ReadFault.TheVariants.{Memory};
 
 use std::alloc::Allocator;
-use wasm_base::{Encode, Result, ValType};
+use wasm_base::{Encode, Layout, ReadFault, Readable, Result, ValType, read_index, read_val_after};
 
 /// The type of a block: its parameters and results.
 #[derive(Clone, Copy, Debug)]
@@ -28,5 +33,52 @@ impl Encode for BlockType {
             BlockType::Result(ty) => ty.encode(sink),
             BlockType::FunctionType(index) => i64::from(index).encode(sink),
         }
+    }
+}
+
+/// Decodes a block type. Out of line, for those with a type.
+#[inline(never)]
+#[tactic(auto, using(crate::proofs::DecodeImmediates::block_steps))]
+fn read_any_block<'a, A: Allocator + Copy>(
+    bytes: &'a [u8],
+    alloc: A,
+) -> Result<(BlockType, &'a [u8]), ReadFault>
+    ensures found { IfOk result (λ x. Decodes block_type padded bytes.now x.0 x.1.now) }
+    ensures none { IfErr result (λ e. e ≢ Memory → Rejects block_type padded bytes.now) }
+{
+    let (tag, rest) = <u8 as Readable<'a, A>>::read(bytes, alloc)?;
+    match tag {
+        0x40 => Ok((BlockType::Empty, rest)),
+        0x41..=0x7F => {
+            let (ty, rest) = read_val_after(tag, rest, alloc)?;
+            Ok((BlockType::Result(ty), rest))
+        }
+        _ => {
+            let (index, rest) = read_index(bytes)?;
+            Ok((BlockType::FunctionType(index), rest))
+        }
+    }
+}
+
+impl Layout for BlockType {
+    ghost Value = { BlockModel };
+
+    ghost format = { block_type };
+
+    ghost view = { λ b. b };
+
+    #[tactic(auto, using(crate::proofs::ImmediateLaws::block_unambiguous))]
+    fn laws() {}
+}
+
+impl<'a, A: Allocator + Copy> Readable<'a, A> for BlockType {
+    #[tactic(auto, using(crate::proofs::DecodeImmediates::block_steps))]
+    #[inline]
+    fn read(bytes: &'a [u8], alloc: A) -> Result<(BlockType, &'a [u8]), ReadFault> {
+        let (tag, rest) = <u8 as Readable<'a, A>>::read(bytes, alloc)?;
+        if tag == 0x40 {
+            return Ok((BlockType::Empty, rest));
+        }
+        read_any_block(bytes, alloc)
     }
 }

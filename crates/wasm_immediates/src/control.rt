@@ -1,9 +1,12 @@
 // The clauses of instructions that handle exceptions and suspended stacks.
 ghost use Rattle.std.specs.Prelude.{⊤};
 ghost use Rattle.wasm_immediates.specs.Immediates.{catch_encoding, handle_encoding};
+ghost use Rattle.wasm_immediates.specs.ImmediateFormats.{catch as catch_format, handle as handle_format};
+ghost use Rattle.wasm_immediates.specs.declared.control.Catch.{Catch as CatchModel};
+ghost use Rattle.wasm_immediates.specs.declared.control.Handle.{Handle as HandleModel};
 
 use std::alloc::Allocator;
-use wasm_base::{Encode, Result};
+use wasm_base::{Encode, Layout, ReadFault, Readable, Result};
 
 /// A clause of `try_table`: the exceptions that it catches, and the label that it then branches to.
 #[derive(Clone, Copy, Debug)]
@@ -47,6 +50,72 @@ impl Encode for Handle {
         match *self {
             Handle::OnLabel { tag, label } => (0x00u8, tag, label).encode(sink),
             Handle::OnSwitch { tag } => (0x01u8, tag).encode(sink),
+        }
+    }
+}
+
+impl Layout for Catch {
+    ghost Value = { CatchModel };
+
+    ghost format = { catch_format };
+
+    ghost view = { λ c. c };
+
+    #[tactic(auto, using(crate::proofs::ImmediateLaws::catch_unambiguous))]
+    fn laws() {}
+}
+
+impl<'a, A: Allocator + Copy> Readable<'a, A> for Catch {
+    #[tactic(auto, using(crate::proofs::DecodeImmediates::catch_steps))]
+    fn read(bytes: &'a [u8], alloc: A) -> Result<(Catch, &'a [u8]), ReadFault> {
+        let (kind, rest) = <u8 as Readable<'a, A>>::read(bytes, alloc)?;
+        match kind {
+            0x00 => {
+                let ((tag, label), rest) = <(u32, u32) as Readable<'a, A>>::read(rest, alloc)?;
+                Ok((Catch::One { tag, label }, rest))
+            }
+            0x01 => {
+                let ((tag, label), rest) = <(u32, u32) as Readable<'a, A>>::read(rest, alloc)?;
+                Ok((Catch::OneRef { tag, label }, rest))
+            }
+            0x02 => {
+                let (label, rest) = <u32 as Readable<'a, A>>::read(rest, alloc)?;
+                Ok((Catch::All { label }, rest))
+            }
+            0x03 => {
+                let (label, rest) = <u32 as Readable<'a, A>>::read(rest, alloc)?;
+                Ok((Catch::AllRef { label }, rest))
+            }
+            _ => Err(ReadFault::UnknownTag),
+        }
+    }
+}
+
+impl Layout for Handle {
+    ghost Value = { HandleModel };
+
+    ghost format = { handle_format };
+
+    ghost view = { λ h. h };
+
+    #[tactic(auto, using(crate::proofs::ImmediateLaws::handle_unambiguous))]
+    fn laws() {}
+}
+
+impl<'a, A: Allocator + Copy> Readable<'a, A> for Handle {
+    #[tactic(auto, using(crate::proofs::DecodeImmediates::handle_steps))]
+    fn read(bytes: &'a [u8], alloc: A) -> Result<(Handle, &'a [u8]), ReadFault> {
+        let (kind, rest) = <u8 as Readable<'a, A>>::read(bytes, alloc)?;
+        match kind {
+            0x00 => {
+                let ((tag, label), rest) = <(u32, u32) as Readable<'a, A>>::read(rest, alloc)?;
+                Ok((Handle::OnLabel { tag, label }, rest))
+            }
+            0x01 => {
+                let (tag, rest) = <u32 as Readable<'a, A>>::read(rest, alloc)?;
+                Ok((Handle::OnSwitch { tag }, rest))
+            }
+            _ => Err(ReadFault::UnknownTag),
         }
     }
 }

@@ -1,9 +1,10 @@
 // Floats, as their bits.
-ghost use Rattle.std.specs.Prelude.{◌≡◌, ⊤};
+ghost use Rattle.std.specs.Prelude.{◌≡◌, ⊤, ℕ};
 ghost use Rattle.wasm_base.specs.Encodings.{little_endian_encoding};
+ghost use Rattle.wasm_base.specs.Formats.{little_endian};
 
 use std::alloc::Allocator;
-use wasm_base::{Encode, Result};
+use wasm_base::{Encode, Layout, ReadFault, Readable, Result};
 
 /// A float of 32 bits, as its IEEE 754 bits.
 #[derive(Clone, Copy, PartialEq, Eq, Hash, Debug)]
@@ -72,5 +73,47 @@ impl Encode for Ieee64 {
     fn encode<A: Allocator>(&self, sink: &mut Vec<u8, A>) -> Result<()> {
         let bytes: [u8; 8] = self.bits.to_le_bytes();
         bytes.encode(sink)
+    }
+}
+
+/// A float's four bytes, little-endian.
+impl Layout for Ieee32 {
+    ghost Value = { ℕ };
+
+    ghost format = { little_endian 4 };
+
+    ghost view = { λ float. float.bits };
+
+    #[tactic(auto, using(wasm_base::proofs::BaseLaws::fixed_4_unambiguous))]
+    fn laws() {}
+}
+
+impl<'a, A: Allocator + Copy> Readable<'a, A> for Ieee32 {
+    fn read(bytes: &'a [u8], _alloc: A) -> Result<(Ieee32, &'a [u8]), ReadFault> {
+        match bytes.split_first_chunk::<4>() {
+            Some((front, rest)) => Ok((Ieee32::new(u32::from_le_bytes(*front)), rest)),
+            None => Err(ReadFault::Ended),
+        }
+    }
+}
+
+/// A float's eight bytes, little-endian.
+impl Layout for Ieee64 {
+    ghost Value = { ℕ };
+
+    ghost format = { little_endian 8 };
+
+    ghost view = { λ float. float.bits };
+
+    #[tactic(auto, using(wasm_base::proofs::BaseLaws::fixed_8_unambiguous))]
+    fn laws() {}
+}
+
+impl<'a, A: Allocator + Copy> Readable<'a, A> for Ieee64 {
+    fn read(bytes: &'a [u8], _alloc: A) -> Result<(Ieee64, &'a [u8]), ReadFault> {
+        match bytes.split_first_chunk::<8>() {
+            Some((front, rest)) => Ok((Ieee64::new(u64::from_le_bytes(*front)), rest)),
+            None => Err(ReadFault::Ended),
+        }
     }
 }

@@ -8,21 +8,8 @@
 ghost use Rattle.std.specs.Prelude.{⊤};
 ghost use Rattle.wasm_base.specs.Decoding.{Unambiguous, HasMinimalEncodings, UnambiguousPadded};
 ghost use Rattle.wasm_immediates.specs.Immediates.{mem_arg_encoding, block_encoding, catch_encoding, handle_encoding, vector_encoding};
-ghost use Rattle.wasm_immediates.specs.ImmediateFormats.{
-  mem_arg,
-  block_type,
-  catch,
-  handle,
-  ordering_format,
-  vector_format,
-  IsNormalMemory,
-  IsWellFormedBlock,
-  IsWellFormedCatch,
-  IsWellFormedHandle,
-  IsVector,
-  ordering_encoding,
-  DecodesMemoryArgument,
-};
+ghost use Rattle.wasm_immediates.specs.ImmediateFormats.{mem_arg, block_type, catch, handle, ordering_format, IsNormalMemory, IsWellFormedBlock, IsWellFormedCatch, IsWellFormedHandle, ordering_encoding, DecodesMemoryArgument};
+ghost use Rattle.wasm_base.specs.Formats.{vector_format, IsVector};
 ghost use Rattle.wasm_immediates.specs.declared.memory.MemArg.{MemArg};
 
 /// The formats of immediates are unambiguous.

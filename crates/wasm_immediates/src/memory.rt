@@ -1,13 +1,19 @@
 // Memory arguments: the immediates of instructions that access memory.
-ghost use Rattle.std.specs.Prelude.{◌≡◌, ◌+◌, ◌≤◌, ◌<◌, ◌++◌, ◌∷◌, [], vec_len, vec_capacity, ⊤};
+ghost use Rattle.std.specs.Prelude.{◌≡◌, ◌+◌, ◌≤◌, ◌<◌, ◌++◌, ◌∷◌, [], vec_len, vec_capacity, ⊤, ◌≢◌, IfOk, IfErr};
 ghost use Rattle.wasm_base.specs.Calls.{Appends};
-ghost use Rattle.wasm_base.specs.Numbers.{unsigned_encoding};
+ghost use Rattle.wasm_base.specs.Numbers.{unsigned_encoding, padded};
 ghost use Rattle.wasm_immediates.specs.Immediates.{ordering_code, mem_ordering_code, index_of, mem_flags, mem_arg_encoding};
-ghost use Rattle.wasm_immediates.specs.declared.memory.MemArgTarget.TheVariants.{Memory};
+ghost use Rattle.wasm_immediates.specs.declared.memory.MemArgTarget.TheVariants as targets;
+ghost use Rattle.wasm_base.specs.Decoding.{Decodes, Rejects};
+ghost use Rattle.wasm_immediates.specs.ImmediateFormats.{ordering_format, mem_ordering, target_of, mem_arg};
+ghost use Rattle.wasm_immediates.specs.declared.memory.Ordering.{Ordering as OrderingModel};
+ghost use Rattle.wasm_immediates.specs.declared.memory.MemArgOrdering.{MemArgOrdering as MemOrderingModel};
+ghost use Rattle.wasm_immediates.specs.declared.memory.MemArg.{MemArg as MemArgModel};
+ghost use Rattle.wasm_base.specs.declared.fault.ReadFault.TheVariants.{Memory};
 
 use std::alloc::Allocator;
 use std::default::Default;
-use wasm_base::{Encode, Result};
+use wasm_base::{Encode, Layout, ReadFault, Readable, Result, read_optional};
 
 /// The index of a lane of a vector.
 pub type Lane = u8;
@@ -49,7 +55,7 @@ pub enum Ordering {
 
 /// The default is memory 0.
 impl Default for MemArgTarget {
-    ghost is_default = { λ target. target ≡ Memory 0 };
+    ghost is_default = { λ target. target ≡ targets.Memory 0 };
 
     fn default() -> Self {
         Self::Memory(0)
@@ -168,4 +174,142 @@ fn put_two_bytes<A: Allocator>(first: u8, second: u8, sink: &mut Vec<u8, A>)
 {
     sink.push_reserved(first);
     sink.push_reserved(second);
+}
+
+impl Layout for Ordering {
+    ghost Value = { OrderingModel };
+
+    ghost format = { ordering_format };
+
+    ghost view = { λ o. o };
+
+    #[tactic(auto, using(crate::proofs::ImmediateLaws::ordering_unambiguous))]
+    fn laws() {}
+}
+
+impl<'a, A: Allocator + Copy> Readable<'a, A> for Ordering {
+    #[tactic(auto, using(crate::proofs::DecodeImmediates::ordering_steps))]
+    fn read(bytes: &'a [u8], alloc: A) -> Result<(Ordering, &'a [u8]), ReadFault> {
+        let (byte, rest) = <u8 as Readable<'a, A>>::read(bytes, alloc)?;
+        match byte {
+            0x00 => Ok((Ordering::SeqCst, rest)),
+            0x01 => Ok((Ordering::AcqRel, rest)),
+            _ => Err(ReadFault::UnknownTag),
+        }
+    }
+}
+
+impl Layout for MemArgOrdering {
+    ghost Value = { MemOrderingModel };
+
+    ghost format = { mem_ordering };
+
+    ghost view = { λ o. o };
+
+    #[tactic(auto, using(crate::proofs::ImmediateLaws::mem_ordering_unambiguous))]
+    fn laws() {}
+}
+
+impl<'a, A: Allocator + Copy> Readable<'a, A> for MemArgOrdering {
+    #[tactic(auto, using(crate::proofs::DecodeImmediates::mem_ordering_steps))]
+    fn read(bytes: &'a [u8], alloc: A) -> Result<(MemArgOrdering, &'a [u8]), ReadFault> {
+        let (tag, rest) = <u8 as Readable<'a, A>>::read(bytes, alloc)?;
+        match tag {
+            0x00 => Ok((MemArgOrdering::Op(Ordering::SeqCst), rest)),
+            0x01 => Ok((MemArgOrdering::Op(Ordering::AcqRel), rest)),
+            0x11 => Ok((MemArgOrdering::Rmw(Ordering::AcqRel), rest)),
+            _ => Err(ReadFault::UnknownTag),
+        }
+    }
+}
+
+/// Decodes the index of an array type, or of a memory other than 0, as the flags select.
+#[tactic(auto, using(crate::proofs::DecodeImmediates::target_steps))]
+fn read_target<'a, A: Allocator + Copy>(
+    array: bool,
+    other: bool,
+    bytes: &'a [u8],
+    alloc: A,
+) -> Result<(MemArgTarget, &'a [u8]), ReadFault>
+    ensures found { IfOk result (λ x. Decodes (target_of array other) padded bytes.now x.0 x.1.now) }
+    ensures none { IfErr result (λ e. e ≢ Memory → Rejects (target_of array other) padded bytes.now) }
+{
+    match (array, other) {
+        (false, false) => Ok((MemArgTarget::Memory(0), bytes)),
+        (true, true) => Err(ReadFault::UnknownTag),
+        (true, false) => {
+            let (index, rest) = <u32 as Readable<'a, A>>::read(bytes, alloc)?;
+            Ok((MemArgTarget::Array(index), rest))
+        }
+        (false, true) => {
+            let (index, rest) = <u32 as Readable<'a, A>>::read(bytes, alloc)?;
+            if index == 0 {
+                return Err(ReadFault::UnknownTag);
+            }
+            Ok((MemArgTarget::Memory(index), rest))
+        }
+    }
+}
+
+/// Decodes a memory argument with any flags. Out of line.
+#[inline(never)]
+#[tactic(auto, using(crate::proofs::DecodeImmediates::memory_steps))]
+fn read_any_memory<'a, A: Allocator + Copy>(
+    bytes: &'a [u8],
+    alloc: A,
+) -> Result<(MemArg, &'a [u8]), ReadFault>
+    ensures found { IfOk result (λ x. Decodes mem_arg padded bytes.now x.0 x.1.now) }
+    ensures none { IfErr result (λ e. e ≢ Memory → Rejects mem_arg padded bytes.now) }
+{
+    let (flags, rest) = <u32 as Readable<'a, A>>::read(bytes, alloc)?;
+    if flags >= 0x80 {
+        return Err(ReadFault::UnknownTag);
+    }
+    let (target, rest) = read_target(flags / 32 % 2 == 1, flags / 64 % 2 == 1, rest, alloc)?;
+    let (ordering, rest) = read_optional::<'a, MemArgOrdering, A>(
+        flags / 16 % 2 == 1,
+        rest,
+        alloc,
+    )?;
+    let (offset, rest) = <u64 as Readable<'a, A>>::read(rest, alloc)?;
+    Ok((
+        MemArg {
+            offset,
+            align: flags % 16,
+            target,
+            ordering,
+        },
+        rest,
+    ))
+}
+
+impl Layout for MemArg {
+    ghost Value = { MemArgModel };
+
+    ghost format = { mem_arg };
+
+    ghost view = { λ m. m };
+
+    #[tactic(auto, using(crate::proofs::ImmediateLaws::mem_arg_unambiguous))]
+    fn laws() {}
+}
+
+impl<'a, A: Allocator + Copy> Readable<'a, A> for MemArg {
+    #[tactic(auto, using(crate::proofs::DecodeImmediates::memory_steps))]
+    #[inline]
+    fn read(bytes: &'a [u8], alloc: A) -> Result<(MemArg, &'a [u8]), ReadFault> {
+        if let [flags, rest @ ..] = bytes {
+            if *flags < 0x10 {
+                let (offset, rest) = <u64 as Readable<'a, A>>::read(rest, alloc)?;
+                let memory = MemArg {
+                    offset,
+                    align: u32::from(*flags),
+                    target: MemArgTarget::Memory(0),
+                    ordering: None,
+                };
+                return Ok((memory, rest));
+            }
+        }
+        read_any_memory(bytes, alloc)
+    }
 }

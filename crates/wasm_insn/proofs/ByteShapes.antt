@@ -1,12 +1,9 @@
 -- This file proves that the list of one-byte shapes has the shape of each opcode at its index.
-use Rattle.std.proofs.Common.{◌≡◌, ℕ, ◌<◌, map, Option, get_or, refl, sym, ap, ◌∙◌, arith}
-use Rattle.std.proofs.lemmas.List.FromFn.{get_or-map-range_with_len}
-use Rattle.std.specs.List.{range_with_len}
+use Rattle.wasm_base.proofs.Words.{◌≡◌, ℕ, ◌<◌, map, Option, get_or, refl, sym, ap, ◌∙◌, arith, get_or-map-range_with_len, range_with_len}
 use Rattle.wasm_insn.specs.declared.op.Op.TheVariants.{Byte}
 use Rattle.wasm_insn.specs.declared.op.Shape.{Shape}
 use Rattle.wasm_insn.specs.declared.table.TheConstants.{ONE_BYTE}
-use Rattle.wasm_insn.specs.Plain.{shape_of}
-use Rattle.wasm_insn.specs.Table.{one_byte, table, shape_in}
+use Rattle.wasm_insn.specs.{shape_of, one_byte, table, shape_in}
 use Rattle.wasm_insn.proofs.TableRuns.{byte_shape}
 
 places : ONE_BYTE ≡ map (shape_in one_byte) (range_with_len 0 256)

@@ -1,37 +1,34 @@
 -- This file proves that the cases are the rows of the table, and that each instruction is one of
 -- the cases.
-use Rattle.std.proofs.Common.{◌≡◌, ℕ, zero, suc, pos, List, [], ◌∷◌, false, cond, Some, None, slice_get, refl, arith}
-use Rattle.std.specs.List.{Contains}
+use Rattle.wasm_base.proofs.Words.{◌≡◌, ℕ, zero, suc, pos, List, [], ◌∷◌, false, cond, Some, None, refl, arith, Contains}
 use Rattle.wasm_base.specs.declared.cow.CowSlice.{CowSlice}
-use Rattle.wasm_base.specs.declared.cow.CowSlice.TheVariants as slices
 use Rattle.wasm_base.specs.declared.types.HeapType.{HeapType}
-use Rattle.wasm_base.specs.declared.types.HeapType.TheVariants as heaps
 use Rattle.wasm_base.specs.declared.types.RefType.{RefType}
+use Rattle.std.proofs.Common.{slice_get}
+use Rattle.wasm_insn.specs.declared.op.Op.{Op}
+use Rattle.wasm_insn.specs.declared.instruction.Instruction.{Instruction}
+use Rattle.wasm_insn.specs.declared.numeric.Numeric.{Numeric}
+use Rattle.wasm_insn.specs.{Argument, unsigned, signed32, signed64, float32, float64, vector, memory, lane, lanes, block, heap, ordering, Given, all_cases, AreRows, IsCase, row_of, same_op, table}
+use Rattle.wasm_insn.specs.Plain.{Table}
+use Rattle.wasm_insn.specs.declared.op.Op.TheVariants.{Byte}
+use Rattle.wasm_insn.specs.declared.aggregate.Aggregate.{Aggregate}
+use Rattle.wasm_insn.specs.declared.prefixed_numeric.PrefixedNumeric.{PrefixedNumeric}
+use Rattle.wasm_insn.specs.declared.vector.Vector.{Vector}
+use Rattle.wasm_insn.specs.declared.vector_immediate.VectorImmediate.{VectorImmediate}
+use Rattle.wasm_insn.specs.declared.atomic.Atomic.{Atomic}
+use Rattle.wasm_base.specs.declared.cow.CowSlice.TheVariants as slices
+use Rattle.wasm_base.specs.declared.types.HeapType.TheVariants as heaps
 use Rattle.wasm_base.specs.declared.types.ValType.TheVariants as values
 use Rattle.wasm_immediates.specs.declared.block_type.BlockType.TheVariants as blocks
 use Rattle.wasm_immediates.specs.declared.memory.MemArgTarget.TheVariants as targets
 use Rattle.wasm_immediates.specs.declared.memory.Ordering.TheVariants as orderings
-use Rattle.wasm_insn.specs.declared.op.Op.{Op}
-use Rattle.wasm_insn.specs.declared.op.Op.TheVariants.{Byte}
-use Rattle.wasm_insn.specs.declared.instruction.Instruction.{Instruction}
 use Rattle.wasm_insn.specs.declared.instruction.Instruction.TheVariants as cases
-use Rattle.wasm_insn.specs.declared.numeric.Numeric.{Numeric}
 use Rattle.wasm_insn.specs.declared.numeric.Numeric.TheVariants as numeric
-use Rattle.wasm_insn.specs.declared.aggregate.Aggregate.{Aggregate}
 use Rattle.wasm_insn.specs.declared.aggregate.Aggregate.TheVariants as aggregate
-use Rattle.wasm_insn.specs.declared.prefixed_numeric.PrefixedNumeric.{PrefixedNumeric}
 use Rattle.wasm_insn.specs.declared.prefixed_numeric.PrefixedNumeric.TheVariants as prefixed_numeric
-use Rattle.wasm_insn.specs.declared.vector.Vector.{Vector}
 use Rattle.wasm_insn.specs.declared.vector.Vector.TheVariants as vectors
-use Rattle.wasm_insn.specs.declared.vector_immediate.VectorImmediate.{VectorImmediate}
 use Rattle.wasm_insn.specs.declared.vector_immediate.VectorImmediate.TheVariants as vector_immediate
-use Rattle.wasm_insn.specs.declared.atomic.Atomic.{Atomic}
 use Rattle.wasm_insn.specs.declared.atomic.Atomic.TheVariants as atomic
-use Rattle.wasm_insn.specs.Arguments.{Argument, unsigned, signed32, signed64, float32, float64, vector, memory, lane, lanes, block, heap, ordering}
-use Rattle.wasm_insn.specs.Cases.{Given, all_cases, AreRows, IsCase}
-use Rattle.wasm_insn.specs.Instructions.{row_of}
-use Rattle.wasm_insn.specs.Plain.{Table, same_op}
-use Rattle.wasm_insn.specs.Table.{table}
 
 pub all_rows : {A : Type 0} (given : Given A) → AreRows (all_cases given) table
 unfolding table

@@ -1,27 +1,17 @@
 -- This file proves the laws of the opcode table and of its instructions.
-use Rattle.std.proofs.Common.{◌≡◌, ℕ, ◌^◌, ◌<◌, List, [], ◌∷◌, ◌++◌, Bool, true, false, Some, ◌&&◌, refl, sym, ap, ◌∙◌, append-nil}
-use Rattle.std.specs.List.{AllByRecursion}
-use Rattle.std.proofs.lemmas.Bool.{and_parts}
-use Rattle.wasm_base.specs.Numbers.{Mode, minimal}
-use Rattle.wasm_base.specs.Formats.{members}
-use Rattle.wasm_base.specs.Decoding.{Unambiguous, UnambiguousWhole, HasMinimalEncodings, UnambiguousPadded, UnambiguousWholePadded, BeginsWith}
-use Rattle.wasm_base.specs.Encodings.{IsEncodableVec}
-use Rattle.wasm_base.proofs.BaseLaws.{unambiguous_padded, unambiguous_whole_padded}
-use Rattle.wasm_base.proofs.FormatLaws.{members_whole}
-use Rattle.wasm_base.proofs.EncodingLaws.{tagged_encodes}
+use Rattle.wasm_base.proofs.Words.{◌≡◌, ℕ, ◌^◌, ◌<◌, List, [], ◌∷◌, ◌++◌, Bool, true, false, Some, ◌&&◌, refl, sym, ap, ◌∙◌, append-nil, AllByRecursion, and_parts, Mode, minimal, members, Unambiguous}
+use Rattle.wasm_base.proofs.Words.{UnambiguousWhole, HasMinimalEncodings, UnambiguousPadded, UnambiguousWholePadded, BeginsWith, IsEncodableVec, unambiguous_padded, unambiguous_whole_padded}
+use Rattle.wasm_base.proofs.Words.{members_whole, tagged_encodes}
 use Rattle.wasm_insn.specs.declared.op.Op.{Op}
+use Rattle.wasm_insn.specs.declared.instruction.Instruction.{Instruction}
+use Rattle.wasm_insn.specs.{op_encoding, parts_of, part, arguments, is_prefix, shape_of, IsOpcode, IsWellFormed, opcode, instruction, table, IsTableOp, IsOpcodeTable, BeginsNoOther, row_of}
+use Rattle.wasm_insn.specs.{IsWellFormedInstruction, DecodesInstruction, HaveOneEncoding, Argument, labels, unsigned, br_table_encoding}
+use Rattle.wasm_insn.specs.Words.{Plain}
+use Rattle.wasm_insn.specs.Plain.{Table}
 use Rattle.wasm_insn.specs.declared.op.Op.TheVariants.{Byte, Prefixed}
 use Rattle.wasm_insn.specs.declared.op.Shape.{Shape}
 use Rattle.wasm_insn.specs.declared.op.Shape.TheVariants.{Bt}
 use Rattle.wasm_insn.specs.declared.part.Part.{Part}
-use Rattle.wasm_insn.specs.declared.instruction.Instruction.{Instruction}
-use Rattle.wasm_insn.specs.Opcodes.{op_encoding}
-use Rattle.wasm_insn.specs.Parts.{parts_of}
-use Rattle.wasm_insn.specs.Plain.{Plain, part, arguments, Table, is_prefix, shape_of, IsOpcode, IsWellFormed, opcode, instruction}
-use Rattle.wasm_insn.specs.Table.{table, IsTableOp, IsOpcodeTable, BeginsNoOther}
-use Rattle.wasm_insn.specs.Instructions.{row_of, IsWellFormedInstruction, DecodesInstruction, HaveOneEncoding}
-use Rattle.wasm_insn.specs.Arguments.{Argument, labels, unsigned}
-use Rattle.wasm_insn.specs.Sink.{br_table_encoding}
 use Rattle.wasm_insn.proofs.PlainLaws.{opcode_unambiguous, opcode_encodes, instruction_unambiguous, plain_encodes, plain_unambiguous, same_encoding, padded-opcode}
 use Rattle.wasm_insn.proofs.TableRows.{is_op, op_is, instruction_row}
 use Rattle.wasm_insn.proofs.TableRuns.{byte_shape}

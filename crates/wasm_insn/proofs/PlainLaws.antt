@@ -1,31 +1,25 @@
 -- This file proves that instructions are unambiguous for every table, and that well-formed ones
 -- have their encoding.
-use Rattle.std.proofs.Common.{◌≡◌, ℕ, ◌+◌, ◌*◌, ◌^◌, ◌<◌, List, [], ◌∷◌, ◌++◌, Bool, true, false, Option, Some, None, refl, sym, ap, subst, arith}
-use Rattle.std.specs.Prelude.{map, ◌↔◌}
-use Rattle.wasm_base.specs.Numbers.{minimal, unsigned_encoding, padded, builders}
-use Rattle.wasm_base.specs.Formats.{u32, mapped, when}
-use Rattle.wasm_base.specs.Decoding.{DecodesUniquely, Unambiguous, UnambiguousPadded}
-use Rattle.wasm_base.specs.Types.{val_type, val_encoding, IsVal}
-use Rattle.wasm_base.proofs.FormatLaws.{IsInjective, DeterminesTag, same_pair, when_unambiguous, mapped_unambiguous, such_unambiguous, fixed_unambiguous, impossible_unambiguous, tagged_unambiguous, byte_unambiguous, little_endian_unambiguous, raw_bytes_unambiguous, pair_unambiguous, Then_unambiguous, vec_unambiguous}
-use Rattle.wasm_base.proofs.NumberLaws.{u32_unambiguous}
-use Rattle.wasm_base.proofs.BaseLaws.{s32_unambiguous, s64_unambiguous, unambiguous_padded}
-use Rattle.wasm_base.proofs.TypeLaws.{heap_unambiguous, val_unambiguous, heap-encodings, val-encodings}
-use Rattle.wasm_base.proofs.EncodingLaws.{decodes_uniquely, u32_encodes, s32_encodes, s64_encodes, little_endian_encodes, vec_encodes, tagged_encodes}
+use Rattle.wasm_base.proofs.Words.{◌≡◌, ℕ, ◌+◌, ◌*◌, ◌^◌, ◌<◌, List, [], ◌∷◌, ◌++◌, Bool, true, false, Option, Some, None, refl, sym, ap, subst, arith, ◌↔◌, minimal, unsigned_encoding, builders, u32}
+use Rattle.wasm_base.proofs.Words.{mapped, when, DecodesUniquely, Unambiguous, UnambiguousPadded, val_type, val_encoding, IsVal, IsInjective, DeterminesTag, same_pair, when_unambiguous}
+use Rattle.wasm_base.proofs.Words.{mapped_unambiguous, such_unambiguous, fixed_unambiguous, impossible_unambiguous, tagged_unambiguous, byte_unambiguous, little_endian_unambiguous}
+use Rattle.wasm_base.proofs.Words.{raw_bytes_unambiguous, pair_unambiguous, Then_unambiguous, vec_unambiguous, u32_unambiguous, s32_unambiguous, s64_unambiguous, unambiguous_padded}
+use Rattle.wasm_base.proofs.Words.{vector_unambiguous, heap_unambiguous, val_unambiguous, heap-encodings, val-encodings, decodes_uniquely, u32_encodes, s32_encodes, s64_encodes, little_endian_encodes}
+use Rattle.wasm_base.proofs.Words.{vec_encodes, tagged_encodes}
+use Rattle.wasm_base.specs.declared.types.RefType.{RefType}
+use Rattle.std.specs.Prelude.{map}
 use Rattle.wasm_insn.specs.declared.op.Op.{Op}
+use Rattle.wasm_insn.specs.{op_encoding, parts_of, Argument, unsigned, signed32, signed64, float32, float64, vector, memory, lane, lanes, block, heap, ordering, labels, catches, types, handles, flag}
+use Rattle.wasm_insn.specs.{part_of, argument_encoding, arguments_encoding, bit_of, cast_flag_of, IsWellFormed, plain_encoding, normal_argument, normal_arguments, normal, IsWellFormedArgument}
+use Rattle.wasm_insn.specs.{AreWellFormed, float32_of, float64_of, part, cons, arguments, is_prefix, IsOpcode, op_after, opcode, shape_of, arguments_after, plain_of, instruction}
+use Rattle.wasm_insn.specs.Words.{Plain}
+use Rattle.wasm_insn.specs.Plain.{Table}
 use Rattle.wasm_insn.specs.declared.op.Op.TheVariants.{Byte, Prefixed}
 use Rattle.wasm_insn.specs.declared.op.Shape.{Shape}
-use Rattle.wasm_immediates.specs.Immediates.{catch_encoding, handle_encoding}
-use Rattle.wasm_immediates.specs.ImmediateFormats.{normal_memory, IsWellFormedCatch, IsWellFormedHandle, catch, handle}
-use Rattle.wasm_immediates.proofs.ImmediateLaws.{ordering_unambiguous, mem_arg_unambiguous, block_unambiguous, catch_unambiguous, handle_unambiguous, vector_unambiguous}
-use Rattle.wasm_immediates.proofs.ImmediateEncodings.{memory_encodes, block_encodes, catch_encodes, handle_encodes, vector_encodes}
-use Rattle.wasm_insn.specs.Opcodes.{op_encoding}
-use Rattle.wasm_insn.specs.declared.part.Part.TheVariants as parts
+use Rattle.wasm_immediates.proofs.Words.{catch_encoding, handle_encoding, normal_memory, IsWellFormedCatch, IsWellFormedHandle, catch, handle, ordering_unambiguous, mem_arg_unambiguous}
+use Rattle.wasm_immediates.proofs.Words.{block_unambiguous, catch_unambiguous, handle_unambiguous, memory_encodes, block_encodes, catch_encodes, handle_encodes, vector_encodes}
 use Rattle.wasm_insn.specs.declared.part.Part.{Part}
-use Rattle.wasm_insn.specs.Parts.{parts_of}
-use Rattle.wasm_insn.specs.Arguments.{Argument, unsigned, signed32, signed64, float32, float64, vector, memory, lane, lanes, block, heap, ordering, labels, catches, types, handles, flag, part_of, argument_encoding, arguments_encoding}
-use Rattle.wasm_base.specs.declared.types.RefType.{RefType}
-use Rattle.wasm_insn.specs.Instructions.{bit_of, cast_flag_of}
-use Rattle.wasm_insn.specs.Plain.{Plain, IsWellFormed, plain_encoding, normal_argument, normal_arguments, normal, IsWellFormedArgument, AreWellFormed, float32_of, float64_of, part, cons, arguments, is_prefix, IsOpcode, op_after, opcode, Table, shape_of, arguments_after, plain_of, instruction}
+use Rattle.wasm_insn.specs.declared.part.Part.TheVariants as parts
 
 -- ---- opcodes
 

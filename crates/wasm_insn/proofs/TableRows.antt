@@ -1,36 +1,27 @@
 -- This file proves that each case of the enums is a row of the table.
-use Rattle.std.proofs.Common.{◌≡◌, ℕ, List, [], map, Bool, true, false, not, cond, eqb, ltb, ◌&&◌, ◌^◌, Option, Some, None, refl, ap, ◌∙◌}
-use Rattle.std.proofs.lemmas.Bool.{eqb-true, eqb-false, ltb-true, not-true, and_parts}
+use Rattle.wasm_base.proofs.Words.{◌≡◌, ℕ, List, [], map, Bool, true, false, not, cond, eqb, ltb, ◌&&◌, ◌^◌, Option, Some, None, refl, ap, ◌∙◌, eqb-true, eqb-false, ltb-true, not-true, and_parts}
 use Rattle.wasm_insn.specs.declared.op.Op.{Op}
+use Rattle.wasm_insn.specs.declared.instruction.Instruction.{Instruction}
+use Rattle.wasm_insn.specs.declared.numeric.Numeric.{Numeric}
+use Rattle.wasm_insn.specs.{parts_of, part_of, is_prefix, shape_of, row_of, one_byte, after_fb, after_fc, after_fd, after_fe, table, shape_in, IsTableOp, IsRow, numeric_number, aggregate_number}
+use Rattle.wasm_insn.specs.{prefixed_numeric_number, vector_number, vector_immediate_row, atomic_row}
+use Rattle.wasm_insn.specs.Words.{Plain}
 use Rattle.wasm_insn.specs.declared.op.Op.TheVariants.{Byte, Prefixed}
 use Rattle.wasm_insn.specs.declared.op.Shape.{Shape}
-use Rattle.wasm_insn.specs.declared.instruction.Instruction.{Instruction}
-use Rattle.wasm_insn.specs.declared.instruction.Instruction.TheVariants as cases
-use Rattle.wasm_insn.specs.declared.numeric.Numeric.{Numeric}
-use Rattle.wasm_insn.specs.declared.numeric.Numeric.TheVariants as numeric
 use Rattle.wasm_insn.specs.declared.aggregate.Aggregate.{Aggregate}
-use Rattle.wasm_insn.specs.declared.aggregate.Aggregate.TheVariants as aggregate
 use Rattle.wasm_insn.specs.declared.prefixed_numeric.PrefixedNumeric.{PrefixedNumeric}
-use Rattle.wasm_insn.specs.declared.prefixed_numeric.PrefixedNumeric.TheVariants as prefixed_numeric
 use Rattle.wasm_insn.specs.declared.vector.Vector.{Vector}
-use Rattle.wasm_insn.specs.declared.vector.Vector.TheVariants as vector
 use Rattle.wasm_insn.specs.declared.vector_immediate.VectorImmediate.{VectorImmediate}
-use Rattle.wasm_insn.specs.declared.vector_immediate.VectorImmediate.TheVariants as vector_immediate
 use Rattle.wasm_insn.specs.declared.atomic.Atomic.{Atomic}
-use Rattle.wasm_insn.specs.declared.atomic.Atomic.TheVariants as atomic
 use Rattle.wasm_insn.specs.declared.part.Part.{Part}
-use Rattle.wasm_insn.specs.Parts.{parts_of}
-use Rattle.wasm_insn.specs.Arguments.{part_of}
-use Rattle.wasm_insn.specs.Plain.{Plain, is_prefix, shape_of}
-use Rattle.wasm_insn.specs.Instructions.{row_of}
-use Rattle.wasm_insn.specs.Table.{one_byte, after_fb, after_fc, after_fd, after_fe, table, shape_in, IsTableOp, IsRow}
-use Rattle.wasm_insn.specs.Numeric.{numeric_number}
-use Rattle.wasm_insn.specs.Aggregate.{aggregate_number}
-use Rattle.wasm_insn.specs.PrefixedNumeric.{prefixed_numeric_number}
-use Rattle.wasm_insn.specs.Vector.{vector_number}
-use Rattle.wasm_insn.specs.VectorImmediate.{vector_immediate_row}
-use Rattle.wasm_insn.specs.Atomic.{atomic_row}
 use Rattle.wasm_insn.proofs.TableRuns.{byte_shape, fb_shape, fc_shape, fd_shape, fe_shape, no_prefix_shape}
+use Rattle.wasm_insn.specs.declared.instruction.Instruction.TheVariants as cases
+use Rattle.wasm_insn.specs.declared.numeric.Numeric.TheVariants as numeric
+use Rattle.wasm_insn.specs.declared.aggregate.Aggregate.TheVariants as aggregate
+use Rattle.wasm_insn.specs.declared.prefixed_numeric.PrefixedNumeric.TheVariants as prefixed_numeric
+use Rattle.wasm_insn.specs.declared.vector.Vector.TheVariants as vector
+use Rattle.wasm_insn.specs.declared.vector_immediate.VectorImmediate.TheVariants as vector_immediate
+use Rattle.wasm_insn.specs.declared.atomic.Atomic.TheVariants as atomic
 
 -- ---- a lookup by runs, for any opcode
 

@@ -1,14 +1,13 @@
 -- This file proves that a lookup in the table is a lookup in its runs.
-use Rattle.std.proofs.Common.{◌≡◌, ◌≢◌, ℕ, zero, suc, ◌+◌, ◌-◌, ◌<◌, ◌≤◌, ◌⊎◌, List, [], ◌∷◌, ◌++◌, map, Bool, true, false, eqb, leb, Option, Some, None, refl, sym, ap, ◌∙◌, arith, inl, inr, append_assoc}
-use Rattle.std.proofs.lemmas.Bool.{eqb-false, eq-eqb, cases_lt, ne_eqb, leb-true, leb-false, and_parts, and_cases}
-use Rattle.std.proofs.lemmas.Bool.Decides.{nat_tests}
-use Rattle.std.specs.List.{flat_map}
+use Rattle.wasm_base.proofs.Words.{◌≡◌, ◌≢◌, ℕ, zero, suc, ◌+◌, ◌-◌, ◌<◌, ◌≤◌, ◌⊎◌, List, [], ◌∷◌, ◌++◌, map, Bool, true, false, eqb, leb, Option, Some, None, refl, sym, ap, ◌∙◌, arith, inl, inr}
+use Rattle.wasm_base.proofs.Words.{append_assoc, eqb-false, cases_lt, ne_eqb, leb-true, leb-false, and_parts, and_cases, nat_tests, flat_map}
+use Rattle.std.proofs.lemmas.Bool.{eq-eqb}
 use Rattle.wasm_insn.specs.declared.op.Op.{Op}
+use Rattle.wasm_insn.specs.Plain.{Table}
+use Rattle.wasm_insn.specs.{same_op, shape_of, one_byte, after_fb, after_fc, after_fd, after_fe, count_up, rows_of, table_of, table, has_number, shape_in}
 use Rattle.wasm_insn.specs.declared.op.Op.TheVariants.{Byte, Prefixed}
 use Rattle.wasm_insn.specs.declared.op.Shape.{Shape}
 use Rattle.wasm_insn.specs.declared.table.Run.{Run}
-use Rattle.wasm_insn.specs.Plain.{Table, same_op, shape_of}
-use Rattle.wasm_insn.specs.Table.{one_byte, after_fb, after_fc, after_fd, after_fe, count_up, rows_of, table_of, table, has_number, shape_in}
 
 -- The first of two optional shapes that is there.
 abbrev or_else : Option Shape → Option Shape → Option Shape

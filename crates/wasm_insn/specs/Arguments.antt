@@ -1,8 +1,6 @@
 -- This file defines the immediates of an instruction and their encodings.
 use Rattle.std.specs.Prelude.{ℕ, ℤ, List, [], ◌∷◌, ◌++◌, ⊤}
-use Rattle.wasm_base.specs.Numbers.{unsigned_encoding, signed_encoding}
-use Rattle.wasm_base.specs.Encodings.{vec_encoding, IsEncodableVec, little_endian_encoding}
-use Rattle.wasm_base.specs.Types.{heap_encoding, val_encoding}
+use Rattle.wasm_base.specs.Words.{unsigned_encoding, signed_encoding, vec_encoding, IsEncodableVec, little_endian_encoding, heap_encoding, val_encoding}
 use Rattle.wasm_base.specs.declared.types.HeapType.{HeapType}
 use Rattle.wasm_base.specs.declared.types.ValType.{ValType}
 use Rattle.wasm_immediates.specs.declared.floats.Ieee32.{Ieee32}
@@ -12,9 +10,9 @@ use Rattle.wasm_immediates.specs.declared.memory.MemArg.{MemArg}
 use Rattle.wasm_immediates.specs.declared.block_type.BlockType.{BlockType}
 use Rattle.wasm_immediates.specs.declared.control.Catch.{Catch}
 use Rattle.wasm_immediates.specs.declared.control.Handle.{Handle}
-use Rattle.wasm_immediates.specs.Immediates.{ordering_code, mem_arg_encoding, block_encoding, catch_encoding, handle_encoding, vector_encoding}
-use Rattle.wasm_insn.specs.declared.part.Part.TheVariants as parts
+use Rattle.wasm_immediates.specs.Words.{ordering_code, mem_arg_encoding, block_encoding, catch_encoding, handle_encoding, vector_encoding}
 use Rattle.wasm_insn.specs.declared.part.Part.{Part}
+use Rattle.wasm_insn.specs.declared.part.Part.TheVariants as parts
 
 -- An immediate of an instruction, or a list of immediates.
 pub data Argument : Type 0 where

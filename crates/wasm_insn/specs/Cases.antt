@@ -13,6 +13,10 @@ use Rattle.wasm_immediates.specs.declared.floats.Ieee64.{Ieee64}
 use Rattle.wasm_immediates.specs.declared.memory.MemArg.{MemArg}
 use Rattle.wasm_immediates.specs.declared.memory.Ordering.{Ordering}
 use Rattle.wasm_insn.specs.declared.instruction.Instruction.{Instruction}
+use Rattle.wasm_insn.specs.Arguments.{part_of}
+use Rattle.wasm_insn.specs.Instructions.{row_of}
+use Rattle.wasm_insn.specs.Parts.{parts_of}
+use Rattle.wasm_insn.specs.Plain.{Table}
 use Rattle.wasm_insn.specs.declared.instruction.Instruction.TheVariants as cases
 use Rattle.wasm_insn.specs.declared.numeric.Numeric.TheVariants as numeric
 use Rattle.wasm_insn.specs.declared.aggregate.Aggregate.TheVariants as aggregate
@@ -20,10 +24,6 @@ use Rattle.wasm_insn.specs.declared.prefixed_numeric.PrefixedNumeric.TheVariants
 use Rattle.wasm_insn.specs.declared.vector.Vector.TheVariants as vector
 use Rattle.wasm_insn.specs.declared.vector_immediate.VectorImmediate.TheVariants as vector_immediate
 use Rattle.wasm_insn.specs.declared.atomic.Atomic.TheVariants as atomic
-use Rattle.wasm_insn.specs.Arguments.{part_of}
-use Rattle.wasm_insn.specs.Instructions.{row_of}
-use Rattle.wasm_insn.specs.Parts.{parts_of}
-use Rattle.wasm_insn.specs.Plain.{Table}
 
 -- The fields of the cases in `all_cases`.
 pub record Given (A : Type 0) : Type 0 where

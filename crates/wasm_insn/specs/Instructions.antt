@@ -1,14 +1,13 @@
 -- This file defines the opcode and immediates of every instruction, and the encoding of
 -- instructions. Core specification, Binary Format, Instructions.
 use Rattle.std.specs.Prelude.{◌≡◌, ◌↔◌, ℕ, ◌+◌, ◌*◌, List, [], ◌∷◌, Bool, true, false}
-use Rattle.wasm_base.specs.Decoding.{DecodesUniquely}
+use Rattle.wasm_base.specs.Words.{DecodesUniquely, items_of}
+use Rattle.wasm_base.specs.declared.types.RefType.{RefType}
 use Rattle.wasm_insn.specs.declared.instruction.Instruction.{Instruction}
 -- begin: written by tools/instructions
-use Rattle.wasm_insn.specs.declared.instruction.Instruction.TheVariants.{Unreachable, Nop, Block, Loop, If, Else, Try, Catch, Throw, Rethrow, ThrowRef, End, Br, BrIf, BrTable, Return, Call, CallIndirect, ReturnCall, ReturnCallIndirect, CallRef, ReturnCallRef, Delegate, CatchAll, Drop, Select, TypedSelect, TypedSelectMulti, TryTable, LocalGet, LocalSet, LocalTee, GlobalGet, GlobalSet, TableGet, TableSet, I32Load, I64Load, F32Load, F64Load, I32Load8S, I32Load8U, I32Load16S, I32Load16U, I64Load8S, I64Load8U, I64Load16S, I64Load16U, I64Load32S, I64Load32U, I32Store, I64Store, F32Store, F64Store, I32Store8, I32Store16, I64Store8, I64Store16, I64Store32, MemorySize, MemoryGrow, I32Const, I64Const, F32Const, F64Const, RefNull, RefIsNull, RefFunc, RefEq, RefAsNonNull, BrOnNull, BrOnNonNull, ContNew, ContBind, Suspend, Resume, ResumeThrow, ResumeThrowRef, Switch, StructNew, StructNewDefault, StructGet, StructGetS, StructGetU, StructSet, ArrayNew, ArrayNewDefault, ArrayNewFixed, ArrayNewData, ArrayNewElem, ArrayGet, ArrayGetS, ArrayGetU, ArraySet, ArrayFill, ArrayCopy, ArrayInitData, ArrayInitElem, RefTestNonNull, RefTestNullable, RefCastNonNull, RefCastNullable, BrOnCast, BrOnCastFail, StructNewDesc, StructNewDefaultDesc, RefGetDesc, RefCastDescEqNonNull, RefCastDescEqNullable, BrOnCastDescEq, BrOnCastDescEqFail, MemoryInit, DataDrop, MemoryCopy, MemoryFill, TableInit, ElemDrop, TableCopy, TableGrow, TableSize, TableFill, MemoryDiscard, Numeric, Aggregate, PrefixedNumeric, Vector, VectorImmediate, Atomic}
+use Rattle.wasm_insn.specs.declared.instruction.Instruction.TheVariants as cases
 -- end: written by tools/instructions
 use Rattle.wasm_insn.specs.declared.op.Op.TheVariants.{Byte, Prefixed}
-use Rattle.wasm_base.specs.declared.types.RefType.{RefType}
-use Rattle.wasm_base.specs.Cow.{items_of}
 use Rattle.wasm_insn.specs.Arguments.{arguments_encodable, unsigned, signed32, signed64, float32, float64, memory, block, heap, labels, catches, types, handles, flag}
 use Rattle.wasm_insn.specs.Plain.{Plain, plain_encoding, normal, instruction, AreWellFormed, HaveSmallAlignments}
 use Rattle.wasm_insn.specs.Table.{table}
@@ -31,134 +30,134 @@ cast_flag_of from to = bit_of from.nullable + 2 * bit_of to.nullable
 -- The opcode and the immediates of an instruction.
 abbrev pub row_of : {A : Type 0} → Instruction A → Plain
 -- begin: written by tools/instructions
-row_of Unreachable = record { op = Byte 0x00; arguments = [] }
-row_of Nop = record { op = Byte 0x01; arguments = [] }
-row_of (Block a) = record { op = Byte 0x02; arguments = block a ∷ [] }
-row_of (Loop a) = record { op = Byte 0x03; arguments = block a ∷ [] }
-row_of (If a) = record { op = Byte 0x04; arguments = block a ∷ [] }
-row_of Else = record { op = Byte 0x05; arguments = [] }
-row_of (Try a) = record { op = Byte 0x06; arguments = block a ∷ [] }
-row_of (Catch a) = record { op = Byte 0x07; arguments = unsigned a ∷ [] }
-row_of (Throw a) = record { op = Byte 0x08; arguments = unsigned a ∷ [] }
-row_of (Rethrow a) = record { op = Byte 0x09; arguments = unsigned a ∷ [] }
-row_of ThrowRef = record { op = Byte 0x0A; arguments = [] }
-row_of End = record { op = Byte 0x0B; arguments = [] }
-row_of (Br a) = record { op = Byte 0x0C; arguments = unsigned a ∷ [] }
-row_of (BrIf a) = record { op = Byte 0x0D; arguments = unsigned a ∷ [] }
-row_of (BrTable a b) = record { op = Byte 0x0E; arguments = labels (items_of a) ∷ unsigned b ∷ [] }
-row_of Return = record { op = Byte 0x0F; arguments = [] }
-row_of (Call a) = record { op = Byte 0x10; arguments = unsigned a ∷ [] }
-row_of (CallIndirect a b) = record { op = Byte 0x11; arguments = unsigned a ∷ unsigned b ∷ [] }
-row_of (ReturnCall a) = record { op = Byte 0x12; arguments = unsigned a ∷ [] }
-row_of (ReturnCallIndirect a b) = record { op = Byte 0x13; arguments = unsigned a ∷ unsigned b ∷ [] }
-row_of (CallRef a) = record { op = Byte 0x14; arguments = unsigned a ∷ [] }
-row_of (ReturnCallRef a) = record { op = Byte 0x15; arguments = unsigned a ∷ [] }
-row_of (Delegate a) = record { op = Byte 0x18; arguments = unsigned a ∷ [] }
-row_of CatchAll = record { op = Byte 0x19; arguments = [] }
-row_of Drop = record { op = Byte 0x1A; arguments = [] }
-row_of Select = record { op = Byte 0x1B; arguments = [] }
-row_of (TypedSelect a) = record { op = Byte 0x1C; arguments = types (a ∷ []) ∷ [] }
-row_of (TypedSelectMulti a) = record { op = Byte 0x1C; arguments = types (items_of a) ∷ [] }
-row_of (TryTable a b) = record { op = Byte 0x1F; arguments = block a ∷ catches (items_of b) ∷ [] }
-row_of (LocalGet a) = record { op = Byte 0x20; arguments = unsigned a ∷ [] }
-row_of (LocalSet a) = record { op = Byte 0x21; arguments = unsigned a ∷ [] }
-row_of (LocalTee a) = record { op = Byte 0x22; arguments = unsigned a ∷ [] }
-row_of (GlobalGet a) = record { op = Byte 0x23; arguments = unsigned a ∷ [] }
-row_of (GlobalSet a) = record { op = Byte 0x24; arguments = unsigned a ∷ [] }
-row_of (TableGet a) = record { op = Byte 0x25; arguments = unsigned a ∷ [] }
-row_of (TableSet a) = record { op = Byte 0x26; arguments = unsigned a ∷ [] }
-row_of (I32Load a) = record { op = Byte 0x28; arguments = memory a ∷ [] }
-row_of (I64Load a) = record { op = Byte 0x29; arguments = memory a ∷ [] }
-row_of (F32Load a) = record { op = Byte 0x2A; arguments = memory a ∷ [] }
-row_of (F64Load a) = record { op = Byte 0x2B; arguments = memory a ∷ [] }
-row_of (I32Load8S a) = record { op = Byte 0x2C; arguments = memory a ∷ [] }
-row_of (I32Load8U a) = record { op = Byte 0x2D; arguments = memory a ∷ [] }
-row_of (I32Load16S a) = record { op = Byte 0x2E; arguments = memory a ∷ [] }
-row_of (I32Load16U a) = record { op = Byte 0x2F; arguments = memory a ∷ [] }
-row_of (I64Load8S a) = record { op = Byte 0x30; arguments = memory a ∷ [] }
-row_of (I64Load8U a) = record { op = Byte 0x31; arguments = memory a ∷ [] }
-row_of (I64Load16S a) = record { op = Byte 0x32; arguments = memory a ∷ [] }
-row_of (I64Load16U a) = record { op = Byte 0x33; arguments = memory a ∷ [] }
-row_of (I64Load32S a) = record { op = Byte 0x34; arguments = memory a ∷ [] }
-row_of (I64Load32U a) = record { op = Byte 0x35; arguments = memory a ∷ [] }
-row_of (I32Store a) = record { op = Byte 0x36; arguments = memory a ∷ [] }
-row_of (I64Store a) = record { op = Byte 0x37; arguments = memory a ∷ [] }
-row_of (F32Store a) = record { op = Byte 0x38; arguments = memory a ∷ [] }
-row_of (F64Store a) = record { op = Byte 0x39; arguments = memory a ∷ [] }
-row_of (I32Store8 a) = record { op = Byte 0x3A; arguments = memory a ∷ [] }
-row_of (I32Store16 a) = record { op = Byte 0x3B; arguments = memory a ∷ [] }
-row_of (I64Store8 a) = record { op = Byte 0x3C; arguments = memory a ∷ [] }
-row_of (I64Store16 a) = record { op = Byte 0x3D; arguments = memory a ∷ [] }
-row_of (I64Store32 a) = record { op = Byte 0x3E; arguments = memory a ∷ [] }
-row_of (MemorySize a) = record { op = Byte 0x3F; arguments = unsigned a ∷ [] }
-row_of (MemoryGrow a) = record { op = Byte 0x40; arguments = unsigned a ∷ [] }
-row_of (I32Const a) = record { op = Byte 0x41; arguments = signed32 a ∷ [] }
-row_of (I64Const a) = record { op = Byte 0x42; arguments = signed64 a ∷ [] }
-row_of (F32Const a) = record { op = Byte 0x43; arguments = float32 a ∷ [] }
-row_of (F64Const a) = record { op = Byte 0x44; arguments = float64 a ∷ [] }
-row_of (RefNull a) = record { op = Byte 0xD0; arguments = heap a ∷ [] }
-row_of RefIsNull = record { op = Byte 0xD1; arguments = [] }
-row_of (RefFunc a) = record { op = Byte 0xD2; arguments = unsigned a ∷ [] }
-row_of RefEq = record { op = Byte 0xD3; arguments = [] }
-row_of RefAsNonNull = record { op = Byte 0xD4; arguments = [] }
-row_of (BrOnNull a) = record { op = Byte 0xD5; arguments = unsigned a ∷ [] }
-row_of (BrOnNonNull a) = record { op = Byte 0xD6; arguments = unsigned a ∷ [] }
-row_of (ContNew a) = record { op = Byte 0xE0; arguments = unsigned a ∷ [] }
-row_of (ContBind a b) = record { op = Byte 0xE1; arguments = unsigned a ∷ unsigned b ∷ [] }
-row_of (Suspend a) = record { op = Byte 0xE2; arguments = unsigned a ∷ [] }
-row_of (Resume a b) = record { op = Byte 0xE3; arguments = unsigned a ∷ handles (items_of b) ∷ [] }
-row_of (ResumeThrow a b c) = record { op = Byte 0xE4; arguments = unsigned a ∷ unsigned b ∷ handles (items_of c) ∷ [] }
-row_of (ResumeThrowRef a b) = record { op = Byte 0xE5; arguments = unsigned a ∷ handles (items_of b) ∷ [] }
-row_of (Switch a b) = record { op = Byte 0xE6; arguments = unsigned a ∷ unsigned b ∷ [] }
-row_of (StructNew a) = record { op = Prefixed 0xFB 0; arguments = unsigned a ∷ [] }
-row_of (StructNewDefault a) = record { op = Prefixed 0xFB 1; arguments = unsigned a ∷ [] }
-row_of (StructGet a b) = record { op = Prefixed 0xFB 2; arguments = unsigned a ∷ unsigned b ∷ [] }
-row_of (StructGetS a b) = record { op = Prefixed 0xFB 3; arguments = unsigned a ∷ unsigned b ∷ [] }
-row_of (StructGetU a b) = record { op = Prefixed 0xFB 4; arguments = unsigned a ∷ unsigned b ∷ [] }
-row_of (StructSet a b) = record { op = Prefixed 0xFB 5; arguments = unsigned a ∷ unsigned b ∷ [] }
-row_of (ArrayNew a) = record { op = Prefixed 0xFB 6; arguments = unsigned a ∷ [] }
-row_of (ArrayNewDefault a) = record { op = Prefixed 0xFB 7; arguments = unsigned a ∷ [] }
-row_of (ArrayNewFixed a b) = record { op = Prefixed 0xFB 8; arguments = unsigned a ∷ unsigned b ∷ [] }
-row_of (ArrayNewData a b) = record { op = Prefixed 0xFB 9; arguments = unsigned a ∷ unsigned b ∷ [] }
-row_of (ArrayNewElem a b) = record { op = Prefixed 0xFB 10; arguments = unsigned a ∷ unsigned b ∷ [] }
-row_of (ArrayGet a) = record { op = Prefixed 0xFB 11; arguments = unsigned a ∷ [] }
-row_of (ArrayGetS a) = record { op = Prefixed 0xFB 12; arguments = unsigned a ∷ [] }
-row_of (ArrayGetU a) = record { op = Prefixed 0xFB 13; arguments = unsigned a ∷ [] }
-row_of (ArraySet a) = record { op = Prefixed 0xFB 14; arguments = unsigned a ∷ [] }
-row_of (ArrayFill a) = record { op = Prefixed 0xFB 16; arguments = unsigned a ∷ [] }
-row_of (ArrayCopy a b) = record { op = Prefixed 0xFB 17; arguments = unsigned a ∷ unsigned b ∷ [] }
-row_of (ArrayInitData a b) = record { op = Prefixed 0xFB 18; arguments = unsigned a ∷ unsigned b ∷ [] }
-row_of (ArrayInitElem a b) = record { op = Prefixed 0xFB 19; arguments = unsigned a ∷ unsigned b ∷ [] }
-row_of (RefTestNonNull a) = record { op = Prefixed 0xFB 20; arguments = heap a ∷ [] }
-row_of (RefTestNullable a) = record { op = Prefixed 0xFB 21; arguments = heap a ∷ [] }
-row_of (RefCastNonNull a) = record { op = Prefixed 0xFB 22; arguments = heap a ∷ [] }
-row_of (RefCastNullable a) = record { op = Prefixed 0xFB 23; arguments = heap a ∷ [] }
-row_of (BrOnCast a b c) = record { op = Prefixed 0xFB 24; arguments = flag (cast_flag_of b c) ∷ unsigned a ∷ heap b.heap_type ∷ heap c.heap_type ∷ [] }
-row_of (BrOnCastFail a b c) = record { op = Prefixed 0xFB 25; arguments = flag (cast_flag_of b c) ∷ unsigned a ∷ heap b.heap_type ∷ heap c.heap_type ∷ [] }
-row_of (StructNewDesc a) = record { op = Prefixed 0xFB 32; arguments = unsigned a ∷ [] }
-row_of (StructNewDefaultDesc a) = record { op = Prefixed 0xFB 33; arguments = unsigned a ∷ [] }
-row_of (RefGetDesc a) = record { op = Prefixed 0xFB 34; arguments = unsigned a ∷ [] }
-row_of (RefCastDescEqNonNull a) = record { op = Prefixed 0xFB 35; arguments = heap a ∷ [] }
-row_of (RefCastDescEqNullable a) = record { op = Prefixed 0xFB 36; arguments = heap a ∷ [] }
-row_of (BrOnCastDescEq a b c) = record { op = Prefixed 0xFB 37; arguments = flag (cast_flag_of b c) ∷ unsigned a ∷ heap b.heap_type ∷ heap c.heap_type ∷ [] }
-row_of (BrOnCastDescEqFail a b c) = record { op = Prefixed 0xFB 38; arguments = flag (cast_flag_of b c) ∷ unsigned a ∷ heap b.heap_type ∷ heap c.heap_type ∷ [] }
-row_of (MemoryInit a b) = record { op = Prefixed 0xFC 8; arguments = unsigned a ∷ unsigned b ∷ [] }
-row_of (DataDrop a) = record { op = Prefixed 0xFC 9; arguments = unsigned a ∷ [] }
-row_of (MemoryCopy a b) = record { op = Prefixed 0xFC 10; arguments = unsigned a ∷ unsigned b ∷ [] }
-row_of (MemoryFill a) = record { op = Prefixed 0xFC 11; arguments = unsigned a ∷ [] }
-row_of (TableInit a b) = record { op = Prefixed 0xFC 12; arguments = unsigned a ∷ unsigned b ∷ [] }
-row_of (ElemDrop a) = record { op = Prefixed 0xFC 13; arguments = unsigned a ∷ [] }
-row_of (TableCopy a b) = record { op = Prefixed 0xFC 14; arguments = unsigned a ∷ unsigned b ∷ [] }
-row_of (TableGrow a) = record { op = Prefixed 0xFC 15; arguments = unsigned a ∷ [] }
-row_of (TableSize a) = record { op = Prefixed 0xFC 16; arguments = unsigned a ∷ [] }
-row_of (TableFill a) = record { op = Prefixed 0xFC 17; arguments = unsigned a ∷ [] }
-row_of (MemoryDiscard a) = record { op = Prefixed 0xFC 18; arguments = unsigned a ∷ [] }
-row_of (Numeric i) = record { op = Byte (numeric_number i); arguments = [] }
-row_of (Aggregate i) = record { op = Prefixed 0xFB (aggregate_number i); arguments = [] }
-row_of (PrefixedNumeric i) = record { op = Prefixed 0xFC (prefixed_numeric_number i); arguments = [] }
-row_of (Vector i) = record { op = Prefixed 0xFD (vector_number i); arguments = [] }
-row_of (VectorImmediate i) = vector_immediate_row i
-row_of (Atomic i) = atomic_row i
+row_of cases.Unreachable = record { op = Byte 0x00; arguments = [] }
+row_of cases.Nop = record { op = Byte 0x01; arguments = [] }
+row_of (cases.Block a) = record { op = Byte 0x02; arguments = block a ∷ [] }
+row_of (cases.Loop a) = record { op = Byte 0x03; arguments = block a ∷ [] }
+row_of (cases.If a) = record { op = Byte 0x04; arguments = block a ∷ [] }
+row_of cases.Else = record { op = Byte 0x05; arguments = [] }
+row_of (cases.Try a) = record { op = Byte 0x06; arguments = block a ∷ [] }
+row_of (cases.Catch a) = record { op = Byte 0x07; arguments = unsigned a ∷ [] }
+row_of (cases.Throw a) = record { op = Byte 0x08; arguments = unsigned a ∷ [] }
+row_of (cases.Rethrow a) = record { op = Byte 0x09; arguments = unsigned a ∷ [] }
+row_of cases.ThrowRef = record { op = Byte 0x0A; arguments = [] }
+row_of cases.End = record { op = Byte 0x0B; arguments = [] }
+row_of (cases.Br a) = record { op = Byte 0x0C; arguments = unsigned a ∷ [] }
+row_of (cases.BrIf a) = record { op = Byte 0x0D; arguments = unsigned a ∷ [] }
+row_of (cases.BrTable a b) = record { op = Byte 0x0E; arguments = labels (items_of a) ∷ unsigned b ∷ [] }
+row_of cases.Return = record { op = Byte 0x0F; arguments = [] }
+row_of (cases.Call a) = record { op = Byte 0x10; arguments = unsigned a ∷ [] }
+row_of (cases.CallIndirect a b) = record { op = Byte 0x11; arguments = unsigned a ∷ unsigned b ∷ [] }
+row_of (cases.ReturnCall a) = record { op = Byte 0x12; arguments = unsigned a ∷ [] }
+row_of (cases.ReturnCallIndirect a b) = record { op = Byte 0x13; arguments = unsigned a ∷ unsigned b ∷ [] }
+row_of (cases.CallRef a) = record { op = Byte 0x14; arguments = unsigned a ∷ [] }
+row_of (cases.ReturnCallRef a) = record { op = Byte 0x15; arguments = unsigned a ∷ [] }
+row_of (cases.Delegate a) = record { op = Byte 0x18; arguments = unsigned a ∷ [] }
+row_of cases.CatchAll = record { op = Byte 0x19; arguments = [] }
+row_of cases.Drop = record { op = Byte 0x1A; arguments = [] }
+row_of cases.Select = record { op = Byte 0x1B; arguments = [] }
+row_of (cases.TypedSelect a) = record { op = Byte 0x1C; arguments = types (a ∷ []) ∷ [] }
+row_of (cases.TypedSelectMulti a) = record { op = Byte 0x1C; arguments = types (items_of a) ∷ [] }
+row_of (cases.TryTable a b) = record { op = Byte 0x1F; arguments = block a ∷ catches (items_of b) ∷ [] }
+row_of (cases.LocalGet a) = record { op = Byte 0x20; arguments = unsigned a ∷ [] }
+row_of (cases.LocalSet a) = record { op = Byte 0x21; arguments = unsigned a ∷ [] }
+row_of (cases.LocalTee a) = record { op = Byte 0x22; arguments = unsigned a ∷ [] }
+row_of (cases.GlobalGet a) = record { op = Byte 0x23; arguments = unsigned a ∷ [] }
+row_of (cases.GlobalSet a) = record { op = Byte 0x24; arguments = unsigned a ∷ [] }
+row_of (cases.TableGet a) = record { op = Byte 0x25; arguments = unsigned a ∷ [] }
+row_of (cases.TableSet a) = record { op = Byte 0x26; arguments = unsigned a ∷ [] }
+row_of (cases.I32Load a) = record { op = Byte 0x28; arguments = memory a ∷ [] }
+row_of (cases.I64Load a) = record { op = Byte 0x29; arguments = memory a ∷ [] }
+row_of (cases.F32Load a) = record { op = Byte 0x2A; arguments = memory a ∷ [] }
+row_of (cases.F64Load a) = record { op = Byte 0x2B; arguments = memory a ∷ [] }
+row_of (cases.I32Load8S a) = record { op = Byte 0x2C; arguments = memory a ∷ [] }
+row_of (cases.I32Load8U a) = record { op = Byte 0x2D; arguments = memory a ∷ [] }
+row_of (cases.I32Load16S a) = record { op = Byte 0x2E; arguments = memory a ∷ [] }
+row_of (cases.I32Load16U a) = record { op = Byte 0x2F; arguments = memory a ∷ [] }
+row_of (cases.I64Load8S a) = record { op = Byte 0x30; arguments = memory a ∷ [] }
+row_of (cases.I64Load8U a) = record { op = Byte 0x31; arguments = memory a ∷ [] }
+row_of (cases.I64Load16S a) = record { op = Byte 0x32; arguments = memory a ∷ [] }
+row_of (cases.I64Load16U a) = record { op = Byte 0x33; arguments = memory a ∷ [] }
+row_of (cases.I64Load32S a) = record { op = Byte 0x34; arguments = memory a ∷ [] }
+row_of (cases.I64Load32U a) = record { op = Byte 0x35; arguments = memory a ∷ [] }
+row_of (cases.I32Store a) = record { op = Byte 0x36; arguments = memory a ∷ [] }
+row_of (cases.I64Store a) = record { op = Byte 0x37; arguments = memory a ∷ [] }
+row_of (cases.F32Store a) = record { op = Byte 0x38; arguments = memory a ∷ [] }
+row_of (cases.F64Store a) = record { op = Byte 0x39; arguments = memory a ∷ [] }
+row_of (cases.I32Store8 a) = record { op = Byte 0x3A; arguments = memory a ∷ [] }
+row_of (cases.I32Store16 a) = record { op = Byte 0x3B; arguments = memory a ∷ [] }
+row_of (cases.I64Store8 a) = record { op = Byte 0x3C; arguments = memory a ∷ [] }
+row_of (cases.I64Store16 a) = record { op = Byte 0x3D; arguments = memory a ∷ [] }
+row_of (cases.I64Store32 a) = record { op = Byte 0x3E; arguments = memory a ∷ [] }
+row_of (cases.MemorySize a) = record { op = Byte 0x3F; arguments = unsigned a ∷ [] }
+row_of (cases.MemoryGrow a) = record { op = Byte 0x40; arguments = unsigned a ∷ [] }
+row_of (cases.I32Const a) = record { op = Byte 0x41; arguments = signed32 a ∷ [] }
+row_of (cases.I64Const a) = record { op = Byte 0x42; arguments = signed64 a ∷ [] }
+row_of (cases.F32Const a) = record { op = Byte 0x43; arguments = float32 a ∷ [] }
+row_of (cases.F64Const a) = record { op = Byte 0x44; arguments = float64 a ∷ [] }
+row_of (cases.RefNull a) = record { op = Byte 0xD0; arguments = heap a ∷ [] }
+row_of cases.RefIsNull = record { op = Byte 0xD1; arguments = [] }
+row_of (cases.RefFunc a) = record { op = Byte 0xD2; arguments = unsigned a ∷ [] }
+row_of cases.RefEq = record { op = Byte 0xD3; arguments = [] }
+row_of cases.RefAsNonNull = record { op = Byte 0xD4; arguments = [] }
+row_of (cases.BrOnNull a) = record { op = Byte 0xD5; arguments = unsigned a ∷ [] }
+row_of (cases.BrOnNonNull a) = record { op = Byte 0xD6; arguments = unsigned a ∷ [] }
+row_of (cases.ContNew a) = record { op = Byte 0xE0; arguments = unsigned a ∷ [] }
+row_of (cases.ContBind a b) = record { op = Byte 0xE1; arguments = unsigned a ∷ unsigned b ∷ [] }
+row_of (cases.Suspend a) = record { op = Byte 0xE2; arguments = unsigned a ∷ [] }
+row_of (cases.Resume a b) = record { op = Byte 0xE3; arguments = unsigned a ∷ handles (items_of b) ∷ [] }
+row_of (cases.ResumeThrow a b c) = record { op = Byte 0xE4; arguments = unsigned a ∷ unsigned b ∷ handles (items_of c) ∷ [] }
+row_of (cases.ResumeThrowRef a b) = record { op = Byte 0xE5; arguments = unsigned a ∷ handles (items_of b) ∷ [] }
+row_of (cases.Switch a b) = record { op = Byte 0xE6; arguments = unsigned a ∷ unsigned b ∷ [] }
+row_of (cases.StructNew a) = record { op = Prefixed 0xFB 0; arguments = unsigned a ∷ [] }
+row_of (cases.StructNewDefault a) = record { op = Prefixed 0xFB 1; arguments = unsigned a ∷ [] }
+row_of (cases.StructGet a b) = record { op = Prefixed 0xFB 2; arguments = unsigned a ∷ unsigned b ∷ [] }
+row_of (cases.StructGetS a b) = record { op = Prefixed 0xFB 3; arguments = unsigned a ∷ unsigned b ∷ [] }
+row_of (cases.StructGetU a b) = record { op = Prefixed 0xFB 4; arguments = unsigned a ∷ unsigned b ∷ [] }
+row_of (cases.StructSet a b) = record { op = Prefixed 0xFB 5; arguments = unsigned a ∷ unsigned b ∷ [] }
+row_of (cases.ArrayNew a) = record { op = Prefixed 0xFB 6; arguments = unsigned a ∷ [] }
+row_of (cases.ArrayNewDefault a) = record { op = Prefixed 0xFB 7; arguments = unsigned a ∷ [] }
+row_of (cases.ArrayNewFixed a b) = record { op = Prefixed 0xFB 8; arguments = unsigned a ∷ unsigned b ∷ [] }
+row_of (cases.ArrayNewData a b) = record { op = Prefixed 0xFB 9; arguments = unsigned a ∷ unsigned b ∷ [] }
+row_of (cases.ArrayNewElem a b) = record { op = Prefixed 0xFB 10; arguments = unsigned a ∷ unsigned b ∷ [] }
+row_of (cases.ArrayGet a) = record { op = Prefixed 0xFB 11; arguments = unsigned a ∷ [] }
+row_of (cases.ArrayGetS a) = record { op = Prefixed 0xFB 12; arguments = unsigned a ∷ [] }
+row_of (cases.ArrayGetU a) = record { op = Prefixed 0xFB 13; arguments = unsigned a ∷ [] }
+row_of (cases.ArraySet a) = record { op = Prefixed 0xFB 14; arguments = unsigned a ∷ [] }
+row_of (cases.ArrayFill a) = record { op = Prefixed 0xFB 16; arguments = unsigned a ∷ [] }
+row_of (cases.ArrayCopy a b) = record { op = Prefixed 0xFB 17; arguments = unsigned a ∷ unsigned b ∷ [] }
+row_of (cases.ArrayInitData a b) = record { op = Prefixed 0xFB 18; arguments = unsigned a ∷ unsigned b ∷ [] }
+row_of (cases.ArrayInitElem a b) = record { op = Prefixed 0xFB 19; arguments = unsigned a ∷ unsigned b ∷ [] }
+row_of (cases.RefTestNonNull a) = record { op = Prefixed 0xFB 20; arguments = heap a ∷ [] }
+row_of (cases.RefTestNullable a) = record { op = Prefixed 0xFB 21; arguments = heap a ∷ [] }
+row_of (cases.RefCastNonNull a) = record { op = Prefixed 0xFB 22; arguments = heap a ∷ [] }
+row_of (cases.RefCastNullable a) = record { op = Prefixed 0xFB 23; arguments = heap a ∷ [] }
+row_of (cases.BrOnCast a b c) = record { op = Prefixed 0xFB 24; arguments = flag (cast_flag_of b c) ∷ unsigned a ∷ heap b.heap_type ∷ heap c.heap_type ∷ [] }
+row_of (cases.BrOnCastFail a b c) = record { op = Prefixed 0xFB 25; arguments = flag (cast_flag_of b c) ∷ unsigned a ∷ heap b.heap_type ∷ heap c.heap_type ∷ [] }
+row_of (cases.StructNewDesc a) = record { op = Prefixed 0xFB 32; arguments = unsigned a ∷ [] }
+row_of (cases.StructNewDefaultDesc a) = record { op = Prefixed 0xFB 33; arguments = unsigned a ∷ [] }
+row_of (cases.RefGetDesc a) = record { op = Prefixed 0xFB 34; arguments = unsigned a ∷ [] }
+row_of (cases.RefCastDescEqNonNull a) = record { op = Prefixed 0xFB 35; arguments = heap a ∷ [] }
+row_of (cases.RefCastDescEqNullable a) = record { op = Prefixed 0xFB 36; arguments = heap a ∷ [] }
+row_of (cases.BrOnCastDescEq a b c) = record { op = Prefixed 0xFB 37; arguments = flag (cast_flag_of b c) ∷ unsigned a ∷ heap b.heap_type ∷ heap c.heap_type ∷ [] }
+row_of (cases.BrOnCastDescEqFail a b c) = record { op = Prefixed 0xFB 38; arguments = flag (cast_flag_of b c) ∷ unsigned a ∷ heap b.heap_type ∷ heap c.heap_type ∷ [] }
+row_of (cases.MemoryInit a b) = record { op = Prefixed 0xFC 8; arguments = unsigned a ∷ unsigned b ∷ [] }
+row_of (cases.DataDrop a) = record { op = Prefixed 0xFC 9; arguments = unsigned a ∷ [] }
+row_of (cases.MemoryCopy a b) = record { op = Prefixed 0xFC 10; arguments = unsigned a ∷ unsigned b ∷ [] }
+row_of (cases.MemoryFill a) = record { op = Prefixed 0xFC 11; arguments = unsigned a ∷ [] }
+row_of (cases.TableInit a b) = record { op = Prefixed 0xFC 12; arguments = unsigned a ∷ unsigned b ∷ [] }
+row_of (cases.ElemDrop a) = record { op = Prefixed 0xFC 13; arguments = unsigned a ∷ [] }
+row_of (cases.TableCopy a b) = record { op = Prefixed 0xFC 14; arguments = unsigned a ∷ unsigned b ∷ [] }
+row_of (cases.TableGrow a) = record { op = Prefixed 0xFC 15; arguments = unsigned a ∷ [] }
+row_of (cases.TableSize a) = record { op = Prefixed 0xFC 16; arguments = unsigned a ∷ [] }
+row_of (cases.TableFill a) = record { op = Prefixed 0xFC 17; arguments = unsigned a ∷ [] }
+row_of (cases.MemoryDiscard a) = record { op = Prefixed 0xFC 18; arguments = unsigned a ∷ [] }
+row_of (cases.Numeric i) = record { op = Byte (numeric_number i); arguments = [] }
+row_of (cases.Aggregate i) = record { op = Prefixed 0xFB (aggregate_number i); arguments = [] }
+row_of (cases.PrefixedNumeric i) = record { op = Prefixed 0xFC (prefixed_numeric_number i); arguments = [] }
+row_of (cases.Vector i) = record { op = Prefixed 0xFD (vector_number i); arguments = [] }
+row_of (cases.VectorImmediate i) = vector_immediate_row i
+row_of (cases.Atomic i) = atomic_row i
 
 -- end: written by tools/instructions
 

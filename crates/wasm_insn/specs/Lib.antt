@@ -1,3 +1,5 @@
+-- The definitions of the crate, each file, and all of them by one import.
+pub mod Words
 pub mod Opcodes
 pub mod Parts
 pub mod Arguments
@@ -12,3 +14,19 @@ pub mod Atomic
 pub mod Instructions
 pub mod Sink
 pub mod Cases
+pub mod Views
+unfoldable pub use Rattle.wasm_insn.specs.Opcodes.*
+unfoldable pub use Rattle.wasm_insn.specs.Parts.*
+unfoldable pub use Rattle.wasm_insn.specs.Arguments.*
+unfoldable pub use Rattle.wasm_insn.specs.Plain.*
+unfoldable pub use Rattle.wasm_insn.specs.Table.*
+unfoldable pub use Rattle.wasm_insn.specs.Numeric.*
+unfoldable pub use Rattle.wasm_insn.specs.Aggregate.*
+unfoldable pub use Rattle.wasm_insn.specs.PrefixedNumeric.*
+unfoldable pub use Rattle.wasm_insn.specs.Vector.*
+unfoldable pub use Rattle.wasm_insn.specs.VectorImmediate.*
+unfoldable pub use Rattle.wasm_insn.specs.Atomic.*
+unfoldable pub use Rattle.wasm_insn.specs.Instructions.*
+unfoldable pub use Rattle.wasm_insn.specs.Sink.*
+unfoldable pub use Rattle.wasm_insn.specs.Cases.*
+unfoldable pub use Rattle.wasm_insn.specs.Views.*

@@ -1,6 +1,6 @@
 -- This file defines the encoding of opcodes.
 use Rattle.std.specs.Prelude.{ℕ, List, [], ◌∷◌}
-use Rattle.wasm_base.specs.Numbers.{unsigned_encoding}
+use Rattle.wasm_base.specs.Words.{unsigned_encoding}
 use Rattle.wasm_insn.specs.declared.op.Op.{Op}
 use Rattle.wasm_insn.specs.declared.op.Op.TheVariants.{Byte, Prefixed}
 

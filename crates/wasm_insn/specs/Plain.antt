@@ -2,19 +2,18 @@
 -- form and their format.
 use Rattle.std.specs.Prelude.{◌≡◌, ℕ, map, ◌++◌, ◌^◌, ◌<◌, List, [], ◌∷◌, length, Bool, true, false, ◌==◌, ◌&&◌, cond, nat_le, Option, Some, None, ⊤}
 use Rattle.std.specs.List.{AllByRecursion}
-use Rattle.wasm_base.specs.Formats.{Format, u32, s32, s64, byte, raw_bytes, little_endian, fixed, impossible, mapped, such, when, tagged, pair, Then, vec}
-use Rattle.wasm_base.specs.Laws.{IsSigned32InRange, IsSigned64InRange}
-use Rattle.wasm_base.specs.Encodings.{IsEncodableVec}
-use Rattle.wasm_base.specs.Types.{heap_type, val_type, IsHeap, IsVal}
-use Rattle.wasm_immediates.specs.ImmediateFormats.{normal_memory, IsWellFormedMemory, IsWellFormedBlock, IsWellFormedCatch, IsWellFormedHandle, IsVector, ordering_format, vector_format, block_type, mem_arg, catch, handle}
+use Rattle.wasm_base.specs.Words.{Format, u32, s32, s64, byte, raw_bytes, little_endian, fixed, impossible, mapped, such, when, tagged, pair, Then, vec, IsVector, vector_format, IsSigned32InRange}
+use Rattle.wasm_base.specs.Words.{IsSigned64InRange, IsEncodableVec, heap_type, val_type, IsHeap, IsVal}
+use Rattle.wasm_immediates.specs.Words.{normal_memory, IsWellFormedMemory, IsWellFormedBlock, IsWellFormedCatch, IsWellFormedHandle, ordering_format, block_type, mem_arg, catch, handle}
 use Rattle.wasm_insn.specs.declared.op.Op.{Op}
 use Rattle.wasm_insn.specs.declared.op.Op.TheVariants.{Byte, Prefixed}
 use Rattle.wasm_insn.specs.declared.op.Shape.{Shape}
 use Rattle.wasm_insn.specs.Opcodes.{op_encoding}
-use Rattle.wasm_insn.specs.declared.part.Part.TheVariants as parts
 use Rattle.wasm_insn.specs.declared.part.Part.{Part}
 use Rattle.wasm_insn.specs.Parts.{parts_of}
-use Rattle.wasm_insn.specs.Arguments.{Argument, unsigned, signed32, signed64, float32, float64, vector, memory, lane, lanes, block, heap, ordering, labels, catches, types, handles, flag, part_of, arguments_encoding}
+use Rattle.wasm_insn.specs.Arguments.{Argument, unsigned, signed32, signed64, float32, float64, vector, memory, lane, lanes, block, heap, ordering, labels, catches, types, handles, flag, part_of}
+use Rattle.wasm_insn.specs.Arguments.{arguments_encoding}
+use Rattle.wasm_insn.specs.declared.part.Part.TheVariants as parts
 
 -- ---- normal form
 

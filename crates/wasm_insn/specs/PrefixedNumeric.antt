@@ -1,19 +1,19 @@
 -- The numbers of the instructions of `PrefixedNumeric`.
 use Rattle.std.specs.Prelude.{ℕ}
 use Rattle.wasm_insn.specs.declared.prefixed_numeric.PrefixedNumeric.{PrefixedNumeric}
-use Rattle.wasm_insn.specs.declared.prefixed_numeric.PrefixedNumeric.TheVariants.{I32TruncSatF32S, I32TruncSatF32U, I32TruncSatF64S, I32TruncSatF64U, I64TruncSatF32S, I64TruncSatF32U, I64TruncSatF64S, I64TruncSatF64U, I64Add128, I64Sub128, I64MulWideS, I64MulWideU}
+use Rattle.wasm_insn.specs.declared.prefixed_numeric.PrefixedNumeric.TheVariants as cases
 
 -- the number of a case after the prefix
 abbrev pub prefixed_numeric_number : PrefixedNumeric → ℕ
-prefixed_numeric_number I32TruncSatF32S = 0
-prefixed_numeric_number I32TruncSatF32U = 1
-prefixed_numeric_number I32TruncSatF64S = 2
-prefixed_numeric_number I32TruncSatF64U = 3
-prefixed_numeric_number I64TruncSatF32S = 4
-prefixed_numeric_number I64TruncSatF32U = 5
-prefixed_numeric_number I64TruncSatF64S = 6
-prefixed_numeric_number I64TruncSatF64U = 7
-prefixed_numeric_number I64Add128 = 19
-prefixed_numeric_number I64Sub128 = 20
-prefixed_numeric_number I64MulWideS = 21
-prefixed_numeric_number I64MulWideU = 22
+prefixed_numeric_number cases.I32TruncSatF32S = 0
+prefixed_numeric_number cases.I32TruncSatF32U = 1
+prefixed_numeric_number cases.I32TruncSatF64S = 2
+prefixed_numeric_number cases.I32TruncSatF64U = 3
+prefixed_numeric_number cases.I64TruncSatF32S = 4
+prefixed_numeric_number cases.I64TruncSatF32U = 5
+prefixed_numeric_number cases.I64TruncSatF64S = 6
+prefixed_numeric_number cases.I64TruncSatF64U = 7
+prefixed_numeric_number cases.I64Add128 = 19
+prefixed_numeric_number cases.I64Sub128 = 20
+prefixed_numeric_number cases.I64MulWideS = 21
+prefixed_numeric_number cases.I64MulWideU = 22

@@ -11,12 +11,14 @@
 #![tactic(auto)]
 
 mod aggregate;
+mod arguments;
 mod atomic;
 mod instruction;
 pub mod laws;
 mod numeric;
 mod op;
 mod part;
+mod plain;
 mod prefixed_numeric;
 mod ranged;
 mod sink;
@@ -25,11 +27,13 @@ mod vector;
 mod vector_immediate;
 
 pub use aggregate::Aggregate;
+pub use arguments::Arg;
 pub use atomic::Atomic;
 pub use instruction::Instruction;
 pub use numeric::Numeric;
 pub use op::{Op, Shape};
 pub use part::Part;
+pub use plain::{Plain, append_instruction, read_instruction_into};
 pub use prefixed_numeric::PrefixedNumeric;
 pub use sink::{Buffer, InstructionSink};
 pub use vector::Vector;

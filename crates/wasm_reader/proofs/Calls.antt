@@ -1,16 +1,11 @@
 -- This file proves the result of the readers at a known section: lemmas that a caller's proof
 -- cites.
-use Rattle.std.proofs.Common.{◌≡◌, ℕ, ◌≤◌, List, [], ◌++◌, length, refl, sym, ap, subst, ◌∙◌, append-nil}
-use Rattle.wasm_base.specs.Formats.{Format, size_prefixed, mapped, wasm_module}
-use Rattle.wasm_base.specs.Modules.{GainsDecoding, GainsDecodingPadded}
-use Rattle.wasm_base.specs.Numbers.{minimal, padded, builders}
-use Rattle.wasm_base.specs.Decoding.{Decodes, Rejects}
-use Rattle.wasm_reader.specs.Kinds.{Contents}
-use Rattle.wasm_reader.specs.Sections.{section, Takes, Shortens}
-use Rattle.wasm_reader.specs.Shortening.{ShortensModule, Explains, IsMemory, IsIdempotent}
+use Rattle.wasm_base.proofs.Words.{◌≡◌, ℕ, ◌≤◌, List, [], ◌++◌, length, refl, sym, ap, subst, ◌∙◌, append-nil, Format, size_prefixed, mapped, wasm_module, GainsDecoding, GainsDecodingPadded, minimal}
+use Rattle.wasm_base.proofs.Words.{padded, builders, Decodes, Rejects}
+use Rattle.wasm_reader.specs.{Contents, section, Takes, Shortens, ShortensModule, Explains, IsMemory, IsIdempotent}
 use Rattle.wasm_reader.specs.declared.kinds.SectionKind.{SectionKind}
-use Rattle.wasm_reader.specs.declared.whole.ModuleFault.{ModuleFault}
 use Rattle.wasm_reader.specs.declared.whole.Offsets.{Offsets}
+use Rattle.wasm_reader.specs.declared.whole.ModuleFault.{ModuleFault}
 use Rattle.wasm_reader.proofs.MinimalSections.{section_unambiguous}
 
 -- ---- encoded sections

@@ -1,13 +1,6 @@
 -- This file proves how readers count items that they skip.
-use Rattle.std.proofs.Common.{◌≢◌, ℕ, ◌<◌, List, length}
-use Rattle.wasm_base.specs.Continuing.{RejectsWhole}
-use Rattle.wasm_base.specs.Numbers.{padded}
-use Rattle.wasm_base.specs.Formats.{Format, u32, vec}
-use Rattle.wasm_base.specs.Decoding.{Unambiguous, Decodes, Rejects}
-use Rattle.wasm_base.proofs.FormatLaws.{vec_unambiguous}
-use Rattle.wasm_reader_base.proofs.SkipLaws.{HasSkipped, skipped_decodes, skipped_rejects}
-use Rattle.wasm_reader_base.proofs.DecodeVectors.{vec_rejects_count}
-use Rattle.wasm_reader_base.proofs.DecodeWhole.{whole_more, whole_rejects}
+use Rattle.wasm_base.proofs.Words.{◌≢◌, ℕ, ◌<◌, List, length, RejectsWhole, padded, Format, u32, vec, Unambiguous, Decodes, Rejects, vec_unambiguous, HasSkipped, skipped_decodes, skipped_rejects}
+use Rattle.wasm_base.proofs.Words.{vec_rejects_count, whole_more, whole_rejects}
 
 module _ {X : Type 0} (F : Format X) where
   pub skipped_more : (bytes start rest : List ℕ) (n : ℕ) → Unambiguous F → Decodes u32 padded bytes n start → HasSkipped F start n rest → length rest ≢ 0 → RejectsWhole (vec F) bytes

@@ -1,20 +1,12 @@
 -- This file proves how the reader lists a module's sections.
-use Rattle.wasm_reader.specs.Kinds.{kind_of_id, Contents, content}
-use Rattle.std.proofs.Common.{◌≡◌, ◌≢◌, ℕ, ◌<◌, ◌^◌, List, [], ◌∷◌, ◌++◌, length, map, take, drop, refl, sym, ap, subst, ◌∙◌, arith}
-use Rattle.std.proofs.lemmas.List.{map-append, take-append-drop, take_at, length-append, length-map}
-use Rattle.wasm_base.specs.Continuing.{RejectsWhole}
-use Rattle.wasm_base.specs.Numbers.{padded}
-use Rattle.wasm_base.specs.Formats.{Format, byte, any_bytes, fixed, size_prefixed, header, members}
-use Rattle.wasm_base.specs.Decoding.{BeginsWith, Decodes, Rejects}
-use Rattle.wasm_base.proofs.BaseLaws.{size_prefixed_bytes_unambiguous}
-use Rattle.wasm_base.proofs.FormatLaws.{byte_unambiguous, begins_then}
-use Rattle.wasm_base.proofs.DecodingSteps.{decodes_same, then_decodes, then_rejects_first, then_rejects_second, members_start, members_step}
-use Rattle.wasm_reader_base.proofs.DecodeWhole.{member_shorter}
-use Rattle.wasm_reader.specs.Modules.{Sized, sized_section, sized_module, line_of, HasLines, StopsBehind}
+use Rattle.wasm_reader.specs.{kind_of_id, Contents, content, Sized, sized_section, sized_module, line_of, HasLines, StopsBehind}
 use Rattle.wasm_reader.specs.declared.modules.Listed.{Listed}
 use Rattle.wasm_reader.specs.declared.kinds.SectionKind.{SectionKind}
-use Rattle.wasm_sections.proofs.Prefixes.{prefixed_decodes}
-use Rattle.wasm_reader_base.proofs.DecodeWhole.{whole_decodes}
+use Rattle.wasm_base.proofs.Words.{◌≡◌, ◌≢◌, ℕ, ◌<◌, ◌^◌, List, [], ◌∷◌, ◌++◌, length, map, take, drop, refl, sym, ap, subst, ◌∙◌, arith, map-append, take-append-drop, take_at, length-map}
+use Rattle.wasm_base.proofs.Words.{RejectsWhole, padded, Format, byte, any_bytes, fixed, size_prefixed, header, members, BeginsWith, Decodes, Rejects, size_prefixed_bytes_unambiguous}
+use Rattle.wasm_base.proofs.Words.{byte_unambiguous, begins_then, decodes_same, then_decodes, then_rejects_first, then_rejects_second, members_start, members_step, member_shorter, whole_decodes}
+use Rattle.std.proofs.lemmas.List.{length-append}
+use Rattle.wasm_sections.proofs.Words.{prefixed_decodes}
 
 -- ---- the header
 

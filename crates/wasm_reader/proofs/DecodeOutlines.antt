@@ -1,24 +1,16 @@
 -- This file proves how the reader outlines a module.
-use Rattle.wasm_reader.specs.Kinds.{number_in, Contents, Types, content}
-use Rattle.wasm_reader.proofs.KindLaws.{content_whole, counted_alike}
-use Rattle.std.proofs.Common.{◌≡◌, ◌≢◌, ℕ, ◌<◌, ◌^◌, ◌+◌, ◌-◌, suc, List, [], ◌∷◌, ◌++◌, length, map, take, Option, Some, None, refl, sym, ap, subst, ◌∙◌, append_assoc, append-nil, arith}
-use Rattle.std.specs.List.{AllByRecursion, flat_map}
-use Rattle.std.proofs.lemmas.Grind.{flat_map-append}
-use Rattle.std.proofs.lemmas.List.{length-append, length-map, take_at}
-use Rattle.wasm_base.specs.Continuing.{RejectsWhole}
-use Rattle.wasm_base.specs.Numbers.{padded}
-use Rattle.wasm_base.specs.Formats.{Format, any_bytes, any_section, byte, fixed, size_prefixed, header, members, vec, wasm_module}
-use Rattle.wasm_base.specs.Decoding.{Decodes, Rejects, BeginsWith}
-use Rattle.wasm_base.proofs.FormatLaws.{byte_unambiguous, begins_then}
-use Rattle.wasm_base.proofs.ModuleLaws.{section_unambiguous}
-use Rattle.wasm_base.proofs.DecodingSteps.{then_rejects_first, then_rejects_second}
-use Rattle.wasm_types.specs.RecTypes.{TypeItem, type_item}
-use Rattle.wasm_reader.specs.Outlines.{Section, IsSection, bytes_of, count_in, IsCount, IsOutline, AreOutlines, HasOutline, EndsAt}
+use Rattle.wasm_reader.specs.{number_in, Contents, Types, content, Section, IsSection, bytes_of, count_in, IsCount, IsOutline, AreOutlines, HasOutline, EndsAt}
 use Rattle.wasm_reader.specs.declared.outlines.Outlined.{Outlined}
 use Rattle.wasm_reader.specs.declared.kinds.SectionKind.{SectionKind}
-use Rattle.wasm_reader.specs.declared.kinds.SectionKind.TheVariants as kinds
+use Rattle.wasm_reader.proofs.KindLaws.{content_whole, counted_alike}
+use Rattle.wasm_base.proofs.Words.{◌≡◌, ◌≢◌, ℕ, ◌<◌, ◌^◌, ◌+◌, ◌-◌, suc, List, [], ◌∷◌, ◌++◌, length, map, take, Option, Some, None, refl, sym, ap, subst, ◌∙◌, append_assoc, append-nil, arith}
+use Rattle.wasm_base.proofs.Words.{AllByRecursion, flat_map, flat_map-append, length-map, take_at, RejectsWhole, padded, Format, any_bytes, any_section, byte, fixed, size_prefixed, header, members}
+use Rattle.wasm_base.proofs.Words.{vec, wasm_module, Decodes, Rejects, BeginsWith, byte_unambiguous, begins_then, section_unambiguous, then_rejects_first, then_rejects_second}
+use Rattle.std.proofs.lemmas.List.{length-append}
+use Rattle.wasm_types.proofs.Words.{TypeItem, type_item}
 use Rattle.wasm_reader.proofs.ModuleLaws.{one_way}
-use Rattle.wasm_sections.proofs.Prefixes.{prefixed_decodes}
+use Rattle.wasm_sections.proofs.Words.{prefixed_decodes}
+use Rattle.wasm_reader.specs.declared.kinds.SectionKind.TheVariants as kinds
 
 -- ---- a section with any payload
 

@@ -1,14 +1,9 @@
 -- This file proves how the reader decodes the content of a section.
-use Rattle.wasm_reader.specs.Kinds.{Contents, content}
-use Rattle.std.proofs.Common.{◌≡◌, ℕ, ◌≤◌, ◌+◌, List, length, drop, sym, ap, subst, ◌∙◌, arith}
-use Rattle.std.proofs.lemmas.List.{length-append, drop_at}
-use Rattle.wasm_base.specs.Continuing.{RejectsWhole}
-use Rattle.wasm_base.specs.Numbers.{padded}
-use Rattle.wasm_base.specs.Formats.{Format, any_bytes, size_prefixed}
-use Rattle.wasm_base.specs.Decoding.{Decodes, Rejects}
-use Rattle.wasm_reader_base.proofs.DecodeSizePrefixed.{filled_decodes, filled_none, filled_rejects}
-use Rattle.wasm_reader.specs.Sections.{section, Takes}
+use Rattle.wasm_reader.specs.{Contents, content, section, Takes}
 use Rattle.wasm_reader.specs.declared.kinds.SectionKind.{SectionKind}
+use Rattle.wasm_base.proofs.Words.{◌≡◌, ℕ, ◌≤◌, ◌+◌, List, length, drop, sym, ap, subst, ◌∙◌, arith, drop_at, RejectsWhole, padded, Format, any_bytes, size_prefixed, Decodes, Rejects, filled_decodes}
+use Rattle.wasm_base.proofs.Words.{filled_none, filled_rejects}
+use Rattle.std.proofs.lemmas.List.{length-append}
 
 -- ---- sections
 

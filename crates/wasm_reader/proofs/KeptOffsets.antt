@@ -1,11 +1,9 @@
 -- This file proves which offsets are kept, and which section is the first that loses some.
-use Rattle.std.proofs.Common.{◌≡◌, ◌⊎◌, inl, inr, ℕ, ◌≤◌, ◌<◌, ◌+◌, List, [], ◌∷◌, ◌++◌, length, min, Bool, true, false, ◌||◌, Decides, MatchBool, if◌then◌else◌, Option, Some, None, refl, sym, ap, subst, ◌∙◌, append_assoc, arith}
-use Rattle.std.specs.List.{AllByRecursion, flat_map}
-use Rattle.std.proofs.lemmas.Bool.{cases_lt}
+use Rattle.wasm_base.proofs.Words.{◌≡◌, ◌⊎◌, inl, inr, ℕ, ◌≤◌, ◌<◌, ◌+◌, List, [], ◌∷◌, ◌++◌, length, min, Bool, true, false, ◌||◌, Decides, MatchBool, if◌then◌else◌, Option, Some, None, refl, sym}
+use Rattle.wasm_base.proofs.Words.{ap, subst, ◌∙◌, append_assoc, arith, AllByRecursion, flat_map, cases_lt, header}
 use Rattle.std.proofs.lemmas.List.{length-append}
-use Rattle.wasm_base.specs.Formats.{header}
-use Rattle.wasm_reader.specs.Outlines.{Section, bytes_of}
-use Rattle.wasm_reader.specs.Shortening.{Stays, AllStay, KeepsOffsets, HasLostOffsets, Rewrite, written, keeps, count_kept, IsChange, AreMoved, IsInto, IsFirst, size_before, size_after, HasFound, target_of, found_of, lost, earlier, first_of, lost_at, HasTally}
+use Rattle.wasm_reader.specs.{Section, bytes_of, Stays, AllStay, KeepsOffsets, HasLostOffsets, Rewrite, written, keeps, count_kept, IsChange, AreMoved, IsInto, IsFirst, size_before, size_after}
+use Rattle.wasm_reader.specs.{HasFound, target_of, found_of, lost, earlier, first_of, lost_at, HasTally}
 use Rattle.wasm_reader.specs.declared.whole.Found.{Found}
 use Rattle.wasm_reader.specs.declared.whole.Offsets.TheVariants.{Refuse}
 use Rattle.wasm_reader.specs.declared.whole.Tally.{Tally}

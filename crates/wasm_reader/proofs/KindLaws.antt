@@ -1,62 +1,26 @@
 -- This file proves the laws of the kinds of sections: their decoding, their encoding, and their ids
 -- and names.
-use Rattle.std.proofs.Common.{◌≡◌, ℕ, List, [], ◌++◌, map, length, refl, sym, ap, subst, ◌∙◌, ◌≢◌, ◌∷◌, Bool, true, false, if◌then◌else◌, cond, Option, Some, Result, Ok, Err, IfOk}
-use Rattle.std.proofs.lemmas.List.{map-id}
-use Rattle.wasm_base.specs.Numbers.{minimal, padded}
-use Rattle.wasm_base.specs.Formats.{u32, name, any_bytes, pair, vec, size_prefixed, Format, mapped}
-use Rattle.wasm_base.specs.Decoding.{UnambiguousWhole, Decodes, Rejects}
-use Rattle.wasm_base.specs.Encodings.{vec_encoding, IsEncodableVec}
-use Rattle.wasm_base.proofs.BaseLaws.{name_unambiguous}
-use Rattle.wasm_base.proofs.FormatLaws.{vec_unambiguous, whole_from_unique, mapped_whole, pair_whole, any_bytes_whole}
-use Rattle.wasm_base.proofs.NumberLaws.{u32_unambiguous}
-use Rattle.wasm_base.proofs.DecodingSteps.{decodes_same}
-use Rattle.wasm_code.specs.Bodies.{body}
-use Rattle.wasm_code.proofs.BodyLaws.{size_prefixed_body_unambiguous}
-use Rattle.wasm_sections.specs.DataSegments.{data_item}
-use Rattle.wasm_sections.specs.Elements.{element}
-use Rattle.wasm_sections.specs.Globals.{global_item}
-use Rattle.wasm_sections.specs.Imports.{import_format}
-use Rattle.wasm_sections.specs.Tables.{table_item}
-use Rattle.wasm_types.specs.RecTypes.{type_item}
-use Rattle.wasm_sections.specs.Exports.{IsEncodableExport, export_encoding, item_of, export}
-use Rattle.wasm_sections.specs.Memories.{memory_encoding, memory_type}
-use Rattle.wasm_sections.specs.Tags.{tag_encoding, tag_type}
+use Rattle.wasm_base.proofs.Words.{◌≡◌, ℕ, List, [], ◌++◌, map, length, refl, sym, ap, subst, ◌∙◌, ◌≢◌, ◌∷◌, Bool, true, false, if◌then◌else◌, cond, Option, Some, Result, Ok, Err, map-id, minimal}
+use Rattle.wasm_base.proofs.Words.{padded, u32, name, any_bytes, pair, vec, size_prefixed, Format, mapped, UnambiguousWhole, Decodes, Rejects, vec_encoding, IsEncodableVec, name_unambiguous}
+use Rattle.wasm_base.proofs.Words.{vec_unambiguous, whole_from_unique, mapped_whole, pair_whole, any_bytes_whole, u32_unambiguous, decodes_same, AppendsMinimal, encoding_appended, pair_appended}
+use Rattle.wasm_base.proofs.Words.{mapped_appended, records_appended, RejectsWhole, bytes_eq, ne_eqb}
+use Rattle.wasm_base.specs.declared.fault.ReadFault.{ReadFault}
+use Rattle.std.proofs.Common.{IfOk}
+use Rattle.wasm_code.proofs.Words.{body, size_prefixed_body_unambiguous}
+use Rattle.wasm_sections.proofs.Words.{data_item, element, global_item, import_format, table_item, IsEncodableExport, export_encoding, item_of, export, memory_encoding, memory_type, tag_encoding}
+use Rattle.wasm_sections.proofs.Words.{tag_type, export_short, exports_section, memory_encodes, memory_is, memories_section, tag_encodes, tag_is, tags_section, segments_section, elements_section}
+use Rattle.wasm_sections.proofs.Words.{globals_section, imports_section, tables_section, functions_section}
 use Rattle.wasm_sections.specs.declared.export.Export.{Export}
 use Rattle.wasm_sections.specs.declared.memory.MemoryType.{MemoryType}
 use Rattle.wasm_sections.specs.declared.tag.TagType.{TagType}
-use Rattle.wasm_sections.proofs.ExportLaws.{export_short, exports_section}
-use Rattle.wasm_sections.proofs.MemoryLaws.{memory_encodes, memory_is, memories_section}
-use Rattle.wasm_sections.proofs.TagLaws.{tag_encodes, tag_is, tags_section}
-use Rattle.wasm_sections.proofs.DataLaws.{segments_section}
-use Rattle.wasm_sections.proofs.ElementLaws.{elements_section}
-use Rattle.wasm_sections.proofs.GlobalLaws.{globals_section}
-use Rattle.wasm_sections.proofs.ImportLaws.{imports_section}
-use Rattle.wasm_sections.proofs.TableLaws.{tables_section}
-use Rattle.wasm_sections.proofs.FunctionLaws.{functions_section}
-use Rattle.wasm_custom.specs.CoreDumps.{core_name, modules_name, instances_name, core_payload, modules_payload, instances_payload}
-use Rattle.wasm_custom.specs.CoreStacks.{stack_name, stack_payload}
-use Rattle.wasm_custom.specs.Hints.{hints_name, hints_payload}
-use Rattle.wasm_custom.specs.Linking.{linking_name, linking_payload}
-use Rattle.wasm_custom.specs.Names.{name_name, name_payload}
-use Rattle.wasm_custom.specs.Producers.{producers_name, producers_payload}
-use Rattle.wasm_custom.proofs.CoreDumpLaws.{core_whole, modules_section, instances_section}
-use Rattle.wasm_custom.proofs.CoreStackLaws.{stack_whole}
-use Rattle.wasm_custom.proofs.HintLaws.{hints_section}
-use Rattle.wasm_custom.proofs.LinkLaws.{linking_section}
-use Rattle.wasm_custom.proofs.NameLaws.{names_section}
-use Rattle.wasm_custom.proofs.ProducerLaws.{producers_section}
-use Rattle.wasm_reader_base.specs.Minimal.{AppendsMinimal}
-use Rattle.wasm_reader_base.specs.declared.fault.ReadFault.{ReadFault}
-use Rattle.wasm_reader_base.proofs.MinimalEncodings.{encoding_appended, pair_appended, mapped_appended, records_appended}
-use Rattle.wasm_reader.specs.Kinds.{Contents, Bodies, Segments, DataCount, Elements, Exports, Functions, Globals, Imports, Memories, Start, Tables, Tags, Types, Names, Linking, Producers, Hints, Core, CoreModules, CoreInstances, CoreStack, Custom, Raw, content, kind_in, number_in, kind_among, known_kinds, kind_of_id, kind_among_names, known_names, kind_named}
+use Rattle.wasm_types.proofs.Words.{type_item, types_section}
+use Rattle.wasm_custom.proofs.Words.{core_name, modules_name, instances_name, core_payload, modules_payload, instances_payload, stack_name, stack_payload, hints_name, hints_payload, linking_name}
+use Rattle.wasm_custom.proofs.Words.{linking_payload, name_name, name_payload, producers_name, producers_payload, core_whole, modules_section, instances_section, stack_whole, hints_section}
+use Rattle.wasm_custom.proofs.Words.{linking_section, names_section, producers_section, named_payload}
+use Rattle.wasm_reader.specs.{Contents, Bodies, Segments, DataCount, Elements, Exports, Functions, Globals, Imports, Memories, Start, Tables, Tags, Types, Names, Linking, Producers, Hints, Core}
+use Rattle.wasm_reader.specs.{CoreModules, CoreInstances, CoreStack, Custom, Raw, content, kind_in, number_in, kind_among, known_kinds, kind_of_id, kind_among_names, known_names, kind_named, count_in}
 use Rattle.wasm_reader.specs.declared.kinds.SectionKind.{SectionKind}
 use Rattle.wasm_reader.specs.declared.kinds.SectionKind.TheVariants as kinds
-use Rattle.wasm_base.specs.Continuing.{RejectsWhole}
-use Rattle.wasm_reader.specs.Outlines.{count_in}
-use Rattle.std.specs.Str.{bytes_eq}
-use Rattle.wasm_custom.specs.Customs.{named_payload}
-use Rattle.std.proofs.lemmas.Bool.{ne_eqb}
-use Rattle.wasm_types.proofs.TypeLaws.{types_section}
 
 -- ---- the encoding of each kind
 

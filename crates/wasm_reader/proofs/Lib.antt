@@ -1,3 +1,5 @@
+-- The lemmas of the crate, each file. `Words` passes on what the crates above use.
+pub mod Words
 pub mod Calls
 pub mod Counting
 pub mod KeptOffsets

@@ -1,31 +1,23 @@
 -- This file proves that a minimized module is minimized to itself.
-use Rattle.wasm_reader.specs.Kinds.{kind_named, Contents, content}
-use Rattle.wasm_reader.proofs.KindLaws.{keeps_name}
-use Rattle.std.proofs.Common.{◌≡◌, ◌≢◌, ℕ, ◌+◌, List, [], ◌∷◌, ◌++◌, length, drop, false, Option, Some, None, refl, sym, ap, subst, ◌∙◌, append-nil, arith}
-use Rattle.std.specs.List.{AllByRecursion, flat_map}
-use Rattle.std.proofs.lemmas.List.{append_cancel_left}
-use Rattle.wasm_base.specs.Numbers.{minimal, padded, builders}
-use Rattle.wasm_base.specs.Formats.{any_bytes, size_prefixed, header, name, wasm_module}
-use Rattle.wasm_base.specs.Decoding.{Decodes, Rejects}
-use Rattle.wasm_base.proofs.BaseLaws.{size_prefixed_bytes_unambiguous, name_unambiguous}
-use Rattle.wasm_base.proofs.NumberLaws.{u32_unambiguous}
-use Rattle.wasm_base.proofs.DecodingSteps.{decodes_same}
-use Rattle.wasm_reader.specs.Outlines.{Section, IsSection, IsNameOf, HasSections, bytes_of, kind_at, section_kind_of}
-use Rattle.wasm_reader.specs.Sections.{section, Shortens}
-use Rattle.wasm_reader.specs.Shortening.{contains_offsets, AllStay, IsWritten, Rewrite, IsRewrite, written, written_as, ShortensModule, LosesOffsets, Explains, IsMemory, IsIdempotent}
+use Rattle.wasm_reader.specs.{kind_named, Contents, content, Section, IsSection, IsNameOf, HasSections, bytes_of, kind_at, section_kind_of, section, Shortens, contains_offsets, AllStay, IsWritten}
+use Rattle.wasm_reader.specs.{Rewrite, IsRewrite, written, written_as, ShortensModule, LosesOffsets, Explains, IsMemory, IsIdempotent}
 use Rattle.wasm_reader.specs.declared.kinds.SectionKind.{SectionKind}
-use Rattle.wasm_reader.specs.declared.kinds.SectionKind.TheVariants as kinds
+use Rattle.wasm_reader.specs.declared.whole.Offsets.{Offsets}
+use Rattle.wasm_reader.proofs.KindLaws.{keeps_name}
+use Rattle.wasm_base.proofs.Words.{◌≡◌, ◌≢◌, ℕ, ◌+◌, List, [], ◌∷◌, ◌++◌, length, drop, false, Option, Some, None, refl, sym, ap, subst, ◌∙◌, append-nil, arith, AllByRecursion, flat_map}
+use Rattle.wasm_base.proofs.Words.{append_cancel_left, minimal, padded, builders, any_bytes, size_prefixed, header, name, wasm_module, Decodes, Rejects, size_prefixed_bytes_unambiguous}
+use Rattle.wasm_base.proofs.Words.{name_unambiguous, u32_unambiguous, decodes_same}
+use Rattle.wasm_base.specs.declared.fault.ReadFault.{ReadFault}
+use Rattle.wasm_base.specs.declared.fault.ReadFault.TheVariants.{Memory}
 use Rattle.wasm_reader.specs.declared.whole.How.{How}
 use Rattle.wasm_reader.specs.declared.whole.How.TheVariants.{Minimal, Kept, LeftOut}
 use Rattle.wasm_reader.specs.declared.whole.ModuleFault.{ModuleFault}
-use Rattle.wasm_reader.specs.declared.whole.ModuleFault.TheVariants as faults
-use Rattle.wasm_reader.specs.declared.whole.Offsets.{Offsets}
 use Rattle.wasm_reader.specs.declared.whole.Offsets.TheVariants.{Refuse, LeaveOut}
 use Rattle.wasm_reader.specs.declared.whole.Target.{Target}
-use Rattle.wasm_reader_base.specs.declared.fault.ReadFault.{ReadFault}
-use Rattle.wasm_reader_base.specs.declared.fault.ReadFault.TheVariants.{Memory}
 use Rattle.wasm_reader.proofs.MinimalModules.{sections_of, bytes_joined}
 use Rattle.wasm_reader.proofs.MinimalSections.{section_unambiguous}
+use Rattle.wasm_reader.specs.declared.kinds.SectionKind.TheVariants as kinds
+use Rattle.wasm_reader.specs.declared.whole.ModuleFault.TheVariants as faults
 
 -- ---- names
 

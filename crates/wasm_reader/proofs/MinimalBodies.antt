@@ -1,14 +1,8 @@
 -- This file proves how the minimizer encodes members that it does not keep.
-use Rattle.std.proofs.Common.{◌≡◌, ℕ, ◌+◌, List, [], ◌∷◌, ◌++◌, length, refl, sym, subst, arith}
+use Rattle.wasm_base.proofs.Words.{◌≡◌, ℕ, ◌+◌, List, [], ◌∷◌, ◌++◌, length, refl, sym, subst, arith, padded, Format, u32, members, vec, Decodes, AppendsMinimal, HasSkipped, whole_decodes}
+use Rattle.wasm_base.proofs.Words.{no_members_appended, members_more, then_appended}
 use Rattle.std.proofs.lemmas.List.{length-append}
-use Rattle.wasm_base.specs.Numbers.{padded}
-use Rattle.wasm_base.specs.Formats.{Format, u32, members, vec}
-use Rattle.wasm_base.specs.Decoding.{Decodes}
 use Rattle.wasm_base.proofs.DecodingSteps as steps
-use Rattle.wasm_reader_base.specs.Minimal.{AppendsMinimal}
-use Rattle.wasm_reader_base.proofs.SkipLaws.{HasSkipped}
-use Rattle.wasm_reader_base.proofs.DecodeWhole.{whole_decodes}
-use Rattle.wasm_reader_base.proofs.MinimalEncodings.{members_start, members_more, then_appended}
 
 -- The reader has skipped `count` values from `start` on, `rest` remains, and their minimal
 -- encodings are appended.
@@ -20,7 +14,7 @@ pub record HasShortened {X : Type 0} (F : Format X) (start : List ℕ) (count : 
 
 module _ {X : Type 0} (F : Format X) where
   pub shortened_start : (start old : List ℕ) → HasShortened F start 0 start old old
-  shortened_start start old = record { values = []; read = steps.members_start F padded start; counted = refl; written = members_start F old }
+  shortened_start start old = record { values = []; read = steps.members_start F padded start; counted = refl; written = no_members_appended F old }
 
   pub shortened_step : (start rest after old middle new : List ℕ) (count : ℕ) (x : X) → HasShortened F start count rest old middle → Decodes F padded rest x after → AppendsMinimal F x middle new → HasShortened F start (count + 1) after old new
   shortened_step start rest after old middle new count x h g a = record { values = h.values ++ x ∷ []; read = steps.members_step F h.read g; counted = omega (arith, length-append h.values (x ∷ []), h.counted); written = members_more F h.values x old middle new h.written a }

@@ -1,22 +1,15 @@
 -- This file proves how the minimizer encodes a module.
-use Rattle.std.proofs.Common.{◌≡◌, ◌≢◌, ℕ, ◌≤◌, ◌<◌, ◌+◌, ◌-◌, ◌^◌, suc, List, [], ◌∷◌, ◌++◌, length, map, take, drop, Bool, false, Decides, Some, None, refl, sym, ap, subst, ◌∙◌, append_assoc, append-nil, arith}
-use Rattle.std.specs.List.{AllByRecursion, flat_map}
-use Rattle.std.proofs.lemmas.Grind.{flat_map-append}
-use Rattle.std.proofs.lemmas.List.{length-append, length-drop, length-map, take_at, take_all, drop_at}
-use Rattle.wasm_base.specs.Continuing.{RejectsWhole}
-use Rattle.wasm_base.specs.Numbers.{padded, minimal}
-use Rattle.wasm_base.specs.Formats.{any_bytes, any_section, size_prefixed, header, members, wasm_module}
-use Rattle.wasm_base.specs.Decoding.{Decodes, Rejects}
-use Rattle.wasm_base.proofs.BaseLaws.{size_prefixed_bytes_unambiguous}
-use Rattle.wasm_base.proofs.NumberLaws.{u32_unambiguous}
-use Rattle.wasm_base.proofs.DecodingSteps.{decodes_same}
-use Rattle.wasm_reader.specs.Outlines.{Section, IsSection, HasSections, bytes_of, EndsAt}
-use Rattle.wasm_reader.specs.Sections.{Takes, Shortens}
-use Rattle.wasm_reader.specs.Shortening.{contains_offsets, KeepsOffsets, HasLostOffsets, IsEncodingFor, IsWritten, Rewrite, IsRewrite, written, written_as, id_written, IsChange, IsFirst, size_before, size_after, ShortensModule, LosesOffsets, GainsSection, leaves_out, lost_at, HasTally, Rewrites, StopsAfter, IsFrontOf}
+use Rattle.wasm_base.proofs.Words.{◌≡◌, ◌≢◌, ℕ, ◌≤◌, ◌<◌, ◌+◌, ◌-◌, ◌^◌, suc, List, [], ◌∷◌, ◌++◌, length, map, take, drop, Bool, false, Decides, Some, None, refl, sym, ap, subst, ◌∙◌, append_assoc}
+use Rattle.wasm_base.proofs.Words.{append-nil, arith, AllByRecursion, flat_map, flat_map-append, length-drop, length-map, take_at, take_all, drop_at, RejectsWhole, padded, minimal, any_bytes}
+use Rattle.wasm_base.proofs.Words.{any_section, size_prefixed, header, members, wasm_module, Decodes, Rejects, size_prefixed_bytes_unambiguous, u32_unambiguous, decodes_same}
+use Rattle.std.proofs.lemmas.List.{length-append}
+use Rattle.wasm_reader.specs.{Section, IsSection, HasSections, bytes_of, EndsAt, Takes, Shortens, contains_offsets, KeepsOffsets, HasLostOffsets, IsEncodingFor, IsWritten, Rewrite, IsRewrite, written}
+use Rattle.wasm_reader.specs.{written_as, id_written, IsChange, IsFirst, size_before, size_after, ShortensModule, LosesOffsets, GainsSection, leaves_out, lost_at, HasTally, Rewrites, StopsAfter}
+use Rattle.wasm_reader.specs.{IsFrontOf}
 use Rattle.wasm_reader.specs.declared.kinds.SectionKind.{SectionKind}
+use Rattle.wasm_reader.specs.declared.whole.Offsets.{Offsets}
 use Rattle.wasm_reader.specs.declared.whole.How.{How}
 use Rattle.wasm_reader.specs.declared.whole.How.TheVariants.{Minimal, Kept, LeftOut}
-use Rattle.wasm_reader.specs.declared.whole.Offsets.{Offsets}
 use Rattle.wasm_reader.specs.declared.whole.Offsets.TheVariants.{Refuse, LeaveOut}
 use Rattle.wasm_reader.specs.declared.whole.Tally.{Tally}
 use Rattle.wasm_reader.proofs.KeptOffsets.{all_map, first_lost, not_lost, nothing, nothing_known}

@@ -1,22 +1,13 @@
 -- This file proves that the minimizer appends the one minimal encoding of decoded sections.
-use Rattle.wasm_reader.specs.Kinds.{Contents, Bodies, content, kind_in}
-use Rattle.wasm_reader.proofs.KindLaws.{content_whole, kind_is}
-use Rattle.std.proofs.Common.{◌≡◌, ℕ, ◌+◌, List, [], ◌++◌, length, drop, refl, sym, ap, subst, ◌∙◌, arith}
-use Rattle.std.proofs.lemmas.List.{length-append, length-drop, append_cancel_left}
-use Rattle.wasm_base.specs.Numbers.{minimal, padded, builders}
-use Rattle.wasm_base.specs.Formats.{any_bytes, size_prefixed, vec}
-use Rattle.wasm_base.specs.Decoding.{Unambiguous, Decodes}
-use Rattle.wasm_base.specs.Encodings.{size_prefixed_encoding, HasEncodableSize}
-use Rattle.wasm_base.proofs.FormatLaws.{size_prefixed_unambiguous}
-use Rattle.wasm_base.proofs.DecodingSteps.{decodes_same}
-use Rattle.wasm_base.proofs.EncodingLaws.{size_prefixed_encodes}
-use Rattle.wasm_code.specs.Bodies.{Body, body}
-use Rattle.wasm_reader_base.specs.Minimal.{AppendsMinimal}
-use Rattle.wasm_reader_base.proofs.MinimalEncodings.{mapped_appended}
-use Rattle.wasm_reader.specs.Sections.{section, Takes, Shortens, HaveOneEncoding}
+use Rattle.wasm_reader.specs.{Contents, Bodies, content, kind_in, section, Takes, Shortens, HaveOneEncoding}
 use Rattle.wasm_reader.specs.declared.kinds.SectionKind.{SectionKind}
-use Rattle.wasm_reader.specs.declared.kinds.SectionKind.TheVariants as kinds
+use Rattle.wasm_reader.proofs.KindLaws.{content_whole, kind_is}
+use Rattle.wasm_base.proofs.Words.{◌≡◌, ℕ, ◌+◌, List, [], ◌++◌, length, drop, refl, sym, ap, subst, ◌∙◌, arith, length-drop, append_cancel_left, minimal, padded, builders, any_bytes, size_prefixed}
+use Rattle.wasm_base.proofs.Words.{vec, Unambiguous, Decodes, size_prefixed_encoding, HasEncodableSize, size_prefixed_unambiguous, decodes_same, size_prefixed_encodes, AppendsMinimal, mapped_appended}
+use Rattle.std.proofs.lemmas.List.{length-append}
+use Rattle.wasm_code.proofs.Words.{Body, body}
 use Rattle.wasm_reader.proofs.DecodeSections.{takes}
+use Rattle.wasm_reader.specs.declared.kinds.SectionKind.TheVariants as kinds
 
 -- ---- sections
 

@@ -1,13 +1,7 @@
 -- This file proves that a module has one list of lines or stops at one section.
-use Rattle.std.proofs.Common.{◌≡◌, ◌≢◌, ℕ, List, [], ◌∷◌, ◌++◌, length, map, zero, suc, refl, sym, ap, subst, ◌∙◌, append_assoc, append-nil}
-use Rattle.std.proofs.lemmas.List.{append_cancel_left}
-use Rattle.wasm_base.specs.Numbers.{padded}
-use Rattle.wasm_base.specs.Formats.{Format, byte, fixed, header, members}
-use Rattle.wasm_base.specs.Decoding.{Decodes, Rejects, DeterminesPrefix, BeginsWith}
-use Rattle.wasm_base.proofs.BaseLaws.{size_prefixed_bytes_unambiguous}
-use Rattle.wasm_base.proofs.FormatLaws.{byte_unambiguous, begins_then, same_pair}
-use Rattle.wasm_reader.specs.Kinds.{kind_of_id, Contents, content}
-use Rattle.wasm_reader.specs.Modules.{sized_section, sized_module, line_of, HasLines, StopsAt, HaveOneListing}
+use Rattle.wasm_base.proofs.Words.{◌≡◌, ◌≢◌, ℕ, List, [], ◌∷◌, ◌++◌, length, map, zero, suc, refl, sym, ap, subst, ◌∙◌, append_assoc, append-nil, append_cancel_left, padded, Format, byte, fixed}
+use Rattle.wasm_base.proofs.Words.{header, members, Decodes, Rejects, DeterminesPrefix, BeginsWith, size_prefixed_bytes_unambiguous, byte_unambiguous, begins_then, same_pair}
+use Rattle.wasm_reader.specs.{kind_of_id, Contents, content, sized_section, sized_module, line_of, HasLines, StopsAt, HaveOneListing}
 use Rattle.wasm_reader.specs.declared.modules.Listed.{Listed}
 use Rattle.wasm_reader.proofs.KindLaws.{content_whole}
 

@@ -2,37 +2,21 @@
 use Rattle.std.specs.Prelude.{ℕ, List, [], ◌∷◌, length, map, Option, Some, None, cond, ◌==◌, if◌then◌else◌}
 use Rattle.std.specs.List.{slice_get}
 use Rattle.std.specs.Str.{bytes_eq}
-use Rattle.wasm_base.specs.Formats.{Format, u32, name, any_bytes, mapped, pair, vec, size_prefixed}
-use Rattle.wasm_base.specs.SectionId.{number_of}
-use Rattle.wasm_base.specs.declared.section_id.SectionId.TheVariants as ids
-use Rattle.wasm_code.specs.Bodies.{Body, body}
-use Rattle.wasm_insn.specs.Plain.{Plain}
-use Rattle.wasm_reader_insn.specs.Arguments.{body_view}
-use Rattle.wasm_sections.specs.DataSegments.{DataItem, data_item}
-use Rattle.wasm_sections.specs.Elements.{ElementItem, element}
-use Rattle.wasm_sections.specs.Exports.{ExportItem, item_of, export}
-use Rattle.wasm_sections.specs.Globals.{GlobalItem, global_item}
-use Rattle.wasm_sections.specs.Imports.{ImportItem, imports_item, import_format}
-use Rattle.wasm_sections.specs.Memories.{memory_type}
-use Rattle.wasm_sections.specs.Tables.{TableItem, table_item}
-use Rattle.wasm_sections.specs.Tags.{tag_type}
-use Rattle.wasm_types.specs.RecTypes.{TypeItem, type_item}
-use Rattle.wasm_types.specs.Items.{entry_view}
+use Rattle.wasm_base.specs.Words.{Format, u32, name, any_bytes, mapped, pair, vec, size_prefixed, number_of}
+use Rattle.wasm_code.specs.Words.{Body, body, body_view}
+use Rattle.wasm_insn.specs.Words.{Plain}
+use Rattle.wasm_sections.specs.Words.{DataItem, data_item, segment_view, ElementItem, element, element_view, ExportItem, item_of, export, GlobalItem, global_item, global_view, ImportItem}
+use Rattle.wasm_sections.specs.Words.{imports_item, import_format, memory_type, TableItem, table_item, table_view, tag_type}
 use Rattle.wasm_sections.specs.declared.memory.MemoryType.{MemoryType}
 use Rattle.wasm_sections.specs.declared.tag.TagType.{TagType}
-use Rattle.wasm_custom.specs.CoreDumps.{Instance, core_name, modules_name, instances_name, instance_view, core_payload, modules_payload, instances_payload}
-use Rattle.wasm_custom.specs.CoreStacks.{StackFrame, stack_name, stack_frame_view, stack_payload}
-use Rattle.wasm_custom.specs.Hints.{Hints as FunctionHints, hints_name, hints_view, hints_payload}
-use Rattle.wasm_custom.specs.Linking.{LinkItem, linking_name, link_view, linking_payload}
-use Rattle.wasm_custom.specs.Names.{NameItem, name_name, name_item_view, name_payload}
-use Rattle.wasm_custom.specs.Producers.{Field, producers_name, field_view, producers_payload}
-use Rattle.wasm_sections.specs.Globals.{global_view}
-use Rattle.wasm_sections.specs.Tables.{table_view}
-use Rattle.wasm_sections.specs.DataSegments.{segment_view}
-use Rattle.wasm_sections.specs.Elements.{element_view}
+use Rattle.wasm_types.specs.Words.{TypeItem, type_item, entry_view}
+use Rattle.wasm_custom.specs.Words.{Instance, core_name, modules_name, instances_name, instance_view, core_payload, modules_payload, instances_payload, StackFrame, stack_name, stack_frame_view}
+use Rattle.wasm_custom.specs.Words.{stack_payload, Hints as FunctionHints, hints_name, hints_view, hints_payload, LinkItem, linking_name, link_view, linking_payload, NameItem, name_name}
+use Rattle.wasm_custom.specs.Words.{name_item_view, name_payload, Field, producers_name, field_view, producers_payload}
 use Rattle.wasm_reader.specs.declared.kinds.Items.{Items}
-use Rattle.wasm_reader.specs.declared.kinds.Items.TheVariants as items
 use Rattle.wasm_reader.specs.declared.kinds.SectionKind.{SectionKind}
+use Rattle.wasm_base.specs.declared.section_id.SectionId.TheVariants as ids
+use Rattle.wasm_reader.specs.declared.kinds.Items.TheVariants as items
 use Rattle.wasm_reader.specs.declared.kinds.SectionKind.TheVariants as kinds
 
 -- The content of a section.

@@ -1,8 +1,6 @@
 -- This file defines modules as `list_module` decodes them: each section by the kind of its id.
 use Rattle.std.specs.Prelude.{◌≡◌, ◌≢◌, ℕ, zero, suc, List, [], length, map}
-use Rattle.wasm_base.specs.Numbers.{Mode, padded}
-use Rattle.wasm_base.specs.Formats.{Format, byte, any_bytes, fixed, size_prefixed, header, members, prefixed, Then}
-use Rattle.wasm_base.specs.Decoding.{Decodes, Rejects}
+use Rattle.wasm_base.specs.Words.{Mode, padded, Format, byte, any_bytes, fixed, size_prefixed, header, members, prefixed, Then, Decodes, Rejects}
 use Rattle.wasm_reader.specs.Kinds.{Contents, content, kind_of_id, number_in}
 use Rattle.wasm_reader.specs.declared.modules.Listed.{Listed}
 use Rattle.wasm_reader.specs.declared.kinds.SectionKind.{SectionKind}

@@ -1,8 +1,6 @@
 -- This file defines sections of each kind, and the promises of their reader and their minimizer.
 use Rattle.std.specs.Prelude.{◌≡◌, ◌↔◌, ℕ, ◌≤◌, List, ◌++◌, length, drop}
-use Rattle.wasm_base.specs.Numbers.{minimal, padded}
-use Rattle.wasm_base.specs.Formats.{Format, size_prefixed}
-use Rattle.wasm_base.specs.Decoding.{Decodes}
+use Rattle.wasm_base.specs.Words.{minimal, padded, Format, size_prefixed, Decodes}
 use Rattle.wasm_reader.specs.Kinds.{Contents, content}
 use Rattle.wasm_reader.specs.declared.kinds.SectionKind.{SectionKind}
 

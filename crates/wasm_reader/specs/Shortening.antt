@@ -3,27 +3,23 @@
 use Rattle.std.specs.Prelude.{◌≡◌, ◌≢◌, ◌⊎◌, ◌||◌, ℕ, ◌+◌, ◌≤◌, List, [], ◌∷◌, ◌++◌, length, map, codes, nat_eq, min, Bool, true, false, if◌then◌else◌, Decides, MatchBool, Option, Some, None, is_some}
 use Rattle.std.specs.List.{AllByRecursion, flat_map, starts_with}
 use Rattle.std.specs.Str.{bytes_eq}
-use Rattle.wasm_base.specs.Numbers.{padded}
-use Rattle.wasm_base.specs.Formats.{any_section, header, members, wasm_module}
-use Rattle.wasm_base.specs.Continuing.{RejectsWhole}
-use Rattle.wasm_base.specs.Decoding.{Decodes, Rejects}
-use Rattle.wasm_base.specs.SectionId.{number_of}
-use Rattle.wasm_base.specs.declared.section_id.SectionId.TheVariants as ids
-use Rattle.wasm_custom.specs.Linking.{linking_name}
+use Rattle.wasm_base.specs.Words.{padded, any_section, header, members, wasm_module, RejectsWhole, Decodes, Rejects, number_of}
+use Rattle.wasm_custom.specs.Words.{linking_name}
 use Rattle.wasm_reader.specs.Outlines.{Section, bytes_of, section_kind_of, IsSection, HasSections, EndsAt}
 use Rattle.wasm_reader.specs.Sections.{section, Shortens}
 use Rattle.wasm_reader.specs.declared.whole.Found.{Found}
 use Rattle.wasm_reader.specs.declared.whole.How.{How}
 use Rattle.wasm_reader.specs.declared.whole.How.TheVariants.{Minimal, Kept, LeftOut}
 use Rattle.wasm_reader.specs.declared.whole.ModuleFault.{ModuleFault}
-use Rattle.wasm_reader.specs.declared.whole.ModuleFault.TheVariants as faults
 use Rattle.wasm_reader.specs.declared.whole.Offsets.{Offsets}
 use Rattle.wasm_reader.specs.declared.whole.Offsets.TheVariants.{Refuse, LeaveOut}
 use Rattle.wasm_reader.specs.declared.whole.Tally.{Tally}
 use Rattle.wasm_reader.specs.declared.whole.Target.{Target}
 use Rattle.wasm_reader.specs.declared.whole.Target.TheVariants.{CodeAndData, Relocated, Module}
-pub use Rattle.wasm_reader_base.specs.Minimal.{IsFrontOf}
-use Rattle.wasm_reader_base.specs.declared.fault.ReadFault.TheVariants.{Memory}
+use Rattle.wasm_base.specs.declared.fault.ReadFault.TheVariants.{Memory}
+use Rattle.wasm_base.specs.declared.section_id.SectionId.TheVariants as ids
+use Rattle.wasm_reader.specs.declared.whole.ModuleFault.TheVariants as faults
+pub use Rattle.wasm_base.specs.Minimal.{IsFrontOf}
 
 -- ---- custom sections that hold offsets
 

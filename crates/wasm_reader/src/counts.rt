@@ -3,10 +3,10 @@ ghost use Rattle.std.specs.Prelude.{◌≡◌, ◌≢◌, List, length, Some, If
 ghost use Rattle.wasm_base.specs.Formats.{vec};
 ghost use Rattle.wasm_base.specs.Continuing.{RejectsWhole};
 ghost use Rattle.wasm_base.specs.Numbers.{padded};
-ghost use Rattle.wasm_reader_base.specs.declared.fault.ReadFault.TheVariants.{Memory};
+ghost use Rattle.wasm_base.specs.declared.fault.ReadFault.TheVariants.{Memory};
 
 use std::alloc::Allocator;
-use wasm_reader_base::{ReadFault, Skip, skip_many};
+use wasm_base::{ReadFault, Skip, skip_many};
 
 /// Skips the members of a vector that occupies all of the bytes, and returns their number.
 pub(crate) fn count_skipped<'a, P: Skip<'a, A>, A: Allocator + Copy>(

@@ -2,20 +2,19 @@
 ghost use Rattle.std.specs.Prelude.{◌≡◌, ◌≢◌, IfOk, IfErr, OnOk};
 ghost use Rattle.wasm_base.specs.Continuing.{RejectsWhole};
 ghost use Rattle.wasm_base.specs.Numbers.{padded};
-ghost use Rattle.wasm_reader_base.specs.Minimal.{AppendsMinimal};
-ghost use Rattle.wasm_reader_base.specs.declared.fault.ReadFault.TheVariants.{Memory};
+ghost use Rattle.wasm_base.specs.Minimal.{AppendsMinimal};
+ghost use Rattle.wasm_base.specs.declared.fault.ReadFault.TheVariants.{Memory};
 ghost use Rattle.wasm_reader.specs.Kinds.{Contents, content, contents_of, kind_in, kind_named, kind_numbered, kind_of_id as kind_among_ids, number_in};
 
 use crate::counts::count_skipped;
 use std::alloc::{Allocator, Global};
-use wasm_base::{Encode, Result};
+use wasm_base::{Dropped, Encode, ReadFault, Readable, Result, Shorten, read_whole};
+use wasm_code::Body;
 use wasm_custom::{
     BranchHint, CoreFrame, LinkItem, NameItem, append_hints, append_instances, append_links,
     append_modules, append_names, append_process, append_producers, append_stack, read_hints,
     read_instances, read_links, read_modules, read_names, read_process, read_producers, read_stack,
 };
-use wasm_reader_base::{Dropped, ReadFault, Readable, Shorten, read_whole};
-use wasm_reader_insn::Body;
 use wasm_sections::{
     ElementItem, Export, GlobalItem, Imports, MemoryType, Segment, TableItem, TagType,
     append_imports, read_imports, read_segments,

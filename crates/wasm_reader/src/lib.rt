@@ -21,9 +21,10 @@ pub use minimal::shorten;
 pub use modules::{Listed, list_module};
 pub use outlines::{Outlined, outline};
 pub use section::read_section;
+pub use wasm_base::ReadFault;
+pub use wasm_code::{Body, Expression};
 pub use wasm_custom::{CoreFrame, LinkItem, NameItem, Symbol};
-pub use wasm_reader_base::ReadFault;
-pub use wasm_reader_insn::{Arg, Body, Expression, Plain};
+pub use wasm_insn::{Arg, Plain};
 pub use wasm_sections::{
     ElementItem, ElementItemMode, ElementList, GlobalItem, Segment, TableItem,
 };

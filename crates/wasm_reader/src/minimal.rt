@@ -5,16 +5,15 @@ ghost use Rattle.wasm_base.specs.Continuing.{RejectsWhole};
 ghost use Rattle.wasm_base.specs.Numbers.{padded};
 ghost use Rattle.wasm_base.specs.Decoding.{Rejects};
 ghost use Rattle.wasm_code.specs.Bodies.{Body, body};
-ghost use Rattle.wasm_reader_base.specs.Minimal.{AppendsMinimal};
-ghost use Rattle.wasm_reader_base.specs.declared.fault.ReadFault.TheVariants.{Memory};
-ghost use Rattle.wasm_reader.specs.Kinds.{Contents, content, contents_of, kind_in};
+ghost use Rattle.wasm_base.specs.Minimal.{AppendsMinimal};
+ghost use Rattle.wasm_base.specs.declared.fault.ReadFault.TheVariants.{Memory};
+ghost use Rattle.wasm_reader.specs.Kinds.{Contents, content};
 ghost use Rattle.wasm_reader.specs.Sections.{section, Shortens};
 
 use crate::kinds::{Items, SectionKind, append_content, read_content};
 use std::alloc::Allocator;
-use wasm_base::{Encode, Result, encode_size_prefixed};
-use wasm_reader_base::{ReadFault, Readable, Shorten};
-use wasm_reader_insn::shorten_body;
+use wasm_base::{Encode, ReadFault, Readable, Result, Shorten, encode_size_prefixed};
+use wasm_code::shorten_body;
 
 /// Appends the minimal encoding of a vector of bodies that occupies all of the bytes. It keeps none
 /// of them.

@@ -3,13 +3,13 @@ ghost use Rattle.std.specs.Prelude.{◌≡◌, ◌≢◌, ◌⊎◌, ◌++◌, �
 ghost use Rattle.wasm_base.specs.Formats.{fixed, header};
 ghost use Rattle.wasm_base.specs.Numbers.{padded};
 ghost use Rattle.wasm_base.specs.Decoding.{Decodes, Rejects};
-ghost use Rattle.wasm_reader_base.specs.declared.fault.ReadFault.TheVariants.{Ended, UnknownTag, Memory};
+ghost use Rattle.wasm_base.specs.declared.fault.ReadFault.TheVariants.{Ended, UnknownTag, Memory};
 ghost use Rattle.wasm_reader.specs.Kinds.{Contents};
 ghost use Rattle.wasm_reader.specs.Modules.{sized_section, line_of, HasLines, StopsAt};
 
 use crate::kinds::{kind_of_id, read_number};
 use std::alloc::Allocator;
-use wasm_reader_base::{ReadFault, Readable};
+use wasm_base::{ReadFault, Readable};
 
 /// The magic and the version of a module.
 pub(crate) const HEADER: [u8; 8] = [0x00, 0x61, 0x73, 0x6D, 0x01, 0x00, 0x00, 0x00];

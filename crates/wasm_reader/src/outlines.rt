@@ -4,7 +4,7 @@ ghost use Rattle.wasm_base.specs.Formats.{any_section, wasm_module};
 ghost use Rattle.wasm_base.specs.Continuing.{RejectsWhole};
 ghost use Rattle.wasm_base.specs.Numbers.{padded};
 ghost use Rattle.wasm_base.specs.Decoding.{Rejects};
-ghost use Rattle.wasm_reader_base.specs.declared.fault.ReadFault.TheVariants.{Memory};
+ghost use Rattle.wasm_base.specs.declared.fault.ReadFault.TheVariants.{Memory};
 ghost use Rattle.wasm_reader.specs.Outlines.{Section, section_of, bytes_of, section_kind_of, IsCount, IsSection, IsOutline, HasOutline, EndsAt};
 ghost use Rattle.wasm_reader.specs.declared.kinds.SectionKind.TheVariants as kinds;
 
@@ -12,7 +12,7 @@ use crate::kinds::{SectionKind, read_number};
 use crate::modules::read_header;
 use crate::standing::{Standing, read_standing};
 use std::alloc::Allocator;
-use wasm_reader_base::ReadFault;
+use wasm_base::ReadFault;
 use wasm_types::read_types;
 
 /// A section in the outline of a module.

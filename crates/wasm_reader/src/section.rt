@@ -1,15 +1,14 @@
 // Decodes whole sections.
 ghost use Rattle.std.specs.Prelude.{◌≢◌, IfOk, IfErr};
-ghost use Rattle.wasm_base.specs.Continuing.{RejectsWhole};
 ghost use Rattle.wasm_base.specs.Numbers.{padded};
 ghost use Rattle.wasm_base.specs.Decoding.{Rejects};
-ghost use Rattle.wasm_reader_base.specs.declared.fault.ReadFault.TheVariants.{Memory};
-ghost use Rattle.wasm_reader.specs.Kinds.{content, contents_of};
+ghost use Rattle.wasm_base.specs.declared.fault.ReadFault.TheVariants.{Memory};
+ghost use Rattle.wasm_reader.specs.Kinds.{contents_of};
 ghost use Rattle.wasm_reader.specs.Sections.{section, Takes};
 
 use crate::kinds::{Items, SectionKind, read_content};
 use std::alloc::Allocator;
-use wasm_reader_base::{ReadFault, Readable};
+use wasm_base::{ReadFault, Readable};
 
 /// Decodes the section at the front, and returns its items and its length in bytes. The bytes begin
 /// with the section's size prefix, after its id.

@@ -3,13 +3,12 @@ ghost use Rattle.std.specs.Prelude.{◌≡◌, ◌≢◌, ◌++◌, IfOk, IfErr,
 ghost use Rattle.wasm_base.specs.Formats.{any_section};
 ghost use Rattle.wasm_base.specs.Numbers.{padded};
 ghost use Rattle.wasm_base.specs.Decoding.{Rejects};
-ghost use Rattle.wasm_reader_base.specs.declared.fault.ReadFault.TheVariants.{Memory};
-ghost use Rattle.wasm_reader.specs.Kinds.{kind_named};
+ghost use Rattle.wasm_base.specs.declared.fault.ReadFault.TheVariants.{Memory};
 ghost use Rattle.wasm_reader.specs.Outlines.{section_of, IsSection, IsNameOf, bytes_of, section_kind_of as kind_of_section};
 
 use crate::kinds::{SectionKind, kind_of_id, kind_of_name};
 use std::alloc::Allocator;
-use wasm_reader_base::{ReadFault, Readable};
+use wasm_base::{ReadFault, Readable};
 
 /// A section of a module, with its payload not yet decoded.
 #[derive(Clone, Copy, Debug)]

@@ -2,7 +2,7 @@
 ghost use Rattle.std.specs.Prelude.{◌≡◌, ◌≢◌, ◌++◌, ◌∷◌, [], ◌+◌, ◌<◌, ◌≤◌, ◌^◌, List, ℕ, Some, length, IfOk, IfErr, OnOk, OnErr};
 ghost use Rattle.std.specs.Bool.{Decides};
 ghost use Rattle.wasm_base.specs.Formats.{header};
-ghost use Rattle.wasm_reader_base.specs.declared.fault.ReadFault.TheVariants.{Memory};
+ghost use Rattle.wasm_base.specs.declared.fault.ReadFault.TheVariants.{Memory};
 ghost use Rattle.wasm_reader.specs.Outlines.{section_of, IsSection};
 ghost use Rattle.wasm_reader.specs.Shortening.{
   names_code_offsets,
@@ -37,7 +37,7 @@ use crate::minimal::shorten;
 use crate::modules::{HEADER, read_header};
 use crate::standing::{Standing, read_standing};
 use std::alloc::{AllocError, Allocator};
-use wasm_reader_base::ReadFault;
+use wasm_base::ReadFault;
 
 /// The treatment of custom sections that hold offsets.
 ///

@@ -1,47 +1,24 @@
 -- This file proves the effect of each call on core sections: lemmas that a caller's proof cites.
-use Rattle.std.proofs.Common.{◌≡◌, ℕ, ◌^◌, ◌<◌, List, [], ◌∷◌, ◌++◌, map, IsUtf8, Bor, None, Some, Ok, refl, sym, subst, ◌∙◌, arith}
-use Rattle.std.proofs.lemmas.List.{length-map}
-use Rattle.std.proofs.lemmas.List.Elements.{All-map}
-use Rattle.std.specs.Array.Iter.{array_into_iter_items, array_steps}
-use Rattle.std.specs.Iterator.{Count}
-use Rattle.std.specs.Iterator.Adapters.{copied_source, copied_steps}
-use Rattle.std.specs.Slice.Iter.{iter_rest, iter_steps}
+use Rattle.wasm_base.proofs.Words.{◌≡◌, ℕ, ◌^◌, ◌<◌, List, [], ◌∷◌, ◌++◌, map, IsUtf8, Bor, None, Some, Ok, refl, sym, subst, ◌∙◌, arith, length-map, All-map, array_into_iter_items, array_steps}
+use Rattle.wasm_base.proofs.Words.{Count, copied_source, copied_steps, iter_rest, iter_steps, All, AllByRecursion, DecodesOneMore, DecodesBack, DecodesBackBoth, ContainsPadded, counted_format, u32}
+use Rattle.wasm_base.proofs.Words.{vec, size_prefixed, IsEncodableName, SectionDecoding, decoding_of, DecodesSections, minimal, unsigned_encoding, SectionPayload, IsEncodableSection, section_encoding}
+use Rattle.wasm_base.proofs.Words.{size_prefixed_encoding, HasEncodableSize, IsEncodableVec, raw_sized, IsRef, gains_section, adds_item_padded, new_section, adds_item, adds_raw, gains_items}
+use Rattle.wasm_base.proofs.Words.{array_items, copied_items, u32-payload, u32_encodes, name_encodes, pair_encodes}
 use Rattle.std.specs.declared.array.IntoIter.{IntoIter}
 use Rattle.std.specs.declared.iter.Copied.{Copied}
 use Rattle.std.specs.declared.slice.Iter.{Iter}
-use Rattle.std.specs.List.{All, AllByRecursion}
-use Rattle.wasm_base.specs.Calls.{DecodesOneMore, DecodesBack, DecodesBackBoth}
-use Rattle.wasm_base.specs.Entries.{ContainsPadded, counted_format}
-use Rattle.wasm_base.specs.Formats.{u32, vec, size_prefixed}
-use Rattle.wasm_base.specs.Laws.{IsEncodableName}
-use Rattle.wasm_insn.specs.Plain.{Plain}
-use Rattle.wasm_base.specs.Modules.{SectionDecoding, decoding_of, DecodesSections}
-use Rattle.wasm_base.specs.Numbers.{minimal, unsigned_encoding}
-use Rattle.wasm_base.specs.Pieces.{SectionPayload, IsEncodableSection, section_encoding}
-use Rattle.wasm_base.specs.Encodings.{size_prefixed_encoding, HasEncodableSize, IsEncodableVec, raw_sized}
-use Rattle.wasm_base.specs.Types.{IsRef}
 use Rattle.wasm_base.specs.declared.types.RefType.{RefType}
-use Rattle.wasm_base.proofs.Calls.{gains_section, adds_item_padded, new_section, adds_item, adds_raw, gains_items}
-use Rattle.wasm_base.proofs.KnownLengths.{array_items, copied_items}
-use Rattle.wasm_base.proofs.Payloads.{u32-payload}
-use Rattle.wasm_base.proofs.EncodingLaws.{u32_encodes, name_encodes}
-use Rattle.wasm_code.proofs.Calls.{all_of}
-use Rattle.wasm_code.specs.Expressions.{expression_encoding, StoresInstructions, StoresPadded}
-use Rattle.wasm_sections.specs.Constants.{Stored, IsStored}
-use Rattle.wasm_sections.specs.DataSegments.{AddsBytes, active_encoding, passive_encoding, DataItem, active, passive, given_active, given_passive, data_item, ContainsSegments}
-use Rattle.wasm_sections.specs.Elements.{ElementItem, SegmentMode, functions, expressions, AreEncodableElements, IsSegmentMode, settled, settled_encoding, elements_by, stored_by, IsSegment, IsSegmentPadded, element_of, element, ContainsElements}
-use Rattle.wasm_sections.specs.Exports.{kind_code, ExportItem, export, ContainsExports}
-use Rattle.wasm_sections.specs.Globals.{global_encoding, IsGlobal, GlobalItem, global_item, ContainsGlobals}
-use Rattle.wasm_sections.specs.Imports.{ImportItem, alike, import_encoding, IsEncodableImport, IsEntity, import_format, ContainsImports}
-use Rattle.wasm_sections.specs.declared.import.EntityType.{EntityType}
-use Rattle.wasm_sections.specs.Memories.{memory_type, ContainsMemories}
-use Rattle.wasm_sections.specs.Functions.{ContainsFunctions}
-use Rattle.wasm_sections.specs.Tables.{table_encoding, IsTable, TableItem, before_init, table_item, ContainsTables}
-use Rattle.wasm_sections.specs.Tags.{tag_type, ContainsTags}
+use Rattle.wasm_insn.proofs.Words.{Plain}
+use Rattle.wasm_code.proofs.Words.{all_of, expression_encoding, StoresInstructions, StoresPadded}
+use Rattle.wasm_sections.specs.{Stored, IsStored, AddsBytes, active_encoding, passive_encoding, DataItem, active, passive, given_active, given_passive, data_item, ContainsSegments, ElementItem}
+use Rattle.wasm_sections.specs.{SegmentMode, functions, expressions, AreEncodableElements, IsSegmentMode, settled, settled_encoding, elements_by, stored_by, IsSegment, IsSegmentPadded, element_of}
+use Rattle.wasm_sections.specs.{element, ContainsElements, kind_code, ExportItem, export, ContainsExports, global_encoding, IsGlobal, GlobalItem, global_item, ContainsGlobals, ImportItem, alike}
+use Rattle.wasm_sections.specs.{import_encoding, IsEncodableImport, IsEntity, import_format, ContainsImports, memory_type, ContainsMemories, ContainsFunctions, table_encoding, IsTable, TableItem}
+use Rattle.wasm_sections.specs.{before_init, table_item, ContainsTables, tag_type, ContainsTags}
 use Rattle.wasm_sections.specs.declared.memory.MemoryType.{MemoryType}
 use Rattle.wasm_sections.specs.declared.table.TableType.{TableType}
 use Rattle.wasm_sections.specs.declared.tag.TagType.{TagType}
-use Rattle.wasm_base.proofs.PartLaws.{pair_encodes}
+use Rattle.wasm_sections.specs.declared.import.EntityType.{EntityType}
 use Rattle.wasm_sections.proofs.ElementLaws.{stored_same, elements_section}
 use Rattle.wasm_base.proofs.SectionLaws.{payloads}
 use Rattle.wasm_sections.proofs.FunctionLaws.{functions_section}

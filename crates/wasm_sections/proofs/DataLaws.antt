@@ -1,31 +1,17 @@
 -- This file proves that data segments are unambiguous, and how they are decoded and minimized.
-use Rattle.std.proofs.Common.{◌≡◌, ◌≢◌, ℕ, zero, suc, ◌^◌, ◌<◌, List, [], ◌∷◌, ◌++◌, length, Result, Ok, Err, Option, refl, sym, ap, subst, ◌∙◌, append_assoc, arith, length-append, ◌≤◌, ap₂}
-use Rattle.std.specs.Iterator.{Count, Drains, size}
-use Rattle.wasm_base.specs.Calls.{Adds}
-use Rattle.wasm_base.specs.Entries.{ItemLaws}
-use Rattle.wasm_base.specs.Formats.{u32, byte, such, pair, vec, Format, any_bytes, choice, size_prefixed, impossible, members}
-use Rattle.wasm_base.specs.Numbers.{Mode, minimal, unsigned_encoding, padded, IsOfBuilders}
-use Rattle.wasm_base.specs.Decoding.{Unambiguous, Decodes, Rejects}
-use Rattle.wasm_base.specs.Encodings.{size_prefixed_encoding, HasEncodableSize}
+use Rattle.wasm_base.proofs.Words.{◌≡◌, ◌≢◌, ℕ, zero, suc, ◌^◌, ◌<◌, List, [], ◌∷◌, ◌++◌, length, Result, Ok, Err, Option, refl, sym, ap, subst, ◌∙◌, append_assoc, arith, length-append, ◌≤◌, ap₂}
+use Rattle.wasm_base.proofs.Words.{Count, Drains, size, Adds, ItemLaws, u32, byte, such, pair, vec, Format, any_bytes, choice, size_prefixed, impossible, members, Mode, minimal, unsigned_encoding}
+use Rattle.wasm_base.proofs.Words.{padded, IsOfBuilders, Unambiguous, Decodes, Rejects, size_prefixed_encoding, HasEncodableSize, vec_bytes_unambiguous, mapped_unambiguous, pair_unambiguous}
+use Rattle.wasm_base.proofs.Words.{such_unambiguous, choice_of, DeterminesTag, choice_determines, u32_unambiguous, u32_small, encodes_in, u32_in, pair_in, bytes_encodes, then_decodes}
+use Rattle.wasm_base.proofs.Words.{then_rejects_first, then_rejects_second, mapped_decodes, mapped_rejects, such_decodes, such_none, such_rejects, tagged_decodes, tagged_none, tagged_rejects}
+use Rattle.wasm_base.proofs.Words.{no_choice, SectionLaws, counted_laws_padded, AppendsMinimal, HasEncoding, left_encoded, right_encoded, tagged_encoded, mapped_encoded, counted_encodable}
+use Rattle.wasm_base.proofs.Words.{u32_appended, encoding_appended, pair_appended, tagged_appended, mapped_appended}
 use Rattle.wasm_base.specs.declared.refused.Refused.{Refused}
-use Rattle.wasm_base.proofs.BaseLaws.{vec_bytes_unambiguous}
-use Rattle.wasm_base.proofs.FormatLaws.{mapped_unambiguous, pair_unambiguous, such_unambiguous, choice_of, DeterminesTag, choice_determines}
-use Rattle.wasm_base.proofs.NumberLaws.{u32_unambiguous, u32_small}
-use Rattle.wasm_base.proofs.EncodingLaws.{encodes_in, u32_in}
-use Rattle.wasm_code.specs.Expressions.{expression, expression_encoding}
-use Rattle.wasm_code.proofs.ExpressionLaws.{expression_unambiguous, expression_encodes}
-use Rattle.wasm_insn.specs.Plain.{Plain}
-use Rattle.wasm_sections.specs.Constants.{Stored, IsStoredIn}
-use Rattle.wasm_sections.specs.DataSegments.{GivenData, given_active, given_passive, DataItem, active, passive, AddsBytes, active_encoding, data_encoding, IsGivenDataIn, data_of, in_first, in_memory, data_tags, data_item, data_items, IsGivenData, IsGivenDataPadded}
-use Rattle.wasm_base.proofs.PartLaws.{pair_in, flag_encodes, bytes_encodes}
-use Rattle.wasm_base.proofs.DecodingSteps.{then_decodes, then_rejects_first, then_rejects_second, mapped_decodes, mapped_rejects, such_decodes, such_none, such_rejects}
-use Rattle.wasm_base.proofs.Tags.{tagged_decodes, tagged_none, tagged_rejects, no_choice}
-use Rattle.wasm_base.proofs.SectionLaws.{SectionLaws, counted_laws_padded}
+use Rattle.wasm_code.proofs.Words.{expression, expression_encoding, expression_unambiguous, expression_encodes}
+use Rattle.wasm_insn.proofs.Words.{Plain}
+use Rattle.wasm_sections.specs.{Stored, IsStoredIn, GivenData, given_active, given_passive, DataItem, active, passive, AddsBytes, active_encoding, data_encoding, IsGivenDataIn, data_of, in_first}
+use Rattle.wasm_sections.specs.{in_memory, data_tags, data_item, data_items, IsGivenData, IsGivenDataPadded}
 use Rattle.wasm_sections.proofs.ConstantLaws.{stored_included}
-use Rattle.wasm_reader_base.specs.Minimal.{AppendsMinimal, HasEncoding}
-use Rattle.wasm_reader_base.proofs.DecodedValues.{left_encoded, right_encoded, tagged_encoded, mapped_encoded, counted_encodable}
-use Rattle.wasm_reader_base.proofs.DecodePlain.{u32_appended}
-use Rattle.wasm_reader_base.proofs.MinimalEncodings.{encoding_appended, pair_appended, tagged_appended, mapped_appended}
 
 -- ---- unambiguous
 
@@ -229,8 +215,8 @@ flagged x n old middle new e is a = tagged_appended u32 after_flag (λ s z h. fl
 pub placed_appended : (offset : List Plain) (bytes old middle new : List ℕ) → AppendsMinimal expression offset old middle → HasEncodableSize bytes → new ≡ middle ++ size_prefixed_encoding bytes → AppendsMinimal (pair expression (vec byte)) (offset, bytes) old new
 placed_appended offset bytes old middle new a encodable e = pair_appended expression (vec byte) a (counted_appended bytes middle new encodable e)
 
-pub passive_appended : (bytes old middle new : List ℕ) → middle ≡ old ++ unsigned_encoding 1 → HasEncodableSize bytes → new ≡ middle ++ size_prefixed_encoding bytes → AppendsMinimal data_item (passive bytes) old new
-passive_appended bytes old middle new e encodable is = flagged (passive bytes) 1 old middle new refl e (mapped_appended passive (vec byte) bytes middle new (λ z k. cc k) (counted_appended bytes middle new encodable is))
+pub passive_data_appended : (bytes old middle new : List ℕ) → middle ≡ old ++ unsigned_encoding 1 → HasEncodableSize bytes → new ≡ middle ++ size_prefixed_encoding bytes → AppendsMinimal data_item (passive bytes) old new
+passive_data_appended bytes old middle new e encodable is = flagged (passive bytes) 1 old middle new refl e (mapped_appended passive (vec byte) bytes middle new (λ z k. cc k) (counted_appended bytes middle new encodable is))
 
 pub first_appended : (memory : ℕ) (offset : List Plain) (bytes old middle new : List ℕ) → memory ≡ 0 → middle ≡ old ++ unsigned_encoding 0 → AppendsMinimal (pair expression (vec byte)) (offset, bytes) middle new → AppendsMinimal data_item (active memory offset bytes) old new
 first_appended memory offset bytes old middle new z e a =
@@ -248,8 +234,8 @@ other_appended memory offset bytes old middle new other e a =
 
 -- ---- parts that have encodings
 
-pub offset_encoded : (offset : List Plain) (bytes : List ℕ) → HasEncoding (pair expression (vec byte)) (offset, bytes) → HasEncoding expression offset
-offset_encoded offset bytes h = left_encoded expression (vec byte) offset bytes h
+pub data_offset_encoded : (offset : List Plain) (bytes : List ℕ) → HasEncoding (pair expression (vec byte)) (offset, bytes) → HasEncoding expression offset
+data_offset_encoded offset bytes h = left_encoded expression (vec byte) offset bytes h
 
 pub bytes_encodable : (offset : List Plain) (bytes : List ℕ) → HasEncoding (pair expression (vec byte)) (offset, bytes) → HasEncodableSize bytes
 bytes_encodable offset bytes h = counted_encodable byte bytes (right_encoded expression (vec byte) offset bytes h)

@@ -1,20 +1,12 @@
 -- This file proves how readers decode limits, memory types and table types.
-use Rattle.std.proofs.Common.{◌≡◌, ℕ, ◌<◌, ◌≤◌, ◌/◌, ◌%◌, List, true, false, Option, option_map, refl, sym, subst, arith, ◌^◌, Bool}
-use Rattle.std.specs.Prelude.{◌==◌, IfSome}
-use Rattle.wasm_base.specs.Numbers.{padded}
-use Rattle.wasm_base.specs.Formats.{Format, u32, u64, byte, impossible, mapped, optional, pair, when}
-use Rattle.wasm_base.specs.Decoding.{Decodes, Rejects}
-use Rattle.wasm_base.specs.Types.{ref_type}
+use Rattle.wasm_base.proofs.Words.{◌≡◌, ℕ, ◌<◌, ◌≤◌, ◌/◌, ◌%◌, List, true, false, Option, option_map, refl, sym, subst, arith, ◌^◌, Bool, IfSome, padded, Format, u32, u64, byte, impossible, mapped}
+use Rattle.wasm_base.proofs.Words.{optional, pair, when, Decodes, Rejects, ref_type, u64_unambiguous, optional_unambiguous, AllValues, then_decodes, then_rejects_first, then_rejects_second}
+use Rattle.wasm_base.proofs.Words.{mapped_decodes, mapped_rejects, tagged_decodes, tagged_none, tagged_rejects, impossible_rejects, code_decodes, code_none, code_unknown}
 use Rattle.wasm_base.specs.declared.types.RefType.{RefType}
-use Rattle.wasm_base.proofs.BaseLaws.{u64_unambiguous}
-use Rattle.wasm_base.proofs.FormatLaws.{optional_unambiguous, AllValues}
-use Rattle.wasm_base.proofs.DecodingSteps.{then_decodes, then_rejects_first, then_rejects_second, mapped_decodes, mapped_rejects}
-use Rattle.wasm_base.proofs.Tags.{tagged_decodes, tagged_none, tagged_rejects, impossible_rejects, code_decodes, code_none, code_unknown}
-use Rattle.wasm_immediates.proofs.ImmediateLaws.{bit_value}
-use Rattle.wasm_reader_base.proofs.DecodeImmediates.{option_same}
-use Rattle.wasm_sections.specs.Flags.{Flags, flags, flags_code}
-use Rattle.wasm_sections.specs.Memories.{memory_of, after_memory_flags, memory_type}
-use Rattle.wasm_sections.specs.Tables.{Limits, limits_of, after_limits_flags, limits, table_of, table_type}
+use Rattle.std.specs.Prelude.{◌==◌}
+use Rattle.wasm_immediates.proofs.Words.{bit_value, option_same}
+use Rattle.wasm_sections.specs.Flags.{Flags}
+use Rattle.wasm_sections.specs.{flags, flags_code, memory_of, after_memory_flags, memory_type, Limits, limits_of, after_limits_flags, limits, table_of, table_type}
 use Rattle.wasm_sections.proofs.FlagLaws.{flags_unambiguous, weight_is, bit_low}
 
 -- ---- flags

@@ -1,47 +1,30 @@
 -- This file proves that element segments are unambiguous, and how they are decoded and minimized.
-use Rattle.std.proofs.Common.{◌≡◌, ℕ, ◌+◌, ◌<◌, List, [], ◌∷◌, ◌++◌, length, map, Bool, true, false, cond, Some, None, refl, sym, ap, subst, ◌∙◌, arith, lit<, ◌≢◌, ◌≤◌, ◌/◌, ◌%◌, Option, append-nil}
-use Rattle.std.specs.List.{All, flat_map}
-use Rattle.std.proofs.lemmas.List.{length-map, map-id}
-use Rattle.std.proofs.lemmas.List.Elements.{All-head, All-tail}
-use Rattle.wasm_base.specs.Entries.{ItemLaws}
-use Rattle.wasm_base.specs.Formats.{u32, mapped, pair, fixed, vec, members, numbered, Format, byte, when, is_given, prefixed}
-use Rattle.wasm_base.specs.Laws.{IsUnsignedInRange}
-use Rattle.wasm_base.specs.Numbers.{Mode, minimal, unsigned_encoding, padded, IsOfBuilders}
-use Rattle.wasm_base.specs.Decoding.{Unambiguous, Decodes, Rejects}
-use Rattle.wasm_base.specs.Encodings.{vec_encoding, IsEncodableVec}
-use Rattle.wasm_base.specs.Types.{ref_type, ref_encoding, FUNCREF, IsRef}
+use Rattle.wasm_base.proofs.Words.{◌≡◌, ℕ, ◌+◌, ◌<◌, List, [], ◌∷◌, ◌++◌, length, map, Bool, true, false, cond, Some, None, refl, sym, ap, subst, ◌∙◌, arith, lit<, ◌≢◌, ◌≤◌, ◌/◌, ◌%◌, Option}
+use Rattle.wasm_base.proofs.Words.{append-nil, All, flat_map, length-map, map-id, All-head, All-tail, ItemLaws, u32, mapped, pair, fixed, vec, members, numbered, Format, byte, when, is_given}
+use Rattle.wasm_base.proofs.Words.{prefixed, IsUnsignedInRange, Mode, minimal, unsigned_encoding, padded, IsOfBuilders, Unambiguous, Decodes, Rejects, vec_encoding, IsEncodableVec, ref_type}
+use Rattle.wasm_base.proofs.Words.{ref_encoding, FUNCREF, IsRef, vec_u32_unambiguous, DeterminesTag, mapped_unambiguous, pair_unambiguous, vec_unambiguous, when_unambiguous, fixed_unambiguous}
+use Rattle.wasm_base.proofs.Words.{prefixed_unambiguous, tagged_unambiguous, byte_unambiguous, u32_unambiguous, encodes_in, u32_encodes, u32_in, vec_encodes, ref_unambiguous, ref-encodings, pair_in}
+use Rattle.wasm_base.proofs.Words.{flag_encodes, numbered_unambiguous, decodes_same, then_decodes, then_rejects_first, then_rejects_second, mapped_decodes, mapped_rejects, tagged_decodes, tagged_none}
+use Rattle.wasm_base.proofs.Words.{tagged_rejects, fixed_decodes, SectionLaws, counted_laws_padded, AppendsMinimal, HasEncoding, left_encoded, right_encoded, prefixed_encoded, tagged_encoded}
+use Rattle.wasm_base.proofs.Words.{mapped_encoded, fitting_appended, u32_appended, ref_is, encoding_appended, nothing_appended, pair_appended, prefixed_appended, tagged_appended, mapped_appended}
 use Rattle.wasm_base.specs.declared.types.HeapType.{HeapType}
-use Rattle.wasm_base.specs.declared.types.HeapType.TheVariants.{Abstract}
 use Rattle.wasm_base.specs.declared.types.RefType.{RefType}
-use Rattle.wasm_base.proofs.BaseLaws.{vec_u32_unambiguous}
-use Rattle.wasm_base.proofs.FormatLaws.{DeterminesTag, mapped_unambiguous, pair_unambiguous, vec_unambiguous, when_unambiguous, fixed_unambiguous, prefixed_unambiguous, tagged_unambiguous, byte_unambiguous}
-use Rattle.wasm_base.proofs.NumberLaws.{u32_unambiguous}
-use Rattle.wasm_base.proofs.EncodingLaws.{encodes_in, u32_encodes, u32_in, vec_encodes}
-use Rattle.wasm_base.proofs.TypeLaws.{ref_unambiguous, ref-encodings}
-use Rattle.wasm_code.specs.Expressions.{expression, expression_encoding}
-use Rattle.wasm_code.proofs.ExpressionLaws.{expression_unambiguous, expression_encodes}
-use Rattle.wasm_immediates.specs.Immediates.{where_set}
-use Rattle.wasm_immediates.specs.ImmediateFormats.{bit}
-use Rattle.wasm_insn.specs.Plain.{Plain}
-use Rattle.wasm_sections.specs.Constants.{Stored, IsStoredIn}
-use Rattle.wasm_sections.specs.Elements.{is_nullable_func, is_funcref, SegmentMode, passive, declared, active, ElementList, functions, expressions, ElementItem, needs_table, settled_segment_mode, settled, ElementFlag, flag_code, has_kind, is_inactive, is_second, are_expressions, flag_of, segment_mode_encoding, elements_encoding, settled_encoding, stored_encoding, element_encoding, IsSegmentModeIn, AreElementsIn, IsSegmentIn, stored_by, segment_mode_of, elements_of, said_by, element_of, in_no_table, in_table, segment_mode, list_of, elements_as, segment_of, element, element_items, IsSegmentMode}
-use Rattle.wasm_base.proofs.PartLaws.{pair_in, flag_encodes, numbered_unambiguous}
-use Rattle.wasm_sections.specs.GivenElements.{HaveOneEncoding}
+use Rattle.wasm_base.specs.declared.types.HeapType.TheVariants.{Abstract}
+use Rattle.wasm_code.proofs.Words.{expression, expression_encoding, expression_unambiguous, expression_encodes}
+use Rattle.wasm_immediates.proofs.Words.{where_set, bit, bit_value}
+use Rattle.wasm_insn.proofs.Words.{Plain}
+use Rattle.wasm_sections.specs.{Stored, IsStoredIn, is_nullable_func, is_funcref, SegmentMode, passive, active, ElementList, functions, expressions, ElementItem, needs_table}
+use Rattle.wasm_sections.specs.Elements.{declared}
+use Rattle.wasm_sections.specs.{settled_segment_mode, settled, ElementFlag, flag_code, has_kind, is_inactive, is_second, are_expressions, flag_of, segment_mode_encoding, elements_encoding}
+use Rattle.wasm_sections.specs.{settled_encoding, stored_encoding, element_encoding, IsSegmentModeIn, AreElementsIn, IsSegmentIn, stored_by, segment_mode_of, elements_of, said_by, element_of}
+use Rattle.wasm_sections.specs.{in_no_table, in_table, segment_mode, list_of, elements_as, segment_of, element, element_items, IsSegmentMode, HaveOneEncoding}
 use Rattle.wasm_sections.specs.declared.element.ElementSegment.{ElementSegment}
 use Rattle.wasm_sections.proofs.ViewedLists.{viewed_encoding}
 use Rattle.std.specs.Prelude.{◌==◌}
-use Rattle.wasm_base.proofs.DecodingSteps.{decodes_same, then_decodes, then_rejects_first, then_rejects_second, mapped_decodes, mapped_rejects}
-use Rattle.wasm_base.proofs.Tags.{tagged_decodes, tagged_none, tagged_rejects, fixed_decodes}
-use Rattle.wasm_immediates.proofs.ImmediateLaws.{bit_value}
 use Rattle.wasm_sections.proofs.FlagLaws.{weight_is, bit_low}
 use Rattle.wasm_sections.proofs.Prefixes.{prefixed_decodes, prefixed_rejects, prefixed_other}
-use Rattle.wasm_base.specs.declared.types.AbstractHeapType.TheVariants as kinds
-use Rattle.wasm_base.proofs.SectionLaws.{SectionLaws, counted_laws_padded}
 use Rattle.wasm_sections.proofs.ConstantLaws.{stored_included}
-use Rattle.wasm_reader_base.specs.Minimal.{AppendsMinimal, HasEncoding}
-use Rattle.wasm_reader_base.proofs.DecodedValues.{left_encoded, right_encoded, prefixed_encoded, tagged_encoded, mapped_encoded}
-use Rattle.wasm_reader_base.proofs.DecodePlain.{fitting_appended, u32_appended, ref_is}
-use Rattle.wasm_reader_base.proofs.MinimalEncodings.{encoding_appended, nothing_appended, pair_appended, prefixed_appended, tagged_appended, mapped_appended}
+use Rattle.wasm_base.specs.declared.types.AbstractHeapType.TheVariants as kinds
 
 -- ---- flags
 
@@ -281,7 +264,7 @@ flag_unknown bytes rest b h l = record {
   none = λ f last g. let same = decodes_same u32_unambiguous h (record { front = g.front; split = g.split; encodes = g.encodes }) in omega (arith, l, same.0, flag_small f);
 }
 
-pub ruleset flag_steps = (flag_decodes)
+pub ruleset element_flag_steps = (flag_decodes)
 
 -- ---- modes
 

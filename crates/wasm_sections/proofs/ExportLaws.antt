@@ -1,22 +1,12 @@
 -- This file proves that exports are unambiguous, and how they are decoded and minimized.
-use Rattle.std.proofs.Common.{◌≡◌, ℕ, zero, suc, [], ◌∷◌, ◌++◌, refl, ap, ◌≢◌, ◌≤◌, List, arith, ◌^◌, ◌<◌, IsUtf8, subst}
-use Rattle.wasm_base.specs.Entries.{ItemLaws}
-use Rattle.wasm_base.specs.Formats.{u32, name, coded, pair, vec, byte}
-use Rattle.wasm_base.specs.Numbers.{minimal, unsigned_encoding, padded}
-use Rattle.wasm_base.specs.Decoding.{Unambiguous, Decodes, Rejects}
-use Rattle.wasm_base.specs.Encodings.{size_prefixed_encoding, HasEncodableSize}
-use Rattle.wasm_base.proofs.BaseLaws.{name_unambiguous}
-use Rattle.wasm_base.proofs.FormatLaws.{coded_unambiguous, mapped_unambiguous, pair_unambiguous, AllValues}
-use Rattle.wasm_base.proofs.NumberLaws.{u32_unambiguous}
-use Rattle.wasm_base.proofs.EncodingLaws.{u32_encodes, name_encodes}
-use Rattle.wasm_sections.specs.Exports.{kind_code, export_encoding, IsExport, item_of, export_of, export, export_items, IsEncodableExport, ExportItem}
+use Rattle.wasm_base.proofs.Words.{◌≡◌, ℕ, zero, suc, [], ◌∷◌, ◌++◌, refl, ap, ◌≢◌, ◌≤◌, List, arith, ◌^◌, ◌<◌, IsUtf8, subst, ItemLaws, u32, name, coded, pair, vec, byte, minimal, unsigned_encoding}
+use Rattle.wasm_base.proofs.Words.{padded, Unambiguous, Decodes, Rejects, size_prefixed_encoding, HasEncodableSize, name_unambiguous, coded_unambiguous, mapped_unambiguous, pair_unambiguous}
+use Rattle.wasm_base.proofs.Words.{AllValues, u32_unambiguous, u32_encodes, name_encodes, pair_encodes, front_name_encodes, SectionLaws, counted_laws, mapped_decodes, mapped_rejects, code_decodes}
+use Rattle.wasm_base.proofs.Words.{code_none, code_unknown}
+use Rattle.wasm_sections.specs.{kind_code, export_encoding, IsExport, item_of, export_of, export, export_items, IsEncodableExport, ExportItem}
 use Rattle.wasm_sections.specs.declared.export.Export.{Export}
 use Rattle.wasm_sections.specs.declared.export.ExportKind.{ExportKind}
 use Rattle.wasm_sections.specs.declared.export.ExportKind.TheVariants.{Func, Table, Memory, Global, Tag}
-use Rattle.wasm_base.proofs.PartLaws.{pair_encodes, front_name_encodes}
-use Rattle.wasm_base.proofs.SectionLaws.{SectionLaws, counted_laws}
-use Rattle.wasm_base.proofs.DecodingSteps.{mapped_decodes, mapped_rejects}
-use Rattle.wasm_base.proofs.Tags.{code_decodes, code_none, code_unknown}
 use Rattle.wasm_sections.specs.declared.export.ExportKind.TheVariants as kinds
 
 decode : ℕ → ExportKind

@@ -1,10 +1,8 @@
 -- This file proves that the byte of the flags determines each flag.
-use Rattle.std.proofs.Common.{◌≡◌, ℕ, ◌+◌, ◌*◌, ◌/◌, ◌%◌, ◌^◌, ◌<◌, Bool, true, false, refl, arith}
-use Rattle.wasm_base.specs.Decoding.{Unambiguous}
-use Rattle.wasm_base.proofs.FormatLaws.{coded_unambiguous}
-use Rattle.wasm_immediates.specs.Immediates.{where_set}
-use Rattle.wasm_immediates.specs.ImmediateFormats.{bit}
-use Rattle.wasm_sections.specs.Flags.{Flags, flags, flags_code}
+use Rattle.wasm_base.proofs.Words.{◌≡◌, ℕ, ◌+◌, ◌*◌, ◌/◌, ◌%◌, ◌^◌, ◌<◌, Bool, true, false, refl, arith, Unambiguous, coded_unambiguous}
+use Rattle.wasm_immediates.proofs.Words.{where_set, bit}
+use Rattle.wasm_sections.specs.Flags.{Flags}
+use Rattle.wasm_sections.specs.{flags, flags_code}
 
 -- A weight as a multiple of a bit.
 pub weight_is : (set : Bool) (weight : ℕ) → where_set set weight ≡ weight * where_set set 1

@@ -1,13 +1,6 @@
 -- This file proves that type indices are unambiguous.
-use Rattle.std.proofs.Common.{◌≡◌, ℕ, false, arith, ◌+◌, ◌/◌, ◌%◌, ◌<◌, ◌≤◌, [], ◌∷◌}
-use Rattle.wasm_base.specs.Entries.{ItemLaws}
-use Rattle.wasm_base.specs.Numbers.{unsigned_encoding}
-use Rattle.wasm_base.specs.Formats.{u32, vec}
-use Rattle.wasm_base.proofs.NumberLaws.{u32_unambiguous}
-use Rattle.wasm_base.proofs.NumberEncodings.{two_groups}
-use Rattle.wasm_base.proofs.EncodingLaws.{u32_encodes}
-use Rattle.wasm_sections.specs.Functions.{function_items}
-use Rattle.wasm_base.proofs.SectionLaws.{SectionLaws, counted_laws}
+use Rattle.wasm_base.proofs.Words.{◌≡◌, ℕ, false, arith, ◌+◌, ◌/◌, ◌%◌, ◌<◌, ◌≤◌, [], ◌∷◌, ItemLaws, unsigned_encoding, u32, vec, u32_unambiguous, two_groups, u32_encodes, SectionLaws, counted_laws}
+use Rattle.wasm_sections.specs.{function_items}
 
 pub function_laws : ItemLaws function_items
 function_laws = record { unique = u32_unambiguous; encodes = λ index plain encodable. u32_encodes index plain }

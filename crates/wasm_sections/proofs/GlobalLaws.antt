@@ -1,33 +1,19 @@
 -- This file proves that global types and globals are unambiguous, and how they are decoded and
 -- minimized.
-use Rattle.std.proofs.Common.{◌≡◌, ℕ, Bool, true, false, [], ◌∷◌, refl, ap, ◌<◌, ◌≤◌, ◌/◌, ◌%◌, List, arith, subst, ◌++◌}
-use Rattle.wasm_base.specs.Entries.{ItemLaws}
-use Rattle.wasm_base.specs.Formats.{coded, byte, pair, vec}
-use Rattle.wasm_base.specs.Numbers.{Mode, minimal, padded, IsOfBuilders}
-use Rattle.wasm_base.specs.Decoding.{Unambiguous, Decodes, Rejects}
-use Rattle.wasm_base.specs.Types.{val_type, val_encoding}
-use Rattle.wasm_base.proofs.FormatLaws.{coded_unambiguous, mapped_unambiguous, pair_unambiguous, AllValues}
-use Rattle.wasm_base.proofs.TypeLaws.{val_unambiguous, val-encodings}
-use Rattle.wasm_code.specs.Expressions.{expression, expression_encoding}
-use Rattle.wasm_code.proofs.ExpressionLaws.{expression_unambiguous, expression_encodes}
-use Rattle.wasm_immediates.specs.ImmediateFormats.{bit}
-use Rattle.wasm_sections.specs.Globals.{GlobalFlags, global_code, global_flags, global_encoding, IsGlobal, global_of, global_type, GivenGlobal, global_item_encoding, IsGivenGlobalIn, global_item_of, global_from, global_item, global_items}
-use Rattle.wasm_sections.specs.declared.global.GlobalType.{GlobalType}
-use Rattle.wasm_base.proofs.PartLaws.{pair_in, pair_encodes}
-use Rattle.wasm_base.proofs.EncodingLaws.{encodes_in}
-use Rattle.std.specs.Prelude.{◌==◌}
+use Rattle.wasm_base.proofs.Words.{◌≡◌, ℕ, Bool, true, false, [], ◌∷◌, refl, ap, ◌<◌, ◌≤◌, ◌/◌, ◌%◌, List, arith, subst, ◌++◌, ItemLaws, coded, byte, pair, vec, Mode, minimal, padded, IsOfBuilders}
+use Rattle.wasm_base.proofs.Words.{Unambiguous, Decodes, Rejects, val_type, val_encoding, coded_unambiguous, mapped_unambiguous, pair_unambiguous, AllValues, val_unambiguous, val-encodings, pair_in}
+use Rattle.wasm_base.proofs.Words.{pair_encodes, encodes_in, mapped_decodes, mapped_rejects, code_decodes, code_none, code_unknown, SectionLaws, counted_laws_padded, val_type_is, fitting_appended}
+use Rattle.wasm_base.proofs.Words.{pair_appended, mapped_appended, AppendsMinimal, HasEncoding, right_encoded, mapped_encoded}
 use Rattle.wasm_base.specs.declared.types.ValType.{ValType}
-use Rattle.wasm_base.proofs.DecodingSteps.{mapped_decodes, mapped_rejects}
-use Rattle.wasm_base.proofs.Tags.{code_decodes, code_none, code_unknown}
-use Rattle.wasm_immediates.proofs.ImmediateLaws.{bit_value}
-use Rattle.wasm_insn.specs.Plain.{Plain}
+use Rattle.wasm_code.proofs.Words.{expression, expression_encoding, expression_unambiguous, expression_encodes}
+use Rattle.wasm_immediates.proofs.Words.{bit, bit_value}
+use Rattle.wasm_sections.specs.{GlobalFlags, global_code, global_flags, global_encoding, IsGlobal, global_of, global_type, GivenGlobal, global_item_encoding, IsGivenGlobalIn, global_item_of}
+use Rattle.wasm_sections.specs.{global_from, global_item, global_items}
+use Rattle.wasm_sections.specs.declared.global.GlobalType.{GlobalType}
+use Rattle.std.specs.Prelude.{◌==◌}
+use Rattle.wasm_insn.proofs.Words.{Plain}
 use Rattle.wasm_sections.proofs.FlagLaws.{weight_is, bit_low}
-use Rattle.wasm_base.proofs.SectionLaws.{SectionLaws, counted_laws_padded}
 use Rattle.wasm_sections.proofs.ConstantLaws.{stored_included}
-use Rattle.wasm_reader_base.proofs.DecodePlain.{val_type_is, fitting_appended}
-use Rattle.wasm_reader_base.proofs.MinimalEncodings.{pair_appended, mapped_appended}
-use Rattle.wasm_reader_base.specs.Minimal.{AppendsMinimal, HasEncoding}
-use Rattle.wasm_reader_base.proofs.DecodedValues.{right_encoded, mapped_encoded}
 
 decode : ℕ → GlobalFlags
 decode n = record { mutable = bit 0 n; shared = bit 1 n }

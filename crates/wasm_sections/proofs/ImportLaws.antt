@@ -1,42 +1,26 @@
 -- This file proves that imports are unambiguous, and how they are decoded and minimized.
-use Rattle.std.proofs.Common.{◌≡◌, ◌≢◌, ℕ, ◌<◌, ◌≤◌, List, [], ◌∷◌, ◌++◌, refl, sym, ap, subst, ◌∙◌, arith, lit<, inl, inr, length-append, suc, ◌-◌, length, take, drop, slice_index_or, IsUtf8}
-use Rattle.std.proofs.lemmas.Str.{IsUtf8-nil}
-use Rattle.wasm_base.specs.Entries.{ItemLaws}
-use Rattle.wasm_base.specs.Formats.{name, byte, vec, impossible, mapped, pair, prefixed, Format, u32, choice, members}
-use Rattle.wasm_base.specs.Laws.{IsEncodableName}
-use Rattle.wasm_base.specs.Numbers.{Mode, minimal, unsigned_encoding, padded}
-use Rattle.wasm_base.specs.Decoding.{Unambiguous, BeginsWith, Decodes, Rejects}
-use Rattle.wasm_base.specs.Encodings.{size_prefixed_encoding, HasEncodableSize, vec_encoding, IsEncodableVec}
-use Rattle.wasm_base.proofs.BaseLaws.{name_unambiguous}
-use Rattle.wasm_base.proofs.FormatLaws.{DeterminesTag, AllValues, BeginNeverAlike, begin_apart, mapped_unambiguous, pair_unambiguous, vec_unambiguous, byte_unambiguous, either_unambiguous, prefixed_unambiguous, tagged_unambiguous, tagged_at, choice_of, choice_begins, begins_mapped, values_mapped, values_tagged, none_in_common, values_one_of}
-use Rattle.wasm_base.proofs.NumberLaws.{u32_unambiguous, u32_small}
-use Rattle.wasm_base.proofs.EncodingLaws.{tagged_encodes, u32_encodes, name_encodes, vec_encodes}
-use Rattle.wasm_sections.specs.Imports.{entity_encoding, IsEntity, entity_tags, entity, Imported, single, named, alike, ImportItem, named_encoding, imported_encoding, import_encoding, IsNamed, IsImported, IsImport, alike_of, group_tags, group, named_entity, after_module, import_of, import_format, import_items, IsEncodableImported, IsEncodableImport}
+use Rattle.wasm_base.proofs.Words.{◌≡◌, ◌≢◌, ℕ, ◌<◌, ◌≤◌, List, [], ◌∷◌, ◌++◌, refl, sym, ap, subst, ◌∙◌, arith, lit<, inl, inr, length-append, suc, ◌-◌, length, take, drop, slice_index_or, IsUtf8}
+use Rattle.wasm_base.proofs.Words.{IsUtf8-nil, ItemLaws, name, byte, vec, impossible, mapped, pair, prefixed, Format, u32, choice, members, IsEncodableName, Mode, minimal, unsigned_encoding, padded}
+use Rattle.wasm_base.proofs.Words.{Unambiguous, BeginsWith, Decodes, Rejects, size_prefixed_encoding, HasEncodableSize, vec_encoding, IsEncodableVec, name_unambiguous, DeterminesTag, AllValues}
+use Rattle.wasm_base.proofs.Words.{BeginNeverAlike, begin_apart, mapped_unambiguous, pair_unambiguous, vec_unambiguous, byte_unambiguous, either_unambiguous, prefixed_unambiguous, tagged_unambiguous}
+use Rattle.wasm_base.proofs.Words.{tagged_at, choice_of, choice_begins, begins_mapped, values_mapped, values_tagged, none_in_common, values_one_of, u32_unambiguous, u32_small, tagged_encodes}
+use Rattle.wasm_base.proofs.Words.{u32_encodes, name_encodes, vec_encodes, pair_encodes, front_name_encodes, take_all, All-nil, All-cons, All-head, All-tail, then_decodes, then_rejects_first}
+use Rattle.wasm_base.proofs.Words.{then_rejects_second, mapped_decodes, mapped_rejects, tagged_decodes, tagged_none, tagged_rejects, no_choice, one_of_rejects, one_of_left, one_of_right, SectionLaws}
+use Rattle.wasm_base.proofs.Words.{counted_laws, All, AppendsMinimal, HasEncoding, vec_is, encoding_appended}
+use Rattle.wasm_sections.specs.{entity_encoding, IsEntity, entity_tags, entity, Imported, single, named, alike, ImportItem, named_encoding, imported_encoding, import_encoding, IsNamed, IsImported}
+use Rattle.wasm_sections.specs.{IsImport, alike_of, group_tags, group, named_entity, after_module, import_of, import_format, import_items, IsEncodableImported, IsEncodableImport, global_type}
+use Rattle.wasm_sections.specs.{memory_type, table_type, tag_type}
+use Rattle.wasm_sections.specs.declared.global.GlobalType.{GlobalType}
+use Rattle.wasm_sections.specs.declared.memory.MemoryType.{MemoryType}
+use Rattle.wasm_sections.specs.declared.table.TableType.{TableType}
+use Rattle.wasm_sections.specs.declared.tag.TagType.{TagType}
 use Rattle.wasm_sections.specs.declared.import.EntityType.{EntityType}
 use Rattle.wasm_sections.specs.declared.import.EntityType.TheVariants.{Function, Table, Memory, Global, Tag, FunctionExact}
 use Rattle.wasm_sections.proofs.GlobalLaws.{global_unambiguous, global_encodes, global_is}
 use Rattle.wasm_sections.proofs.MemoryLaws.{memory_unambiguous, memory_encodes, memory_is}
 use Rattle.wasm_sections.proofs.TableLaws.{table_unambiguous, table_encodes, table_is}
 use Rattle.wasm_sections.proofs.TagLaws.{tag_unambiguous, tag_encodes, tag_is}
-use Rattle.wasm_base.proofs.PartLaws.{pair_encodes, front_name_encodes}
-use Rattle.std.proofs.lemmas.List.{take_all}
-use Rattle.std.proofs.lemmas.List.Elements.{All-nil, All-cons, All-head, All-tail}
-use Rattle.wasm_base.proofs.DecodingSteps.{then_decodes, then_rejects_first, then_rejects_second, mapped_decodes, mapped_rejects}
-use Rattle.wasm_base.proofs.Tags.{tagged_decodes, tagged_none, tagged_rejects, no_choice, one_of_rejects, one_of_left, one_of_right}
-use Rattle.wasm_sections.specs.Globals.{global_type}
-use Rattle.wasm_sections.specs.Memories.{memory_type}
-use Rattle.wasm_sections.specs.Tables.{table_type}
-use Rattle.wasm_sections.specs.Tags.{tag_type}
-use Rattle.wasm_sections.specs.declared.global.GlobalType.{GlobalType}
-use Rattle.wasm_sections.specs.declared.memory.MemoryType.{MemoryType}
-use Rattle.wasm_sections.specs.declared.table.TableType.{TableType}
-use Rattle.wasm_sections.specs.declared.tag.TagType.{TagType}
 use Rattle.wasm_sections.proofs.Prefixes.{prefixed_decodes, prefixed_rejects}
-use Rattle.wasm_base.proofs.SectionLaws.{SectionLaws, counted_laws}
-use Rattle.std.specs.List.{All}
-use Rattle.wasm_reader_base.specs.Minimal.{AppendsMinimal, HasEncoding}
-use Rattle.wasm_reader_base.proofs.DecodePlain.{vec_is}
-use Rattle.wasm_reader_base.proofs.MinimalEncodings.{encoding_appended}
 
 -- ---- entities
 

@@ -1,3 +1,5 @@
+-- The lemmas of the crate, each file. `Words` passes on what the crates above use.
+pub mod Words
 pub mod ViewedLists
 pub mod Prefixes
 pub mod FlagLaws

@@ -1,21 +1,12 @@
 -- This file proves that memory types are unambiguous.
-use Rattle.std.proofs.Common.{◌≡◌, ℕ, ◌^◌, ◌<◌, [], ◌∷◌, ◌++◌, Option, refl, ap, ◌∙◌, List, subst}
-use Rattle.wasm_base.specs.Entries.{ItemLaws}
-use Rattle.wasm_base.specs.Formats.{u32, u64, optional, is_given, vec, mapped, pair}
-use Rattle.wasm_base.specs.Numbers.{minimal, unsigned_encoding}
-use Rattle.wasm_base.specs.Decoding.{Unambiguous}
-use Rattle.wasm_base.proofs.BaseLaws.{u64_unambiguous}
-use Rattle.wasm_base.proofs.FormatLaws.{DeterminesTag, tagged_unambiguous, mapped_unambiguous, pair_unambiguous, optional_unambiguous, AllValues}
-use Rattle.wasm_base.proofs.NumberLaws.{u32_unambiguous}
-use Rattle.wasm_base.proofs.EncodingLaws.{u32_encodes, u64_encodes}
-use Rattle.wasm_base.specs.Encodings.{optional_encoding}
-use Rattle.wasm_sections.specs.Flags.{flags_code, Flags}
-use Rattle.wasm_sections.specs.Memories.{memory_flags, memory_encoding, IsMemory, memory_of, after_memory_flags, memory_type, memory_items}
+use Rattle.wasm_base.proofs.Words.{◌≡◌, ℕ, ◌^◌, ◌<◌, [], ◌∷◌, ◌++◌, Option, refl, ap, ◌∙◌, List, subst, ItemLaws, u32, u64, optional, is_given, vec, mapped, pair, minimal, unsigned_encoding}
+use Rattle.wasm_base.proofs.Words.{Unambiguous, u64_unambiguous, DeterminesTag, tagged_unambiguous, mapped_unambiguous, pair_unambiguous, optional_unambiguous, AllValues, u32_unambiguous, u32_encodes}
+use Rattle.wasm_base.proofs.Words.{u64_encodes, optional_encoding, pair_encodes, optional_encodes, optional_determines, SectionLaws, counted_laws}
+use Rattle.wasm_sections.specs.{flags_code, memory_flags, memory_encoding, IsMemory, memory_of, after_memory_flags, memory_type, memory_items}
+use Rattle.wasm_sections.specs.Flags.{Flags}
 use Rattle.wasm_sections.specs.declared.memory.MemoryType.{MemoryType}
 use Rattle.wasm_sections.proofs.FlagLaws.{flags_unambiguous}
 use Rattle.wasm_sections.proofs.DecodeLimits.{optional_is, u64_is, u32_is}
-use Rattle.wasm_base.proofs.PartLaws.{pair_encodes, optional_encodes, optional_determines}
-use Rattle.wasm_base.proofs.SectionLaws.{SectionLaws, counted_laws}
 
 abbrev parts_of : MemoryType → ℕ × (Option ℕ × Option ℕ)
 parts_of m = (m.minimum, (m.maximum, m.page_size_log2))

@@ -1,13 +1,6 @@
 -- This file proves that a section of one number decodes to it alone.
-use Rattle.std.proofs.Common.{◌≡◌, ℕ, ◌^◌, ◌<◌, sym, subst}
-use Rattle.wasm_base.specs.Calls.{DecodesBack}
-use Rattle.wasm_base.specs.Formats.{u32, size_prefixed}
-use Rattle.wasm_base.specs.Numbers.{unsigned_encoding}
-use Rattle.wasm_base.specs.Decoding.{Unambiguous, DecodesUniquely}
-use Rattle.wasm_base.specs.Encodings.{size_prefixed_encoding, HasEncodableSize}
-use Rattle.wasm_base.proofs.FormatLaws.{size_prefixed_unambiguous, whole_from_unique}
-use Rattle.wasm_base.proofs.NumberLaws.{u32_unambiguous}
-use Rattle.wasm_base.proofs.EncodingLaws.{decodes_uniquely, size_prefixed_encodes, u32_encodes}
+use Rattle.wasm_base.proofs.Words.{◌≡◌, ℕ, ◌^◌, ◌<◌, sym, subst, DecodesBack, u32, size_prefixed, unsigned_encoding, Unambiguous, DecodesUniquely, size_prefixed_encoding, HasEncodableSize}
+use Rattle.wasm_base.proofs.Words.{size_prefixed_unambiguous, whole_from_unique, u32_unambiguous, decodes_uniquely, size_prefixed_encodes, u32_encodes}
 
 pub number_unambiguous : Unambiguous (size_prefixed u32)
 number_unambiguous = size_prefixed_unambiguous (whole_from_unique u32_unambiguous)

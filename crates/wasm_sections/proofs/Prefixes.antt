@@ -1,10 +1,5 @@
 -- This file proves how readers decode values after fixed bytes.
-use Rattle.std.proofs.Common.{◌≡◌, ℕ, List, ◌++◌, refl, ap, ◌∙◌}
-use Rattle.wasm_base.specs.Numbers.{padded}
-use Rattle.wasm_base.specs.Formats.{Format, fixed, prefixed}
-use Rattle.wasm_base.specs.Decoding.{Decodes, Rejects}
-use Rattle.wasm_base.proofs.FormatLaws.{fixed_unambiguous}
-use Rattle.wasm_base.proofs.Tags.{tagged_decodes, tagged_none, tagged_rejects}
+use Rattle.wasm_base.proofs.Words.{◌≡◌, ℕ, List, ◌++◌, refl, ap, ◌∙◌, padded, Format, fixed, prefixed, Decodes, Rejects, fixed_unambiguous, tagged_decodes, tagged_none, tagged_rejects}
 
 module _ {X : Type 0} (head : List ℕ) (F : Format X) {bytes : List ℕ} where
   front_of : {rest : List ℕ} → bytes ≡ head ++ rest → Decodes (fixed head (tt {0})) padded bytes tt rest

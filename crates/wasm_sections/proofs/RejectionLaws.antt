@@ -1,27 +1,14 @@
 -- This file proves that certain bytes are not a section.
-use Rattle.std.proofs.Common.{◌≡◌, ℕ, ◌<◌, List, [], ◌∷◌, ◌++◌, false, pos, refl, sym, subst, ◌∙◌, append-nil, arith, lit<, inl, inr}
-use Rattle.std.proofs.lemmas.Int.{ints}
-use Rattle.std.proofs.lemmas.Str.{IsUtf8-nil}
+use Rattle.wasm_base.proofs.Words.{◌≡◌, ℕ, ◌<◌, List, [], ◌∷◌, ◌++◌, false, pos, refl, sym, subst, ◌∙◌, append-nil, arith, lit<, inl, inr, ints, IsUtf8-nil, counted_format, u32, impossible, choice}
+use Rattle.wasm_base.proofs.Words.{name, mapped, such, RejectsAllAfterPadded, minimal, padded, name_unambiguous, then_at, tagged_at, begins_mapped, u32_unambiguous, u32_small, rejects_padded}
+use Rattle.wasm_base.proofs.Words.{one_item, groups_encoding-last}
 use Rattle.std.specs.declared.alloc.Global.{Global}
-use Rattle.wasm_base.specs.Entries.{counted_format}
-use Rattle.wasm_base.specs.Formats.{u32, impossible, choice, name, mapped, such}
-use Rattle.wasm_base.specs.Laws.{RejectsAllAfterPadded}
-use Rattle.wasm_base.specs.Numbers.{minimal, padded}
 use Rattle.wasm_base.specs.declared.types.ValType.TheVariants.{I32}
-use Rattle.wasm_base.proofs.BaseLaws.{name_unambiguous}
-use Rattle.wasm_base.proofs.FormatLaws.{then_at, tagged_at, begins_mapped}
-use Rattle.wasm_base.proofs.NumberLaws.{u32_unambiguous, u32_small}
-use Rattle.wasm_base.proofs.RejectionLaws.{rejects_padded, one_item}
-use Rattle.wasm_base.proofs.NumberEncodings.{groups_encoding-last}
-use Rattle.wasm_insn.specs.Plain.{instruction}
-use Rattle.wasm_insn.specs.Table.{table}
+use Rattle.wasm_insn.proofs.Words.{instruction, table}
 use Rattle.wasm_insn.specs.declared.instruction.Instruction.{Instruction}
 use Rattle.wasm_insn.specs.declared.instruction.Instruction.TheVariants.{I32Const}
-use Rattle.wasm_code.specs.Expressions.{IsNoEnd, normal_row}
-use Rattle.wasm_code.proofs.ExpressionLaws.{members_one, normal_encodes}
-use Rattle.wasm_sections.specs.DataSegments.{DataItem, data_tags, data_item}
-use Rattle.wasm_sections.specs.Globals.{GivenGlobal, GlobalItem, global_item_of, global_item}
-use Rattle.wasm_sections.specs.Imports.{Imported, ImportItem, single, entity, after_module, import_format}
+use Rattle.wasm_code.proofs.Words.{IsNoEnd, normal_row, members_one, normal_encodes}
+use Rattle.wasm_sections.specs.{DataItem, data_tags, data_item, GivenGlobal, GlobalItem, global_item_of, global_item, Imported, ImportItem, single, entity, after_module, import_format}
 use Rattle.wasm_sections.proofs.GlobalLaws.{global_item_unambiguous, global_item_encodes, globals_section}
 use Rattle.wasm_sections.proofs.ImportLaws.{IsEntityByte, entity_begins, empty_name, imports_section}
 use Rattle.wasm_sections.proofs.DataLaws.{segments_section}

@@ -1,36 +1,22 @@
 -- This file proves that table types and tables are unambiguous, and how they are decoded and
 -- minimized.
-use Rattle.std.proofs.Common.{◌≡◌, ℕ, ◌^◌, ◌<◌, List, [], ◌∷◌, ◌++◌, Bool, true, false, Option, Some, None, refl, ap, ◌∙◌, arith, inl, inr, ◌≢◌, sym, subst}
-use Rattle.std.specs.Prelude.{IfSome}
-use Rattle.wasm_base.specs.Entries.{ItemLaws}
-use Rattle.wasm_base.specs.Formats.{u64, impossible, mapped, pair, optional, when, prefixed, is_given, Format, byte, vec}
-use Rattle.wasm_base.specs.Numbers.{Mode, minimal, unsigned_encoding, padded, IsOfBuilders}
-use Rattle.wasm_base.specs.Decoding.{Unambiguous, BeginsWith, Decodes, Rejects}
-use Rattle.wasm_base.specs.Encodings.{optional_encoding}
-use Rattle.wasm_base.specs.Types.{ref_type, ref_tags, ref_encoding}
-use Rattle.wasm_base.proofs.BaseLaws.{u64_unambiguous}
-use Rattle.wasm_base.proofs.FormatLaws.{DeterminesTag, tagged_unambiguous, mapped_unambiguous, when_unambiguous, impossible_unambiguous, pair_unambiguous, optional_unambiguous, prefixed_unambiguous, one_of_unambiguous, begins_then, begins_mapped, begins_fixed, choice_begins, none_in_common, values_mapped, AllValues}
-use Rattle.wasm_base.proofs.EncodingLaws.{encodes_in, u64_encodes}
-use Rattle.wasm_base.proofs.TypeLaws.{ref_unambiguous, ref-encodings}
-use Rattle.wasm_code.specs.Expressions.{expression, expression_encoding}
-use Rattle.wasm_code.proofs.ExpressionLaws.{expression_unambiguous, expression_encodes}
-use Rattle.wasm_insn.specs.Plain.{Plain}
-use Rattle.wasm_sections.specs.Constants.{Stored, IsStoredIn, IsStored, IsStoredPadded}
-use Rattle.wasm_sections.specs.Flags.{Flags, flags_code}
-use Rattle.wasm_sections.specs.Tables.{table_flags, table_encoding, IsTable, Limits, limits_of, after_limits_flags, limits, table_of, table_type, before_init, table_init_encoding, init_of, without_init, with_init, table_item, table_items}
+use Rattle.wasm_base.proofs.Words.{◌≡◌, ℕ, ◌^◌, ◌<◌, List, [], ◌∷◌, ◌++◌, Bool, true, false, Option, Some, None, refl, ap, ◌∙◌, arith, inl, inr, ◌≢◌, sym, subst, IfSome, ItemLaws, u64, impossible}
+use Rattle.wasm_base.proofs.Words.{mapped, pair, optional, when, prefixed, is_given, Format, byte, vec, Mode, minimal, unsigned_encoding, padded, IsOfBuilders, Unambiguous, BeginsWith, Decodes}
+use Rattle.wasm_base.proofs.Words.{Rejects, optional_encoding, ref_type, ref_tags, ref_encoding, u64_unambiguous, DeterminesTag, tagged_unambiguous, mapped_unambiguous, when_unambiguous}
+use Rattle.wasm_base.proofs.Words.{impossible_unambiguous, pair_unambiguous, optional_unambiguous, prefixed_unambiguous, one_of_unambiguous, begins_then, begins_mapped, begins_fixed, choice_begins}
+use Rattle.wasm_base.proofs.Words.{none_in_common, values_mapped, AllValues, encodes_in, u64_encodes, ref_unambiguous, ref-encodings, pair_in, pair_encodes, optional_encodes, optional_determines}
+use Rattle.wasm_base.proofs.Words.{mapped_decodes, mapped_rejects, one_of_rejects, one_of_left, one_of_right, not_begun, no_bytes, SectionLaws, counted_laws_padded, ref_is, fitting_appended}
+use Rattle.wasm_base.proofs.Words.{pair_appended, prefixed_appended, mapped_appended, AppendsMinimal, HasEncoding, right_encoded, prefixed_encoded, mapped_encoded}
+use Rattle.wasm_code.proofs.Words.{expression, expression_encoding, expression_unambiguous, expression_encodes}
+use Rattle.wasm_insn.proofs.Words.{Plain}
+use Rattle.wasm_sections.specs.{Stored, IsStoredIn, IsStored, IsStoredPadded, flags_code, table_flags, table_encoding, IsTable, Limits, limits_of, after_limits_flags, limits, table_of, table_type}
+use Rattle.wasm_sections.specs.{before_init, table_init_encoding, init_of, without_init, with_init, table_item, table_items}
+use Rattle.wasm_sections.specs.Flags.{Flags}
 use Rattle.wasm_sections.specs.declared.table.TableType.{TableType}
 use Rattle.wasm_sections.proofs.FlagLaws.{flags_unambiguous}
-use Rattle.wasm_base.proofs.PartLaws.{pair_in, pair_encodes, optional_encodes, optional_determines}
-use Rattle.wasm_base.proofs.DecodingSteps.{mapped_decodes, mapped_rejects}
-use Rattle.wasm_base.proofs.Tags.{one_of_rejects, one_of_left, one_of_right, not_begun, no_bytes}
 use Rattle.wasm_sections.proofs.Prefixes.{prefixed_decodes, prefixed_rejects, prefixed_other}
-use Rattle.wasm_base.proofs.SectionLaws.{SectionLaws, counted_laws_padded}
 use Rattle.wasm_sections.proofs.ConstantLaws.{stored_included}
 use Rattle.wasm_sections.proofs.DecodeLimits.{optional_is, u64_is}
-use Rattle.wasm_reader_base.proofs.DecodePlain.{ref_is, fitting_appended}
-use Rattle.wasm_reader_base.proofs.MinimalEncodings.{pair_appended, prefixed_appended, mapped_appended}
-use Rattle.wasm_reader_base.specs.Minimal.{AppendsMinimal, HasEncoding}
-use Rattle.wasm_reader_base.proofs.DecodedValues.{right_encoded, prefixed_encoded, mapped_encoded}
 
 abbrev limits_flags : Limits → Flags
 limits_flags l = record { has_maximum = is_given l.maximum; shared = l.shared; is_64 = l.table64; has_page_size = false }
@@ -220,8 +206,8 @@ table_init_appended t init old front middle new b e a =
     encodes is s (inl h) = absurd (cc (ap (λ i. i.init) h.1))
     encodes is s (inr h) = inr (is.encodes s h)
 
-pub init_encoded : (t : TableType) (init : List Plain) → HasEncoding table_item (with_init (t, init)) → HasEncoding expression init
-init_encoded t init h = go h.bytes h.decoded
+pub table_init_encoded : (t : TableType) (init : List Plain) → HasEncoding table_item (with_init (t, init)) → HasEncoding expression init
+table_init_encoded t init h = go h.bytes h.decoded
   where
     go : (s : List ℕ) → table_item padded s (with_init (t, init)) → HasEncoding expression init
     go s (inl k) = absurd (cc (ap (λ i. i.init) k.1))

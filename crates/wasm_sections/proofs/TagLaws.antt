@@ -1,20 +1,11 @@
 -- This file proves that tag types are unambiguous.
-use Rattle.std.proofs.Common.{◌≡◌, [], ◌∷◌, refl, ap, ◌≢◌, ℕ, List, subst}
-use Rattle.wasm_base.specs.Entries.{ItemLaws}
-use Rattle.wasm_base.specs.Formats.{u32, coded, vec, byte, pair}
-use Rattle.wasm_base.specs.Numbers.{minimal, unsigned_encoding, padded}
-use Rattle.wasm_base.specs.Decoding.{Unambiguous, Decodes, Rejects}
-use Rattle.wasm_base.proofs.FormatLaws.{coded_unambiguous, mapped_unambiguous, pair_unambiguous, AllValues}
-use Rattle.wasm_base.proofs.NumberLaws.{u32_unambiguous}
-use Rattle.wasm_base.proofs.EncodingLaws.{u32_encodes}
-use Rattle.wasm_sections.specs.Tags.{tag_code, tag_encoding, IsTag, tag_of, tag_type, tag_items}
+use Rattle.wasm_base.proofs.Words.{◌≡◌, [], ◌∷◌, refl, ap, ◌≢◌, ℕ, List, subst, ItemLaws, u32, coded, vec, byte, pair, minimal, unsigned_encoding, padded, Unambiguous, Decodes, Rejects}
+use Rattle.wasm_base.proofs.Words.{coded_unambiguous, mapped_unambiguous, pair_unambiguous, AllValues, u32_unambiguous, u32_encodes, pair_encodes, SectionLaws, counted_laws, mapped_decodes}
+use Rattle.wasm_base.proofs.Words.{mapped_rejects, code_decodes, code_none, code_unknown}
+use Rattle.wasm_sections.specs.{tag_code, tag_encoding, IsTag, tag_of, tag_type, tag_items}
+use Rattle.wasm_sections.specs.declared.tag.TagType.{TagType}
 use Rattle.wasm_sections.specs.declared.tag.TagKind.{TagKind}
 use Rattle.wasm_sections.specs.declared.tag.TagKind.TheVariants.{Exception}
-use Rattle.wasm_sections.specs.declared.tag.TagType.{TagType}
-use Rattle.wasm_base.proofs.PartLaws.{pair_encodes}
-use Rattle.wasm_base.proofs.SectionLaws.{SectionLaws, counted_laws}
-use Rattle.wasm_base.proofs.DecodingSteps.{mapped_decodes, mapped_rejects}
-use Rattle.wasm_base.proofs.Tags.{code_decodes, code_none, code_unknown}
 
 back : (kind : TagKind) → Exception ≡ kind
 back Exception = refl

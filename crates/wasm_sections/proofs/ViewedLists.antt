@@ -1,14 +1,7 @@
 -- This file proves the encodings of lists from the views of their members.
-use Rattle.std.proofs.Common.{◌≡◌, ℕ, ◌++◌, List, [], ◌∷◌, map, length, ap, sym, subst, ◌∙◌, Result, arith}
-use Rattle.std.proofs.lemmas.List.{length-map}
-use Rattle.std.proofs.lemmas.List.Elements.{All-nil, All-cons, All-head, All-tail, All-map}
-use Rattle.std.proofs.lemmas.List.Folds.{flat_map-map}
-use Rattle.std.specs.List.{All, flat_map}
+use Rattle.wasm_base.proofs.Words.{◌≡◌, ℕ, ◌++◌, List, [], ◌∷◌, map, length, ap, sym, subst, ◌∙◌, Result, arith, length-map, All-nil, All-cons, All-head, All-tail, All-map, flat_map-map, All}
+use Rattle.wasm_base.proofs.Words.{flat_map, on_ok, Appends, unsigned_encoding, vec_encoding, IsEncodableVec}
 use Rattle.std.specs.declared.vec.Vec.{Vec}
-use Rattle.wasm_base.proofs.Outcomes.{on_ok}
-use Rattle.wasm_base.specs.Calls.{Appends}
-use Rattle.wasm_base.specs.Numbers.{unsigned_encoding}
-use Rattle.wasm_base.specs.Encodings.{vec_encoding, IsEncodableVec}
 use Rattle.wasm_base.specs.declared.refused.Refused.{Refused}
 
 module _ {X Y : Type 0} (encoding : Y → List ℕ) (Encodable : Y → Type 0) (view : X → Y) where

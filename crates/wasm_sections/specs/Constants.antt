@@ -1,10 +1,9 @@
 -- This file defines the constant expressions that are arguments of calls.
 use Rattle.std.specs.Prelude.{ℕ, List, map}
-use Rattle.wasm_base.specs.Numbers.{Mode, minimal, padded}
-use Rattle.wasm_code.specs.Expressions.{StoresIn}
-use Rattle.wasm_insn.specs.Plain.{Plain}
-use Rattle.wasm_reader_insn.specs.Arguments.{plain_view}
-use Rattle.wasm_reader_insn.specs.declared.expression.Expression.{Expression}
+use Rattle.wasm_base.specs.Words.{Mode, minimal, padded}
+use Rattle.wasm_code.specs.Words.{StoresIn}
+use Rattle.wasm_code.specs.declared.expression.Expression.{Expression}
+use Rattle.wasm_insn.specs.Words.{Plain, plain_view}
 
 -- An expression as an argument: its stored bytes, and the instructions that they should encode.
 pub record Stored : Type 0 where

@@ -1,28 +1,22 @@
 -- This file defines element segments, their encodings and their format. Core specification, Binary
 -- Format, Modules, Element Section.
 use Rattle.std.specs.Prelude.{ℕ, ◌+◌, ◌^◌, ◌<◌, List, [], ◌∷◌, ◌++◌, map, Bool, true, false, cond, Option, Some, None, IfSome}
-use Rattle.wasm_base.specs.Entries.{Kind, ContainsItems}
-use Rattle.wasm_base.specs.Formats.{Format, u32, mapped, pair, tagged, prefixed, fixed, vec, when, numbered, is_given}
-use Rattle.wasm_base.specs.Laws.{IsUnsignedInRange}
-use Rattle.wasm_base.specs.Numbers.{Mode, minimal, padded, unsigned_encoding}
-use Rattle.wasm_base.specs.Encodings.{vec_encoding, IsEncodableVec, optional_encoding}
-use Rattle.wasm_base.specs.Types.{ref_type, ref_encoding, IsRef, FUNCREF}
-use Rattle.wasm_base.specs.declared.types.AbstractHeapType.TheVariants as kinds
+use Rattle.wasm_base.specs.Words.{Kind, ContainsItems, Format, u32, mapped, pair, tagged, prefixed, fixed, vec, when, numbered, is_given, IsUnsignedInRange, Mode, minimal, padded, unsigned_encoding}
+use Rattle.wasm_base.specs.Words.{vec_encoding, IsEncodableVec, optional_encoding, ref_type, ref_encoding, IsRef, FUNCREF, SectionDecoding, decoding_of, number_of}
 use Rattle.wasm_base.specs.declared.types.HeapType.{HeapType}
-use Rattle.wasm_base.specs.declared.types.HeapType.TheVariants.{Abstract}
 use Rattle.wasm_base.specs.declared.types.RefType.{RefType}
-use Rattle.wasm_base.specs.Modules.{SectionDecoding, decoding_of}
-use Rattle.wasm_base.specs.SectionId.{number_of}
-use Rattle.wasm_base.specs.declared.section_id.SectionId.TheVariants as ids
-use Rattle.wasm_code.specs.Expressions.{expression, expression_encoding}
-use Rattle.wasm_immediates.specs.Immediates.{where_set}
-use Rattle.wasm_insn.specs.Plain.{Plain}
+use Rattle.wasm_base.specs.declared.types.HeapType.TheVariants.{Abstract}
+use Rattle.wasm_code.specs.Words.{expression, expression_encoding}
+use Rattle.wasm_immediates.specs.Words.{where_set}
+use Rattle.wasm_insn.specs.Words.{Plain}
 use Rattle.wasm_sections.specs.Constants.{Stored, IsStoredIn, instructions_view}
 use Rattle.wasm_sections.specs.declared.element_items.ElementFlag.{ElementFlag as ReadFlag}
 use Rattle.wasm_sections.specs.declared.element_items.ElementItem.{ElementItem as ReadElement}
 use Rattle.wasm_sections.specs.declared.element_items.ElementItemMode.{ElementItemMode}
-use Rattle.wasm_sections.specs.declared.element_items.ElementItemMode.TheVariants as modes
 use Rattle.wasm_sections.specs.declared.element_items.ElementList.{ElementList as ReadList}
+use Rattle.wasm_base.specs.declared.types.AbstractHeapType.TheVariants as kinds
+use Rattle.wasm_base.specs.declared.section_id.SectionId.TheVariants as ids
+use Rattle.wasm_sections.specs.declared.element_items.ElementItemMode.TheVariants as modes
 use Rattle.wasm_sections.specs.declared.element_items.ElementList.TheVariants as lists
 
 -- ---- tables

@@ -1,8 +1,8 @@
 -- This file defines the flags of limits: one byte with four named bits. Core specification, Binary
 -- Format, Types, Limits.
 use Rattle.std.specs.Prelude.{ℕ, ◌+◌, Bool}
-use Rattle.wasm_base.specs.Formats.{Format, coded}
-use Rattle.wasm_immediates.specs.Immediates.{where_set}
+use Rattle.wasm_base.specs.Words.{Format, coded}
+use Rattle.wasm_immediates.specs.Words.{where_set}
 use Rattle.wasm_sections.specs.declared.memory.Flags.{Flags as ReadFlags}
 
 -- The flags of limits: a maximum is encoded, the table or memory is shared, its indices have 64

@@ -1,12 +1,7 @@
 -- This file defines the function section and the start section. Core specification, Binary Format,
 -- Modules, Function Section and Start Section.
 use Rattle.std.specs.Prelude.{ℕ, List}
-use Rattle.wasm_base.specs.Entries.{Kind, ContainsItems}
-use Rattle.wasm_base.specs.Formats.{u32, vec}
-use Rattle.wasm_base.specs.Laws.{IsUnsignedInRange}
-use Rattle.wasm_base.specs.Numbers.{unsigned_encoding}
-use Rattle.wasm_base.specs.Modules.{SectionDecoding, decoding_of}
-use Rattle.wasm_base.specs.SectionId.{number_of}
+use Rattle.wasm_base.specs.Words.{Kind, ContainsItems, u32, vec, IsUnsignedInRange, unsigned_encoding, SectionDecoding, decoding_of, number_of}
 use Rattle.wasm_base.specs.declared.section_id.SectionId.TheVariants as ids
 
 -- The kind of type indices, one for each function.

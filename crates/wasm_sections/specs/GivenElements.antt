@@ -1,13 +1,13 @@
 -- This file defines element segments as arguments of calls, whose expressions are stored bytes.
 use Rattle.std.specs.Prelude.{◌≡◌, ℕ, List}
-use Rattle.wasm_base.specs.Cow.{items_of}
-use Rattle.wasm_code.specs.Expressions.{expression_encoding}
+use Rattle.wasm_base.specs.Words.{items_of}
+use Rattle.wasm_code.specs.Words.{expression_encoding}
 use Rattle.wasm_sections.specs.Constants.{Stored}
 use Rattle.wasm_sections.specs.Elements.{SegmentMode, passive, declared, active, ElementList, functions, expressions, ElementItem, settled, settled_encoding, element_encoding, stored_by}
 use Rattle.wasm_sections.specs.declared.element.ElementMode.{ElementMode}
-use Rattle.wasm_sections.specs.declared.element.ElementMode.TheVariants as modes
 use Rattle.wasm_sections.specs.declared.element.ElementSegment.{ElementSegment}
 use Rattle.wasm_sections.specs.declared.element.Elements.{Elements}
+use Rattle.wasm_sections.specs.declared.element.ElementMode.TheVariants as modes
 use Rattle.wasm_sections.specs.declared.element.Elements.TheVariants as lists
 
 -- The mode of an argument, with the stored bytes of its expression.

@@ -1,21 +1,16 @@
 -- This file defines global types and globals, their encodings and their formats. Core
 -- specification, Binary Format, Types, Global Types, and Modules, Global Section.
 use Rattle.std.specs.Prelude.{ℕ, ◌+◌, List, [], ◌∷◌, ◌++◌, Bool}
-use Rattle.wasm_base.specs.Entries.{Kind, ContainsItems}
-use Rattle.wasm_base.specs.Formats.{Format, coded, mapped, pair, vec}
-use Rattle.wasm_base.specs.Numbers.{Mode, minimal, padded}
-use Rattle.wasm_base.specs.Types.{val_type, val_encoding, IsVal}
+use Rattle.wasm_base.specs.Words.{Kind, ContainsItems, Format, coded, mapped, pair, vec, Mode, minimal, padded, val_type, val_encoding, IsVal, SectionDecoding, decoding_of, number_of}
 use Rattle.wasm_base.specs.declared.types.ValType.{ValType}
-use Rattle.wasm_base.specs.Modules.{SectionDecoding, decoding_of}
-use Rattle.wasm_base.specs.SectionId.{number_of}
-use Rattle.wasm_base.specs.declared.section_id.SectionId.TheVariants as ids
-use Rattle.wasm_code.specs.Expressions.{expression, expression_encoding}
-use Rattle.wasm_immediates.specs.Immediates.{where_set}
-use Rattle.wasm_insn.specs.Plain.{Plain}
+use Rattle.wasm_code.specs.Words.{expression, expression_encoding}
+use Rattle.wasm_immediates.specs.Words.{where_set}
+use Rattle.wasm_insn.specs.Words.{Plain}
 use Rattle.wasm_sections.specs.Constants.{Stored, IsStoredIn, instructions_view}
 use Rattle.wasm_sections.specs.declared.global.GlobalType.{GlobalType}
 use Rattle.wasm_sections.specs.declared.global.GlobalFlags.{GlobalFlags as ReadFlags}
 use Rattle.wasm_sections.specs.declared.global.GlobalItem.{GlobalItem as ReadGlobal}
+use Rattle.wasm_base.specs.declared.section_id.SectionId.TheVariants as ids
 
 -- The flags of a global type. The second is not in the core specification.
 pub record GlobalFlags : Type 0 where

@@ -1,15 +1,8 @@
 -- This file defines imports and groups of imports, their encodings and their format. Core
 -- specification, Binary Format, Modules, Import Section.
 use Rattle.std.specs.Prelude.{ℕ, ◌^◌, ◌<◌, List, [], ◌∷◌, ◌++◌, map, IsUtf8}
-use Rattle.wasm_base.specs.Cow.{items_of}
-use Rattle.wasm_base.specs.Entries.{Kind, ContainsItems}
-use Rattle.wasm_base.specs.Formats.{Format, u32, name, byte, vec, mapped, tagged, choice, impossible, one_of, pair, prefixed}
-use Rattle.wasm_base.specs.Laws.{IsEncodableName}
-use Rattle.wasm_base.specs.Numbers.{unsigned_encoding}
-use Rattle.wasm_base.specs.Encodings.{size_prefixed_encoding, HasEncodableSize, vec_encoding, IsEncodableVec}
-use Rattle.wasm_base.specs.Modules.{SectionDecoding, decoding_of}
-use Rattle.wasm_base.specs.SectionId.{number_of}
-use Rattle.wasm_base.specs.declared.section_id.SectionId.TheVariants as ids
+use Rattle.wasm_base.specs.Words.{items_of, Kind, ContainsItems, Format, u32, name, byte, vec, mapped, tagged, choice, impossible, one_of, pair, prefixed, IsEncodableName, unsigned_encoding}
+use Rattle.wasm_base.specs.Words.{size_prefixed_encoding, HasEncodableSize, vec_encoding, IsEncodableVec, SectionDecoding, decoding_of, number_of}
 use Rattle.wasm_sections.specs.Globals.{global_encoding, IsGlobal, global_type}
 use Rattle.wasm_sections.specs.Memories.{memory_encoding, IsMemory, memory_type}
 use Rattle.wasm_sections.specs.Tables.{table_encoding, IsTable, table_type}
@@ -19,6 +12,7 @@ use Rattle.wasm_sections.specs.declared.import.EntityType.TheVariants.{Function,
 use Rattle.wasm_sections.specs.declared.import.Import.{Import}
 use Rattle.wasm_sections.specs.declared.import.ImportCompact.{ImportCompact}
 use Rattle.wasm_sections.specs.declared.import.Imports.{Imports}
+use Rattle.wasm_base.specs.declared.section_id.SectionId.TheVariants as ids
 use Rattle.wasm_sections.specs.declared.import.Imports.TheVariants as groups
 
 -- ---- imported entities

@@ -1,3 +1,5 @@
+-- The definitions of the crate, each file, and all of them by one import.
+pub mod Words
 pub mod Constants
 pub mod Flags
 pub mod Memories
@@ -10,3 +12,15 @@ pub mod DataSegments
 pub mod Elements
 pub mod GivenElements
 pub mod Functions
+unfoldable pub use Rattle.wasm_sections.specs.Constants.*
+unfoldable pub use Rattle.wasm_sections.specs.Flags.*
+unfoldable pub use Rattle.wasm_sections.specs.Memories.*
+unfoldable pub use Rattle.wasm_sections.specs.Tags.*
+unfoldable pub use Rattle.wasm_sections.specs.Tables.*
+unfoldable pub use Rattle.wasm_sections.specs.Exports.*
+unfoldable pub use Rattle.wasm_sections.specs.Globals.*
+unfoldable pub use Rattle.wasm_sections.specs.Imports.*
+unfoldable pub use Rattle.wasm_sections.specs.DataSegments.*
+unfoldable pub use Rattle.wasm_sections.specs.Elements.*
+unfoldable pub use Rattle.wasm_sections.specs.GivenElements.*
+unfoldable pub use Rattle.wasm_sections.specs.Functions.*

@@ -1,15 +1,10 @@
 -- This file defines memory types, their encoding and their format. Core specification, Binary
 -- Format, Types, Memory Types, and Modules, Memory Section.
 use Rattle.std.specs.Prelude.{ℕ, ◌^◌, ◌<◌, List, ◌∷◌, ◌++◌, Option, Some, None, IfSome}
-use Rattle.wasm_base.specs.Entries.{Kind, ContainsItems}
-use Rattle.wasm_base.specs.Formats.{Format, u32, u64, mapped, tagged, pair, optional, is_given, vec}
-use Rattle.wasm_base.specs.Numbers.{unsigned_encoding}
-use Rattle.wasm_base.specs.Encodings.{optional_encoding}
-use Rattle.wasm_base.specs.Modules.{SectionDecoding, decoding_of}
-use Rattle.wasm_base.specs.SectionId.{number_of}
-use Rattle.wasm_base.specs.declared.section_id.SectionId.TheVariants as ids
+use Rattle.wasm_base.specs.Words.{Kind, ContainsItems, Format, u32, u64, mapped, tagged, pair, optional, is_given, vec, unsigned_encoding, optional_encoding, SectionDecoding, decoding_of, number_of}
 use Rattle.wasm_sections.specs.Flags.{Flags, flags, flags_code}
 use Rattle.wasm_sections.specs.declared.memory.MemoryType.{MemoryType}
+use Rattle.wasm_base.specs.declared.section_id.SectionId.TheVariants as ids
 
 -- The flags of a memory type.
 abbrev pub memory_flags : MemoryType → Flags

@@ -1,24 +1,19 @@
 -- This file defines table types and tables, their encodings and their formats. Core specification,
 -- Binary Format, Types, Table Types, and Modules, Table Section.
 use Rattle.std.specs.Prelude.{ℕ, ◌^◌, ◌<◌, List, [], ◌∷◌, ◌++◌, Bool, true, false, Option, Some, None, IfSome, option_map}
-use Rattle.wasm_base.specs.Entries.{Kind, ContainsItems}
-use Rattle.wasm_base.specs.Formats.{Format, u64, impossible, mapped, tagged, pair, optional, when, one_of, prefixed, is_given, vec}
-use Rattle.wasm_base.specs.Numbers.{Mode, minimal, padded, unsigned_encoding}
-use Rattle.wasm_base.specs.Encodings.{optional_encoding}
-use Rattle.wasm_base.specs.Types.{ref_type, ref_encoding, IsRef}
+use Rattle.wasm_base.specs.Words.{Kind, ContainsItems, Format, u64, impossible, mapped, tagged, pair, optional, when, one_of, prefixed, is_given, vec, Mode, minimal, padded, unsigned_encoding}
+use Rattle.wasm_base.specs.Words.{optional_encoding, ref_type, ref_encoding, IsRef, SectionDecoding, decoding_of, number_of}
 use Rattle.wasm_base.specs.declared.types.RefType.{RefType}
 use Rattle.wasm_base.specs.declared.types.ValType.{ValType}
 use Rattle.wasm_base.specs.declared.types.ValType.TheVariants.{I32, I64}
-use Rattle.wasm_base.specs.Modules.{SectionDecoding, decoding_of}
-use Rattle.wasm_base.specs.SectionId.{number_of}
-use Rattle.wasm_base.specs.declared.section_id.SectionId.TheVariants as ids
-use Rattle.wasm_code.specs.Expressions.{expression, expression_encoding}
-use Rattle.wasm_insn.specs.Plain.{Plain}
+use Rattle.wasm_code.specs.Words.{expression, expression_encoding}
+use Rattle.wasm_insn.specs.Words.{Plain}
 use Rattle.wasm_sections.specs.Constants.{Stored, IsStoredIn, instructions_view}
 use Rattle.wasm_sections.specs.Flags.{Flags, flags, flags_code}
 use Rattle.wasm_sections.specs.declared.table.TableType.{TableType}
 use Rattle.wasm_sections.specs.declared.table.Limits.{Limits as DecodeLimits}
 use Rattle.wasm_sections.specs.declared.table.TableItem.{TableItem as ReadTable}
+use Rattle.wasm_base.specs.declared.section_id.SectionId.TheVariants as ids
 
 -- The flags of a table type, which has no page size.
 abbrev pub table_flags : TableType → Flags

@@ -1,15 +1,11 @@
 -- This file defines tag types, their encoding and their format. Core specification, Binary Format,
 -- Modules, Tag Section.
 use Rattle.std.specs.Prelude.{ℕ, ◌^◌, ◌<◌, List, ◌∷◌}
-use Rattle.wasm_base.specs.Entries.{Kind, ContainsItems}
-use Rattle.wasm_base.specs.Formats.{Format, u32, coded, mapped, pair, vec}
-use Rattle.wasm_base.specs.Numbers.{unsigned_encoding}
-use Rattle.wasm_base.specs.Modules.{SectionDecoding, decoding_of}
-use Rattle.wasm_base.specs.SectionId.{number_of}
-use Rattle.wasm_base.specs.declared.section_id.SectionId.TheVariants as ids
+use Rattle.wasm_base.specs.Words.{Kind, ContainsItems, Format, u32, coded, mapped, pair, vec, unsigned_encoding, SectionDecoding, decoding_of, number_of}
 use Rattle.wasm_sections.specs.declared.tag.TagKind.{TagKind}
 use Rattle.wasm_sections.specs.declared.tag.TagKind.TheVariants.{Exception}
 use Rattle.wasm_sections.specs.declared.tag.TagType.{TagType}
+use Rattle.wasm_base.specs.declared.section_id.SectionId.TheVariants as ids
 
 -- The byte for the kind of a tag.
 abbrev pub tag_code : TagKind → ℕ

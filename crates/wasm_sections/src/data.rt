@@ -9,17 +9,18 @@ ghost use Rattle.wasm_base.specs.Decoding.{Unambiguous};
 ghost use Rattle.wasm_base.specs.Encodings.{size_prefixed_encoding};
 ghost use Rattle.wasm_base.specs.declared.refused.Refused.TheVariants.{TooLong};
 ghost use Rattle.wasm_code.specs.Expressions.{expression};
-ghost use Rattle.wasm_reader_base.specs.Minimal.{AppendsMinimal, IsFrontOf, HasEncoding};
-ghost use Rattle.wasm_reader_base.specs.declared.fault.ReadFault.TheVariants.{Memory};
+ghost use Rattle.wasm_base.specs.Minimal.{AppendsMinimal, IsFrontOf, HasEncoding};
+ghost use Rattle.wasm_base.specs.declared.fault.ReadFault.TheVariants.{Memory};
 ghost use Rattle.wasm_sections.specs.Constants.{instructions_view};
 ghost use Rattle.wasm_sections.specs.DataSegments.{data_items, DataItem, active, data_item, segment_view};
 
 use crate::counted_section::{CountedSection, ItemKind};
 use std::alloc::{Allocator, Global};
-use wasm_base::{Encode, Kind, Lent, Result, SectionId, bytes_of, encode_size_prefixed};
-use wasm_code::ConstExpr;
-use wasm_reader_base::{Dropped, Layout, ReadFault, Readable, Shorten, Skip, read_whole};
-use wasm_reader_insn::Expression;
+use wasm_base::{
+    Dropped, Encode, Kind, Layout, Lent, ReadFault, Readable, Result, SectionId, Shorten, Skip,
+    bytes_of, encode_size_prefixed, read_whole,
+};
+use wasm_code::{ConstExpr, Expression};
 
 /// The data section: segments of bytes that a module copies to memories.
 ///
@@ -318,7 +319,7 @@ pub fn read_segments<'a, A: Allocator + Copy + 'a>(
 }
 
 /// Appends the offset and the bytes of a segment.
-#[tactic(auto, using(crate::proofs::DataLaws::placed_appended, crate::proofs::DataLaws::offset_encoded, crate::proofs::DataLaws::bytes_encodable))]
+#[tactic(auto, using(crate::proofs::DataLaws::placed_appended, crate::proofs::DataLaws::data_offset_encoded, crate::proofs::DataLaws::bytes_encodable))]
 fn append_placed<A: Allocator, B: Allocator>(
     offset: &Expression<A>,
     bytes: &[u8],
@@ -353,7 +354,7 @@ fn append_active<A: Allocator, B: Allocator>(
 }
 
 impl<'a, A: Allocator> Shorten for Segment<'a, A> {
-    #[tactic(auto, using(crate::proofs::DataLaws::passive_appended, crate::proofs::DataLaws::passive_encodable))]
+    #[tactic(auto, using(crate::proofs::DataLaws::passive_data_appended, crate::proofs::DataLaws::passive_encodable))]
     fn write_minimal<B: Allocator>(&self, sink: &mut Vec<u8, B>) -> Result<()> {
         match self {
             Segment::Active {

@@ -5,15 +5,16 @@ ghost use Rattle.wasm_base.specs.Numbers.{padded};
 ghost use Rattle.wasm_base.specs.Decoding.{Decodes, Rejects};
 ghost use Rattle.wasm_insn.specs.Plain.{Plain};
 ghost use Rattle.wasm_base.specs.declared.refused.Refused.TheVariants.{TooLong};
-ghost use Rattle.wasm_reader_base.specs.Minimal.{AppendsMinimal, IsFrontOf, HasEncoding};
-ghost use Rattle.wasm_reader_base.specs.declared.fault.ReadFault.TheVariants.{Memory};
+ghost use Rattle.wasm_base.specs.Minimal.{AppendsMinimal, IsFrontOf, HasEncoding};
+ghost use Rattle.wasm_base.specs.declared.fault.ReadFault.TheVariants.{Memory};
 ghost use Rattle.wasm_sections.specs.Constants.{instructions_view};
 ghost use Rattle.wasm_sections.specs.Elements.{ElementItem, ElementFlag as FlagModel, flag_code, flag_of, active, functions, expressions, are_expressions, has_kind, segment_mode, elements_as, element, element_flag_view, segment_mode_view, list_view, element_view, SegmentMode, ElementList as ListModel};
 
 use std::alloc::{Allocator, Global};
-use wasm_base::{Encode, RefType, Result};
-use wasm_reader_base::{Dropped, Layout, ReadFault, Readable, Shorten, Skip, skip_many};
-use wasm_reader_insn::Expression;
+use wasm_base::{
+    Dropped, Encode, Layout, ReadFault, Readable, RefType, Result, Shorten, Skip, skip_many,
+};
+use wasm_code::Expression;
 
 /// The flag of an element segment, as its bits.
 #[derive(Clone, Copy, Debug)]
@@ -54,7 +55,7 @@ impl Layout for ElementFlag {
 }
 
 impl<'a, A: Allocator + Copy> Readable<'a, A> for ElementFlag {
-    #[tactic(auto, using(crate::proofs::ElementLaws::flag_steps))]
+    #[tactic(auto, using(crate::proofs::ElementLaws::element_flag_steps))]
     fn read(bytes: &'a [u8], alloc: A) -> Result<(ElementFlag, &'a [u8]), ReadFault> {
         let (number, rest) = <u32 as Readable<'a, A>>::read(bytes, alloc)?;
         if number >= 8 {

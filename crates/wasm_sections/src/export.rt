@@ -1,18 +1,17 @@
 // The export section: its builder, its reader and its minimizer.
-ghost use Rattle.std.specs.Prelude.{◌≡◌, ◌∷◌, ◌++◌, [], ⊤};
+ghost use Rattle.std.specs.Prelude.{◌∷◌, ◌++◌, [], ⊤};
 ghost use Rattle.wasm_base.specs.Calls.{Adds};
 ghost use Rattle.wasm_base.specs.Formats.{coded};
 ghost use Rattle.wasm_base.specs.Numbers.{unsigned_encoding};
 ghost use Rattle.wasm_base.specs.Decoding.{Unambiguous};
 ghost use Rattle.wasm_base.specs.Encodings.{size_prefixed_encoding, HasEncodableSize};
-ghost use Rattle.wasm_sections.specs.Exports.{export_items, kind_code, export_encoding, IsEncodableExport, IsExport, ExportItem, item_of, export};
+ghost use Rattle.wasm_sections.specs.Exports.{export_items, kind_code, export_encoding, IsEncodableExport, ExportItem, item_of, export};
 ghost use Rattle.wasm_sections.specs.declared.export.Export.{Export as Given};
 ghost use Rattle.wasm_sections.specs.declared.export.ExportKind.{ExportKind as Kind};
 
 use crate::counted_section::{CountedSection, ItemKind, RecordOf};
 use std::alloc::{Allocator, Global};
-use wasm_base::{Encode, Kind, Result, SectionId};
-use wasm_reader_base::{Layout, ReadFault, Readable};
+use wasm_base::{Encode, Kind, Layout, ReadFault, Readable, Result, SectionId};
 
 /// The export section: the items that a module exports.
 ///

@@ -3,16 +3,17 @@ ghost use Rattle.std.specs.Prelude.{◌≡◌, ◌++◌, ⊤};
 ghost use Rattle.wasm_base.specs.Calls.{Adds};
 ghost use Rattle.wasm_base.specs.Formats.{coded};
 ghost use Rattle.wasm_code.specs.Expressions.{expression_encoding};
-ghost use Rattle.wasm_sections.specs.Globals.{global_items, global_flags, global_code, global_encoding, GivenGlobal, GlobalItem as GlobalModel, global_item_encoding, IsGivenGlobal, global_item_of, global_item, GlobalFlags as GlobalBits, global_type, global_flags_view, global_view};
+ghost use Rattle.wasm_sections.specs.Globals.{global_items, global_flags, global_code, global_encoding, GivenGlobal, GlobalItem as GlobalModel, global_item, GlobalFlags as GlobalBits, global_type, global_flags_view, global_view};
 ghost use Rattle.wasm_sections.specs.declared.global.GlobalType.{GlobalType as TypeModel};
 
 use crate::counted_section::{CountedSection, ItemKind};
 use crate::flags::where_set;
 use std::alloc::{Allocator, Global};
-use wasm_base::{Encode, Kind, Lent, Result, SectionId, ValType};
-use wasm_code::ConstExpr;
-use wasm_reader_base::{Dropped, Layout, ReadFault, Readable, Shorten, Skip};
-use wasm_reader_insn::Expression;
+use wasm_base::{
+    Dropped, Encode, Kind, Layout, Lent, ReadFault, Readable, Result, SectionId, Shorten, Skip,
+    ValType,
+};
+use wasm_code::{ConstExpr, Expression};
 
 /// The global section: the globals that a module defines.
 ///

@@ -7,9 +7,9 @@ ghost use Rattle.wasm_base.specs.Numbers.{padded};
 ghost use Rattle.wasm_base.specs.Decoding.{Unambiguous, Rejects};
 ghost use Rattle.wasm_base.specs.Encodings.{size_prefixed_encoding, HasEncodableSize};
 ghost use Rattle.wasm_base.specs.declared.refused.Refused.TheVariants.{TooLong};
-ghost use Rattle.wasm_reader_base.specs.Minimal.{AppendsMinimal, IsFrontOf, HasEncoding};
-ghost use Rattle.wasm_reader_base.specs.declared.fault.ReadFault.TheVariants.{Memory};
-ghost use Rattle.wasm_sections.specs.Imports.{import_items, entity_encoding, ImportItem, import_encoding, IsEncodableImport, IsImport, import_format, named_encoding, import_item, compact_item, imports_item, entity, group};
+ghost use Rattle.wasm_base.specs.Minimal.{AppendsMinimal, IsFrontOf, HasEncoding};
+ghost use Rattle.wasm_base.specs.declared.fault.ReadFault.TheVariants.{Memory};
+ghost use Rattle.wasm_sections.specs.Imports.{import_items, entity_encoding, ImportItem, import_encoding, IsEncodableImport, import_format, named_encoding, import_item, compact_item, imports_item, entity, group};
 ghost use Rattle.wasm_sections.specs.declared.import.EntityType.{EntityType as EntityModel};
 ghost use Rattle.wasm_sections.specs.declared.import.EntityType.TheVariants as entities;
 
@@ -21,9 +21,9 @@ use crate::tag::TagType;
 use std::alloc::{Allocator, Global};
 use wasm_base::{
     CORE_FUNCTION_EXACT_SORT, CORE_FUNCTION_SORT, CORE_GLOBAL_SORT, CORE_MEMORY_SORT,
-    CORE_TABLE_SORT, CORE_TAG_SORT, CowSlice, Encode, Kind, Result, SectionId,
+    CORE_TABLE_SORT, CORE_TAG_SORT, CowSlice, Dropped, Encode, Kind, Layout, ReadFault, Readable,
+    Result, SectionId, Skip, read_whole, skip_many,
 };
-use wasm_reader_base::{Dropped, Layout, ReadFault, Readable, Skip, read_whole, skip_many};
 
 /// The import section: the items that a module imports.
 ///
@@ -379,7 +379,7 @@ pub fn read_imports<'a, A: Allocator + Copy + 'a>(
 
 /// Writes the bytes that [`append_imports`] appends. After an error, part of them may follow the
 /// old bytes.
-#[tactic(auto, using(wasm_reader_base::proofs::MinimalEncodings::members_start))]
+#[tactic(auto, using(wasm_base::proofs::MinimalEncodings::no_members_appended))]
 fn write_imports<A: Allocator, B: Allocator>(
     imports: &[Imports<'_, A>],
     sink: &mut Vec<u8, B>,

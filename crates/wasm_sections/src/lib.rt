@@ -2,7 +2,7 @@
 //! "Binary Format", "Modules".
 //!
 //! Each section has a builder. The crate also decodes their items (`Readable` of
-//! `wasm_reader_base`), skips them (`Skip`), and writes decoded ones in their minimal encoding
+//! `wasm_base`), skips them (`Skip`), and writes decoded ones in their minimal encoding
 //! (`Shorten`).
 #![tactic(auto)]
 

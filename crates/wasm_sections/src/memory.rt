@@ -2,14 +2,15 @@
 ghost use Rattle.std.specs.Prelude.{◌≡◌, ◌^◌, ◌<◌, ⊤};
 ghost use Rattle.wasm_base.specs.Calls.{Adds};
 ghost use Rattle.wasm_sections.specs.Flags.{flags_code, Flags as FlagBits, flags as flags_format, flags_view};
-ghost use Rattle.wasm_sections.specs.Memories.{memory_items, memory_flags, memory_encoding, IsMemory, memory_type, page_exponent};
+ghost use Rattle.wasm_sections.specs.Memories.{memory_items, memory_flags, memory_encoding, memory_type, page_exponent};
 ghost use Rattle.wasm_sections.specs.declared.memory.MemoryType.{MemoryType as Memory};
 
 use crate::counted_section::{CountedSection, ItemKind, RecordOf};
 use crate::flags::where_set;
 use std::alloc::{Allocator, Global};
-use wasm_base::{Encode, Kind, Optional, Result, SectionId};
-use wasm_reader_base::{Layout, ReadFault, Readable, read_optional};
+use wasm_base::{
+    Encode, Kind, Layout, Optional, ReadFault, Readable, Result, SectionId, read_optional,
+};
 
 /// The memory section: the memories that a module defines.
 ///

@@ -3,17 +3,18 @@ ghost use Rattle.std.specs.Prelude.{◌≡◌, ◌++◌, ⊤};
 ghost use Rattle.wasm_base.specs.Calls.{Adds};
 ghost use Rattle.wasm_code.specs.Expressions.{expression_encoding};
 ghost use Rattle.wasm_sections.specs.Flags.{flags_code};
-ghost use Rattle.wasm_sections.specs.Tables.{table_items, table_flags, table_encoding, GivenTable, TableItem as TableModel, before_init, table_item_encoding, IsGivenTable, table_item_of, table_item, index_type_of, Limits as LimitsModel, limits, table_type, limits_view, table_view};
+ghost use Rattle.wasm_sections.specs.Tables.{table_items, table_flags, table_encoding, GivenTable, TableItem as TableModel, before_init, table_item, index_type_of, Limits as LimitsModel, limits, table_type, limits_view, table_view};
 ghost use Rattle.wasm_sections.specs.declared.table.TableType.{TableType as TypeModel};
 
 use crate::counted_section::{CountedSection, ItemKind, RecordOf};
 use crate::flags::where_set;
 use crate::memory::Flags;
 use std::alloc::{Allocator, Global};
-use wasm_base::{Encode, Kind, Lent, Optional, RefType, Result, SectionId, ValType};
-use wasm_code::ConstExpr;
-use wasm_reader_base::{Dropped, Layout, ReadFault, Readable, Shorten, Skip, read_optional};
-use wasm_reader_insn::Expression;
+use wasm_base::{
+    Dropped, Encode, Kind, Layout, Lent, Optional, ReadFault, Readable, RefType, Result, SectionId,
+    Shorten, Skip, ValType, read_optional,
+};
+use wasm_code::{ConstExpr, Expression};
 
 /// The table section: the tables that a module defines.
 ///
@@ -233,7 +234,7 @@ impl<'a, A: Allocator + Copy> Readable<'a, A> for TableItem<A> {
 }
 
 impl<A: Allocator> Shorten for TableItem<A> {
-    #[tactic(auto, using(crate::proofs::TableLaws::table_appended, crate::proofs::TableLaws::table_init_appended, crate::proofs::TableLaws::init_encoded))]
+    #[tactic(auto, using(crate::proofs::TableLaws::table_appended, crate::proofs::TableLaws::table_init_appended, crate::proofs::TableLaws::table_init_encoded))]
     fn write_minimal<B: Allocator>(&self, sink: &mut Vec<u8, B>) -> Result<()> {
         let Some(init) = &self.init else {
             return self.table_type.encode(sink);

@@ -2,14 +2,13 @@
 ghost use Rattle.std.specs.Prelude.{◌≡◌, ⊤};
 ghost use Rattle.wasm_base.specs.Calls.{Adds};
 ghost use Rattle.wasm_base.specs.Formats.{coded};
-ghost use Rattle.wasm_sections.specs.Tags.{tag_items, tag_code, tag_encoding, IsTag, tag_type};
+ghost use Rattle.wasm_sections.specs.Tags.{tag_items, tag_code, tag_encoding, tag_type};
 ghost use Rattle.wasm_sections.specs.declared.tag.TagKind.{TagKind as Kind};
 ghost use Rattle.wasm_sections.specs.declared.tag.TagType.{TagType as Tag};
 
 use crate::counted_section::{CountedSection, ItemKind, RecordOf};
 use std::alloc::{Allocator, Global};
-use wasm_base::{Encode, Kind, Result, SectionId};
-use wasm_reader_base::{Layout, ReadFault, Readable};
+use wasm_base::{Encode, Kind, Layout, ReadFault, Readable, Result, SectionId};
 
 /// The tag section: the tags that a module defines.
 ///

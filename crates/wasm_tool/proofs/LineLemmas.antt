@@ -1,24 +1,12 @@
 -- This file proves how a cut at the first space gives the words of a line.
-use Rattle.std.proofs.Common.{◌≡◌, ℕ, ◌<◌, ◌==◌, false, List, [], ◌∷◌, length, refl, ap, ◌∙◌, sym, arith}
-use Rattle.std.proofs.Common.{◌-◌, ◌≢◌, ◌++◌, get_or, take, cond, Bor, None, Some, Option, unwrap_or, eq-eqb}
+use Rattle.wasm_base.proofs.Words.{◌≡◌, ℕ, ◌<◌, ◌==◌, false, List, [], ◌∷◌, length, refl, ap, ◌∙◌, sym, arith, ◌-◌, ◌≢◌, ◌++◌, get_or, take, cond, Bor, None, Some, Option, unwrap_or, eq-eqb, subst}
+use Rattle.wasm_base.proofs.Words.{◌+◌, Bool, true, not, drop, lit<, common_steps, IfSome, MatchOption, filter, CutsPrefixes, FindsCharPrefix, IsTrimStartMatches, drop_at_char, slice_get, slice_split}
+use Rattle.wasm_base.proofs.Words.{before_first, after_first, position_or_len, slice_get-get_or, drop_all, take_more, take_all, length-map, get_or-map, strip_carriage_return, All-from_get_or}
+use Rattle.wasm_base.proofs.Words.{slice_split_first, slice_split_none, fails_before_first}
+use Rattle.std.proofs.lemmas.List.{length-take}
+use Rattle.wasm_tool.specs.{is_word, lines_of, rest_of, without_spaces, words_of}
 use borrow.Author.Tests.{ne_eqb}
-use Rattle.std.proofs.lemmas.Grind.{common_steps}
-use Rattle.std.proofs.Common.{subst, ◌+◌, Bool, true, not, drop, lit<}
 use borrow.Author.Tests.{eqb-true}
-use Rattle.std.specs.Prelude.{IfSome}
-use Rattle.std.specs.Str.Pattern.{CutsPrefixes, FindsCharPrefix, IsTrimStartMatches}
-use Rattle.std.proofs.lemmas.Str.Pattern.{drop_at_char}
-use Rattle.std.specs.List.{slice_get}
-use Rattle.std.proofs.lemmas.Option.{slice_get-get_or}
-use Rattle.std.proofs.lemmas.List.{drop_all, length-take, take_more, take_all, length-map, get_or-map}
-use Rattle.std.specs.Prelude.{MatchOption}
-use Rattle.std.specs.Str.Lines.{strip_carriage_return}
-use Rattle.std.specs.Prelude.{filter}
-use Rattle.std.specs.List.{slice_split, before_first, after_first, position_or_len}
-use Rattle.std.proofs.lemmas.List.Elements.{All-from_get_or}
-use Rattle.std.proofs.lemmas.List.Splits.{slice_split_first, slice_split_none}
-use Rattle.std.proofs.lemmas.List.Sums.{fails_before_first}
-use Rattle.wasm_tool.specs.Lines.{is_word, lines_of, rest_of, without_spaces, words_of}
 
 -- The words of a line with a space are the word before it, if there is one, and the words after it.
 words_of-cut : (line word rest : List ℕ) → position_or_len (λ b. b == 0x20) line < length line

@@ -1,15 +1,11 @@
 -- This file proves the result of `parse` for a word that does not begin with a plus sign.
-use Rattle.std.proofs.Common.{◌≡◌, ◌≢◌, ℕ, ◌<◌, ◌≤◌, ◌^◌, Bool, true, false, ◌&&◌, cond, List, [], ◌∷◌, length, get_or, suc, ℤ, pos, neg_ℤ, ◌-◌, ◌==◌, Option, Some, None, Result, Ok, Err, refl, ap, sym, subst, ◌∙◌, eq-eqb, arith}
+use Rattle.wasm_base.proofs.Words.{◌≡◌, ◌≢◌, ℕ, ◌<◌, ◌≤◌, ◌^◌, Bool, true, false, ◌&&◌, cond, List, [], ◌∷◌, length, get_or, suc, ℤ, pos, neg_ℤ, ◌-◌, ◌==◌, Some, None, Result, Ok, Err, refl, ap, sym}
+use Rattle.wasm_base.proofs.Words.{subst, ◌∙◌, eq-eqb, arith, MatchResult, nat_lt, OkIff, all_ascii_digits, ParsesUnsigned, ParsesSigned, digits_value, and_parts, lt-ltb, ltb-true, numerals_by_value}
+use Rattle.wasm_base.proofs.Words.{parse_plain, parse_signed_minus, parse_signed_plain, tells_all_ascii_digits}
+use Rattle.std.specs.Prelude.{option_map}
+use Rattle.wasm_tool.specs.{is_word, below, decimal_of, value_of, at_most, signed_of}
 use borrow.Author.Tests.{ne_eqb, eqb-true}
 use mir.Syntax.{w32}
-use Rattle.std.specs.Prelude.{MatchResult, nat_lt, option_map}
-use Rattle.std.specs.Result.{OkIff}
-use Rattle.std.specs.Str.{all_ascii_digits}
-use Rattle.std.specs.Str.Parse.{ParsesUnsigned, ParsesSigned, digits_value}
-use Rattle.std.proofs.lemmas.Bool.{and_parts, lt-ltb, le-ltb, ltb-true, ltb-false}
-use Rattle.std.proofs.lemmas.Str.Parse.{numerals_by_value, parse_plain, parse_signed_minus, parse_signed_plain, tells_all_ascii_digits}
-use Rattle.wasm_tool.specs.Lines.{is_word}
-use Rattle.wasm_tool.specs.Recipe.{below, decimal_of, value_of, at_most, signed_of}
 
 is_word-some : (word : List ℕ) → 0 < length word → is_word word ≡ true
 is_word-some [] h = absurd (omega arith)

@@ -1,34 +1,22 @@
 -- This file proves the sections after some lines of a recipe, and the meaning of an error in the
 -- next line.
-use Rattle.std.proofs.Common.{◌≡◌, ℕ, ◌+◌, ◌-◌, ◌<◌, ◌≤◌, length, List, [], ◌∷◌, ◌++◌, take, filter, map, Option, Some, None, Ok, Err, Result, refl, ap, ◌∙◌, sym, subst, arith, append_assoc, append-nil}
-use Rattle.std.proofs.Common.{◌==◌, false, cond}
-use borrow.Author.Tests.{ne_eqb}
-use Rattle.std.specs.Iterator.{Yields}
-use Rattle.std.specs.List.{slice_split}
-use Rattle.std.proofs.Common.{Bor}
-use Rattle.std.proofs.lemmas.Iterator.{YieldsList}
-use Rattle.std.proofs.lemmas.Iterator.Consumers.{YieldsList-end}
-use Rattle.wasm_tool.proofs.LineLemmas.{all_lines}
-use Rattle.std.specs.Prelude.{All, IsOk, IsOkAnd, IsErrAnd, IfOk, MatchResult, option_map}
-use Rattle.wasm_tool.specs.declared.fault.RecipeFault.{RecipeFault}
+use Rattle.wasm_base.proofs.Words.{◌≡◌, ℕ, ◌+◌, ◌-◌, ◌<◌, ◌≤◌, length, List, [], ◌∷◌, ◌++◌, take, map, Option, Some, None, Ok, Err, Result, refl, ap, ◌∙◌, sym, subst, arith, append_assoc, append-nil}
+use Rattle.wasm_base.proofs.Words.{◌==◌, false, cond, Bor, Yields, slice_split, slice_get, flat_map, YieldsList, YieldsList-end, IsOk, IsOkAnd, IfOk, MatchResult, All-nil, All-push, All-head}
+use Rattle.wasm_base.proofs.Words.{All-append, filter-append, map-append, common_steps, flat_map-append, unsigned_encoding, HasEncodableSize, any_section_encoding, IsEncodableAnySection}
+use Rattle.wasm_base.proofs.Words.{module_encoding, IsEncodableModule, wasm_module, header, DecodesWhole, IsEncodableSection, module_encoding-decodes}
 use Rattle.wasm_base.specs.declared.refused.Refused.{Refused}
-use Rattle.wasm_base.specs.declared.refused.Refused.TheVariants as refusals
-use Rattle.std.specs.List.{slice_get, flat_map}
-use Rattle.std.proofs.lemmas.List.Elements.{All-nil, All-push, All-head, All-append, filter-append}
-use Rattle.std.proofs.lemmas.List.{map-append}
-use Rattle.std.proofs.lemmas.Grind.{common_steps, flat_map-append}
+use Rattle.std.proofs.Common.{filter}
+use Rattle.wasm_tool.proofs.LineLemmas.{all_lines}
+use Rattle.std.specs.Prelude.{All, IsErrAnd, option_map}
+use Rattle.wasm_tool.specs.declared.fault.RecipeFault.{RecipeFault}
 use Rattle.wasm_tool.specs.declared.fault.RecipeCause.{RecipeCause}
+use Rattle.wasm_tool.specs.{lines_of, Addition, IsGood, AreEncodableNames, IsEncodableRecipe, entries_of, entry_of, added_to, last_of, names_of, section_of, start_of, sections_of, recipe_module}
+use Rattle.wasm_tool.specs.{lines_before, lines_through, AddsEntries, Explains, IsEncodableWith, AreEncodableSections, ContainsLines, IsModule, Follows, SaysCause, cause_of, listed, replaced}
+use Rattle.wasm_tool.specs.{start_items}
 use Rattle.wasm_tool.specs.declared.fault.RecipeCause.TheVariants.{UnknownCommand, BadNumber, BadHex, MissingWord, Memory, TooLong}
 use Rattle.wasm_tool.specs.declared.recipe.Recipe.{Recipe}
-use Rattle.wasm_tool.specs.Lines.{lines_of}
-use Rattle.wasm_base.specs.Numbers.{unsigned_encoding}
-use Rattle.wasm_base.specs.Encodings.{HasEncodableSize, any_section_encoding, IsEncodableAnySection, module_encoding, IsEncodableModule}
-use Rattle.wasm_base.specs.Formats.{wasm_module, header}
-use Rattle.wasm_base.specs.Decoding.{DecodesWhole}
-use Rattle.wasm_base.specs.Pieces.{IsEncodableSection}
-use Rattle.wasm_base.proofs.ModuleLaws.{module_encoding-decodes}
-use Rattle.wasm_tool.specs.Recipe.{Addition, IsGood, AreEncodableNames, IsEncodableRecipe, entries_of, entry_of, added_to, last_of, names_of, section_of, start_of, sections_of, recipe_module, lines_before, lines_through}
-use Rattle.wasm_tool.specs.Steps.{AddsEntries, Explains, IsEncodableWith, AreEncodableSections, ContainsLines, IsEmpty, IsModule, Follows, SaysCause, cause_of, listed, replaced, start_items}
+use borrow.Author.Tests.{ne_eqb}
+use Rattle.wasm_base.specs.declared.refused.Refused.TheVariants as refusals
 
 good_line : (line : List ℕ) (entries : List Addition) → entry_of line ≡ Ok entries → IsGood line
 unfolding IsGood

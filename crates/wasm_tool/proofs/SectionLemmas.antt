@@ -1,24 +1,15 @@
 -- This file proves the bounds of the items of a section that fits, and the encoding of a section
 -- from its pieces.
-use Rattle.std.proofs.Common.{◌≡◌, ℕ, ◌<◌, ◌≤◌, List, [], ◌∷◌, ◌++◌, length, false, Result, Ok, Err, ◌≢◌, refl, sym, ap, ◌∙◌, lit<, lit≤, arith, length-append, append-nil}
-use Rattle.std.specs.Prelude.{OnOk}
-use Rattle.std.specs.List.{flat_map}
-use Rattle.wasm_base.specs.Numbers.{unsigned_encoding}
-use Rattle.wasm_base.specs.Encodings.{longest, size_prefixed_encoding, HasEncodableSize, any_section_encoding}
-use Rattle.wasm_base.specs.Pieces.{joined, section_encoding, IsEncodableSection}
-use Rattle.wasm_base.proofs.Cut.{joined_push}
-use Rattle.wasm_base.proofs.NumberEncodings.{groups_encoding-last}
-use Rattle.wasm_base.proofs.Outcomes.{on_ok}
+use Rattle.wasm_base.proofs.Words.{◌≡◌, ℕ, ◌<◌, ◌≤◌, List, [], ◌∷◌, ◌++◌, length, false, Result, Ok, Err, ◌≢◌, refl, sym, ap, ◌∙◌, lit<, lit≤, arith, length-append, append-nil, OnOk, flat_map}
+use Rattle.wasm_base.proofs.Words.{unsigned_encoding, longest, size_prefixed_encoding, HasEncodableSize, any_section_encoding, joined, section_encoding, IsEncodableSection, joined_push}
+use Rattle.wasm_base.proofs.Words.{groups_encoding-last, on_ok, All-nil, All-push}
 use Rattle.wasm_base.specs.declared.refused.Refused.{Refused}
 use Rattle.wasm_base.specs.declared.refused.Refused.TheVariants.{TooLong}
 use Rattle.std.specs.Prelude.{All}
-use Rattle.std.proofs.lemmas.List.Elements.{All-nil, All-push, All-head}
-use Rattle.wasm_code.specs.Expressions.{expression_encoding}
-use Rattle.wasm_sections.specs.DataSegments.{active_encoding}
-use Rattle.wasm_custom.specs.Customs.{IsEncodableNamed, named_encoding, subsection_encoding}
-use Rattle.wasm_custom.specs.Names.{name_name}
-use Rattle.wasm_tool.specs.Recipe.{AreEncodableNames, names_of, section_of, start_of}
-use Rattle.wasm_tool.specs.Steps.{Puts}
+use Rattle.wasm_code.proofs.Words.{expression_encoding}
+use Rattle.wasm_sections.proofs.Words.{active_encoding}
+use Rattle.wasm_custom.proofs.Words.{IsEncodableNamed, named_encoding, subsection_encoding, name_name}
+use Rattle.wasm_tool.specs.{AreEncodableNames, names_of, section_of, Puts}
 
 -- If a section fits with one more item, its count was below 2^32 - 1.
 pub encodable_count : (items : List (List ℕ)) (item : List ℕ) → IsEncodableSection (items ++ item ∷ []) → length items < longest

@@ -1,10 +1,10 @@
 -- This file defines the input and the output of `--read`.
-use Rattle.std.specs.Prelude.{◌≡◌, ◌⊎◌, ℕ, List, [], ◌∷◌, ◌++◌, Option, Some, None, Ok, All, string_bytes}
+use Rattle.std.specs.Prelude.{◌≡◌, ◌⊎◌, ℕ, List, [], ◌∷◌, ◌++◌, Option, Some, None, Ok, string_bytes, All}
 use Rattle.std.specs.Fmt.{decimal}
 use Rattle.std.specs.List.{flat_map}
 use Rattle.std.specs.declared.string.String.{String}
 use Rattle.hex.specs.Hex.{decode_of}
-use Rattle.wasm_reader.specs.Modules.{HasLines}
+use Rattle.wasm_reader.specs.Words.{HasLines}
 use Rattle.wasm_reader.specs.declared.modules.Listed.{Listed}
 
 -- ---- the argument

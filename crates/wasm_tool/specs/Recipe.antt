@@ -1,31 +1,26 @@
 -- This file defines recipes: each line adds an entry to a section, and the sections make a module.
-use Rattle.std.specs.Prelude.{All, length, ℕ, suc, ℤ, pos, neg_ℤ, ◌-◌, ◌^◌, ◌==◌, ◌&&◌, ◌≤◌, ◌++◌, false, codes, if◌then◌else◌, nat_lt, List, [], ◌∷◌, filter, map, take, Option, Some, None, option_map, Result, Ok, Err, IsOk}
+use Rattle.std.specs.Prelude.{All, length, ℕ, suc, ℤ, pos, neg_ℤ, ◌-◌, ◌^◌, ◌==◌, ◌&&◌, ◌≤◌, ◌++◌, false, codes, if◌then◌else◌, nat_lt, List, [], ◌∷◌, filter, map, take, Option, Some, None}
+use Rattle.std.specs.Prelude.{option_map, Result, Ok, Err, IsOk}
 use Rattle.std.specs.List.{flat_map}
 use Rattle.std.specs.declared.alloc.Global.{Global}
 use Rattle.std.specs.Result.{result_unwrap_or}
 use Rattle.std.specs.Str.{all_ascii_digits, bytes_eq}
 use Rattle.std.specs.Str.Parse.{digits_value}
+use Rattle.wasm_base.specs.Words.{unsigned_encoding, longest, size_prefixed_encoding, HasEncodableSize, module_encoding, joined, IsEncodableSection}
 use Rattle.hex.specs.Hex.{decode_of}
-use Rattle.wasm_base.specs.Numbers.{unsigned_encoding}
-use Rattle.wasm_base.specs.Encodings.{longest, size_prefixed_encoding, HasEncodableSize, module_encoding}
-use Rattle.wasm_base.specs.Pieces.{joined, IsEncodableSection}
 use Rattle.wasm_base.specs.declared.types.ValType.TheVariants.{I32}
-use Rattle.wasm_code.specs.Expressions.{expression_encoding}
-use Rattle.wasm_custom.specs.Customs.{IsEncodableNamed, subsection_encoding}
-use Rattle.wasm_custom.specs.Names.{name_name}
-use Rattle.wasm_insn.specs.Instructions.{instruction_encoding}
+use Rattle.wasm_code.specs.Words.{expression_encoding}
+use Rattle.wasm_custom.specs.Words.{IsEncodableNamed, subsection_encoding, name_name}
+use Rattle.wasm_insn.specs.Words.{instruction_encoding}
 use Rattle.wasm_insn.specs.declared.instruction.Instruction.TheVariants.{I32Const}
-use Rattle.wasm_sections.specs.DataSegments.{active_encoding}
-use Rattle.wasm_sections.specs.Exports.{kind_code}
+use Rattle.wasm_sections.specs.Words.{active_encoding, kind_code, global_encoding, memory_encoding}
 use Rattle.wasm_sections.specs.declared.export.ExportKind.{ExportKind}
-use Rattle.wasm_sections.specs.declared.export.ExportKind.TheVariants as kinds
-use Rattle.wasm_sections.specs.Globals.{global_encoding}
 use Rattle.wasm_sections.specs.declared.global.GlobalType.{GlobalType}
-use Rattle.wasm_sections.specs.Memories.{memory_encoding}
 use Rattle.wasm_sections.specs.declared.memory.MemoryType.{MemoryType}
 use Rattle.wasm_tool.specs.declared.fault.RecipeCause.{RecipeCause}
 use Rattle.wasm_tool.specs.declared.fault.RecipeCause.TheVariants.{UnknownCommand, BadNumber, BadHex, MissingWord}
 use Rattle.wasm_tool.specs.Lines.{is_word, lines_of, rest_of, words_of}
+use Rattle.wasm_sections.specs.declared.export.ExportKind.TheVariants as kinds
 
 -- An encoded item, and the id of the section that it is added to.
 pub record Addition : Type 0 where

@@ -1,17 +1,15 @@
 -- This file defines the effect of a line on a recipe, the effect of a section on a module, and the
 -- meaning of errors.
-use Rattle.std.specs.Prelude.{ℕ, [], ◌≡◌, ◌≢◌, ◌++◌, ◌-◌, ◌≤◌, ⊤, List, ◌∷◌, Option, None, Result, Ok, Err, All, IsOkAnd, OnOk, length, Some, option_map}
+use Rattle.std.specs.Prelude.{ℕ, [], ◌≡◌, ◌≢◌, ◌++◌, ◌-◌, ◌≤◌, ⊤, List, ◌∷◌, Option, None, Result, Ok, Err, IsOkAnd, OnOk, length, Some, option_map, All}
 use Rattle.std.specs.List.{slice_get, flat_map}
-use Rattle.wasm_base.specs.Numbers.{unsigned_encoding}
-use Rattle.wasm_base.specs.Encodings.{any_section_encoding, HasEncodableSize, module_encoding}
-use Rattle.wasm_base.specs.Pieces.{IsEncodableSection}
+use Rattle.wasm_base.specs.Words.{unsigned_encoding, any_section_encoding, HasEncodableSize, module_encoding, IsEncodableSection}
 use Rattle.wasm_base.specs.declared.refused.Refused.{Refused}
-use Rattle.wasm_base.specs.declared.refused.Refused.TheVariants as refusals
 use Rattle.wasm_tool.specs.declared.fault.RecipeCause.{RecipeCause}
 use Rattle.wasm_tool.specs.declared.fault.RecipeCause.TheVariants.{Memory, TooLong}
 use Rattle.wasm_tool.specs.declared.recipe.Recipe.{Recipe}
 use Rattle.wasm_tool.specs.Lines.{lines_of}
 use Rattle.wasm_tool.specs.Recipe.{Addition, IsGood, AreEncodableNames, IsEncodableRecipe, entries_of, entry_of, in_order, added_to, last_of, lines_before, lines_through}
+use Rattle.wasm_base.specs.declared.refused.Refused.TheVariants as refusals
 
 -- ---- lines
 

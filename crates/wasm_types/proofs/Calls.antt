@@ -1,23 +1,11 @@
 -- This file proves the effect of each call on a type section: lemmas that a caller's proof cites.
-use Rattle.std.proofs.Common.{◌≡◌, ◌≤◌, length, ℕ, List, [], ◌∷◌, ◌++◌, Result, Ok, sym, subst, ◌∙◌, arith}
-use Rattle.std.proofs.lemmas.List.Elements.{All-nil, All-cons}
-use Rattle.std.specs.Array.Iter.{array_into_iter_items, array_steps}
-use Rattle.std.specs.Iterator.{Count}
-use Rattle.std.specs.List.{All, AllByRecursion}
-use Rattle.std.specs.Prelude.{OnOk}
+use Rattle.wasm_base.proofs.Words.{◌≡◌, ◌≤◌, length, ℕ, List, [], ◌∷◌, ◌++◌, Result, Ok, sym, subst, ◌∙◌, arith, All-nil, All-cons, array_into_iter_items, array_steps, Count, All, AllByRecursion}
+use Rattle.wasm_base.proofs.Words.{OnOk, Appends, DecodesOneMore, DecodesBackBoth, ContainsPadded, counted_format, SectionDecoding, decoding_of, DecodesSections, GainsDecoding, vec, SectionPayload}
+use Rattle.wasm_base.proofs.Words.{IsEncodableSection, section_encoding, longest, IsEncodableVec, new_section, adds_item, gains_items, encodes_items, array_items}
 use Rattle.std.specs.declared.array.IntoIter.{IntoIter}
 use Rattle.std.specs.declared.vec.Vec.{Vec}
-use Rattle.wasm_base.specs.Calls.{Appends, DecodesOneMore, DecodesBackBoth}
-use Rattle.wasm_base.specs.Entries.{ContainsPadded, counted_format}
-use Rattle.wasm_base.specs.Modules.{SectionDecoding, decoding_of, DecodesSections, GainsDecoding}
-use Rattle.wasm_base.specs.Formats.{vec}
-use Rattle.wasm_base.specs.Pieces.{SectionPayload, IsEncodableSection, section_encoding}
-use Rattle.wasm_base.specs.Encodings.{longest, IsEncodableVec}
 use Rattle.wasm_base.specs.declared.refused.Refused.{Refused}
-use Rattle.wasm_base.proofs.Calls.{new_section, adds_item, gains_items, encodes_items}
-use Rattle.wasm_base.proofs.KnownLengths.{array_items}
-use Rattle.wasm_types.specs.Calls.{AddsListed, AddsTwoListed}
-use Rattle.wasm_types.specs.RecTypes.{Shape, TypeItem, type_encoding, shape_encoding, IsShape, IsType, type_item, ContainsTypes, plain_type}
+use Rattle.wasm_types.specs.{AddsListed, AddsTwoListed, Shape, TypeItem, type_encoding, shape_encoding, IsShape, IsType, type_item, ContainsTypes, plain_type}
 use Rattle.wasm_base.proofs.SectionLaws.{payloads}
 use Rattle.wasm_types.proofs.TypeLaws.{types_section}
 

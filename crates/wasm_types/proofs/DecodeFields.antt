@@ -1,14 +1,9 @@
 -- This file proves how readers decode storage and field types.
-use Rattle.std.proofs.Common.{◌≡◌, ◌≢◌, ℕ, List, ◌++◌, Bool, true, false, refl, sym, ap, subst, ◌∙◌, append_assoc}
-use Rattle.wasm_base.specs.Numbers.{padded}
-use Rattle.wasm_base.specs.Formats.{Format, Then, byte, coded, choice, pair}
-use Rattle.wasm_base.specs.Decoding.{Decodes, Rejects}
-use Rattle.wasm_base.specs.Types.{val_type, val_tags, val_ref}
+use Rattle.wasm_base.proofs.Words.{◌≡◌, ◌≢◌, ℕ, List, ◌++◌, Bool, true, false, refl, sym, ap, subst, ◌∙◌, append_assoc, padded, Format, Then, byte, coded, choice, pair, Decodes, Rejects, val_type}
+use Rattle.wasm_base.proofs.Words.{val_tags, val_ref, byte_unambiguous, mapped_decodes, mapped_rejects, IsOther, tagged_decodes, tagged_none, tagged_rejects, choice_other, fixed_decodes, code_decodes}
+use Rattle.wasm_base.proofs.Words.{code_none, code_unknown}
 use Rattle.wasm_base.specs.declared.types.ValType.{ValType}
-use Rattle.wasm_base.proofs.FormatLaws.{byte_unambiguous}
-use Rattle.wasm_base.proofs.DecodingSteps.{mapped_decodes, mapped_rejects}
-use Rattle.wasm_base.proofs.Tags.{IsOther, tagged_decodes, tagged_none, tagged_rejects, choice_other, fixed_decodes, code_decodes, code_none, code_unknown}
-use Rattle.wasm_types.specs.RecTypes.{mutable_code, storage_tags, storage_val, storage_type, field_of, field_type}
+use Rattle.wasm_types.specs.{mutable_code, storage_tags, storage_val, storage_type, field_of, field_type}
 use Rattle.wasm_types.specs.declared.types.StorageType.{StorageType}
 use Rattle.wasm_types.specs.declared.types.StorageType.TheVariants.{I8, I16, Val}
 use Rattle.wasm_types.proofs.TypeLaws.{val_storage}

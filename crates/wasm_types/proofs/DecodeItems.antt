@@ -1,14 +1,8 @@
 -- This file proves how readers decode subtypes and recursion groups.
-use Rattle.std.proofs.Common.{◌≡◌, ◌≢◌, ℕ, map, ◌<◌, List, [], ◌∷◌, length, true, false, sym, subst, arith}
-use Rattle.std.proofs.lemmas.List.{map-id}
-use Rattle.wasm_base.specs.Numbers.{padded}
-use Rattle.wasm_base.specs.Formats.{Format, u32, byte, mapped, pair, vec}
-use Rattle.wasm_base.specs.Decoding.{Decodes, Rejects}
-use Rattle.wasm_base.proofs.BaseLaws.{vec_u32_unambiguous}
-use Rattle.wasm_base.proofs.FormatLaws.{byte_unambiguous, pair_unambiguous}
-use Rattle.wasm_base.proofs.DecodingSteps.{then_decodes, then_rejects_second, mapped_decodes, mapped_rejects, such_decodes, such_none, such_rejects}
-use Rattle.wasm_base.proofs.Tags.{tagged_decodes, tagged_none, tagged_rejects}
-use Rattle.wasm_types.specs.RecTypes.{Composite, Sub, TypeItem, single, group, after_composite, HasSupertypes, sub_of, alone_of, supertypes_and, sub_tags, after_sub, sub_type, after_type, type_item}
+use Rattle.wasm_base.proofs.Words.{◌≡◌, ◌≢◌, ℕ, map, ◌<◌, List, [], ◌∷◌, length, true, false, sym, subst, arith, map-id, padded, Format, u32, byte, mapped, pair, vec, Decodes, Rejects}
+use Rattle.wasm_base.proofs.Words.{vec_u32_unambiguous, byte_unambiguous, pair_unambiguous, then_decodes, then_rejects_second, mapped_decodes, mapped_rejects, such_decodes, such_none, such_rejects}
+use Rattle.wasm_base.proofs.Words.{tagged_decodes, tagged_none, tagged_rejects}
+use Rattle.wasm_types.specs.{Composite, Sub, TypeItem, single, group, after_composite, HasSupertypes, sub_of, alone_of, supertypes_and, sub_tags, after_sub, sub_type, after_type, type_item}
 use Rattle.wasm_types.proofs.TypeLaws.{composite_unambiguous}
 use Rattle.wasm_types.proofs.DecodeFields.{first_of_both, at_tag, not_tag, at_other, not_other}
 

@@ -1,16 +1,10 @@
 -- This file proves how readers decode composite types.
-use Rattle.std.proofs.Common.{◌≡◌, ◌≢◌, ℕ, map, List, [], ◌∷◌, ◌++◌, Option, Some, None, Bool, true, false, refl, sym, ap, subst, ◌∙◌}
-use Rattle.std.proofs.lemmas.List.{map-id}
-use Rattle.wasm_base.specs.Numbers.{padded}
-use Rattle.wasm_base.specs.Formats.{Format, u32, byte, s33, mapped, pair, tagged, vec}
-use Rattle.wasm_base.specs.Decoding.{Decodes, Rejects}
-use Rattle.wasm_base.specs.Types.{val_type}
+use Rattle.wasm_base.proofs.Words.{◌≡◌, ◌≢◌, ℕ, map, List, [], ◌∷◌, Option, Some, None, true, false, refl, sym, subst, map-id, padded, Format, u32, byte, s33, mapped, pair, tagged, vec, Decodes}
+use Rattle.wasm_base.proofs.Words.{Rejects, val_type, byte_unambiguous, u32_unambiguous, then_decodes, then_rejects_second, mapped_decodes, mapped_rejects, tagged_decodes, tagged_none, tagged_rejects}
+use Rattle.wasm_base.proofs.Words.{no_choice}
 use Rattle.wasm_base.specs.declared.types.ValType.{ValType}
-use Rattle.wasm_base.proofs.FormatLaws.{byte_unambiguous}
-use Rattle.wasm_base.proofs.NumberLaws.{u32_unambiguous}
-use Rattle.wasm_base.proofs.DecodingSteps.{then_decodes, then_rejects_second, mapped_decodes, mapped_rejects}
-use Rattle.wasm_base.proofs.Tags.{tagged_decodes, tagged_none, tagged_rejects, no_choice}
-use Rattle.wasm_types.specs.RecTypes.{Shape, func, array, structure, cont, Composite, field_type, func_of, shape_tags, after_shape, given_index, no_index, with_index, after_describes, composite_of, after_composite}
+use Rattle.wasm_types.specs.{Shape, func, array, structure, cont, Composite, field_type, func_of, shape_tags, after_shape, given_index, no_index, with_index, after_describes, composite_of}
+use Rattle.wasm_types.specs.{after_composite}
 use Rattle.wasm_types.specs.declared.types.FieldType.{FieldType}
 use Rattle.wasm_types.proofs.DecodeFields.{first_of_both, at_tag, not_tag, at_other, not_other}
 

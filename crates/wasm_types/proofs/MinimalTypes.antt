@@ -1,29 +1,15 @@
 -- This file proves that decoded types are well-formed, so that their encoding is the minimal one.
-use Rattle.std.proofs.Common.{◌≡◌, ◌≢◌, ℕ, ◌^◌, ◌<◌, List, [], ◌∷◌, ◌++◌, length, map, Bool, true, false, Option, Result, Ok, Err, refl, sym, ap, ap₂, subst, eqb, arith}
-use Rattle.std.specs.List.{flat_map}
-use Rattle.std.proofs.lemmas.Int.{ints}
-use Rattle.std.proofs.lemmas.List.{length-map}
-use Rattle.std.specs.List.{All}
-use Rattle.std.proofs.lemmas.List.Elements.{All-nil, All-cons, All-head, All-tail}
-use Rattle.wasm_base.specs.Numbers.{Mode, minimal, padded, unsigned_encoding}
-use Rattle.wasm_base.specs.Formats.{Format, u32, s33, byte, choice, impossible, mapped, pair, tagged, vec, when}
-use Rattle.wasm_base.specs.Laws.{IsUnsignedInRange}
-use Rattle.wasm_base.specs.Encodings.{vec_encoding, IsEncodableVec}
-use Rattle.wasm_base.specs.Types.{IsVal, val_type, val_tags, val_ref}
-use Rattle.wasm_base.proofs.FormatLaws.{AllValues, AllChoices}
-use Rattle.wasm_base.proofs.EncodingLaws.{tagged_encodes}
-use Rattle.wasm_base.proofs.Outcomes.{on_ok}
-use Rattle.wasm_base.specs.Calls.{Appends}
+use Rattle.wasm_base.proofs.Words.{◌≡◌, ◌≢◌, ℕ, ◌^◌, ◌<◌, List, [], ◌∷◌, ◌++◌, length, map, Bool, true, false, Option, Result, Ok, Err, refl, sym, ap, ap₂, subst, eqb, arith, flat_map, All, ints}
+use Rattle.wasm_base.proofs.Words.{length-map, All-nil, All-cons, All-head, All-tail, Mode, minimal, padded, unsigned_encoding, Format, u32, s33, byte, choice, impossible, mapped, pair, tagged, vec}
+use Rattle.wasm_base.proofs.Words.{when, IsUnsignedInRange, vec_encoding, IsEncodableVec, IsVal, val_type, val_tags, val_ref, AllValues, AllChoices, tagged_encodes, on_ok, Appends, OnOk}
+use Rattle.wasm_base.proofs.Words.{AppendsMinimal, HasEncoding, val_type_is, vec_is, records_appended}
 use Rattle.wasm_base.specs.declared.refused.Refused.{Refused}
 use Rattle.std.specs.declared.vec.Vec.{Vec}
-use Rattle.std.specs.Prelude.{OnOk}
-use Rattle.wasm_reader_base.specs.Minimal.{AppendsMinimal, HasEncoding}
-use Rattle.wasm_reader_base.proofs.DecodePlain.{val_type_is, vec_is}
-use Rattle.wasm_reader_base.proofs.MinimalEncodings.{records_appended}
-use Rattle.wasm_types.specs.RecTypes.{Shape, func, array, structure, cont, Composite, single, group, before_encoding, sub_encoding, type_encoding, IsStorage, IsField, IsShape, IsGivenIndex, IsComposite, IsSub, IsType, storage_tags, storage_val, storage_type, field_type, shape_tags, after_shape, with_index, given_index, no_index, after_descriptor, after_describes, composite_of, after_composite, composite_type, sub_tags, after_sub, alone_of, sub_type, after_type, type_item}
+use Rattle.wasm_types.specs.{Shape, func, array, structure, cont, Composite, single, group, before_encoding, sub_encoding, type_encoding, IsStorage, IsField, IsShape, IsGivenIndex, IsComposite, IsSub}
+use Rattle.wasm_types.specs.{IsType, storage_tags, storage_val, storage_type, field_type, shape_tags, after_shape, with_index, given_index, no_index, after_descriptor, after_describes, composite_of}
+use Rattle.wasm_types.specs.{after_composite, composite_type, sub_tags, after_sub, alone_of, sub_type, after_type, type_item, IsEncodableShape, shape_in, sub_view, entry_view, entry_encoding}
+use Rattle.wasm_types.specs.{IsEncodableSubItem, IsEncodableEntry}
 use Rattle.wasm_types.proofs.TypeLaws.{type_encodes}
-use Rattle.wasm_types.specs.Given.{IsEncodableShape, shape_in}
-use Rattle.wasm_types.specs.Items.{sub_view, entry_view, entry_encoding, IsEncodableSubItem, IsEncodableEntry}
 use Rattle.wasm_types.specs.declared.items.SubItem.{SubItem}
 use Rattle.wasm_types.specs.declared.items.TypeEntry.{TypeEntry}
 use Rattle.wasm_types.specs.declared.items.TypeEntry.TheVariants as entries

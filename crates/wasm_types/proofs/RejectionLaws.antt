@@ -1,16 +1,8 @@
 -- This file proves that certain bytes are not a type section.
-use Rattle.std.proofs.Common.{◌≡◌, ℕ, ◌<◌, List, [], ◌∷◌, ◌++◌, length, Bool, true, false, refl, sym, subst, ◌∙◌, append-nil, arith}
-use Rattle.wasm_base.specs.Entries.{counted_format}
-use Rattle.wasm_base.specs.Formats.{Format, u32, byte, tagged, vec, coded, Then}
-use Rattle.wasm_base.specs.Laws.{RejectsAllAfterPadded}
-use Rattle.wasm_base.specs.Numbers.{padded}
-use Rattle.wasm_base.specs.Decoding.{Unambiguous}
+use Rattle.wasm_base.proofs.Words.{◌≡◌, ℕ, ◌<◌, List, [], ◌∷◌, ◌++◌, length, Bool, true, false, refl, sym, subst, ◌∙◌, append-nil, arith, counted_format, Format, u32, byte, tagged, vec, coded, Then}
+use Rattle.wasm_base.proofs.Words.{RejectsAllAfterPadded, padded, Unambiguous, vec_u32_unambiguous, byte_unambiguous, vec_of_one, then_at, tagged_at, rejects_padded, one_item, u32_small}
 use Rattle.wasm_base.specs.declared.types.ValType.TheVariants.{I32}
-use Rattle.wasm_base.proofs.BaseLaws.{vec_u32_unambiguous}
-use Rattle.wasm_base.proofs.FormatLaws.{byte_unambiguous, vec_of_one, then_at, tagged_at}
-use Rattle.wasm_base.proofs.RejectionLaws.{rejects_padded, one_item}
-use Rattle.wasm_base.proofs.NumberLaws.{u32_small}
-use Rattle.wasm_types.specs.RecTypes.{TypeItem, mutable_code, storage_type, field_type, after_type, type_item}
+use Rattle.wasm_types.specs.{TypeItem, mutable_code, storage_type, field_type, after_type, type_item}
 use Rattle.wasm_types.specs.declared.types.FieldType.{FieldType}
 use Rattle.wasm_types.specs.declared.types.StorageType.TheVariants.{Val}
 use Rattle.wasm_types.proofs.TypeLaws.{storage_unambiguous, val_storage, types_section}

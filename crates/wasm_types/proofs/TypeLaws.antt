@@ -1,26 +1,19 @@
 -- This file proves that the entries of a type section are unambiguous and that their encodings
 -- encode them.
-use Rattle.std.proofs.Common.{◌≡◌, ◌≢◌, ℕ, zero, suc, ◌<◌, List, [], ◌∷◌, ◌++◌, length, Bool, true, false, cond, Option, Some, None, refl, sym, ap, ◌∙◌, arith, pos}
-use Rattle.std.proofs.lemmas.Bool.{ne_eqb}
-use Rattle.wasm_base.specs.Entries.{ItemLaws}
-use Rattle.wasm_base.specs.Formats.{Format, u32, byte, impossible, coded, mapped, pair, tagged, choice, vec}
-use Rattle.wasm_base.specs.Laws.{IsUnsignedInRange}
-use Rattle.wasm_base.specs.Numbers.{Mode, minimal, unsigned_encoding, signed_encoding}
-use Rattle.wasm_base.specs.Decoding.{Unambiguous}
-use Rattle.wasm_base.specs.Encodings.{vec_encoding, IsEncodableVec}
-use Rattle.wasm_base.specs.Types.{val_type, val_encoding, IsVal, val_tags, val_ref, ref_tags}
+use Rattle.wasm_base.proofs.Words.{◌≡◌, ◌≢◌, ℕ, zero, suc, ◌<◌, List, [], ◌∷◌, ◌++◌, length, Bool, true, false, cond, Option, Some, None, refl, sym, ap, ◌∙◌, arith, pos, ne_eqb, ItemLaws, Format, u32}
+use Rattle.wasm_base.proofs.Words.{byte, impossible, coded, mapped, pair, tagged, choice, vec, IsUnsignedInRange, Mode, minimal, unsigned_encoding, signed_encoding, Unambiguous, vec_encoding}
+use Rattle.wasm_base.proofs.Words.{IsEncodableVec, val_type, val_encoding, IsVal, val_tags, val_ref, ref_tags, s33_unambiguous, vec_u32_unambiguous, DeterminesTag, mapped_unambiguous}
+use Rattle.wasm_base.proofs.Words.{such_unambiguous, coded_unambiguous, fixed_unambiguous, impossible_unambiguous, pair_unambiguous, tagged_unambiguous, vec_unambiguous, byte_unambiguous}
+use Rattle.wasm_base.proofs.Words.{choice_unambiguous, choice_determines, choice_tags, u32_unambiguous, pair_encodes, u32_encodes, s33_encodes, vec_encodes, tagged_encodes, val_unambiguous}
+use Rattle.wasm_base.proofs.Words.{val-encodings, val_tag, val_determines, val_choice_unambiguous, SectionLaws, counted_laws}
 use Rattle.wasm_base.specs.declared.types.ValType.{ValType}
-use Rattle.wasm_base.proofs.BaseLaws.{s33_unambiguous, vec_u32_unambiguous}
-use Rattle.wasm_base.proofs.FormatLaws.{DeterminesTag, mapped_unambiguous, such_unambiguous, coded_unambiguous, fixed_unambiguous, impossible_unambiguous, pair_unambiguous, tagged_unambiguous, vec_unambiguous, byte_unambiguous, choice_unambiguous, choice_determines, choice_tags}
-use Rattle.wasm_base.proofs.NumberLaws.{u32_unambiguous}
-use Rattle.wasm_base.proofs.PartLaws.{pair_encodes}
-use Rattle.wasm_base.proofs.EncodingLaws.{u32_encodes, s33_encodes, vec_encodes, tagged_encodes}
-use Rattle.wasm_base.proofs.TypeLaws.{val_unambiguous, val-encodings, val_tag, val_determines, val_choice_unambiguous}
-use Rattle.wasm_types.specs.RecTypes.{Shape, func, array, structure, cont, Composite, Sub, TypeItem, single, group, storage_encoding, mutable_code, field_encoding, shape_encoding, index_encoding, shared_encoding, composite_encoding, before_encoding, sub_encoding, type_encoding, IsStorage, IsField, IsShape, IsGivenIndex, IsComposite, IsSub, IsType, storage_tags, storage_val, storage_type, field_of, field_type, func_of, shape_tags, after_shape, given_index, no_index, with_index, after_descriptor, after_describes, composite_of, after_composite, composite_type, HasSupertypes, sub_of, alone_of, supertypes_and, sub_tags, after_sub, sub_type, after_type, type_item, type_items}
+use Rattle.wasm_types.specs.{Shape, func, array, structure, cont, Composite, Sub, TypeItem, single, group, storage_encoding, mutable_code, field_encoding, shape_encoding, index_encoding}
+use Rattle.wasm_types.specs.{shared_encoding, composite_encoding, before_encoding, sub_encoding, type_encoding, IsStorage, IsField, IsShape, IsGivenIndex, IsComposite, IsSub, IsType, storage_tags}
+use Rattle.wasm_types.specs.{storage_val, storage_type, field_of, field_type, func_of, shape_tags, after_shape, given_index, no_index, with_index, after_descriptor, after_describes, composite_of}
+use Rattle.wasm_types.specs.{after_composite, composite_type, HasSupertypes, sub_of, alone_of, supertypes_and, sub_tags, after_sub, sub_type, after_type, type_item, type_items}
 use Rattle.wasm_types.specs.declared.types.FieldType.{FieldType}
 use Rattle.wasm_types.specs.declared.types.StorageType.{StorageType}
 use Rattle.wasm_types.specs.declared.types.StorageType.TheVariants.{I8, I16, Val}
-use Rattle.wasm_base.proofs.SectionLaws.{SectionLaws, counted_laws}
 
 -- ---- one tag before other values
 

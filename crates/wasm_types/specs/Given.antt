@@ -1,12 +1,12 @@
 -- This file defines the types that the arguments of calls encode.
 use Rattle.std.specs.Prelude.{ℕ, List, [], ◌∷◌, Option, Some, None}
-use Rattle.wasm_base.specs.Encodings.{vec_encoding, IsEncodableVec}
+use Rattle.wasm_base.specs.Words.{vec_encoding, IsEncodableVec}
 use Rattle.wasm_types.specs.RecTypes.{Shape, func, array, structure, cont, Composite, Sub, sub_encoding}
 use Rattle.wasm_types.specs.declared.types.CompositeInnerType.{CompositeInnerType}
-use Rattle.wasm_types.specs.declared.types.CompositeInnerType.TheVariants as inner
 use Rattle.wasm_types.specs.declared.types.CompositeType.{CompositeType}
 use Rattle.wasm_types.specs.declared.types.FuncType.{FuncType}
 use Rattle.wasm_types.specs.declared.types.SubType.{SubType}
+use Rattle.wasm_types.specs.declared.types.CompositeInnerType.TheVariants as inner
 
 -- An optional index as a list.
 abbrev pub listed : Option ℕ → List ℕ

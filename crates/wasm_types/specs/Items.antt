@@ -1,6 +1,6 @@
 -- This file defines the views of decoded types: their values without locations in memory.
 use Rattle.std.specs.Prelude.{ℕ, List, ◌∷◌, map, Option}
-use Rattle.wasm_base.specs.Encodings.{vec_encoding, IsEncodableVec}
+use Rattle.wasm_base.specs.Words.{vec_encoding, IsEncodableVec}
 use Rattle.wasm_types.specs.Given.{composite_in, shape_in, IsEncodableShape}
 use Rattle.wasm_types.specs.RecTypes.{sub_encoding, Shape, Sub, TypeItem, single, group}
 use Rattle.wasm_types.specs.declared.types.CompositeInnerType.{CompositeInnerType}

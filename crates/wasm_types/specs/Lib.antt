@@ -1,4 +1,10 @@
+-- The definitions of the crate, each file, and all of them by one import.
+pub mod Words
 pub mod RecTypes
 pub mod Given
 pub mod Calls
 pub mod Items
+unfoldable pub use Rattle.wasm_types.specs.RecTypes.*
+unfoldable pub use Rattle.wasm_types.specs.Given.*
+unfoldable pub use Rattle.wasm_types.specs.Calls.*
+unfoldable pub use Rattle.wasm_types.specs.Items.*

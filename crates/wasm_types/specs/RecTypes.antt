@@ -1,19 +1,13 @@
 -- This file defines the types of a type section, their encodings and their formats. Core
 -- specification, Binary Format, Types, and Modules, Type Section.
 use Rattle.std.specs.Prelude.{ℕ, ◌^◌, ◌<◌, List, [], ◌∷◌, ◌++◌, length, Bool, true, false, Option, Some, None, IfSome, pos}
-use Rattle.wasm_base.specs.Entries.{Kind, ContainsItems}
-use Rattle.wasm_base.specs.Formats.{Format, u32, byte, s33, fixed, impossible, coded, mapped, such, pair, tagged, choice, vec}
-use Rattle.wasm_base.specs.Laws.{IsUnsignedInRange}
-use Rattle.wasm_base.specs.Numbers.{unsigned_encoding, signed_encoding}
-use Rattle.wasm_base.specs.Encodings.{vec_encoding, IsEncodableVec}
-use Rattle.wasm_base.specs.Types.{val_type, val_encoding, IsVal, val_tags, val_ref}
+use Rattle.wasm_base.specs.Words.{Kind, ContainsItems, Format, u32, byte, s33, fixed, impossible, coded, mapped, such, pair, tagged, choice, vec, IsUnsignedInRange, unsigned_encoding, signed_encoding}
+use Rattle.wasm_base.specs.Words.{vec_encoding, IsEncodableVec, val_type, val_encoding, IsVal, val_tags, val_ref, SectionDecoding, decoding_of, number_of}
 use Rattle.wasm_base.specs.declared.types.ValType.{ValType}
-use Rattle.wasm_base.specs.Modules.{SectionDecoding, decoding_of}
-use Rattle.wasm_base.specs.SectionId.{number_of}
-use Rattle.wasm_base.specs.declared.section_id.SectionId.TheVariants as ids
 use Rattle.wasm_types.specs.declared.types.FieldType.{FieldType}
 use Rattle.wasm_types.specs.declared.types.StorageType.{StorageType}
 use Rattle.wasm_types.specs.declared.types.StorageType.TheVariants.{I8, I16, Val}
+use Rattle.wasm_base.specs.declared.section_id.SectionId.TheVariants as ids
 
 -- ---- types
 

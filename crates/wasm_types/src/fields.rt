@@ -3,18 +3,17 @@ ghost use Rattle.std.specs.Prelude.{◌≢◌, Bool, IfOk, IfErr};
 ghost use Rattle.wasm_base.specs.Formats.{coded, s33};
 ghost use Rattle.wasm_base.specs.Numbers.{padded};
 ghost use Rattle.wasm_base.specs.Decoding.{Decodes, Rejects};
-ghost use Rattle.wasm_reader_base.specs.declared.fault.ReadFault.TheVariants.{Memory};
+ghost use Rattle.wasm_base.specs.declared.fault.ReadFault.TheVariants.{Memory};
 ghost use Rattle.wasm_types.specs.RecTypes.{mutable_code, storage_type, field_type};
 ghost use Rattle.wasm_types.specs.declared.types.FieldType.{FieldType as Field};
 ghost use Rattle.wasm_types.specs.declared.types.StorageType.{StorageType as Storage};
 
 use crate::types::{FieldType, StorageType};
 use std::alloc::Allocator;
-use wasm_base::{ValType, read_groups};
-use wasm_reader_base::{Layout, ReadFault, Readable};
+use wasm_base::{Layout, ReadFault, Readable, ValType, read_groups};
 
 /// Decodes an index, encoded as a signed number of 33 bits.
-#[tactic(auto, using(wasm_reader_base::proofs::DecodeNumbers::index_steps))]
+#[tactic(auto, using(wasm_base::proofs::DecodeNumbers::index_steps))]
 pub(crate) fn read_index(bytes: &[u8]) -> Result<(u32, &[u8]), ReadFault>
     ensures found { IfOk result (λ x. Decodes s33 padded bytes.now x.0 x.1.now) }
     ensures none { IfErr result (λ e. e ≢ Memory → Rejects s33 padded bytes.now) }

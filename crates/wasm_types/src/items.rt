@@ -1,9 +1,8 @@
 // The decoded entries of a type section: subtypes and recursion groups.
 ghost use Rattle.std.specs.Prelude.{◌≢◌, IfOk, IfErr};
-ghost use Rattle.wasm_base.specs.Formats.{pair, vec, u32 as u32_format};
 ghost use Rattle.wasm_base.specs.Numbers.{padded};
 ghost use Rattle.wasm_base.specs.Decoding.{Decodes, Rejects};
-ghost use Rattle.wasm_reader_base.specs.declared.fault.ReadFault.TheVariants.{Memory};
+ghost use Rattle.wasm_base.specs.declared.fault.ReadFault.TheVariants.{Memory};
 ghost use Rattle.wasm_types.specs.Given.{composite_in};
 ghost use Rattle.wasm_types.specs.RecTypes.{supertypes_and, after_sub, sub_encoding, sub_type, type_item, Sub, TypeItem as Entry};
 ghost use Rattle.wasm_types.specs.Items.{sub_view, IsEncodableSubItem, entry_view};
@@ -11,8 +10,7 @@ ghost use Rattle.wasm_types.specs.Items.{sub_view, IsEncodableSubItem, entry_vie
 use crate::shapes::read_composite_after;
 use crate::types::CompositeType;
 use std::alloc::{Allocator, Global};
-use wasm_base::{Encode, Lent, Result};
-use wasm_reader_base::{Layout, ReadFault, Readable};
+use wasm_base::{Encode, Layout, Lent, ReadFault, Readable, Result};
 
 /// A decoded subtype: its supertypes, and whether it is final, so that it can have no subtypes.
 #[derive(Drop, Debug)]

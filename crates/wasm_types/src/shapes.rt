@@ -2,7 +2,7 @@
 ghost use Rattle.std.specs.Prelude.{◌≢◌, IfOk, IfErr};
 ghost use Rattle.wasm_base.specs.Numbers.{padded};
 ghost use Rattle.wasm_base.specs.Decoding.{Decodes, Rejects};
-ghost use Rattle.wasm_reader_base.specs.declared.fault.ReadFault.TheVariants.{Memory};
+ghost use Rattle.wasm_base.specs.declared.fault.ReadFault.TheVariants.{Memory};
 ghost use Rattle.wasm_types.specs.Given.{shape_in, composite_in};
 ghost use Rattle.wasm_types.specs.RecTypes.{after_shape, after_descriptor, after_describes, after_composite};
 ghost use Rattle.wasm_types.specs.Items.{described_view, describing_view};
@@ -12,8 +12,7 @@ use crate::types::{
     ArrayType, CompositeInnerType, CompositeType, ContType, FieldType, FuncType, StructType,
 };
 use std::alloc::Allocator;
-use wasm_base::ValType;
-use wasm_reader_base::{ReadFault, Readable};
+use wasm_base::{ReadFault, Readable, ValType};
 
 /// Decodes an inner type after its first byte, `tag`.
 #[tactic(auto, using(crate::proofs::DecodeShapes::shape_steps))]

@@ -1,5 +1,6 @@
 // The type section: its builder, its reader and its minimizer.
-ghost use Rattle.std.specs.Prelude.{◌≡◌, ◌≢◌, ℕ, List, [], ◌∷◌, length, map, IfErr, IfOk, IsTrue, Err, OnOk, OnErr, ◌↔◌, slice_get, ⊤, pos};
+ghost use Rattle.std.specs.Prelude.{◌≡◌, ◌≢◌, ℕ, List, [], ◌∷◌, length, map, IfErr, IfOk, IsTrue, Err, OnOk, OnErr, ◌↔◌, slice_get, ⊤};
+ghost use Rattle.std.proofs.Common.{refl};
 ghost use Rattle.std.specs.Option.{option_copied};
 ghost use Rattle.wasm_base.specs.Calls.{Adds, DecodesBackBoth};
 ghost use Rattle.wasm_base.specs.Entries.{ContainsPadded, counted_format};
@@ -10,18 +11,20 @@ ghost use Rattle.wasm_base.specs.Numbers.{padded};
 ghost use Rattle.wasm_base.specs.Pieces.{section_encoding, IsEncodableSection, IsOverlong};
 ghost use Rattle.wasm_base.specs.Encodings.{IsEncodableVec};
 ghost use Rattle.wasm_base.specs.declared.refused.Refused.TheVariants.{TooLong};
-ghost use Rattle.wasm_reader_base.specs.Minimal.{AppendsMinimal, HasEncoding};
-ghost use Rattle.wasm_reader_base.specs.declared.fault.ReadFault.TheVariants.{Memory};
+ghost use Rattle.wasm_base.specs.Minimal.{AppendsMinimal, HasEncoding};
+ghost use Rattle.wasm_base.specs.declared.fault.ReadFault.TheVariants.{Memory};
 ghost use Rattle.wasm_types.specs.Calls.{AddsListed, AddsTwoListed};
 ghost use Rattle.wasm_types.specs.Items.{entry_view};
-ghost use Rattle.wasm_types.specs.RecTypes.{type_items, TypeItem as Item, type_encoding, IsType, type_item, field_encoding, func_encoding, struct_encoding, cont_encoding, sub_encoding, ContainsTypes};
+ghost use Rattle.wasm_types.specs.RecTypes.{type_items, TypeItem as Item, type_item, field_encoding, func_encoding, struct_encoding, cont_encoding, sub_encoding, ContainsTypes};
 
 use crate::items::TypeEntry;
 use crate::types::{ARRAY, ContType, FUNC, FieldType, FuncType, STRUCT, StorageType, SubType};
 use std::alloc::{Allocator, Global};
 use std::marker::Model;
-use wasm_base::{Encode, Kind, Pieces, Result, Section, SectionId, ValType, vec_of};
-use wasm_reader_base::{ReadFault, read_whole};
+use wasm_base::{
+    Counted, Encode, Kind, Pieces, ReadFault, Result, Section, SectionId, ValType, read_whole,
+    vec_of,
+};
 
 /// The type section: the types that a module defines, modelled as the bytes of each entry.
 ///
@@ -81,6 +84,14 @@ impl<A: Allocator> TypeSection<A> {
         ensures { option_copied result ≡ slice_get self.now index }
     {
         self.pieces.get(index)
+    }
+
+    /// Adds an entry that is already encoded. The call does not check that it is a type or a recursion
+    /// group.
+    pub fn raw(&mut self, entry: &[u8]) -> Result<()>
+        ensures { Adds entry.now ⊤ self.old self.new result }
+    {
+        self.pieces.add(entry)
     }
 
     /// Returns an encoder that adds one type. If none of its methods is called, nothing is added.
@@ -151,6 +162,23 @@ impl<A: Allocator> Section for TypeSection<A> {
     ghost sized = { section_sized };
 
     ghost decodes_back = { λ section promised. promised.plain };
+}
+
+/// Adds decoded entries, each as it was: a type, or a recursion group.
+impl<A: Allocator, B: Allocator> Counted<TypeEntry<B>> for TypeSection<A> {
+    ghost use Rattle.wasm_types.specs.Items.{entry_encoding, IsEncodableEntry};
+
+    ghost pieces = { λ section. section };
+
+    ghost item_encoding = { entry_encoding };
+
+    ghost item_encodable = { IsEncodableEntry };
+
+    fn add(&mut self, item: &TypeEntry<B>) -> Result<()> {
+        self.pieces.add_encoded(item)
+    }
+
+    ghost counted = { λ section. refl };
 }
 
 /// Adds one type to a section that it borrows. A call that returns an error leaves the section

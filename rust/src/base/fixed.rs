@@ -1,9 +1,28 @@
 // Written by tools/to-rust from crates/wasm_base/src/fixed.rt: change that.
-// Encoding of byte arrays of a fixed length.
+// Fixed-width values: bytes, arrays of bytes, and vectors of 128 bits.
 
 use crate::vec::Sink;
 use crate::base::encode::Encode;
+use crate::base::fault::ReadFault;
+use crate::base::readable::{Layout, Readable};
 use crate::base::refused::Result;
+use crate::alloc::Allocator;
+
+/// Encodes the number as one byte.
+///
+/// # Defined
+///
+/// ```text
+/// encoding = { λ n. n ∷ [] }
+/// encodable = { λ _. ⊤ }
+/// ```
+impl Encode for u8 {
+    #[inline]
+    fn encode<A: Sink>(&self, sink: &mut A) -> Result<()> {
+        sink.push(*self)?;
+        Ok(())
+    }
+}
 
 /// Encodes the bytes as they are, without a count.
 impl<const N: usize> Encode for [u8; N] {
@@ -11,5 +30,62 @@ impl<const N: usize> Encode for [u8; N] {
     fn encode<A: Sink>(&self, sink: &mut A) -> Result<()> {
         sink.extend_from_slice(self)?;
         Ok(())
+    }
+}
+
+/// # Defined
+///
+/// ```text
+/// Value = { ℕ }
+/// format = { byte }
+/// view = { λ b. b }
+/// ```
+impl Layout for u8 {
+    fn laws() {}
+}
+
+impl<'a, A: Allocator + Copy> Readable<'a, A> for u8 {
+    #[inline]
+    fn read(bytes: &'a [u8], _alloc: A) -> Result<(u8, &'a [u8]), ReadFault> {
+        match bytes {
+            [] => Err(ReadFault::Ended),
+            [b, rest @ ..] => Ok((*b, rest)),
+        }
+    }
+}
+
+/// A vector's sixteen bytes, little-endian, in two's complement.
+///
+/// # Defined
+///
+/// ```text
+/// Value = { ℤ }
+/// format = { vector_format }
+/// view = { λ v. v }
+/// ```
+impl Layout for i128 {
+    fn laws() {}
+}
+
+impl<'a, A: Allocator + Copy> Readable<'a, A> for i128 {
+    fn read(bytes: &'a [u8], _alloc: A) -> Result<(i128, &'a [u8]), ReadFault> {
+        match bytes.split_first_chunk::<16>() {
+            Some((front, rest)) => Ok((i128::from_le_bytes(*front), rest)),
+            None => Err(ReadFault::Ended),
+        }
+    }
+}
+
+/// Sixteen lanes, one byte each.
+impl Layout for [u8; 16] {
+    fn laws() {}
+}
+
+impl<'a, A: Allocator + Copy> Readable<'a, A> for [u8; 16] {
+    fn read(bytes: &'a [u8], _alloc: A) -> Result<([u8; 16], &'a [u8]), ReadFault> {
+        match bytes.split_first_chunk::<16>() {
+            Some((front, rest)) => Ok((*front, rest)),
+            None => Err(ReadFault::Ended),
+        }
     }
 }

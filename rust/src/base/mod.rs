@@ -9,37 +9,65 @@
 mod counted;
 mod cow;
 mod encode;
+mod fault;
 mod fixed;
 mod frames;
 mod kind;
 pub mod laws;
 mod leb128;
 mod modules;
+mod names;
 mod once;
 mod parts;
 mod pieces;
+mod readable;
 mod refused;
 mod section_id;
 mod sections;
+mod shorten;
+mod skip;
 mod tuples;
 mod types;
 mod vectors;
+mod whole;
 
 pub use counted::{Counted, add_all};
 pub use cow::{CowSlice, CowStr};
 pub use encode::Encode;
+pub(crate) use fault::ReadFault;
 pub use frames::{begin_size_prefixed, encode_section, encode_size_prefixed};
+pub(crate) use frames::{SizePrefixed, prefix_size_since};
 pub use kind::Kind;
 pub use leb128::{Groups, NoGroups, encoding_size, read_groups};
+pub(crate) use leb128::read_index;
 pub use modules::Module;
 pub use once::{BytesOf, EncodeOnce, VecOf, bytes_of, vec_of};
 pub use parts::{Lent, Optional};
+pub(crate) use parts::read_optional;
 pub use pieces::Pieces;
+pub(crate) use readable::{Layout, Readable};
 pub use refused::{Refused, Result};
 pub use section_id::{
     CORE_FUNCTION_EXACT_SORT, CORE_FUNCTION_SORT, CORE_GLOBAL_SORT, CORE_MEMORY_SORT,
     CORE_TABLE_SORT, CORE_TAG_SORT, SectionId,
 };
 pub use sections::{RawSection, Section};
+pub(crate) use shorten::Shorten;
+pub(crate) use skip::{Dropped, Skip, skip_many};
 pub use types::{AbstractHeapType, HeapType, RefType, ValType};
+pub(crate) use types::read_val_after;
 pub use vectors::encode_vec;
+pub(crate) use vectors::append_all;
+pub(crate) use whole::{read_to_end, read_whole};
+
+/// The names that decode, which `reader` exports.
+pub(crate) mod reading {
+    pub use super::fault::ReadFault;
+    pub use super::frames::{SizePrefixed, prefix_size_since};
+    pub use super::parts::read_optional;
+    pub use super::readable::{Layout, Readable};
+    pub use super::shorten::Shorten;
+    pub use super::skip::{Dropped, Skip, skip_many};
+    pub use super::vectors::append_all;
+    pub use super::whole::{read_to_end, read_whole};
+}

@@ -1,9 +1,12 @@
 // Written by tools/to-rust from crates/wasm_base/src/parts.rt: change that.
-// Components of encodings: borrowed values, and optional values.
+// Components of values: borrowed ones, and optional ones.
 
 use crate::vec::Sink;
 use crate::base::encode::Encode;
+use crate::base::fault::ReadFault;
+use crate::base::readable::Readable;
 use crate::base::refused::Result;
+use crate::alloc::Allocator;
 
 /// A borrowed value as a component of an encoding.
 #[derive(Debug)]
@@ -43,5 +46,30 @@ impl<T: Encode> Encode for Optional<T> {
             Some(part) => part.encode(sink),
             None => Ok(()),
         }
+    }
+}
+
+/// Decodes a value if the flag is set, and returns `None` otherwise.
+///
+/// # Errors
+///
+/// Any error but `Memory` means that the flag is set, and no such value is at the front.
+///
+/// # Proved
+///
+/// ```text
+/// ensures found { IfOk result (λ x. Decodes (optional flag T.format) padded bytes.now (option_map T.view x.0) x.1.now) }
+/// ensures none { IfErr result (λ e. e ≢ Memory → Rejects (optional flag T.format) padded bytes.now) }
+/// ```
+pub fn read_optional<'a, T: Readable<'a, A>, A: Allocator + Copy>(
+    flag: bool,
+    bytes: &'a [u8],
+    alloc: A,
+) -> Result<(Option<T>, &'a [u8]), ReadFault> {
+    if flag {
+        let (value, rest) = T::read(bytes, alloc)?;
+        Ok((Some(value), rest))
+    } else {
+        Ok((None, bytes))
     }
 }

@@ -1,9 +1,14 @@
 // Written by tools/to-rust from crates/wasm_base/src/tuples.rt: change that.
-// Encodings of several values one after another.
+// Several values one after another.
 
 use crate::vec::Sink;
 use crate::base::encode::Encode;
+use crate::base::fault::ReadFault;
+use crate::base::readable::{Layout, Readable};
 use crate::base::refused::Result;
+use crate::base::shorten::Shorten;
+use crate::base::skip::Skip;
+use crate::alloc::Allocator;
 
 /// Appends the encodings of both values, or of neither.
 ///
@@ -60,5 +65,48 @@ impl<S: Encode, T: Encode, U: Encode> Encode for (S, T, U) {
             return Err(refused);
         }
         Ok(())
+    }
+}
+
+/// One value, and then another.
+impl<'a, A: Allocator + Copy, P: Skip<'a, A>, Q: Skip<'a, A>> Skip<'a, A> for (P, Q) {
+    fn skip(bytes: &'a [u8], alloc: A) -> Result<&'a [u8], ReadFault> {
+        let after = P::skip(bytes, alloc)?;
+        P::laws();
+        let rest = Q::skip(after, alloc)?;
+        Ok(rest)
+    }
+}
+
+/// One value, and then another.
+///
+/// # Defined
+///
+/// ```text
+/// Value = { T.Value × U.Value }
+/// format = { pair T.format U.format }
+/// view = { λ p. (T.view p.0, U.view p.1) }
+/// ```
+impl<T: Layout, U: Layout> Layout for (T, U) {
+    fn laws() {
+        T::laws();
+        U::laws();
+    }
+}
+
+impl<'a, A: Allocator + Copy, T: Readable<'a, A>, U: Readable<'a, A>> Readable<'a, A> for (T, U) {
+    #[inline]
+    fn read(bytes: &'a [u8], alloc: A) -> Result<((T, U), &'a [u8]), ReadFault> {
+        let (first, rest) = T::read(bytes, alloc)?;
+        T::laws();
+        let (second, rest) = U::read(rest, alloc)?;
+        Ok(((first, second), rest))
+    }
+}
+
+impl<T: Shorten, U: Shorten> Shorten for (T, U) {
+    fn write_minimal<B: Sink>(&self, sink: &mut B) -> Result<()> {
+        self.0.write_minimal(sink)?;
+        self.1.write_minimal(sink)
     }
 }

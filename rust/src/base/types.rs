@@ -3,7 +3,12 @@
 
 use crate::vec::Sink;
 use crate::base::encode::Encode;
+use crate::base::fault::ReadFault;
+use crate::base::leb128::read_index;
+use crate::base::readable::{Layout, Readable};
 use crate::base::refused::Result;
+use crate::base::shorten::Shorten;
+use crate::alloc::Allocator;
 
 /// The heap types that have a name, as the core specification ("Heap Types") and its proposals
 /// define them.
@@ -199,5 +204,216 @@ impl Encode for ValType {
             ValType::Ref(ty) => return ty.encode(sink),
         };
         byte.encode(sink)
+    }
+}
+
+/// Returns the abstract heap type of this byte.
+///
+/// # Proved
+///
+/// ```text
+/// ensures { MatchOption result ((ty : Abstract) → byte ≢ abstract_code ty) (λ ty. byte ≡ abstract_code ty) }
+/// ```
+fn abstract_of(byte: u8) -> Option<AbstractHeapType> {
+    match byte {
+        0x70 => Some(AbstractHeapType::Func),
+        0x6F => Some(AbstractHeapType::Extern),
+        0x6E => Some(AbstractHeapType::Any),
+        0x6D => Some(AbstractHeapType::Eq),
+        0x6C => Some(AbstractHeapType::I31),
+        0x6B => Some(AbstractHeapType::Struct),
+        0x6A => Some(AbstractHeapType::Array),
+        0x69 => Some(AbstractHeapType::Exn),
+        0x74 => Some(AbstractHeapType::NoExn),
+        0x73 => Some(AbstractHeapType::NoFunc),
+        0x72 => Some(AbstractHeapType::NoExtern),
+        0x71 => Some(AbstractHeapType::None),
+        0x68 => Some(AbstractHeapType::Cont),
+        0x75 => Some(AbstractHeapType::NoCont),
+        _ => None,
+    }
+}
+
+/// # Defined
+///
+/// ```text
+/// Value = { Abstract }
+/// format = { abstract_type }
+/// view = { λ ty. ty }
+/// ```
+impl Layout for AbstractHeapType {
+    fn laws() {}
+}
+
+impl<'a, A: Allocator + Copy> Readable<'a, A> for AbstractHeapType {
+    fn read(bytes: &'a [u8], alloc: A) -> Result<(AbstractHeapType, &'a [u8]), ReadFault> {
+        let (byte, rest) = <u8 as Readable<'a, A>>::read(bytes, alloc)?;
+        match abstract_of(byte) {
+            Some(ty) => Ok((ty, rest)),
+            None => Err(ReadFault::UnknownTag),
+        }
+    }
+}
+
+/// # Defined
+///
+/// ```text
+/// Value = { Heap }
+/// format = { heap_type }
+/// view = { λ heap. heap }
+/// ```
+impl Layout for HeapType {
+    fn laws() {}
+}
+
+impl<'a, A: Allocator + Copy> Readable<'a, A> for HeapType {
+    fn read(bytes: &'a [u8], alloc: A) -> Result<(HeapType, &'a [u8]), ReadFault> {
+        let (tag, rest) = <u8 as Readable<'a, A>>::read(bytes, alloc)?;
+        match tag {
+            0x62 => {
+                let (index, rest) = <u32 as Readable<'a, A>>::read(rest, alloc)?;
+                Ok((HeapType::Exact(index), rest))
+            }
+            0x65 => {
+                let (ty, rest) = <AbstractHeapType as Readable<'a, A>>::read(rest, alloc)?;
+                Ok((HeapType::Abstract { shared: true, ty }, rest))
+            }
+            _ => match abstract_of(tag) {
+                Some(ty) => Ok((HeapType::Abstract { shared: false, ty }, rest)),
+                None => {
+                    let (index, rest) = read_index(bytes)?;
+                    Ok((HeapType::Concrete(index), rest))
+                }
+            },
+        }
+    }
+}
+
+/// Returns `true` if the nullable reference to the heap type has a one-byte encoding.
+///
+/// # Proved
+///
+/// ```text
+/// ensures yes { IsTrue result → HasNoByte heap → ⊥ }
+/// ensures no { result ≡ false → HasNoByte heap }
+/// ```
+fn has_own_byte(heap: HeapType) -> bool {
+    match heap {
+        HeapType::Abstract {
+            shared: false,
+            ty: AbstractHeapType::Func | AbstractHeapType::Extern,
+        } => true,
+        _ => false,
+    }
+}
+
+/// Decodes a reference type after its first byte, `tag`.
+///
+/// # Proved
+///
+/// ```text
+/// ensures found { IfOk result (λ x. Decodes (choice ref_tags (λ b. impossible) tag) padded bytes.now x.0 x.1.now) }
+/// ensures none { IfErr result (λ e. e ≢ Memory → Rejects (choice ref_tags (λ b. impossible) tag) padded bytes.now) }
+/// ```
+fn read_ref_after<'a, A: Allocator + Copy>(
+    tag: u8,
+    bytes: &'a [u8],
+    alloc: A,
+) -> Result<(RefType, &'a [u8]), ReadFault> {
+    match tag {
+        0x70 => Ok((RefType::FUNCREF, bytes)),
+        0x6F => Ok((RefType::EXTERNREF, bytes)),
+        0x64 => {
+            let (heap_type, rest) = <HeapType as Readable<'a, A>>::read(bytes, alloc)?;
+            Ok((
+                RefType {
+                    nullable: false,
+                    heap_type,
+                },
+                rest,
+            ))
+        }
+        0x63 => {
+            let (heap_type, rest) = <HeapType as Readable<'a, A>>::read(bytes, alloc)?;
+            if has_own_byte(heap_type) {
+                return Err(ReadFault::UnknownTag);
+            }
+            Ok((
+                RefType {
+                    nullable: true,
+                    heap_type,
+                },
+                rest,
+            ))
+        }
+        _ => Err(ReadFault::UnknownTag),
+    }
+}
+
+/// # Defined
+///
+/// ```text
+/// Value = { Ref }
+/// format = { ref_type }
+/// view = { λ r. r }
+/// ```
+impl Layout for RefType {
+    fn laws() {}
+}
+
+impl<'a, A: Allocator + Copy> Readable<'a, A> for RefType {
+    fn read(bytes: &'a [u8], alloc: A) -> Result<(RefType, &'a [u8]), ReadFault> {
+        let (tag, rest) = <u8 as Readable<'a, A>>::read(bytes, alloc)?;
+        read_ref_after(tag, rest, alloc)
+    }
+}
+
+/// Decodes a value type after its first byte, `tag`.
+///
+/// # Proved
+///
+/// ```text
+/// ensures found { IfOk result (λ x. Decodes (choice val_tags val_ref tag) padded bytes.now x.0 x.1.now) }
+/// ensures none { IfErr result (λ e. e ≢ Memory → Rejects (choice val_tags val_ref tag) padded bytes.now) }
+/// ```
+pub fn read_val_after<'a, A: Allocator + Copy>(
+    tag: u8,
+    bytes: &'a [u8],
+    alloc: A,
+) -> Result<(ValType, &'a [u8]), ReadFault> {
+    match tag {
+        0x7F => Ok((ValType::I32, bytes)),
+        0x7E => Ok((ValType::I64, bytes)),
+        0x7D => Ok((ValType::F32, bytes)),
+        0x7C => Ok((ValType::F64, bytes)),
+        0x7B => Ok((ValType::V128, bytes)),
+        _ => {
+            let (ty, rest) = read_ref_after(tag, bytes, alloc)?;
+            Ok((ValType::Ref(ty), rest))
+        }
+    }
+}
+
+/// # Defined
+///
+/// ```text
+/// Value = { Val }
+/// format = { val_type }
+/// view = { λ ty. ty }
+/// ```
+impl Layout for ValType {
+    fn laws() {}
+}
+
+impl<'a, A: Allocator + Copy> Readable<'a, A> for ValType {
+    fn read(bytes: &'a [u8], alloc: A) -> Result<(ValType, &'a [u8]), ReadFault> {
+        let (tag, rest) = <u8 as Readable<'a, A>>::read(bytes, alloc)?;
+        read_val_after(tag, rest, alloc)
+    }
+}
+
+impl Shorten for ValType {
+    fn write_minimal<B: Sink>(&self, sink: &mut B) -> Result<()> {
+        self.encode(sink)
     }
 }

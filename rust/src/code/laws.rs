@@ -128,3 +128,14 @@ pub fn locals() {}
 /// ensures padded_of { RejectsAllAfter code_section (5 ∷ 1 ∷ 3 ∷ 128 ∷ 0 ∷ 11 ∷ []) }
 /// ```
 pub fn rejections() {}
+
+/// The visitor of a body reports the offsets that `Function::byte_len` of `wasm_code` returned.
+/// After as many instructions as a raw body has, a visitor of a longer body that begins with it is
+/// at that raw body's length. It has then visited exactly that body.
+///
+/// # Proved
+///
+/// ```text
+/// ensures { OffsetLaws }
+/// ```
+pub fn offsets() {}

@@ -8,8 +8,7 @@ use crate::custom::entries::{CustomEntries, CustomKind};
 use crate::custom::marked::{MarkedName, read_marked};
 use crate::custom::named::after_name;
 use crate::alloc::{Allocator, Global};
-use crate::base::{Encode, Kind, Result, Section, SectionId, vec_of};
-use crate::reader::base::{ReadFault, Readable, Shorten, read_whole};
+use crate::base::{Encode, Kind, ReadFault, Readable, Result, Section, SectionId, Shorten, read_whole, vec_of};
 
 /// The `core` section of a dumped process, modelled as its data: the byte 00, and the name of the
 /// process.

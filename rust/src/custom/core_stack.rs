@@ -9,8 +9,7 @@ use crate::custom::entries::{data_of, encode_entries};
 use crate::custom::marked::read_marked;
 use crate::custom::named::after_name;
 use crate::alloc::{Allocator, Global};
-use crate::base::{CowSlice, CowStr, Encode, Pieces, Result, Section, SectionId, vec_of};
-use crate::reader::base::{Layout, ReadFault, Readable, Shorten, read_whole};
+use crate::base::{CowSlice, CowStr, Encode, Layout, Pieces, ReadFault, Readable, Result, Section, SectionId, Shorten, read_whole, vec_of};
 
 /// The `corestack` section of a thread, modelled as the bytes before its stack frames and the bytes
 /// of each frame. The former are the byte 00 and the name of the thread.

@@ -3,9 +3,8 @@
 
 use crate::vec::Sink;
 use crate::alloc::Allocator;
-use crate::base::{Encode, Result};
+use crate::base::{Encode, Layout, ReadFault, Readable, Result};
 use crate::immediates::{Ieee32, Ieee64};
-use crate::reader::base::{Layout, ReadFault, Readable};
 
 /// A value of a local or of the stack, or none if it was optimized away.
 #[derive(Clone, Copy, Debug)]

@@ -5,8 +5,7 @@ use crate::vec::{Sink, Vec};
 use crate::custom::entries::CustomKind;
 use crate::custom::named::after_name;
 use crate::alloc::Allocator;
-use crate::base::{Encode, Result};
-use crate::reader::base::{ReadFault, Readable};
+use crate::base::{Encode, ReadFault, Readable, Result};
 
 /// A kind whose items can be encoded from a decoded `T`.
 ///

@@ -6,8 +6,7 @@ use crate::custom::counted::{DecodesItems, ItemsAs, append_counted, read_counted
 use crate::custom::entries::{CustomEntries, CustomKind};
 use crate::custom::marked::read_marked;
 use crate::alloc::{Allocator, Global};
-use crate::base::{Encode, Kind, Result, vec_of};
-use crate::reader::base::{Layout, ReadFault, Readable, Shorten};
+use crate::base::{Encode, Kind, Layout, ReadFault, Readable, Result, Shorten, vec_of};
 
 /// The branch hint section: which branches are likely to be taken, as a list of hints for each
 /// function. It belongs before the code section.

@@ -7,8 +7,7 @@ use crate::custom::named::after_name;
 use crate::custom::subsections::Subsection;
 use crate::custom::symbols::{Symbol, SymbolTable};
 use crate::alloc::{Allocator, Global};
-use crate::base::{Encode, Kind, Result};
-use crate::reader::base::{Layout, ReadFault, Readable, Shorten, SizePrefixed, append_all, prefix_size_since, read_to_end, read_whole};
+use crate::base::{Encode, Kind, Layout, ReadFault, Readable, Result, Shorten, SizePrefixed, append_all, prefix_size_since, read_to_end, read_whole};
 
 /// The linking section: the symbols and target of a module for a linker, in version 2 of the
 /// format. Each call adds a subsection, and `new` allocates nothing.

@@ -2,7 +2,7 @@
 // Values after a fixed byte.
 
 use crate::alloc::Allocator;
-use crate::reader::base::{Layout, ReadFault, Readable};
+use crate::base::{Layout, ReadFault, Readable};
 
 /// Decodes the byte `mark` and the value after it, and returns the value with the remaining bytes.
 ///

@@ -11,7 +11,7 @@
 //! subsections. Linking, producers and core dumps are those of the tool conventions, and branch
 //! hints those of their proposal.
 //!
-//! [`ReadFault::Memory`]: crate::reader::base::ReadFault::Memory
+//! [`ReadFault::Memory`]: crate::base::ReadFault::Memory
 
 mod core_dumps;
 mod core_stack;

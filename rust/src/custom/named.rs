@@ -2,7 +2,7 @@
 // The name at the front of a custom section's payload.
 
 use crate::alloc::Allocator;
-use crate::reader::base::{ReadFault, Readable};
+use crate::base::{ReadFault, Readable};
 
 /// Skips the section name if it is `name`, and returns the remaining bytes.
 ///

@@ -8,8 +8,7 @@ use crate::custom::lists::{CountedList, Entries, ListKind};
 use crate::custom::named::after_name;
 use crate::custom::subsections::{RawContent, Subsection};
 use crate::alloc::{Allocator, Global};
-use crate::base::{CowSlice, CowStr, Encode, Kind, Lent, Result};
-use crate::reader::base::{Layout, ReadFault, Readable, Shorten, append_all, prefix_size_since, read_to_end, read_whole};
+use crate::base::{CowSlice, CowStr, Encode, Kind, Layout, Lent, ReadFault, Readable, Result, Shorten, append_all, prefix_size_since, read_to_end, read_whole};
 
 /// A name map: indices and their names. The calls check neither their order nor whether an index is
 /// repeated.

@@ -6,8 +6,7 @@ use crate::custom::counted::{DecodesItems, ItemsAs, append_counted, read_counted
 use crate::custom::entries::{CustomEntries, CustomKind};
 use crate::custom::lists::{CountedList, ListKind};
 use crate::alloc::{Allocator, Global};
-use crate::base::{Kind, Lent, Result};
-use crate::reader::base::{ReadFault, Readable, Shorten};
+use crate::base::{Kind, Lent, ReadFault, Readable, Result, Shorten};
 
 /// The values of a producers field: the tools that produced the module, and their versions.
 pub type ProducersField<A = Global> = CountedList<ValueMembers, A>;

@@ -5,8 +5,7 @@ use crate::vec::Sink;
 use crate::custom::lists::{CountedList, ListKind};
 use crate::alloc::{Allocator, Global};
 use crate::base::laws::plain_name;
-use crate::base::{Encode, Optional, Result};
-use crate::reader::base::{Layout, ReadFault, Readable, Shorten, read_optional};
+use crate::base::{Encode, Layout, Optional, ReadFault, Readable, Result, Shorten, read_optional};
 
 /// A symbol table: the symbols of a module, in the order in which they are added. It is encoded as
 /// subsection 8 of a linking section.

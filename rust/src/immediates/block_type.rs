@@ -2,7 +2,8 @@
 // The types of blocks.
 
 use crate::vec::Sink;
-use crate::base::{Encode, Result, ValType};
+use crate::alloc::Allocator;
+use crate::base::{Encode, Layout, ReadFault, Readable, Result, ValType, read_index, read_val_after};
 
 /// The type of a block: its parameters and results.
 #[derive(Clone, Copy, Debug)]
@@ -30,5 +31,54 @@ impl Encode for BlockType {
             BlockType::Result(ty) => ty.encode(sink),
             BlockType::FunctionType(index) => i64::from(index).encode(sink),
         }
+    }
+}
+
+/// Decodes a block type. Out of line, for those with a type.
+///
+/// # Proved
+///
+/// ```text
+/// ensures found { IfOk result (λ x. Decodes block_type padded bytes.now x.0 x.1.now) }
+/// ensures none { IfErr result (λ e. e ≢ Memory → Rejects block_type padded bytes.now) }
+/// ```
+#[inline(never)]
+fn read_any_block<'a, A: Allocator + Copy>(
+    bytes: &'a [u8],
+    alloc: A,
+) -> Result<(BlockType, &'a [u8]), ReadFault> {
+    let (tag, rest) = <u8 as Readable<'a, A>>::read(bytes, alloc)?;
+    match tag {
+        0x40 => Ok((BlockType::Empty, rest)),
+        0x41..=0x7F => {
+            let (ty, rest) = read_val_after(tag, rest, alloc)?;
+            Ok((BlockType::Result(ty), rest))
+        }
+        _ => {
+            let (index, rest) = read_index(bytes)?;
+            Ok((BlockType::FunctionType(index), rest))
+        }
+    }
+}
+
+/// # Defined
+///
+/// ```text
+/// Value = { BlockModel }
+/// format = { block_type }
+/// view = { λ b. b }
+/// ```
+impl Layout for BlockType {
+    fn laws() {}
+}
+
+impl<'a, A: Allocator + Copy> Readable<'a, A> for BlockType {
+    #[inline]
+    fn read(bytes: &'a [u8], alloc: A) -> Result<(BlockType, &'a [u8]), ReadFault> {
+        let (tag, rest) = <u8 as Readable<'a, A>>::read(bytes, alloc)?;
+        if tag == 0x40 {
+            return Ok((BlockType::Empty, rest));
+        }
+        read_any_block(bytes, alloc)
     }
 }

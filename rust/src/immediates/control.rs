@@ -2,7 +2,8 @@
 // The clauses of instructions that handle exceptions and suspended stacks.
 
 use crate::vec::Sink;
-use crate::base::{Encode, Result};
+use crate::alloc::Allocator;
+use crate::base::{Encode, Layout, ReadFault, Readable, Result};
 
 /// A clause of `try_table`: the exceptions that it catches, and the label that it then branches to.
 #[derive(Clone, Copy, Debug)]
@@ -52,6 +53,70 @@ impl Encode for Handle {
         match *self {
             Handle::OnLabel { tag, label } => (0x00u8, tag, label).encode(sink),
             Handle::OnSwitch { tag } => (0x01u8, tag).encode(sink),
+        }
+    }
+}
+
+/// # Defined
+///
+/// ```text
+/// Value = { CatchModel }
+/// format = { catch_format }
+/// view = { λ c. c }
+/// ```
+impl Layout for Catch {
+    fn laws() {}
+}
+
+impl<'a, A: Allocator + Copy> Readable<'a, A> for Catch {
+    fn read(bytes: &'a [u8], alloc: A) -> Result<(Catch, &'a [u8]), ReadFault> {
+        let (kind, rest) = <u8 as Readable<'a, A>>::read(bytes, alloc)?;
+        match kind {
+            0x00 => {
+                let ((tag, label), rest) = <(u32, u32) as Readable<'a, A>>::read(rest, alloc)?;
+                Ok((Catch::One { tag, label }, rest))
+            }
+            0x01 => {
+                let ((tag, label), rest) = <(u32, u32) as Readable<'a, A>>::read(rest, alloc)?;
+                Ok((Catch::OneRef { tag, label }, rest))
+            }
+            0x02 => {
+                let (label, rest) = <u32 as Readable<'a, A>>::read(rest, alloc)?;
+                Ok((Catch::All { label }, rest))
+            }
+            0x03 => {
+                let (label, rest) = <u32 as Readable<'a, A>>::read(rest, alloc)?;
+                Ok((Catch::AllRef { label }, rest))
+            }
+            _ => Err(ReadFault::UnknownTag),
+        }
+    }
+}
+
+/// # Defined
+///
+/// ```text
+/// Value = { HandleModel }
+/// format = { handle_format }
+/// view = { λ h. h }
+/// ```
+impl Layout for Handle {
+    fn laws() {}
+}
+
+impl<'a, A: Allocator + Copy> Readable<'a, A> for Handle {
+    fn read(bytes: &'a [u8], alloc: A) -> Result<(Handle, &'a [u8]), ReadFault> {
+        let (kind, rest) = <u8 as Readable<'a, A>>::read(bytes, alloc)?;
+        match kind {
+            0x00 => {
+                let ((tag, label), rest) = <(u32, u32) as Readable<'a, A>>::read(rest, alloc)?;
+                Ok((Handle::OnLabel { tag, label }, rest))
+            }
+            0x01 => {
+                let (tag, rest) = <u32 as Readable<'a, A>>::read(rest, alloc)?;
+                Ok((Handle::OnSwitch { tag }, rest))
+            }
+            _ => Err(ReadFault::UnknownTag),
         }
     }
 }

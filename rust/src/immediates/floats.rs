@@ -2,7 +2,8 @@
 // Floats, as their bits.
 
 use crate::vec::Sink;
-use crate::base::{Encode, Result};
+use crate::alloc::Allocator;
+use crate::base::{Encode, Layout, ReadFault, Readable, Result};
 
 /// A float of 32 bits, as its IEEE 754 bits.
 #[derive(Clone, Copy, PartialEq, Eq, Hash, Debug)]
@@ -91,5 +92,49 @@ impl Encode for Ieee64 {
     fn encode<A: Sink>(&self, sink: &mut A) -> Result<()> {
         let bytes: [u8; 8] = self.bits.to_le_bytes();
         bytes.encode(sink)
+    }
+}
+
+/// A float's four bytes, little-endian.
+///
+/// # Defined
+///
+/// ```text
+/// Value = { ℕ }
+/// format = { little_endian 4 }
+/// view = { λ float. float.bits }
+/// ```
+impl Layout for Ieee32 {
+    fn laws() {}
+}
+
+impl<'a, A: Allocator + Copy> Readable<'a, A> for Ieee32 {
+    fn read(bytes: &'a [u8], _alloc: A) -> Result<(Ieee32, &'a [u8]), ReadFault> {
+        match bytes.split_first_chunk::<4>() {
+            Some((front, rest)) => Ok((Ieee32::new(u32::from_le_bytes(*front)), rest)),
+            None => Err(ReadFault::Ended),
+        }
+    }
+}
+
+/// A float's eight bytes, little-endian.
+///
+/// # Defined
+///
+/// ```text
+/// Value = { ℕ }
+/// format = { little_endian 8 }
+/// view = { λ float. float.bits }
+/// ```
+impl Layout for Ieee64 {
+    fn laws() {}
+}
+
+impl<'a, A: Allocator + Copy> Readable<'a, A> for Ieee64 {
+    fn read(bytes: &'a [u8], _alloc: A) -> Result<(Ieee64, &'a [u8]), ReadFault> {
+        match bytes.split_first_chunk::<8>() {
+            Some((front, rest)) => Ok((Ieee64::new(u64::from_le_bytes(*front)), rest)),
+            None => Err(ReadFault::Ended),
+        }
     }
 }

@@ -2,8 +2,9 @@
 // Memory arguments: the immediates of instructions that access memory.
 
 use crate::vec::Sink;
+use crate::alloc::Allocator;
 use core::default::Default;
-use crate::base::{Encode, Result};
+use crate::base::{Encode, Layout, ReadFault, Readable, Result, read_optional};
 
 /// The index of a lane of a vector.
 pub type Lane = u8;
@@ -48,7 +49,7 @@ pub enum Ordering {
 /// # Defined
 ///
 /// ```text
-/// is_default = { λ target. target ≡ Memory 0 }
+/// is_default = { λ target. target ≡ targets.Memory 0 }
 /// ```
 impl Default for MemArgTarget {
     fn default() -> Self {
@@ -200,4 +201,145 @@ fn encode_plain<A: Sink>(flags: u32, offset: u64, sink: &mut A) -> Result<()> {
 #[inline]
 fn put_two_bytes<A: Sink>(first: u8, second: u8, sink: &mut A) {
     sink.push_both_reserved([first, second]);
+}
+
+/// # Defined
+///
+/// ```text
+/// Value = { OrderingModel }
+/// format = { ordering_format }
+/// view = { λ o. o }
+/// ```
+impl Layout for Ordering {
+    fn laws() {}
+}
+
+impl<'a, A: Allocator + Copy> Readable<'a, A> for Ordering {
+    fn read(bytes: &'a [u8], alloc: A) -> Result<(Ordering, &'a [u8]), ReadFault> {
+        let (byte, rest) = <u8 as Readable<'a, A>>::read(bytes, alloc)?;
+        match byte {
+            0x00 => Ok((Ordering::SeqCst, rest)),
+            0x01 => Ok((Ordering::AcqRel, rest)),
+            _ => Err(ReadFault::UnknownTag),
+        }
+    }
+}
+
+/// # Defined
+///
+/// ```text
+/// Value = { MemOrderingModel }
+/// format = { mem_ordering }
+/// view = { λ o. o }
+/// ```
+impl Layout for MemArgOrdering {
+    fn laws() {}
+}
+
+impl<'a, A: Allocator + Copy> Readable<'a, A> for MemArgOrdering {
+    fn read(bytes: &'a [u8], alloc: A) -> Result<(MemArgOrdering, &'a [u8]), ReadFault> {
+        let (tag, rest) = <u8 as Readable<'a, A>>::read(bytes, alloc)?;
+        match tag {
+            0x00 => Ok((MemArgOrdering::Op(Ordering::SeqCst), rest)),
+            0x01 => Ok((MemArgOrdering::Op(Ordering::AcqRel), rest)),
+            0x11 => Ok((MemArgOrdering::Rmw(Ordering::AcqRel), rest)),
+            _ => Err(ReadFault::UnknownTag),
+        }
+    }
+}
+
+/// Decodes the index of an array type, or of a memory other than 0, as the flags select.
+///
+/// # Proved
+///
+/// ```text
+/// ensures found { IfOk result (λ x. Decodes (target_of array other) padded bytes.now x.0 x.1.now) }
+/// ensures none { IfErr result (λ e. e ≢ Memory → Rejects (target_of array other) padded bytes.now) }
+/// ```
+fn read_target<'a, A: Allocator + Copy>(
+    array: bool,
+    other: bool,
+    bytes: &'a [u8],
+    alloc: A,
+) -> Result<(MemArgTarget, &'a [u8]), ReadFault> {
+    match (array, other) {
+        (false, false) => Ok((MemArgTarget::Memory(0), bytes)),
+        (true, true) => Err(ReadFault::UnknownTag),
+        (true, false) => {
+            let (index, rest) = <u32 as Readable<'a, A>>::read(bytes, alloc)?;
+            Ok((MemArgTarget::Array(index), rest))
+        }
+        (false, true) => {
+            let (index, rest) = <u32 as Readable<'a, A>>::read(bytes, alloc)?;
+            if index == 0 {
+                return Err(ReadFault::UnknownTag);
+            }
+            Ok((MemArgTarget::Memory(index), rest))
+        }
+    }
+}
+
+/// Decodes a memory argument with any flags. Out of line.
+///
+/// # Proved
+///
+/// ```text
+/// ensures found { IfOk result (λ x. Decodes mem_arg padded bytes.now x.0 x.1.now) }
+/// ensures none { IfErr result (λ e. e ≢ Memory → Rejects mem_arg padded bytes.now) }
+/// ```
+#[inline(never)]
+fn read_any_memory<'a, A: Allocator + Copy>(
+    bytes: &'a [u8],
+    alloc: A,
+) -> Result<(MemArg, &'a [u8]), ReadFault> {
+    let (flags, rest) = <u32 as Readable<'a, A>>::read(bytes, alloc)?;
+    if flags >= 0x80 {
+        return Err(ReadFault::UnknownTag);
+    }
+    let (target, rest) = read_target(flags / 32 % 2 == 1, flags / 64 % 2 == 1, rest, alloc)?;
+    let (ordering, rest) = read_optional::<'a, MemArgOrdering, A>(
+        flags / 16 % 2 == 1,
+        rest,
+        alloc,
+    )?;
+    let (offset, rest) = <u64 as Readable<'a, A>>::read(rest, alloc)?;
+    Ok((
+        MemArg {
+            offset,
+            align: flags % 16,
+            target,
+            ordering,
+        },
+        rest,
+    ))
+}
+
+/// # Defined
+///
+/// ```text
+/// Value = { MemArgModel }
+/// format = { mem_arg }
+/// view = { λ m. m }
+/// ```
+impl Layout for MemArg {
+    fn laws() {}
+}
+
+impl<'a, A: Allocator + Copy> Readable<'a, A> for MemArg {
+    #[inline]
+    fn read(bytes: &'a [u8], alloc: A) -> Result<(MemArg, &'a [u8]), ReadFault> {
+        if let [flags, rest @ ..] = bytes {
+            if *flags < 0x10 {
+                let (offset, rest) = <u64 as Readable<'a, A>>::read(rest, alloc)?;
+                let memory = MemArg {
+                    offset,
+                    align: u32::from(*flags),
+                    target: MemArgTarget::Memory(0),
+                    ordering: None,
+                };
+                return Ok((memory, rest));
+            }
+        }
+        read_any_memory(bytes, alloc)
+    }
 }

@@ -11,12 +11,14 @@
 //! `specs/Instructions.antt`, and the format of instructions in `specs/Plain.antt`.
 
 mod aggregate;
+mod arguments;
 mod atomic;
 mod instruction;
 pub mod laws;
 mod numeric;
 mod op;
 mod part;
+mod plain;
 mod prefixed_numeric;
 mod ranged;
 mod sink;
@@ -25,11 +27,13 @@ mod vector;
 mod vector_immediate;
 
 pub use aggregate::Aggregate;
+pub(crate) use arguments::Arg;
 pub use atomic::Atomic;
 pub use instruction::Instruction;
 pub use numeric::Numeric;
 pub use op::{Op, Shape};
 pub use part::Part;
+pub(crate) use plain::{Plain, append_instruction, read_instruction_into};
 pub use prefixed_numeric::PrefixedNumeric;
 pub use sink::{Buffer, InstructionSink};
 pub use vector::Vector;
@@ -37,3 +41,9 @@ pub use vector_immediate::VectorImmediate;
 pub use crate::immediates::{
     BlockType, Catch, Handle, Ieee32, Ieee64, Lane, MemArg, MemArgOrdering, MemArgTarget, Ordering,
 };
+
+/// The names that decode, which `reader` exports.
+pub(crate) mod reading {
+    pub use super::arguments::Arg;
+    pub use super::plain::Plain;
+}

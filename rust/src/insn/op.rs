@@ -2,7 +2,8 @@
 // Opcodes, and the shapes of their immediates.
 
 use crate::vec::Sink;
-use crate::base::{Encode, Result};
+use crate::alloc::Allocator;
+use crate::base::{Encode, Layout, ReadFault, Readable, Result, Shorten};
 
 /// An opcode: a byte, or a prefix and a number.
 #[derive(Clone, Copy, PartialEq, Eq, Hash, Debug)]
@@ -77,4 +78,28 @@ impl Encode for Op {
             Op::Prefixed(prefix, number) => (prefix, number).encode(sink),
         }
     }
+}
+
+/// Decodes the opcode at the front, and returns it with the remaining bytes.
+///
+/// # Proved
+///
+/// ```text
+/// ensures found { IfOk result (λ x. Decodes opcode padded bytes.now x.0 x.1.now) }
+/// ensures none { IfErr result (λ e. e ≢ Memory → Rejects opcode padded bytes.now) }
+/// ```
+#[inline]
+pub(crate) fn read_op<'a, A: Allocator + Copy>(
+    bytes: &'a [u8],
+    alloc: A,
+) -> Result<(Op, &'a [u8]), ReadFault> {
+    let (byte, rest) = <u8 as Readable<'a, A>>::read(bytes, alloc)?;
+    if byte < 0xFB {
+        return Ok((Op::Byte(byte), rest));
+    }
+    if byte == 0xFF {
+        return Ok((Op::Byte(byte), rest));
+    }
+    let (number, rest) = <u32 as Readable<'a, A>>::read(rest, alloc)?;
+    Ok((Op::Prefixed(byte, number), rest))
 }

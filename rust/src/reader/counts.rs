@@ -2,7 +2,7 @@
 // Counts the items of a section without keeping them.
 
 use crate::alloc::Allocator;
-use crate::reader::base::{ReadFault, Skip, skip_many};
+use crate::base::{ReadFault, Skip, skip_many};
 
 /// Skips the members of a vector that occupies all of the bytes, and returns their number.
 ///

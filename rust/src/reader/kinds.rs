@@ -4,10 +4,9 @@
 use crate::vec::{Sink, Vec};
 use crate::reader::counts::count_skipped;
 use crate::alloc::{Allocator, Global};
-use crate::base::{Encode, Result};
+use crate::base::{Dropped, Encode, ReadFault, Readable, Result, Shorten, read_whole};
+use crate::code::Body;
 use crate::custom::{BranchHint, CoreFrame, LinkItem, NameItem, append_hints, append_instances, append_links, append_modules, append_names, append_process, append_producers, append_stack, read_hints, read_instances, read_links, read_modules, read_names, read_process, read_producers, read_stack};
-use crate::reader::base::{Dropped, ReadFault, Readable, Shorten, read_whole};
-use crate::reader::insn::Body;
 use crate::sections::{ElementItem, Export, GlobalItem, Imports, MemoryType, Segment, TableItem, TagType, append_imports, read_imports, read_segments};
 use crate::types::{TypeEntry, append_types, read_types};
 

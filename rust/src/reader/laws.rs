@@ -2,8 +2,6 @@
 //! Laws about sections and modules, for all byte sequences: each function does nothing, and its
 //! clause is the law.
 
-pub use crate::reader::insn::laws as insn;
-
 /// Two minimized sections of a kind have the same bytes exactly if the originals decode to the same
 /// items.
 ///

@@ -4,9 +4,8 @@
 use crate::vec::Vec;
 use crate::reader::kinds::{SectionKind, append_content, read_content};
 use crate::alloc::Allocator;
-use crate::base::{Encode, Result, encode_size_prefixed};
-use crate::reader::base::{ReadFault, Readable, Shorten};
-use crate::reader::insn::shorten_body;
+use crate::base::{Encode, ReadFault, Readable, Result, Shorten, encode_size_prefixed};
+use crate::code::shorten_body;
 
 /// Appends the minimal encoding of a vector of bodies that occupies all of the bytes. It keeps none
 /// of them.

@@ -8,10 +8,9 @@
 //! [`shorten`] writes its minimal encoding. A custom section decodes by the kind that its name
 //! selects, or, as any custom section does, to its name and data.
 
-pub(crate) mod base;
-pub(crate) mod insn;
-pub use base::*;
-pub use insn::*;
+pub use crate::base::reading::*;
+pub use crate::insn::reading::*;
+pub use crate::code::reading::*;
 
 mod counts;
 mod kinds;
@@ -28,9 +27,10 @@ pub use minimal::shorten;
 pub use modules::{Listed, list_module};
 pub use outlines::{Outlined, outline};
 pub use section::read_section;
+pub use crate::base::reading::ReadFault;
+pub use crate::code::reading::{Body, Expression};
 pub use crate::custom::{CoreFrame, LinkItem, NameItem, Symbol};
-pub use crate::reader::base::ReadFault;
-pub use crate::reader::insn::{Arg, Body, Expression, Plain};
+pub use crate::insn::reading::{Arg, Plain};
 pub use crate::sections::{
     ElementItem, ElementItemMode, ElementList, GlobalItem, Segment, TableItem,
 };

@@ -4,7 +4,7 @@
 use crate::vec::Vec;
 use crate::reader::kinds::{kind_of_id, read_number};
 use crate::alloc::Allocator;
-use crate::reader::base::{ReadFault, Readable};
+use crate::base::{ReadFault, Readable};
 
 /// The magic and the version of a module.
 pub(crate) const HEADER: [u8; 8] = [0x00, 0x61, 0x73, 0x6D, 0x01, 0x00, 0x00, 0x00];

@@ -6,7 +6,7 @@ use crate::reader::kinds::{SectionKind, read_number};
 use crate::reader::modules::read_header;
 use crate::reader::standing::{Standing, read_standing};
 use crate::alloc::Allocator;
-use crate::reader::base::ReadFault;
+use crate::base::ReadFault;
 use crate::types::read_types;
 
 /// A section in the outline of a module.

@@ -3,7 +3,7 @@
 
 use crate::reader::kinds::{Items, SectionKind, read_content};
 use crate::alloc::Allocator;
-use crate::reader::base::{ReadFault, Readable};
+use crate::base::{ReadFault, Readable};
 
 /// Decodes the section at the front, and returns its items and its length in bytes. The bytes begin
 /// with the section's size prefix, after its id.

@@ -3,7 +3,7 @@
 
 use crate::reader::kinds::{SectionKind, kind_of_id, kind_of_name};
 use crate::alloc::Allocator;
-use crate::reader::base::{ReadFault, Readable};
+use crate::base::{ReadFault, Readable};
 
 /// A section of a module, with its payload not yet decoded.
 #[derive(Clone, Copy, Debug)]

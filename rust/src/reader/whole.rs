@@ -6,7 +6,7 @@ use crate::reader::minimal::shorten;
 use crate::reader::modules::{HEADER, read_header};
 use crate::reader::standing::{Standing, read_standing};
 use crate::alloc::{AllocError, Allocator};
-use crate::reader::base::ReadFault;
+use crate::base::ReadFault;
 
 /// The treatment of custom sections that hold offsets.
 ///

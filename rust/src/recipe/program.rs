@@ -9,7 +9,7 @@ use crate::recipe::listing::listing;
 use crate::recipe::recipe::assemble;
 use crate::alloc::{AllocError, Allocator};
 use std::io::{Read, Write};
-use crate::reader::base::ReadFault;
+use crate::base::ReadFault;
 
 /// The error of the program.
 #[derive(Debug)]

@@ -4,10 +4,8 @@
 use crate::vec::{Sink, Vec};
 use crate::sections::counted_section::{CountedSection, ItemKind};
 use crate::alloc::{Allocator, Global};
-use crate::base::{Encode, Kind, Lent, Result, SectionId, bytes_of, encode_size_prefixed};
-use crate::code::ConstExpr;
-use crate::reader::base::{Dropped, Layout, ReadFault, Readable, Shorten, Skip, read_whole};
-use crate::reader::insn::Expression;
+use crate::base::{Dropped, Encode, Kind, Layout, Lent, ReadFault, Readable, Result, SectionId, Shorten, Skip, bytes_of, encode_size_prefixed, read_whole};
+use crate::code::{ConstExpr, Expression};
 
 /// The data section: segments of bytes that a module copies to memories.
 ///

@@ -3,9 +3,8 @@
 
 use crate::vec::{Sink, Vec};
 use crate::alloc::{Allocator, Global};
-use crate::base::{Encode, RefType, Result};
-use crate::reader::base::{Dropped, Layout, ReadFault, Readable, Shorten, Skip, skip_many};
-use crate::reader::insn::Expression;
+use crate::base::{Dropped, Encode, Layout, ReadFault, Readable, RefType, Result, Shorten, Skip, skip_many};
+use crate::code::Expression;
 
 /// The flag of an element segment, as its bits.
 #[derive(Clone, Copy, Debug)]

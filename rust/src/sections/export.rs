@@ -4,8 +4,7 @@
 use crate::vec::Sink;
 use crate::sections::counted_section::{CountedSection, ItemKind, RecordOf};
 use crate::alloc::{Allocator, Global};
-use crate::base::{Encode, Kind, Result, SectionId};
-use crate::reader::base::{Layout, ReadFault, Readable};
+use crate::base::{Encode, Kind, Layout, ReadFault, Readable, Result, SectionId};
 
 /// The export section: the items that a module exports.
 ///

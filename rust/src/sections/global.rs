@@ -5,10 +5,8 @@ use crate::vec::Sink;
 use crate::sections::counted_section::{CountedSection, ItemKind};
 use crate::sections::flags::where_set;
 use crate::alloc::{Allocator, Global};
-use crate::base::{Encode, Kind, Lent, Result, SectionId, ValType};
-use crate::code::ConstExpr;
-use crate::reader::base::{Dropped, Layout, ReadFault, Readable, Shorten, Skip};
-use crate::reader::insn::Expression;
+use crate::base::{Dropped, Encode, Kind, Layout, Lent, ReadFault, Readable, Result, SectionId, Shorten, Skip, ValType};
+use crate::code::{ConstExpr, Expression};
 
 /// The global section: the globals that a module defines.
 ///

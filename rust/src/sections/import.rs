@@ -8,8 +8,7 @@ use crate::sections::memory::MemoryType;
 use crate::sections::table::TableType;
 use crate::sections::tag::TagType;
 use crate::alloc::{Allocator, Global};
-use crate::base::{CORE_FUNCTION_EXACT_SORT, CORE_FUNCTION_SORT, CORE_GLOBAL_SORT, CORE_MEMORY_SORT, CORE_TABLE_SORT, CORE_TAG_SORT, CowSlice, Encode, Kind, Result, SectionId};
-use crate::reader::base::{Dropped, Layout, ReadFault, Readable, Skip, read_whole, skip_many};
+use crate::base::{CORE_FUNCTION_EXACT_SORT, CORE_FUNCTION_SORT, CORE_GLOBAL_SORT, CORE_MEMORY_SORT, CORE_TABLE_SORT, CORE_TAG_SORT, CowSlice, Dropped, Encode, Kind, Layout, ReadFault, Readable, Result, SectionId, Skip, read_whole, skip_many};
 
 /// The import section: the items that a module imports.
 ///

@@ -5,8 +5,7 @@ use crate::vec::Sink;
 use crate::sections::counted_section::{CountedSection, ItemKind, RecordOf};
 use crate::sections::flags::where_set;
 use crate::alloc::{Allocator, Global};
-use crate::base::{Encode, Kind, Optional, Result, SectionId};
-use crate::reader::base::{Layout, ReadFault, Readable, read_optional};
+use crate::base::{Encode, Kind, Layout, Optional, ReadFault, Readable, Result, SectionId, read_optional};
 
 /// The memory section: the memories that a module defines.
 ///

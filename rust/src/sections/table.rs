@@ -6,10 +6,8 @@ use crate::sections::counted_section::{CountedSection, ItemKind, RecordOf};
 use crate::sections::flags::where_set;
 use crate::sections::memory::Flags;
 use crate::alloc::{Allocator, Global};
-use crate::base::{Encode, Kind, Lent, Optional, RefType, Result, SectionId, ValType};
-use crate::code::ConstExpr;
-use crate::reader::base::{Dropped, Layout, ReadFault, Readable, Shorten, Skip, read_optional};
-use crate::reader::insn::Expression;
+use crate::base::{Dropped, Encode, Kind, Layout, Lent, Optional, ReadFault, Readable, RefType, Result, SectionId, Shorten, Skip, ValType, read_optional};
+use crate::code::{ConstExpr, Expression};
 
 /// The table section: the tables that a module defines.
 ///

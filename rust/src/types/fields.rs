@@ -3,8 +3,7 @@
 
 use crate::types::types::{FieldType, StorageType};
 use crate::alloc::Allocator;
-use crate::base::{ValType, read_groups};
-use crate::reader::base::{Layout, ReadFault, Readable};
+use crate::base::{Layout, ReadFault, Readable, ValType, read_groups};
 
 /// Decodes an index, encoded as a signed number of 33 bits.
 ///

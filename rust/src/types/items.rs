@@ -5,8 +5,7 @@ use crate::vec::{Sink, Vec};
 use crate::types::shapes::read_composite_after;
 use crate::types::types::CompositeType;
 use crate::alloc::{Allocator, Global};
-use crate::base::{Encode, Lent, Result};
-use crate::reader::base::{Layout, ReadFault, Readable};
+use crate::base::{Encode, Layout, Lent, ReadFault, Readable, Result};
 
 /// A decoded subtype: its supertypes, and whether it is final, so that it can have no subtypes.
 #[derive(Debug)]

@@ -5,8 +5,7 @@ use crate::vec::Vec;
 use crate::types::fields::read_index;
 use crate::types::types::{ArrayType, CompositeInnerType, CompositeType, ContType, FieldType, FuncType, StructType};
 use crate::alloc::Allocator;
-use crate::base::ValType;
-use crate::reader::base::{ReadFault, Readable};
+use crate::base::{ReadFault, Readable, ValType};
 
 /// Decodes an inner type after its first byte, `tag`.
 ///

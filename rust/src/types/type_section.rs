@@ -5,8 +5,7 @@ use crate::vec::{Sink, Vec};
 use crate::types::items::TypeEntry;
 use crate::types::types::{ARRAY, ContType, FUNC, FieldType, FuncType, STRUCT, StorageType, SubType};
 use crate::alloc::{Allocator, Global};
-use crate::base::{Encode, Kind, Pieces, Result, Section, SectionId, ValType, vec_of};
-use crate::reader::base::{ReadFault, read_whole};
+use crate::base::{Counted, Encode, Kind, Pieces, ReadFault, Result, Section, SectionId, ValType, read_whole, vec_of};
 
 /// The type section: the types that a module defines, modelled as the bytes of each entry.
 ///
@@ -78,6 +77,18 @@ impl<A: Allocator> TypeSection<A> {
     /// ```
     pub fn piece(&self, index: u32) -> Option<&[u8]> {
         self.pieces.get(index)
+    }
+
+    /// Adds an entry that is already encoded. The call does not check that it is a type or a recursion
+    /// group.
+    ///
+    /// # Proved
+    ///
+    /// ```text
+    /// ensures { Adds entry.now ⊤ self.old self.new result }
+    /// ```
+    pub fn raw(&mut self, entry: &[u8]) -> Result<()> {
+        self.pieces.add(entry)
     }
 
     /// Returns an encoder that adds one type. If none of its methods is called, nothing is added.
@@ -153,6 +164,22 @@ impl<A: Allocator> Encode for TypeSection<A> {
 impl<A: Allocator> Section for TypeSection<A> {
     fn id(&self) -> u8 {
         SectionId::Types.into()
+    }
+}
+
+/// Adds decoded entries, each as it was: a type, or a recursion group.
+///
+/// # Defined
+///
+/// ```text
+/// pieces = { λ section. section }
+/// item_encoding = { entry_encoding }
+/// item_encodable = { IsEncodableEntry }
+/// counted = { λ section. refl }
+/// ```
+impl<A: Allocator, B: Allocator> Counted<TypeEntry<B>> for TypeSection<A> {
+    fn add(&mut self, item: &TypeEntry<B>) -> Result<()> {
+        self.pieces.add_encoded(item)
     }
 }
 

@@ -1,9 +1,12 @@
 // Written by tools/to-rust from crates/examples/src/lib.rt: change that.
-//! Callers that prove to which items their modules decode. `docs/CALLING.md` walks through them.
+//! Callers that prove the results of their calls from the contracts alone. Those at the root prove to
+//! which items their modules decode; `docs/CALLING.md` walks through them. [`calls`] has callers of
+//! single calls, and [`read_back`] writes sections, decodes them and minimizes them.
 
 mod adding;
 mod alone;
 mod bodies;
+pub mod calls;
 mod compiled;
 mod filled;
 mod first;
@@ -13,6 +16,7 @@ mod lowering;
 mod names;
 mod object;
 mod padded;
+pub mod read_back;
 mod recursion;
 mod sums;
 mod trees;

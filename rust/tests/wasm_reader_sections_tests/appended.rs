@@ -6,10 +6,10 @@ use dolzhytik::fallible::Vec;
 use dolzhytik::fallible::Global;
 use crate::host::Abort;
 use crate::test_support::{MOST, Refusing};
-use dolzhytik::fallible::{Refused, Result};
-use dolzhytik::fallible::{append_hints, append_instances, append_links, append_modules, append_names, append_process, append_producers, append_stack, read_hints, read_instances, read_links, read_modules, read_names, read_process, read_producers, read_stack};
 use dolzhytik::reader::{ReadFault, Shorten, SizePrefixed, append_all};
+use dolzhytik::fallible::{Refused, Result};
 use dolzhytik::reader::shorten_body;
+use dolzhytik::fallible::{append_hints, append_instances, append_links, append_modules, append_names, append_process, append_producers, append_stack, read_hints, read_instances, read_links, read_modules, read_names, read_process, read_producers, read_stack};
 use dolzhytik::fallible::{append_imports, read_imports};
 use dolzhytik::fallible::{append_types, read_types};
 

@@ -3,8 +3,8 @@
 
 use dolzhytik::fallible::Global;
 use crate::host::Abort;
-use dolzhytik::reader::{SectionKind, read_section};
 use dolzhytik::reader::ReadFault;
+use dolzhytik::reader::{SectionKind, read_section};
 
 /// Checks that decoding fails with this cause.
 fn check(rt: &impl Abort, alloc: Global, kind: SectionKind, bytes: &[u8], expected: ReadFault) {

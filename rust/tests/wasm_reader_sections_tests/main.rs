@@ -14,14 +14,6 @@ mod test_support;
 #[path = "../examples/mod.rs"]
 #[rustfmt::skip]
 mod examples;
-#[allow(dead_code)]
-#[path = "../callers/mod.rs"]
-#[rustfmt::skip]
-mod callers;
-#[allow(dead_code)]
-#[path = "../read_back/mod.rs"]
-#[rustfmt::skip]
-mod read_back;
 #[cfg(test)]
 #[rustfmt::skip]
 mod appended;

@@ -5,13 +5,13 @@ use dolzhytik::fallible::Vec;
 use crate::checks::check_bytes;
 use crate::rows::{BEFORE_BYTE, DATA, before_data};
 use crate::{custom_rows, faults, rows};
-use crate::read_back::padded_function;
+use crate::examples::read_back::padded_function;
 use dolzhytik::fallible::Global;
 use crate::host::Abort;
 use crate::test_support::{MOST, Refusing};
+use dolzhytik::reader::ReadFault;
 use dolzhytik::fallible::Result;
 use dolzhytik::reader::{SectionKind, shorten};
-use dolzhytik::reader::ReadFault;
 
 /// The byte in the sink before the call.
 const BEFORE: u8 = 0xAA;

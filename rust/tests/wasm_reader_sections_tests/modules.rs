@@ -4,9 +4,9 @@
 use dolzhytik::fallible::Vec;
 use dolzhytik::fallible::Global;
 use crate::host::Abort;
+use dolzhytik::reader::ReadFault;
 use dolzhytik::fallible::Result;
 use dolzhytik::reader::{Listed, list_module};
-use dolzhytik::reader::ReadFault;
 
 /// Returns the magic and version, and the bytes after them.
 fn module(alloc: Global, sections: &[u8]) -> Result<Vec<u8>> {

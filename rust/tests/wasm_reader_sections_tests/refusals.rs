@@ -6,8 +6,8 @@ use crate::{custom_rows, faults, rows};
 use dolzhytik::fallible::Global;
 use crate::host::Abort;
 use crate::test_support::{MOST, Refusing};
-use dolzhytik::reader::{SectionKind, list_module, read_section};
 use dolzhytik::reader::ReadFault;
+use dolzhytik::reader::{SectionKind, list_module, read_section};
 
 /// A call of the reader.
 #[derive(Clone, Copy)]

@@ -2,9 +2,10 @@
 // Items as plain data: an assertion over values that own memory takes far longer to prove.
 
 use dolzhytik::fallible::Global;
+use dolzhytik::reader::{Body, Expression};
+use dolzhytik::reader::Arg;
 use dolzhytik::fallible::Op;
 use dolzhytik::reader::{ElementItem, ElementItemMode, ElementList, Items, SectionKind, Segment, read_section};
-use dolzhytik::reader::{Arg, Body, Expression};
 use dolzhytik::fallible::{EntityType, ExportKind, GlobalType, Imports, MemoryType, TableType, TagType};
 
 /// A section without items, or of one.

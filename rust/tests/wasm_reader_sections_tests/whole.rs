@@ -3,7 +3,7 @@
 
 use dolzhytik::fallible::Vec;
 use crate::checks::check_bytes;
-use crate::read_back::{shortened_twice, smaller_module};
+use crate::examples::read_back::{shortened_twice, smaller_module};
 use dolzhytik::fallible::Global;
 use crate::host::Abort;
 use crate::test_support::{MOST, Refusing};

@@ -4,18 +4,18 @@
 
 use dolzhytik::fallible::Vec;
 use crate::checks::check_bytes;
-use crate::read_back::custom::{read_custom, read_hints, read_linking, read_more_names, read_producers};
-use crate::read_back::declared::{read_exports, read_imports, read_memories, read_tables, read_tags, read_types};
-use crate::read_back::dumps::{core_dump, read_instances, read_modules, read_process, read_stack};
-use crate::read_back::handed::handed_module;
-use crate::read_back::padded::{padded_entries, read_padded_segment, write_padded_bodies};
-use crate::read_back::stored::{read_bodies, read_data_count, read_elements, read_globals, read_segments, read_start};
+use crate::examples::read_back::custom::{read_custom, read_hints, read_linking, read_more_names, read_producers};
+use crate::examples::read_back::declared::{read_exports, read_imports, read_memories, read_tables, read_tags, read_types};
+use crate::examples::read_back::dumps::{core_dump, read_instances, read_modules, read_process, read_stack};
+use crate::examples::read_back::handed::handed_module;
+use crate::examples::read_back::padded::{padded_entries, read_padded_segment, write_padded_bodies};
+use crate::examples::read_back::stored::{read_bodies, read_data_count, read_elements, read_globals, read_segments, read_start};
 use dolzhytik::fallible::Global;
 use crate::host::Abort;
 use crate::test_support::{MOST, Refusing};
+use dolzhytik::reader::ReadFault;
 use dolzhytik::fallible::{Refused, Result};
 use dolzhytik::reader::Items;
-use dolzhytik::reader::ReadFault;
 
 /// The module of a core dump: its process, modules, instances and stack.
 const DUMP: &[u8] = b"\0asm\x01\0\0\0\

@@ -4,8 +4,8 @@
 use crate::checks::{check_fault, check_read, check_text};
 use crate::host::Abort;
 use dolzhytik::fallible::{AbstractHeapType, HeapType, NoGroups, RefType, ValType, read_groups};
-use dolzhytik::fallible::{BlockType, Catch, Handle, Ieee32, Ieee64, MemArg, MemArgOrdering, Ordering};
 use dolzhytik::reader::ReadFault;
+use dolzhytik::fallible::{BlockType, Catch, Handle, Ieee32, Ieee64, MemArg, MemArgOrdering, Ordering};
 
 /// Checks the decoded groups, and the number of remaining bytes.
 fn check_groups(rt: &impl Abort, expected: (u128, u128, u8), left: usize, bytes: &[u8]) {

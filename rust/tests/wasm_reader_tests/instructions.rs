@@ -5,10 +5,11 @@ use dolzhytik::fallible::Vec;
 use crate::checks::{check_fault, check_left};
 use dolzhytik::fallible::Global;
 use crate::host::Abort;
-use dolzhytik::fallible::ValType;
-use dolzhytik::fallible::{Op, Part, Shape};
 use dolzhytik::reader::{ReadFault, Readable, SizePrefixed};
-use dolzhytik::reader::{Arg, Body, Expression, Plain, read_body, read_code};
+use dolzhytik::fallible::ValType;
+use dolzhytik::reader::{Body, Expression, read_body, read_code};
+use dolzhytik::reader::{Arg, Plain};
+use dolzhytik::fallible::{Op, Part, Shape};
 
 /// Returns the case of an argument, and a number of it: its own, its offset, or the number of its
 /// members.

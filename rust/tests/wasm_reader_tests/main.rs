@@ -1,6 +1,6 @@
 // Written by tools/to-rust from tests/wasm_reader_tests/src/lib.rtt: change that.
-//! Tests of `wasm_reader_base` and `wasm_reader_insn`: bytes that were worked out from the format's
-//! documents, and failing requests for memory.
+//! Tests of the decoders of `wasm_base`, `wasm_immediates`, `wasm_insn` and `wasm_code`: bytes that
+//! were worked out from the format's documents, and failing requests for memory.
 
 #![allow(unused_imports, unused_variables, clippy::all)]
 
@@ -11,9 +11,9 @@ mod host;
 #[path = "../test_support/mod.rs"]
 mod test_support;
 #[allow(dead_code)]
-#[path = "../callers/mod.rs"]
+#[path = "../examples/mod.rs"]
 #[rustfmt::skip]
-mod callers;
+mod examples;
 #[cfg(test)]
 #[rustfmt::skip]
 mod base;

@@ -7,9 +7,10 @@ use crate::checks::check_cause;
 use dolzhytik::fallible::Global;
 use crate::host::Abort;
 use crate::test_support::{MOST, Refusing};
-use dolzhytik::fallible::Op;
 use dolzhytik::reader::{ReadFault, Readable, SizePrefixed};
-use dolzhytik::reader::{Body, Expression, Instructions, Plain, Step};
+use dolzhytik::reader::{Body, Expression, Instructions, Step};
+use dolzhytik::fallible::Op;
+use dolzhytik::reader::Plain;
 
 /// Checks that there is no error.
 fn check_read(rt: &impl Abort, given: Option<ReadFault>) {

@@ -6,9 +6,10 @@ use crate::checks::{check_bytes, check_cause};
 use dolzhytik::fallible::Global;
 use crate::host::Abort;
 use crate::test_support::{MOST, Refusing};
-use dolzhytik::fallible::{Refused, ValType};
 use dolzhytik::reader::{ReadFault, Readable, Shorten, SizePrefixed};
-use dolzhytik::reader::{Body, Expression, Plain, shorten_body};
+use dolzhytik::fallible::{Refused, ValType};
+use dolzhytik::reader::{Body, Expression, shorten_body};
+use dolzhytik::reader::Plain;
 
 /// Checks the error.
 fn check_refused(rt: &impl Abort, given: Option<Refused>, expected: Option<Refused>) {

@@ -5,8 +5,8 @@
 use crate::checks::{check_cause, check_left};
 use crate::host::Abort;
 use crate::test_support::{Heap, Refusing};
-use dolzhytik::fallible::ValType;
 use dolzhytik::reader::{Dropped, ReadFault, Skip, skip_many};
+use dolzhytik::fallible::ValType;
 use dolzhytik::reader::{Body, Expression};
 
 /// Checks that a value of the kind is skipped, and the number of remaining bytes.

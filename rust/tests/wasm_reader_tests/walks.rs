@@ -2,15 +2,15 @@
 // Tests of the instruction visitor, with ample memory.
 
 use dolzhytik::fallible::Vec;
-use crate::callers::walks::{count_instructions, offset_after};
+use crate::examples::calls::walks::{count_instructions, offset_after};
 use dolzhytik::fallible::Global;
 use crate::host::Abort;
+use dolzhytik::reader::ReadFault;
 use dolzhytik::fallible::{Result, ValType};
 use dolzhytik::fallible::Function;
-use dolzhytik::fallible::Op;
-use dolzhytik::reader::ReadFault;
 use dolzhytik::reader::{Instructions, Step};
-use dolzhytik::reader::laws::insn as laws;
+use dolzhytik::fallible::laws::code as laws;
+use dolzhytik::fallible::Op;
 
 /// Checks the step.
 fn check_step(rt: &impl Abort, given: Option<Step>, offset: usize, op: Op) {

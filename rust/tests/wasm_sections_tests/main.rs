@@ -11,9 +11,9 @@ mod host;
 #[path = "../test_support/mod.rs"]
 mod test_support;
 #[allow(dead_code)]
-#[path = "../callers/mod.rs"]
+#[path = "../examples/mod.rs"]
 #[rustfmt::skip]
-mod callers;
+mod examples;
 #[cfg(test)]
 #[rustfmt::skip]
 mod checks;

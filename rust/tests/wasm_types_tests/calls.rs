@@ -3,8 +3,8 @@
 
 use crate::checks::{check, check_bytes, check_len, check_piece, check_that};
 use crate::samples::{BYTE, FLOAT, bytes, continuation, described, function, sub};
-use dolzhytik::fallible::{Encode, HeapType, Module, RefType, ValType};
-use dolzhytik::fallible::{ContType, FuncType, StorageType, SubType, TypeSection};
+use dolzhytik::fallible::{Encode, HeapType, Module, RefType, ValType, add_all};
+use dolzhytik::fallible::{ContType, FuncType, StorageType, SubType, TypeSection, read_types};
 use dolzhytik::fallible::laws::types as laws;
 
 /// A nullable reference to the type 5.
@@ -33,6 +33,29 @@ fn functions() {
     );
     check_piece(&rt, section.piece(1), Some(&[0x60, 0, 0]));
     check_piece(&rt, section.piece(2), None);
+}
+
+/// Entries that are already encoded, and decoded ones: a function type, and a group of an array type
+/// whose count is padded.
+#[test]
+fn raw_and_decoded() {
+    let rt = crate::host::HostRuntime;
+    let mut section = TypeSection::new(rt.alloc());
+    section.raw(&[0x60, 0, 0]).expect("accepted");
+    let types = read_types(
+        &[2, 0x60, 0, 1, 0x7F, 0x4E, 0x81, 0, 0x5E, 0x78, 1],
+        rt.alloc(),
+    )
+    .expect("read");
+    let added = add_all(&mut section, &types);
+    check_that(&rt, added.is_ok());
+    check_len(&rt, section.len(), section.is_empty(), 3);
+    check(
+        &rt,
+        rt.alloc(),
+        &section,
+        &[13, 3, 0x60, 0, 0, 0x60, 0, 1, 0x7F, 0x4E, 1, 0x5E, 0x78, 1],
+    );
 }
 
 /// A derived `Debug` string.

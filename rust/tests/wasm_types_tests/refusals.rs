@@ -8,8 +8,8 @@ use crate::samples::{BYTE, FLOAT, continuation, described, final_function, funct
 use dolzhytik::fallible::Global;
 use crate::host::Abort;
 use crate::test_support::{Heap, MOST, Refusing};
-use dolzhytik::fallible::{Encode, Result, Section, ValType};
-use dolzhytik::fallible::{ContType, FuncType, StorageType, SubType, TypeSection};
+use dolzhytik::fallible::{Counted, Encode, Result, Section, ValType};
+use dolzhytik::fallible::{ContType, FuncType, StorageType, SubType, TypeEntry, TypeSection, read_types};
 
 /// A type section with an allocator that fails requests.
 type Lent<'h> = TypeSection<&'h Refusing<Global>>;
@@ -61,18 +61,30 @@ const ENTRIES: &[&[u8]] = &[
         0x50, 1, 1, 0x65, 0x4C, 2, 0x4D, 0xAC, 2, 0x5F, 2, 0x78, 1, 0x7C, 0,
     ],
     &[0x4E, 1, 0x4F, 1, 0, 0x5D, 0x3F],
+    &[0x60, 0, 0],
+    &[0x60, 1, 0x7C, 0],
 ];
 
+/// Arguments of the calls.
+#[derive(Clone, Copy)]
+struct Given<'a> {
+    func: &'a FuncType,
+    ty: &'a SubType,
+    decoded: &'a TypeEntry,
+}
+
 /// Makes the call of this index in `ENTRIES`.
-fn add(section: &mut Lent<'_>, func: &FuncType, ty: &SubType, place: usize) -> Result<()> {
+fn add(section: &mut Lent<'_>, given: &Given<'_>, place: usize) -> Result<()> {
     match place {
-        0 => section.ty().func_type(func),
+        0 => section.ty().func_type(given.func),
         1 => section.ty().function([ValType::V128], [ValType::I32]),
         2 => section.ty().array(&StorageType::I16, false),
         3 => section.ty().struct_([BYTE, FLOAT]),
         4 => section.ty().cont(&ContType(7)),
-        5 => section.ty().subtype(ty),
-        _ => add_group(section),
+        5 => section.ty().subtype(given.ty),
+        6 => add_group(section),
+        7 => section.raw(&[0x60, 0, 0]),
+        _ => section.add(given.decoded),
     }
 }
 
@@ -88,25 +100,24 @@ fn calls() {
     let heap = Refusing::new(rt.alloc());
     let func = function(rt.alloc()).expect("accepted");
     let ty = described(rt.alloc()).expect("accepted");
+    let types = read_types(&[1, 0x60, 1, 0x7C, 0], rt.alloc()).expect("read");
+    let given = Given {
+        func: &func,
+        ty: &ty,
+        decoded: &types[0],
+    };
     for (place, entry) in ENTRIES.iter().enumerate() {
-        check_call(&rt, &heap, &func, &ty, place, entry);
+        check_call(&rt, &heap, &given, place, entry);
     }
 }
 
 /// Checks that the call of this index makes an entry of these bytes. If a request fails, the
 /// section is unchanged.
-fn check_call(
-    rt: &impl Abort,
-    heap: Heap<'_>,
-    func: &FuncType,
-    ty: &SubType,
-    place: usize,
-    entry: &[u8],
-) {
+fn check_call(rt: &impl Abort, heap: Heap<'_>, given: &Given<'_>, place: usize, entry: &[u8]) {
     for nth in 1..MOST {
         let mut section = TypeSection::new(heap);
         heap.refuse(nth);
-        let answer = add(&mut section, func, ty, place);
+        let answer = add(&mut section, given, place);
         let granted = check_answer(rt, heap, nth, answer);
         check_entry(rt, granted, section.len(), section.piece(0), entry);
         if granted {

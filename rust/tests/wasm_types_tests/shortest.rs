@@ -4,8 +4,8 @@
 use dolzhytik::fallible::Vec;
 use crate::host::Abort;
 use crate::test_support::{Heap, MOST, Refusing};
-use dolzhytik::fallible::Refused;
 use dolzhytik::reader::ReadFault;
+use dolzhytik::fallible::Refused;
 use dolzhytik::fallible::{TypeEntry, append_types, read_types};
 
 /// Bytes, and the minimal encoding of the types in them.

@@ -8,6 +8,7 @@ from dataclasses import dataclass
 
 from ..errors import Stop
 from ..instructions import table
+from ..rattle.facades import Facades
 from ..repository import TOP, text_of
 from .caller import Caller
 from .proof import MARK
@@ -49,19 +50,19 @@ def cases_by_call(top: pathlib.Path | None = None) -> dict[str, table.Case]:
     return {it.call: it for it in table.read(text_of((top or TOP) / table.TABLE))}
 
 
-def answers(crate: Crate, cases: dict[str, table.Case]) -> Iterator[Answer]:
+def answers(crate: Crate, cases: dict[str, table.Case], facades: Facades) -> Iterator[Answer]:
     """Yields the answer of each function with a clause."""
     for source in crate.sources.values():
         for function in source.functions.values():
             if function.ensures:
                 path = crate.folder.joinpath("proofs", *source.module, function.name, "Answers.antt")
-                yield answer(crate, function, path, cases)
+                yield answer(crate, function, path, cases, facades)
 
 
-def answer(crate: Crate, function: Function, path: pathlib.Path, cases: dict[str, table.Case]) -> Answer:
+def answer(crate: Crate, function: Function, path: pathlib.Path, cases: dict[str, table.Case], facades: Facades) -> Answer:
     try:
         text = read_back(function) if reads_back(function) else Caller(crate, function, cases).answer()
-        return Answer(function, path, text)
+        return Answer(function, path, facades.turn(crate.name, text))
     except Stop as stop:
         return Answer(function, path, None, str(stop))
     except (KeyError, IndexError, ValueError):
@@ -103,10 +104,10 @@ def report_left_over(crate: Crate, written: set[pathlib.Path], counts: Counts, s
 
 def run(names: Sequence[str], is_check: bool, top: pathlib.Path | None = None, say: Say = print) -> int:
     """Writes or compares the files of crates, and returns the exit status."""
-    counts, cases = Counts(), cases_by_call(top)
+    counts, cases, facades = Counts(), cases_by_call(top), Facades(top or TOP)
     for name in names:
         crate, written = Crate(name, top), set()
-        for it in answers(crate, cases):
+        for it in answers(crate, cases, facades):
             settle(it, is_check, counts, say)
             if it.text is not None:
                 written.add(it.path)

@@ -14,10 +14,10 @@ from .syntax import Path, PathCall, Statement, Tree, Try
 # for minimal encodings and MODULE the module of the goals.
 READ_BACK = """
 use Rattle.std.proofs.Common.{◌++◌, ap, ◌∙◌}
-use Rattle.wasm_reader_base.proofs.Faults.{fault_stays}
+use Rattle.wasm_base.proofs.Faults.{fault_stays}
 use Rattle.wasm_reader.specs.Kinds.{KIND}
-use Rattle.wasm_reader.specs.declared.kinds.SectionKind.TheVariants as kinds
 use Rattle.wasm_reader.proofs.Calls.{written, decodes_written, written_stands, shortens_written}
+use Rattle.wasm_reader.specs.declared.kinds.SectionKind.TheVariants as kinds
 use MODULE.Goals as goal
 
 pub returns-in_err-items-clause-memory : goal.returns-in_err-items-clause-memory

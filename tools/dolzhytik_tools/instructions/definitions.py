@@ -5,9 +5,9 @@ from .layouts import ARGUMENTS, NUMBER
 from .table import INSTRUCTION, NESTED, Case, Enum
 
 
-def variants_used(enum: Enum, cases: list[Case]) -> str:
-    names = [it.name for it in cases] + [it.name for it in NESTED if enum == INSTRUCTION]
-    return f"use Rattle.wasm_insn.specs.declared.{enum.module}.{enum.name}.TheVariants.{{{', '.join(names)}}}\n"
+def variants_used(enum: Enum) -> str:
+    """Returns the import of the cases of an enum, as `cases`."""
+    return f"use Rattle.wasm_insn.specs.declared.{enum.module}.{enum.name}.TheVariants as cases\n"
 
 
 def bare_definition(enum: Enum, cases: list[Case]) -> str:
@@ -17,10 +17,10 @@ def bare_definition(enum: Enum, cases: list[Case]) -> str:
     return f"""-- The numbers of the instructions of `{enum.name}`.
 use Rattle.std.specs.Prelude.{{ℕ}}
 use Rattle.wasm_insn.specs.declared.{enum.module}.{enum.name}.{{{enum.name}}}
-{variants_used(enum, cases)}
+{variants_used(enum)}
 -- {says}
 abbrev pub {number} : {enum.name} → ℕ
-""" + "".join(f"{number} {it.name} = {it.digits}\n" for it in cases)
+""" + "".join(f"{number} cases.{it.name} = {it.digits}\n" for it in cases)
 
 
 def arguments_of(case: Case) -> tuple[str, ...]:
@@ -34,7 +34,7 @@ def rows(name: str, cases: list[Case]) -> str:
     """Returns the equation of the row of each case."""
     text = ""
     for it in cases:
-        of = f"({it.name} {' '.join(it.letters)})" if it.letters else it.name
+        of = f"(cases.{it.name} {' '.join(it.letters)})" if it.letters else f"cases.{it.name}"
         op = f"Byte {it.digits}" if it.prefix is None else f"Prefixed 0x{it.prefix:02X} {it.digits}"
         text += f"{name} {of} = record {{ op = {op}; arguments = {' ∷ '.join([*arguments_of(it), '[]'])} }}\n"
     return text
@@ -43,9 +43,9 @@ def rows(name: str, cases: list[Case]) -> str:
 def nested_rows(enum: Enum) -> str:
     """Returns the equation of the row of an enum within `Instruction`."""
     if not enum.is_bare:
-        return f"row_of ({enum.name} i) = {enum.module}_row i\n"
+        return f"row_of (cases.{enum.name} i) = {enum.module}_row i\n"
     op = "Byte" if enum.prefix is None else f"Prefixed 0x{enum.prefix:02X}"
-    return f"row_of ({enum.name} i) = record {{ op = {op} ({enum.module}_number i); arguments = [] }}\n"
+    return f"row_of (cases.{enum.name} i) = record {{ op = {op} ({enum.module}_number i); arguments = [] }}\n"
 
 
 def row_definition(enum: Enum, cases: list[Case]) -> str:
@@ -54,7 +54,7 @@ def row_definition(enum: Enum, cases: list[Case]) -> str:
     return f"""-- The rows of the instructions of `{enum.name}`.
 use Rattle.std.specs.Prelude.{{[], ◌∷◌}}
 use Rattle.wasm_insn.specs.declared.{enum.module}.{enum.name}.{{{enum.name}}}
-{variants_used(enum, cases)}use Rattle.wasm_insn.specs.declared.op.Op.TheVariants.{{Prefixed}}
+{variants_used(enum)}use Rattle.wasm_insn.specs.declared.op.Op.TheVariants.{{Prefixed}}
 use Rattle.wasm_insn.specs.Arguments.{{{', '.join(it for it in ARGUMENTS if it in words)}}}
 use Rattle.wasm_insn.specs.Plain.{{Plain}}
 

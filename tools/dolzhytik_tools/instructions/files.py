@@ -81,7 +81,7 @@ def definition_regions(cases: list[Case]) -> dict[str, list[Region]]:
         "specs/Parts.antt": [used, Region(("abbrev pub parts_of :",), parts_defined())],
         "specs/Table.antt": [used, *defined, Region(("ops_of (row ∷ next ∷ rows) =", ""), counts(cases))],
         "specs/Instructions.antt": [
-            Region(("use Rattle.wasm_insn.specs.declared.instruction.Instruction.{",), variants_used(INSTRUCTION, own)),
+            Region(("use Rattle.wasm_insn.specs.declared.instruction.Instruction.{",), variants_used(INSTRUCTION)),
             Region(("abbrev pub row_of :",), rows("row_of", own) + "".join(map(nested_rows, NESTED))),
         ],
         "specs/Cases.antt": [Region(("all_cases given =",), all_cases(cases))],

@@ -243,10 +243,10 @@ frame-requires-clause-stack g c = record { can = λ it b. tt; reported = λ it x
 """,
     "read": """-- Written by tools/answers.
 use Rattle.std.proofs.Common.{◌++◌, ap, ◌∙◌}
-use Rattle.wasm_reader_base.proofs.Faults.{fault_stays}
+use Rattle.wasm_base.proofs.Faults.{fault_stays}
 use Rattle.wasm_reader.specs.Kinds.{Linking}
-use Rattle.wasm_reader.specs.declared.kinds.SectionKind.TheVariants as kinds
 use Rattle.wasm_reader.proofs.Calls.{written, decodes_written, written_stands, shortens_written}
+use Rattle.wasm_reader.specs.declared.kinds.SectionKind.TheVariants as kinds
 use Rattle.mine.proofs.adding.read.Goals as goal
 
 pub returns-in_err-items-clause-memory : goal.returns-in_err-items-clause-memory

@@ -1,7 +1,10 @@
-"""Tests of the lexer, of brackets and of the parser of items."""
+"""Tests of the lexer, of brackets, of the parser of items, and of imports."""
 from __future__ import annotations
 
-from ..rattle import brackets, items, lexer
+import pathlib
+import tempfile
+
+from ..rattle import brackets, facades, items, lexer
 from ..rattle.brackets import Span
 from ..repository import TOP, text_of
 from .report import run_all
@@ -160,6 +163,50 @@ def blocks() -> None:
     assert module.items[1].is_public and text(module.items[1].parameters[0].type) == "[ u8 ; 2 ]"
 
 
+PASSED_ON = {
+    "wasm_base/proofs/Words.antt": "pub use Rattle.std.proofs.Common.{◌≡◌, refl}\nunfoldable pub use Rattle.wasm_base.specs.Numbers.{padded}\n",
+    "wasm_base/proofs/Std.antt": "pub use Rattle.std.proofs.Common.{refl}\n",
+    "wasm_base/specs/Lib.antt": "pub mod Numbers\nunfoldable pub use Rattle.wasm_base.specs.Numbers.*\n",
+}
+IMPORTS = """-- A proof.
+use Rattle.std.proofs.Common.{◌≡◌, sym}
+use Rattle.wasm_base.specs.Numbers.{padded as wide, minimal}
+use Rattle.mine.proofs.f.Goals as goal
+use Rattle.wasm_base.specs.Numbers.{minimal}
+
+f = refl
+"""
+
+
+def imports() -> None:
+    """A proof imports a name through what its module's crate passes on, each name once."""
+    with tempfile.TemporaryDirectory() as folder:
+        for path, lines in PASSED_ON.items():
+            file = pathlib.Path(folder, "crates", path)
+            file.parent.mkdir(parents=True, exist_ok=True)
+            file.write_text(lines, encoding="utf8")
+        known = facades.Facades(pathlib.Path(folder))
+        above = [
+            "-- A proof.",
+            "use Rattle.wasm_base.proofs.Words.{◌≡◌, padded as wide}",
+            "use Rattle.std.proofs.Common.{sym}",
+            "use Rattle.wasm_base.specs.Numbers.{minimal}",
+            "use Rattle.mine.proofs.f.Goals as goal",
+        ]
+        assert known.turn("mine", IMPORTS) == "\n".join([*above, "", "f = refl", ""]), known.turn("mine", IMPORTS)
+        assert known.of("wasm_base", "std.proofs.Common", "refl") == facades.STD
+        assert known.of("wasm_base", "std.proofs.Common", "sym") == "std.proofs.Common"
+        assert known.of("wasm_base", "wasm_base.specs.Numbers", "minimal") == "wasm_base.specs"
+
+
+def widths() -> None:
+    """Imports have at most 200 characters a line, unless one name is longer."""
+    names = [f"name{number:03}" for number in range(60)]
+    lines = facades.import_lines("a.specs.B", names)
+    assert max(map(len, lines)) <= facades.WIDTH and len(lines) == 4, lines
+    assert [name for line in lines for name in facades.split(line.partition("{")[2].rstrip("}"))] == names
+
+
 def main() -> int:
     """Runs the tests."""
-    return run_all("rattle-test", [tokens, kinds, all_sources, lists, forms, declarations, functions, blocks])
+    return run_all("rattle-test", [tokens, kinds, all_sources, lists, forms, declarations, functions, blocks, imports, widths])

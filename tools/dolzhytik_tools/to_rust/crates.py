@@ -3,7 +3,7 @@ from __future__ import annotations
 
 import pathlib
 
-from .tables import BESIDE_TESTS, BORDERS, LIBRARIES, PUBLIC, PUBLIC_LAWS, TESTS
+from .tables import BESIDE_TESTS, BORDERS, LIBRARIES, PUBLIC, PUBLIC_LAWS, READERS, READING, TESTS
 
 
 class Crate:
@@ -48,6 +48,12 @@ class Crate:
             return 'crate::' + name
         return None
 
+    def named(self, library: str, name: str) -> str | None:
+        """Returns the module here of a name of a library."""
+        if name not in READERS.get(library, ()):
+            return self.library(library)
+        return 'crate::' + LIBRARIES[library] if self.name in LIBRARIES else 'dolzhytik::reader'
+
     def laws(self, name: str) -> str:
         """Returns the path of a library's laws here."""
         return f'{self.library(name)}::laws' if self.name in LIBRARIES else public_laws(name)
@@ -68,7 +74,6 @@ def crates() -> list[Crate]:
     return [Crate(name) for name in [*LIBRARIES, *BESIDE_TESTS, *TESTS, *BORDERS]]
 
 
-def inner_libraries(crate: Crate) -> list[tuple[str, str]]:
-    """Returns the libraries whose modules are within this crate's module, with their names there."""
-    here = LIBRARIES.get(crate.name)
-    return sorted((module[len(here) + 2:], name) for name, module in LIBRARIES.items() if here and module.startswith(here + '::'))
+def reading(library: str) -> str:
+    """Returns the module that exports the names of a library that decode."""
+    return f'crate::{LIBRARIES[library]}::{READING}'

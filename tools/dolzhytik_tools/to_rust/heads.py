@@ -6,10 +6,10 @@ import re
 
 from ..rattle.lexer import solid_words
 from .context import uses
-from .crates import Crate, inner_libraries
+from .crates import Crate, reading
 from .modules import SKIP
 from .source import Source
-from .tables import BESIDE_TESTS, BY_HAND, PUBLIC_LAWS, TESTS
+from .tables import BESIDE_TESTS, BY_HAND, READERS, TESTS
 from .uses import grouped
 
 # The hidden lines around the examples of documentation, and the variables that they may use.
@@ -68,17 +68,11 @@ def head_and_rest(text: str) -> tuple[str, str]:
     return '\n'.join(lines[:count]) + ('\n' if count else ''), '\n'.join(lines[count:]).lstrip('\n')
 
 
-def inner_modules(crate: Crate, relative: str | pathlib.Path) -> str:
-    """Returns what a file has of the libraries within its crate's module: the root has their names,
-    and the module of laws their laws."""
-    inner = inner_libraries(crate)
-    if str(relative) == 'lib.rt':
-        lines = [f'pub(crate) mod {module};' for module, _ in inner] + [f'pub use {module}::*;' for module, _ in inner]
-    elif str(relative) == 'laws.rt':
-        lines = [f'pub use {crate.laws(name)} as {module};' for module, name in inner if name in PUBLIC_LAWS]
-    else:
-        lines = []
-    return '\n'.join(lines) + '\n\n' if lines else ''
+def exported_readers(crate: Crate, relative: str | pathlib.Path) -> str:
+    """Returns what the root of `reader` exports of the libraries below it."""
+    if crate.name != 'wasm_reader' or str(relative) != 'lib.rt':
+        return ''
+    return ''.join(f'pub use {reading(name)}::*;\n' for name in READERS) + '\n'
 
 
 def support(crate: Crate, is_root: bool) -> str:

@@ -36,6 +36,8 @@ class Source:
     notes: dict[int, Notes] = field(default_factory=dict)
     # Impls of Display.
     errors: list[str] = field(default_factory=list)
+    # The module of names that decode, of the root of a library that has such names.
+    readers: list[str] = field(default_factory=list)
     has_sinks: bool = False
 
     def __post_init__(self) -> None:

@@ -6,7 +6,7 @@ from .marks import erase_marks
 from .modules import need_features, share_modules, skip_layout, turn_border, turn_places
 from .paths import turn_links, turn_paths
 from .sinks import turn_pairs, turn_sinks
-from .uses import turn_uses
+from .uses import turn_exports, turn_uses
 
 STEPS = [
     erase_marks,
@@ -22,6 +22,7 @@ STEPS = [
     turn_pairs,
     turn_sinks,
     turn_uses,
+    turn_exports,
     turn_paths,
     turn_links,
     share_modules,

@@ -33,20 +33,29 @@ LIBRARIES = {
     'wasm_code': 'code',
     'wasm_sections': 'sections',
     'wasm_custom': 'custom',
-    'wasm_reader_base': 'reader::base',
-    'wasm_reader_insn': 'reader::insn',
     'wasm_reader': 'reader',
     'wasm_tool': 'recipe',
 }
 # The public modules of a library, where that is not `fallible`, and of its laws, where that is not
 # a module of `fallible::laws`.
 PUBLIC = {
-    'wasm_reader_base': 'reader',
-    'wasm_reader_insn': 'reader',
     'wasm_reader': 'reader',
     'wasm_tool': 'fallible::recipe',
 }
-PUBLIC_LAWS = {'wasm_reader': 'reader::laws', 'wasm_reader_insn': 'reader::laws::insn'}
+PUBLIC_LAWS = {'wasm_reader': 'reader::laws'}
+# The names of a library that decode: users find them in `reader`, and not in `fallible`. The
+# library's module has them in a module of its own, which `reader` exports.
+READERS = {
+    'wasm_base': {
+        'Dropped', 'Layout', 'ReadFault', 'Readable', 'Shorten', 'SizePrefixed', 'Skip', 'append_all', 'prefix_size_since',
+        'read_optional', 'read_to_end', 'read_whole', 'skip_many',
+    },
+    'wasm_insn': {'Arg', 'Plain'},
+    'wasm_code': {'Body', 'Expression', 'Instructions', 'Step', 'read_body', 'read_code', 'shorten_body'},
+}
+READING = 'reading'
+# The names that only libraries above use: private in the package.
+BETWEEN = {'wasm_base': {'read_index', 'read_val_after'}, 'wasm_insn': {'append_instruction', 'read_instruction_into'}}
 # Hand-written pages below rust/src: each is before the documentation of a library's module.
 PAGES = {'wasm_reader': 'reader.md'}
 # The libraries whose private items the root of the package uses, such as the first bytes of
@@ -66,7 +75,7 @@ TESTS = [
 # functions are in a module `calls`.
 BORDERS = {'wasm_c': 'c', 'wasm_bench': 'bench'}
 # The crates that tests share, and the worked callers.
-BESIDE_TESTS = ['test_support', 'examples', 'callers', 'read_back']
+BESIDE_TESTS = ['test_support', 'examples']
 # Sources whose Rust is written by hand: an allocator of Rattle has more methods than one of the
 # package.
 BY_HAND = {'test_support/lib.rt', 'test_support/memory.rt', 'test_support/tests.rt'}
@@ -112,8 +121,8 @@ PLACES = [
     # A clone of an allocator cannot fail.
     Place('wasm_base/src/modules.rt', 'self.bytes.allocator().clone()?', 'self.bytes.allocator().clone()'),
     # A vector with `Clone` is std's.
-    Place('callers/src/segments.rt', "segment: &DataSegment<'a, Vec<u8>>", "segment: &DataSegment<'a, std::vec::Vec<u8>>"),
-    Place('callers/src/segments.rt', "-> Result<DataSegment<'a, Vec<u8>>>", "-> Result<DataSegment<'a, std::vec::Vec<u8>>>"),
+    Place('examples/src/calls/segments.rt', "segment: &DataSegment<'a, Vec<u8>>", "segment: &DataSegment<'a, std::vec::Vec<u8>>"),
+    Place('examples/src/calls/segments.rt', "-> Result<DataSegment<'a, Vec<u8>>>", "-> Result<DataSegment<'a, std::vec::Vec<u8>>>"),
     # The caller's bytes have their own `Clone`.
     Place('wasm_sections/src/data.rt', 'self.bytes.clone()?', 'self.bytes.clone()'),
     # The proof saves the bounds check of bytes that are copied 16 at a time. Rust copies a run of

@@ -5,8 +5,9 @@ from collections.abc import Iterable, Iterator
 
 from ..rattle.lexer import solid_words
 from .context import traits
+from .crates import reading
 from .source import Source
-from .tables import CORE_STD, ERASED_STD, HOST_STD, KEPT_STD, LIBRARIES, TURNED_STD
+from .tables import BETWEEN, CORE_STD, ERASED_STD, HOST_STD, KEPT_STD, LIBRARIES, READERS, READING, TURNED_STD
 
 
 def turn_uses(source: Source) -> None:
@@ -104,5 +105,33 @@ def turned_path(source: Source, place: int, path: str) -> str:
         laws = source.crate.laws(head)
         alias = ' as laws' if len(inner) == 1 and not laws.endswith('::laws') else ''
         return '::'.join([laws] + inner[1:]) + alias
-    library = source.crate.library(head)
+    library = source.crate.named(head, inner[0]) if inner else source.crate.library(head)
     return library + path[len(head):] if library else path
+
+
+def turn_exports(source: Source) -> None:
+    """Splits the public `use`s of a library's root: names that decode are private there, and public
+    in a module of their own, from which `reader` exports them. Names for libraries above alone are
+    private."""
+    if source.crate.name not in LIBRARIES or not source.path.endswith('/src/lib.rt'):
+        return
+    own, between = READERS.get(source.crate.name, set()), BETWEEN.get(source.crate.name, set())
+    exports = []
+    for place in source.solid_places():
+        if source.tokens[place] != 'use' or source.tokens[source.back(place)] != 'pub':
+            continue
+        first, end = source.skip(place + 1), place
+        while source.tokens[end] != ';':
+            end += 1
+        paths = list(paths_of(source, solid_words(source.text(first, end))))
+        inner = [path for path in paths if path.split('::')[-1] in own | between]
+        if inner:
+            exports += [f'    pub {line}' for line in grouped('super::' + path for path in inner if path.split('::')[-1] in own)]
+            lines = [f'pub {line}' for line in grouped(path for path in paths if path not in inner)] + [f'pub(crate) {line}' for line in grouped(inner)]
+            source.edit(source.back(place), end + 1, '\n'.join(lines), 'export')
+        head = paths[0].split('::')[0]
+        if head in READERS and all(path.split('::')[-1] in READERS[head] for path in paths):
+            source.edit(source.back(place), end + 1, '\n'.join(f'pub {line}' for line in grouped(reading(head) + path[len(head):] for path in paths)), 'export')
+    if exports:
+        lines = '\n'.join(exports)
+        source.readers = [f'/// The names that decode, which `reader` exports.\npub(crate) mod {READING} {{\n{lines}\n}}\n']

@@ -5,7 +5,7 @@ import pathlib
 
 from .context import SourceFile
 from .crates import Crate
-from .heads import examples_run, head_and_rest, inner_modules, prelude, support
+from .heads import examples_run, exported_readers, head_and_rest, prelude, support
 from .render import rendered
 from .source import Source
 from .steps import STEPS
@@ -24,8 +24,8 @@ class Written:
         check_left(self.source)
         body = rendered(self.source)
         is_root = str(relative) in ['lib.rt', 'lib.rtt']
-        self.before = prelude(self.source, body) + inner_modules(crate, relative) + support(crate, is_root)
-        self.behind = '\n'.join(self.source.errors)
+        self.before = prelude(self.source, body) + exported_readers(crate, relative) + support(crate, is_root)
+        self.behind = '\n'.join([*self.source.errors, *self.source.readers])
         body = '\n'.join(examples_run(crate, body.rstrip('\n').split('\n'))) + '\n'
         self.page = f'#![doc = include_str!("../{PAGES[crate.name]}")]\n' if is_root and crate.name in PAGES else ''
         head, rest = head_and_rest(body)

@@ -3,9 +3,9 @@
 
 use crate::calls::answers::NO_ANSWER;
 use dolzhytik::fallible::Global;
-use dolzhytik::reader::{Items, SectionKind, read_section};
 use dolzhytik::reader::ReadFault;
 use dolzhytik::reader::{Body, Instructions};
+use dolzhytik::reader::{Items, SectionKind, read_section};
 
 /// Returns the number of instructions in all bodies together, or `None` if it does not fit 64 bits.
 ///

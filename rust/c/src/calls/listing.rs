@@ -3,8 +3,8 @@
 
 use crate::calls::NO_ANSWER;
 use dolzhytik::fallible::Global;
-use dolzhytik::reader::{Listed, list_module};
 use dolzhytik::reader::ReadFault;
+use dolzhytik::reader::{Listed, list_module};
 
 /// A section in the listing of a module.
 #[derive(Clone, Copy)]

@@ -1,7 +1,6 @@
 -- Written by tools/answers.
-use Rattle.std.proofs.Common.{arith, rules}
-use Rattle.wasm_base.proofs.KnownLengths.{drained_array}
-use Rattle.wasm_code.proofs.Calls.{new_function, lent, writes_instruction}
+use Rattle.wasm_base.proofs.Words.{arith, rules, drained_array}
+use Rattle.wasm_code.proofs.Words.{new_function, lent, writes_instruction}
 use Rattle.wasm_insn.specs.declared.instruction.Instruction.TheVariants.{LocalGet, Numeric, End}
 use Rattle.wasm_insn.specs.declared.numeric.Numeric.TheVariants.{I32Add}
 use Rattle.examples.proofs.adding.sum.Goals as goal

@@ -1,7 +1,6 @@
 -- Written by tools/answers.
-use Rattle.std.proofs.Common.{arith}
-use Rattle.wasm_base.proofs.Calls.{encodes_items}
-use Rattle.wasm_sections.proofs.Calls.{new_imports, adds_alike}
+use Rattle.wasm_base.proofs.Words.{arith, encodes_items}
+use Rattle.wasm_sections.proofs.Words.{new_imports, adds_alike}
 use Rattle.wasm_sections.specs.declared.import.EntityType.TheVariants.{Function}
 use Rattle.examples.proofs.alone.encode_group.Goals as goal
 

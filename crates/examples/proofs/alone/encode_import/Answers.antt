@@ -1,7 +1,6 @@
 -- Written by tools/answers.
-use Rattle.std.proofs.Common.{arith}
-use Rattle.wasm_base.proofs.Calls.{adds_item, encodes_items}
-use Rattle.wasm_sections.proofs.Calls.{new_imports}
+use Rattle.wasm_base.proofs.Words.{arith, adds_item, encodes_items}
+use Rattle.wasm_sections.proofs.Words.{new_imports}
 use Rattle.examples.specs.Whole.{import_of_function}
 use Rattle.examples.proofs.alone.encode_import.Goals as goal
 

@@ -1,13 +1,9 @@
 -- Written by tools/answers.
-use Rattle.std.proofs.Common.{arith, [], ◌∷◌}
+use Rattle.wasm_base.proofs.Words.{arith, [], ◌∷◌, encodes_items, FUNCREF}
 use Rattle.std.specs.declared.alloc.Global.{Global}
-use Rattle.wasm_base.proofs.Calls.{encodes_items}
-use Rattle.wasm_base.specs.Types.{FUNCREF}
-use Rattle.wasm_code.proofs.Calls.{one_constant}
-use Rattle.wasm_code.specs.Expressions.{normal_row}
+use Rattle.wasm_code.proofs.Words.{one_constant, normal_row}
 use Rattle.wasm_insn.specs.declared.instruction.Instruction.TheVariants.{RefFunc}
-use Rattle.wasm_sections.proofs.Calls.{new_elements, adds_expressions}
-use Rattle.wasm_sections.specs.Elements.{passive}
+use Rattle.wasm_sections.proofs.Words.{new_elements, adds_expressions, passive}
 use Rattle.examples.proofs.alone.encode_reference.Goals as goal
 
 pub returns : goal.returns

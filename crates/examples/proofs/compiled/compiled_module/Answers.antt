@@ -1,8 +1,8 @@
 -- Written by tools/answers.
-use Rattle.wasm_base.proofs.Calls.{new_module, finished}
-use Rattle.wasm_code.proofs.Calls.{gains_code}
-use Rattle.wasm_sections.proofs.Calls.{gains_functions, gains_exports}
-use Rattle.wasm_types.proofs.Calls.{gains_types}
+use Rattle.wasm_base.proofs.Words.{new_module, finished}
+use Rattle.wasm_code.proofs.Words.{gains_code}
+use Rattle.wasm_sections.proofs.Words.{gains_functions, gains_exports}
+use Rattle.wasm_types.proofs.Words.{gains_types}
 use Rattle.examples.proofs.compiled.compiled_module.Goals as goal
 
 pub returns : goal.returns

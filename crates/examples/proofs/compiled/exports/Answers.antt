@@ -1,7 +1,6 @@
 -- Written by tools/answers.
-use Rattle.std.proofs.Common.{refl, arith}
-use Rattle.wasm_base.proofs.Calls.{ascii}
-use Rattle.wasm_sections.proofs.Calls.{new_exports, adds_export}
+use Rattle.wasm_base.proofs.Words.{refl, arith, ascii}
+use Rattle.wasm_sections.proofs.Words.{new_exports, adds_export}
 use Rattle.examples.specs.Compiled.{factorial_of, squares_of}
 use Rattle.examples.proofs.compiled.exports.Goals as goal
 

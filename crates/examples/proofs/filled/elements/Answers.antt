@@ -1,12 +1,9 @@
 -- Written by tools/answers.
-use Rattle.std.proofs.Common.{arith, pos, None, [], ◌∷◌}
-use Rattle.std.proofs.lemmas.Int.{ints}
+use Rattle.wasm_base.proofs.Words.{arith, pos, None, [], ◌∷◌, ints}
 use Rattle.std.specs.declared.alloc.Global.{Global}
-use Rattle.wasm_code.proofs.Calls.{one_constant}
-use Rattle.wasm_code.specs.Expressions.{normal_row}
+use Rattle.wasm_code.proofs.Words.{one_constant, normal_row}
 use Rattle.wasm_insn.specs.declared.instruction.Instruction.TheVariants.{I32Const}
-use Rattle.wasm_sections.proofs.Calls.{new_elements, adds_functions}
-use Rattle.wasm_sections.specs.Elements.{active}
+use Rattle.wasm_sections.proofs.Words.{new_elements, adds_functions, active}
 use Rattle.examples.proofs.filled.elements.Goals as goal
 
 pub returns : goal.returns

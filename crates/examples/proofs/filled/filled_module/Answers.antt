@@ -1,6 +1,6 @@
 -- Written by tools/answers.
-use Rattle.wasm_base.proofs.Calls.{new_module, finished}
-use Rattle.wasm_sections.proofs.Calls.{gains_elements, gains_number, gains_segments}
+use Rattle.wasm_base.proofs.Words.{new_module, finished}
+use Rattle.wasm_sections.proofs.Words.{gains_elements, gains_number, gains_segments}
 use Rattle.examples.proofs.filled.filled_module.Goals as goal
 
 pub returns : goal.returns

@@ -1,14 +1,9 @@
 -- Written by tools/answers.
-use Rattle.std.proofs.Common.{arith, pos, ap, ◌∙◌, [], ◌∷◌}
-use Rattle.std.proofs.lemmas.Int.{ints}
-use Rattle.std.specs.Iterator.Adapters.{copied_source}
-use Rattle.std.specs.Slice.Iter.{iter_rest}
+use Rattle.wasm_base.proofs.Words.{arith, pos, ap, ◌∙◌, [], ◌∷◌, ints, copied_source, iter_rest, drained_array}
 use Rattle.std.specs.declared.alloc.Global.{Global}
-use Rattle.wasm_base.proofs.KnownLengths.{drained_array}
-use Rattle.wasm_code.proofs.Calls.{one_constant}
-use Rattle.wasm_code.specs.Expressions.{normal_row}
+use Rattle.wasm_code.proofs.Words.{one_constant, normal_row}
 use Rattle.wasm_insn.specs.declared.instruction.Instruction.TheVariants.{I32Const}
-use Rattle.wasm_sections.proofs.Calls.{new_segments, copied_added, adds_active, adds_passive, array_added}
+use Rattle.wasm_sections.proofs.Words.{new_segments, copied_added, adds_active, adds_passive, array_added}
 use Rattle.examples.proofs.filled.segments.Goals as goal
 
 pub returns : goal.returns

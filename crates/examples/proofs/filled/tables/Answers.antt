@@ -1,6 +1,6 @@
 -- Written by tools/answers.
-use Rattle.std.proofs.Common.{arith}
-use Rattle.wasm_sections.proofs.Calls.{new_tables, adds_table}
+use Rattle.wasm_base.proofs.Words.{arith}
+use Rattle.wasm_sections.proofs.Words.{new_tables, adds_table}
 use Rattle.examples.specs.Filled.{three_places}
 use Rattle.examples.proofs.filled.tables.Goals as goal
 

@@ -1,8 +1,6 @@
 -- Written by tools/answers.
-use Rattle.std.proofs.Common.{arith}
-use Rattle.wasm_base.proofs.Calls.{new_module, finished}
-use Rattle.wasm_base.proofs.KnownLengths.{drained_array}
-use Rattle.wasm_code.proofs.Calls.{new_code, new_function, adds_instruction, adds_body, gains_code}
+use Rattle.wasm_base.proofs.Words.{arith, new_module, finished, drained_array}
+use Rattle.wasm_code.proofs.Words.{new_code, new_function, adds_instruction, adds_body, gains_code}
 use Rattle.examples.proofs.first.first_module.Goals as goal
 
 pub returns : goal.returns

@@ -1,6 +1,5 @@
-use Rattle.wasm_base.proofs.Calls.{adds_item, encodes_items}
-use Rattle.wasm_sections.proofs.Calls.{new_imports}
-use Rattle.wasm_sections.specs.Imports.{import_item}
+use Rattle.wasm_base.proofs.Words.{adds_item, encodes_items}
+use Rattle.wasm_sections.proofs.Words.{new_imports, import_item}
 use Rattle.examples.proofs.grown.encode_given_import.Goals as goal
 
 pub returns : goal.returns

@@ -1,8 +1,5 @@
-use Rattle.std.proofs.Common.{subst}
-use Rattle.std.proofs.lemmas.List.{map-id}
-use Rattle.wasm_base.proofs.Calls.{each, adds_items, encodes_items}
-use Rattle.wasm_sections.proofs.Calls.{new_memories}
-use Rattle.wasm_sections.specs.Memories.{IsMemory, ContainsMemories}
+use Rattle.wasm_base.proofs.Words.{subst, map-id, each, adds_items, encodes_items}
+use Rattle.wasm_sections.proofs.Words.{new_memories, IsMemory, ContainsMemories}
 use Rattle.examples.proofs.grown.encode_memories.Goals as goal
 
 pub returns-in-Ok : goal.returns-in-Ok

@@ -1,10 +1,7 @@
-use Rattle.std.proofs.Common.{List, ℕ, [], ◌∷◌, Result, Ok, Err}
-use Rattle.std.specs.Prelude.{OnOk}
+use Rattle.wasm_base.proofs.Words.{List, ℕ, [], ◌∷◌, Result, Ok, Err, OnOk}
 use Rattle.wasm_base.specs.declared.refused.Refused.{Refused}
-use Rattle.wasm_code.specs.Bodies.{Body, IsWellFormedBody, AddsInstruction, and_then}
-use Rattle.wasm_code.specs.Expressions.{normal_row}
-use Rattle.wasm_code.proofs.Calls.{adds_instruction}
-use Rattle.wasm_insn.specs.Instructions.{HasSmallAlignments, IsWellFormedWhereAligned}
+use Rattle.wasm_code.proofs.Words.{Body, IsWellFormedBody, AddsInstruction, and_then, normal_row, adds_instruction}
+use Rattle.wasm_insn.proofs.Words.{HasSmallAlignments, IsWellFormedWhereAligned}
 use Rattle.wasm_insn.specs.declared.instruction.Instruction.{Instruction}
 use Rattle.examples.proofs.grown.grow.Goals as goal
 

@@ -1,10 +1,6 @@
-use Rattle.std.proofs.Common.{◌≡◌, ℕ, suc, ◌+◌, ◌<◌, List, [], ◌∷◌, ◌++◌, length, map, take, get_or, sym, ap, subst, ◌∙◌, append-nil, append_assoc, arith}
-use Rattle.std.proofs.Math.Seq.{take-suc}
-use Rattle.std.proofs.lemmas.List.{map-append, take_all}
-use Rattle.wasm_code.specs.Bodies.{IsWellFormedBody, and_then}
-use Rattle.wasm_code.specs.Expressions.{normal_row}
-use Rattle.wasm_code.proofs.Calls.{adds_instruction}
-use Rattle.wasm_insn.specs.Instructions.{HasSmallAlignments, IsWellFormedWhereAligned}
+use Rattle.wasm_base.proofs.Words.{◌≡◌, ℕ, suc, ◌+◌, ◌<◌, List, [], ◌∷◌, ◌++◌, length, map, take, get_or, sym, ap, subst, ◌∙◌, append-nil, append_assoc, arith, take-suc, map-append, take_all}
+use Rattle.wasm_code.proofs.Words.{IsWellFormedBody, and_then, normal_row, adds_instruction}
+use Rattle.wasm_insn.proofs.Words.{HasSmallAlignments, IsWellFormedWhereAligned}
 use Rattle.examples.proofs.grown.grow_by_each.Goals as goal
 
 -- The next member after those before it.

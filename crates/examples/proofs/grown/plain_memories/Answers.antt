@@ -1,8 +1,5 @@
-use Rattle.std.proofs.Common.{subst}
-use Rattle.std.proofs.lemmas.List.{take_all}
-use Rattle.std.proofs.lemmas.List.Elements.{All-more}
-use Rattle.std.specs.List.{All}
-use Rattle.wasm_sections.specs.Memories.{IsMemory}
+use Rattle.wasm_base.proofs.Words.{subst, take_all, All-more, All}
+use Rattle.wasm_sections.proofs.Words.{IsMemory}
 use Rattle.examples.proofs.grown.plain_memories.Goals as goal
 
 pub loop-memory-preserved : goal.loop-memory-preserved

@@ -1,6 +1,5 @@
-use Rattle.std.proofs.Common.{take}
-use Rattle.std.specs.List.{All}
-use Rattle.wasm_sections.specs.Memories.{IsMemory}
+use Rattle.wasm_base.proofs.Words.{take, All}
+use Rattle.wasm_sections.proofs.Words.{IsMemory}
 use Rattle.examples.proofs.grown.plain_memories.Given as goal
 
 abbrev pub invariant-loop-memory : goal.invariant-loop-memory

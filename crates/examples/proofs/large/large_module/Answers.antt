@@ -1,6 +1,6 @@
 -- Written by tools/answers.
-use Rattle.wasm_base.proofs.Calls.{new_module, finished}
-use Rattle.wasm_sections.proofs.Calls.{gains_memories, gains_globals}
+use Rattle.wasm_base.proofs.Words.{new_module, finished}
+use Rattle.wasm_sections.proofs.Words.{gains_memories, gains_globals}
 use Rattle.examples.proofs.large.large_module.Goals as goal
 
 pub returns : goal.returns

@@ -1,5 +1,4 @@
-use Rattle.std.proofs.Common.{arith, subst, sym}
-use Rattle.std.proofs.lemmas.List.{take_all, take_more}
+use Rattle.wasm_base.proofs.Words.{arith, subst, sym, take_all, take_more}
 use Rattle.examples.proofs.Gains.{gains_none, gains_more}
 use Rattle.examples.specs.Lowering.{GainsOperations}
 use Rattle.examples.proofs.lowering.emit_all.Goals as goal

@@ -1,4 +1,4 @@
-use Rattle.std.proofs.Common.{take}
+use Rattle.wasm_base.proofs.Words.{take}
 use Rattle.examples.specs.Lowering.{GainsOperations}
 use Rattle.examples.proofs.lowering.emit_all.Given as goal
 

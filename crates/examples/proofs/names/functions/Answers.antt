@@ -1,6 +1,6 @@
 -- Written by tools/answers.
-use Rattle.std.proofs.Common.{arith}
-use Rattle.wasm_custom.proofs.Calls.{new_map, adds_name}
+use Rattle.wasm_base.proofs.Words.{arith}
+use Rattle.wasm_custom.proofs.Words.{new_map, adds_name}
 use Rattle.examples.proofs.names.functions.Goals as goal
 
 pub returns : goal.returns

@@ -1,8 +1,6 @@
 -- Written by tools/answers.
-use Rattle.std.proofs.Common.{arith, refl}
-use Rattle.std.specs.Prelude.{codes}
-use Rattle.wasm_base.proofs.Calls.{ascii}
-use Rattle.wasm_custom.proofs.Calls.{new_map, adds_name, new_indirect_map, adds_inside}
+use Rattle.wasm_base.proofs.Words.{arith, refl, codes, ascii}
+use Rattle.wasm_custom.proofs.Words.{new_map, adds_name, new_indirect_map, adds_inside}
 use Rattle.examples.proofs.names.locals.Goals as goal
 
 pub returns : goal.returns

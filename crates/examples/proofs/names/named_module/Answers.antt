@@ -1,7 +1,7 @@
 -- Written by tools/answers.
-use Rattle.wasm_base.proofs.Calls.{new_module, finished}
-use Rattle.wasm_code.proofs.Calls.{gains_code}
-use Rattle.wasm_custom.proofs.Calls.{gains_names}
+use Rattle.wasm_base.proofs.Words.{new_module, finished}
+use Rattle.wasm_code.proofs.Words.{gains_code}
+use Rattle.wasm_custom.proofs.Words.{gains_names}
 use Rattle.examples.proofs.names.named_module.Goals as goal
 
 pub returns : goal.returns

@@ -1,8 +1,6 @@
 -- Written by tools/answers.
-use Rattle.std.proofs.Common.{refl}
-use Rattle.std.specs.Prelude.{codes}
-use Rattle.wasm_base.proofs.Calls.{ascii}
-use Rattle.wasm_custom.proofs.Calls.{new_names, adds_module_name, adds_names, adds_names_inside}
+use Rattle.wasm_base.proofs.Words.{refl, codes, ascii}
+use Rattle.wasm_custom.proofs.Words.{new_names, adds_module_name, adds_names, adds_names_inside}
 use Rattle.examples.proofs.names.names.Goals as goal
 
 pub returns : goal.returns

@@ -1,8 +1,6 @@
 -- Written by tools/answers.
-use Rattle.std.proofs.Common.{arith, None, pos, rules}
-use Rattle.std.proofs.lemmas.Int.{ints}
-use Rattle.wasm_base.proofs.KnownLengths.{drained_array}
-use Rattle.wasm_code.proofs.Calls.{new_function, lent, writes_instruction}
+use Rattle.wasm_base.proofs.Words.{arith, None, pos, rules, ints, drained_array}
+use Rattle.wasm_code.proofs.Words.{new_function, lent, writes_instruction}
 use Rattle.wasm_immediates.specs.declared.block_type.BlockType.TheVariants.{Empty}
 use Rattle.wasm_immediates.specs.declared.memory.MemArgTarget.TheVariants.{Memory}
 use Rattle.wasm_insn.specs.declared.instruction.Instruction.TheVariants.{Block, LocalGet, I32Load, Numeric, BrIf, I32Const, I32Store, End}

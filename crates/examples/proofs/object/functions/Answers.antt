@@ -1,7 +1,6 @@
 -- Written by tools/answers.
-use Rattle.std.proofs.Common.{arith}
-use Rattle.wasm_base.proofs.Calls.{adds_item}
-use Rattle.wasm_sections.proofs.Calls.{new_functions}
+use Rattle.wasm_base.proofs.Words.{arith, adds_item}
+use Rattle.wasm_sections.proofs.Words.{new_functions}
 use Rattle.examples.proofs.object.functions.Goals as goal
 
 pub returns : goal.returns

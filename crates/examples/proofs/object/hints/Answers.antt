@@ -1,7 +1,6 @@
 -- Written by tools/answers.
-use Rattle.std.proofs.Common.{arith}
-use Rattle.wasm_base.proofs.KnownLengths.{drained_array}
-use Rattle.wasm_custom.proofs.Calls.{new_hints, adds_hints}
+use Rattle.wasm_base.proofs.Words.{arith, drained_array}
+use Rattle.wasm_custom.proofs.Words.{new_hints, adds_hints}
 use Rattle.examples.proofs.object.hints.Goals as goal
 
 pub returns : goal.returns

@@ -1,6 +1,6 @@
 -- Written by tools/answers.
-use Rattle.std.proofs.Common.{refl}
-use Rattle.wasm_custom.proofs.Calls.{new_linking, adds_symbols}
+use Rattle.wasm_base.proofs.Words.{refl}
+use Rattle.wasm_custom.proofs.Words.{new_linking, adds_symbols}
 use Rattle.examples.proofs.object.linking.Goals as goal
 
 pub returns : goal.returns

@@ -1,8 +1,6 @@
 -- Written by tools/answers.
-use Rattle.std.proofs.Common.{refl}
-use Rattle.std.specs.Prelude.{codes}
-use Rattle.wasm_base.proofs.Calls.{ascii}
-use Rattle.wasm_custom.proofs.Calls.{new_field, adds_value, new_producers, adds_field}
+use Rattle.wasm_base.proofs.Words.{refl, codes, ascii}
+use Rattle.wasm_custom.proofs.Words.{new_field, adds_value, new_producers, adds_field}
 use Rattle.examples.proofs.object.producers.Goals as goal
 
 pub returns : goal.returns

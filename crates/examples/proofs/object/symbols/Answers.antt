@@ -1,7 +1,6 @@
 -- Written by tools/answers.
-use Rattle.std.proofs.Common.{arith, refl}
-use Rattle.wasm_base.proofs.Calls.{ascii}
-use Rattle.wasm_custom.proofs.Calls.{new_symbols, adds_symbol}
+use Rattle.wasm_base.proofs.Words.{arith, refl, ascii}
+use Rattle.wasm_custom.proofs.Words.{new_symbols, adds_symbol}
 use Rattle.examples.specs.Object.{count_down_symbol}
 use Rattle.examples.proofs.object.symbols.Goals as goal
 

@@ -1,10 +1,7 @@
 -- Written by tools/answers.
-use Rattle.std.proofs.Common.{[], ◌∷◌, arith, rules}
-use Rattle.wasm_base.proofs.KnownLengths.{drained_array}
-use Rattle.wasm_base.specs.Types.{IsVal}
+use Rattle.wasm_base.proofs.Words.{[], ◌∷◌, arith, rules, drained_array, IsVal}
 use Rattle.wasm_base.specs.declared.types.ValType.TheVariants.{I32}
-use Rattle.wasm_types.proofs.Calls.{new_types, same_types, counted, listed_arrays, adds_shape}
-use Rattle.wasm_types.specs.RecTypes.{func}
+use Rattle.wasm_types.proofs.Words.{new_types, same_types, counted, listed_arrays, adds_shape, func}
 use Rattle.examples.proofs.object.types.Goals as goal
 
 pub returns : goal.returns

@@ -1,15 +1,9 @@
 -- Written by tools/answers.
-use Rattle.std.proofs.Common.{[], ◌∷◌, arith, refl, pos, neg_ℤ}
-use Rattle.std.proofs.lemmas.Int.{ints}
+use Rattle.wasm_base.proofs.Words.{[], ◌∷◌, arith, refl, pos, neg_ℤ, ints, contains_padded, encodes_items_padded, s32, padded}
 use Rattle.std.specs.declared.alloc.Global.{Global}
-use Rattle.wasm_base.proofs.Calls.{contains_padded, encodes_items_padded}
-use Rattle.wasm_base.specs.Formats.{s32}
-use Rattle.wasm_base.specs.Numbers.{padded}
-use Rattle.wasm_code.proofs.Calls.{padded_i32_const, raw_constant}
-use Rattle.wasm_code.specs.Expressions.{normal_row}
+use Rattle.wasm_code.proofs.Words.{padded_i32_const, raw_constant, normal_row}
 use Rattle.wasm_insn.specs.declared.instruction.Instruction.TheVariants.{I32Const}
-use Rattle.wasm_sections.proofs.Calls.{new_globals, adds_global_padded}
-use Rattle.wasm_sections.proofs.GlobalLaws.{globals_section}
+use Rattle.wasm_sections.proofs.Words.{new_globals, adds_global_padded, globals_section}
 use Rattle.examples.specs.Padded.{number}
 use Rattle.examples.proofs.padded.encode_padded_globals.Goals as goal
 

@@ -1,12 +1,5 @@
-use Rattle.std.proofs.Common.{[], ◌∷◌, refl, arith}
-use Rattle.wasm_base.specs.Entries.{ContainsPadded}
-use Rattle.wasm_base.specs.Formats.{u32, size_prefixed, name}
-use Rattle.wasm_base.specs.Numbers.{padded}
-use Rattle.wasm_base.proofs.Calls.{ascii, contains_padded, encoded_padded}
-use Rattle.wasm_base.proofs.NumberLaws.{u32_small}
-use Rattle.wasm_custom.proofs.Calls.{new_names, adds_raw_names}
-use Rattle.wasm_custom.proofs.NameLaws.{names_section}
-use Rattle.wasm_custom.specs.Names.{name_map, subsection, ContainsNames, name_payload}
+use Rattle.wasm_base.proofs.Words.{[], ◌∷◌, refl, arith, ContainsPadded, u32, size_prefixed, name, padded, ascii, contains_padded, encoded_padded, u32_small}
+use Rattle.wasm_custom.proofs.Words.{new_names, adds_raw_names, names_section, name_map, subsection, ContainsNames, name_payload}
 use Rattle.examples.proofs.padded.encode_padded_names.Goals as goal
 
 pub returns : goal.returns

@@ -1,10 +1,7 @@
 -- Written by tools/answers.
-use Rattle.std.proofs.Common.{[], ◌∷◌, arith, refl}
+use Rattle.wasm_base.proofs.Words.{[], ◌∷◌, arith, refl, new_module, finished, u32, padded}
 use Rattle.std.specs.declared.alloc.Global.{Global}
-use Rattle.wasm_base.proofs.Calls.{new_module, finished}
-use Rattle.wasm_base.specs.Formats.{u32}
-use Rattle.wasm_base.specs.Numbers.{padded}
-use Rattle.wasm_code.proofs.Calls.{new_code, encodes_padded, without_runs, adds_instruction_padded, adds_body_padded, included_body, gains_code_padded}
+use Rattle.wasm_code.proofs.Words.{new_code, encodes_padded, without_runs, adds_instruction_padded, adds_body_padded, included_body, gains_code_padded}
 use Rattle.wasm_insn.specs.declared.instruction.Instruction.TheVariants.{End}
 use Rattle.examples.proofs.padded.padded_module.Goals as goal
 

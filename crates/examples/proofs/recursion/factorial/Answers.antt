@@ -1,8 +1,6 @@
 -- Written by tools/answers.
-use Rattle.std.proofs.Common.{arith, pos, rules}
-use Rattle.std.proofs.lemmas.Int.{ints}
-use Rattle.wasm_base.proofs.KnownLengths.{drained_array}
-use Rattle.wasm_code.proofs.Calls.{new_function, lent, writes_instruction}
+use Rattle.wasm_base.proofs.Words.{arith, pos, rules, ints, drained_array}
+use Rattle.wasm_code.proofs.Words.{new_function, lent, writes_instruction}
 use Rattle.wasm_immediates.specs.declared.block_type.BlockType.TheVariants.{Empty}
 use Rattle.wasm_insn.specs.declared.instruction.Instruction.TheVariants.{Block, LocalGet, Numeric, BrIf, I32Const, Call, Return, End}
 use Rattle.wasm_insn.specs.declared.numeric.Numeric.TheVariants.{I32Eqz, I32Sub, I32Mul}

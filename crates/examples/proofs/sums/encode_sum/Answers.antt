@@ -1,6 +1,6 @@
 -- Written by tools/answers.
-use Rattle.wasm_base.proofs.Calls.{encodes_items}
-use Rattle.wasm_sections.proofs.Calls.{new_globals, adds_global}
+use Rattle.wasm_base.proofs.Words.{encodes_items}
+use Rattle.wasm_sections.proofs.Words.{new_globals, adds_global}
 use Rattle.examples.specs.Sums.{sum_global}
 use Rattle.examples.proofs.sums.encode_sum.Goals as goal
 

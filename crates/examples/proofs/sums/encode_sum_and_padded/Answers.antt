@@ -1,12 +1,7 @@
 -- Written by tools/answers.
-use Rattle.std.proofs.Common.{[], ◌∷◌, arith, refl, pos}
-use Rattle.std.proofs.lemmas.Int.{ints}
-use Rattle.wasm_base.proofs.Calls.{contains_padded, encodes_items_padded}
-use Rattle.wasm_base.specs.Formats.{s32}
-use Rattle.wasm_base.specs.Numbers.{padded}
-use Rattle.wasm_code.proofs.Calls.{included_constant, padded_i32_const}
-use Rattle.wasm_sections.proofs.Calls.{new_globals, adds_global_padded}
-use Rattle.wasm_sections.proofs.GlobalLaws.{globals_section}
+use Rattle.wasm_base.proofs.Words.{[], ◌∷◌, arith, refl, pos, ints, contains_padded, encodes_items_padded, s32, padded}
+use Rattle.wasm_code.proofs.Words.{included_constant, padded_i32_const}
+use Rattle.wasm_sections.proofs.Words.{new_globals, adds_global_padded, globals_section}
 use Rattle.examples.specs.Padded.{number}
 use Rattle.examples.specs.Sums.{sum_global}
 use Rattle.examples.proofs.sums.encode_sum_and_padded.Goals as goal

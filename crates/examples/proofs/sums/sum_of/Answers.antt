@@ -1,9 +1,7 @@
 -- Written by tools/answers.
-use Rattle.std.proofs.Common.{arith, pos, [], ◌∷◌}
-use Rattle.std.proofs.lemmas.Int.{ints}
+use Rattle.wasm_base.proofs.Words.{arith, pos, [], ◌∷◌, ints}
 use Rattle.std.specs.declared.alloc.Global.{Global}
-use Rattle.wasm_code.proofs.Calls.{one_constant, adds_constant}
-use Rattle.wasm_code.specs.Expressions.{normal_row}
+use Rattle.wasm_code.proofs.Words.{one_constant, adds_constant, normal_row}
 use Rattle.wasm_insn.specs.declared.instruction.Instruction.TheVariants.{GlobalGet, I32Const}
 use Rattle.examples.proofs.sums.sum_of.Goals as goal
 

@@ -1,5 +1,4 @@
-use Rattle.std.proofs.Common.{take}
-use Rattle.std.specs.List.{flat_map}
+use Rattle.wasm_base.proofs.Words.{take, flat_map}
 use Rattle.examples.specs.Lowering.{GainsOperations}
 use Rattle.examples.specs.Trees.{expr_operations}
 use Rattle.examples.proofs.trees.+expression.Given as goal

@@ -1,4 +1,4 @@
-use Rattle.std.proofs.Common.{sym}
+use Rattle.wasm_base.proofs.Words.{sym}
 use Rattle.examples.proofs.Gains.{gains_more, gains_member, gains_last}
 use Rattle.examples.proofs.Rows.{while_listed}
 use Rattle.examples.specs.Trees.{statement_operations}

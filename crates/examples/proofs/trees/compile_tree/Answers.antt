@@ -1,5 +1,5 @@
-use Rattle.std.proofs.Common.{arith}
-use Rattle.wasm_code.proofs.Calls.{new_function}
+use Rattle.wasm_base.proofs.Words.{arith}
+use Rattle.wasm_code.proofs.Words.{new_function}
 use Rattle.examples.proofs.trees.compile_tree.Goals as goal
 
 pub returns : goal.returns

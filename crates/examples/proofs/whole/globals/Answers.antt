@@ -1,8 +1,7 @@
 -- Written by tools/answers.
-use Rattle.std.proofs.Common.{arith}
-use Rattle.std.proofs.lemmas.Int.{ints}
-use Rattle.wasm_code.proofs.Calls.{one_constant}
-use Rattle.wasm_sections.proofs.Calls.{new_globals, adds_global}
+use Rattle.wasm_base.proofs.Words.{arith, ints}
+use Rattle.wasm_code.proofs.Words.{one_constant}
+use Rattle.wasm_sections.proofs.Words.{new_globals, adds_global}
 use Rattle.examples.specs.Whole.{five}
 use Rattle.examples.proofs.whole.globals.Goals as goal
 

@@ -1,7 +1,6 @@
 -- Written by tools/answers.
-use Rattle.std.proofs.Common.{refl, arith}
-use Rattle.wasm_base.proofs.Calls.{ascii, adds_item}
-use Rattle.wasm_sections.proofs.Calls.{new_imports}
+use Rattle.wasm_base.proofs.Words.{refl, arith, ascii, adds_item}
+use Rattle.wasm_sections.proofs.Words.{new_imports}
 use Rattle.examples.specs.Whole.{ready}
 use Rattle.examples.proofs.whole.imports.Goals as goal
 

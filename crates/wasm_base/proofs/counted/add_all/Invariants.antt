@@ -1,5 +1,5 @@
-use Rattle.std.proofs.Common.{take}
-use Rattle.wasm_base.specs.Calls.{AddsEach}
+use Rattle.wasm_base.proofs.Std.{take}
+use Rattle.wasm_base.specs.{AddsEach}
 use Rattle.wasm_base.proofs.counted.add_all.Given as goal
 
 -- The builder has gained exactly the items before this one.

@@ -1,5 +1,4 @@
-use Rattle.std.proofs.Common.{rules, arith}
-use Rattle.std.proofs.lemmas.Grind.{common_steps}
+use Rattle.wasm_base.proofs.Std.{rules, arith, common_steps}
 use Rattle.wasm_base.proofs.NumberEncodings.{one_group}
 use Rattle.wasm_base.proofs.frames.encode_size_prefixed.Goals as goal
 

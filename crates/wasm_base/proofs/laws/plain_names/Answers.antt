@@ -1,7 +1,4 @@
-use Rattle.std.proofs.Common.{arith, subst, IsUtf8}
-use Rattle.std.proofs.lemmas.List.{take_all}
-use Rattle.std.proofs.lemmas.List.Elements.{All-more}
-use Rattle.std.specs.List.{All}
+use Rattle.wasm_base.proofs.Std.{arith, subst, IsUtf8, take_all, All-more, All}
 use Rattle.wasm_base.proofs.laws.plain_names.Goals as goal
 
 pub loop-name-preserved : goal.loop-name-preserved

@@ -1,5 +1,4 @@
-use Rattle.std.proofs.Common.{take, IsUtf8}
-use Rattle.std.specs.List.{All}
+use Rattle.wasm_base.proofs.Std.{take, IsUtf8, All}
 use Rattle.wasm_base.proofs.laws.plain_names.Given as goal
 
 abbrev pub invariant-loop-name : goal.invariant-loop-name

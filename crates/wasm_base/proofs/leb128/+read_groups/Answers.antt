@@ -1,4 +1,4 @@
-use Rattle.std.proofs.Common.{refl, ◌*◌, arith}
+use Rattle.wasm_base.proofs.Std.{refl, ◌*◌, arith}
 use Rattle.wasm_base.proofs.DecodingSteps.{front_and_rest}
 use Rattle.wasm_base.proofs.GroupLaws.{groups_last, groups_more, groups_less, power_encodable_more, within_70, one_encodable, if_err_any}
 use Rattle.wasm_base.proofs.leb128.+read_groups.Goals as goal

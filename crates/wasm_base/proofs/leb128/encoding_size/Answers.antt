@@ -1,4 +1,4 @@
-use Rattle.std.proofs.Common.{false, arith}
+use Rattle.wasm_base.proofs.Std.{false, arith}
 use Rattle.wasm_base.proofs.NumberEncodings.{length-groups_encoding-le}
 use Rattle.wasm_base.proofs.leb128.encoding_size.Goals as goal
 

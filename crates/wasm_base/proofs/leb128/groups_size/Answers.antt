@@ -1,4 +1,4 @@
-use Rattle.std.proofs.Common.{arith}
+use Rattle.wasm_base.proofs.Std.{arith}
 use Rattle.wasm_base.proofs.NumberEncodings.{length-groups_encoding-last, length-groups_encoding-more, length-groups_encoding-le}
 use Rattle.wasm_base.proofs.leb128.groups_size.Goals as goal
 

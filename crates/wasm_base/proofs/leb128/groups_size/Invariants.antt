@@ -1,5 +1,5 @@
-use Rattle.std.proofs.Common.{◌≡◌, ◌+◌, length}
-use Rattle.wasm_base.specs.Numbers.{groups_encoding}
+use Rattle.wasm_base.proofs.Std.{◌≡◌, ◌+◌, length}
+use Rattle.wasm_base.specs.{groups_encoding}
 use Rattle.wasm_base.proofs.leb128.groups_size.Given as goal
 
 abbrev pub invariant-loop-rest : goal.invariant-loop-rest

@@ -1,5 +1,4 @@
-use Rattle.std.proofs.Common.{arith}
-use Rattle.std.proofs.lemmas.Grind.{common_steps}
+use Rattle.wasm_base.proofs.Std.{arith, common_steps}
 use Rattle.wasm_base.proofs.NumberEncodings.{groups_encoding-last, groups_encoding-more, length-groups_encoding-last, length-groups_encoding-more, length-groups_encoding-positive}
 use Rattle.wasm_base.proofs.leb128.put_groups.Goals as goal
 

@@ -1,5 +1,4 @@
-use Rattle.std.proofs.Common.{arith}
-use Rattle.std.proofs.lemmas.Grind.{common_steps}
+use Rattle.wasm_base.proofs.Std.{arith, common_steps}
 use Rattle.wasm_base.proofs.NumberEncodings.{two_groups}
 use Rattle.wasm_base.proofs.leb128.put_two_groups.Goals as goal
 

@@ -1,5 +1,4 @@
-use Rattle.std.proofs.Common.{◌++◌, arith, rules, length-append}
-use Rattle.std.proofs.lemmas.Grind.{common_steps}
+use Rattle.wasm_base.proofs.Std.{◌++◌, arith, rules, length-append, common_steps}
 use Rattle.wasm_base.proofs.Yielded.{Drains-append, Yields-append}
 use Rattle.wasm_base.proofs.once.append_blocks.Goals as goal
 

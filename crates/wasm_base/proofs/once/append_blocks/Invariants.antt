@@ -1,5 +1,4 @@
-use Rattle.std.proofs.Common.{◌≡◌, ℕ, ◌+◌, ◌≤◌, List, ◌++◌, length, vec_capacity}
-use Rattle.std.specs.Iterator.{Yields, IsFinite}
+use Rattle.wasm_base.proofs.Std.{◌≡◌, ℕ, ◌+◌, ◌≤◌, List, ◌++◌, length, vec_capacity, Yields, IsFinite}
 use Rattle.wasm_base.proofs.once.append_blocks.Given as goal
 
 abbrev pub invariant-loop-left : goal.invariant-loop-left

@@ -1,6 +1,4 @@
-use Rattle.std.proofs.Common.{◌≡◌, ◌<◌, ◌+◌, ◌∷◌, [], ◌++◌, length, take, slice_set, sym, subst, arith, rules, length-take}
-use Rattle.std.specs.Iterator.{Yields}
-use Rattle.std.proofs.lemmas.Grind.{common_steps}
+use Rattle.wasm_base.proofs.Std.{◌≡◌, ◌<◌, ◌+◌, ◌∷◌, [], ◌++◌, length, take, slice_set, sym, subst, arith, rules, length-take, Yields, common_steps}
 use Rattle.wasm_base.proofs.Yielded.{one_more, Yields-push}
 use Rattle.wasm_base.proofs.once.next_block.Goals as goal
 

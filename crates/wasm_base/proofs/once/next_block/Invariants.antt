@@ -1,5 +1,4 @@
-use Rattle.std.proofs.Common.{◌≡◌, length, take}
-use Rattle.std.specs.Iterator.{Yields, IsFinite}
+use Rattle.wasm_base.proofs.Std.{◌≡◌, length, take, Yields, IsFinite}
 use Rattle.wasm_base.proofs.once.next_block.Given as goal
 
 abbrev pub invariant-loop-i : goal.invariant-loop-i

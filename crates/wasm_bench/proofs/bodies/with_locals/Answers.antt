@@ -1,4 +1,4 @@
-use Rattle.wasm_base.proofs.KnownLengths.{drained_copied}
+use Rattle.wasm_base.proofs.Words.{drained_copied}
 use Rattle.wasm_bench.proofs.bodies.with_locals.Goals as goal
 
 pub new-requires : goal.new-requires

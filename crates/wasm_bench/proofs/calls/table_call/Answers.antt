@@ -1,4 +1,4 @@
-use Rattle.wasm_base.proofs.KnownLengths.{drained_copied}
+use Rattle.wasm_base.proofs.Words.{drained_copied}
 use Rattle.wasm_bench.proofs.calls.table_call.Goals as goal
 
 pub br_table-requires : goal.br_table-requires

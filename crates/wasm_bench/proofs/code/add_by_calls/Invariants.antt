@@ -1,4 +1,4 @@
-use Rattle.std.proofs.Common.{◌≡◌}
+use Rattle.wasm_base.proofs.Words.{◌≡◌}
 use Rattle.wasm_bench.proofs.code.add_by_calls.Given as goal
 
 abbrev pub invariant-loop : goal.invariant-loop

@@ -1,4 +1,4 @@
-use Rattle.std.proofs.Common.{◌≡◌, ◌≤◌, ◌<◌, ◌+◌, ◌*◌, ◌-◌, ◌⊎◌, length}
+use Rattle.wasm_base.proofs.Words.{◌≡◌, ◌≤◌, ◌<◌, ◌+◌, ◌*◌, ◌-◌, ◌⊎◌, length}
 use Rattle.wasm_bench.proofs.data.build.Given as goal
 
 -- Each segment so far is full, or no bytes remain.

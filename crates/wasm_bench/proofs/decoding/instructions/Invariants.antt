@@ -1,6 +1,6 @@
-use Rattle.std.proofs.Common.{◌≡◌, map, take}
+use Rattle.wasm_base.proofs.Words.{◌≡◌, map, take}
 use Rattle.wasm_bench.specs.Decodings.{instructions_in}
-use Rattle.wasm_reader_insn.specs.Arguments.{body_view}
+use Rattle.wasm_code.proofs.Words.{body_view}
 use Rattle.wasm_bench.proofs.decoding.instructions.Given as goal
 
 -- The count is that of the instructions of the bodies so far.

@@ -1,12 +1,7 @@
-use Rattle.std.proofs.Common.{◌≡◌, ◌∷◌, ◌++◌, [], ◌<◌, ◌≤◌, length, sym, subst, ◌∙◌, arith}
+use Rattle.wasm_base.proofs.Words.{◌≡◌, ◌∷◌, ◌++◌, [], ◌<◌, ◌≤◌, length, sym, subst, ◌∙◌, arith, padded, Decodes}
 use Rattle.std.proofs.lemmas.List.{length-append}
-use Rattle.wasm_base.specs.Numbers.{padded}
-use Rattle.wasm_base.specs.Decoding.{Decodes}
-use Rattle.wasm_insn.specs.Plain.{Plain, instruction}
-use Rattle.wasm_insn.specs.Table.{table}
-use Rattle.wasm_reader_insn.specs.Walks.{ahead}
-use Rattle.wasm_reader_insn.proofs.Calls.{continues, ended, of_some}
-use Rattle.wasm_reader_insn.proofs.DecodeLists.{body_fills}
+use Rattle.wasm_insn.proofs.Words.{Plain, instruction, table}
+use Rattle.wasm_code.proofs.Words.{ahead, continues, ended, of_some, body_fills}
 use Rattle.wasm_bench.proofs.decoding.walked.Goals as goal
 
 pub loop-walk-preserved : goal.loop-walk-preserved

@@ -1,7 +1,6 @@
-use Rattle.std.proofs.Common.{◌≡◌, ◌≤◌, ◌-◌, List, length}
-use Rattle.wasm_insn.specs.Plain.{Plain}
-use Rattle.wasm_reader_insn.specs.Walks.{ahead}
-use Rattle.wasm_reader_insn.proofs.Calls.{HasWalked}
+use Rattle.wasm_base.proofs.Words.{◌≡◌, ◌≤◌, ◌-◌, List, length}
+use Rattle.wasm_insn.proofs.Words.{Plain}
+use Rattle.wasm_code.proofs.Words.{ahead, HasWalked}
 use Rattle.wasm_bench.proofs.decoding.walked.Given as goal
 
 -- The instructions that the reader has visited.

@@ -1,4 +1,4 @@
-use Rattle.std.proofs.Common.{◌≡◌, length}
+use Rattle.wasm_base.proofs.Words.{◌≡◌, length}
 use Rattle.wasm_bench.proofs.exports.build.Given as goal
 
 abbrev pub invariant-loop-i : goal.invariant-loop-i

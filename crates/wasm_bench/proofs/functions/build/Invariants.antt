@@ -1,5 +1,4 @@
-use Rattle.std.proofs.Common.{◌≡◌, map, take}
-use Rattle.wasm_base.specs.Numbers.{unsigned_encoding}
+use Rattle.wasm_base.proofs.Words.{◌≡◌, map, take, unsigned_encoding}
 use Rattle.wasm_bench.proofs.functions.build.Given as goal
 
 abbrev pub invariant-loop-type_index : goal.invariant-loop-type_index

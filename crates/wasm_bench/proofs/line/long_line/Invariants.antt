@@ -1,4 +1,4 @@
-use Rattle.std.proofs.Common.{◌≡◌}
+use Rattle.wasm_base.proofs.Words.{◌≡◌}
 use Rattle.wasm_bench.proofs.line.long_line.Given as goal
 
 abbrev pub invariant-loop-index : goal.invariant-loop-index

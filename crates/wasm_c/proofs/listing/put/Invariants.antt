@@ -1,4 +1,4 @@
-use Rattle.std.proofs.Common.{◌≡◌, length, map, take, drop}
+use Rattle.wasm_base.proofs.Words.{◌≡◌, length, map, take, drop}
 use Rattle.wasm_c.specs.Listing.{section_of}
 use Rattle.wasm_c.proofs.listing.put.Given as goal
 

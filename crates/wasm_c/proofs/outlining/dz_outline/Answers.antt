@@ -1,5 +1,5 @@
-use Rattle.std.proofs.Common.{◌≡◌, refl, sym, subst, inr}
-use Rattle.wasm_reader.specs.Outlines.{HasOutline}
+use Rattle.wasm_base.proofs.Words.{refl, sym, subst, inr}
+use Rattle.wasm_reader.proofs.Words.{HasOutline}
 use Rattle.wasm_c.proofs.Named.{all_named}
 use Rattle.wasm_c.proofs.outlining.dz_outline.Goals as goal
 

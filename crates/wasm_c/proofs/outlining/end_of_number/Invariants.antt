@@ -1,4 +1,4 @@
-use Rattle.std.proofs.Common.{◌≡◌, ◌-◌, length}
+use Rattle.wasm_base.proofs.Words.{◌≡◌, ◌-◌, length}
 use Rattle.wasm_c.specs.Outlining.{behind_number}
 use Rattle.wasm_c.proofs.outlining.end_of_number.Given as goal
 

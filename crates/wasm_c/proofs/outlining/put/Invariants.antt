@@ -1,4 +1,4 @@
-use Rattle.std.proofs.Common.{◌≡◌, length, map, take, drop}
+use Rattle.wasm_base.proofs.Words.{◌≡◌, length, map, take, drop}
 use Rattle.wasm_c.specs.Outlining.{section_of}
 use Rattle.wasm_c.proofs.outlining.put.Given as goal
 

@@ -1,5 +1,4 @@
-use Rattle.std.proofs.Common.{rules, subst}
-use Rattle.wasm_base.proofs.Yielded.{Yields-push, All-last}
+use Rattle.wasm_base.proofs.Words.{rules, subst, Yields-push, All-last}
 use Rattle.wasm_code.proofs.const_expr.encode_each.Goals as goal
 
 pub returns-in_err-encode : goal.returns-in_err-encode

@@ -1,5 +1,4 @@
-use Rattle.std.proofs.Common.{◌≡◌, ◌++◌}
-use Rattle.std.specs.List.{All, flat_map}
+use Rattle.wasm_base.proofs.Words.{◌≡◌, ◌++◌, All, flat_map}
 use Rattle.wasm_code.proofs.const_expr.encode_each.Given as goal
 
 abbrev pub invariant-loop-element : goal.invariant-loop-element

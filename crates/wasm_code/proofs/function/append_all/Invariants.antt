@@ -1,4 +1,4 @@
-use Rattle.std.proofs.Common.{◌≡◌, ◌++◌}
+use Rattle.wasm_base.proofs.Words.{◌≡◌, ◌++◌}
 use Rattle.wasm_code.proofs.function.append_all.Given as goal
 
 abbrev pub invariant-loop-byte : goal.invariant-loop-byte

@@ -1,4 +1,4 @@
-use Rattle.std.proofs.Common.{rules, ◌≡◌, ◌≢◌, ◌+◌, [], ◌∷◌, ◌++◌, ap, ◌∙◌}
+use Rattle.wasm_base.proofs.Words.{rules, ◌≡◌, ◌≢◌, ◌+◌, [], ◌∷◌, ◌++◌, ap, ◌∙◌}
 use Rattle.wasm_code.proofs.RunLaws.{longer_run, next_run}
 use Rattle.wasm_code.proofs.locals.add_local.Goals as goal
 

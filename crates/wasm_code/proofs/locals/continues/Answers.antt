@@ -1,4 +1,4 @@
-use Rattle.std.proofs.Common.{rules}
+use Rattle.wasm_base.proofs.Words.{rules}
 use Rattle.wasm_code.proofs.SameTypes.{same_val}
 use Rattle.wasm_code.proofs.locals.continues.Goals as goal
 

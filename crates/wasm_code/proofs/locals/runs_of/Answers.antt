@@ -1,5 +1,4 @@
-use Rattle.std.proofs.Common.{rules, subst}
-use Rattle.wasm_base.proofs.Yielded.{Yields-push}
+use Rattle.wasm_base.proofs.Words.{rules, subst, Yields-push}
 use Rattle.wasm_code.proofs.RunLaws.{are_runs_of, not_full}
 use Rattle.wasm_code.proofs.locals.runs_of.Goals as goal
 

@@ -1,6 +1,5 @@
-use Rattle.std.proofs.Common.{◌≡◌}
-use Rattle.std.specs.List.{All}
-use Rattle.wasm_code.specs.Bodies.{expand, IsRuns, IsCounted}
+use Rattle.wasm_base.proofs.Words.{◌≡◌, All}
+use Rattle.wasm_code.specs.{expand, IsRuns, IsCounted}
 use Rattle.wasm_code.proofs.locals.runs_of.Given as goal
 
 abbrev pub invariant-loop-ty : goal.invariant-loop-ty

@@ -1,4 +1,4 @@
-use Rattle.wasm_reader_base.proofs.Faults.{fault_stays}
+use Rattle.wasm_base.proofs.Words.{fault_stays}
 use Rattle.wasm_custom.proofs.CoreDumpLaws.{process_none, process_fills, process_rejects}
 use Rattle.wasm_custom.proofs.core_dumps.read_process.Goals as goal
 

@@ -1,6 +1,4 @@
-use Rattle.std.proofs.Common.{refl, map}
-use Rattle.wasm_reader_base.proofs.MinimalEncodings.{next_appended, all_appended, vec_appended}
-use Rattle.wasm_reader_base.proofs.DecodedValues.{member_encoded, members_encoded, stays_short}
+use Rattle.wasm_base.proofs.Words.{refl, map, next_appended, all_appended, vec_appended, member_encoded, members_encoded, stays_short}
 use Rattle.wasm_custom.proofs.counted.append_items.Goals as goal
 
 pub loop-item-preserved : goal.loop-item-preserved

@@ -1,6 +1,4 @@
-use Rattle.std.proofs.Common.{map, take}
-use Rattle.wasm_base.specs.Formats.{members}
-use Rattle.wasm_reader_base.specs.Minimal.{AppendsMinimal}
+use Rattle.wasm_base.proofs.Words.{map, take, members, AppendsMinimal}
 use Rattle.wasm_custom.proofs.counted.append_items.Given as goal
 
 abbrev pub invariant-loop-item : goal.invariant-loop-item

@@ -1,6 +1,4 @@
-use Rattle.std.proofs.Common.{sym, ◌∙◌}
-use Rattle.std.proofs.lemmas.Bool.{eqb-false, eqb-true}
-use Rattle.wasm_reader_base.proofs.Faults.{fault_stays}
+use Rattle.wasm_base.proofs.Words.{sym, ◌∙◌, eqb-false, eqb-true, fault_stays}
 use Rattle.wasm_custom.proofs.DecodeNamed.{counted_none, counted_decodes, counted_rejects, counted_more}
 use Rattle.wasm_custom.proofs.counted.read_counted.Goals as goal
 

@@ -1,6 +1,4 @@
-use Rattle.std.proofs.Common.{arith}
-use Rattle.wasm_reader_base.proofs.Faults.{fault_stays, memory_stays}
-use Rattle.wasm_reader_base.proofs.DecodeVectors.{vec_rejects_count, loop_rejects, loop_decodes}
+use Rattle.wasm_base.proofs.Words.{arith, fault_stays, memory_stays, vec_rejects_count, loop_rejects, loop_decodes}
 use Rattle.wasm_custom.proofs.counted.read_items.Goals as goal
 
 pub returns-in_err-item-clause-none : goal.returns-in_err-item-clause-none

@@ -1,5 +1,4 @@
-use Rattle.std.proofs.Common.{◌≡◌, length}
-use Rattle.wasm_reader_base.proofs.DecodeVectors.{HasRead}
+use Rattle.wasm_base.proofs.Words.{◌≡◌, length, HasRead}
 use Rattle.wasm_custom.proofs.counted.read_items.Given as goal
 
 abbrev pub invariant-loop-taken : goal.invariant-loop-taken

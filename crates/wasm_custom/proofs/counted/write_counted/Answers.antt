@@ -1,4 +1,4 @@
-use Rattle.wasm_base.proofs.Outcomes.{on_ok}
+use Rattle.wasm_base.proofs.Words.{on_ok}
 use Rattle.wasm_custom.proofs.EntriesLaws.{counted_appended}
 use Rattle.wasm_custom.proofs.counted.write_counted.Goals as goal
 

@@ -1,4 +1,4 @@
-use Rattle.wasm_reader_base.proofs.Faults.{fault_stays}
+use Rattle.wasm_base.proofs.Words.{fault_stays}
 use Rattle.wasm_custom.proofs.LinkLaws.{version_none}
 use Rattle.wasm_custom.proofs.linking.after_version.Goals as goal
 

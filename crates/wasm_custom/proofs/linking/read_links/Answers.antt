@@ -1,6 +1,4 @@
-use Rattle.std.proofs.Common.{refl}
-use Rattle.wasm_base.proofs.PartLaws.{tagged_begins}
-use Rattle.wasm_reader_base.proofs.Faults.{fault_stays}
+use Rattle.wasm_base.proofs.Words.{refl, tagged_begins, fault_stays}
 use Rattle.wasm_custom.proofs.LinkLaws.{links_none, links_fill, links_no_version, no_links}
 use Rattle.wasm_custom.proofs.linking.read_links.Goals as goal
 

@@ -1,4 +1,4 @@
-use Rattle.wasm_reader_base.proofs.Faults.{fault_stays}
+use Rattle.wasm_base.proofs.Words.{fault_stays}
 use Rattle.wasm_custom.proofs.DecodeMarked.{marked_none}
 use Rattle.wasm_custom.proofs.marked.read_marked.Goals as goal
 

@@ -1,6 +1,4 @@
-use Rattle.std.proofs.Common.{sym, ◌∙◌}
-use Rattle.std.proofs.lemmas.Bool.Decides.{not_from_Decides}
-use Rattle.std.proofs.lemmas.Slice.Eq.{bytes_eq-Decides}
+use Rattle.wasm_base.proofs.Words.{sym, ◌∙◌, not_from_Decides, bytes_eq-Decides}
 use Rattle.wasm_custom.proofs.DecodeNamed.{name_other}
 use Rattle.wasm_custom.proofs.named.after_name.Goals as goal
 

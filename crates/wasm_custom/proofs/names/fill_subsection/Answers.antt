@@ -1,7 +1,5 @@
-use Rattle.wasm_reader_base.proofs.Faults.{fault_stays}
-use Rattle.std.proofs.Common.{sym, subst}
-use Rattle.wasm_base.specs.Continuing.{RejectsWhole}
-use Rattle.wasm_custom.specs.Names.{kind_as, inside}
+use Rattle.wasm_base.proofs.Words.{fault_stays, sym, subst, RejectsWhole}
+use Rattle.wasm_custom.specs.{kind_as, inside}
 use Rattle.wasm_custom.proofs.NameLaws.{no_module}
 use Rattle.wasm_custom.proofs.names.fill_subsection.Goals as goal
 

@@ -1,6 +1,4 @@
-use Rattle.std.proofs.Common.{refl}
-use Rattle.wasm_base.proofs.PartLaws.{tagged_begins}
-use Rattle.wasm_reader_base.proofs.Faults.{fault_stays}
+use Rattle.wasm_base.proofs.Words.{refl, tagged_begins, fault_stays}
 use Rattle.wasm_custom.proofs.NameLaws.{names_none, names_fill, no_names}
 use Rattle.wasm_custom.proofs.names.read_names.Goals as goal
 

@@ -1,8 +1,4 @@
-use Rattle.std.proofs.Common.{subst}
-use Rattle.wasm_base.specs.Formats.{name, optional}
-use Rattle.wasm_base.specs.Numbers.{padded}
-use Rattle.wasm_base.specs.Decoding.{Rejects}
-use Rattle.wasm_reader_base.proofs.Faults.{fault_stays}
+use Rattle.wasm_base.proofs.Words.{subst, name, optional, padded, Rejects, fault_stays}
 use Rattle.wasm_custom.proofs.SymbolLaws.{indexed_none, indexed_no_index, indexed_no_name}
 use Rattle.wasm_custom.proofs.symbols.read_indexed.Goals as goal
 

@@ -1,5 +1,4 @@
-use Rattle.std.proofs.Common.{arith}
-use Rattle.std.proofs.lemmas.Grind.{common_steps}
+use Rattle.wasm_base.proofs.Words.{arith, common_steps}
 use Rattle.wasm_immediates.proofs.ImmediateEncodings.{one_byte}
 use Rattle.wasm_immediates.proofs.memory.put_two_bytes.Goals as goal
 

@@ -1,8 +1,5 @@
-use Rattle.std.proofs.Common.{subst}
-use Rattle.std.proofs.lemmas.List.{take_all}
-use Rattle.std.proofs.lemmas.List.Elements.{All-more}
-use Rattle.std.specs.List.{All}
-use Rattle.wasm_insn.specs.Instructions.{IsWellFormedWhereAligned}
+use Rattle.wasm_base.proofs.Words.{subst, take_all, All-more, All}
+use Rattle.wasm_insn.specs.{IsWellFormedWhereAligned}
 use Rattle.wasm_insn.proofs.laws.plain_instructions.Goals as goal
 
 pub loop-instruction-preserved : goal.loop-instruction-preserved

@@ -1,6 +1,5 @@
-use Rattle.std.proofs.Common.{take}
-use Rattle.std.specs.List.{All}
-use Rattle.wasm_insn.specs.Instructions.{IsWellFormedWhereAligned}
+use Rattle.wasm_base.proofs.Words.{take, All}
+use Rattle.wasm_insn.specs.{IsWellFormedWhereAligned}
 use Rattle.wasm_insn.proofs.laws.plain_instructions.Given as goal
 
 abbrev pub invariant-loop-instruction : goal.invariant-loop-instruction

@@ -1,7 +1,4 @@
-use Rattle.std.proofs.Common.{subst}
-use Rattle.std.proofs.lemmas.List.{take_all}
-use Rattle.std.proofs.lemmas.List.Elements.{All-more}
-use Rattle.std.specs.List.{All}
+use Rattle.wasm_base.proofs.Words.{subst, take_all, All-more, All}
 use Rattle.wasm_insn.proofs.ranged.each_ranged.Goals as goal
 
 pub loop-item-preserved : goal.loop-item-preserved

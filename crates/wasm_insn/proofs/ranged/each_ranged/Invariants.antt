@@ -1,5 +1,4 @@
-use Rattle.std.proofs.Common.{take}
-use Rattle.std.specs.List.{All}
+use Rattle.wasm_base.proofs.Words.{take, All}
 use Rattle.wasm_insn.proofs.ranged.each_ranged.Given as goal
 
 abbrev pub invariant-loop-item : goal.invariant-loop-item

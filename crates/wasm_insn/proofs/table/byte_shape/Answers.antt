@@ -1,4 +1,4 @@
-use Rattle.std.proofs.Common.{arith}
+use Rattle.wasm_base.proofs.Words.{arith}
 use Rattle.wasm_insn.proofs.ByteShapes.{byte_place}
 use Rattle.wasm_insn.proofs.table.byte_shape.Goals as goal
 

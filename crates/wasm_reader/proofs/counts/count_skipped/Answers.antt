@@ -1,9 +1,4 @@
-use Rattle.std.proofs.Common.{Some, ap, sym, ◌∙◌}
-use Rattle.std.proofs.lemmas.Bool.{eqb-true, eqb-false}
-use Rattle.wasm_base.specs.Formats.{vec}
-use Rattle.wasm_base.proofs.FormatLaws.{vec_unambiguous}
-use Rattle.wasm_reader_base.proofs.Faults.{fault_stays}
-use Rattle.wasm_reader_base.proofs.DecodeWhole.{whole_decodes, whole_more, whole_rejects}
+use Rattle.wasm_base.proofs.Words.{Some, ap, sym, ◌∙◌, eqb-true, eqb-false, vec, vec_unambiguous, fault_stays, whole_decodes, whole_more, whole_rejects}
 use Rattle.wasm_reader.proofs.counts.count_skipped.Goals as goal
 
 pub returns-in_err-count-clause-none : goal.returns-in_err-count-clause-none

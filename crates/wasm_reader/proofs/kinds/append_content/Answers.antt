@@ -1,9 +1,6 @@
-use Rattle.std.proofs.Common.{◌≡◌, ℕ, List, map, sym, ap, subst, ◌∙◌}
-use Rattle.wasm_base.proofs.Outcomes.{on_ok}
-use Rattle.wasm_custom.specs.CoreDumps.{instance_view}
-use Rattle.wasm_custom.specs.Hints.{hints_view}
-use Rattle.wasm_reader_base.specs.Minimal.{AppendsMinimal}
-use Rattle.wasm_reader.specs.Kinds.{Contents, Hints, CoreInstances, content, contents_of, kind_in}
+use Rattle.wasm_base.proofs.Words.{◌≡◌, ℕ, List, map, sym, ap, subst, ◌∙◌, on_ok, AppendsMinimal}
+use Rattle.wasm_custom.proofs.Words.{instance_view, hints_view}
+use Rattle.wasm_reader.specs.{Contents, Hints, CoreInstances, content, contents_of, kind_in}
 use Rattle.wasm_reader.proofs.KindLaws.{AppendsItems, items_appended, custom_appended}
 use Rattle.wasm_reader.proofs.kinds.append_content.Goals as goal
 

@@ -1,6 +1,4 @@
-use Rattle.std.proofs.Common.{◌++◌, ap, subst, ◌∙◌, arith}
-use Rattle.wasm_base.specs.Encodings.{size_prefixed_encoding, HasEncodableSize}
-use Rattle.wasm_reader_base.proofs.Faults.{fault_stays, memory_stays}
+use Rattle.wasm_base.proofs.Words.{◌++◌, ap, subst, ◌∙◌, arith, size_prefixed_encoding, HasEncodableSize, fault_stays, memory_stays}
 use Rattle.wasm_reader.proofs.DecodeSections.{section_none, section_rejects, shorter}
 use Rattle.wasm_reader.proofs.MinimalSections.{shortened}
 use Rattle.wasm_reader.proofs.minimal.shorten.Goals as goal

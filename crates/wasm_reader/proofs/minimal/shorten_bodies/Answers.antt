@@ -1,11 +1,5 @@
-use Rattle.std.proofs.Common.{◌≡◌, sym, subst, ◌∙◌, arith}
-use Rattle.std.proofs.lemmas.Bool.{eqb-true, eqb-false}
-use Rattle.wasm_base.specs.Formats.{size_prefixed}
-use Rattle.wasm_code.specs.Bodies.{body}
-use Rattle.wasm_code.proofs.BodyLaws.{size_prefixed_body_unambiguous}
-use Rattle.wasm_reader_base.proofs.Faults.{fault_stays, memory_stays}
-use Rattle.wasm_reader_base.proofs.DecodeSizePrefixed.{filled_decodes, filled_none, filled_rejects}
-use Rattle.wasm_reader_base.proofs.SkipLaws.{HasSkipped}
+use Rattle.wasm_base.proofs.Words.{◌≡◌, sym, subst, ◌∙◌, arith, eqb-true, eqb-false, size_prefixed, fault_stays, memory_stays, filled_decodes, filled_none, filled_rejects, HasSkipped}
+use Rattle.wasm_code.proofs.Words.{body, size_prefixed_body_unambiguous}
 use Rattle.wasm_reader.proofs.Counting.{no_count, skipped_none, skipped_more}
 use Rattle.wasm_reader.proofs.MinimalBodies.{skip, shortened_start, shortened_step, shortened_all}
 use Rattle.wasm_reader.proofs.minimal.shorten_bodies.Goals as goal

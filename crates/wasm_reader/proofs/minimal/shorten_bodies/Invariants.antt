@@ -1,5 +1,5 @@
-use Rattle.wasm_base.specs.Formats.{size_prefixed}
-use Rattle.wasm_code.specs.Bodies.{body}
+use Rattle.wasm_base.proofs.Words.{size_prefixed}
+use Rattle.wasm_code.proofs.Words.{body}
 use Rattle.wasm_reader.proofs.MinimalBodies.{HasShortened}
 use Rattle.wasm_reader.proofs.minimal.shorten_bodies.Given as goal
 

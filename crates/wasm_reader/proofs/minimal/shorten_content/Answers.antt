@@ -1,5 +1,4 @@
-use Rattle.wasm_base.proofs.Outcomes.{on_ok}
-use Rattle.wasm_reader_base.proofs.Faults.{if_err_more}
+use Rattle.wasm_base.proofs.Words.{on_ok, if_err_more}
 use Rattle.wasm_reader.proofs.KindLaws.{bodies_read}
 use Rattle.wasm_reader.proofs.MinimalSections.{bodies_shortened}
 use Rattle.wasm_reader.proofs.minimal.shorten_content.Goals as goal

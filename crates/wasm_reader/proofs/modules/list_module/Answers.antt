@@ -1,6 +1,5 @@
-use Rattle.std.proofs.Common.{◌≡◌, ◌+◌, suc, length, sym, subst, ◌∙◌, arith}
-use Rattle.std.proofs.lemmas.Bool.{eqb-true, eqb-false}
-use Rattle.wasm_reader.specs.Modules.{StopsAt}
+use Rattle.wasm_base.proofs.Words.{◌≡◌, ◌+◌, suc, length, sym, subst, ◌∙◌, arith, eqb-true, eqb-false}
+use Rattle.wasm_reader.specs.{StopsAt}
 use Rattle.wasm_reader.proofs.DecodeModules.{HasListed, listed_step, listed_done, listed_stops}
 use Rattle.wasm_reader.proofs.modules.list_module.Goals as goal
 

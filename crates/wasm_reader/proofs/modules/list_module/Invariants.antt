@@ -1,4 +1,4 @@
-use Rattle.std.proofs.Common.{length}
+use Rattle.wasm_base.proofs.Words.{length}
 use Rattle.wasm_reader.proofs.DecodeModules.{HasListed}
 use Rattle.wasm_reader.proofs.modules.list_module.Given as goal
 

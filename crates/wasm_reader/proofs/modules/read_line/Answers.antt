@@ -1,7 +1,5 @@
-use Rattle.std.proofs.Common.{length, ap, subst}
-use Rattle.wasm_base.specs.Numbers.{padded}
-use Rattle.wasm_reader_base.proofs.Faults.{fault_stays}
-use Rattle.wasm_reader.specs.Kinds.{content}
+use Rattle.wasm_base.proofs.Words.{length, ap, subst, padded, fault_stays}
+use Rattle.wasm_reader.specs.{content}
 use Rattle.wasm_reader.proofs.DecodeModules.{line_decodes, line_none, line_not_size_prefixed}
 use Rattle.wasm_reader.proofs.modules.read_line.Goals as goal
 

@@ -1,6 +1,5 @@
-use Rattle.std.proofs.Common.{map}
-use Rattle.std.proofs.lemmas.List.{length-map}
-use Rattle.wasm_types.specs.Items.{entry_view}
+use Rattle.wasm_base.proofs.Words.{map, length-map}
+use Rattle.wasm_types.proofs.Words.{entry_view}
 use Rattle.wasm_reader.proofs.DecodeOutlines.{types_counted}
 use Rattle.wasm_reader.proofs.outlines.count_entries.Goals as goal
 

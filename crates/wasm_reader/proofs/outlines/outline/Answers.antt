@@ -1,8 +1,5 @@
-use Rattle.std.proofs.Common.{◌≡◌, ◌+◌, suc, length, sym, subst, ◌∙◌, arith}
-use Rattle.std.proofs.lemmas.Bool.{eqb-false}
-use Rattle.wasm_base.specs.Formats.{header}
-use Rattle.wasm_reader_base.proofs.DecodeWhole.{empty_not}
-use Rattle.wasm_reader.specs.Outlines.{EndsAt}
+use Rattle.wasm_base.proofs.Words.{◌≡◌, ◌+◌, suc, length, sym, subst, ◌∙◌, arith, eqb-false, header, empty_not}
+use Rattle.wasm_reader.specs.{EndsAt}
 use Rattle.wasm_reader.proofs.DecodeOutlines.{HasOutlined, no_header, outlined_ends, outlined_none, outlined_step, place_is}
 use Rattle.wasm_reader.proofs.outlines.outline.Goals as goal
 

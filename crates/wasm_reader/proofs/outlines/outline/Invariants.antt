@@ -1,5 +1,4 @@
-use Rattle.std.proofs.Common.{length}
-use Rattle.wasm_base.specs.Formats.{header}
+use Rattle.wasm_base.proofs.Words.{length, header}
 use Rattle.wasm_reader.proofs.DecodeOutlines.{HasOutlined}
 use Rattle.wasm_reader.proofs.outlines.outline.Given as goal
 

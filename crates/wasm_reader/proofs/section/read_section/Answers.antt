@@ -1,4 +1,4 @@
-use Rattle.wasm_reader_base.proofs.Faults.{fault_stays}
+use Rattle.wasm_base.proofs.Words.{fault_stays}
 use Rattle.wasm_reader.proofs.DecodeSections.{section_none, section_rejects, shorter}
 use Rattle.wasm_reader.proofs.section.read_section.Goals as goal
 

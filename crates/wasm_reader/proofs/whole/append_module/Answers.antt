@@ -1,4 +1,4 @@
-use Rattle.std.proofs.Common.{sym, ◌∙◌}
+use Rattle.wasm_base.proofs.Words.{sym, ◌∙◌}
 use Rattle.wasm_reader.proofs.DecodeOutlines.{no_header}
 use Rattle.wasm_reader.proofs.MinimalModules.{stops_at, keeps_offsets, loses_at}
 use Rattle.wasm_reader.proofs.whole.append_module.Goals as goal

@@ -1,6 +1,5 @@
-use Rattle.std.proofs.Common.{sym, ap, ◌++◌, ◌∙◌}
-use Rattle.wasm_reader.specs.Outlines.{section_of}
-use Rattle.wasm_reader.specs.Shortening.{contains_offsets}
+use Rattle.wasm_base.proofs.Words.{sym, ap, ◌++◌, ◌∙◌}
+use Rattle.wasm_reader.specs.{section_of, contains_offsets}
 use Rattle.wasm_reader.proofs.MinimalModules.{gains, stays_in, is_change_encoding, after_id}
 use Rattle.wasm_reader.proofs.whole.append_section.Goals as goal
 

@@ -1,6 +1,4 @@
-use Rattle.std.proofs.Common.{◌≡◌, sym, ◌∙◌, length, arith}
-use Rattle.std.proofs.lemmas.Bool.{eqb-false}
-use Rattle.wasm_reader_base.proofs.DecodeWhole.{empty_not}
+use Rattle.wasm_base.proofs.Words.{◌≡◌, sym, ◌∙◌, length, arith, eqb-false, empty_not}
 use Rattle.wasm_reader.proofs.MinimalModules.{rewrites_below, rewrites_longer, rewrites_rest, rewrites_stop, rewrites_step}
 use Rattle.wasm_reader.proofs.whole.append_sections.Goals as goal
 

@@ -1,5 +1,5 @@
-use Rattle.std.proofs.Common.{◌≤◌, length}
-use Rattle.wasm_reader.specs.Shortening.{Rewrites}
+use Rattle.wasm_base.proofs.Words.{◌≤◌, length}
+use Rattle.wasm_reader.specs.{Rewrites}
 use Rattle.wasm_reader.proofs.whole.append_sections.Given as goal
 
 abbrev pub invariant-loop-rest : goal.invariant-loop-rest

@@ -1,6 +1,5 @@
-use Rattle.std.proofs.Common.{subst}
-use Rattle.wasm_reader.specs.Outlines.{section_of}
-use Rattle.wasm_reader.specs.Sections.{Shortens}
+use Rattle.wasm_base.proofs.Words.{subst}
+use Rattle.wasm_reader.specs.{section_of, Shortens}
 use Rattle.wasm_reader.proofs.MinimalModules.{whole_size_prefixed}
 use Rattle.wasm_reader.proofs.whole.append_size_prefixed.Goals as goal
 

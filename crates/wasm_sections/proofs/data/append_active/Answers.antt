@@ -1,4 +1,4 @@
-use Rattle.wasm_sections.specs.Constants.{instructions_view}
+use Rattle.wasm_sections.specs.{instructions_view}
 use Rattle.wasm_sections.proofs.DataLaws.{placed_encoded}
 use Rattle.wasm_sections.proofs.data.append_active.Goals as goal
 

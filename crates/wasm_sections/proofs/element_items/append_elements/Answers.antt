@@ -1,7 +1,5 @@
-use Rattle.std.proofs.Common.{subst, sym}
-use Rattle.wasm_base.proofs.Outcomes.{on_ok}
-use Rattle.wasm_reader_base.specs.Minimal.{AppendsMinimal, HasEncoding}
-use Rattle.wasm_sections.specs.Elements.{are_expressions, elements_as, list_view}
+use Rattle.wasm_base.proofs.Words.{subst, sym, on_ok, AppendsMinimal, HasEncoding}
+use Rattle.wasm_sections.specs.{are_expressions, elements_as, list_view}
 use Rattle.wasm_sections.proofs.element_items.append_elements.Goals as goal
 
 pub returns-in-Functions-clause-ok : goal.returns-in-Functions-clause-ok

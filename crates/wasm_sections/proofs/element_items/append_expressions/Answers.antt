@@ -1,8 +1,7 @@
-use Rattle.std.proofs.Common.{map}
-use Rattle.wasm_base.proofs.Outcomes.{on_ok}
-use Rattle.wasm_sections.specs.Constants.{instructions_view}
-use Rattle.wasm_sections.proofs.element_items.append_expressions.Goals as goal
+use Rattle.wasm_base.proofs.Words.{map, on_ok}
+use Rattle.wasm_sections.specs.{instructions_view}
 use Rattle.wasm_sections.proofs.ElementLaws.{expressions_explicit_appended, expressions_implicit_appended}
+use Rattle.wasm_sections.proofs.element_items.append_expressions.Goals as goal
 
 pub returns-then-explicit-clause-ok : goal.returns-then-explicit-clause-ok
 returns-then-explicit-clause-ok g c =

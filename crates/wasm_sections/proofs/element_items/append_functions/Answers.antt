@@ -1,6 +1,6 @@
-use Rattle.wasm_base.proofs.Outcomes.{on_ok}
-use Rattle.wasm_sections.proofs.element_items.append_functions.Goals as goal
+use Rattle.wasm_base.proofs.Words.{on_ok}
 use Rattle.wasm_sections.proofs.ElementLaws.{functions_explicit_appended, functions_implicit_appended}
+use Rattle.wasm_sections.proofs.element_items.append_functions.Goals as goal
 
 pub returns-then-explicit-clause-ok : goal.returns-then-explicit-clause-ok
 returns-then-explicit-clause-ok g c =

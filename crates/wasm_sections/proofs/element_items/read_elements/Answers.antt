@@ -1,9 +1,7 @@
-use Rattle.std.proofs.Common.{◌≢◌, sym, subst}
-use Rattle.std.specs.Prelude.{IfOk, IfErr}
-use Rattle.wasm_base.specs.Decoding.{Decodes, Rejects}
-use Rattle.wasm_base.specs.Numbers.{padded}
-use Rattle.wasm_reader_base.specs.declared.fault.ReadFault.TheVariants.{Memory}
-use Rattle.wasm_sections.specs.Elements.{elements_as, list_view}
+use Rattle.wasm_base.proofs.Words.{◌≢◌, sym, subst, IfOk, Decodes, Rejects, padded}
+use Rattle.wasm_base.specs.declared.fault.ReadFault.TheVariants.{Memory}
+use Rattle.std.specs.Prelude.{IfErr}
+use Rattle.wasm_sections.specs.{elements_as, list_view}
 use Rattle.wasm_sections.proofs.element_items.read_elements.Goals as goal
 
 pub returns-then-of_expressions-clause-found : goal.returns-then-of_expressions-clause-found

@@ -1,4 +1,4 @@
-use Rattle.wasm_reader_base.proofs.Faults.{fault_stays}
+use Rattle.wasm_base.proofs.Words.{fault_stays}
 use Rattle.wasm_sections.proofs.ElementLaws.{functions_read, functions_no_kind, functions_other, functions_none, functions_implicit, functions_none_implicit}
 use Rattle.wasm_sections.proofs.element_items.read_functions.Goals as goal
 

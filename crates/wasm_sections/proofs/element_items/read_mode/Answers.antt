@@ -1,5 +1,5 @@
-use Rattle.wasm_reader_base.proofs.Faults.{fault_stays}
-use Rattle.wasm_sections.specs.Elements.{element_flag_view}
+use Rattle.wasm_base.proofs.Words.{fault_stays}
+use Rattle.wasm_sections.specs.{element_flag_view}
 use Rattle.wasm_sections.proofs.ElementLaws.{segment_mode_no_table, segment_mode_no_offset}
 use Rattle.wasm_sections.proofs.element_items.read_mode.Goals as goal
 

@@ -1,10 +1,8 @@
-use Rattle.std.proofs.Common.{◌≢◌, List, sym, subst}
-use Rattle.std.specs.Prelude.{IfOk, IfErr}
-use Rattle.wasm_base.specs.Decoding.{Decodes, Rejects}
-use Rattle.wasm_base.specs.Numbers.{padded}
-use Rattle.wasm_reader_base.specs.declared.fault.ReadFault.TheVariants.{Memory}
-use Rattle.wasm_insn.specs.Plain.{Plain}
-use Rattle.wasm_sections.specs.Elements.{elements_as, ElementList as ListModel}
+use Rattle.wasm_base.proofs.Words.{◌≢◌, List, sym, subst, IfOk, Decodes, Rejects, padded}
+use Rattle.wasm_base.specs.declared.fault.ReadFault.TheVariants.{Memory}
+use Rattle.std.specs.Prelude.{IfErr}
+use Rattle.wasm_insn.proofs.Words.{Plain}
+use Rattle.wasm_sections.specs.{elements_as, ElementList as ListModel}
 use Rattle.wasm_sections.proofs.element_items.skip_elements.Goals as goal
 
 pub returns-then-of_expressions-clause-found : goal.returns-then-of_expressions-clause-found

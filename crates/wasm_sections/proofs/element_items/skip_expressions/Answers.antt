@@ -1,6 +1,4 @@
-use Rattle.wasm_reader_base.proofs.Faults.{fault_stays}
-use Rattle.wasm_base.proofs.DecodingSteps.{then_decodes, then_rejects_first, then_rejects_second}
-use Rattle.wasm_base.proofs.TypeLaws.{ref_unambiguous}
+use Rattle.wasm_base.proofs.Words.{fault_stays, then_decodes, then_rejects_first, then_rejects_second, ref_unambiguous}
 use Rattle.wasm_sections.proofs.ElementLaws.{expressions_read, expressions_none, expressions_none_implicit, expressions_implicit}
 use Rattle.wasm_sections.proofs.element_items.skip_expressions.Goals as goal
 

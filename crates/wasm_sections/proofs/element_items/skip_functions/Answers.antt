@@ -1,4 +1,4 @@
-use Rattle.wasm_reader_base.proofs.Faults.{fault_stays}
+use Rattle.wasm_base.proofs.Words.{fault_stays}
 use Rattle.wasm_sections.proofs.ElementLaws.{functions_behind, functions_no_kind, functions_other, functions_none, functions_unique, functions_none_implicit}
 use Rattle.wasm_sections.proofs.element_items.skip_functions.Goals as goal
 

@@ -1,7 +1,5 @@
-use Rattle.std.proofs.Common.{map, take}
-use Rattle.wasm_base.specs.Formats.{members}
-use Rattle.wasm_reader_base.specs.Minimal.{AppendsMinimal}
-use Rattle.wasm_sections.specs.Imports.{import_format, imports_item}
+use Rattle.wasm_base.proofs.Words.{map, take, members, AppendsMinimal}
+use Rattle.wasm_sections.specs.{import_format, imports_item}
 use Rattle.wasm_sections.proofs.import.write_imports.Given as goal
 
 abbrev pub invariant-loop-import : goal.invariant-loop-import

@@ -1,5 +1,5 @@
 use Rattle.wasm_base.proofs.SectionLaws.{payloads}
-use Rattle.wasm_base.proofs.Payloads.{u32-payload}
+use Rattle.wasm_base.proofs.Words.{u32-payload}
 use Rattle.wasm_sections.proofs.Calls.{sections}
 use Rattle.wasm_sections.proofs.laws.payloads.Goals as goal
 

@@ -1,7 +1,5 @@
-use Rattle.std.proofs.Common.{arith, subst}
-use Rattle.std.proofs.lemmas.List.{take_all}
-use Rattle.std.specs.List.{All}
-use Rattle.wasm_sections.specs.Exports.{IsExport}
+use Rattle.wasm_base.proofs.Words.{arith, subst, take_all, All}
+use Rattle.wasm_sections.specs.{IsExport}
 use Rattle.wasm_sections.proofs.laws.plain_exports.Goals as goal
 
 pub returns : goal.returns

@@ -1,6 +1,5 @@
-use Rattle.std.proofs.Common.{take}
-use Rattle.std.specs.List.{All}
-use Rattle.wasm_sections.specs.Exports.{IsExport}
+use Rattle.wasm_base.proofs.Words.{take, All}
+use Rattle.wasm_sections.specs.{IsExport}
 use Rattle.wasm_sections.proofs.laws.plain_exports.Given as goal
 
 abbrev pub invariant-loop-export : goal.invariant-loop-export

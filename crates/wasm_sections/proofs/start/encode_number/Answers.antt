@@ -1,5 +1,4 @@
-use Rattle.std.proofs.Common.{◌≤◌, arith, subst}
-use Rattle.wasm_base.specs.Encodings.{longest}
+use Rattle.wasm_base.proofs.Words.{◌≤◌, arith, subst, longest}
 use Rattle.wasm_sections.proofs.NumberLaws.{number_unique}
 use Rattle.wasm_sections.proofs.start.encode_number.Goals as goal
 

@@ -1,5 +1,6 @@
-use Rattle.std.proofs.Common.{◌≡◌, ℕ, List, ◌++◌, All, length}
-use Rattle.wasm_tool.specs.Listings.{IsBlank}
+use Rattle.wasm_base.proofs.Words.{◌≡◌, ℕ, List, ◌++◌, length}
+use Rattle.std.proofs.Common.{All}
+use Rattle.wasm_tool.specs.{IsBlank}
 use Rattle.wasm_tool.proofs.listing.without_end.Given as goal
 
 -- Only blanks are cut from the end of the text.

@@ -1,5 +1,5 @@
-use Rattle.std.proofs.Common.{string_bytes}
-use Rattle.wasm_tool.specs.Listings.{Lists}
+use Rattle.wasm_base.proofs.Words.{string_bytes}
+use Rattle.wasm_tool.specs.{Lists}
 use Rattle.wasm_tool.proofs.Answered.{not_none}
 use Rattle.wasm_tool.proofs.program.run.Goals as goal
 

@@ -1,7 +1,7 @@
-use Rattle.std.proofs.Common.{◌∙◌}
+use Rattle.wasm_base.proofs.Words.{◌∙◌}
+use Rattle.wasm_code.proofs.Words.{drained_vec}
+use Rattle.wasm_sections.proofs.Words.{adds_these}
 use Rattle.wasm_base.proofs.KnownLengths as lengths
-use Rattle.wasm_code.proofs.Drained.{drained_vec}
-use Rattle.wasm_sections.proofs.DataLaws.{adds_these}
 use Rattle.wasm_tool.proofs.recipe.add_data.Goals as goal
 
 pub active-requires : goal.active-requires

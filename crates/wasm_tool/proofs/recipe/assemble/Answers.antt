@@ -1,9 +1,6 @@
-use Rattle.std.proofs.Common.{◌≡◌, ◌∙◌}
+use Rattle.wasm_base.proofs.Words.{◌≡◌, ◌∙◌, wasm_module, DecodesWhole}
 use Rattle.std.specs.Prelude.{All}
-use Rattle.wasm_base.specs.Formats.{wasm_module}
-use Rattle.wasm_base.specs.Decoding.{DecodesWhole}
-use Rattle.wasm_tool.specs.Lines.{lines_of}
-use Rattle.wasm_tool.specs.Recipe.{IsGood, IsEncodableRecipe, entries_of, recipe_module, sections_of}
+use Rattle.wasm_tool.specs.{lines_of, IsGood, IsEncodableRecipe, entries_of, recipe_module, sections_of}
 use Rattle.wasm_tool.proofs.RecipeLemmas.{module_decodes, module_encoding-contains, on_module, recipe_encodable}
 use Rattle.wasm_tool.proofs.recipe.assemble.Goals as goal
 

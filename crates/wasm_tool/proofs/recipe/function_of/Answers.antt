@@ -1,7 +1,5 @@
-use Rattle.std.proofs.Common.{◌++◌, length, ap, ap₂, ◌∙◌}
-use Rattle.wasm_base.proofs.KnownLengths.{drained_array}
-use Rattle.wasm_code.proofs.Drained.{drained_vec}
-use Rattle.wasm_code.proofs.BodyLaws.{no_locals}
+use Rattle.wasm_base.proofs.Words.{◌++◌, length, ap, ap₂, ◌∙◌, drained_array}
+use Rattle.wasm_code.proofs.Words.{drained_vec, no_locals}
 use Rattle.wasm_tool.proofs.recipe.function_of.Goals as goal
 
 pub new-requires : goal.new-requires

@@ -1,5 +1,4 @@
-use Rattle.std.proofs.Common.{Ok, Err, refl, subst}
-use Rattle.std.specs.Str.Parse.{ParsesUnsigned}
+use Rattle.wasm_base.proofs.Words.{Ok, Err, refl, subst, ParsesUnsigned}
 use Rattle.wasm_tool.proofs.NumberLemmas.{decimal_of-parse}
 use Rattle.wasm_tool.proofs.recipe.number.Goals as goal
 

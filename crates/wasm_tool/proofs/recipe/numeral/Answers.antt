@@ -1,5 +1,4 @@
-use Rattle.std.proofs.Common.{lit<, refl}
-use Rattle.std.proofs.lemmas.Str.Pattern.{starts_char}
+use Rattle.wasm_base.proofs.Words.{lit<, refl, starts_char}
 use Rattle.wasm_tool.proofs.recipe.numeral.Goals as goal
 
 pub returns-then-starts_with : goal.returns-then-starts_with

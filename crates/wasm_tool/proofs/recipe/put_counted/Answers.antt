@@ -1,4 +1,4 @@
-use Rattle.std.proofs.Common.{◌≢◌, length, arith}
+use Rattle.wasm_base.proofs.Words.{◌≢◌, length, arith}
 use Rattle.wasm_tool.proofs.SectionLemmas.{puts_none, puts_some}
 use Rattle.wasm_tool.proofs.recipe.put_counted.Goals as goal
 

@@ -1,8 +1,7 @@
-use Rattle.std.proofs.Common.{Ok, Err, refl, subst, arith}
+use Rattle.wasm_base.proofs.Words.{Ok, Err, refl, subst, arith, ParsesSigned}
 use Rattle.std.proofs.lemmas.Int.{to_z-of_z}
-use Rattle.std.specs.Str.Parse.{ParsesSigned}
-use mir.Syntax.{w32}
 use Rattle.wasm_tool.proofs.NumberLemmas.{signed_of-parse}
+use mir.Syntax.{w32}
 use Rattle.wasm_tool.proofs.recipe.signed.Goals as goal
 
 pub returns-in_default : goal.returns-in_default

@@ -1,6 +1,4 @@
-use Rattle.std.proofs.Common.{arith, sym, vec_len, ◌∙◌}
-use Rattle.std.proofs.lemmas.Bool.{eqb-true}
-use Rattle.wasm_reader_base.proofs.Faults.{fault_stays}
+use Rattle.wasm_base.proofs.Words.{arith, sym, vec_len, ◌∙◌, eqb-true, fault_stays}
 use Rattle.wasm_types.proofs.DecodeItems.{open_none, final_none, final_without, alone_none}
 use Rattle.wasm_types.proofs.items.read_sub_after.Goals as goal
 

@@ -1,4 +1,4 @@
-use Rattle.wasm_reader_base.proofs.Faults.{fault_stays}
+use Rattle.wasm_base.proofs.Words.{fault_stays}
 use Rattle.wasm_types.proofs.DecodeShapes.{shared_none, shared_none_after, unshared_none, shared_decodes, unshared_decodes}
 use Rattle.wasm_types.proofs.shapes.read_composite_after.Goals as goal
 

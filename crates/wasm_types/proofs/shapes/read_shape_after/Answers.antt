@@ -1,4 +1,4 @@
-use Rattle.wasm_reader_base.proofs.Faults.{fault_stays}
+use Rattle.wasm_base.proofs.Words.{fault_stays}
 use Rattle.wasm_types.proofs.DecodeShapes.{func_none, array_none, structure_none, cont_none}
 use Rattle.wasm_types.proofs.shapes.read_shape_after.Goals as goal
 

@@ -1,4 +1,4 @@
-use Rattle.std.proofs.Common.{◌≡◌}
+use Rattle.wasm_base.proofs.Words.{◌≡◌}
 use Rattle.wasm_types.proofs.types.collected.Given as goal
 
 abbrev pub invariant-loop-ty : goal.invariant-loop-ty

@@ -1,6 +1,11 @@
 -- This file proves `allocate`: a refused request returns an error, and any other one the result of
 -- the inner allocator. It assumes `Logic`.
 use Rattle.std.proofs.Common.{◌≡◌, ℕ, ◌^◌, ◌<◌, true, false, List, [], ◌∷◌, Ok, Err, refl, w64, Bor}
+use Rattle.std.proofs.alloc.Calls.{Al, seen, token, got, Answer, answer_val, Answer-typed, Answer-Ok, Answer-err, takes_key, Takes, at_takes, Answered, Takes-goes, Takes-gives, answers}
+use Rattle.std.proofs.alloc.Shapes.{after}
+use Rattle.test_support.proofs.Parts.{Whole, inner_at, gate_at, gate_seen, parts}
+use Rattle.test_support.proofs.Verdict.{Verdict, asked, asks, tells}
+use Rattle.test_support.proofs.memory.RefusingAllocator.allocate.Statement.{statement}
 use seplogic.Ra.Ura.{Ura}
 use mathlib.Core.Bool.{Bool}
 use mir.MapTy.{inst_fn}
@@ -35,14 +40,9 @@ use denote.Triple.Spec.{triple_of}
 use denote.Triple.Statement.{Triple}
 use denote.Triple.Table.{entered, cited}
 use denote.Triple.Walked.{Stays, stay_dropped, walk_of, ends_at, walked, Goes-dropped, walk_Meets}
-use Rattle.std.proofs.alloc.Calls.{Al, seen, token, got, Answer, answer_val, Answer-typed, Answer-Ok, Answer-err, takes_key, Takes, at_takes, Answered, Takes-goes, Takes-gives, answers}
-use Rattle.std.proofs.alloc.Shapes.{after}
-use Rattle.test_support.proofs.Parts.{Whole, inner_at, gate_at, gate_seen, parts}
-use Rattle.test_support.proofs.Verdict.{Verdict, asked, asks, tells}
 use Rattle.test_support.proofs.memory.Gate.refuses.Met as refuses_met
 use Rattle.test_support.proofs.memory.Gate.refuses.Symbol as refuses
 use Rattle.test_support.proofs.memory.RefusingAllocator.allocate.Code as code
-use Rattle.test_support.proofs.memory.RefusingAllocator.allocate.Statement.{statement}
 use Rattle.test_support.specs.contracts.memory.RefusingAllocator.allocate as f
 
 module _ (B : Al) where

@@ -1,6 +1,9 @@
 -- This file proves `deallocate`: the block returns to the inner allocator, and nothing is counted.
 -- It assumes `Logic`.
 use Rattle.std.proofs.Common.{◌≡◌, ℕ, ◌^◌, ◌<◌, List, [], ◌∷◌, refl, w64, Bor}
+use Rattle.std.proofs.alloc.Calls.{Al, seen, token, gives_key, Gives, at_gives, Gives-goes, Gives-Gives}
+use Rattle.test_support.proofs.Parts.{Whole, inner_at, gate_at, gate_seen, parts}
+use Rattle.test_support.proofs.memory.RefusingAllocator.deallocate.Statement.{statement}
 use seplogic.Ra.Ura.{Ura}
 use mir.MapTy.{inst_fn}
 use mir.Syntax.{Ty, Args, Fn, a_type, dnil, dcons}
@@ -33,10 +36,7 @@ use denote.Triple.Spec.{triple_of}
 use denote.Triple.Statement.{Triple}
 use denote.Triple.Table.{entered}
 use denote.Triple.Walked.{Stays, stay_dropped, walk_of, ends_at, walked, Goes-dropped, walk_Meets}
-use Rattle.std.proofs.alloc.Calls.{Al, seen, token, gives_key, Gives, at_gives, Gives-goes, Gives-Gives}
-use Rattle.test_support.proofs.Parts.{Whole, inner_at, gate_at, gate_seen, parts}
 use Rattle.test_support.proofs.memory.RefusingAllocator.deallocate.Code as code
-use Rattle.test_support.proofs.memory.RefusingAllocator.deallocate.Statement.{statement}
 use Rattle.test_support.specs.contracts.memory.RefusingAllocator.deallocate as f
 
 module _ (B : Al) where

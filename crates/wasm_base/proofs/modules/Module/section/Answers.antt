@@ -1,5 +1,5 @@
-use Rattle.std.proofs.Common.{subst}
-use Rattle.wasm_base.specs.Calls.{DecodesOneMore}
+use Rattle.wasm_base.proofs.Std.{subst}
+use Rattle.wasm_base.specs.{DecodesOneMore}
 use Rattle.wasm_base.proofs.ModuleLaws.{one_more_section}
 use Rattle.wasm_base.proofs.Outcomes.{on_ok_both}
 use Rattle.wasm_base.proofs.modules.Module.section.Goals as goal

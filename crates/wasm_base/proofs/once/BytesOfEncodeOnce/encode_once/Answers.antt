@@ -1,8 +1,5 @@
-use Rattle.std.proofs.Common.{◌≡◌, ◌≤◌, ◌++◌, ◌∙◌, length, false, ap, refl, sym, subst, append_assoc, lit<, arith, rules}
-use Rattle.std.proofs.lemmas.Grind.{common_steps}
-use Rattle.std.specs.Iterator.{Drains}
-use Rattle.wasm_base.specs.Numbers.{unsigned_encoding}
-use Rattle.wasm_base.specs.Encodings.{size_prefixed_encoding}
+use Rattle.wasm_base.proofs.Std.{◌≡◌, ◌≤◌, ◌++◌, ◌∙◌, length, false, ap, refl, sym, subst, append_assoc, lit<, arith, rules, common_steps, Drains}
+use Rattle.wasm_base.specs.{unsigned_encoding, size_prefixed_encoding}
 use Rattle.wasm_base.proofs.NumberEncodings.{length-groups_encoding-le}
 use Rattle.wasm_base.proofs.Yielded.{Drains-append}
 use Rattle.wasm_base.proofs.once.BytesOfEncodeOnce.encode_once.Goals as goal

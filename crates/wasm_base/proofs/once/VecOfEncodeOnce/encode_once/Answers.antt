@@ -1,6 +1,4 @@
-use Rattle.std.proofs.Common.{arith, rules, subst}
-use Rattle.std.specs.Iterator.{Yields}
-use Rattle.std.proofs.lemmas.Grind.{common_steps}
+use Rattle.wasm_base.proofs.Std.{arith, rules, subst, Yields, common_steps}
 use Rattle.wasm_base.proofs.Yielded.{Yields-push, All-last}
 use Rattle.wasm_base.proofs.once.VecOfEncodeOnce.encode_once.Goals as goal
 

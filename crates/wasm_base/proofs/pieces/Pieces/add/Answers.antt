@@ -1,4 +1,4 @@
-use Rattle.std.proofs.Common.{◌≡◌, ◌+◌, ◌++◌, ◌∷◌, [], length, ap, arith, rules, length-append}
+use Rattle.wasm_base.proofs.Std.{◌≡◌, ◌+◌, ◌++◌, ◌∷◌, [], length, ap, arith, rules, length-append}
 use Rattle.wasm_base.proofs.Cut.{cut_push, IsCut_push, length_cut}
 use Rattle.wasm_base.proofs.pieces.Pieces.add.Goals as goal
 

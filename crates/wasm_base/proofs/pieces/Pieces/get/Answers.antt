@@ -1,6 +1,4 @@
-use Rattle.std.proofs.Common.{◌≡◌, ◌≤◌, ◌∷◌, length, sym, ap, arith, rules, get_or}
-use Rattle.std.proofs.lemmas.Option.{slice_get_past}
-use Rattle.std.proofs.lemmas.List.{get_or_read}
+use Rattle.wasm_base.proofs.Std.{◌≡◌, ◌≤◌, ◌∷◌, length, sym, ap, arith, rules, get_or, slice_get_past, get_or_read}
 use Rattle.wasm_base.proofs.Cut.{piece_of, length_cut}
 use Rattle.wasm_base.proofs.pieces.Pieces.get.Goals as goal
 

@@ -1,5 +1,4 @@
-use Rattle.std.proofs.Common.{arith, rules, length-append, ap, length}
-use Rattle.std.proofs.lemmas.Grind.{common_steps}
+use Rattle.wasm_base.proofs.Std.{arith, rules, length-append, ap, length, common_steps}
 use Rattle.wasm_base.proofs.Members.{flat_map-take_more, length-flat_map-take, All-at, All-take_more}
 use Rattle.wasm_base.proofs.vectors.RefSliceEncode.encode.Goals as goal
 

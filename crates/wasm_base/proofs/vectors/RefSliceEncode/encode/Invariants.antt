@@ -1,6 +1,5 @@
-use Rattle.std.proofs.Common.{◌≡◌, ◌≤◌, ◌++◌, length, take, vec_len, vec_capacity}
-use Rattle.std.specs.List.{All, flat_map}
-use Rattle.wasm_base.specs.Numbers.{unsigned_encoding}
+use Rattle.wasm_base.proofs.Std.{◌≡◌, ◌≤◌, ◌++◌, length, take, vec_len, vec_capacity, All, flat_map}
+use Rattle.wasm_base.specs.{unsigned_encoding}
 use Rattle.wasm_base.proofs.vectors.RefSliceEncode.encode.Given as goal
 
 abbrev pub invariant-loop-item : goal.invariant-loop-item

@@ -1,6 +1,4 @@
-use Rattle.std.proofs.Common.{◌≡◌, ◌≤◌, ◌+◌, ◌^◌, length, take, Some, arith, rules}
-use Rattle.std.specs.List.{slice_get}
-use Rattle.wasm_base.specs.Pieces.{joined}
+use Rattle.wasm_base.proofs.Words.{◌≡◌, ◌≤◌, ◌+◌, ◌^◌, length, take, Some, arith, rules, slice_get, joined}
 use Rattle.wasm_bench.proofs.PieceLengths.{joined_take_more, joined_take_le}
 use Rattle.wasm_bench.proofs.answers.TypeSectionEntries.entries_len.Goals as goal
 

@@ -1,5 +1,4 @@
-use Rattle.std.proofs.Common.{◌≡◌, length, take}
-use Rattle.wasm_base.specs.Pieces.{joined}
+use Rattle.wasm_base.proofs.Words.{◌≡◌, length, take, joined}
 use Rattle.wasm_bench.proofs.answers.TypeSectionEntries.entries_len.Given as goal
 
 abbrev pub invariant-loop-index : goal.invariant-loop-index

@@ -1,6 +1,4 @@
-use Rattle.std.proofs.Common.{subst}
-use Rattle.wasm_base.specs.Pieces.{IsEncodableSection}
-use Rattle.wasm_base.proofs.Outcomes.{on_ok}
+use Rattle.wasm_base.proofs.Words.{subst, IsEncodableSection, on_ok}
 use Rattle.wasm_code.proofs.CodeLaws.{code_decodes}
 use Rattle.wasm_code.proofs.code_section.CodeSectionEncode.encode.Goals as goal
 

@@ -1,5 +1,5 @@
-use Rattle.std.proofs.Common.{◌++◌, ap, ◌∙◌, append-nil}
-use Rattle.wasm_code.specs.Expressions.{first_encoding}
+use Rattle.wasm_base.proofs.Words.{◌++◌, ap, ◌∙◌, append-nil}
+use Rattle.wasm_code.specs.{first_encoding}
 use Rattle.wasm_code.proofs.ExpressionLaws.{stores_first}
 use Rattle.wasm_code.proofs.const_expr.ConstExpr.of.Goals as goal
 

@@ -1,6 +1,6 @@
-use Rattle.std.proofs.Common.{◌≡◌, ◌++◌, refl, rules}
+use Rattle.wasm_base.proofs.Words.{◌≡◌, ◌++◌, refl, rules}
 use Rattle.std.specs.declared.alloc.Global.{Global}
-use Rattle.wasm_insn.specs.Instructions.{instruction_encoding}
+use Rattle.wasm_insn.proofs.Words.{instruction_encoding}
 use Rattle.wasm_insn.specs.declared.instruction.Instruction.TheVariants.{I64Const}
 use Rattle.wasm_code.proofs.ExpressionLaws.{stores_more}
 use Rattle.wasm_code.proofs.const_expr.ConstExpr.with_i64_const.Goals as goal

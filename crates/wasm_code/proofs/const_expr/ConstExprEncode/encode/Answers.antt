@@ -1,6 +1,5 @@
-use Rattle.std.proofs.Common.{◌≡◌, ◌++◌, ◌∷◌, [], ap, sym, ◌∙◌, append_assoc, rules}
-use Rattle.wasm_base.specs.Encodings.{optional_encoding}
-use Rattle.wasm_code.specs.Expressions.{first_encoding}
+use Rattle.wasm_base.proofs.Words.{◌≡◌, ◌++◌, ◌∷◌, [], ap, sym, ◌∙◌, append_assoc, rules, optional_encoding}
+use Rattle.wasm_code.specs.{first_encoding}
 use Rattle.wasm_code.proofs.ExpressionLaws.{appends_whole, encodable_always}
 use Rattle.wasm_code.proofs.const_expr.ConstExprEncode.encode.Goals as goal
 

@@ -1,5 +1,4 @@
-use Rattle.std.proofs.Common.{◌≡◌, length, vec_len, rules, ◌∙◌}
-use Rattle.wasm_base.proofs.KnownLengths.{drained_vec as drained_length}
+use Rattle.wasm_base.proofs.Words.{◌≡◌, length, vec_len, rules, ◌∙◌, drained_vec as drained_length}
 use Rattle.wasm_code.proofs.Drained.{drained_vec}
 use Rattle.wasm_code.proofs.RunLaws.{types_given}
 use Rattle.wasm_code.proofs.function.Function.new_with_locals_types.Goals as goal

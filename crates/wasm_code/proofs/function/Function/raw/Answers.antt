@@ -1,5 +1,4 @@
-use Rattle.std.proofs.Common.{◌++◌, ap, ◌∙◌}
-use Rattle.wasm_base.proofs.Outcomes.{on_ok}
+use Rattle.wasm_base.proofs.Words.{◌++◌, ap, ◌∙◌, on_ok}
 use Rattle.wasm_code.proofs.BodyLaws.{grows_by}
 use Rattle.wasm_code.proofs.function.Function.raw.Goals as goal
 

@@ -1,6 +1,4 @@
-use Rattle.std.proofs.Common.{subst, ◌∙◌}
-use Rattle.wasm_base.specs.Encodings.{HasEncodableSize}
-use Rattle.wasm_base.proofs.Outcomes.{on_ok}
+use Rattle.wasm_base.proofs.Words.{subst, ◌∙◌, HasEncodableSize, on_ok}
 use Rattle.wasm_code.proofs.BodyLaws.{body_decodes}
 use Rattle.wasm_code.proofs.function.FunctionEncode.encode.Goals as goal
 

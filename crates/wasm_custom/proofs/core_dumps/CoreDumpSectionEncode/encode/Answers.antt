@@ -1,5 +1,5 @@
-use Rattle.std.proofs.Common.{refl, ◌∙◌}
-use Rattle.wasm_custom.specs.CoreDumps.{core_name}
+use Rattle.wasm_base.proofs.Words.{refl, ◌∙◌}
+use Rattle.wasm_custom.specs.{core_name}
 use Rattle.wasm_custom.proofs.CoreDumpLaws.{process_back}
 use Rattle.wasm_custom.proofs.CustomLaws.{encodable_of}
 use Rattle.wasm_custom.proofs.core_dumps.CoreDumpSectionEncode.encode.Goals as goal

@@ -1,4 +1,4 @@
-use Rattle.wasm_reader_base.proofs.Faults.{fault_stays}
+use Rattle.wasm_base.proofs.Words.{fault_stays}
 use Rattle.wasm_custom.proofs.CoreDumpLaws.{instance_none, instance_decodes}
 use Rattle.wasm_custom.proofs.core_dumps.InstanceItemsDecodesItemsTuple3U32VecU32VecU32.read_item.Goals as goal
 

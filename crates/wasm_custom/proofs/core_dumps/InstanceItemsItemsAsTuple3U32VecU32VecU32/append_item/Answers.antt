@@ -1,4 +1,4 @@
-use Rattle.wasm_reader_base.proofs.MinimalEncodings.{front_then, front_encoded}
+use Rattle.wasm_base.proofs.Words.{front_then, front_encoded}
 use Rattle.wasm_custom.proofs.core_dumps.InstanceItemsItemsAsTuple3U32VecU32VecU32.append_item.Goals as goal
 
 pub returns-in_err-write_minimal-2-clause-front : goal.returns-in_err-write_minimal-2-clause-front

@@ -1,4 +1,4 @@
-use Rattle.wasm_reader_base.proofs.Faults.{fault_stays}
+use Rattle.wasm_base.proofs.Words.{fault_stays}
 use Rattle.wasm_custom.proofs.CoreStackLaws.{frame_decodes, frame_no_location, frame_no_locals, frame_no_stack}
 use Rattle.wasm_custom.proofs.core_stack.CoreFrameReadable.read.Goals as goal
 

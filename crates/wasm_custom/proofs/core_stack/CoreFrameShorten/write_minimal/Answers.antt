@@ -1,4 +1,4 @@
-use Rattle.wasm_reader_base.proofs.MinimalEncodings.{front_then, front_encoded}
+use Rattle.wasm_base.proofs.Words.{front_then, front_encoded}
 use Rattle.wasm_custom.proofs.core_stack.CoreFrameShorten.write_minimal.Goals as goal
 
 pub returns-clause-front : goal.returns-clause-front

@@ -1,10 +1,8 @@
-use Rattle.std.proofs.Common.{rules, w32, w64, sym, subst, to_z-of_z}
-use Rattle.wasm_base.specs.Numbers.{padded}
-use Rattle.wasm_base.specs.Decoding.{Decodes}
-use Rattle.wasm_custom.specs.CoreValues.{value}
-use Rattle.wasm_custom.specs.declared.core_values.CoreDumpValue.TheVariants as values
+use Rattle.wasm_base.proofs.Words.{rules, sym, subst, to_z-of_z, padded, Decodes, fault_stays}
+use Rattle.std.proofs.Common.{w32, w64}
+use Rattle.wasm_custom.specs.{value}
 use Rattle.wasm_custom.proofs.CoreStackLaws.{i32_decodes, i64_decodes, value_none, i32_none, i64_none, f32_decodes, f32_none, f64_decodes, f64_none}
-use Rattle.wasm_reader_base.proofs.Faults.{fault_stays}
+use Rattle.wasm_custom.specs.declared.core_values.CoreDumpValue.TheVariants as values
 use Rattle.wasm_custom.proofs.core_values.CoreDumpValueReadable.read.Goals as goal
 
 pub returns-in_ok-value-in-127-clause-found : goal.returns-in_ok-value-in-127-clause-found

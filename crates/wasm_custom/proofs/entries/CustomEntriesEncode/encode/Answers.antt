@@ -1,6 +1,4 @@
-use Rattle.std.proofs.Common.{◌≤◌, length, subst}
-use Rattle.wasm_base.specs.Encodings.{longest}
-use Rattle.wasm_base.proofs.Outcomes.{on_ok}
+use Rattle.wasm_base.proofs.Words.{◌≤◌, length, subst, longest, on_ok}
 use Rattle.wasm_custom.proofs.EntriesLaws.{entries_back, same_encodable}
 use Rattle.wasm_custom.proofs.entries.CustomEntriesEncode.encode.Goals as goal
 

@@ -1,4 +1,4 @@
-use Rattle.wasm_reader_base.proofs.Faults.{fault_stays}
+use Rattle.wasm_base.proofs.Words.{fault_stays}
 use Rattle.wasm_custom.proofs.HintLaws.{hint_none, hint_rejects, hint_decodes}
 use Rattle.wasm_custom.proofs.hints.BranchHintReadable.read.Goals as goal
 

@@ -1,5 +1,4 @@
-use Rattle.std.proofs.Common.{◌<◌}
-use Rattle.wasm_base.proofs.FormatLaws.{byte_unambiguous, such_unambiguous}
+use Rattle.wasm_base.proofs.Words.{◌<◌, byte_unambiguous, such_unambiguous}
 use Rattle.wasm_custom.proofs.hints.HintValueLayout.laws.Goals as goal
 
 pub returns : goal.returns

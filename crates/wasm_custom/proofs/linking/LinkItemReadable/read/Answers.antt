@@ -1,4 +1,4 @@
-use Rattle.wasm_reader_base.proofs.Faults.{fault_stays}
+use Rattle.wasm_base.proofs.Words.{fault_stays}
 use Rattle.wasm_custom.proofs.LinkLaws.{link_none, symbols_read, symbols_not_size_prefixed, symbols_rejects}
 use Rattle.wasm_custom.proofs.linking.LinkItemReadable.read.Goals as goal
 

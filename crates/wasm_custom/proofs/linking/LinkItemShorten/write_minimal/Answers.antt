@@ -1,7 +1,5 @@
-use Rattle.std.proofs.Common.{rules, map, subst}
-use Rattle.wasm_reader_base.specs.Minimal.{HasEncoding}
-use Rattle.wasm_custom.specs.Linking.{link, link_view}
-use Rattle.wasm_custom.specs.Symbols.{symbol_view}
+use Rattle.wasm_base.proofs.Words.{rules, map, subst, HasEncoding}
+use Rattle.wasm_custom.specs.{link, link_view, symbol_view}
 use Rattle.wasm_custom.proofs.LinkLaws.{symbols_encodable}
 use Rattle.wasm_custom.proofs.linking.LinkItemShorten.write_minimal.Goals as goal
 

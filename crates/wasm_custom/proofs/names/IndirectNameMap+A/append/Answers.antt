@@ -1,4 +1,4 @@
-use Rattle.std.proofs.Common.{arith}
+use Rattle.wasm_base.proofs.Words.{arith}
 use Rattle.wasm_custom.proofs.ListLaws.{names_inside}
 use Rattle.wasm_custom.proofs.names.IndirectNameMap+A.append.Goals as goal
 

@@ -1,7 +1,5 @@
-use Rattle.std.proofs.Common.{sym, subst, map}
-use Rattle.wasm_base.proofs.Outcomes.{on_ok}
-use Rattle.wasm_reader_base.specs.Minimal.{AppendsMinimal, HasEncoding}
-use Rattle.wasm_custom.specs.Names.{inside, id_of, held_by, names_view, inside_view, name_item_view}
+use Rattle.wasm_base.proofs.Words.{sym, subst, map, on_ok, AppendsMinimal, HasEncoding}
+use Rattle.wasm_custom.specs.{inside, id_of, held_by, names_view, inside_view, name_item_view}
 use Rattle.wasm_custom.proofs.NameLaws.{map_appended, indirect_appended, map_encoded, indirect_encoded}
 use Rattle.wasm_custom.proofs.names.NameItem.append_content.Goals as goal
 

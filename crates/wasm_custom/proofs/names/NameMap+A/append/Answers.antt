@@ -1,4 +1,4 @@
-use Rattle.std.proofs.Common.{refl, arith}
+use Rattle.wasm_base.proofs.Words.{refl, arith}
 use Rattle.wasm_custom.proofs.names.NameMap+A.append.Goals as goal
 
 pub add_record-requires : goal.add_record-requires

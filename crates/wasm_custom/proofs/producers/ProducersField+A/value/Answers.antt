@@ -1,4 +1,4 @@
-use Rattle.std.proofs.Common.{refl}
+use Rattle.wasm_base.proofs.Words.{refl}
 use Rattle.wasm_custom.proofs.producers.ProducersField+A.value.Goals as goal
 
 pub add_record-requires : goal.add_record-requires

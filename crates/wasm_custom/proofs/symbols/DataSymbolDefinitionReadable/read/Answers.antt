@@ -1,4 +1,4 @@
-use Rattle.wasm_reader_base.proofs.Faults.{fault_stays}
+use Rattle.wasm_base.proofs.Words.{fault_stays}
 use Rattle.wasm_custom.proofs.SymbolLaws.{definition_none, definition_decodes}
 use Rattle.wasm_custom.proofs.symbols.DataSymbolDefinitionReadable.read.Goals as goal
 

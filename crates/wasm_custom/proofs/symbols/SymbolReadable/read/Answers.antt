@@ -1,4 +1,4 @@
-use Rattle.wasm_reader_base.proofs.Faults.{fault_stays}
+use Rattle.wasm_base.proofs.Words.{fault_stays}
 use Rattle.wasm_custom.proofs.SymbolLaws.{symbol_none, function_decodes, function_none, of_data_decodes, of_data_none, global_decodes, global_none}
 use Rattle.wasm_custom.proofs.symbols.SymbolReadable.read.Goals as goal
 

@@ -1,7 +1,5 @@
-use Rattle.std.proofs.Common.{◌∷◌, ◌++◌, ap, arith}
-use Rattle.wasm_base.specs.Numbers.{unsigned_encoding}
-use Rattle.wasm_custom.specs.Lists.{given_name}
-use Rattle.wasm_custom.specs.Symbols.{kind_code, indexed}
+use Rattle.wasm_base.proofs.Words.{◌∷◌, ◌++◌, ap, arith, unsigned_encoding}
+use Rattle.wasm_custom.specs.{given_name, kind_code, indexed}
 use Rattle.wasm_custom.proofs.ListLaws.{named_encoding_of, name_encodable}
 use Rattle.wasm_custom.proofs.symbols.SymbolTable+A.indexed.Goals as goal
 

@@ -1,4 +1,4 @@
-use Rattle.std.proofs.Common.{◌∙◌}
+use Rattle.wasm_base.proofs.Words.{◌∙◌}
 use Rattle.wasm_reader.proofs.KeptOffsets.{found_more, or_left, or_right, such_of, moved_of}
 use Rattle.wasm_reader.proofs.whole.Found.and.Goals as goal
 

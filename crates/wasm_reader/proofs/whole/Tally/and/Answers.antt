@@ -1,5 +1,5 @@
-use Rattle.std.proofs.Common.{◌+◌, refl, sym, ap, ◌∙◌}
-use Rattle.wasm_reader.specs.Shortening.{keeps}
+use Rattle.wasm_base.proofs.Words.{◌+◌, refl, sym, ap, ◌∙◌}
+use Rattle.wasm_reader.specs.{keeps}
 use Rattle.wasm_reader.specs.declared.whole.Target.TheVariants.{CodeAndData, Relocated, Module}
 use Rattle.wasm_reader.proofs.KeptOffsets.{tally_more}
 use Rattle.wasm_reader.proofs.whole.Tally.and.Goals as goal

@@ -1,4 +1,4 @@
-use Rattle.wasm_reader_base.proofs.Faults.{fault_stays}
+use Rattle.wasm_base.proofs.Words.{fault_stays}
 use Rattle.wasm_sections.proofs.DataLaws.{bytes_none, bytes_read}
 use Rattle.wasm_sections.proofs.data.BytesReadable.read.Goals as goal
 

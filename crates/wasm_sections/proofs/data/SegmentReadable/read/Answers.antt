@@ -1,5 +1,5 @@
-use Rattle.wasm_reader_base.proofs.Faults.{fault_stays}
-use Rattle.wasm_sections.specs.Constants.{instructions_view}
+use Rattle.wasm_base.proofs.Words.{fault_stays}
+use Rattle.wasm_sections.specs.{instructions_view}
 use Rattle.wasm_sections.proofs.DataLaws.{segment_none, first_none, passive_none, passive_decodes, other_no_memory, other_none, other_decodes, first_decodes}
 use Rattle.wasm_sections.proofs.data.SegmentReadable.read.Goals as goal
 

@@ -1,4 +1,4 @@
-use Rattle.wasm_reader_base.proofs.Faults.{fault_stays}
+use Rattle.wasm_base.proofs.Words.{fault_stays}
 use Rattle.wasm_sections.proofs.DataLaws.{segment_none, first_none, first_decodes, passive_none, passive_decodes, other_no_memory, other_none, other_decodes}
 use Rattle.wasm_sections.proofs.data.SegmentSkip.skip.Goals as goal
 

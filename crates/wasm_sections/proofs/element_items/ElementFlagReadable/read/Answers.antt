@@ -1,4 +1,4 @@
-use Rattle.wasm_reader_base.proofs.Faults.{fault_stays}
+use Rattle.wasm_base.proofs.Words.{fault_stays}
 use Rattle.wasm_sections.proofs.ElementLaws.{flag_none, flag_unknown}
 use Rattle.wasm_sections.proofs.element_items.ElementFlagReadable.read.Goals as goal
 

@@ -1,10 +1,7 @@
-use Rattle.std.proofs.Common.{◌++◌, ap, subst, sym, ◌∙◌}
-use Rattle.wasm_base.specs.Numbers.{unsigned_encoding}
-use Rattle.wasm_base.proofs.Outcomes.{on_ok}
-use Rattle.wasm_reader_base.specs.Minimal.{AppendsMinimal, HasEncoding}
-use Rattle.wasm_sections.specs.Elements.{are_expressions, elements_as, flag_code, has_kind, element_view}
-use Rattle.wasm_sections.proofs.element_items.ElementItemShorten.write_minimal.Goals as goal
+use Rattle.wasm_base.proofs.Words.{◌++◌, ap, subst, sym, ◌∙◌, unsigned_encoding, on_ok, AppendsMinimal, HasEncoding}
+use Rattle.wasm_sections.specs.{are_expressions, elements_as, flag_code, has_kind, element_view}
 use Rattle.wasm_sections.proofs.ElementLaws.{element_appended, elements_encoded}
+use Rattle.wasm_sections.proofs.element_items.ElementItemShorten.write_minimal.Goals as goal
 
 pub returns-clause-ok : goal.returns-clause-ok
 returns-clause-ok g c =

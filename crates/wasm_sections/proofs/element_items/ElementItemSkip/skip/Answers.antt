@@ -1,8 +1,5 @@
-use Rattle.wasm_reader_base.proofs.Faults.{fault_stays}
-use Rattle.std.proofs.Common.{subst}
-use Rattle.wasm_base.specs.Numbers.{padded}
-use Rattle.wasm_base.specs.Decoding.{Rejects}
-use Rattle.wasm_sections.specs.Elements.{elements_as, element_flag_view}
+use Rattle.wasm_base.proofs.Words.{fault_stays, subst, padded, Rejects}
+use Rattle.wasm_sections.specs.{elements_as, element_flag_view}
 use Rattle.wasm_sections.proofs.ElementLaws.{element_none, element_no_segment_mode, element_no_list, element_decodes}
 use Rattle.wasm_sections.proofs.element_items.ElementItemSkip.skip.Goals as goal
 

@@ -1,6 +1,6 @@
-use Rattle.wasm_reader_base.proofs.Faults.{fault_stays}
-use Rattle.wasm_sections.proofs.export.ExportReadable.read.Goals as goal
+use Rattle.wasm_base.proofs.Words.{fault_stays}
 use Rattle.wasm_sections.proofs.ExportLaws.{export_none, export_decodes}
+use Rattle.wasm_sections.proofs.export.ExportReadable.read.Goals as goal
 
 pub returns-in_err-name-clause-none : goal.returns-in_err-name-clause-none
 returns-in_err-name-clause-none g c = fault_stays c.from_residual.result _ c.from_residual.ensures.1 λ n. export_none c.args.bytes.now (c.in_err-name.ensures.none n)

@@ -1,5 +1,4 @@
-use Rattle.std.proofs.Common.{rules, arith}
-use Rattle.std.proofs.lemmas.Grind.{common_steps}
+use Rattle.wasm_base.proofs.Words.{rules, arith, common_steps}
 use Rattle.wasm_sections.proofs.FunctionLaws.{two_bytes}
 use Rattle.wasm_sections.proofs.function.TypeIndexEncode.encode.Goals as goal
 

@@ -1,4 +1,4 @@
-use Rattle.wasm_reader_base.proofs.Faults.{fault_stays}
+use Rattle.wasm_base.proofs.Words.{fault_stays}
 use Rattle.wasm_sections.proofs.GlobalLaws.{flags_none, flags_unknown}
 use Rattle.wasm_sections.proofs.global.GlobalFlagsReadable.read.Goals as goal
 

@@ -1,7 +1,5 @@
-use Rattle.std.proofs.Common.{◌∷◌, ◌++◌, ap, subst, sym}
-use Rattle.wasm_base.specs.Calls.{Appends}
-use Rattle.wasm_base.specs.Encodings.{size_prefixed_encoding, HasEncodableSize}
-use Rattle.wasm_sections.specs.Imports.{entity_encoding, import_encoding, IsEncodableImport, named_encoding, compact_item, imports_item}
+use Rattle.wasm_base.proofs.Words.{◌∷◌, ◌++◌, ap, subst, sym, Appends, size_prefixed_encoding, HasEncodableSize}
+use Rattle.wasm_sections.specs.{entity_encoding, import_encoding, IsEncodableImport, named_encoding, compact_item, imports_item}
 use Rattle.wasm_sections.proofs.ViewedLists.{viewed_encoding, viewed_encodable, encodable_viewed, appends_same}
 use Rattle.wasm_sections.proofs.import.ImportsEncode.encode.Goals as goal
 

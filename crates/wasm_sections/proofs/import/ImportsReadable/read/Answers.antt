@@ -1,5 +1,4 @@
-use Rattle.std.proofs.Common.{rules}
-use Rattle.wasm_reader_base.proofs.Faults.{fault_stays}
+use Rattle.wasm_base.proofs.Words.{rules, fault_stays}
 use Rattle.wasm_sections.proofs.ImportLaws.{import_no_module, single_no_name, single_no_type, single_decodes, named_decodes, named_none, alike_decodes, alike_no_type, alike_no_names, group_unknown}
 use Rattle.wasm_sections.proofs.import.ImportsReadable.read.Goals as goal
 

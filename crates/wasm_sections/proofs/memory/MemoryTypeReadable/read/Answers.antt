@@ -1,5 +1,5 @@
-use Rattle.wasm_sections.specs.Flags.{flags_view}
-use Rattle.wasm_reader_base.proofs.Faults.{fault_stays}
+use Rattle.wasm_sections.specs.{flags_view}
+use Rattle.wasm_base.proofs.Words.{fault_stays}
 use Rattle.wasm_sections.proofs.DecodeLimits.{memory_none, memory_no_minimum, memory_no_maximum, memory_decodes}
 use Rattle.wasm_sections.proofs.memory.MemoryTypeReadable.read.Goals as goal
 

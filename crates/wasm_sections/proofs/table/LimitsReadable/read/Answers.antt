@@ -1,5 +1,5 @@
-use Rattle.wasm_sections.specs.Flags.{flags_view}
-use Rattle.wasm_reader_base.proofs.Faults.{fault_stays}
+use Rattle.wasm_sections.specs.{flags_view}
+use Rattle.wasm_base.proofs.Words.{fault_stays}
 use Rattle.wasm_sections.proofs.DecodeLimits.{limits_none, limits_no_minimum, limits_no_maximum, limits_read}
 use Rattle.wasm_sections.proofs.table.LimitsReadable.read.Goals as goal
 

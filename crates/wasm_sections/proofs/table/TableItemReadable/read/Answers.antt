@@ -1,4 +1,4 @@
-use Rattle.wasm_reader_base.proofs.Faults.{fault_stays}
+use Rattle.wasm_base.proofs.Words.{fault_stays}
 use Rattle.wasm_sections.proofs.TableLaws.{table_decodes, table_none, table_no_type, table_with, table_no_second, table_no_with}
 use Rattle.wasm_sections.proofs.table.TableItemReadable.read.Goals as goal
 

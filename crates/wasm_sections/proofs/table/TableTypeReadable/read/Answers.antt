@@ -1,4 +1,4 @@
-use Rattle.wasm_reader_base.proofs.Faults.{fault_stays}
+use Rattle.wasm_base.proofs.Words.{fault_stays}
 use Rattle.wasm_sections.proofs.DecodeLimits.{table_none, table_decodes}
 use Rattle.wasm_sections.proofs.table.TableTypeReadable.read.Goals as goal
 

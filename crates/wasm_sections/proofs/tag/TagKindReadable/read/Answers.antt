@@ -1,6 +1,6 @@
-use Rattle.wasm_reader_base.proofs.Faults.{fault_stays}
-use Rattle.wasm_sections.proofs.tag.TagKindReadable.read.Goals as goal
+use Rattle.wasm_base.proofs.Words.{fault_stays}
 use Rattle.wasm_sections.proofs.TagLaws.{tag_kind_none, tag_kind_unknown}
+use Rattle.wasm_sections.proofs.tag.TagKindReadable.read.Goals as goal
 
 pub returns-in_err-code-clause-none : goal.returns-in_err-code-clause-none
 returns-in_err-code-clause-none g c = fault_stays c.from_residual.result _ c.from_residual.ensures.1 λ n. tag_kind_none c.args.bytes.now (c.in_err-code.ensures.none n)

@@ -1,6 +1,6 @@
-use Rattle.wasm_reader_base.proofs.Faults.{fault_stays}
-use Rattle.wasm_sections.proofs.tag.TagTypeReadable.read.Goals as goal
+use Rattle.wasm_base.proofs.Words.{fault_stays}
 use Rattle.wasm_sections.proofs.TagLaws.{tag_none, tag_decodes}
+use Rattle.wasm_sections.proofs.tag.TagTypeReadable.read.Goals as goal
 
 pub returns-in_err-kind-clause-none : goal.returns-in_err-kind-clause-none
 returns-in_err-kind-clause-none g c = fault_stays c.from_residual.result _ c.from_residual.ensures.1 λ n. tag_none c.args.bytes.now (c.in_err-kind.ensures.none n)

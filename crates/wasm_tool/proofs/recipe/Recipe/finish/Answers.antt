@@ -1,4 +1,4 @@
-use Rattle.std.proofs.Common.{◌∙◌}
+use Rattle.wasm_base.proofs.Words.{◌∙◌}
 use Rattle.wasm_tool.proofs.RecipeLemmas.{first_sections}
 use Rattle.wasm_tool.proofs.recipe.Recipe.finish.Goals as goal
 

@@ -1,6 +1,5 @@
-use Rattle.std.proofs.Common.{Err, ap}
-use Rattle.wasm_tool.specs.Lines.{lines_of}
-use Rattle.wasm_tool.specs.Steps.{IsModule}
+use Rattle.wasm_base.proofs.Words.{Err, ap}
+use Rattle.wasm_tool.specs.{lines_of, IsModule}
 use Rattle.wasm_tool.proofs.RecipeLemmas.{refused_at_end}
 use Rattle.wasm_tool.proofs.recipe.Recipe.module_of.Goals as goal
 

@@ -1,4 +1,4 @@
-use Rattle.std.proofs.Common.{◌<◌, length, arith}
+use Rattle.wasm_base.proofs.Words.{◌<◌, length, arith}
 use Rattle.wasm_tool.proofs.SectionLemmas.{puts_no_names, puts_names}
 use Rattle.wasm_tool.proofs.recipe.Recipe.put_names.Goals as goal
 

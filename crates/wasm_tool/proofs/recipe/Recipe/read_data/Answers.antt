@@ -1,6 +1,5 @@
-use Rattle.std.proofs.Common.{◌++◌, ◌∷◌, [], rules}
-use Rattle.wasm_base.specs.Pieces.{IsEncodableSection}
-use Rattle.wasm_sections.specs.DataSegments.{active_encoding}
+use Rattle.wasm_base.proofs.Words.{◌++◌, ◌∷◌, [], rules, IsEncodableSection}
+use Rattle.wasm_sections.proofs.Words.{active_encoding}
 use Rattle.wasm_tool.proofs.SectionLemmas.{encodable_count, encodable_segment}
 use Rattle.wasm_tool.proofs.recipe.Recipe.read_data.Goals as goal
 

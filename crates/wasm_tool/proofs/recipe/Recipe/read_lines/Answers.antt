@@ -1,9 +1,5 @@
-use Rattle.std.proofs.Common.{take, sym, subst, arith, lit<}
-use Rattle.std.proofs.lemmas.Grind.{common_steps}
-use Rattle.std.proofs.lemmas.Iterator.Consumers.{YieldsList-at, YieldsList-turn}
-use Rattle.std.proofs.lemmas.Iterator.Splits.{YieldsList-from_str_split}
-use Rattle.wasm_tool.specs.Lines.{lines_of}
-use Rattle.wasm_tool.specs.Steps.{ContainsLines}
+use Rattle.wasm_base.proofs.Words.{take, sym, subst, arith, lit<, common_steps, YieldsList-at, YieldsList-turn, YieldsList-from_str_split}
+use Rattle.wasm_tool.specs.{lines_of, ContainsLines}
 use Rattle.wasm_tool.proofs.LineLemmas.{line_at, one_more_line, part_at, within}
 use Rattle.wasm_tool.proofs.RecipeLemmas.{explains, contains_more, all_read}
 use Rattle.wasm_tool.proofs.recipe.Recipe.read_lines.Goals as goal

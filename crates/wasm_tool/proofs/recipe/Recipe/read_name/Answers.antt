@@ -1,7 +1,6 @@
-use Rattle.std.proofs.Common.{◌++◌, ◌∷◌, [], rules}
-use Rattle.wasm_base.specs.Encodings.{size_prefixed_encoding}
-use Rattle.wasm_custom.specs.Customs.{subsection_encoding}
-use Rattle.wasm_tool.specs.Recipe.{AreEncodableNames}
+use Rattle.wasm_base.proofs.Words.{◌++◌, ◌∷◌, [], rules, size_prefixed_encoding}
+use Rattle.wasm_custom.proofs.Words.{subsection_encoding}
+use Rattle.wasm_tool.specs.{AreEncodableNames}
 use Rattle.wasm_tool.proofs.SectionLemmas.{names_count, names_size_prefixed, names_name}
 use Rattle.wasm_tool.proofs.recipe.Recipe.read_name.Goals as goal
 

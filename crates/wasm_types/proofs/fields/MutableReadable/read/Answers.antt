@@ -1,4 +1,4 @@
-use Rattle.wasm_reader_base.proofs.Faults.{fault_stays}
+use Rattle.wasm_base.proofs.Words.{fault_stays}
 use Rattle.wasm_types.proofs.DecodeFields.{mutable_none}
 use Rattle.wasm_types.proofs.fields.MutableReadable.read.Goals as goal
 

@@ -1,5 +1,4 @@
-use Rattle.std.proofs.Common.{arith}
-use Rattle.wasm_reader_base.proofs.Faults.{fault_stays}
+use Rattle.wasm_base.proofs.Words.{arith, fault_stays}
 use Rattle.wasm_types.proofs.DecodeFields.{storage_none, val_rejects}
 use Rattle.wasm_types.proofs.fields.StorageTypeReadable.read.Goals as goal
 

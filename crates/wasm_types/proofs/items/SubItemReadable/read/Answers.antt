@@ -1,4 +1,4 @@
-use Rattle.wasm_reader_base.proofs.Faults.{fault_stays, if_ok_more, if_err_more}
+use Rattle.wasm_base.proofs.Words.{fault_stays, if_ok_more, if_err_more}
 use Rattle.wasm_types.proofs.DecodeItems.{sub_none, sub_decodes, sub_none_after}
 use Rattle.wasm_types.proofs.items.SubItemReadable.read.Goals as goal
 

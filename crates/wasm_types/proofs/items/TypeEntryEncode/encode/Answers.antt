@@ -1,6 +1,5 @@
-use Rattle.std.proofs.Common.{sym, subst}
-use Rattle.wasm_base.specs.Calls.{Appends}
-use Rattle.wasm_types.specs.Items.{entry_encoding, IsEncodableEntry}
+use Rattle.wasm_base.proofs.Words.{sym, subst, Appends}
+use Rattle.wasm_types.specs.{entry_encoding, IsEncodableEntry}
 use Rattle.wasm_types.proofs.MinimalTypes.{group_appended}
 use Rattle.wasm_types.proofs.items.TypeEntryEncode.encode.Goals as goal
 

@@ -1,7 +1,4 @@
-use Rattle.std.proofs.Common.{subst}
-use Rattle.wasm_base.specs.Pieces.{IsEncodableSection}
-use Rattle.wasm_base.proofs.EntryLaws.{counted_decodes}
-use Rattle.wasm_base.proofs.Outcomes.{on_ok}
+use Rattle.wasm_base.proofs.Words.{subst, IsEncodableSection, counted_decodes, on_ok}
 use Rattle.wasm_types.proofs.type_section.TypeSectionEncode.encode.Goals as goal
 
 pub returns-clause-read : goal.returns-clause-read

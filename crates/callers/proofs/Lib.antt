@@ -1,3 +1,0 @@
-pub mod Branch
-pub mod OneByte
-pub mod DecodeBodies

@@ -1,2 +1,0 @@
-pub mod FirstValues
-pub mod Decodings

@@ -1,0 +1,7 @@
+use Rattle.wasm_base.proofs.Words.{arith, common_steps}
+use Rattle.examples.proofs.OneByte.{one_byte}
+use Rattle.examples.proofs.calls.instructions.sum.Goals as goal
+
+pub returns-clause-bytes : goal.returns-clause-bytes
+returns-clause-bytes g c =
+    grind (arith, common_steps, one_byte, c.in_ok-local_get.ensures.writes.bytes, c.in_ok-local_get-2.ensures.writes.bytes, c.i32_add.ensures.writes.bytes)

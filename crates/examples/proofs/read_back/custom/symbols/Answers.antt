@@ -1,0 +1,8 @@
+-- Written by tools/answers.
+use Rattle.wasm_base.proofs.Words.{arith}
+use Rattle.wasm_custom.proofs.Words.{new_symbols, adds_symbol}
+use Rattle.examples.specs.Customs.{data_symbol}
+use Rattle.examples.proofs.read_back.custom.symbols.Goals as goal
+
+pub returns : goal.returns
+returns g c = adds_symbol (new_symbols c.new-table.ensures) (data_symbol c.args.name.now) c.in_ok-data.ensures.ok c.in_ok-data.ensures.counted (omega arith, (c.utf8.name, c.in_ok-data.ensures.was_encodable), record { index = omega arith; offset = omega arith; size = omega arith })

@@ -1,0 +1,10 @@
+use Rattle.wasm_base.proofs.Words.{[], ◌∷◌, None, arith, IsUnsignedInRange, contains_padded}
+use Rattle.wasm_code.proofs.Words.{all_of}
+use Rattle.wasm_sections.proofs.Words.{new_elements, adds_element_padded, elements_section, active, functions}
+use Rattle.examples.specs.ReadPadded.{zero_offset}
+use Rattle.examples.proofs.read_back.padded.elements.Goals as goal
+
+pub returns : goal.returns
+returns g c =
+    adds_element_padded (contains_padded elements_section.held_padded (new_elements c.new-section.ensures)) (record { segment_mode = active None (record { bytes = _; instructions = zero_offset }); elements = functions (1 ∷ []) }) c.in_ok-active.ensures.ok
+    (record { segment_mode = (tt, c.in_ok-offset.ensures); elements = record { count = omega arith; members = all_of (IsUnsignedInRange 32) (1 ∷ []) (omega arith, tt) } })

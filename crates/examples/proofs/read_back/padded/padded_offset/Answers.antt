@@ -1,0 +1,9 @@
+use Rattle.wasm_base.proofs.Words.{[], ◌∷◌, pos, refl, arith, ints, s32, padded}
+use Rattle.wasm_code.proofs.Words.{padded_i32_const, raw_constant}
+use Rattle.examples.specs.ReadPadded.{zero_offset}
+use Rattle.examples.proofs.read_back.padded.padded_offset.Goals as goal
+
+pub returns : goal.returns
+returns g c =
+    let zero : s32 padded (0x80 ∷ 0x00 ∷ []) (pos 0) = record { groups = (omega arith, omega arith, omega arith); total = refl; above = omega (arith, ints); below = omega (arith, ints); size = omega arith } in
+    raw_constant c.in_ok-offset.ensures.ok zero_offset (padded_i32_const (0x80 ∷ 0x00 ∷ []) (pos 0) zero)

@@ -1,0 +1,14 @@
+-- Written by tools/answers.
+use Rattle.wasm_base.proofs.Words.{rules, drained_array}
+use Rattle.wasm_code.proofs.Words.{new_function, lent, writes_instruction}
+use Rattle.wasm_insn.specs.declared.instruction.Instruction.TheVariants.{End}
+use Rattle.examples.proofs.read_back.stored.of_nothing.Goals as goal
+
+pub returns : goal.returns
+returns g c =
+    let b1 = lent (new_function c.in_ok-function.ensures tt) c.instructions-sink.ensures.same in
+    let b2 = writes_instruction b1 End c.in_ok-end.ensures.writes.bytes tt in
+    lent b2 (search rules)
+
+pub new-requires : goal.new-requires
+new-requires g c = record { can = λ it b. tt; reported = λ it xs b d. drained_array it xs d }

@@ -1,0 +1,7 @@
+-- Written by tools/answers.
+use Rattle.wasm_base.proofs.Words.{◌≡◌, refl, size_prefixed, u32}
+use Rattle.wasm_custom.proofs.Words.{encodes_custom}
+use Rattle.examples.proofs.read_back.stored.write_data_count.Goals as goal
+
+pub returns : goal.returns
+returns g c = encodes_custom (size_prefixed u32) (λ said. said ≡ c.args.count) c.encode.ensures.appends c.encode.ensures.read refl

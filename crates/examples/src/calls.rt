@@ -1,0 +1,16 @@
+//! Worked callers of single calls, whose contracts state each byte, and of public functions that no
+//! other proved crate calls.
+pub mod added;
+pub mod bodies;
+pub mod copied_segments;
+pub mod copies;
+pub mod decodings;
+pub mod first_values;
+pub mod given;
+pub mod instructions;
+pub mod once;
+pub mod queries;
+pub mod raw_segments;
+pub mod readers;
+pub mod segments;
+pub mod walks;

@@ -1,8 +1,0 @@
--- Written by tools/answers.
-use Rattle.wasm_base.specs.Formats.{size_prefixed}
-use Rattle.wasm_custom.proofs.Calls.{encodes_entries}
-use Rattle.wasm_custom.specs.CoreDumps.{instances_payload}
-use Rattle.read_back.proofs.dumps.write_instances.Goals as goal
-
-pub returns : goal.returns
-returns g c = encodes_entries (size_prefixed instances_payload) _ _ c.encode.ensures.appends c.encode.ensures.read c.in_ok-section.ensures

@@ -1,6 +1,0 @@
-use Rattle.wasm_base.proofs.Calls.{encodes_items_padded}
-use Rattle.wasm_sections.proofs.DataLaws.{segments_section}
-use Rattle.read_back.proofs.padded.write_padded_segment.Goals as goal
-
-pub returns : goal.returns
-returns g c = encodes_items_padded segments_section.held_padded c.encode.ensures.appends c.encode.ensures.read c.in_ok-section.ensures

@@ -1,8 +1,0 @@
--- Written by tools/answers.
-use Rattle.std.proofs.Common.{◌≡◌, refl}
-use Rattle.wasm_base.specs.Formats.{size_prefixed, u32}
-use Rattle.wasm_custom.proofs.Calls.{encodes_custom}
-use Rattle.read_back.proofs.stored.write_start.Goals as goal
-
-pub returns : goal.returns
-returns g c = encodes_custom (size_prefixed u32) (λ said. said ≡ c.args.index) c.encode.ensures.appends c.encode.ensures.read refl

@@ -1,6 +1,0 @@
-pub mod Customs
-pub mod Declarations
-pub mod Dumps
-pub mod Handed
-pub mod Padded
-pub mod Stored

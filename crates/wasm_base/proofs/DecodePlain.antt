@@ -1,0 +1,82 @@
+-- This file proves that decoded values are well-formed and in normal form, so that their encoding
+-- is the minimal one.
+use Rattle.wasm_base.proofs.Std.{◌≡◌, ℕ, ◌^◌, ◌<◌, List, [], ◌∷◌, ◌++◌, length, Bool, true, false, refl, sym, subst, eqb, arith, All, ints, All-nil, All-cons}
+use Rattle.wasm_base.specs.{Mode, padded, unsigned_encoding, Format, u32, s33, any_bytes, name, size_prefixed, choice, members, vec, when, little_endian, HasMinimalEncodings, IsHeap, IsRef, IsVal}
+use Rattle.wasm_base.specs.{heap_type, heap_tags, ref_tags, ref_type, val_tags, val_ref, val_type, val_encoding, IsEncodableVec, size_prefixed_encoding, HasEncodableSize, AppendsMinimal}
+use Rattle.wasm_base.specs.declared.types.ValType.{ValType}
+use Rattle.wasm_base.proofs.FormatLaws.{AllValues, AllChoices, values_one_of, values_tagged}
+use Rattle.wasm_base.proofs.EncodingLaws.{u32_encodes, name_encodes, size_prefixed_encodes, tagged_encodes}
+use Rattle.wasm_base.proofs.TypeLaws.{val-encodings}
+use Rattle.wasm_base.proofs.DecodeFixed.{sum_below}
+use Rattle.wasm_base.proofs.MinimalEncodings.{encoding_appended}
+
+-- If all decoded values fit, the encoding of one is minimal.
+pub fitting_appended : {X : Type 0} (F : Format X) (Encodable : X → Type 0) (encoding : X → List ℕ) (x : X) (old new : List ℕ) → HasMinimalEncodings F Encodable encoding → AllValues Encodable F → new ≡ old ++ encoding x → AppendsMinimal F x old new
+fitting_appended F Encodable encoding x old new encodings all e = encoding_appended F x (encoding x) old new (λ s h. encodings.encodes x (all padded s x h)) e
+
+-- ---- numbers and fixed bytes
+
+pub u32_appended : (n : ℕ) (old new : List ℕ) → new ≡ old ++ unsigned_encoding n → AppendsMinimal u32 n old new
+u32_appended n old new e = encoding_appended u32 n (unsigned_encoding n) old new (λ s h. u32_encodes n h.range) e
+
+pub little_endian_below : (n : ℕ) (mode : Mode) (s : List ℕ) (v : ℕ) → little_endian n mode s v → v < 256 ^ n
+little_endian_below n mode s v h = subst (λ k. v < 256 ^ k) h.2 (subst (λ z. z < 256 ^ length s) h.0 (sum_below s h.1))
+
+-- ---- size-prefixed bytes and names
+
+pub bytes_appended : (bytes old new : List ℕ) → HasEncodableSize bytes → new ≡ old ++ size_prefixed_encoding bytes → AppendsMinimal (size_prefixed any_bytes) bytes old new
+bytes_appended bytes old new encodable e = encoding_appended (size_prefixed any_bytes) bytes (size_prefixed_encoding bytes) old new (λ s h. size_prefixed_encodes any_bytes bytes bytes encodable refl) e
+
+pub name_appended : (bytes old new : List ℕ) → HasEncodableSize bytes → new ≡ old ++ size_prefixed_encoding bytes → AppendsMinimal name bytes old new
+name_appended bytes old new encodable e = encoding_appended name bytes (size_prefixed_encoding bytes) old new (λ s h. name_encodes bytes h.1 encodable) e
+
+-- ---- types
+
+pub values_choice : {X : Type 0} (Q : X → Type 0) (cs : List (ℕ × Format X)) (other : ℕ → Format X) → AllChoices Q cs → ((b : ℕ) → AllValues Q (other b)) → (b : ℕ) → AllValues Q (choice cs other b)
+values_choice Q [] other h g b mode s x k = g b mode s x k
+values_choice {X} Q (c ∷ cs) other h g b mode s x k = go (values_choice Q cs other h.1 g b mode s x) (eqb b c.0) k
+  where
+    go : (choice cs other b mode s x → Q x) → (test : Bool) → when test c.1 (choice cs other b) mode s x → Q x
+    go more true k = h.0 mode s x k
+    go more false k = more k
+
+-- An index that is encoded as a signed number is below 2^32.
+pub index_is : (mode : Mode) (s : List ℕ) (n : ℕ) → s33 mode s n → n < 2 ^ 32
+index_is mode s n h = omega (arith, ints, h.below)
+
+pub heap_is : AllValues IsHeap heap_type
+heap_is =
+    values_one_of IsHeap (λ mode s x h. subst IsHeap h.1 tt)
+    (values_one_of IsHeap (values_tagged IsHeap heap_tags (λ mode s x h. subst IsHeap h.1 tt, (λ mode s x h. subst IsHeap h.1 h.2.range, tt))) (λ mode s x h. subst IsHeap h.1 (index_is mode s h.0 h.2)))
+
+pub ref_is : AllValues IsRef ref_type
+ref_is =
+    values_tagged IsRef ref_tags (
+      λ mode s x h. subst IsRef (sym h.1) tt,
+      (λ mode s x h. subst IsRef (sym h.1) tt, (λ mode s x h. subst IsRef h.1 (heap_is mode s h.0 h.2.0), (λ mode s x h. subst IsRef h.1 (heap_is mode s h.0 h.2), tt))),
+    )
+
+pub val_is : (b : ℕ) → AllValues IsVal (choice val_tags val_ref b)
+val_is b =
+    values_choice IsVal val_tags val_ref
+    (λ mode s x h. subst IsVal (sym h.1) tt, (λ mode s x h. subst IsVal (sym h.1) tt, (λ mode s x h. subst IsVal (sym h.1) tt, (λ mode s x h. subst IsVal (sym h.1) tt, (λ mode s x h. subst IsVal (sym h.1) tt, tt)))))
+    (λ b mode s x h. subst IsVal h.1 (ref_is mode (b ∷ s) h.0 (tagged_encodes mode b s h.0 h.2))) b
+
+pub val_type_is : AllValues IsVal val_type
+val_type_is mode s x h = subst IsVal h.1 (val_is h.0.0 mode h.2.back h.0.1 h.2.second)
+
+pub val_appended : (ty : ValType) (old new : List ℕ) → new ≡ old ++ val_encoding ty → AppendsMinimal val_type ty old new
+val_appended ty old new e = fitting_appended val_type IsVal val_encoding ty old new val-encodings val_type_is e
+
+-- ---- orderings and memory arguments
+
+-- ---- block types, catch clauses and handle clauses
+
+-- ---- vectors
+
+members_are : {X : Type 0} (Q : X → Type 0) (F : Format X) → AllValues Q F → (mode : Mode) (s : List ℕ) (xs : List X) → members F mode s xs → All Q xs
+members_are Q F all mode s [] h = All-nil Q
+members_are Q F all mode s (x ∷ xs) h = All-cons Q x xs (all mode h.0 x h.3) (members_are Q F all mode h.1 xs h.4)
+
+pub vec_is : {X : Type 0} (Q : X → Type 0) (F : Format X) → AllValues Q F → AllValues (IsEncodableVec Q) (vec F)
+vec_is Q F all mode s xs h = record { count = omega (arith, h.first.range); members = members_are Q F all mode h.back xs h.second }

@@ -1,0 +1,19 @@
+-- This file passes on the definitions that those of the crates above use.
+pub use Rattle.wasm_base.specs.Calls.{DecodesBack, DecodesBackPadded}
+pub use Rattle.wasm_base.specs.Continuing.{RejectsWhole}
+pub use Rattle.wasm_base.specs.Cow.{encoding_of, items_of}
+pub use Rattle.wasm_base.specs.Decoding.{BeginsWith, Decodes, DecodesUniquely, DecodesWhole, Rejects, Unambiguous}
+pub use Rattle.wasm_base.specs.Encodings.{HasEncodableSize, IsEncodableVec, IsSizePrefixed, any_section_encoding, little_endian_encoding, longest, optional_encoding, size_prefixed_encoding}
+pub use Rattle.wasm_base.specs.Encodings.{vec_encoding}
+unfoldable pub use Rattle.wasm_base.specs.Encodings.{module_encoding}
+pub use Rattle.wasm_base.specs.Entries.{ContainsItems, Kind}
+pub use Rattle.wasm_base.specs.Formats.{Format, IsVector, Then, after, any_bytes, any_section, byte, choice, coded, ended, fixed, header, impossible, is_given, just, little_endian, mapped, members}
+pub use Rattle.wasm_base.specs.Formats.{name, numbered, one_of, optional, pair, prefixed, raw_bytes, s32, s33, s64, size_prefixed, such, tagged, twos_complement, u32, u64, vec, vector_format}
+pub use Rattle.wasm_base.specs.Formats.{wasm_module, when}
+pub use Rattle.wasm_base.specs.Laws.{IsEncodableName, IsSigned32InRange, IsSigned64InRange, IsUnsignedInRange}
+pub use Rattle.wasm_base.specs.Modules.{SectionDecoding, decoding_of, padded_decoding_of, raw_decoding}
+pub use Rattle.wasm_base.specs.Numbers.{Mode, minimal, padded, signed_encoding, unsigned_encoding}
+pub use Rattle.wasm_base.specs.Pieces.{IsEncodableSection, joined}
+unfoldable pub use Rattle.wasm_base.specs.Pieces.{section_encoding}
+pub use Rattle.wasm_base.specs.SectionId.{number_of}
+pub use Rattle.wasm_base.specs.Types.{FUNCREF, IsHeap, IsRef, IsVal, heap_encoding, heap_type, ref_encoding, ref_type, unshared, val_encoding, val_ref, val_tags, val_type}

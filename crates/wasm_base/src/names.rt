@@ -1,0 +1,91 @@
+// Names, and size-prefixed bytes. Decoded ones are slices of the input.
+ghost use Rattle.std.specs.Prelude.{◌<◌, ℕ, List, length};
+ghost use Rattle.wasm_base.specs.Encodings.{longest, size_prefixed_encoding, HasEncodableSize};
+ghost use Rattle.wasm_base.specs.Formats.{size_prefixed, any_bytes, name};
+ghost use Rattle.wasm_base.specs.Decoding.{Unambiguous};
+
+use crate::encode::Encode;
+use crate::fault::ReadFault;
+use crate::frames::encode_size_prefixed;
+use crate::readable::{Layout, Readable};
+use crate::refused::Result;
+use crate::shorten::Shorten;
+use std::alloc::Allocator;
+
+/// Encodes a name: the size prefix and the UTF-8 bytes.
+impl Encode for &str {
+    ghost encoding = { λ name. size_prefixed_encoding name.now };
+
+    ghost encodable = { λ name. HasEncodableSize name.now };
+
+    ghost overlong = { λ name. longest < length name.now };
+
+    #[inline(always)]
+    fn encode<A: Allocator>(&self, sink: &mut Vec<u8, A>) -> Result<()> {
+        encode_size_prefixed(sink, self.as_bytes())
+    }
+}
+
+/// The payload of size-prefixed bytes.
+impl<'a> Layout for &'a [u8] {
+    ghost Value = { List ℕ };
+
+    ghost format = { size_prefixed any_bytes };
+
+    ghost view = { λ b. b.now };
+
+    #[tactic(auto, using(crate::proofs::BaseLaws::size_prefixed_bytes_unambiguous))]
+    fn laws()
+        ensures { Unambiguous (size_prefixed any_bytes) }
+    {}
+}
+
+impl<'a, A: Allocator + Copy> Readable<'a, A> for &'a [u8] {
+    #[tactic(auto, using(crate::proofs::DecodeSizePrefixed::size_prefixed_steps))]
+    fn read(bytes: &'a [u8], alloc: A) -> Result<(&'a [u8], &'a [u8]), ReadFault> {
+        let (size, rest) = <u32 as Readable<'a, A>>::read(bytes, alloc)?;
+        if rest.len() < size as usize {
+            return Err(ReadFault::Ended);
+        }
+        Ok(rest.split_at(size as usize))
+    }
+}
+
+/// A name: a length, and that many bytes of UTF-8.
+impl<'a> Layout for &'a str {
+    ghost Value = { List ℕ };
+
+    ghost format = { name };
+
+    ghost view = { λ s. s.now };
+
+    #[tactic(auto, using(crate::proofs::BaseLaws::name_unambiguous))]
+    fn laws()
+        ensures { Unambiguous name }
+    {}
+}
+
+impl<'a, A: Allocator + Copy> Readable<'a, A> for &'a str {
+    #[tactic(auto, using(crate::proofs::DecodeSizePrefixed::name_steps))]
+    fn read(bytes: &'a [u8], alloc: A) -> Result<(&'a str, &'a [u8]), ReadFault> {
+        let (encoding, rest) = <&'a [u8] as Readable<'a, A>>::read(bytes, alloc)?;
+        match str::from_utf8(encoding) {
+            Ok(name) => Ok((name, rest)),
+            Err(_) => Err(ReadFault::NotUtf8),
+        }
+    }
+}
+
+impl Shorten for &[u8] {
+    #[tactic(auto, using(crate::proofs::DecodePlain::bytes_appended, crate::proofs::DecodedValues::bytes_encodable))]
+    fn write_minimal<B: Allocator>(&self, sink: &mut Vec<u8, B>) -> Result<()> {
+        encode_size_prefixed(sink, self)
+    }
+}
+
+impl Shorten for &str {
+    #[tactic(auto, using(crate::proofs::DecodePlain::name_appended, crate::proofs::DecodedValues::name_encodable))]
+    fn write_minimal<B: Allocator>(&self, sink: &mut Vec<u8, B>) -> Result<()> {
+        self.encode(sink)
+    }
+}

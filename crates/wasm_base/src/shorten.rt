@@ -1,0 +1,33 @@
+// The trait `Shorten`: values that can be written in their minimal encoding.
+ghost use Rattle.std.specs.Prelude.{◌≡◌, ◌≢◌, Err, OnOk, OnErr};
+ghost use Rattle.wasm_base.specs.declared.refused.Refused.TheVariants.{TooLong};
+ghost use Rattle.wasm_base.specs.Minimal.{AppendsMinimal, IsFrontOf, HasEncoding};
+
+use crate::readable::Layout;
+use crate::refused::Result;
+use std::alloc::Allocator;
+
+/// A decoded value, or a component of one, that can be written in its minimal encoding.
+pub trait Shorten: Layout {
+    /// Writes the minimal encoding of the value after the old bytes. An impl defines it, and
+    /// callers use [`append_minimal`](Shorten::append_minimal): after an error of this method,
+    /// part of the encoding may be in the sink.
+    fn write_minimal<B: Allocator>(&self, sink: &mut Vec<u8, B>) -> Result<()>
+        ensures ok { OnOk result (AppendsMinimal Self.format (Self.view self.now) sink.old.items sink.new.items) }
+        ensures front { IsFrontOf sink.old.items sink.new.items }
+        ensures too_long { HasEncoding Self.format (Self.view self.now) → result ≢ Err TooLong };
+
+    /// Appends the minimal encoding of the value. On an error, the sink is unchanged.
+    fn append_minimal<B: Allocator>(&self, sink: &mut Vec<u8, B>) -> Result<()>
+        ensures ok { OnOk result (AppendsMinimal Self.format (Self.view self.now) sink.old.items sink.new.items) }
+        ensures err { OnErr result (sink.new.items ≡ sink.old.items) }
+        ensures too_long { HasEncoding Self.format (Self.view self.now) → result ≢ Err TooLong }
+    {
+        let start = sink.len();
+        let written = self.write_minimal(sink);
+        if written.is_err() {
+            sink.truncate(start);
+        }
+        written
+    }
+}

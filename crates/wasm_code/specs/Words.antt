@@ -1,0 +1,6 @@
+-- This file passes on the definitions that those of the crates above use.
+pub use Rattle.wasm_code.specs.Bodies.{Body, IsWellFormedBody, and_then, body}
+pub use Rattle.wasm_code.specs.BodyViews.{body_view}
+pub use Rattle.wasm_code.specs.Code.{code_decoding, raw_code_decoding}
+pub use Rattle.wasm_code.specs.Expressions.{StoresIn, expression, expression_encoding, normal_row}
+pub use Rattle.wasm_code.specs.Laws.{br_table_row}

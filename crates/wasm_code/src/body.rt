@@ -1,0 +1,206 @@
+// Lists of instructions and function bodies: decoded, skipped and minimized.
+ghost use Rattle.std.specs.Prelude.{◌≡◌, ◌≢◌, IfOk, IfErr, Err, OnOk, OnErr, map, List};
+ghost use Rattle.wasm_base.specs.Formats.{members, size_prefixed};
+ghost use Rattle.wasm_base.specs.Continuing.{RejectsWhole};
+ghost use Rattle.wasm_base.specs.Numbers.{padded};
+ghost use Rattle.wasm_insn.specs.Plain.{instruction, Plain as PlainInstruction, part, arguments};
+ghost use Rattle.wasm_insn.specs.Table.{table};
+ghost use Rattle.wasm_code.specs.Bodies.{Body as BodyModel, body};
+ghost use Rattle.wasm_base.specs.declared.refused.Refused.TheVariants.{TooLong};
+ghost use Rattle.wasm_base.specs.Minimal.{AppendsMinimal, IsFrontOf, HasEncoding};
+ghost use Rattle.wasm_base.specs.declared.fault.ReadFault.TheVariants.{Memory};
+ghost use Rattle.wasm_insn.specs.Views.{plain_view};
+ghost use Rattle.wasm_code.specs.BodyViews.{body_view};
+ghost use Rattle.wasm_base.specs.Decoding.{Decodes, Rejects};
+ghost use Rattle.wasm_insn.specs.Arguments.{Argument};
+ghost use Rattle.wasm_insn.specs.Parts.{parts_of};
+ghost use Rattle.wasm_code.specs.Expressions.{expression};
+
+use crate::walk::Instructions;
+use std::alloc::{Allocator, Global};
+use wasm_base::{
+    Dropped, Layout, ReadFault, Readable, Result, Shorten, Skip, ValType, prefix_size_since,
+    skip_many,
+};
+use wasm_insn::{Plain, append_instruction};
+
+/// The capacity of a new list allows for one instruction per this many bytes. The list grows if
+/// they are shorter.
+const BYTES_OF_ONE: usize = 4;
+
+/// Decodes instructions that occupy all of the bytes.
+///
+/// # Errors
+///
+/// Any error but `Memory` means that the bytes as a whole encode no instructions.
+pub fn read_code<'a, A: Allocator + Copy>(
+    bytes: &'a [u8],
+    alloc: A,
+) -> Result<Vec<Plain<A>, A>, ReadFault>
+    ensures found { IfOk result (λ x. members (instruction table) padded bytes.now (map plain_view x.items)) }
+    ensures none { IfErr result (λ e. e ≢ Memory → RejectsWhole (members (instruction table)) bytes.now) }
+{
+    let mut items = Vec::with_capacity(alloc, bytes.len() / BYTES_OF_ONE)?;
+    let mut rest = bytes;
+    loop {
+        if rest.is_empty() {
+            return Ok(items);
+        }
+        let (item, after) = <Plain<A> as Readable<'a, A>>::read(rest, alloc)?;
+        items.push(item)?;
+        rest = after;
+    }
+}
+
+/// Appends the minimal encodings of the instructions.
+#[tactic(auto, using(wasm_base::proofs::MinimalEncodings::no_members_appended))]
+pub(crate) fn append_code<A: Allocator, B: Allocator>(
+    code: &[Plain<A>],
+    sink: &mut Vec<u8, B>,
+) -> Result<()>
+    ensures ok { OnOk result (AppendsMinimal (members (instruction table)) (map plain_view code.now) sink.old.items sink.new.items) }
+    ensures front { IsFrontOf sink.old.items sink.new.items }
+    ensures too_long { HasEncoding (members (instruction table)) (map plain_view code.now) → result ≢ Err TooLong }
+{
+    for instruction in code {
+        instruction.write_minimal(sink)?;
+    }
+    Ok(())
+}
+
+/// A function body: the runs of its locals, each a count and a type, and its instructions,
+/// including each `End`.
+#[derive(Debug, Drop)]
+pub struct Body<A: Allocator = Global> {
+    pub runs: Vec<(u32, ValType), A>,
+    pub code: Vec<Plain<A>, A>,
+}
+
+/// Decodes a body that occupies all of the bytes, which are a payload without its size prefix.
+///
+/// # Errors
+///
+/// Any error but `Memory` means that the bytes as a whole encode no body.
+#[tactic(auto, using(crate::proofs::DecodeLists::body_steps))]
+pub fn read_body<'a, A: Allocator + Copy>(bytes: &'a [u8], alloc: A) -> Result<Body<A>, ReadFault>
+    ensures found { IfOk result (λ x. body padded bytes.now (body_view x)) }
+    ensures none { IfErr result (λ e. e ≢ Memory → RejectsWhole body bytes.now) }
+{
+    let (runs, rest) = <Vec<(u32, ValType), A> as Readable<'a, A>>::read(bytes, alloc)?;
+    let code = read_code(rest, alloc)?;
+    Ok(Body { runs, code })
+}
+
+/// A body with its size prefix, as in a code section.
+impl<A: Allocator> Layout for Body<A> {
+    ghost Value = { BodyModel };
+
+    ghost format = { size_prefixed body };
+
+    ghost view = { body_view };
+
+    #[tactic(auto, using(crate::proofs::BodyLaws::size_prefixed_body_unambiguous))]
+    fn laws() {}
+}
+
+impl<'a, A: Allocator + Copy> Readable<'a, A> for Body<A> {
+    fn read(bytes: &'a [u8], alloc: A) -> Result<(Body<A>, &'a [u8]), ReadFault> {
+        let (content, rest) = <&'a [u8] as Readable<'a, A>>::read(bytes, alloc)?;
+        let body = read_body(content, alloc)?;
+        Ok((body, rest))
+    }
+}
+
+impl<A: Allocator> Shorten for Body<A> {
+    #[tactic(auto, using(crate::proofs::MinimalLists::body_code_encoded))]
+    fn write_minimal<B: Allocator>(&self, sink: &mut Vec<u8, B>) -> Result<()> {
+        let start = sink.len();
+        self.runs.write_minimal(sink)?;
+        append_code(&self.code, sink)?;
+        prefix_size_since(sink, start)
+    }
+}
+
+/// Writes the bytes that [`shorten_body`] appends. After an error, part of them may follow the old
+/// bytes.
+fn write_body<A: Allocator + Copy, B: Allocator>(
+    bytes: &[u8],
+    alloc: A,
+    sink: &mut Vec<u8, B>,
+) -> Result<(), ReadFault>
+    ensures found { OnOk result ((x : BodyModel) × body padded bytes.now x × AppendsMinimal (size_prefixed body) x sink.old.items sink.new.items) }
+    ensures none { IfErr result (λ e. e ≢ Memory → RejectsWhole body bytes.now) }
+    ensures front { IsFrontOf sink.old.items sink.new.items }
+{
+    let start = sink.len();
+    let (runs, mut instructions) = Instructions::of_body(bytes, alloc)?;
+    runs.write_minimal(sink)?;
+    while let Some(step) = instructions.next()? {
+        append_instruction(step.op, instructions.args(), sink)?;
+    }
+    prefix_size_since(sink, start)?;
+    Ok(())
+}
+
+/// Appends the minimal encoding of a function body with its size prefix, as in a code section. The
+/// bytes are those of the body without its size prefix. The call visits the instructions, and keeps
+/// one at a time. On an error, the sink is unchanged.
+///
+/// ```text
+/// shorten_body(&[0x80, 0x00, 0x20, 0x81, 0x00, 0x0B], alloc, &mut out)?;
+/// // 04 00 20 01 0B was appended: a body of no locals, `LocalGet(1)` and `End`
+/// ```
+///
+/// # Errors
+///
+/// Any error but `Memory` means that the bytes as a whole encode no body.
+pub fn shorten_body<A: Allocator + Copy, B: Allocator>(
+    bytes: &[u8],
+    alloc: A,
+    sink: &mut Vec<u8, B>,
+) -> Result<(), ReadFault>
+    ensures found { OnOk result ((x : BodyModel) × body padded bytes.now x × AppendsMinimal (size_prefixed body) x sink.old.items sink.new.items) }
+    ensures none { IfErr result (λ e. e ≢ Memory → RejectsWhole body bytes.now) }
+    ensures err { OnErr result (sink.new.items ≡ sink.old.items) }
+{
+    let start = sink.len();
+    let written = write_body(bytes, alloc, sink);
+    if written.is_err() {
+        sink.truncate(start);
+    }
+    written
+}
+
+/// Skips instructions up to the last byte.
+fn skip_code<'a, A: Allocator + Copy>(bytes: &'a [u8], alloc: A) -> Result<(), ReadFault>
+    ensures found { OnOk result ((xs : List PlainInstruction) × members (instruction table) padded bytes.now xs) }
+    ensures none { IfErr result (λ e. e ≢ Memory → RejectsWhole (members (instruction table)) bytes.now) }
+{
+    let mut rest = bytes;
+    loop {
+        if rest.is_empty() {
+            return Ok(());
+        }
+        rest = <Plain<A> as Skip<'a, A>>::skip(rest, alloc)?;
+    }
+}
+
+/// Skips the bytes of a body without its size prefix.
+#[tactic(auto, using(crate::proofs::DecodeLists::body_steps))]
+fn skip_body<'a, A: Allocator + Copy>(bytes: &'a [u8], alloc: A) -> Result<(), ReadFault>
+    ensures found { OnOk result ((x : BodyModel) × body padded bytes.now x) }
+    ensures none { IfErr result (λ e. e ≢ Memory → RejectsWhole body bytes.now) }
+{
+    let (_count, rest) = skip_many::<'a, Dropped<(u32, ValType)>, A>(bytes, alloc)?;
+    skip_code(rest, alloc)?;
+    Ok(())
+}
+
+/// Skips a body with its size prefix, as in a code section, and allocates nothing.
+impl<'a, A: Allocator + Copy> Skip<'a, A> for Body<A> {
+    fn skip(bytes: &'a [u8], alloc: A) -> Result<&'a [u8], ReadFault> {
+        let (sized, rest) = <&'a [u8] as Readable<'a, A>>::read(bytes, alloc)?;
+        skip_body(sized, alloc)?;
+        Ok(rest)
+    }
+}

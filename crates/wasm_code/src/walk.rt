@@ -1,0 +1,170 @@
+// A visitor of instructions, one at a time.
+ghost use Rattle.std.specs.Prelude.{◌≡◌, ◌≢◌, ◌≤◌, ◌<◌, ◌+◌, [], ◌∷◌, IfOk, IfErr, IfSome, None, drop, length, map};
+ghost use Rattle.wasm_base.specs.Formats.{u32, pair, such, vec};
+ghost use Rattle.wasm_base.specs.Continuing.{RejectsWhole};
+ghost use Rattle.wasm_base.specs.Numbers.{padded};
+ghost use Rattle.wasm_base.specs.Decoding.{Decodes, Rejects};
+ghost use Rattle.wasm_base.specs.Types.{val_type};
+ghost use Rattle.wasm_insn.specs.Plain.{instruction};
+ghost use Rattle.wasm_insn.specs.Table.{table};
+ghost use Rattle.wasm_code.specs.Bodies.{body};
+ghost use Rattle.wasm_code.specs.Expressions.{IsNoEnd, expression};
+ghost use Rattle.wasm_base.specs.declared.fault.ReadFault.TheVariants.{Memory};
+ghost use Rattle.wasm_insn.specs.Views.{argument_view};
+ghost use Rattle.wasm_code.specs.Walks.{Walking, ahead};
+
+use crate::expression::END;
+use std::alloc::{Allocator, Global};
+use std::marker::Model;
+use wasm_base::{ReadFault, Readable, ValType};
+use wasm_insn::{Arg, Op, read_instruction_into};
+
+/// Visits the instructions of a body or an expression, one after another. It keeps the arguments of
+/// one instruction, in memory that it reuses: lists in arguments apart, it allocates nothing after
+/// the first instruction that has arguments.
+///
+/// ```text
+/// let (_runs, mut instructions) = Instructions::of_body(bytes, alloc)?;
+/// while let Some(step) = instructions.next()? {
+///     // step.op begins at step.offset, and instructions.args() are its arguments
+/// }
+/// ```
+///
+/// # Errors
+///
+/// Any error but `Memory` means that the bytes at the offset encode no instruction, and for
+/// `next_before_end` no expression.
+#[derive(Debug, Drop)]
+pub struct Instructions<'a, A: Allocator = Global> {
+    bytes: &'a [u8],
+    offset: usize,
+    args: Vec<Arg<A>, A>,
+}
+
+impl<'a, A: Allocator> Model for Instructions<'a, A> {
+    ghost Value = { Walking };
+
+    ghost view = { λ w. record { bytes = w.bytes.now; offset = w.offset; arguments = map argument_view w.args.items } };
+
+    ghost invariant = { λ w. w.offset ≤ length w.bytes.now };
+}
+
+/// A visited instruction: its offset in bytes, and its opcode.
+#[derive(Clone, Copy, PartialEq, Eq, Debug)]
+pub struct Step {
+    pub offset: usize,
+    pub op: Op,
+}
+
+impl<'a, A: Allocator + Copy> Instructions<'a, A> {
+    /// Returns a visitor that begins at the first byte, and allocates nothing.
+    pub fn new(bytes: &'a [u8], alloc: A) -> Self
+        ensures { result ≡ record { bytes = bytes.now; offset = 0; arguments = [] } }
+    {
+        Instructions {
+            bytes,
+            offset: 0,
+            args: Vec::new(alloc),
+        }
+    }
+
+    /// Decodes the runs of a body's locals, and returns them with a visitor of its instructions.
+    /// The bytes are those of the body without its size prefix. Offsets count from the first byte,
+    /// before the runs.
+    #[tactic(auto, using(crate::proofs::WalkLaws::body_steps))]
+    pub fn of_body(bytes: &'a [u8], alloc: A) -> Result<(Vec<(u32, ValType), A>, Self), ReadFault>
+        ensures found { IfOk result (λ x. Decodes (vec (pair u32 val_type)) padded bytes.now x.0.items (ahead x.1)) }
+        ensures same { IfOk result (λ x. x.1.bytes ≡ bytes.now) }
+        ensures within { IfOk result (λ x. x.1.offset ≤ length bytes.now) }
+        ensures before { IfOk result (λ x. x.1.arguments ≡ []) }
+        ensures none { IfErr result (λ e. e ≢ Memory → RejectsWhole body bytes.now) }
+    {
+        let (runs, rest) = <Vec<(u32, ValType), A> as Readable<'a, A>>::read(bytes, alloc)?;
+        let instructions = Instructions {
+            bytes,
+            offset: bytes.len() - rest.len(),
+            args: Vec::new(alloc),
+        };
+        Ok((runs, instructions))
+    }
+
+    /// Visits the instruction at the offset of the visitor, and advances the offset past it.
+    fn step(&mut self) -> Result<Step, ReadFault>
+        ensures offset { IfOk result (λ step. step.offset ≡ self.old.offset) }
+        ensures found { IfOk result (λ step. Decodes (instruction table) padded (ahead self.old) (record { op = step.op; arguments = self.new.arguments }) (ahead self.new)) }
+        ensures further { IfOk result (λ _. (self.old.offset < self.new.offset) × (self.new.offset ≤ length self.new.bytes)) }
+        ensures same { self.new.bytes ≡ self.old.bytes }
+        ensures stays { IfErr result (λ _. self.new.offset ≡ self.old.offset) }
+        ensures none { IfErr result (λ e. e ≢ Memory → Rejects (instruction table) padded (ahead self.old)) }
+    {
+        let offset = self.offset;
+        let alloc = *self.args.allocator();
+        let (op, rest) = read_instruction_into(&self.bytes[offset..], alloc, &mut self.args)?;
+        self.offset = self.bytes.len() - rest.len();
+        Ok(Step { offset, op })
+    }
+
+    /// Visits the next instruction, or returns `None` at the end of the bytes. After an error the
+    /// offset is unchanged.
+    pub fn next(&mut self) -> Result<Option<Step>, ReadFault>
+        ensures offset { IfOk result (λ next. IfSome next (λ step. step.offset ≡ self.old.offset)) }
+        ensures found { IfOk result (λ next. IfSome next (λ step. Decodes (instruction table) padded (ahead self.old) (record { op = step.op; arguments = self.new.arguments }) (ahead self.new))) }
+        ensures further { IfOk result (λ next. IfSome next (λ _. (self.old.offset < self.new.offset) × (self.new.offset ≤ length self.new.bytes))) }
+        ensures end { IfOk result (λ next. next ≡ None → ahead self.old ≡ []) }
+        ensures ended { IfOk result (λ next. next ≡ None → self.new ≡ self.old) }
+        ensures same { self.new.bytes ≡ self.old.bytes }
+        ensures stays { IfErr result (λ _. self.new.offset ≡ self.old.offset) }
+        ensures none { IfErr result (λ e. e ≢ Memory → Rejects (instruction table) padded (ahead self.old)) }
+        ensures left { IfErr result (λ _. ahead self.old ≢ []) }
+    {
+        if self.offset == self.bytes.len() {
+            return Ok(None);
+        }
+        let step = self.step()?;
+        Ok(Some(step))
+    }
+
+    /// Visits the next instruction of an expression, or returns `None` at its final `End`, which
+    /// the visitor does not pass. After an error the offset is unchanged.
+    pub fn next_before_end(&mut self) -> Result<Option<Step>, ReadFault>
+        ensures offset { IfOk result (λ next. IfSome next (λ step. step.offset ≡ self.old.offset)) }
+        ensures found { IfOk result (λ next. IfSome next (λ step. Decodes (such IsNoEnd (instruction table)) padded (ahead self.old) (record { op = step.op; arguments = self.new.arguments }) (ahead self.new))) }
+        ensures further { IfOk result (λ next. IfSome next (λ _. (self.old.offset < self.new.offset) × (self.new.offset ≤ length self.new.bytes))) }
+        ensures end { IfOk result (λ next. next ≡ None → ahead self.old ≡ 0x0B ∷ drop (self.old.offset + 1) self.old.bytes) }
+        ensures ended { IfOk result (λ next. next ≡ None → self.new ≡ self.old) }
+        ensures same { self.new.bytes ≡ self.old.bytes }
+        ensures stays { IfErr result (λ _. self.new.offset ≡ self.old.offset) }
+        ensures none { IfErr result (λ e. e ≢ Memory → Rejects expression padded (ahead self.old)) }
+    {
+        let [first, ..] = &self.bytes[self.offset..] else {
+            return Err(ReadFault::Ended);
+        };
+        if *first == END {
+            return Ok(None);
+        }
+        let step = self.step()?;
+        Ok(Some(step))
+    }
+
+    /// Returns the arguments of the instruction that was visited last. After an error they are
+    /// unspecified.
+    pub fn args(&self) -> &[Arg<A>]
+        ensures { map argument_view result.now ≡ self.now.arguments }
+    {
+        &self.args
+    }
+
+    /// Returns the offset of the next instruction, in bytes.
+    pub fn offset(&self) -> usize
+        ensures { result ≡ self.now.offset }
+    {
+        self.offset
+    }
+
+    /// Returns the bytes from the next instruction on.
+    pub fn rest(&self) -> &'a [u8]
+        ensures { result.now ≡ ahead self.now }
+    {
+        &self.bytes[self.offset..]
+    }
+}

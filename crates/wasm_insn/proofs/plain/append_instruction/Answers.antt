@@ -1,0 +1,10 @@
+use Rattle.wasm_base.proofs.Words.{map, on_ok}
+use Rattle.wasm_insn.specs.{argument_view}
+use Rattle.wasm_insn.proofs.DecodePlain.{instruction_appended, arguments_plain}
+use Rattle.wasm_insn.proofs.plain.append_instruction.Goals as goal
+
+pub returns-clause-ok : goal.returns-clause-ok
+returns-clause-ok g c = on_ok c.append_arguments.result _ _ c.append_arguments.ensures.ok λ e. instruction_appended c.args.op c.args.args.now c.args.sink.now.items c.encode.new.sink.items c.append_arguments.new.sink.items c.in_ok-encode.ensures.appends.ok e
+
+pub returns-clause-too_long : goal.returns-clause-too_long
+returns-clause-too_long g c = λ h. c.append_arguments.ensures.too_long (arguments_plain (record { op = c.args.op; arguments = map argument_view c.args.args.now }) h)

@@ -1,0 +1,105 @@
+// An instruction in normal form, an opcode and its arguments: decoded, skipped and minimized.
+ghost use Rattle.std.specs.Prelude.{◌≡◌, ◌≢◌, IfOk, IfErr, Err, OnOk, map, List};
+ghost use Rattle.wasm_base.specs.Numbers.{padded};
+ghost use Rattle.wasm_base.specs.Decoding.{Decodes, Rejects};
+ghost use Rattle.wasm_insn.specs.Plain.{Plain as PlainInstruction, opcode, instruction, part, arguments};
+ghost use Rattle.wasm_insn.specs.Table.{table};
+ghost use Rattle.wasm_base.specs.declared.refused.Refused.TheVariants.{TooLong};
+ghost use Rattle.wasm_base.specs.Minimal.{AppendsMinimal, IsFrontOf, HasEncoding};
+ghost use Rattle.wasm_base.specs.declared.fault.ReadFault.TheVariants.{Memory};
+ghost use Rattle.wasm_insn.specs.Views.{argument_view, plain_view};
+ghost use Rattle.wasm_base.specs.Formats.{members, size_prefixed};
+ghost use Rattle.wasm_base.specs.Continuing.{RejectsWhole};
+ghost use Rattle.wasm_insn.specs.Arguments.{Argument};
+ghost use Rattle.wasm_insn.specs.Parts.{parts_of};
+
+use crate::arguments::{
+    Arg, append_arguments, read_arguments, read_arguments_into, skip_arguments,
+};
+use crate::op::{Op, read_op};
+use std::alloc::{Allocator, Global};
+use wasm_base::{Encode, Layout, ReadFault, Readable, Result, Shorten, Skip};
+
+/// An instruction in normal form: its opcode, and an argument for each immediate of the opcode's
+/// shape.
+#[derive(Debug, Drop)]
+pub struct Plain<A: Allocator = Global> {
+    pub op: Op,
+    pub args: Vec<Arg<A>, A>,
+}
+
+impl<A: Allocator> Layout for Plain<A> {
+    ghost Value = { PlainInstruction };
+
+    ghost format = { instruction table };
+
+    ghost view = { plain_view };
+
+    #[tactic(auto, using(crate::proofs::InstructionLaws::unique))]
+    fn laws() {}
+}
+
+impl<'a, A: Allocator + Copy> Readable<'a, A> for Plain<A> {
+    #[tactic(auto, using(crate::proofs::DecodeInstructions::instruction_steps))]
+    fn read(bytes: &'a [u8], alloc: A) -> Result<(Plain<A>, &'a [u8]), ReadFault> {
+        let (op, rest) = read_op(bytes, alloc)?;
+        let Some(shape) = op.shape() else {
+            return Err(ReadFault::UnknownOpcode);
+        };
+        let (args, rest) = read_arguments(shape, rest, alloc)?;
+        Ok((Plain { op, args }, rest))
+    }
+}
+
+/// Decodes the instruction at the front: returns its opcode and the remaining bytes, and replaces
+/// the content of `args` by its arguments.
+#[tactic(auto, using(crate::proofs::DecodeInstructions::instruction_steps))]
+pub fn read_instruction_into<'a, A: Allocator + Copy>(
+    bytes: &'a [u8],
+    alloc: A,
+    args: &mut Vec<Arg<A>, A>,
+) -> Result<(Op, &'a [u8]), ReadFault>
+    ensures found { IfOk result (λ x. Decodes (instruction table) padded bytes.now (record { op = x.0; arguments = map argument_view args.new.items }) x.1.now) }
+    ensures none { IfErr result (λ e. e ≢ Memory → Rejects (instruction table) padded bytes.now) }
+{
+    let (op, rest) = read_op(bytes, alloc)?;
+    let Some(shape) = op.shape() else {
+        return Err(ReadFault::UnknownOpcode);
+    };
+    let rest = read_arguments_into(shape, rest, alloc, args)?;
+    Ok((op, rest))
+}
+
+/// Appends the minimal encoding of the instruction.
+pub fn append_instruction<A: Allocator, B: Allocator>(
+    op: Op,
+    args: &[Arg<A>],
+    sink: &mut Vec<u8, B>,
+) -> Result<()>
+    ensures ok { OnOk result (AppendsMinimal (instruction table) (record { op = op; arguments = map argument_view args.now }) sink.old.items sink.new.items) }
+    ensures front { IsFrontOf sink.old.items sink.new.items }
+    ensures too_long { HasEncoding (instruction table) (record { op = op; arguments = map argument_view args.now }) → result ≢ Err TooLong }
+{
+    op.encode(sink)?;
+    append_arguments(args, sink)
+}
+
+impl<A: Allocator> Shorten for Plain<A> {
+    fn write_minimal<B: Allocator>(&self, sink: &mut Vec<u8, B>) -> Result<()> {
+        append_instruction(self.op, &self.args, sink)
+    }
+}
+
+/// Skips the instruction at the front, and allocates nothing.
+impl<'a, A: Allocator + Copy> Skip<'a, A> for Plain<A> {
+    #[tactic(auto, using(crate::proofs::DecodeInstructions::instruction_steps))]
+    #[inline]
+    fn skip(bytes: &'a [u8], alloc: A) -> Result<&'a [u8], ReadFault> {
+        let (op, rest) = read_op(bytes, alloc)?;
+        let Some(shape) = op.shape() else {
+            return Err(ReadFault::UnknownOpcode);
+        };
+        let rest = skip_arguments(shape, rest, alloc)?;
+        Ok(rest)
+    }
+}

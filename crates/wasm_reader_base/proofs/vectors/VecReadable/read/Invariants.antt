@@ -1,6 +1,0 @@
-use Rattle.std.proofs.Common.{◌≡◌, length}
-use Rattle.wasm_reader_base.proofs.DecodeVectors.{HasRead}
-use Rattle.wasm_reader_base.proofs.vectors.VecReadable.read.Given as goal
-
-abbrev pub invariant-loop-taken : goal.invariant-loop-taken
-invariant-loop-taken g l = HasRead g.T.Layout.format g.T.Layout.view l.initial.rest l.items.items l.rest × (length l.items.items ≡ l._taken)

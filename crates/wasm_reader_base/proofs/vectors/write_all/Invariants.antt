@@ -1,7 +1,0 @@
-use Rattle.std.proofs.Common.{map, take}
-use Rattle.wasm_base.specs.Formats.{members}
-use Rattle.wasm_reader_base.specs.Minimal.{AppendsMinimal}
-use Rattle.wasm_reader_base.proofs.vectors.write_all.Given as goal
-
-abbrev pub invariant-loop-item : goal.invariant-loop-item
-invariant-loop-item g l = AppendsMinimal (members g.T.Layout.format) (map g.T.Layout.view (take l.item-index l.items)) l.initial.sink.items l.sink.items

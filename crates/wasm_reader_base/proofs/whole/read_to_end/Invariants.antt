@@ -1,9 +1,0 @@
-use Rattle.std.proofs.Common.{length}
-use Rattle.wasm_reader_base.proofs.DecodeWhole.{HasMembers}
-use Rattle.wasm_reader_base.proofs.whole.read_to_end.Given as goal
-
-abbrev pub invariant-loop-rest : goal.invariant-loop-rest
-invariant-loop-rest g l = HasMembers g.T.Layout.format g.T.Layout.view l.bytes l.items.items l.rest
-
-abbrev pub decreases-loop-rest : goal.decreases-loop-rest
-decreases-loop-rest g l = length l.rest

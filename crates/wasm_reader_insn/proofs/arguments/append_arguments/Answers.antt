@@ -1,8 +1,0 @@
-use Rattle.std.proofs.Common.{refl}
-use Rattle.wasm_reader_base.proofs.DecodedValues.{stays_short}
-use Rattle.wasm_reader_insn.proofs.DecodePlain.{plain_at}
-use Rattle.wasm_reader_insn.proofs.arguments.append_arguments.Goals as goal
-
-pub returns-in_err-append_argument-clause-too_long : goal.returns-in_err-append_argument-clause-too_long
-returns-in_err-append_argument-clause-too_long g c = λ h.
-    stays_short c.from_residual.result _ _ refl c.from_residual.ensures.1 (c.in_err-append_argument.ensures.too_long (plain_at c.args.args.now c.loop-arg.arg-index c.arg-item.result c.loop-arg-test.true c.arg-item.is h))

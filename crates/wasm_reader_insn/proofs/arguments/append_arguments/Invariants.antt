@@ -1,8 +1,0 @@
-use Rattle.std.proofs.Common.{◌≡◌, ◌++◌, take}
-use Rattle.std.specs.List.{flat_map}
-use Rattle.wasm_insn.specs.Arguments.{argument_encoding}
-use Rattle.wasm_reader_insn.specs.Arguments.{argument_view}
-use Rattle.wasm_reader_insn.proofs.arguments.append_arguments.Given as goal
-
-abbrev pub invariant-loop-arg : goal.invariant-loop-arg
-invariant-loop-arg g l = l.sink.items ≡ l.initial.sink.items ++ flat_map (λ a. argument_encoding (argument_view a)) (take l.arg-index l.args)

@@ -1,6 +1,0 @@
-use Rattle.wasm_reader_base.proofs.Faults.{fault_stays}
-use Rattle.wasm_reader_insn.proofs.DecodeArguments.{heap_none}
-use Rattle.wasm_reader_insn.proofs.arguments.read_heap.Goals as goal
-
-pub returns-in_err-value-clause-none : goal.returns-in_err-value-clause-none
-returns-in_err-value-clause-none g c = fault_stays c.from_residual.result _ c.from_residual.ensures.1 λ n. heap_none c.args.bytes.now (c.in_err-value.ensures.none n)

@@ -1,7 +1,0 @@
-use Rattle.std.proofs.Common.{map}
-use Rattle.wasm_reader_insn.specs.Arguments.{argument_view}
-use Rattle.wasm_reader_insn.proofs.DecodeArguments.{HasArguments}
-use Rattle.wasm_reader_insn.proofs.arguments.read_parts.Given as goal
-
-abbrev pub invariant-loop-part : goal.invariant-loop-part
-invariant-loop-part g l = HasArguments l.wanted l.part-index l.bytes (map argument_view l.args.items) l.rest

@@ -1,7 +1,0 @@
-use Rattle.std.proofs.Common.{List}
-use Rattle.wasm_insn.specs.Arguments.{Argument}
-use Rattle.wasm_reader_insn.proofs.DecodeArguments.{HasArguments}
-use Rattle.wasm_reader_insn.proofs.skip.skip_parts.Given as goal
-
-abbrev pub invariant-loop-part : goal.invariant-loop-part
-invariant-loop-part g l = (xs : List Argument) × HasArguments l.wanted l.part-index l.bytes xs l.rest

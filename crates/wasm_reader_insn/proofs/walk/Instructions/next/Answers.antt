@@ -1,8 +1,0 @@
-use Rattle.std.proofs.Common.{◌≢◌, [], subst}
-use Rattle.wasm_base.proofs.GroupLaws.{if_err_any}
-use Rattle.wasm_reader_insn.specs.Walks.{ahead}
-use Rattle.wasm_reader_insn.proofs.WalkLaws.{some_ahead}
-use Rattle.wasm_reader_insn.proofs.walk.Instructions.next.Goals as goal
-
-pub returns-in_err-step-clause-left : goal.returns-in_err-step-clause-left
-returns-in_err-step-clause-left g c = if_err_any c.from_residual.result (subst (λ w. ahead w ≢ []) c.self.view_is (some_ahead c.self.inside.bytes.now c.self.inside.offset c.self.invariant c.if-self.false))

@@ -1,0 +1,95 @@
+// Written by tools/to-rust from crates/wasm_base/src/names.rt: change that.
+// Names, and size-prefixed bytes. Decoded ones are slices of the input.
+
+use crate::vec::Sink;
+use crate::base::encode::Encode;
+use crate::base::fault::ReadFault;
+use crate::base::frames::encode_size_prefixed;
+use crate::base::readable::{Layout, Readable};
+use crate::base::refused::Result;
+use crate::base::shorten::Shorten;
+use crate::alloc::Allocator;
+
+/// Encodes a name: the size prefix and the UTF-8 bytes.
+///
+/// # Defined
+///
+/// ```text
+/// encoding = { λ name. size_prefixed_encoding name.now }
+/// encodable = { λ name. HasEncodableSize name.now }
+/// overlong = { λ name. longest < length name.now }
+/// ```
+impl Encode for &str {
+    #[inline(always)]
+    fn encode<A: Sink>(&self, sink: &mut A) -> Result<()> {
+        encode_size_prefixed(sink, self.as_bytes())
+    }
+}
+
+/// The payload of size-prefixed bytes.
+///
+/// # Defined
+///
+/// ```text
+/// Value = { List ℕ }
+/// format = { size_prefixed any_bytes }
+/// view = { λ b. b.now }
+/// ```
+impl<'a> Layout for &'a [u8] {
+    /// # Proved
+    ///
+    /// ```text
+    /// ensures { Unambiguous (size_prefixed any_bytes) }
+    /// ```
+    fn laws() {}
+}
+
+impl<'a, A: Allocator + Copy> Readable<'a, A> for &'a [u8] {
+    fn read(bytes: &'a [u8], alloc: A) -> Result<(&'a [u8], &'a [u8]), ReadFault> {
+        let (size, rest) = <u32 as Readable<'a, A>>::read(bytes, alloc)?;
+        if rest.len() < size as usize {
+            return Err(ReadFault::Ended);
+        }
+        Ok(rest.split_at(size as usize))
+    }
+}
+
+/// A name: a length, and that many bytes of UTF-8.
+///
+/// # Defined
+///
+/// ```text
+/// Value = { List ℕ }
+/// format = { name }
+/// view = { λ s. s.now }
+/// ```
+impl<'a> Layout for &'a str {
+    /// # Proved
+    ///
+    /// ```text
+    /// ensures { Unambiguous name }
+    /// ```
+    fn laws() {}
+}
+
+impl<'a, A: Allocator + Copy> Readable<'a, A> for &'a str {
+    fn read(bytes: &'a [u8], alloc: A) -> Result<(&'a str, &'a [u8]), ReadFault> {
+        let (encoding, rest) = <&'a [u8] as Readable<'a, A>>::read(bytes, alloc)?;
+        match str::from_utf8(encoding) {
+            Ok(name) => Ok((name, rest)),
+            Err(_) => Err(ReadFault::NotUtf8),
+        }
+    }
+}
+
+impl Shorten for &[u8] {
+    fn write_minimal<B: Sink>(&self, sink: &mut B) -> Result<()> {
+        encode_size_prefixed(sink, self)
+    }
+}
+
+impl Shorten for &str {
+    fn write_minimal<B: Sink>(&self, sink: &mut B) -> Result<()> {
+        self.encode(sink)
+    }
+}

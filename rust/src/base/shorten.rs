@@ -1,0 +1,40 @@
+// Written by tools/to-rust from crates/wasm_base/src/shorten.rt: change that.
+// The trait `Shorten`: values that can be written in their minimal encoding.
+
+use crate::vec::Sink;
+use crate::base::readable::Layout;
+use crate::base::refused::Result;
+
+/// A decoded value, or a component of one, that can be written in its minimal encoding.
+pub trait Shorten: Layout {
+    /// Writes the minimal encoding of the value after the old bytes. An impl defines it, and
+    /// callers use [`append_minimal`](Shorten::append_minimal): after an error of this method,
+    /// part of the encoding may be in the sink.
+    ///
+    /// # Proved
+    ///
+    /// ```text
+    /// ensures ok { OnOk result (AppendsMinimal Self.format (Self.view self.now) sink.old.items sink.new.items) }
+    /// ensures front { IsFrontOf sink.old.items sink.new.items }
+    /// ensures too_long { HasEncoding Self.format (Self.view self.now) → result ≢ Err TooLong }
+    /// ```
+    fn write_minimal<B: Sink>(&self, sink: &mut B) -> Result<()>;
+
+    /// Appends the minimal encoding of the value. On an error, the sink is unchanged.
+    ///
+    /// # Proved
+    ///
+    /// ```text
+    /// ensures ok { OnOk result (AppendsMinimal Self.format (Self.view self.now) sink.old.items sink.new.items) }
+    /// ensures err { OnErr result (sink.new.items ≡ sink.old.items) }
+    /// ensures too_long { HasEncoding Self.format (Self.view self.now) → result ≢ Err TooLong }
+    /// ```
+    fn append_minimal<B: Sink>(&self, sink: &mut B) -> Result<()> {
+        let start = sink.len();
+        let written = self.write_minimal(sink);
+        if written.is_err() {
+            sink.truncate(start);
+        }
+        written
+    }
+}

@@ -1,0 +1,72 @@
+// Written by tools/to-rust from crates/wasm_base/src/skip.rt: change that.
+// The trait `Skip`: values that are skipped and not kept.
+
+use crate::base::fault::ReadFault;
+use crate::base::readable::{Layout, Readable};
+use crate::alloc::Allocator;
+
+/// A value at the front of bytes, as for [`Readable`], that is skipped to reach the remaining
+/// bytes.
+pub trait Skip<'a, A: Allocator + Copy>: Layout {
+    /// Skips the value at the front, padded numbers included, and returns the remaining bytes.
+    ///
+    /// # Errors
+    ///
+    /// Any error but `Memory` means that no such value is at the front.
+    ///
+    /// # Proved
+    ///
+    /// ```text
+    /// ensures found { IfOk result (λ rest. (x : Self.Value) × Decodes Self.format padded bytes.now x rest.now) }
+    /// ensures none { IfErr result (λ e. e ≢ Memory → Rejects Self.format padded bytes.now) }
+    /// ```
+    fn skip(bytes: &'a [u8], alloc: A) -> Result<&'a [u8], ReadFault>;
+}
+
+/// A value that is decoded, and dropped at once.
+pub struct Dropped<T>(T);
+
+/// # Defined
+///
+/// ```text
+/// Value = { T.Value }
+/// format = { T.format }
+/// view = { λ dropped. T.view dropped.0 }
+/// ```
+impl<T: Layout> Layout for Dropped<T> {
+    fn laws() {
+        T::laws();
+    }
+}
+
+impl<'a, A: Allocator + Copy, T: Readable<'a, A>> Skip<'a, A> for Dropped<T> {
+    #[inline]
+    fn skip(bytes: &'a [u8], alloc: A) -> Result<&'a [u8], ReadFault> {
+        let (_value, rest) = T::read(bytes, alloc)?;
+        Ok(rest)
+    }
+}
+
+/// Skips a vector, and returns its number of members and the remaining bytes.
+///
+/// # Errors
+///
+/// Any error but `Memory` means that no such vector is at the front.
+///
+/// # Proved
+///
+/// ```text
+/// ensures found { IfOk result (λ x. (xs : List P.Value) × Decodes (vec P.format) padded bytes.now xs x.1.now × (x.0 ≡ length xs)) }
+/// ensures none { IfErr result (λ e. e ≢ Memory → Rejects (vec P.format) padded bytes.now) }
+/// ```
+pub fn skip_many<'a, P: Skip<'a, A>, A: Allocator + Copy>(
+    bytes: &'a [u8],
+    alloc: A,
+) -> Result<(u32, &'a [u8]), ReadFault> {
+    let (count, mut rest) = <u32 as Readable<'a, A>>::read(bytes, alloc)?;
+    P::laws();
+    for _taken in 0..count {
+        rest = P::skip(rest, alloc)?;
+    }
+    Ok((count, rest))
+}

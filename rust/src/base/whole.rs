@@ -1,0 +1,68 @@
+// Written by tools/to-rust from crates/wasm_base/src/whole.rt: change that.
+// Decoding of values that occupy all of the bytes.
+
+use crate::vec::Vec;
+use crate::base::fault::ReadFault;
+use crate::base::readable::Readable;
+use crate::alloc::Allocator;
+
+/// Decodes a value that occupies all of the bytes.
+///
+/// # Errors
+///
+/// Any error but `Memory` means that the bytes as a whole encode no such value.
+///
+/// # Proved
+///
+/// ```text
+/// ensures found { IfOk result (λ x. T.format padded bytes.now (T.view x)) }
+/// ensures none { IfErr result (λ e. e ≢ Memory → RejectsWhole T.format bytes.now) }
+/// ```
+pub fn read_whole<'a, T: Readable<'a, A>, A: Allocator + Copy>(
+    bytes: &'a [u8],
+    alloc: A,
+) -> Result<T, ReadFault> {
+    let (value, left) = T::read(bytes, alloc)?;
+    T::laws();
+    if left.is_empty() {
+        Ok(value)
+    } else {
+        Err(ReadFault::SizeMismatch)
+    }
+}
+
+/// Decodes values one after another, up to the last byte; no encoding of one is empty. Memory grows
+/// with the values that decode.
+///
+/// # Errors
+///
+/// Any error but `Memory` means that the bytes as a whole encode no such values.
+///
+/// # Asks
+///
+/// ```text
+/// requires { BeginsWith (λ b. Unit {0}) T.format }
+/// ```
+///
+/// # Proved
+///
+/// ```text
+/// ensures found { IfOk result (λ x. members T.format padded bytes.now (map T.view x.items)) }
+/// ensures none { IfErr result (λ e. e ≢ Memory → RejectsWhole (members T.format) bytes.now) }
+/// ```
+pub fn read_to_end<'a, T: Readable<'a, A>, A: Allocator + Copy>(
+    bytes: &'a [u8],
+    alloc: A,
+) -> Result<Vec<T, A>, ReadFault> {
+    let mut items = Vec::new(alloc);
+    let mut rest = bytes;
+    T::laws();
+    loop {
+        if rest.is_empty() {
+            return Ok(items);
+        }
+        let (item, after) = T::read(rest, alloc)?;
+        items.push(item)?;
+        rest = after;
+    }
+}

@@ -1,0 +1,214 @@
+// Written by tools/to-rust from crates/wasm_code/src/body.rt: change that.
+// Lists of instructions and function bodies: decoded, skipped and minimized.
+
+use crate::vec::{Sink, Vec};
+use crate::code::walk::Instructions;
+use crate::alloc::{Allocator, Global};
+use crate::base::{Dropped, Layout, ReadFault, Readable, Result, Shorten, Skip, ValType, prefix_size_since, skip_many};
+use crate::insn::{Plain, append_instruction};
+
+/// The capacity of a new list allows for one instruction per this many bytes. The list grows if
+/// they are shorter.
+const BYTES_OF_ONE: usize = 4;
+
+/// Decodes instructions that occupy all of the bytes.
+///
+/// # Errors
+///
+/// Any error but `Memory` means that the bytes as a whole encode no instructions.
+///
+/// # Proved
+///
+/// ```text
+/// ensures found { IfOk result (λ x. members (instruction table) padded bytes.now (map plain_view x.items)) }
+/// ensures none { IfErr result (λ e. e ≢ Memory → RejectsWhole (members (instruction table)) bytes.now) }
+/// ```
+pub fn read_code<'a, A: Allocator + Copy>(
+    bytes: &'a [u8],
+    alloc: A,
+) -> Result<Vec<Plain<A>, A>, ReadFault> {
+    let mut items = Vec::with_capacity(alloc, bytes.len() / BYTES_OF_ONE)?;
+    let mut rest = bytes;
+    loop {
+        if rest.is_empty() {
+            return Ok(items);
+        }
+        let (item, after) = <Plain<A> as Readable<'a, A>>::read(rest, alloc)?;
+        items.push(item)?;
+        rest = after;
+    }
+}
+
+/// Appends the minimal encodings of the instructions.
+///
+/// # Proved
+///
+/// ```text
+/// ensures ok { OnOk result (AppendsMinimal (members (instruction table)) (map plain_view code.now) sink.old.items sink.new.items) }
+/// ensures front { IsFrontOf sink.old.items sink.new.items }
+/// ensures too_long { HasEncoding (members (instruction table)) (map plain_view code.now) → result ≢ Err TooLong }
+/// ```
+pub(crate) fn append_code<A: Allocator, B: Sink>(
+    code: &[Plain<A>],
+    sink: &mut B,
+) -> Result<()> {
+    for instruction in code {
+        instruction.write_minimal(sink)?;
+    }
+    Ok(())
+}
+
+/// A function body: the runs of its locals, each a count and a type, and its instructions,
+/// including each `End`.
+#[derive(Debug)]
+pub struct Body<A: Allocator = Global> {
+    pub runs: Vec<(u32, ValType), A>,
+    pub code: Vec<Plain<A>, A>,
+}
+
+/// Decodes a body that occupies all of the bytes, which are a payload without its size prefix.
+///
+/// # Errors
+///
+/// Any error but `Memory` means that the bytes as a whole encode no body.
+///
+/// # Proved
+///
+/// ```text
+/// ensures found { IfOk result (λ x. body padded bytes.now (body_view x)) }
+/// ensures none { IfErr result (λ e. e ≢ Memory → RejectsWhole body bytes.now) }
+/// ```
+pub fn read_body<'a, A: Allocator + Copy>(bytes: &'a [u8], alloc: A) -> Result<Body<A>, ReadFault> {
+    let (runs, rest) = <Vec<(u32, ValType), A> as Readable<'a, A>>::read(bytes, alloc)?;
+    let code = read_code(rest, alloc)?;
+    Ok(Body { runs, code })
+}
+
+/// A body with its size prefix, as in a code section.
+///
+/// # Defined
+///
+/// ```text
+/// Value = { BodyModel }
+/// format = { size_prefixed body }
+/// view = { body_view }
+/// ```
+impl<A: Allocator> Layout for Body<A> {
+    fn laws() {}
+}
+
+impl<'a, A: Allocator + Copy> Readable<'a, A> for Body<A> {
+    fn read(bytes: &'a [u8], alloc: A) -> Result<(Body<A>, &'a [u8]), ReadFault> {
+        let (content, rest) = <&'a [u8] as Readable<'a, A>>::read(bytes, alloc)?;
+        let body = read_body(content, alloc)?;
+        Ok((body, rest))
+    }
+}
+
+impl<A: Allocator> Shorten for Body<A> {
+    fn write_minimal<B: Sink>(&self, sink: &mut B) -> Result<()> {
+        let start = sink.len();
+        self.runs.write_minimal(sink)?;
+        append_code(&self.code, sink)?;
+        prefix_size_since(sink, start)
+    }
+}
+
+/// Writes the bytes that [`shorten_body`] appends. After an error, part of them may follow the old
+/// bytes.
+///
+/// # Proved
+///
+/// ```text
+/// ensures found { OnOk result ((x : BodyModel) × body padded bytes.now x × AppendsMinimal (size_prefixed body) x sink.old.items sink.new.items) }
+/// ensures none { IfErr result (λ e. e ≢ Memory → RejectsWhole body bytes.now) }
+/// ensures front { IsFrontOf sink.old.items sink.new.items }
+/// ```
+fn write_body<A: Allocator + Copy, B: Sink>(
+    bytes: &[u8],
+    alloc: A,
+    sink: &mut B,
+) -> Result<(), ReadFault> {
+    let start = sink.len();
+    let (runs, mut instructions) = Instructions::of_body(bytes, alloc)?;
+    runs.write_minimal(sink)?;
+    while let Some(step) = instructions.next()? {
+        append_instruction(step.op, instructions.args(), sink)?;
+    }
+    prefix_size_since(sink, start)?;
+    Ok(())
+}
+
+/// Appends the minimal encoding of a function body with its size prefix, as in a code section. The
+/// bytes are those of the body without its size prefix. The call visits the instructions, and keeps
+/// one at a time. On an error, the sink is unchanged.
+///
+/// ```text
+/// shorten_body(&[0x80, 0x00, 0x20, 0x81, 0x00, 0x0B], alloc, &mut out)?;
+/// // 04 00 20 01 0B was appended: a body of no locals, `LocalGet(1)` and `End`
+/// ```
+///
+/// # Errors
+///
+/// Any error but `Memory` means that the bytes as a whole encode no body.
+///
+/// # Proved
+///
+/// ```text
+/// ensures found { OnOk result ((x : BodyModel) × body padded bytes.now x × AppendsMinimal (size_prefixed body) x sink.old.items sink.new.items) }
+/// ensures none { IfErr result (λ e. e ≢ Memory → RejectsWhole body bytes.now) }
+/// ensures err { OnErr result (sink.new.items ≡ sink.old.items) }
+/// ```
+pub fn shorten_body<A: Allocator + Copy, B: Sink>(
+    bytes: &[u8],
+    alloc: A,
+    sink: &mut B,
+) -> Result<(), ReadFault> {
+    let start = sink.len();
+    let written = write_body(bytes, alloc, sink);
+    if written.is_err() {
+        sink.truncate(start);
+    }
+    written
+}
+
+/// Skips instructions up to the last byte.
+///
+/// # Proved
+///
+/// ```text
+/// ensures found { OnOk result ((xs : List PlainInstruction) × members (instruction table) padded bytes.now xs) }
+/// ensures none { IfErr result (λ e. e ≢ Memory → RejectsWhole (members (instruction table)) bytes.now) }
+/// ```
+fn skip_code<'a, A: Allocator + Copy>(bytes: &'a [u8], alloc: A) -> Result<(), ReadFault> {
+    let mut rest = bytes;
+    loop {
+        if rest.is_empty() {
+            return Ok(());
+        }
+        rest = <Plain<A> as Skip<'a, A>>::skip(rest, alloc)?;
+    }
+}
+
+/// Skips the bytes of a body without its size prefix.
+///
+/// # Proved
+///
+/// ```text
+/// ensures found { OnOk result ((x : BodyModel) × body padded bytes.now x) }
+/// ensures none { IfErr result (λ e. e ≢ Memory → RejectsWhole body bytes.now) }
+/// ```
+fn skip_body<'a, A: Allocator + Copy>(bytes: &'a [u8], alloc: A) -> Result<(), ReadFault> {
+    let (_count, rest) = skip_many::<'a, Dropped<(u32, ValType)>, A>(bytes, alloc)?;
+    skip_code(rest, alloc)?;
+    Ok(())
+}
+
+/// Skips a body with its size prefix, as in a code section, and allocates nothing.
+impl<'a, A: Allocator + Copy> Skip<'a, A> for Body<A> {
+    fn skip(bytes: &'a [u8], alloc: A) -> Result<&'a [u8], ReadFault> {
+        let (sized, rest) = <&'a [u8] as Readable<'a, A>>::read(bytes, alloc)?;
+        skip_body(sized, alloc)?;
+        Ok(rest)
+    }
+}

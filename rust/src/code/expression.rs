@@ -1,0 +1,68 @@
+// Written by tools/to-rust from crates/wasm_code/src/expression.rt: change that.
+// Constant expressions as instructions up to `End`: decoded, skipped and minimized.
+
+use crate::vec::{Sink, Vec};
+use crate::code::body::append_code;
+use crate::alloc::{Allocator, Global};
+use crate::base::{Layout, ReadFault, Readable, Result, Shorten, Skip};
+use crate::insn::Plain;
+
+/// The opcode of `End`.
+pub(crate) const END: u8 = 0x0B;
+
+/// The instructions of a constant expression, without its final `End`.
+#[derive(Debug)]
+pub struct Expression<A: Allocator = Global>(pub Vec<Plain<A>, A>);
+
+/// # Defined
+///
+/// ```text
+/// Value = { List PlainInstruction }
+/// format = { expression }
+/// view = { λ e. map plain_view e.0.items }
+/// ```
+impl<A: Allocator> Layout for Expression<A> {
+    fn laws() {}
+}
+
+impl<'a, A: Allocator + Copy> Readable<'a, A> for Expression<A> {
+    fn read(bytes: &'a [u8], alloc: A) -> Result<(Expression<A>, &'a [u8]), ReadFault> {
+        let mut items = Vec::new(alloc);
+        let mut rest = bytes;
+        loop {
+            let [first, after @ ..] = rest else {
+                return Err(ReadFault::Ended);
+            };
+            if *first == END {
+                return Ok((Expression(items), after));
+            }
+            let (item, after) = <Plain<A> as Readable<'a, A>>::read(rest, alloc)?;
+            items.push(item)?;
+            rest = after;
+        }
+    }
+}
+
+impl<A: Allocator> Shorten for Expression<A> {
+    fn write_minimal<B: Sink>(&self, sink: &mut B) -> Result<()> {
+        append_code(&self.0, sink)?;
+        sink.push(END)?;
+        Ok(())
+    }
+}
+
+/// Skips a constant expression with its `End`, and allocates nothing.
+impl<'a, A: Allocator + Copy> Skip<'a, A> for Expression<A> {
+    fn skip(bytes: &'a [u8], alloc: A) -> Result<&'a [u8], ReadFault> {
+        let mut rest = bytes;
+        loop {
+            let [first, after @ ..] = rest else {
+                return Err(ReadFault::Ended);
+            };
+            if *first == END {
+                return Ok(after);
+            }
+            rest = <Plain<A> as Skip<'a, A>>::skip(rest, alloc)?;
+        }
+    }
+}

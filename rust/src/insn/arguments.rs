@@ -1,0 +1,698 @@
+// Written by tools/to-rust from crates/wasm_insn/src/arguments.rt: change that.
+// The arguments (immediates) of decoded instructions: decoded, skipped, and encoded again.
+
+use crate::vec::{Sink, Vec};
+use crate::insn::op::Shape;
+use crate::insn::part::Part;
+use crate::alloc::{Allocator, Global};
+use crate::base::{Dropped, Encode, HeapType, ReadFault, Readable, Result, Skip, ValType, skip_many};
+use crate::immediates::{BlockType, Catch, Handle, Ieee32, Ieee64, MemArg, Ordering};
+
+/// An argument of an instruction, decoded from one immediate of its shape.
+#[derive(Debug)]
+pub enum Arg<A: Allocator = Global> {
+    /// A number of 32 bits: an index, a label or a length.
+    U32(u32),
+    /// A constant of 32 bits.
+    S32(i32),
+    /// A constant of 64 bits.
+    S64(i64),
+    F32(Ieee32),
+    F64(Ieee64),
+    /// A vector of 128 bits, as a number in two's complement.
+    V128(i128),
+    Mem(MemArg),
+    Lane(u8),
+    /// The lanes of a shuffle.
+    Lanes([u8; 16]),
+    Block(BlockType),
+    Heap(HeapType),
+    Order(Ordering),
+    /// The labels of a branch table, without its default.
+    Labels(Vec<u32, A>),
+    Catches(Vec<Catch, A>),
+    Types(Vec<ValType, A>),
+    Handles(Vec<Handle, A>),
+    /// The flags of a cast, below 4: bit 0 is set if the first of its two types is nullable, bit 1
+    /// if the second is.
+    Flag(u8),
+}
+
+/// Decodes an unsigned number of 32 bits.
+///
+/// # Proved
+///
+/// ```text
+/// ensures found { IfOk result (λ x. Decodes (part parts.Unsigned) padded bytes.now (argument_view x.0) x.1.now) }
+/// ensures none { IfErr result (λ e. e ≢ Memory → Rejects (part parts.Unsigned) padded bytes.now) }
+/// ```
+#[inline(always)]
+pub(crate) fn read_unsigned<'a, A: Allocator + Copy>(
+    bytes: &'a [u8],
+    alloc: A,
+) -> Result<(Arg<A>, &'a [u8]), ReadFault> {
+    let (value, rest) = <u32 as Readable<'a, A>>::read(bytes, alloc)?;
+    Ok((Arg::U32(value), rest))
+}
+
+/// Decodes a signed number of 32 bits.
+///
+/// # Proved
+///
+/// ```text
+/// ensures found { IfOk result (λ x. Decodes (part parts.Signed32) padded bytes.now (argument_view x.0) x.1.now) }
+/// ensures none { IfErr result (λ e. e ≢ Memory → Rejects (part parts.Signed32) padded bytes.now) }
+/// ```
+#[inline(always)]
+pub(crate) fn read_signed32<'a, A: Allocator + Copy>(
+    bytes: &'a [u8],
+    alloc: A,
+) -> Result<(Arg<A>, &'a [u8]), ReadFault> {
+    let (value, rest) = <i32 as Readable<'a, A>>::read(bytes, alloc)?;
+    Ok((Arg::S32(value), rest))
+}
+
+/// Decodes a signed number of 64 bits.
+///
+/// # Proved
+///
+/// ```text
+/// ensures found { IfOk result (λ x. Decodes (part parts.Signed64) padded bytes.now (argument_view x.0) x.1.now) }
+/// ensures none { IfErr result (λ e. e ≢ Memory → Rejects (part parts.Signed64) padded bytes.now) }
+/// ```
+#[inline(always)]
+pub(crate) fn read_signed64<'a, A: Allocator + Copy>(
+    bytes: &'a [u8],
+    alloc: A,
+) -> Result<(Arg<A>, &'a [u8]), ReadFault> {
+    let (value, rest) = <i64 as Readable<'a, A>>::read(bytes, alloc)?;
+    Ok((Arg::S64(value), rest))
+}
+
+/// Decodes a float of 32 bits.
+///
+/// # Proved
+///
+/// ```text
+/// ensures found { IfOk result (λ x. Decodes (part parts.Float32) padded bytes.now (argument_view x.0) x.1.now) }
+/// ensures none { IfErr result (λ e. e ≢ Memory → Rejects (part parts.Float32) padded bytes.now) }
+/// ```
+#[inline(never)]
+fn read_float32<'a, A: Allocator + Copy>(
+    bytes: &'a [u8],
+    alloc: A,
+) -> Result<(Arg<A>, &'a [u8]), ReadFault> {
+    let (value, rest) = <Ieee32 as Readable<'a, A>>::read(bytes, alloc)?;
+    Ok((Arg::F32(value), rest))
+}
+
+/// Decodes a float of 64 bits.
+///
+/// # Proved
+///
+/// ```text
+/// ensures found { IfOk result (λ x. Decodes (part parts.Float64) padded bytes.now (argument_view x.0) x.1.now) }
+/// ensures none { IfErr result (λ e. e ≢ Memory → Rejects (part parts.Float64) padded bytes.now) }
+/// ```
+#[inline(never)]
+fn read_float64<'a, A: Allocator + Copy>(
+    bytes: &'a [u8],
+    alloc: A,
+) -> Result<(Arg<A>, &'a [u8]), ReadFault> {
+    let (value, rest) = <Ieee64 as Readable<'a, A>>::read(bytes, alloc)?;
+    Ok((Arg::F64(value), rest))
+}
+
+/// Decodes a vector of 128 bits.
+///
+/// # Proved
+///
+/// ```text
+/// ensures found { IfOk result (λ x. Decodes (part parts.Vector) padded bytes.now (argument_view x.0) x.1.now) }
+/// ensures none { IfErr result (λ e. e ≢ Memory → Rejects (part parts.Vector) padded bytes.now) }
+/// ```
+#[inline(never)]
+fn read_vector<'a, A: Allocator + Copy>(
+    bytes: &'a [u8],
+    alloc: A,
+) -> Result<(Arg<A>, &'a [u8]), ReadFault> {
+    let (value, rest) = <i128 as Readable<'a, A>>::read(bytes, alloc)?;
+    Ok((Arg::V128(value), rest))
+}
+
+/// Decodes a memory argument.
+///
+/// # Proved
+///
+/// ```text
+/// ensures found { IfOk result (λ x. Decodes (part parts.Memory) padded bytes.now (argument_view x.0) x.1.now) }
+/// ensures none { IfErr result (λ e. e ≢ Memory → Rejects (part parts.Memory) padded bytes.now) }
+/// ```
+#[inline(always)]
+pub(crate) fn read_memory<'a, A: Allocator + Copy>(
+    bytes: &'a [u8],
+    alloc: A,
+) -> Result<(Arg<A>, &'a [u8]), ReadFault> {
+    let (value, rest) = <MemArg as Readable<'a, A>>::read(bytes, alloc)?;
+    Ok((Arg::Mem(value), rest))
+}
+
+/// Decodes a lane.
+///
+/// # Proved
+///
+/// ```text
+/// ensures found { IfOk result (λ x. Decodes (part parts.Lane) padded bytes.now (argument_view x.0) x.1.now) }
+/// ensures none { IfErr result (λ e. e ≢ Memory → Rejects (part parts.Lane) padded bytes.now) }
+/// ```
+fn read_lane<'a, A: Allocator + Copy>(
+    bytes: &'a [u8],
+    alloc: A,
+) -> Result<(Arg<A>, &'a [u8]), ReadFault> {
+    let (value, rest) = <u8 as Readable<'a, A>>::read(bytes, alloc)?;
+    Ok((Arg::Lane(value), rest))
+}
+
+/// Decodes sixteen lanes.
+///
+/// # Proved
+///
+/// ```text
+/// ensures found { IfOk result (λ x. Decodes (part parts.Lanes) padded bytes.now (argument_view x.0) x.1.now) }
+/// ensures none { IfErr result (λ e. e ≢ Memory → Rejects (part parts.Lanes) padded bytes.now) }
+/// ```
+#[inline(never)]
+fn read_lanes<'a, A: Allocator + Copy>(
+    bytes: &'a [u8],
+    alloc: A,
+) -> Result<(Arg<A>, &'a [u8]), ReadFault> {
+    let (value, rest) = <[u8; 16] as Readable<'a, A>>::read(bytes, alloc)?;
+    Ok((Arg::Lanes(value), rest))
+}
+
+/// Decodes a block type.
+///
+/// # Proved
+///
+/// ```text
+/// ensures found { IfOk result (λ x. Decodes (part parts.Block) padded bytes.now (argument_view x.0) x.1.now) }
+/// ensures none { IfErr result (λ e. e ≢ Memory → Rejects (part parts.Block) padded bytes.now) }
+/// ```
+#[inline(always)]
+pub(crate) fn read_block<'a, A: Allocator + Copy>(
+    bytes: &'a [u8],
+    alloc: A,
+) -> Result<(Arg<A>, &'a [u8]), ReadFault> {
+    let (value, rest) = <BlockType as Readable<'a, A>>::read(bytes, alloc)?;
+    Ok((Arg::Block(value), rest))
+}
+
+/// Decodes a heap type.
+///
+/// # Proved
+///
+/// ```text
+/// ensures found { IfOk result (λ x. Decodes (part parts.Heap) padded bytes.now (argument_view x.0) x.1.now) }
+/// ensures none { IfErr result (λ e. e ≢ Memory → Rejects (part parts.Heap) padded bytes.now) }
+/// ```
+#[inline(never)]
+fn read_heap<'a, A: Allocator + Copy>(
+    bytes: &'a [u8],
+    alloc: A,
+) -> Result<(Arg<A>, &'a [u8]), ReadFault> {
+    let (value, rest) = <HeapType as Readable<'a, A>>::read(bytes, alloc)?;
+    Ok((Arg::Heap(value), rest))
+}
+
+/// Decodes an ordering.
+///
+/// # Proved
+///
+/// ```text
+/// ensures found { IfOk result (λ x. Decodes (part parts.Ordering) padded bytes.now (argument_view x.0) x.1.now) }
+/// ensures none { IfErr result (λ e. e ≢ Memory → Rejects (part parts.Ordering) padded bytes.now) }
+/// ```
+#[inline(never)]
+fn read_ordering<'a, A: Allocator + Copy>(
+    bytes: &'a [u8],
+    alloc: A,
+) -> Result<(Arg<A>, &'a [u8]), ReadFault> {
+    let (value, rest) = <Ordering as Readable<'a, A>>::read(bytes, alloc)?;
+    Ok((Arg::Order(value), rest))
+}
+
+/// Decodes a vector of labels.
+///
+/// # Proved
+///
+/// ```text
+/// ensures found { IfOk result (λ x. Decodes (part parts.Labels) padded bytes.now (argument_view x.0) x.1.now) }
+/// ensures none { IfErr result (λ e. e ≢ Memory → Rejects (part parts.Labels) padded bytes.now) }
+/// ```
+#[inline(never)]
+fn read_labels<'a, A: Allocator + Copy>(
+    bytes: &'a [u8],
+    alloc: A,
+) -> Result<(Arg<A>, &'a [u8]), ReadFault> {
+    let (value, rest) = <Vec<u32, A> as Readable<'a, A>>::read(bytes, alloc)?;
+    Ok((Arg::Labels(value), rest))
+}
+
+/// Decodes a vector of catch clauses.
+///
+/// # Proved
+///
+/// ```text
+/// ensures found { IfOk result (λ x. Decodes (part parts.Catches) padded bytes.now (argument_view x.0) x.1.now) }
+/// ensures none { IfErr result (λ e. e ≢ Memory → Rejects (part parts.Catches) padded bytes.now) }
+/// ```
+#[inline(never)]
+fn read_catches<'a, A: Allocator + Copy>(
+    bytes: &'a [u8],
+    alloc: A,
+) -> Result<(Arg<A>, &'a [u8]), ReadFault> {
+    let (value, rest) = <Vec<Catch, A> as Readable<'a, A>>::read(bytes, alloc)?;
+    Ok((Arg::Catches(value), rest))
+}
+
+/// Decodes a vector of value types.
+///
+/// # Proved
+///
+/// ```text
+/// ensures found { IfOk result (λ x. Decodes (part parts.Types) padded bytes.now (argument_view x.0) x.1.now) }
+/// ensures none { IfErr result (λ e. e ≢ Memory → Rejects (part parts.Types) padded bytes.now) }
+/// ```
+#[inline(never)]
+fn read_types<'a, A: Allocator + Copy>(
+    bytes: &'a [u8],
+    alloc: A,
+) -> Result<(Arg<A>, &'a [u8]), ReadFault> {
+    let (value, rest) = <Vec<ValType, A> as Readable<'a, A>>::read(bytes, alloc)?;
+    Ok((Arg::Types(value), rest))
+}
+
+/// Decodes a vector of handle clauses.
+///
+/// # Proved
+///
+/// ```text
+/// ensures found { IfOk result (λ x. Decodes (part parts.Handles) padded bytes.now (argument_view x.0) x.1.now) }
+/// ensures none { IfErr result (λ e. e ≢ Memory → Rejects (part parts.Handles) padded bytes.now) }
+/// ```
+#[inline(never)]
+fn read_handles<'a, A: Allocator + Copy>(
+    bytes: &'a [u8],
+    alloc: A,
+) -> Result<(Arg<A>, &'a [u8]), ReadFault> {
+    let (value, rest) = <Vec<Handle, A> as Readable<'a, A>>::read(bytes, alloc)?;
+    Ok((Arg::Handles(value), rest))
+}
+
+/// Decodes the flags of a cast.
+///
+/// # Proved
+///
+/// ```text
+/// ensures found { IfOk result (λ x. Decodes (part parts.Flag) padded bytes.now (argument_view x.0) x.1.now) }
+/// ensures none { IfErr result (λ e. e ≢ Memory → Rejects (part parts.Flag) padded bytes.now) }
+/// ```
+fn read_flag<'a, A: Allocator + Copy>(
+    bytes: &'a [u8],
+    alloc: A,
+) -> Result<(Arg<A>, &'a [u8]), ReadFault> {
+    let (value, rest) = <u8 as Readable<'a, A>>::read(bytes, alloc)?;
+    if value < 4 {
+        Ok((Arg::Flag(value), rest))
+    } else {
+        Err(ReadFault::UnknownTag)
+    }
+}
+
+/// Decodes one argument. Rare and long arms are not inlined: with all of them inline, the compiler
+/// moves the result of each arm through all of them.
+///
+/// # Proved
+///
+/// ```text
+/// ensures found { IfOk result (λ x. Decodes (part wanted) padded bytes.now (argument_view x.0) x.1.now) }
+/// ensures none { IfErr result (λ e. e ≢ Memory → Rejects (part wanted) padded bytes.now) }
+/// ```
+pub(crate) fn read_part<'a, A: Allocator + Copy>(
+    wanted: Part,
+    bytes: &'a [u8],
+    alloc: A,
+) -> Result<(Arg<A>, &'a [u8]), ReadFault> {
+    match wanted {
+        Part::Unsigned => read_unsigned(bytes, alloc),
+        Part::Signed32 => read_signed32(bytes, alloc),
+        Part::Signed64 => read_signed64(bytes, alloc),
+        Part::Float32 => read_float32(bytes, alloc),
+        Part::Float64 => read_float64(bytes, alloc),
+        Part::Vector => read_vector(bytes, alloc),
+        Part::Memory => read_memory(bytes, alloc),
+        Part::Lane => read_lane(bytes, alloc),
+        Part::Lanes => read_lanes(bytes, alloc),
+        Part::Block => read_block(bytes, alloc),
+        Part::Heap => read_heap(bytes, alloc),
+        Part::Ordering => read_ordering(bytes, alloc),
+        Part::Labels => read_labels(bytes, alloc),
+        Part::Catches => read_catches(bytes, alloc),
+        Part::Types => read_types(bytes, alloc),
+        Part::Handles => read_handles(bytes, alloc),
+        Part::Flag => read_flag(bytes, alloc),
+    }
+}
+
+/// Decodes one argument for each of `wanted`, appends it to `args`, and returns the remaining
+/// bytes.
+///
+/// # Asks
+///
+/// ```text
+/// requires { args.old.items ≡ [] }
+/// ```
+///
+/// # Proved
+///
+/// ```text
+/// ensures found { IfOk result (λ rest. Decodes (arguments wanted.now) padded bytes.now (map argument_view args.new.items) rest.now) }
+/// ensures none { IfErr result (λ e. e ≢ Memory → Rejects (arguments wanted.now) padded bytes.now) }
+/// ```
+fn read_parts<'a, A: Allocator + Copy>(
+    wanted: &[Part],
+    bytes: &'a [u8],
+    alloc: A,
+    args: &mut Vec<Arg<A>, A>,
+) -> Result<&'a [u8], ReadFault> {
+    let mut rest = bytes;
+    for part in wanted {
+        let (arg, after) = read_part(*part, rest, alloc)?;
+        args.push(arg)?;
+        rest = after;
+    }
+    Ok(rest)
+}
+
+/// Decodes the arguments of any shape, into a list of exactly their number. Out of line, for rare
+/// shapes.
+///
+/// # Proved
+///
+/// ```text
+/// ensures found { IfOk result (λ x. Decodes (arguments (parts_of shape)) padded bytes.now (map argument_view x.0.items) x.1.now) }
+/// ensures none { IfErr result (λ e. e ≢ Memory → Rejects (arguments (parts_of shape)) padded bytes.now) }
+/// ```
+#[inline(never)]
+fn read_any<'a, A: Allocator + Copy>(
+    shape: Shape,
+    bytes: &'a [u8],
+    alloc: A,
+) -> Result<(Vec<Arg<A>, A>, &'a [u8]), ReadFault> {
+    let wanted = shape.parts();
+    let mut args = Vec::with_capacity(alloc, wanted.len())?;
+    let rest = read_parts(wanted, bytes, alloc, &mut args)?;
+    Ok((args, rest))
+}
+
+/// Returns the list of the one decoded argument, and the remaining bytes.
+///
+/// # Proved
+///
+/// ```text
+/// ensures listed { IfOk result (λ x. (x.0.items ≡ read.entry.0 ∷ []) × (x.1.now ≡ read.entry.1.now)) }
+/// ensures refused { IfErr result (λ e. e ≡ Memory) }
+/// ```
+#[inline(always)]
+fn list_one<'a, A: Allocator + Copy>(
+    alloc: A,
+    read: (Arg<A>, &'a [u8]),
+) -> Result<(Vec<Arg<A>, A>, &'a [u8]), ReadFault> {
+    let (arg, rest) = read;
+    let mut args = Vec::with_capacity(alloc, 1)?;
+    args.push_reserved(arg);
+    Ok((args, rest))
+}
+
+/// Decodes the arguments of an opcode of this shape, into a list of exactly their number. Common
+/// shapes are decoded inline.
+///
+/// # Proved
+///
+/// ```text
+/// ensures found { IfOk result (λ x. Decodes (arguments (parts_of shape)) padded bytes.now (map argument_view x.0.items) x.1.now) }
+/// ensures none { IfErr result (λ e. e ≢ Memory → Rejects (arguments (parts_of shape)) padded bytes.now) }
+/// ```
+#[inline]
+pub(crate) fn read_arguments<'a, A: Allocator + Copy>(
+    shape: Shape,
+    bytes: &'a [u8],
+    alloc: A,
+) -> Result<(Vec<Arg<A>, A>, &'a [u8]), ReadFault> {
+    match shape {
+        Shape::Nothing => Ok((Vec::new(alloc), bytes)),
+        Shape::U => list_one(alloc, read_unsigned(bytes, alloc)?),
+        Shape::M => list_one(alloc, read_memory(bytes, alloc)?),
+        Shape::C32 => list_one(alloc, read_signed32(bytes, alloc)?),
+        Shape::C64 => list_one(alloc, read_signed64(bytes, alloc)?),
+        Shape::B => list_one(alloc, read_block(bytes, alloc)?),
+        _ => read_any(shape, bytes, alloc),
+    }
+}
+
+/// Decodes the arguments of any shape into the memory of `args`. Out of line, for rare shapes.
+///
+/// # Proved
+///
+/// ```text
+/// ensures found { IfOk result (λ rest. Decodes (arguments (parts_of shape)) padded bytes.now (map argument_view args.new.items) rest.now) }
+/// ensures none { IfErr result (λ e. e ≢ Memory → Rejects (arguments (parts_of shape)) padded bytes.now) }
+/// ```
+#[inline(never)]
+fn read_any_into<'a, A: Allocator + Copy>(
+    shape: Shape,
+    bytes: &'a [u8],
+    alloc: A,
+    args: &mut Vec<Arg<A>, A>,
+) -> Result<&'a [u8], ReadFault> {
+    args.clear();
+    read_parts(shape.parts(), bytes, alloc, args)
+}
+
+/// Makes the decoded argument the only one of the list, and returns the remaining bytes.
+///
+/// # Proved
+///
+/// ```text
+/// ensures kept { IfOk result (λ rest. (args.new.items ≡ read.entry.0 ∷ []) × (rest.now ≡ read.entry.1.now)) }
+/// ensures refused { IfErr result (λ e. e ≡ Memory) }
+/// ```
+#[inline(always)]
+fn keep_one<'a, A: Allocator + Copy>(
+    args: &mut Vec<Arg<A>, A>,
+    read: (Arg<A>, &'a [u8]),
+) -> Result<&'a [u8], ReadFault> {
+    let (arg, rest) = read;
+    if let [one] = &mut args[..] {
+        *one = arg;
+        return Ok(rest);
+    }
+    args.clear();
+    args.push(arg)?;
+    Ok(rest)
+}
+
+/// Decodes the arguments of an opcode of this shape into the memory of `args`, and drops its old
+/// ones. Common shapes are decoded inline.
+///
+/// # Proved
+///
+/// ```text
+/// ensures found { IfOk result (λ rest. Decodes (arguments (parts_of shape)) padded bytes.now (map argument_view args.new.items) rest.now) }
+/// ensures none { IfErr result (λ e. e ≢ Memory → Rejects (arguments (parts_of shape)) padded bytes.now) }
+/// ```
+#[inline]
+pub(crate) fn read_arguments_into<'a, A: Allocator + Copy>(
+    shape: Shape,
+    bytes: &'a [u8],
+    alloc: A,
+    args: &mut Vec<Arg<A>, A>,
+) -> Result<&'a [u8], ReadFault> {
+    match shape {
+        Shape::Nothing => {
+            args.clear();
+            Ok(bytes)
+        }
+        Shape::U => keep_one(args, read_unsigned(bytes, alloc)?),
+        Shape::M => keep_one(args, read_memory(bytes, alloc)?),
+        Shape::C32 => keep_one(args, read_signed32(bytes, alloc)?),
+        Shape::C64 => keep_one(args, read_signed64(bytes, alloc)?),
+        Shape::B => keep_one(args, read_block(bytes, alloc)?),
+        _ => read_any_into(shape, bytes, alloc, args),
+    }
+}
+
+/// Appends the minimal encoding of the argument.
+///
+/// # Proved
+///
+/// ```text
+/// ensures ok { OnOk result (sink.new.items ≡ sink.old.items ++ argument_encoding (argument_view arg.now)) }
+/// ensures err { OnErr result (sink.new.items ≡ sink.old.items) }
+/// ensures too_long { IsWellFormedArgument (argument_view arg.now) → result ≢ Err TooLong }
+/// ```
+fn append_argument<A: Allocator, B: Sink>(arg: &Arg<A>, sink: &mut B) -> Result<()> {
+    match arg {
+        Arg::U32(n) => n.encode(sink),
+        Arg::S32(n) => n.encode(sink),
+        Arg::S64(n) => n.encode(sink),
+        Arg::F32(float) => float.encode(sink),
+        Arg::F64(float) => float.encode(sink),
+        Arg::V128(vector) => vector.to_le_bytes().encode(sink),
+        Arg::Mem(memory) => memory.encode(sink),
+        Arg::Lane(lane) => lane.encode(sink),
+        Arg::Lanes(lanes) => lanes.encode(sink),
+        Arg::Block(block) => block.encode(sink),
+        Arg::Heap(heap) => heap.encode(sink),
+        Arg::Order(ordering) => ordering.encode(sink),
+        Arg::Labels(labels) => labels.as_slice().encode(sink),
+        Arg::Catches(catches) => catches.as_slice().encode(sink),
+        Arg::Types(types) => types.as_slice().encode(sink),
+        Arg::Handles(handles) => handles.as_slice().encode(sink),
+        Arg::Flag(flag) => flag.encode(sink),
+    }
+}
+
+/// Appends the minimal encodings of the arguments.
+///
+/// # Proved
+///
+/// ```text
+/// ensures ok { OnOk result (sink.new.items ≡ sink.old.items ++ flat_map (λ a. argument_encoding (argument_view a)) args.now) }
+/// ensures front { IsFrontOf sink.old.items sink.new.items }
+/// ensures too_long { AreWellFormed (map argument_view args.now) → result ≢ Err TooLong }
+/// ```
+pub(crate) fn append_arguments<A: Allocator, B: Sink>(
+    args: &[Arg<A>],
+    sink: &mut B,
+) -> Result<()> {
+    for arg in args {
+        append_argument(arg, sink)?;
+    }
+    Ok(())
+}
+
+/// Skips one argument, and returns the remaining bytes. Lists are skipped member by member.
+///
+/// # Proved
+///
+/// ```text
+/// ensures found { IfOk result (λ rest. (x : Argument) × Decodes (part wanted) padded bytes.now x rest.now) }
+/// ensures none { IfErr result (λ e. e ≢ Memory → Rejects (part wanted) padded bytes.now) }
+/// ```
+fn skip_part<'a, A: Allocator + Copy>(
+    wanted: Part,
+    bytes: &'a [u8],
+    alloc: A,
+) -> Result<&'a [u8], ReadFault> {
+    match wanted {
+        Part::Labels => {
+            let (_count, rest) = skip_many::<'a, Dropped<u32>, A>(bytes, alloc)?;
+            Ok(rest)
+        }
+        Part::Catches => {
+            let (_count, rest) = skip_many::<'a, Dropped<Catch>, A>(bytes, alloc)?;
+            Ok(rest)
+        }
+        Part::Types => {
+            let (_count, rest) = skip_many::<'a, Dropped<ValType>, A>(bytes, alloc)?;
+            Ok(rest)
+        }
+        Part::Handles => {
+            let (_count, rest) = skip_many::<'a, Dropped<Handle>, A>(bytes, alloc)?;
+            Ok(rest)
+        }
+        _ => {
+            let (_arg, rest) = read_part(wanted, bytes, alloc)?;
+            Ok(rest)
+        }
+    }
+}
+
+/// Skips one argument for each of `wanted`, and returns the remaining bytes.
+///
+/// # Proved
+///
+/// ```text
+/// ensures found { IfOk result (λ rest. (xs : List Argument) × Decodes (arguments wanted.now) padded bytes.now xs rest.now) }
+/// ensures none { IfErr result (λ e. e ≢ Memory → Rejects (arguments wanted.now) padded bytes.now) }
+/// ```
+fn skip_parts<'a, A: Allocator + Copy>(
+    wanted: &[Part],
+    bytes: &'a [u8],
+    alloc: A,
+) -> Result<&'a [u8], ReadFault> {
+    let mut rest = bytes;
+    for part in wanted {
+        rest = skip_part(*part, rest, alloc)?;
+    }
+    Ok(rest)
+}
+
+/// Skips the arguments of any shape, and returns the remaining bytes. Out of line, for rare shapes.
+///
+/// # Proved
+///
+/// ```text
+/// ensures found { IfOk result (λ rest. (xs : List Argument) × Decodes (arguments (parts_of shape)) padded bytes.now xs rest.now) }
+/// ensures none { IfErr result (λ e. e ≢ Memory → Rejects (arguments (parts_of shape)) padded bytes.now) }
+/// ```
+#[inline(never)]
+fn skip_any<'a, A: Allocator + Copy>(
+    shape: Shape,
+    bytes: &'a [u8],
+    alloc: A,
+) -> Result<&'a [u8], ReadFault> {
+    skip_parts(shape.parts(), bytes, alloc)
+}
+
+/// Skips the arguments of an opcode of this shape, and returns the remaining bytes. Common shapes
+/// are skipped inline.
+///
+/// # Proved
+///
+/// ```text
+/// ensures found { IfOk result (λ rest. (xs : List Argument) × Decodes (arguments (parts_of shape)) padded bytes.now xs rest.now) }
+/// ensures none { IfErr result (λ e. e ≢ Memory → Rejects (arguments (parts_of shape)) padded bytes.now) }
+/// ```
+#[inline]
+pub(crate) fn skip_arguments<'a, A: Allocator + Copy>(
+    shape: Shape,
+    bytes: &'a [u8],
+    alloc: A,
+) -> Result<&'a [u8], ReadFault> {
+    match shape {
+        Shape::Nothing => Ok(bytes),
+        Shape::U => {
+            let (_arg, rest) = read_unsigned(bytes, alloc)?;
+            Ok(rest)
+        }
+        Shape::M => {
+            let (_arg, rest) = read_memory(bytes, alloc)?;
+            Ok(rest)
+        }
+        Shape::C32 => {
+            let (_arg, rest) = read_signed32(bytes, alloc)?;
+            Ok(rest)
+        }
+        Shape::C64 => {
+            let (_arg, rest) = read_signed64(bytes, alloc)?;
+            Ok(rest)
+        }
+        Shape::B => {
+            let (_arg, rest) = read_block(bytes, alloc)?;
+            Ok(rest)
+        }
+        _ => skip_any(shape, bytes, alloc),
+    }
+}

@@ -1,0 +1,97 @@
+// Written by tools/to-rust from crates/wasm_insn/src/plain.rt: change that.
+// An instruction in normal form, an opcode and its arguments: decoded, skipped and minimized.
+
+use crate::vec::{Sink, Vec};
+use crate::insn::arguments::{Arg, append_arguments, read_arguments, read_arguments_into, skip_arguments};
+use crate::insn::op::{Op, read_op};
+use crate::alloc::{Allocator, Global};
+use crate::base::{Encode, Layout, ReadFault, Readable, Result, Shorten, Skip};
+
+/// An instruction in normal form: its opcode, and an argument for each immediate of the opcode's
+/// shape.
+#[derive(Debug)]
+pub struct Plain<A: Allocator = Global> {
+    pub op: Op,
+    pub args: Vec<Arg<A>, A>,
+}
+
+/// # Defined
+///
+/// ```text
+/// Value = { PlainInstruction }
+/// format = { instruction table }
+/// view = { plain_view }
+/// ```
+impl<A: Allocator> Layout for Plain<A> {
+    fn laws() {}
+}
+
+impl<'a, A: Allocator + Copy> Readable<'a, A> for Plain<A> {
+    fn read(bytes: &'a [u8], alloc: A) -> Result<(Plain<A>, &'a [u8]), ReadFault> {
+        let (op, rest) = read_op(bytes, alloc)?;
+        let Some(shape) = op.shape() else {
+            return Err(ReadFault::UnknownOpcode);
+        };
+        let (args, rest) = read_arguments(shape, rest, alloc)?;
+        Ok((Plain { op, args }, rest))
+    }
+}
+
+/// Decodes the instruction at the front: returns its opcode and the remaining bytes, and replaces
+/// the content of `args` by its arguments.
+///
+/// # Proved
+///
+/// ```text
+/// ensures found { IfOk result (λ x. Decodes (instruction table) padded bytes.now (record { op = x.0; arguments = map argument_view args.new.items }) x.1.now) }
+/// ensures none { IfErr result (λ e. e ≢ Memory → Rejects (instruction table) padded bytes.now) }
+/// ```
+pub fn read_instruction_into<'a, A: Allocator + Copy>(
+    bytes: &'a [u8],
+    alloc: A,
+    args: &mut Vec<Arg<A>, A>,
+) -> Result<(Op, &'a [u8]), ReadFault> {
+    let (op, rest) = read_op(bytes, alloc)?;
+    let Some(shape) = op.shape() else {
+        return Err(ReadFault::UnknownOpcode);
+    };
+    let rest = read_arguments_into(shape, rest, alloc, args)?;
+    Ok((op, rest))
+}
+
+/// Appends the minimal encoding of the instruction.
+///
+/// # Proved
+///
+/// ```text
+/// ensures ok { OnOk result (AppendsMinimal (instruction table) (record { op = op; arguments = map argument_view args.now }) sink.old.items sink.new.items) }
+/// ensures front { IsFrontOf sink.old.items sink.new.items }
+/// ensures too_long { HasEncoding (instruction table) (record { op = op; arguments = map argument_view args.now }) → result ≢ Err TooLong }
+/// ```
+pub fn append_instruction<A: Allocator, B: Sink>(
+    op: Op,
+    args: &[Arg<A>],
+    sink: &mut B,
+) -> Result<()> {
+    op.encode(sink)?;
+    append_arguments(args, sink)
+}
+
+impl<A: Allocator> Shorten for Plain<A> {
+    fn write_minimal<B: Sink>(&self, sink: &mut B) -> Result<()> {
+        append_instruction(self.op, &self.args, sink)
+    }
+}
+
+/// Skips the instruction at the front, and allocates nothing.
+impl<'a, A: Allocator + Copy> Skip<'a, A> for Plain<A> {
+    #[inline]
+    fn skip(bytes: &'a [u8], alloc: A) -> Result<&'a [u8], ReadFault> {
+        let (op, rest) = read_op(bytes, alloc)?;
+        let Some(shape) = op.shape() else {
+            return Err(ReadFault::UnknownOpcode);
+        };
+        let rest = skip_arguments(shape, rest, alloc)?;
+        Ok(rest)
+    }
+}

@@ -1,0 +1,14 @@
+// Written by tools/to-rust from crates/examples/src/calls/once/reader.rt: change that.
+//! Calls of readers.
+
+use dolzhytik::fallible::Allocator;
+use dolzhytik::reader::ReadFault;
+use dolzhytik::reader::Instructions;
+
+pub fn walk<A: Allocator + Copy>(alloc: A) -> Result<(), ReadFault> {
+    let (_runs, mut instructions) = Instructions::of_body(&[0, 1, 0x0B], alloc)?;
+    let _ = instructions.next_before_end()?;
+    let _ = instructions.args();
+    let _ = instructions.offset();
+    Ok(())
+}

@@ -1,0 +1,40 @@
+// Written by tools/to-rust from crates/examples/src/calls/readers.rt: change that.
+//! Readers of instructions: where a visitor begins, the bytes before it, and a body as a whole.
+
+use dolzhytik::fallible::Allocator;
+use dolzhytik::reader::ReadFault;
+use dolzhytik::reader::{Body, Instructions, read_body};
+
+/// Returns a visitor that begins at the first byte.
+///
+/// # Proved
+///
+/// ```text
+/// ensures { result ≡ record { bytes = bytes.now; offset = 0; arguments = [] } }
+/// ```
+pub fn walk_over<'a, A: Allocator + Copy>(bytes: &'a [u8], alloc: A) -> Instructions<'a, A> {
+    Instructions::new(bytes, alloc)
+}
+
+/// Returns the bytes that a visitor has not visited.
+///
+/// # Proved
+///
+/// ```text
+/// ensures { result.now ≡ ahead walk.now }
+/// ```
+pub fn bytes_ahead<'a, A: Allocator + Copy>(walk: &Instructions<'a, A>) -> &'a [u8] {
+    walk.rest()
+}
+
+/// Decodes a body from these bytes, which are without its size prefix.
+///
+/// # Proved
+///
+/// ```text
+/// ensures found { IfOk result (λ x. body padded bytes.now (body_view x)) }
+/// ensures none { IfErr result (λ e. e ≢ Memory → RejectsWhole body bytes.now) }
+/// ```
+pub fn body_of<A: Allocator + Copy>(bytes: &[u8], alloc: A) -> Result<Body<A>, ReadFault> {
+    read_body(bytes, alloc)
+}

@@ -1,0 +1,87 @@
+"""Imports of proof files through what the crates below pass on.
+
+`proofs/Words.antt` of a crate passes on the names that proofs of the crates above use: lemmas,
+definitions, and in wasm_base names of std. `specs/Lib.antt` passes on all definitions of the crate,
+to its own proofs. So a proof file has one import for each crate, in lines of at most 200 characters.
+"""
+from __future__ import annotations
+
+import pathlib
+import re
+from functools import cache
+
+WIDTH = 200
+IMPORT = re.compile(r"use Rattle\.([\w.+-]+)\.\{([^}]*)\}")
+GLOB = re.compile(r"(?:unfoldable )?pub use Rattle\.([\w.]+)\.\*")
+PASSED = re.compile(r"(?:unfoldable )?pub use Rattle\.([\w.]+)\.\{([^}]*)\}")
+# The file of wasm_base that passes on names of std to its own proofs.
+STD = "wasm_base.proofs.Std"
+
+
+def split(names: str) -> list[str]:
+    return [it.strip() for it in names.split(",") if it.strip()]
+
+
+class Facades:
+    """What the crates of a repository pass on."""
+
+    def __init__(self, top: pathlib.Path):
+        self.top = top
+
+    @cache
+    def lines(self, module: str) -> tuple[str, ...]:
+        """Returns the lines of a module's file, or none if it has no file."""
+        crate, *path = module.split(".")
+        file = self.top / "crates" / crate / ("/".join(path) + ".antt")
+        return tuple(file.read_text(encoding="utf8").split("\n")) if file.exists() else ()
+
+    @cache
+    def globs(self, facade: str) -> frozenset[str]:
+        """Returns the modules of which a facade passes on all names."""
+        return frozenset(it[1] for line in self.lines(facade + ".Lib") if (it := GLOB.fullmatch(line)))
+
+    @cache
+    def passed(self, module: str) -> dict[tuple[str, str], None]:
+        """Returns the names that a file passes on one by one, each with its module."""
+        found = (it for line in self.lines(module) if (it := PASSED.fullmatch(line)))
+        return {(it[1], name): None for it in found for name in split(it[2])}
+
+    def of(self, crate: str, module: str, name: str) -> str:
+        """Returns the module through which proofs of a crate import a name of a module."""
+        home = module.split(".")[0]
+        if home == crate:
+            return home + ".specs" if module in self.globs(home + ".specs") and not self.lines(f"{home}.specs.{name}") else module
+        if home == "std":
+            words = STD if crate == "wasm_base" else "wasm_base.proofs.Words"
+        else:
+            words = home + ".proofs.Words"
+        return words if (module, name) in self.passed(words) else module
+
+    def turn(self, crate: str, text: str) -> str:
+        """Returns the text of a proof file of a crate, with its imports through facades."""
+        groups: dict[str, list[str]] = {}
+        kept, first = [], None
+        for line in text.split("\n"):
+            found = IMPORT.fullmatch(line)
+            if found is None:
+                kept.append(line)
+                continue
+            first = len(kept) if first is None else first
+            for name in split(found[2]):
+                names = groups.setdefault(self.of(crate, found[1], name.split(" as ")[0]), [])
+                if name not in names:
+                    names.append(name)
+        if first is None:
+            return text
+        lines = [line for module, names in groups.items() for line in import_lines(module, names)]
+        return "\n".join(kept[:first] + lines + kept[first:])
+
+
+def import_lines(module: str, names: list[str]) -> list[str]:
+    """Returns imports of the names, in as few lines as the width allows."""
+    lines: list[list[str]] = [[]]
+    for name in names:
+        if lines[-1] and len(f"use Rattle.{module}.{{{', '.join([*lines[-1], name])}}}") > WIDTH:
+            lines.append([])
+        lines[-1].append(name)
+    return [f"use Rattle.{module}.{{{', '.join(it)}}}" for it in lines]
