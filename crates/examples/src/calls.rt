@@ -7,6 +7,7 @@ pub mod copies;
 pub mod decodings;
 pub mod first_values;
 pub mod given;
+pub mod grammars;
 pub mod instructions;
 pub mod once;
 pub mod queries;

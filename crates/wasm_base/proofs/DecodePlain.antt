@@ -1,12 +1,13 @@
 -- This file proves that decoded values are well-formed and in normal form, so that their encoding
 -- is the minimal one.
 use Rattle.wasm_base.proofs.Std.{◌≡◌, ℕ, ◌^◌, ◌<◌, List, [], ◌∷◌, ◌++◌, length, Bool, true, false, refl, sym, subst, eqb, arith, All, ints, All-nil, All-cons}
-use Rattle.wasm_base.specs.{Mode, padded, unsigned_encoding, Format, u32, s33, any_bytes, name, size_prefixed, choice, members, vec, when, little_endian, HasMinimalEncodings, IsHeap, IsRef, IsVal}
-use Rattle.wasm_base.specs.{heap_type, heap_tags, ref_tags, ref_type, val_tags, val_ref, val_type, val_encoding, IsEncodableVec, size_prefixed_encoding, HasEncodableSize, AppendsMinimal}
+use Rattle.wasm_base.specs.{Mode, minimal, padded, standard_minimal, standard, by_mode, mapped, unsigned_encoding, Format, u32, s33, any_bytes, name, size_prefixed, choice, members, vec, when}
+use Rattle.wasm_base.specs.{little_endian, HasMinimalEncodings, IsHeap, IsRef, IsVal, heap_type, heap_tags, ref_tags, tight_tags, admitted_tags, nullable_abstract, abstract_type, ref_type, val_tags}
+use Rattle.wasm_base.specs.{val_type, val_encoding, IsEncodableVec, size_prefixed_encoding, HasEncodableSize, AppendsMinimal}
 use Rattle.wasm_base.specs.declared.types.ValType.{ValType}
 use Rattle.wasm_base.proofs.FormatLaws.{AllValues, AllChoices, values_one_of, values_tagged}
-use Rattle.wasm_base.proofs.EncodingLaws.{u32_encodes, name_encodes, size_prefixed_encodes, tagged_encodes}
-use Rattle.wasm_base.proofs.TypeLaws.{val-encodings}
+use Rattle.wasm_base.proofs.EncodingLaws.{u32_encodes, name_encodes, size_prefixed_encodes}
+use Rattle.wasm_base.proofs.ValTypeLaws.{val-encodings}
 use Rattle.wasm_base.proofs.DecodeFixed.{sum_below}
 use Rattle.wasm_base.proofs.MinimalEncodings.{encoding_appended}
 
@@ -49,21 +50,31 @@ heap_is =
     values_one_of IsHeap (λ mode s x h. subst IsHeap h.1 tt)
     (values_one_of IsHeap (values_tagged IsHeap heap_tags (λ mode s x h. subst IsHeap h.1 tt, (λ mode s x h. subst IsHeap h.1 h.2.range, tt))) (λ mode s x h. subst IsHeap h.1 (index_is mode s h.0 h.2)))
 
+values_by_mode : {X : Type 0} (Q : X → Type 0) {F G H : Format X} → AllValues Q F → AllValues Q G → AllValues Q H → AllValues Q (by_mode F G H)
+values_by_mode Q f g h minimal = f minimal
+values_by_mode Q f g h padded = f padded
+values_by_mode Q f g h standard_minimal = g standard_minimal
+values_by_mode Q f g h standard = h standard
+
+short_is : AllValues IsRef (mapped nullable_abstract abstract_type)
+short_is mode s x h = subst IsRef h.1 tt
+
 pub ref_is : AllValues IsRef ref_type
 ref_is =
-    values_tagged IsRef ref_tags (
+    values_by_mode IsRef
+    (values_tagged IsRef ref_tags (
       λ mode s x h. subst IsRef (sym h.1) tt,
       (λ mode s x h. subst IsRef (sym h.1) tt, (λ mode s x h. subst IsRef h.1 (heap_is mode s h.0 h.2.0), (λ mode s x h. subst IsRef h.1 (heap_is mode s h.0 h.2), tt))),
-    )
-
-pub val_is : (b : ℕ) → AllValues IsVal (choice val_tags val_ref b)
-val_is b =
-    values_choice IsVal val_tags val_ref
-    (λ mode s x h. subst IsVal (sym h.1) tt, (λ mode s x h. subst IsVal (sym h.1) tt, (λ mode s x h. subst IsVal (sym h.1) tt, (λ mode s x h. subst IsVal (sym h.1) tt, (λ mode s x h. subst IsVal (sym h.1) tt, tt)))))
-    (λ b mode s x h. subst IsVal h.1 (ref_is mode (b ∷ s) h.0 (tagged_encodes mode b s h.0 h.2))) b
+    ))
+    (values_one_of IsRef short_is (values_tagged IsRef tight_tags (λ mode s x h. subst IsRef h.1 (heap_is mode s h.0 h.2.0), (λ mode s x h. subst IsRef h.1 (heap_is mode s h.0 h.2), tt))))
+    (values_one_of IsRef short_is (values_tagged IsRef admitted_tags (λ mode s x h. subst IsRef h.1 (heap_is mode s h.0 h.2), (λ mode s x h. subst IsRef h.1 (heap_is mode s h.0 h.2), tt))))
 
 pub val_type_is : AllValues IsVal val_type
-val_type_is mode s x h = subst IsVal h.1 (val_is h.0.0 mode h.2.back h.0.1 h.2.second)
+val_type_is =
+    values_one_of IsVal
+    (values_tagged IsVal val_tags
+    (λ mode s x h. subst IsVal (sym h.1) tt, (λ mode s x h. subst IsVal (sym h.1) tt, (λ mode s x h. subst IsVal (sym h.1) tt, (λ mode s x h. subst IsVal (sym h.1) tt, (λ mode s x h. subst IsVal (sym h.1) tt, tt))))))
+    (λ mode s x h. subst IsVal h.1 (ref_is mode s h.0 h.2))
 
 pub val_appended : (ty : ValType) (old new : List ℕ) → new ≡ old ++ val_encoding ty → AppendsMinimal val_type ty old new
 val_appended ty old new e = fitting_appended val_type IsVal val_encoding ty old new val-encodings val_type_is e

@@ -2,7 +2,7 @@
 use Rattle.wasm_base.proofs.Std.{◌≡◌, ℕ, ◌<◌, ◌≤◌, List, [], ◌∷◌, ◌++◌, length, take, drop, slice_index_or, suc, ◌-◌, refl, sym, ap, subst, ◌∙◌, append_assoc, append-nil, arith, take-append-drop}
 use Rattle.wasm_base.proofs.Std.{length-take-le, take_all}
 use Rattle.std.proofs.lemmas.List.{length-append}
-use Rattle.wasm_base.specs.{Mode, padded, Format, u32, byte, Then, mapped, such, members, vec, size_prefixed, Unambiguous, Decodes, Rejects}
+use Rattle.wasm_base.specs.{Mode, Format, u32, byte, Then, mapped, such, members, vec, size_prefixed, Unambiguous, Decodes, Rejects}
 use Rattle.wasm_base.proofs.NumberLaws.{u32_unambiguous}
 
 -- If a format decodes the same bytes twice, the values and the suffixes are equal.
@@ -110,13 +110,13 @@ pub front_and_rest : (bytes : List ℕ) → 1 ≤ length bytes → bytes ≡ sli
 front_and_rest [] l = absurd (omega arith)
 front_and_rest (b ∷ rest) l = ap (λ z. b ∷ z) (sym (take_all (suc (length rest) - 1) rest (omega arith)))
 
-pub byte_decodes : (bytes : List ℕ) → 1 ≤ length bytes → Decodes byte padded bytes (slice_index_or bytes 0 0) (take (length bytes - 1) (drop 1 bytes))
+pub byte_decodes : {m : Mode} (bytes : List ℕ) → 1 ≤ length bytes → Decodes byte m bytes (slice_index_or bytes 0 0) (take (length bytes - 1) (drop 1 bytes))
 byte_decodes bytes l = record { front = slice_index_or bytes 0 0 ∷ []; split = front_and_rest bytes l; encodes = refl }
 
-pub byte_rejects : (bytes : List ℕ) → bytes ≡ [] → Rejects byte padded bytes
-byte_rejects bytes e = record { none = λ x rest h. nil bytes e x rest h }
+pub byte_rejects : {m : Mode} (bytes : List ℕ) → bytes ≡ [] → Rejects byte m bytes
+byte_rejects {m = m} bytes e = record { none = λ x rest h. nil bytes e x rest h }
   where
-    nil : (bytes : List ℕ) → bytes ≡ [] → (x : ℕ) (rest : List ℕ) → Decodes byte padded bytes x rest → ⊥
+    nil : (bytes : List ℕ) → bytes ≡ [] → (x : ℕ) (rest : List ℕ) → Decodes byte m bytes x rest → ⊥
     nil bytes e x rest h = cc (e, h.split, ap (λ z. z ++ rest) h.encodes)
 
 pub ruleset steps = (byte_decodes, byte_rejects, then_decodes, then_rejects_first, then_rejects_second)

@@ -13,7 +13,8 @@ pub mod RejectionLaws
 pub mod ModuleLaws
 pub mod BaseLaws
 pub mod TypeLaws
-pub mod StandardTypeLaws
+pub mod RefTypeLaws
+pub mod ValTypeLaws
 pub mod Payloads
 pub mod SectionLaws
 pub mod Calls

@@ -1,20 +1,15 @@
--- This file proves that types are unambiguous and that their encodings encode them.
-use Rattle.wasm_base.proofs.Std.{◌≡◌, ◌≢◌, ◌⊎◌, ℕ, ◌<◌, ◌≤◌, List, [], ◌∷◌, Bool, true, false, cond, eqb, refl, sym, ap, ◌∙◌, arith, inl, inr, pos, ints, cases_lt, ne_eqb}
-use Rattle.wasm_base.specs.{minimal, signed_sum, unsigned_encoding, Format, byte, s33, impossible, mapped, choice, tagged, one_of, Unambiguous, HasMinimalEncodings, UnambiguousPadded, BeginsWith}
-use Rattle.wasm_base.specs.{abstract_code, abstract_type, unshared, shared, heap_tags, heap_type, FUNCREF, EXTERNREF, nullable_to, to, HasNoByte, ref_tags, ref_type, val_tags, val_ref, val_type}
-use Rattle.wasm_base.specs.{IsIndexByte, heap_encoding, nullable_encoding, ref_bytes, ref_encoding, val_encoding, IsHeap, IsRef, IsVal}
+-- This file proves that heap types, and reference types as builders write them, are unambiguous.
+use Rattle.wasm_base.proofs.Std.{◌≡◌, ◌≢◌, ◌⊎◌, ℕ, ◌<◌, ◌≤◌, [], ◌∷◌, true, false, cond, eqb, refl, sym, ap, ◌∙◌, arith, inl, inr, pos, ints, cases_lt, ne_eqb}
+use Rattle.wasm_base.specs.{signed_sum, Format, byte, s33, impossible, mapped, choice, tagged, one_of, Unambiguous, BeginsWith, abstract_code, abstract_type, unshared, shared, heap_tags, heap_type}
+use Rattle.wasm_base.specs.{FUNCREF, EXTERNREF, nullable_to, to, HasNoByte, ref_tags, built_ref, IsIndexByte}
 use Rattle.wasm_base.specs.declared.types.AbstractHeapType.{AbstractHeapType}
 use Rattle.wasm_base.specs.declared.types.HeapType.{HeapType}
 use Rattle.wasm_base.specs.declared.types.RefType.{RefType}
-use Rattle.wasm_base.specs.declared.types.ValType.{ValType}
 use Rattle.wasm_base.specs.declared.types.HeapType.TheVariants.{Abstract, Concrete, Exact}
-use Rattle.wasm_base.specs.declared.types.ValType.TheVariants.{I32, I64, F32, F64, V128, Ref}
-use Rattle.wasm_base.proofs.FormatLaws.{DeterminesTag, AreApart, mapped_unambiguous, such_unambiguous, coded_unambiguous, fixed_unambiguous, impossible_unambiguous, tagged_unambiguous}
-use Rattle.wasm_base.proofs.FormatLaws.{one_of_unambiguous, byte_unambiguous, begins_mapped, begins_coded, begins_weaker, begins_one_of, choice_of, choice_begins, choice_determines}
-use Rattle.wasm_base.proofs.FormatLaws.{choice_unambiguous, choice_tags, AllValues, values_mapped, values_tagged, values_one_of, none_in_common, AllDetermine, AllUnambiguous}
+use Rattle.wasm_base.proofs.FormatLaws.{AreApart, mapped_unambiguous, such_unambiguous, coded_unambiguous, fixed_unambiguous, one_of_unambiguous, byte_unambiguous, begins_mapped, begins_coded}
+use Rattle.wasm_base.proofs.FormatLaws.{begins_weaker, begins_one_of, choice_of, choice_begins, AllValues, values_mapped, values_tagged, values_one_of, none_in_common, AllDetermine, AllUnambiguous}
 use Rattle.wasm_base.proofs.NumberLaws.{u32_unambiguous, single_high}
-use Rattle.wasm_base.proofs.EncodingLaws.{u32_encodes, s33_encodes, tagged_encodes}
-use Rattle.wasm_base.proofs.BaseLaws.{s33_unambiguous, unambiguous_padded}
+use Rattle.wasm_base.proofs.BaseLaws.{s33_unambiguous}
 use Rattle.wasm_base.specs.declared.types.AbstractHeapType.TheVariants as kinds
 
 abstract_decode : ℕ → AbstractHeapType
@@ -190,102 +185,5 @@ ref_all = (
   ),
 )
 
-pub ref_unambiguous : Unambiguous ref_type
-ref_unambiguous = choice_of byte ref_tag ref_tags byte_unambiguous ref_all ref_determines
-
--- ---- value types
-
-abbrev pub val_tag : ValType → ℕ
-val_tag I32 = 0x7F
-val_tag I64 = 0x7E
-val_tag F32 = 0x7D
-val_tag F64 = 0x7C
-val_tag V128 = 0x7B
-val_tag (Ref r) = ref_tag r
-
-pub val_determines : DeterminesTag (choice val_tags val_ref) val_tag
-val_determines =
-    choice_determines val_tag val_tags val_ref
-    (λ mode s x h. ap val_tag (sym h.1), (λ mode s x h. ap val_tag (sym h.1), (λ mode s x h. ap val_tag (sym h.1), (λ mode s x h. ap val_tag (sym h.1), (λ mode s x h. ap val_tag (sym h.1), tt)))))
-    (λ b mode s x h. choice_determines ref_tag ref_tags (λ b. impossible) ref_determines (λ b mode s x h. absurd h) mode b s h.0 h.2 ∙ ap val_tag h.1)
-
-pub val_choice_unambiguous : (b : ℕ) → Unambiguous (choice val_tags val_ref b)
-val_choice_unambiguous = choice_unambiguous val_tags val_ref
-    (fixed_unambiguous [] I32, (fixed_unambiguous [] I64, (fixed_unambiguous [] F32, (fixed_unambiguous [] F64, (fixed_unambiguous [] V128, tt)))))
-    (λ b. mapped_unambiguous Ref (λ x y e. cc) (choice_unambiguous ref_tags (λ b. impossible) ref_all (λ b. impossible_unambiguous) b))
-
-pub val_unambiguous : Unambiguous val_type
-val_unambiguous = tagged_unambiguous val_tag val_determines byte_unambiguous val_choice_unambiguous
-
--- The first bytes of value types.
-abbrev pub IsValByte : ℕ → Type 0
-IsValByte b = (0x62 < b) × (b < 0x80)
-
-pub val_bytes : (b : ℕ) → AllValues (λ x. IsValByte b) (choice val_tags val_ref b)
-val_bytes b mode s x h =
-    choice_tags IsValByte val_tags val_ref ((omega arith, omega arith), ((omega arith, omega arith), ((omega arith, omega arith), ((omega arith, omega arith), ((omega arith, omega arith), tt)))))
-    (λ b mode s x h. choice_tags IsValByte ref_tags (λ b. impossible) ((omega arith, omega arith), ((omega arith, omega arith), ((omega arith, omega arith), ((omega arith, omega arith), tt)))) (λ b mode s x h. absurd h) b mode s h.0 h.2) b mode s x h
-
--- No first byte of a value type begins an index.
-pub val_begins : (b : ℕ) → AllValues (λ x. IsTypeByte b) (choice val_tags val_ref b)
-val_begins b mode s x h = let p = val_bytes b mode s x h in (omega (arith, p.0), p.1)
-
--- ---- encodings
-
-heap_encodes : (h : HeapType) → IsHeap h → heap_type minimal (heap_encoding h) h
-heap_encodes (Abstract false ty) p = inl (ty, refl, refl)
-heap_encodes (Abstract true ty) p = inr (inl (tagged_encodes minimal 0x65 (abstract_code ty ∷ []) (shared ty) (ty, refl, refl)))
-heap_encodes (Concrete n) p = inr (inr (n, refl, s33_encodes n p))
-heap_encodes (Exact n) p = inr (inl (tagged_encodes minimal 0x62 (unsigned_encoding n) (Exact n) (n, refl, u32_encodes n p)))
-
--- The bytes encode a reference type, also as a value type.
-abbrev IsRefEncoding : List ℕ → RefType → Type 0
-IsRefEncoding s r = ref_type minimal s r × val_type minimal s (Ref r)
-
-marked_encodes : (h : HeapType) → IsHeap h → mark h ≢ 0x70 → mark h ≢ 0x6F → IsRefEncoding (0x63 ∷ heap_encoding h) (nullable_to h)
-marked_encodes h p f g =
-    let after : choice ref_tags (λ b. impossible) 0x63 minimal (heap_encoding h) (nullable_to h) = (h, refl, (heap_encodes h p, (λ e. f (ap mark e), λ e. g (ap mark e)))) in
-    (tagged_encodes minimal 0x63 (heap_encoding h) (nullable_to h) after, tagged_encodes minimal 0x63 (heap_encoding h) (Ref (nullable_to h)) (nullable_to h, refl, after))
-
-nullable_encodes : (h : HeapType) → IsHeap h → IsRefEncoding (nullable_encoding h) (nullable_to h)
-nullable_encodes (Abstract false kinds.Func) p = (tagged_encodes minimal 0x70 [] FUNCREF (refl, refl), tagged_encodes minimal 0x70 [] (Ref FUNCREF) (FUNCREF, refl, (refl, refl)))
-nullable_encodes (Abstract false kinds.Extern) p = (tagged_encodes minimal 0x6F [] EXTERNREF (refl, refl), tagged_encodes minimal 0x6F [] (Ref EXTERNREF) (EXTERNREF, refl, (refl, refl)))
-nullable_encodes heap p = marked_encodes heap p (omega arith) (omega arith)
-
-bytes_encodes : (nullable : Bool) (h : HeapType) → IsHeap h → IsRefEncoding (ref_bytes nullable h) (record { nullable = nullable; heap_type = h })
-bytes_encodes true h p = nullable_encodes h p
-bytes_encodes false h p =
-    let after : choice ref_tags (λ b. impossible) 0x64 minimal (heap_encoding h) (to h) = (h, refl, heap_encodes h p) in
-    (tagged_encodes minimal 0x64 (heap_encoding h) (to h) after, tagged_encodes minimal 0x64 (heap_encoding h) (Ref (to h)) (to h, refl, after))
-
-val_encodes : (t : ValType) → IsVal t → val_type minimal (val_encoding t) t
-val_encodes I32 p = tagged_encodes minimal 0x7F [] I32 (refl, refl)
-val_encodes I64 p = tagged_encodes minimal 0x7E [] I64 (refl, refl)
-val_encodes F32 p = tagged_encodes minimal 0x7D [] F32 (refl, refl)
-val_encodes F64 p = tagged_encodes minimal 0x7C [] F64 (refl, refl)
-val_encodes V128 p = tagged_encodes minimal 0x7B [] V128 (refl, refl)
-val_encodes (Ref r) p = (bytes_encodes r.nullable r.heap_type p).1
-
-pub heap-encodings : HasMinimalEncodings heap_type IsHeap heap_encoding
-heap-encodings = record { encodes = heap_encodes }
-
-pub ref-encodings : HasMinimalEncodings ref_type IsRef ref_encoding
-ref-encodings = record { encodes = λ r p. (bytes_encodes r.nullable r.heap_type p).0 }
-
-pub val-encodings : HasMinimalEncodings val_type IsVal val_encoding
-val-encodings = record { encodes = val_encodes }
-
-pub ruleset types = (heap_unambiguous, ref_unambiguous, val_unambiguous, heap-encodings, ref-encodings, val-encodings, begins_s33)
-
--- ---- padded LEB128
-
-pub padded-heap : UnambiguousPadded heap_type
-padded-heap = unambiguous_padded heap_unambiguous
-
-pub padded-ref : UnambiguousPadded ref_type
-padded-ref = unambiguous_padded ref_unambiguous
-
-pub padded-val : UnambiguousPadded val_type
-padded-val = unambiguous_padded val_unambiguous
-
-pub ruleset padded_types = (padded-heap, padded-ref, padded-val)
+pub built_unambiguous : Unambiguous built_ref
+built_unambiguous = choice_of byte ref_tag ref_tags byte_unambiguous ref_all ref_determines

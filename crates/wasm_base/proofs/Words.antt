@@ -52,9 +52,10 @@ pub use Rattle.wasm_base.proofs.ContentsLaws.{contains_more}
 pub use Rattle.wasm_base.proofs.Cut.{joined_push}
 pub use Rattle.wasm_base.proofs.DecodeFixed.{are_bytes, eight_read, four_read}
 pub use Rattle.wasm_base.proofs.DecodeNumbers.{u32_byte}
-pub use Rattle.wasm_base.proofs.DecodePlain.{fitting_appended, heap_is, index_is, little_endian_below, name_appended, ref_is, u32_appended, val_is, val_type_is, values_choice, vec_is}
+pub use Rattle.wasm_base.proofs.DecodePlain.{fitting_appended, heap_is, index_is, little_endian_below, name_appended, ref_is, u32_appended, val_type_is, values_choice, vec_is}
 pub use Rattle.wasm_base.proofs.DecodeSizePrefixed.{filled_decodes, filled_none, filled_rejects, none_left}
-pub use Rattle.wasm_base.proofs.DecodeTypes.{no_index_byte}
+pub use Rattle.wasm_base.proofs.DecodeTypes.{after_decodes, after_rejects, no_index_byte, ref_type_decodes, ref_type_none, ref_type_rejects, tagged_after, tagged_after_none, val_type_decodes}
+pub use Rattle.wasm_base.proofs.DecodeTypes.{val_type_none, val_type_rejects}
 pub use Rattle.wasm_base.proofs.DecodeVectors.{HasRead, loop_decodes, loop_rejects, vec_rejects_count}
 pub use Rattle.wasm_base.proofs.DecodeWhole.{HasMembers, empty_not, member_shorter, members_begun, members_continued, members_done, members_fail, whole_decodes, whole_more, whole_rejects}
 pub use Rattle.wasm_base.proofs.DecodedValues.{behind_encodable, content_encoded, counted_encodable, left_encoded, mapped_encoded, member_encoded, members_encoded, name_encodable, prefixed_encoded}
@@ -66,12 +67,13 @@ pub use Rattle.wasm_base.proofs.EncodingLaws.{s33_encodes, s64_encodes, section_
 pub use Rattle.wasm_base.proofs.EncodingLaws.{u64_encodes, vec_encodes, vec_of_pieces}
 pub use Rattle.wasm_base.proofs.EntryLaws.{content_encodable, counted_decodes, entries_encodes, pieces_encodes}
 pub use Rattle.wasm_base.proofs.Faults.{fault_stays, if_err_more, if_ok_more, memory_stays}
-pub use Rattle.wasm_base.proofs.FormatLaws.{AllChoices, AllValues, BeginNeverAlike, DeterminesTag, IsInjective, Then_unambiguous, any_bytes_whole, begin_apart, begins_fixed, begins_mapped}
-pub use Rattle.wasm_base.proofs.FormatLaws.{begins_such, begins_then, byte_unambiguous, choice_begins, choice_determines, choice_of, choice_tags, choice_unambiguous, coded_unambiguous}
-pub use Rattle.wasm_base.proofs.FormatLaws.{either_unambiguous, ended_unambiguous, fixed_unambiguous, impossible_unambiguous, little_endian_unambiguous, mapped_unambiguous, mapped_whole, member_at}
-pub use Rattle.wasm_base.proofs.FormatLaws.{members_go_on, members_whole, none_in_common, one_of_unambiguous, optional_unambiguous, pair_unambiguous, pair_whole, prefixed_unambiguous}
-pub use Rattle.wasm_base.proofs.FormatLaws.{raw_bytes_unambiguous, same_pair, size_prefixed_of, size_prefixed_unambiguous, such_unambiguous, tagged_at, tagged_unambiguous, then_at, values_mapped}
-pub use Rattle.wasm_base.proofs.FormatLaws.{values_one_of, values_tagged, vec_of_one, vec_unambiguous, when_unambiguous, whole_from_unique}
+pub use Rattle.wasm_base.proofs.FormatLaws.{AllChoices, AllValues, BeginNeverAlike, DeterminesTag, IsInjective, Then_unambiguous, any_bytes_whole, begin_apart, begins_coded, begins_fixed}
+pub use Rattle.wasm_base.proofs.FormatLaws.{begins_mapped, begins_one_of, begins_weaker, by_mode_unambiguous, begins_such, begins_then, byte_unambiguous, choice_begins, choice_determines, choice_of}
+pub use Rattle.wasm_base.proofs.FormatLaws.{choice_tags, choice_unambiguous, coded_unambiguous, either_unambiguous, ended_unambiguous, fixed_unambiguous, impossible_unambiguous}
+pub use Rattle.wasm_base.proofs.FormatLaws.{little_endian_unambiguous, mapped_unambiguous, mapped_whole, member_at, members_go_on, members_whole, none_in_common, one_of_unambiguous}
+pub use Rattle.wasm_base.proofs.FormatLaws.{optional_unambiguous, pair_unambiguous, pair_whole, prefixed_unambiguous, raw_bytes_unambiguous, same_pair, size_prefixed_of, size_prefixed_unambiguous}
+pub use Rattle.wasm_base.proofs.FormatLaws.{such_unambiguous, tagged_at, tagged_unambiguous, then_at, values_mapped, values_one_of, values_tagged, vec_of_one, vec_unambiguous, when_unambiguous}
+pub use Rattle.wasm_base.proofs.FormatLaws.{whole_from_unique, AllDetermine}
 pub use Rattle.wasm_base.proofs.GroupLaws.{if_err_any}
 pub use Rattle.wasm_base.proofs.KnownLengths.{array_items, copied_items, drained_array, drained_copied, drained_vec}
 pub use Rattle.wasm_base.proofs.MinimalEncodings.{all_appended, cut_off, encoding_appended, front_appended, front_encoded, front_then, mapped_appended, members_more, next_appended}
@@ -89,27 +91,29 @@ pub use Rattle.wasm_base.proofs.SectionLaws.{SectionLaws, counted_laws, counted_
 pub use Rattle.wasm_base.proofs.SkipLaws.{HasSkipped, skipped_decodes, skipped_rejects}
 pub use Rattle.wasm_base.proofs.Tags.{IsOther, choice_other, code_decodes, code_none, code_unknown, fixed_decodes, impossible_rejects, no_bytes, no_choice, not_begun, one_of_left, one_of_rejects}
 pub use Rattle.wasm_base.proofs.Tags.{one_of_right, optional_none, tagged_decodes, tagged_none, tagged_rejects}
-pub use Rattle.wasm_base.proofs.TypeLaws.{IsTypeByte, begins_s33, heap-encodings, heap_unambiguous, ref-encodings, ref_unambiguous, types_apart, val-encodings, val_begins, val_bytes}
-pub use Rattle.wasm_base.proofs.TypeLaws.{val_choice_unambiguous, val_determines, val_tag, val_unambiguous}
+pub use Rattle.wasm_base.proofs.RefTypeLaws.{IsRefByte, ref_begins, ref_unambiguous}
+pub use Rattle.wasm_base.proofs.TypeLaws.{IsTypeByte, begins_s33, heap_unambiguous, types_apart}
+pub use Rattle.wasm_base.proofs.ValTypeLaws.{IsValByte, heap-encodings, ref-encodings, val-encodings, val_begins, val_unambiguous}
 pub use Rattle.wasm_base.proofs.Yielded.{All-last, Yields-push}
 pub use Rattle.wasm_base.specs.Calls.{Adds, AddsEach, Appends, DecodesBack, DecodesBackBoth, DecodesBackPadded, DecodesOneMore}
 pub use Rattle.wasm_base.specs.Continuing.{Continues, RejectsWhole}
-pub use Rattle.wasm_base.specs.Decoding.{BeginsWith, Decodes, DecodesUniquely, DecodesWhole, DeterminesPrefix, HasEncodings, HasMinimalEncodings, Rejects, Unambiguous, UnambiguousPadded}
-pub use Rattle.wasm_base.specs.Decoding.{UnambiguousWhole, UnambiguousWholePadded}
+pub use Rattle.wasm_base.specs.Decoding.{BeginsWith, Decodes, DecodesUniquely, DecodesWhole, DeterminesPrefix, HasEncodings, HasMinimalEncodings, Rejects, Unambiguous, UnambiguousPadded, IsIncludedIn}
+pub use Rattle.wasm_base.specs.Decoding.{ShrinksTo, UnambiguousWhole, UnambiguousWholePadded}
 pub use Rattle.wasm_base.specs.Encodings.{HasEncodableSize, IsEncodableAnySection, IsEncodableModule, IsEncodableVec, IsSizePrefixed, any_section_encoding, little_endian_encoding, longest}
 pub use Rattle.wasm_base.specs.Encodings.{optional_encoding, raw_sized, size_prefixed_encoding, vec_encoding}
 unfoldable pub use Rattle.wasm_base.specs.Encodings.{module_encoding}
 pub use Rattle.wasm_base.specs.Entries.{ContainsItems, ContainsPadded, ItemLaws, Kind, counted_format, entry_encoding}
-pub use Rattle.wasm_base.specs.Formats.{Format, IsVector, Then, after, any_bytes, any_section, byte, choice, coded, custom, ended, fixed, header, impossible, is_given, just, little_endian, mapped}
-pub use Rattle.wasm_base.specs.Formats.{members, name, numbered, optional, pair, prefixed, raw_bytes, s32, s33, s64, size_prefixed, such, tagged, twos_complement, u32, u64, vec, vector_format}
-pub use Rattle.wasm_base.specs.Formats.{wasm_module, when}
+pub use Rattle.wasm_base.specs.Formats.{Format, IsVector, Then, after, after_byte, by_mode, any_bytes, any_section, byte, choice, coded, custom, ended, fixed, header, impossible, is_given, just}
+pub use Rattle.wasm_base.specs.Formats.{little_endian, mapped, members, name, numbered, one_of, optional, pair, prefixed, raw_bytes, s32, s33, s64, size_prefixed, such, tagged, twos_complement, u32}
+pub use Rattle.wasm_base.specs.Formats.{u64, vec, vector_format, wasm_module, when}
 pub use Rattle.wasm_base.specs.Groups.{HasGroups, groups}
 pub use Rattle.wasm_base.specs.Iterators.{AppendsVec}
 pub use Rattle.wasm_base.specs.Laws.{IsEncodableName, IsUnsignedInRange, RejectsAllAfterPadded}
 pub use Rattle.wasm_base.specs.Minimal.{AppendsMinimal, HasEncoding, IsFrontOf}
 pub use Rattle.wasm_base.specs.Modules.{DecodesPayloads, DecodesSections, GainsDecoding, GainsDecodingPadded, SectionDecoding, decoding_of, padded_decoding_of}
-pub use Rattle.wasm_base.specs.Numbers.{AreGroups, IsOfBuilders, IsUnsignedSize, Mode, builders, groups_sum, minimal, padded, signed_encoding, unsigned_encoding}
+pub use Rattle.wasm_base.specs.Numbers.{AreGroups, IsOfBuilders, IsUnsignedSize, Grammar, Mode, admitted, builders, groups_sum, is_admitted, minimal, minimal_of, padded, padded_of, standard}
+pub use Rattle.wasm_base.specs.Numbers.{standard_minimal, signed_encoding, unsigned_encoding}
 pub use Rattle.wasm_base.specs.Once.{AddsOnce, GivesPair, GivesTriple, GivesVec, YieldsEncodable}
 pub use Rattle.wasm_base.specs.Pieces.{IsEncodableSection, SectionPayload, joined, section_sized}
 unfoldable pub use Rattle.wasm_base.specs.Pieces.{section_encoding}
-pub use Rattle.wasm_base.specs.Types.{FUNCREF, IsIndexByte, IsRef, IsVal, heap_type, ref_encoding, ref_tags, ref_type, unshared, val_encoding, val_ref, val_tags, val_type}
+pub use Rattle.wasm_base.specs.Types.{FUNCREF, IsIndexByte, IsRef, IsVal, heap_type, ref_encoding, ref_type, unshared, val_encoding, val_type}

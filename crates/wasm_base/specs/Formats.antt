@@ -163,6 +163,18 @@ just x F mode s u = F mode s x
 abbrev pub after : {X Y : Type 0} → X → Format X → Format Y → Format Y
 after x F G = tagged (just x F) (λ u. G)
 
+-- `F` in the two modes of the builders' grammar; in the standard's grammar, `G` for minimal
+-- encodings and `H` for padded ones.
+abbrev pub by_mode : {X : Type 0} → Format X → Format X → Format X → Format X
+by_mode F G H minimal = F minimal
+by_mode F G H padded = F padded
+by_mode F G H standard_minimal = G standard_minimal
+by_mode F G H standard = H standard
+
+-- The bytes that follow the byte `b` in an encoding of `F`.
+abbrev pub after_byte : {X : Type 0} → Format X → ℕ → Format X
+after_byte F b mode s x = F mode (b ∷ s) x
+
 -- ---- names and modules
 
 -- A name: a length, then that many bytes of UTF-8. Core specification, Binary Format, Values,
@@ -187,14 +199,6 @@ any_section = pair byte (size_prefixed any_bytes)
 -- A module of opaque sections: the header, then sections up to the last byte.
 abbrev pub wasm_module : Format (List (ℕ × List ℕ))
 wasm_module = prefixed header (members any_section)
-
--- `F` in the two modes of the builders' grammar; in the standard's grammar, `G` for minimal
--- encodings and `H` for padded ones.
-abbrev pub by_mode : {X : Type 0} → Format X → Format X → Format X → Format X
-by_mode F G H minimal = F minimal
-by_mode F G H padded = F padded
-by_mode F G H standard_minimal = G standard_minimal
-by_mode F G H standard = H standard
 
 -- ---- vectors of 128 bits
 

@@ -16,7 +16,6 @@ pub mod Cow
 pub mod Laws
 pub mod Groups
 pub mod Continuing
-pub mod Faults
 pub mod Minimal
 unfoldable pub use Rattle.wasm_base.specs.Numbers.*
 unfoldable pub use Rattle.wasm_base.specs.Formats.*
@@ -34,5 +33,4 @@ unfoldable pub use Rattle.wasm_base.specs.Cow.*
 unfoldable pub use Rattle.wasm_base.specs.Laws.*
 unfoldable pub use Rattle.wasm_base.specs.Groups.*
 unfoldable pub use Rattle.wasm_base.specs.Continuing.*
-unfoldable pub use Rattle.wasm_base.specs.Faults.*
 unfoldable pub use Rattle.wasm_base.specs.Minimal.*

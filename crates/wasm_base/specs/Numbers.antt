@@ -25,6 +25,11 @@ abbrev pub padded_of : Grammar → Mode
 padded_of builders = padded
 padded_of admitted = standard
 
+-- Whether a grammar has all that the standard admits.
+abbrev pub is_admitted : Grammar → Bool
+is_admitted builders = false
+is_admitted admitted = true
+
 -- The pairs of modes for which a format promises that the second admits every encoding of the
 -- first.
 abbrev pub Below : Mode → Mode → Type 0

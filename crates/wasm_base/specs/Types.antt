@@ -1,7 +1,7 @@
 -- This file defines the encodings and the formats of heap types, reference types and value types.
 -- Core specification, Binary Format, Types.
 use Rattle.std.specs.Prelude.{◌≢◌, ℕ, ◌^◌, ◌<◌, ◌≤◌, ◌⊎◌, List, [], ◌∷◌, Bool, true, false, pos}
-use Rattle.wasm_base.specs.Numbers.{unsigned_encoding, signed_encoding}
+use Rattle.wasm_base.specs.Numbers.{Grammar, builders, admitted, unsigned_encoding, signed_encoding}
 use Rattle.wasm_base.specs.Formats.{Format, u32, byte, s33, fixed, impossible, coded, mapped, such, choice, tagged, one_of, by_mode}
 use Rattle.wasm_base.specs.declared.types.AbstractHeapType.{AbstractHeapType}
 use Rattle.wasm_base.specs.declared.types.HeapType.{HeapType}
@@ -125,38 +125,19 @@ to heap = record { nullable = false; heap_type = heap }
 abbrev pub HasNoByte : HeapType → Type 0
 HasNoByte heap = (heap ≢ unshared kinds.Func) × (heap ≢ unshared kinds.Extern)
 
--- The formats after each first byte of a reference type.
+-- The formats after each first byte of a reference type, as builders write it.
 abbrev pub ref_tags : List (ℕ × Format RefType)
 ref_tags = (0x70, fixed [] FUNCREF) ∷ (0x6F, fixed [] EXTERNREF) ∷ (0x63, mapped nullable_to (such HasNoByte heap_type)) ∷ (0x64, mapped to heap_type) ∷ []
 
--- A reference type, by its first byte.
-abbrev pub ref_type : Format RefType
-ref_type = tagged byte (choice ref_tags (λ b. impossible))
+-- A reference type as builders write it.
+abbrev pub built_ref : Format RefType
+built_ref = tagged byte (choice ref_tags (λ b. impossible))
 
--- The formats after each first byte of a number type or vector type.
-abbrev pub val_tags : List (ℕ × Format ValType)
-val_tags = (0x7F, fixed [] I32) ∷ (0x7E, fixed [] I64) ∷ (0x7D, fixed [] F32) ∷ (0x7C, fixed [] F64) ∷ (0x7B, fixed [] V128) ∷ []
-
--- A value type that is a reference type with the first byte `b`.
-abbrev pub val_ref : ℕ → Format ValType
-val_ref b = mapped Ref (choice ref_tags (λ c. impossible) b)
-
--- A value type: the byte of a number or vector type, or a reference type.
-abbrev pub val_type : Format ValType
-val_type = tagged byte (choice val_tags val_ref)
-
--- The byte can begin an index that is encoded as a signed number, and begins no type.
-abbrev pub IsIndexByte : ℕ → Type 0
-IsIndexByte b = (b < 0x40) ⊎ (0x80 ≤ b)
-
--- ---- the standard's grammar, which also has one byte for each nullable abstract type
-
--- The nullable reference type to an unshared abstract type.
+-- The nullable reference type to an unshared abstract type. The standard has one byte for it.
 abbrev pub nullable_abstract : AbstractHeapType → RefType
 nullable_abstract ty = nullable_to (unshared ty)
 
--- The heap type is not an unshared abstract type, whose nullable references have a byte of their
--- own.
+-- The heap type is not an unshared abstract type.
 abbrev pub HasNoCode : HeapType → Type 0
 HasNoCode (Abstract false ty) = ⊥
 HasNoCode (Abstract true ty) = Unit {0}
@@ -179,6 +160,27 @@ tight_ref = one_of (mapped nullable_abstract abstract_type) (tagged byte (choice
 abbrev pub admitted_ref : Format RefType
 admitted_ref = one_of (mapped nullable_abstract abstract_type) (tagged byte (choice admitted_tags (λ b. impossible)))
 
--- A reference type in each mode of both grammars.
-abbrev pub ref_type_in : Format RefType
-ref_type_in = by_mode ref_type tight_ref admitted_ref
+-- The byte 63 may precede the heap type of a nullable reference type.
+abbrev pub HasLongForm : Grammar → HeapType → Type 0
+HasLongForm builders heap = HasNoByte heap
+HasLongForm admitted heap = Unit {0}
+
+-- A reference type.
+abbrev pub ref_type : Format RefType
+ref_type = by_mode built_ref tight_ref admitted_ref
+
+-- The formats after each first byte of a number type or vector type.
+abbrev pub val_tags : List (ℕ × Format ValType)
+val_tags = (0x7F, fixed [] I32) ∷ (0x7E, fixed [] I64) ∷ (0x7D, fixed [] F32) ∷ (0x7C, fixed [] F64) ∷ (0x7B, fixed [] V128) ∷ []
+
+-- A number type or vector type: one byte.
+abbrev pub number_type : Format ValType
+number_type = tagged byte (choice val_tags (λ b. impossible))
+
+-- A value type: a number type, a vector type or a reference type.
+abbrev pub val_type : Format ValType
+val_type = one_of number_type (mapped Ref ref_type)
+
+-- The byte can begin an index that is encoded as a signed number, and begins no type.
+abbrev pub IsIndexByte : ℕ → Type 0
+IsIndexByte b = (b < 0x40) ⊎ (0x80 ≤ b)

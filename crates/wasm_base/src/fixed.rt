@@ -3,7 +3,8 @@ ghost use Rattle.std.specs.Prelude.{◌∷◌, [], ⊤, ℕ, List, ℤ};
 ghost use Rattle.wasm_base.specs.Formats.{byte, raw_bytes, vector_format};
 
 use crate::encode::Encode;
-use crate::fault::ReadFault;
+use crate::fault::{DecodeError, ReadFault};
+use crate::grammar::Grammar;
 use crate::readable::{Layout, Readable};
 use crate::refused::Result;
 use std::alloc::Allocator;
@@ -45,12 +46,12 @@ impl Layout for u8 {
     fn laws() {}
 }
 
-impl<'a, A: Allocator + Copy> Readable<'a, A> for u8 {
+impl<'a, A: Allocator + Copy, G: Grammar> Readable<'a, A, G> for u8 {
     #[tactic(auto, using(crate::proofs::DecodingSteps::steps))]
     #[inline]
-    fn read(bytes: &'a [u8], _alloc: A) -> Result<(u8, &'a [u8]), ReadFault> {
+    fn read(bytes: &'a [u8], _alloc: A) -> Result<(u8, &'a [u8]), DecodeError> {
         match bytes {
-            [] => Err(ReadFault::Ended),
+            [] => Err(ReadFault::Ended.at(bytes)),
             [b, rest @ ..] => Ok((*b, rest)),
         }
     }
@@ -68,11 +69,11 @@ impl Layout for i128 {
     fn laws() {}
 }
 
-impl<'a, A: Allocator + Copy> Readable<'a, A> for i128 {
-    fn read(bytes: &'a [u8], _alloc: A) -> Result<(i128, &'a [u8]), ReadFault> {
+impl<'a, A: Allocator + Copy, G: Grammar> Readable<'a, A, G> for i128 {
+    fn read(bytes: &'a [u8], _alloc: A) -> Result<(i128, &'a [u8]), DecodeError> {
         match bytes.split_first_chunk::<16>() {
             Some((front, rest)) => Ok((i128::from_le_bytes(*front), rest)),
-            None => Err(ReadFault::Ended),
+            None => Err(ReadFault::Ended.at(b"")),
         }
     }
 }
@@ -88,12 +89,12 @@ impl Layout for [u8; 16] {
     fn laws() {}
 }
 
-impl<'a, A: Allocator + Copy> Readable<'a, A> for [u8; 16] {
+impl<'a, A: Allocator + Copy, G: Grammar> Readable<'a, A, G> for [u8; 16] {
     #[tactic(auto, using(crate::proofs::DecodeFixed::raw_steps))]
-    fn read(bytes: &'a [u8], _alloc: A) -> Result<([u8; 16], &'a [u8]), ReadFault> {
+    fn read(bytes: &'a [u8], _alloc: A) -> Result<([u8; 16], &'a [u8]), DecodeError> {
         match bytes.split_first_chunk::<16>() {
             Some((front, rest)) => Ok((*front, rest)),
-            None => Err(ReadFault::Ended),
+            None => Err(ReadFault::Ended.at(b"")),
         }
     }
 }

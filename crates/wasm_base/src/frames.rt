@@ -8,11 +8,13 @@ ghost use Rattle.wasm_base.specs.declared.refused.Refused.TheVariants.{TooLong};
 ghost use Rattle.wasm_base.specs.Minimal.{AppendsMinimal, IsFrontOf, HasEncoding};
 
 use crate::encode::Encode;
-use crate::fault::ReadFault;
+use crate::fault::DecodeError;
+use crate::grammar::Grammar;
 use crate::leb128::encoding_size;
 use crate::readable::{Layout, Readable};
 use crate::refused::{Refused, Result};
 use crate::shorten::Shorten;
+use crate::whole::read_before;
 use std::alloc::Allocator;
 
 /// Appends a size prefix, and reserves spare capacity for the payload that the caller appends next.
@@ -97,17 +99,13 @@ impl<T: Layout> Layout for SizePrefixed<T> {
     }
 }
 
-impl<'a, A: Allocator + Copy, T: Readable<'a, A>> Readable<'a, A> for SizePrefixed<T> {
-    #[tactic(auto, using(crate::proofs::DecodeSizePrefixed::sized_steps))]
-    fn read(bytes: &'a [u8], alloc: A) -> Result<(SizePrefixed<T>, &'a [u8]), ReadFault> {
-        let (content, rest) = <&'a [u8] as Readable<'a, A>>::read(bytes, alloc)?;
-        let (value, left) = T::read(content, alloc)?;
-        T::laws();
-        if left.is_empty() {
-            Ok((SizePrefixed(value), rest))
-        } else {
-            Err(ReadFault::SizeMismatch)
-        }
+impl<'a, A: Allocator + Copy, G: Grammar, T: Readable<'a, A, G>> Readable<'a, A, G>
+    for SizePrefixed<T> {
+    #[tactic(auto, using(crate::proofs::DecodeSizePrefixed::filled_steps))]
+    fn read(bytes: &'a [u8], alloc: A) -> Result<(SizePrefixed<T>, &'a [u8]), DecodeError> {
+        let (content, rest) = <&'a [u8] as Readable<'a, A, G>>::read(bytes, alloc)?;
+        let value = read_before::<T, A, G>(content, rest, alloc)?;
+        Ok((SizePrefixed(value), rest))
     }
 }
 

@@ -3,10 +3,10 @@
 //!
 //! `Unambiguous F` says that the format `F` is unambiguous: at most one value decodes from the
 //! front of any bytes, with minimal and with padded numbers. A value has at most one minimal
-//! encoding. `HasMinimalEncodings F encodable encoding` says that `encoding` is the minimal encoding of each value that
-//! fits. No clause ranges over all formats, so each vector and each size-prefixed format has a
-//! clause of its own.
-ghost use Rattle.std.specs.Prelude.{◌≡◌, false, true, pos, All, IsUtf8};
+//! encoding. `HasMinimalEncodings F encodable encoding` says that `encoding` is the minimal
+//! encoding of each value that fits. No clause ranges over all formats, so each vector and each
+//! size-prefixed format has a clause of its own.
+ghost use Rattle.std.specs.Prelude.{ℕ, List, [], ◌∷◌, ◌≡◌, ◌≢◌, false, true, pos, All, IsUtf8};
 ghost use Rattle.wasm_base.specs.Formats.{
   u32 as u32_format,
   u64 as u64_format,
@@ -25,10 +25,12 @@ ghost use Rattle.wasm_base.specs.Formats.{
 };
 ghost use Rattle.wasm_base.specs.Modules.{DecodesPayloads, DecodesPayloadsPadded};
 ghost use Rattle.wasm_base.specs.Laws.{IsUnsignedInRange, IsByteNumberInRange, IsSigned32InRange, IsSigned64InRange, IsEncodableName, custom_encoding, IsEncodableCustom};
-ghost use Rattle.wasm_base.specs.Numbers.{unsigned_encoding, signed_encoding};
-ghost use Rattle.wasm_base.specs.Decoding.{Unambiguous, UnambiguousWhole, HasMinimalEncodings, BeginsWith, UnambiguousPadded, UnambiguousWholePadded};
-ghost use Rattle.wasm_base.specs.Types.{heap_type, ref_type, val_type, heap_encoding, ref_encoding, val_encoding, IsHeap, IsRef, IsVal, IsIndexByte};
+ghost use Rattle.wasm_base.specs.Numbers.{standard, standard_minimal, padded, unsigned_encoding, signed_encoding};
+ghost use Rattle.wasm_base.specs.Decoding.{Rejects, Unambiguous, UnambiguousWhole, HasMinimalEncodings, BeginsWith, UnambiguousPadded, UnambiguousWholePadded};
+ghost use Rattle.wasm_base.specs.Types.{heap_type, ref_type, val_type, heap_encoding, ref_encoding, val_encoding, IsHeap, IsRef, IsVal, IsIndexByte, abstract_code, nullable_abstract, nullable_to};
+ghost use Rattle.wasm_base.specs.declared.types.AbstractHeapType.{AbstractHeapType};
 ghost use Rattle.wasm_base.specs.declared.types.AbstractHeapType.TheVariants.{Func, Extern};
+ghost use Rattle.wasm_base.specs.declared.types.HeapType.{HeapType};
 ghost use Rattle.wasm_base.specs.declared.types.HeapType.TheVariants.{Abstract};
 ghost use Rattle.wasm_base.specs.declared.types.TheConstants.HeapType.{FUNC, EXTERN};
 ghost use Rattle.wasm_base.specs.declared.types.TheConstants.RefType.{FUNCREF, EXTERNREF};
@@ -96,7 +98,7 @@ pub fn padded_payloads()
 
 /// The formats of types are unambiguous. No index begins with a byte that encodes a type, nor with
 /// 0x40, the empty block type.
-#[tactic(auto, using(crate::proofs::TypeLaws::types))]
+#[tactic(auto, using(crate::proofs::ValTypeLaws::types))]
 pub fn types()
     ensures heap { Unambiguous heap_type }
     ensures reference { Unambiguous ref_type }
@@ -106,6 +108,15 @@ pub fn types()
     ensures heap_encodings { HasMinimalEncodings heap_type IsHeap heap_encoding }
     ensures reference_encodings { HasMinimalEncodings ref_type IsRef ref_encoding }
     ensures value_encodings { HasMinimalEncodings val_type IsVal val_encoding }
+{}
+
+/// In the standard's grammar, the byte of an abstract heap type is the minimal encoding of the
+/// nullable reference type to it. In the builders' grammar only 70 and 6F are.
+#[tactic(auto, using(crate::proofs::RefTypeLaws::standard_types))]
+pub fn standard_types()
+    ensures reference { (ty : AbstractHeapType) → ref_type standard_minimal (abstract_code ty ∷ []) (nullable_abstract ty) }
+    ensures long { (heap : HeapType) (s : List ℕ) → heap_type standard s heap → ref_type standard (0x63 ∷ s) (nullable_to heap) }
+    ensures builders { (ty : AbstractHeapType) (rest : List ℕ) → ty ≢ Func → ty ≢ Extern → Rejects ref_type padded (abstract_code ty ∷ rest) }
 {}
 
 /// The values of the constants of types.
@@ -118,7 +129,7 @@ pub fn constants()
 
 /// With padded numbers, as the standard allows them, the formats are unambiguous too. A minimal
 /// encoding is also an encoding in this mode.
-#[tactic(auto, using(crate::proofs::BaseLaws::padded_laws, crate::proofs::TypeLaws::padded_types))]
+#[tactic(auto, using(crate::proofs::BaseLaws::padded_laws, crate::proofs::ValTypeLaws::padded_types))]
 pub fn padded()
     ensures u32 { UnambiguousPadded u32_format }
     ensures u64 { UnambiguousPadded u64_format }

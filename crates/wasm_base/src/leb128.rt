@@ -1,17 +1,17 @@
-// LEB128 numbers: encodes them in their minimal form, and decodes minimal and padded ones. One byte is
-// decoded inline, up to five in 64 bits.
+// LEB128 numbers: encodes them in their minimal form, and decodes minimal and padded ones. One byte
+// is decoded inline, up to five in 64 bits.
 ghost use Rattle.std.specs.Prelude.{◌≡◌, ◌+◌, ◌*◌, ◌^◌, ◌≤◌, ◌<◌, ◌++◌, [], length, vec_len, vec_capacity, ⊤, IfOk, IfErr, ◌≢◌, ℕ, ℤ};
 ghost use Rattle.wasm_base.specs.Calls.{Appends};
 ghost use Rattle.wasm_base.specs.Groups.{groups, HasGroups, signed_of};
-ghost use Rattle.wasm_base.specs.Numbers.{padded, next_group, last_group, groups_encoding, unsigned_encoding, signed_encoding};
+ghost use Rattle.wasm_base.specs.Numbers.{padded, padded_of, next_group, last_group, groups_encoding, unsigned_encoding, signed_encoding};
 ghost use Rattle.wasm_base.specs.Decoding.{Rejects, Decodes};
 ghost use Rattle.wasm_base.specs.Encodings.{longest};
-ghost use Rattle.wasm_base.specs.declared.leb128.NoGroups.TheVariants.{Ended, TooMany};
+ghost use Rattle.wasm_base.specs.declared.fault.ReadFault.TheVariants.{Ended, TooLarge, Memory};
 ghost use Rattle.wasm_base.specs.Formats.{u32 as u32_format, u64 as u64_format, s32, s64, s33};
-ghost use Rattle.wasm_base.specs.declared.fault.ReadFault.TheVariants.{Memory};
 
 use crate::encode::Encode;
-use crate::fault::ReadFault;
+use crate::fault::{DecodeError, ReadFault};
+use crate::grammar::Grammar;
 use crate::readable::{Layout, Readable};
 use crate::refused::{Refused, Result};
 use crate::shorten::Shorten;
@@ -258,32 +258,23 @@ pub struct Groups {
     pub last: u8,
 }
 
-/// Why no number is at the front of the bytes.
-#[derive(Clone, Copy, PartialEq, Eq, Debug)]
-pub enum NoGroups {
-    /// The bytes end before the last group.
-    Ended,
-    /// There are more groups than the limit.
-    TooMany,
-}
-
 /// Decodes the groups at the front, at most `limit` of them, and returns them with the remaining
 /// bytes.
 #[tactic(auto, using(crate::proofs::GroupLaws::group_steps))]
-pub fn read_groups(bytes: &[u8], limit: u8) -> Result<(Groups, &[u8]), NoGroups>
+pub fn read_groups(bytes: &[u8], limit: u8) -> Result<(Groups, &[u8]), DecodeError>
     requires { limit ≤ 10 }
     ensures found { IfOk result (λ x. HasGroups limit bytes.now x.0.sum x.0.power x.0.last x.1.now) }
     ensures power { IfOk result (λ x. x.0.power ≤ 128 ^ limit) }
     ensures below { IfOk result (λ x. x.0.sum < x.0.power) }
     ensures none { IfErr result (λ _. Rejects (groups limit) padded bytes.now) }
-    ensures ended { IfErr result (λ e. e ≡ Ended → length bytes.now < limit) }
-    ensures too_many { IfErr result (λ e. e ≡ TooMany → limit ≤ length bytes.now) }
+    ensures ended { IfErr result (λ e. e.cause ≡ Ended → length bytes.now < limit) }
+    ensures too_many { IfErr result (λ e. e.cause ≡ TooLarge → limit ≤ length bytes.now) }
 {
     if limit == 0 {
-        return Err(NoGroups::TooMany);
+        return Err(ReadFault::TooLarge.just_before(bytes));
     }
     match bytes {
-        [] => Err(NoGroups::Ended),
+        [] => Err(ReadFault::Ended.at(bytes)),
         [b, rest @ ..] => {
             if *b < 0x80 {
                 let last = Groups {
@@ -339,7 +330,7 @@ struct FewGroups {
 
 /// Decodes the groups at the front, at most five, and returns them with the remaining bytes.
 #[inline]
-fn read_few_groups(bytes: &[u8]) -> Result<(FewGroups, &[u8]), NoGroups>
+fn read_few_groups(bytes: &[u8]) -> Result<(FewGroups, &[u8]), DecodeError>
     ensures found { IfOk result (λ x. HasGroups 5 bytes.now x.0.sum x.0.power x.0.last x.1.now) }
     ensures power { IfOk result (λ x. x.0.power ≤ 2 ^ 35) }
     ensures below { IfOk result (λ x. x.0.sum < x.0.power) }
@@ -350,7 +341,7 @@ fn read_few_groups(bytes: &[u8]) -> Result<(FewGroups, &[u8]), NoGroups>
     let mut power: u64 = 1;
     for _group in 0..5u8 {
         let [b, after @ ..] = rest else {
-            return Err(NoGroups::Ended);
+            return Err(ReadFault::Ended.at(rest));
         };
         sum += power * u64::from(*b % 0x80);
         power *= 0x80;
@@ -364,7 +355,7 @@ fn read_few_groups(bytes: &[u8]) -> Result<(FewGroups, &[u8]), NoGroups>
         }
         rest = after;
     }
-    Err(NoGroups::TooMany)
+    Err(ReadFault::TooLarge.just_before(rest))
 }
 
 /// Returns the number that at most five groups encode in two's complement.
@@ -383,24 +374,24 @@ fn signed_few(groups: FewGroups) -> i64
 /// Decodes an unsigned number of 32 bits. Out of line, for those of several bytes.
 #[inline(never)]
 #[tactic(auto, using(crate::proofs::DecodeNumbers::u32_steps))]
-fn read_long_u32(bytes: &[u8]) -> Result<(u32, &[u8]), ReadFault>
-    ensures found { IfOk result (λ x. Decodes u32_format padded bytes.now x.0 x.1.now) }
-    ensures none { IfErr result (λ e. e ≢ Memory → Rejects u32_format padded bytes.now) }
+fn read_long_u32<G: Grammar>(bytes: &[u8]) -> Result<(u32, &[u8]), DecodeError>
+    ensures found { IfOk result (λ x. Decodes u32_format (padded_of G.grammar) bytes.now x.0 x.1.now) }
+    ensures none { IfErr result (λ e. e.cause ≢ Memory → Rejects u32_format (padded_of G.grammar) bytes.now) }
 {
     let (groups, rest) = read_few_groups(bytes)?;
     if groups.sum < 1 << 32 {
         Ok((groups.sum as u32, rest))
     } else {
-        Err(ReadFault::TooLarge)
+        Err(ReadFault::TooLarge.just_before(rest))
     }
 }
 
 /// Decodes an unsigned number of 64 bits. Out of line, for those of several bytes.
 #[inline(never)]
 #[tactic(auto, using(crate::proofs::DecodeNumbers::u64_steps))]
-fn read_long_u64(bytes: &[u8]) -> Result<(u64, &[u8]), ReadFault>
-    ensures found { IfOk result (λ x. Decodes u64_format padded bytes.now x.0 x.1.now) }
-    ensures none { IfErr result (λ e. e ≢ Memory → Rejects u64_format padded bytes.now) }
+fn read_long_u64<G: Grammar>(bytes: &[u8]) -> Result<(u64, &[u8]), DecodeError>
+    ensures found { IfOk result (λ x. Decodes u64_format (padded_of G.grammar) bytes.now x.0 x.1.now) }
+    ensures none { IfErr result (λ e. e.cause ≢ Memory → Rejects u64_format (padded_of G.grammar) bytes.now) }
 {
     if let Ok((groups, rest)) = read_few_groups(bytes) {
         return Ok((groups.sum, rest));
@@ -409,35 +400,35 @@ fn read_long_u64(bytes: &[u8]) -> Result<(u64, &[u8]), ReadFault>
     if groups.sum < 1 << 64 {
         Ok((groups.sum as u64, rest))
     } else {
-        Err(ReadFault::TooLarge)
+        Err(ReadFault::TooLarge.just_before(rest))
     }
 }
 
 /// Decodes a signed number of 32 bits. Out of line, for those of several bytes.
 #[inline(never)]
 #[tactic(auto, using(crate::proofs::DecodeNumbers::s32_steps))]
-fn read_long_i32(bytes: &[u8]) -> Result<(i32, &[u8]), ReadFault>
-    ensures found { IfOk result (λ x. Decodes s32 padded bytes.now x.0 x.1.now) }
-    ensures none { IfErr result (λ e. e ≢ Memory → Rejects s32 padded bytes.now) }
+fn read_long_i32<G: Grammar>(bytes: &[u8]) -> Result<(i32, &[u8]), DecodeError>
+    ensures found { IfOk result (λ x. Decodes s32 (padded_of G.grammar) bytes.now x.0 x.1.now) }
+    ensures none { IfErr result (λ e. e.cause ≢ Memory → Rejects s32 (padded_of G.grammar) bytes.now) }
 {
     let (groups, rest) = read_few_groups(bytes)?;
     let value = signed_few(groups);
     if value < -0x8000_0000 {
-        return Err(ReadFault::TooLarge);
+        return Err(ReadFault::TooLarge.just_before(rest));
     }
     if value < 0x8000_0000 {
         Ok((value as i32, rest))
     } else {
-        Err(ReadFault::TooLarge)
+        Err(ReadFault::TooLarge.just_before(rest))
     }
 }
 
 /// Decodes a signed number of 64 bits. Out of line, for those of several bytes.
 #[inline(never)]
 #[tactic(auto, using(crate::proofs::DecodeNumbers::s64_steps))]
-fn read_long_i64(bytes: &[u8]) -> Result<(i64, &[u8]), ReadFault>
-    ensures found { IfOk result (λ x. Decodes s64 padded bytes.now x.0 x.1.now) }
-    ensures none { IfErr result (λ e. e ≢ Memory → Rejects s64 padded bytes.now) }
+fn read_long_i64<G: Grammar>(bytes: &[u8]) -> Result<(i64, &[u8]), DecodeError>
+    ensures found { IfOk result (λ x. Decodes s64 (padded_of G.grammar) bytes.now x.0 x.1.now) }
+    ensures none { IfErr result (λ e. e.cause ≢ Memory → Rejects s64 (padded_of G.grammar) bytes.now) }
 {
     if let Ok((groups, rest)) = read_few_groups(bytes) {
         return Ok((signed_few(groups), rest));
@@ -445,12 +436,12 @@ fn read_long_i64(bytes: &[u8]) -> Result<(i64, &[u8]), ReadFault>
     let (groups, rest) = read_groups(bytes, 10)?;
     let value = signed(groups);
     if value < -0x8000_0000_0000_0000 {
-        return Err(ReadFault::TooLarge);
+        return Err(ReadFault::TooLarge.just_before(rest));
     }
     if value < 0x8000_0000_0000_0000 {
         Ok((value as i64, rest))
     } else {
-        Err(ReadFault::TooLarge)
+        Err(ReadFault::TooLarge.just_before(rest))
     }
 }
 
@@ -465,16 +456,16 @@ impl Layout for u32 {
     fn laws() {}
 }
 
-impl<'a, A: Allocator + Copy> Readable<'a, A> for u32 {
+impl<'a, A: Allocator + Copy, G: Grammar> Readable<'a, A, G> for u32 {
     #[tactic(auto, using(crate::proofs::DecodeNumbers::u32_steps))]
     #[inline]
-    fn read(bytes: &'a [u8], _alloc: A) -> Result<(u32, &'a [u8]), ReadFault> {
+    fn read(bytes: &'a [u8], _alloc: A) -> Result<(u32, &'a [u8]), DecodeError> {
         if let [b, rest @ ..] = bytes {
             if *b < 0x80 {
                 return Ok((u32::from(*b), rest));
             }
         }
-        read_long_u32(bytes)
+        read_long_u32::<G>(bytes)
     }
 }
 
@@ -489,16 +480,16 @@ impl Layout for u64 {
     fn laws() {}
 }
 
-impl<'a, A: Allocator + Copy> Readable<'a, A> for u64 {
+impl<'a, A: Allocator + Copy, G: Grammar> Readable<'a, A, G> for u64 {
     #[tactic(auto, using(crate::proofs::DecodeNumbers::u64_steps))]
     #[inline]
-    fn read(bytes: &'a [u8], _alloc: A) -> Result<(u64, &'a [u8]), ReadFault> {
+    fn read(bytes: &'a [u8], _alloc: A) -> Result<(u64, &'a [u8]), DecodeError> {
         if let [b, rest @ ..] = bytes {
             if *b < 0x80 {
                 return Ok((u64::from(*b), rest));
             }
         }
-        read_long_u64(bytes)
+        read_long_u64::<G>(bytes)
     }
 }
 
@@ -513,16 +504,16 @@ impl Layout for i32 {
     fn laws() {}
 }
 
-impl<'a, A: Allocator + Copy> Readable<'a, A> for i32 {
+impl<'a, A: Allocator + Copy, G: Grammar> Readable<'a, A, G> for i32 {
     #[tactic(auto, using(crate::proofs::DecodeNumbers::s32_steps))]
     #[inline]
-    fn read(bytes: &'a [u8], _alloc: A) -> Result<(i32, &'a [u8]), ReadFault> {
+    fn read(bytes: &'a [u8], _alloc: A) -> Result<(i32, &'a [u8]), DecodeError> {
         if let [b, rest @ ..] = bytes {
             if *b < 0x80 {
                 return Ok((i32::from(signed_byte(*b)), rest));
             }
         }
-        read_long_i32(bytes)
+        read_long_i32::<G>(bytes)
     }
 }
 
@@ -537,16 +528,16 @@ impl Layout for i64 {
     fn laws() {}
 }
 
-impl<'a, A: Allocator + Copy> Readable<'a, A> for i64 {
+impl<'a, A: Allocator + Copy, G: Grammar> Readable<'a, A, G> for i64 {
     #[tactic(auto, using(crate::proofs::DecodeNumbers::s64_steps))]
     #[inline]
-    fn read(bytes: &'a [u8], _alloc: A) -> Result<(i64, &'a [u8]), ReadFault> {
+    fn read(bytes: &'a [u8], _alloc: A) -> Result<(i64, &'a [u8]), DecodeError> {
         if let [b, rest @ ..] = bytes {
             if *b < 0x80 {
                 return Ok((i64::from(signed_byte(*b)), rest));
             }
         }
-        read_long_i64(bytes)
+        read_long_i64::<G>(bytes)
     }
 }
 
@@ -554,18 +545,18 @@ impl<'a, A: Allocator + Copy> Readable<'a, A> for i64 {
 /// known bytes the caller has already matched.
 #[tactic(auto, using(crate::proofs::DecodeNumbers::index_steps))]
 #[inline]
-pub fn read_index(bytes: &[u8]) -> Result<(u32, &[u8]), ReadFault>
-    ensures found { IfOk result (λ x. Decodes s33 padded bytes.now x.0 x.1.now) }
-    ensures none { IfErr result (λ e. e ≢ Memory → Rejects s33 padded bytes.now) }
+pub fn read_index<G: Grammar>(bytes: &[u8]) -> Result<(u32, &[u8]), DecodeError>
+    ensures found { IfOk result (λ x. Decodes s33 (padded_of G.grammar) bytes.now x.0 x.1.now) }
+    ensures none { IfErr result (λ e. e.cause ≢ Memory → Rejects s33 (padded_of G.grammar) bytes.now) }
 {
     let (groups, rest) = read_few_groups(bytes)?;
     if groups.last >= 0x40 {
-        return Err(ReadFault::UnknownTag);
+        return Err(ReadFault::UnknownTag.just_before(rest));
     }
     if groups.sum < 1 << 32 {
         Ok((groups.sum as u32, rest))
     } else {
-        Err(ReadFault::TooLarge)
+        Err(ReadFault::TooLarge.just_before(rest))
     }
 }
 

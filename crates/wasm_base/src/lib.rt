@@ -1,5 +1,5 @@
-//! The base of a WebAssembly encoder: numbers, names, vectors and size prefixes, the entries of a
-//! builder, sections and modules.
+//! The base of a WebAssembly library: numbers, names, vectors, size prefixes and types, encoded and
+//! decoded, the entries of a builder, sections and modules.
 //!
 //! The formats are those of the WebAssembly core specification, "Binary Format".
 //! `specs/Formats.antt` defines which bytes encode which values, `specs/Calls.antt` the contracts
@@ -12,6 +12,7 @@ mod encode;
 mod fault;
 mod fixed;
 mod frames;
+mod grammar;
 mod kind;
 pub mod laws;
 mod leb128;
@@ -34,12 +35,13 @@ mod whole;
 pub use counted::{Counted, add_all};
 pub use cow::{CowSlice, CowStr};
 pub use encode::Encode;
-pub use fault::ReadFault;
+pub use fault::{DecodeError, ReadFault};
 pub use frames::{
     SizePrefixed, begin_size_prefixed, encode_section, encode_size_prefixed, prefix_size_since,
 };
+pub use grammar::{Grammar, Padded, Standard};
 pub use kind::Kind;
-pub use leb128::{Groups, NoGroups, encoding_size, read_groups, read_index};
+pub use leb128::{Groups, encoding_size, read_groups, read_index};
 pub use modules::Module;
 pub use once::{BytesOf, EncodeOnce, VecOf, bytes_of, vec_of};
 pub use parts::{Lent, Optional, read_optional};
@@ -55,4 +57,4 @@ pub use shorten::Shorten;
 pub use skip::{Dropped, Skip, skip_many};
 pub use types::{AbstractHeapType, HeapType, RefType, ValType, read_val_after};
 pub use vectors::{append_all, encode_vec};
-pub use whole::{read_to_end, read_whole};
+pub use whole::{read_before, read_to_end, read_whole};

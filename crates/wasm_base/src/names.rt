@@ -5,8 +5,9 @@ ghost use Rattle.wasm_base.specs.Formats.{size_prefixed, any_bytes, name};
 ghost use Rattle.wasm_base.specs.Decoding.{Unambiguous};
 
 use crate::encode::Encode;
-use crate::fault::ReadFault;
+use crate::fault::{DecodeError, ReadFault};
 use crate::frames::encode_size_prefixed;
+use crate::grammar::Grammar;
 use crate::readable::{Layout, Readable};
 use crate::refused::Result;
 use crate::shorten::Shorten;
@@ -40,12 +41,12 @@ impl<'a> Layout for &'a [u8] {
     {}
 }
 
-impl<'a, A: Allocator + Copy> Readable<'a, A> for &'a [u8] {
+impl<'a, A: Allocator + Copy, G: Grammar> Readable<'a, A, G> for &'a [u8] {
     #[tactic(auto, using(crate::proofs::DecodeSizePrefixed::size_prefixed_steps))]
-    fn read(bytes: &'a [u8], alloc: A) -> Result<(&'a [u8], &'a [u8]), ReadFault> {
-        let (size, rest) = <u32 as Readable<'a, A>>::read(bytes, alloc)?;
+    fn read(bytes: &'a [u8], alloc: A) -> Result<(&'a [u8], &'a [u8]), DecodeError> {
+        let (size, rest) = <u32 as Readable<'a, A, G>>::read(bytes, alloc)?;
         if rest.len() < size as usize {
-            return Err(ReadFault::Ended);
+            return Err(ReadFault::Ended.at(b""));
         }
         Ok(rest.split_at(size as usize))
     }
@@ -65,13 +66,13 @@ impl<'a> Layout for &'a str {
     {}
 }
 
-impl<'a, A: Allocator + Copy> Readable<'a, A> for &'a str {
+impl<'a, A: Allocator + Copy, G: Grammar> Readable<'a, A, G> for &'a str {
     #[tactic(auto, using(crate::proofs::DecodeSizePrefixed::name_steps))]
-    fn read(bytes: &'a [u8], alloc: A) -> Result<(&'a str, &'a [u8]), ReadFault> {
-        let (encoding, rest) = <&'a [u8] as Readable<'a, A>>::read(bytes, alloc)?;
+    fn read(bytes: &'a [u8], alloc: A) -> Result<(&'a str, &'a [u8]), DecodeError> {
+        let (encoding, rest) = <&'a [u8] as Readable<'a, A, G>>::read(bytes, alloc)?;
         match str::from_utf8(encoding) {
             Ok(name) => Ok((name, rest)),
-            Err(_) => Err(ReadFault::NotUtf8),
+            Err(_) => Err(ReadFault::NotUtf8.at(encoding).before(rest)),
         }
     }
 }

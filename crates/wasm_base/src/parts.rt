@@ -2,12 +2,13 @@
 ghost use Rattle.std.specs.Prelude.{IfSome, ◌≢◌, IfOk, IfErr, option_map};
 ghost use Rattle.wasm_base.specs.Encodings.{optional_encoding};
 ghost use Rattle.wasm_base.specs.Formats.{optional};
-ghost use Rattle.wasm_base.specs.Numbers.{padded};
+ghost use Rattle.wasm_base.specs.Numbers.{padded_of};
 ghost use Rattle.wasm_base.specs.Decoding.{Decodes, Rejects};
 ghost use Rattle.wasm_base.specs.declared.fault.ReadFault.TheVariants.{Memory};
 
 use crate::encode::Encode;
-use crate::fault::ReadFault;
+use crate::fault::DecodeError;
+use crate::grammar::Grammar;
 use crate::readable::Readable;
 use crate::refused::Result;
 use std::alloc::Allocator;
@@ -53,13 +54,13 @@ impl<T: Encode> Encode for Optional<T> {
 ///
 /// Any error but `Memory` means that the flag is set, and no such value is at the front.
 #[tactic(auto, using(crate::proofs::Tags::optional_steps))]
-pub fn read_optional<'a, T: Readable<'a, A>, A: Allocator + Copy>(
+pub fn read_optional<'a, T: Readable<'a, A, G>, A: Allocator + Copy, G: Grammar>(
     flag: bool,
     bytes: &'a [u8],
     alloc: A,
-) -> Result<(Option<T>, &'a [u8]), ReadFault>
-    ensures found { IfOk result (λ x. Decodes (optional flag T.format) padded bytes.now (option_map T.view x.0) x.1.now) }
-    ensures none { IfErr result (λ e. e ≢ Memory → Rejects (optional flag T.format) padded bytes.now) }
+) -> Result<(Option<T>, &'a [u8]), DecodeError>
+    ensures found { IfOk result (λ x. Decodes (optional flag T.format) (padded_of G.grammar) bytes.now (option_map T.view x.0) x.1.now) }
+    ensures none { IfErr result (λ e. e.cause ≢ Memory → Rejects (optional flag T.format) (padded_of G.grammar) bytes.now) }
 {
     if flag {
         let (value, rest) = T::read(bytes, alloc)?;

@@ -1,5 +1,5 @@
 // The buffer of a builder, in which its entries are encoded.
-ghost use Rattle.std.specs.Prelude.{◌≡◌, ◌≢◌, ℕ, ◌≤◌, List, [], ◌∷◌, ◌++◌, length, IfOk, IsTrue, ◌↔◌, slice_get, slice_index, ⊤};
+ghost use Rattle.std.specs.Prelude.{◌≡◌, ◌≢◌, ℕ, ◌≤◌, List, [], ◌∷◌, length, IfOk, IsTrue, ◌↔◌, slice_get, slice_index, ⊤};
 ghost use Rattle.std.specs.Option.{option_copied};
 ghost use Rattle.wasm_base.specs.Calls.{Adds};
 ghost use Rattle.wasm_base.specs.Once.{AddsOnce};

@@ -1,10 +1,11 @@
 // The traits of decoding: the format of a value, and its decoder.
 ghost use Rattle.std.specs.Prelude.{◌≢◌, ℕ, List, IfOk, IfErr};
-ghost use Rattle.wasm_base.specs.Numbers.{Mode, padded};
+ghost use Rattle.wasm_base.specs.Numbers.{Mode, padded_of};
 ghost use Rattle.wasm_base.specs.Decoding.{Unambiguous, Decodes, Rejects};
 ghost use Rattle.wasm_base.specs.declared.fault.ReadFault.TheVariants.{Memory};
 
-use crate::fault::ReadFault;
+use crate::fault::DecodeError;
+use crate::grammar::Grammar;
 use std::alloc::Allocator;
 
 /// A value with a format, which defines the bytes that encode it.
@@ -25,14 +26,13 @@ pub trait Layout {
 
 /// A value that can be decoded from the front of bytes. Lists are allocated in `A`; names and bytes
 /// are slices of the input.
-pub trait Readable<'a, A: Allocator + Copy>: Layout + Drop {
-    /// Decodes the value at the front, padded numbers included, and returns it with the remaining
-    /// bytes.
+pub trait Readable<'a, A: Allocator + Copy, G: Grammar>: Layout + Drop {
+    /// Decodes the value at the front, in the grammar `G`, and returns it with the remaining bytes.
     ///
     /// # Errors
     ///
     /// Any error but `Memory` means that no such value is at the front.
-    fn read(bytes: &'a [u8], alloc: A) -> Result<(Self, &'a [u8]), ReadFault>
-        ensures found { IfOk result (λ x. Decodes Self.format padded bytes.now (Self.view x.0) x.1.now) }
-        ensures none { IfErr result (λ e. e ≢ Memory → Rejects Self.format padded bytes.now) };
+    fn read(bytes: &'a [u8], alloc: A) -> Result<(Self, &'a [u8]), DecodeError>
+        ensures found { IfOk result (λ x. Decodes Self.format (padded_of G.grammar) bytes.now (Self.view x.0) x.1.now) }
+        ensures none { IfErr result (λ e. e.cause ≢ Memory → Rejects Self.format (padded_of G.grammar) bytes.now) };
 }

@@ -1,5 +1,5 @@
 // The trait `Section`: an id, and an encoding that is usually size-prefixed.
-ghost use Rattle.std.specs.Prelude.{◌≡◌, ◌<◌, ℕ, List, ◌∷◌, [], length, Err, OnOk};
+ghost use Rattle.std.specs.Prelude.{◌≡◌, ◌<◌, ℕ, List, ◌∷◌, length, Err, OnOk};
 ghost use Rattle.wasm_base.specs.Calls.{Appends, DecodesBack};
 ghost use Rattle.wasm_base.specs.Formats.{any_bytes, size_prefixed};
 ghost use Rattle.wasm_base.specs.Numbers.{Mode};

@@ -1,25 +1,26 @@
 // The trait `Skip`: values that are skipped and not kept.
-ghost use Rattle.std.specs.Prelude.{◌≡◌, ◌≢◌, ℕ, List, length, IfOk, IfErr};
-ghost use Rattle.wasm_base.specs.Formats.{pair, vec};
-ghost use Rattle.wasm_base.specs.Numbers.{Mode, padded};
-ghost use Rattle.wasm_base.specs.Decoding.{Unambiguous, Decodes, Rejects};
+ghost use Rattle.std.specs.Prelude.{◌≡◌, ◌≢◌, List, length, IfOk, IfErr};
+ghost use Rattle.wasm_base.specs.Formats.{vec};
+ghost use Rattle.wasm_base.specs.Numbers.{padded_of};
+ghost use Rattle.wasm_base.specs.Decoding.{Decodes, Rejects};
 ghost use Rattle.wasm_base.specs.declared.fault.ReadFault.TheVariants.{Memory};
 
-use crate::fault::ReadFault;
+use crate::fault::DecodeError;
+use crate::grammar::Grammar;
 use crate::readable::{Layout, Readable};
 use std::alloc::Allocator;
 
 /// A value at the front of bytes, as for [`Readable`], that is skipped to reach the remaining
 /// bytes.
-pub trait Skip<'a, A: Allocator + Copy>: Layout {
-    /// Skips the value at the front, padded numbers included, and returns the remaining bytes.
+pub trait Skip<'a, A: Allocator + Copy, G: Grammar>: Layout {
+    /// Skips the value at the front, in the grammar `G`, and returns the remaining bytes.
     ///
     /// # Errors
     ///
     /// Any error but `Memory` means that no such value is at the front.
-    fn skip(bytes: &'a [u8], alloc: A) -> Result<&'a [u8], ReadFault>
-        ensures found { IfOk result (λ rest. (x : Self.Value) × Decodes Self.format padded bytes.now x rest.now) }
-        ensures none { IfErr result (λ e. e ≢ Memory → Rejects Self.format padded bytes.now) };
+    fn skip(bytes: &'a [u8], alloc: A) -> Result<&'a [u8], DecodeError>
+        ensures found { IfOk result (λ rest. (x : Self.Value) × Decodes Self.format (padded_of G.grammar) bytes.now x rest.now) }
+        ensures none { IfErr result (λ e. e.cause ≢ Memory → Rejects Self.format (padded_of G.grammar) bytes.now) };
 }
 
 /// A value that is decoded, and dropped at once.
@@ -37,9 +38,9 @@ impl<T: Layout> Layout for Dropped<T> {
     }
 }
 
-impl<'a, A: Allocator + Copy, T: Readable<'a, A>> Skip<'a, A> for Dropped<T> {
+impl<'a, A: Allocator + Copy, G: Grammar, T: Readable<'a, A, G>> Skip<'a, A, G> for Dropped<T> {
     #[inline]
-    fn skip(bytes: &'a [u8], alloc: A) -> Result<&'a [u8], ReadFault> {
+    fn skip(bytes: &'a [u8], alloc: A) -> Result<&'a [u8], DecodeError> {
         let (_value, rest) = T::read(bytes, alloc)?;
         Ok(rest)
     }
@@ -50,14 +51,14 @@ impl<'a, A: Allocator + Copy, T: Readable<'a, A>> Skip<'a, A> for Dropped<T> {
 /// # Errors
 ///
 /// Any error but `Memory` means that no such vector is at the front.
-pub fn skip_many<'a, P: Skip<'a, A>, A: Allocator + Copy>(
+pub fn skip_many<'a, P: Skip<'a, A, G>, A: Allocator + Copy, G: Grammar>(
     bytes: &'a [u8],
     alloc: A,
-) -> Result<(u32, &'a [u8]), ReadFault>
-    ensures found { IfOk result (λ x. (xs : List P.Value) × Decodes (vec P.format) padded bytes.now xs x.1.now × (x.0 ≡ length xs)) }
-    ensures none { IfErr result (λ e. e ≢ Memory → Rejects (vec P.format) padded bytes.now) }
+) -> Result<(u32, &'a [u8]), DecodeError>
+    ensures found { IfOk result (λ x. (xs : List P.Value) × Decodes (vec P.format) (padded_of G.grammar) bytes.now xs x.1.now × (x.0 ≡ length xs)) }
+    ensures none { IfErr result (λ e. e.cause ≢ Memory → Rejects (vec P.format) (padded_of G.grammar) bytes.now) }
 {
-    let (count, mut rest) = <u32 as Readable<'a, A>>::read(bytes, alloc)?;
+    let (count, mut rest) = <u32 as Readable<'a, A, G>>::read(bytes, alloc)?;
     P::laws();
     for _taken in 0..count {
         rest = P::skip(rest, alloc)?;

@@ -4,7 +4,8 @@ ghost use Rattle.wasm_base.specs.Calls.{Appends};
 ghost use Rattle.wasm_base.specs.Formats.{pair};
 
 use crate::encode::Encode;
-use crate::fault::ReadFault;
+use crate::fault::DecodeError;
+use crate::grammar::Grammar;
 use crate::readable::{Layout, Readable};
 use crate::refused::Result;
 use crate::shorten::Shorten;
@@ -60,9 +61,10 @@ impl<S: Encode, T: Encode, U: Encode> Encode for (S, T, U) {
 }
 
 /// One value, and then another.
-impl<'a, A: Allocator + Copy, P: Skip<'a, A>, Q: Skip<'a, A>> Skip<'a, A> for (P, Q) {
+impl<'a, A: Allocator + Copy, G: Grammar, P: Skip<'a, A, G>, Q: Skip<'a, A, G>> Skip<'a, A, G>
+    for (P, Q) {
     #[tactic(auto, using(crate::proofs::DecodingSteps::steps))]
-    fn skip(bytes: &'a [u8], alloc: A) -> Result<&'a [u8], ReadFault> {
+    fn skip(bytes: &'a [u8], alloc: A) -> Result<&'a [u8], DecodeError> {
         let after = P::skip(bytes, alloc)?;
         P::laws();
         let rest = Q::skip(after, alloc)?;
@@ -84,10 +86,14 @@ impl<T: Layout, U: Layout> Layout for (T, U) {
     }
 }
 
-impl<'a, A: Allocator + Copy, T: Readable<'a, A>, U: Readable<'a, A>> Readable<'a, A> for (T, U) {
+impl<'a, A: Allocator + Copy, G: Grammar, T: Readable<'a, A, G>, U: Readable<'a, A, G>> Readable<
+    'a,
+    A,
+    G,
+> for (T, U) {
     #[tactic(auto, using(crate::proofs::DecodingSteps::steps))]
     #[inline]
-    fn read(bytes: &'a [u8], alloc: A) -> Result<((T, U), &'a [u8]), ReadFault> {
+    fn read(bytes: &'a [u8], alloc: A) -> Result<((T, U), &'a [u8]), DecodeError> {
         let (first, rest) = T::read(bytes, alloc)?;
         T::laws();
         let (second, rest) = U::read(rest, alloc)?;

@@ -1,9 +1,9 @@
 // Heap types, reference types and value types.
-ghost use Rattle.std.specs.Prelude.{◌≡◌, ◌∷◌, [], ⊤, cond, ◌≢◌, IfOk, IfErr, IsTrue, false, MatchOption};
+ghost use Rattle.std.specs.Prelude.{◌≡◌, ◌∷◌, [], ⊤, cond, ◌≢◌, IfOk, IfErr, IsTrue, true, false, MatchOption};
 ghost use Rattle.wasm_base.specs.Calls.{Appends};
-ghost use Rattle.wasm_base.specs.Types.{abstract_code, heap_encoding, ref_encoding, val_encoding, abstract_type, heap_type, ref_tags, ref_type, val_tags, val_ref, val_type, HasNoByte};
-ghost use Rattle.wasm_base.specs.Formats.{choice, impossible};
-ghost use Rattle.wasm_base.specs.Numbers.{padded};
+ghost use Rattle.wasm_base.specs.Types.{abstract_code, heap_encoding, ref_encoding, val_encoding, abstract_type, heap_type, ref_type, val_type, HasNoByte, HasLongForm};
+ghost use Rattle.wasm_base.specs.Formats.{after_byte};
+ghost use Rattle.wasm_base.specs.Numbers.{is_admitted, padded_of};
 ghost use Rattle.wasm_base.specs.Decoding.{Decodes, Rejects};
 ghost use Rattle.wasm_base.specs.declared.types.AbstractHeapType.{AbstractHeapType as Abstract};
 ghost use Rattle.wasm_base.specs.declared.types.HeapType.{HeapType as Heap};
@@ -12,7 +12,8 @@ ghost use Rattle.wasm_base.specs.declared.types.ValType.{ValType as Val};
 ghost use Rattle.wasm_base.specs.declared.fault.ReadFault.TheVariants.{Memory};
 
 use crate::encode::Encode;
-use crate::fault::ReadFault;
+use crate::fault::{DecodeError, ReadFault};
+use crate::grammar::Grammar;
 use crate::leb128::read_index;
 use crate::readable::{Layout, Readable};
 use crate::refused::Result;
@@ -231,13 +232,13 @@ impl Layout for AbstractHeapType {
     fn laws() {}
 }
 
-impl<'a, A: Allocator + Copy> Readable<'a, A> for AbstractHeapType {
+impl<'a, A: Allocator + Copy, G: Grammar> Readable<'a, A, G> for AbstractHeapType {
     #[tactic(auto, using(crate::proofs::DecodeTypes::abstract_type_steps))]
-    fn read(bytes: &'a [u8], alloc: A) -> Result<(AbstractHeapType, &'a [u8]), ReadFault> {
-        let (byte, rest) = <u8 as Readable<'a, A>>::read(bytes, alloc)?;
+    fn read(bytes: &'a [u8], alloc: A) -> Result<(AbstractHeapType, &'a [u8]), DecodeError> {
+        let (byte, rest) = <u8 as Readable<'a, A, G>>::read(bytes, alloc)?;
         match abstract_of(byte) {
             Some(ty) => Ok((ty, rest)),
-            None => Err(ReadFault::UnknownTag),
+            None => Err(ReadFault::UnknownTag.at(bytes)),
         }
     }
 }
@@ -253,23 +254,23 @@ impl Layout for HeapType {
     fn laws() {}
 }
 
-impl<'a, A: Allocator + Copy> Readable<'a, A> for HeapType {
+impl<'a, A: Allocator + Copy, G: Grammar> Readable<'a, A, G> for HeapType {
     #[tactic(auto, using(crate::proofs::DecodeTypes::heap_steps))]
-    fn read(bytes: &'a [u8], alloc: A) -> Result<(HeapType, &'a [u8]), ReadFault> {
-        let (tag, rest) = <u8 as Readable<'a, A>>::read(bytes, alloc)?;
+    fn read(bytes: &'a [u8], alloc: A) -> Result<(HeapType, &'a [u8]), DecodeError> {
+        let (tag, rest) = <u8 as Readable<'a, A, G>>::read(bytes, alloc)?;
         match tag {
             0x62 => {
-                let (index, rest) = <u32 as Readable<'a, A>>::read(rest, alloc)?;
+                let (index, rest) = <u32 as Readable<'a, A, G>>::read(rest, alloc)?;
                 Ok((HeapType::Exact(index), rest))
             }
             0x65 => {
-                let (ty, rest) = <AbstractHeapType as Readable<'a, A>>::read(rest, alloc)?;
+                let (ty, rest) = <AbstractHeapType as Readable<'a, A, G>>::read(rest, alloc)?;
                 Ok((HeapType::Abstract { shared: true, ty }, rest))
             }
             _ => match abstract_of(tag) {
                 Some(ty) => Ok((HeapType::Abstract { shared: false, ty }, rest)),
                 None => {
-                    let (index, rest) = read_index(bytes)?;
+                    let (index, rest) = read_index::<G>(bytes)?;
                     Ok((HeapType::Concrete(index), rest))
                 }
             },
@@ -277,7 +278,7 @@ impl<'a, A: Allocator + Copy> Readable<'a, A> for HeapType {
     }
 }
 
-/// Returns `true` if the nullable reference to the heap type has a one-byte encoding.
+/// Returns `true` if the nullable reference to the heap type has a one-byte encoding by builders.
 #[tactic(auto, using(crate::proofs::DecodeTypes::own_byte_steps))]
 fn has_own_byte(heap: HeapType) -> bool
     ensures yes { IsTrue result → HasNoByte heap → ⊥ }
@@ -292,21 +293,51 @@ fn has_own_byte(heap: HeapType) -> bool
     }
 }
 
+/// Returns `true` if the byte 63 may precede the heap type of a nullable reference type.
+#[tactic(auto, using(crate::proofs::DecodeTypes::long_form_steps))]
+fn has_long_form<G: Grammar>(heap: HeapType) -> bool
+    ensures yes { IsTrue result → HasLongForm G.grammar heap }
+    ensures no { result ≡ false → HasLongForm G.grammar heap → ⊥ }
+{
+    if G::is_standard() {
+        return true;
+    }
+    !has_own_byte(heap)
+}
+
+/// Returns the reference type that the byte encodes by the standard, if the grammar is the
+/// standard's.
+#[tactic(auto, using(crate::proofs::DecodeTypes::short_steps))]
+fn short_ref<G: Grammar>(byte: u8) -> Option<RefType>
+    ensures { MatchOption result (is_admitted G.grammar ≡ true → (ty : Abstract) → byte ≢ abstract_code ty) (λ r. ref_type (padded_of G.grammar) (byte ∷ []) r) }
+{
+    if !G::is_standard() {
+        return None;
+    }
+    match abstract_of(byte) {
+        Some(ty) => Some(RefType {
+            nullable: true,
+            heap_type: HeapType::Abstract { shared: false, ty },
+        }),
+        None => None,
+    }
+}
+
 /// Decodes a reference type after its first byte, `tag`.
 #[tactic(auto, using(crate::proofs::DecodeTypes::ref_steps))]
-fn read_ref_after<'a, A: Allocator + Copy>(
+fn read_ref_after<'a, A: Allocator + Copy, G: Grammar>(
     tag: u8,
     bytes: &'a [u8],
     alloc: A,
-) -> Result<(RefType, &'a [u8]), ReadFault>
-    ensures found { IfOk result (λ x. Decodes (choice ref_tags (λ b. impossible) tag) padded bytes.now x.0 x.1.now) }
-    ensures none { IfErr result (λ e. e ≢ Memory → Rejects (choice ref_tags (λ b. impossible) tag) padded bytes.now) }
+) -> Result<(RefType, &'a [u8]), DecodeError>
+    ensures found { IfOk result (λ x. Decodes (after_byte ref_type tag) (padded_of G.grammar) bytes.now x.0 x.1.now) }
+    ensures none { IfErr result (λ e. e.cause ≢ Memory → Rejects (after_byte ref_type tag) (padded_of G.grammar) bytes.now) }
 {
     match tag {
         0x70 => Ok((RefType::FUNCREF, bytes)),
         0x6F => Ok((RefType::EXTERNREF, bytes)),
         0x64 => {
-            let (heap_type, rest) = <HeapType as Readable<'a, A>>::read(bytes, alloc)?;
+            let (heap_type, rest) = <HeapType as Readable<'a, A, G>>::read(bytes, alloc)?;
             Ok((
                 RefType {
                     nullable: false,
@@ -316,19 +347,23 @@ fn read_ref_after<'a, A: Allocator + Copy>(
             ))
         }
         0x63 => {
-            let (heap_type, rest) = <HeapType as Readable<'a, A>>::read(bytes, alloc)?;
-            if has_own_byte(heap_type) {
-                return Err(ReadFault::UnknownTag);
+            let (heap_type, rest) = <HeapType as Readable<'a, A, G>>::read(bytes, alloc)?;
+            if has_long_form::<G>(heap_type) {
+                Ok((
+                    RefType {
+                        nullable: true,
+                        heap_type,
+                    },
+                    rest,
+                ))
+            } else {
+                Err(ReadFault::UnknownTag.just_before(rest))
             }
-            Ok((
-                RefType {
-                    nullable: true,
-                    heap_type,
-                },
-                rest,
-            ))
         }
-        _ => Err(ReadFault::UnknownTag),
+        _ => match short_ref::<G>(tag) {
+            Some(ty) => Ok((ty, bytes)),
+            None => Err(ReadFault::UnknownTag.just_before(bytes)),
+        },
     }
 }
 
@@ -339,27 +374,27 @@ impl Layout for RefType {
 
     ghost view = { λ r. r };
 
-    #[tactic(auto, using(crate::proofs::TypeLaws::ref_unambiguous))]
+    #[tactic(auto, using(crate::proofs::RefTypeLaws::ref_unambiguous))]
     fn laws() {}
 }
 
-impl<'a, A: Allocator + Copy> Readable<'a, A> for RefType {
+impl<'a, A: Allocator + Copy, G: Grammar> Readable<'a, A, G> for RefType {
     #[tactic(auto, using(crate::proofs::DecodeTypes::ref_type_steps))]
-    fn read(bytes: &'a [u8], alloc: A) -> Result<(RefType, &'a [u8]), ReadFault> {
-        let (tag, rest) = <u8 as Readable<'a, A>>::read(bytes, alloc)?;
-        read_ref_after(tag, rest, alloc)
+    fn read(bytes: &'a [u8], alloc: A) -> Result<(RefType, &'a [u8]), DecodeError> {
+        let (tag, rest) = <u8 as Readable<'a, A, G>>::read(bytes, alloc)?;
+        read_ref_after::<A, G>(tag, rest, alloc)
     }
 }
 
 /// Decodes a value type after its first byte, `tag`.
 #[tactic(auto, using(crate::proofs::DecodeTypes::val_steps))]
-pub fn read_val_after<'a, A: Allocator + Copy>(
+pub fn read_val_after<'a, A: Allocator + Copy, G: Grammar>(
     tag: u8,
     bytes: &'a [u8],
     alloc: A,
-) -> Result<(ValType, &'a [u8]), ReadFault>
-    ensures found { IfOk result (λ x. Decodes (choice val_tags val_ref tag) padded bytes.now x.0 x.1.now) }
-    ensures none { IfErr result (λ e. e ≢ Memory → Rejects (choice val_tags val_ref tag) padded bytes.now) }
+) -> Result<(ValType, &'a [u8]), DecodeError>
+    ensures found { IfOk result (λ x. Decodes (after_byte val_type tag) (padded_of G.grammar) bytes.now x.0 x.1.now) }
+    ensures none { IfErr result (λ e. e.cause ≢ Memory → Rejects (after_byte val_type tag) (padded_of G.grammar) bytes.now) }
 {
     match tag {
         0x7F => Ok((ValType::I32, bytes)),
@@ -368,7 +403,7 @@ pub fn read_val_after<'a, A: Allocator + Copy>(
         0x7C => Ok((ValType::F64, bytes)),
         0x7B => Ok((ValType::V128, bytes)),
         _ => {
-            let (ty, rest) = read_ref_after(tag, bytes, alloc)?;
+            let (ty, rest) = read_ref_after::<A, G>(tag, bytes, alloc)?;
             Ok((ValType::Ref(ty), rest))
         }
     }
@@ -381,15 +416,15 @@ impl Layout for ValType {
 
     ghost view = { λ ty. ty };
 
-    #[tactic(auto, using(crate::proofs::TypeLaws::val_unambiguous))]
+    #[tactic(auto, using(crate::proofs::ValTypeLaws::val_unambiguous))]
     fn laws() {}
 }
 
-impl<'a, A: Allocator + Copy> Readable<'a, A> for ValType {
+impl<'a, A: Allocator + Copy, G: Grammar> Readable<'a, A, G> for ValType {
     #[tactic(auto, using(crate::proofs::DecodeTypes::val_type_steps))]
-    fn read(bytes: &'a [u8], alloc: A) -> Result<(ValType, &'a [u8]), ReadFault> {
-        let (tag, rest) = <u8 as Readable<'a, A>>::read(bytes, alloc)?;
-        read_val_after(tag, rest, alloc)
+    fn read(bytes: &'a [u8], alloc: A) -> Result<(ValType, &'a [u8]), DecodeError> {
+        let (tag, rest) = <u8 as Readable<'a, A, G>>::read(bytes, alloc)?;
+        read_val_after::<A, G>(tag, rest, alloc)
     }
 }
 

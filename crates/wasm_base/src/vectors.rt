@@ -7,7 +7,8 @@ ghost use Rattle.wasm_base.specs.declared.refused.Refused.TheVariants.{TooLong};
 ghost use Rattle.wasm_base.specs.Minimal.{AppendsMinimal, IsFrontOf, HasEncoding};
 
 use crate::encode::Encode;
-use crate::fault::ReadFault;
+use crate::fault::DecodeError;
+use crate::grammar::Grammar;
 use crate::once::{EncodeOnce, vec_of};
 use crate::readable::{Layout, Readable};
 use crate::refused::Result;
@@ -64,10 +65,10 @@ impl<A: Allocator, T: Layout> Layout for Vec<T, A> {
     }
 }
 
-impl<'a, A: Allocator + Copy, T: Readable<'a, A>> Readable<'a, A> for Vec<T, A> {
+impl<'a, A: Allocator + Copy, G: Grammar, T: Readable<'a, A, G>> Readable<'a, A, G> for Vec<T, A> {
     #[tactic(auto, using(crate::proofs::DecodeVectors::vec_steps))]
-    fn read(bytes: &'a [u8], alloc: A) -> Result<(Vec<T, A>, &'a [u8]), ReadFault> {
-        let (count, mut rest) = <u32 as Readable<'a, A>>::read(bytes, alloc)?;
+    fn read(bytes: &'a [u8], alloc: A) -> Result<(Vec<T, A>, &'a [u8]), DecodeError> {
+        let (count, mut rest) = <u32 as Readable<'a, A, G>>::read(bytes, alloc)?;
         let mut items = Vec::new(alloc);
         T::laws();
         for _taken in 0..count {

@@ -2,11 +2,12 @@
 ghost use Rattle.std.specs.Prelude.{◌≢◌, IfOk, IfErr, map};
 ghost use Rattle.wasm_base.specs.Formats.{members};
 ghost use Rattle.wasm_base.specs.Continuing.{RejectsWhole};
-ghost use Rattle.wasm_base.specs.Numbers.{padded};
+ghost use Rattle.wasm_base.specs.Numbers.{padded_of};
 ghost use Rattle.wasm_base.specs.Decoding.{BeginsWith};
 ghost use Rattle.wasm_base.specs.declared.fault.ReadFault.TheVariants.{Memory};
 
-use crate::fault::ReadFault;
+use crate::fault::{DecodeError, ReadFault};
+use crate::grammar::Grammar;
 use crate::readable::Readable;
 use std::alloc::Allocator;
 
@@ -16,19 +17,39 @@ use std::alloc::Allocator;
 ///
 /// Any error but `Memory` means that the bytes as a whole encode no such value.
 #[tactic(auto, using(crate::proofs::DecodeWhole::whole_steps))]
-pub fn read_whole<'a, T: Readable<'a, A>, A: Allocator + Copy>(
+pub fn read_whole<'a, T: Readable<'a, A, G>, A: Allocator + Copy, G: Grammar>(
     bytes: &'a [u8],
     alloc: A,
-) -> Result<T, ReadFault>
-    ensures found { IfOk result (λ x. T.format padded bytes.now (T.view x)) }
-    ensures none { IfErr result (λ e. e ≢ Memory → RejectsWhole T.format bytes.now) }
+) -> Result<T, DecodeError>
+    ensures found { IfOk result (λ x. T.format (padded_of G.grammar) bytes.now (T.view x)) }
+    ensures none { IfErr result (λ e. e.cause ≢ Memory → RejectsWhole T.format (padded_of G.grammar) bytes.now) }
 {
     let (value, left) = T::read(bytes, alloc)?;
     T::laws();
     if left.is_empty() {
         Ok(value)
     } else {
-        Err(ReadFault::SizeMismatch)
+        Err(ReadFault::SizeMismatch.at(left))
+    }
+}
+
+/// Decodes a value that occupies all of the bytes. Further bytes follow in the input, from which
+/// the place of an error counts.
+///
+/// # Errors
+///
+/// Any error but `Memory` means that the bytes as a whole encode no such value.
+pub fn read_before<'a, T: Readable<'a, A, G>, A: Allocator + Copy, G: Grammar>(
+    bytes: &'a [u8],
+    rest: &[u8],
+    alloc: A,
+) -> Result<T, DecodeError>
+    ensures found { IfOk result (λ x. T.format (padded_of G.grammar) bytes.now (T.view x)) }
+    ensures none { IfErr result (λ e. e.cause ≢ Memory → RejectsWhole T.format (padded_of G.grammar) bytes.now) }
+{
+    match read_whole::<'a, T, A, G>(bytes, alloc) {
+        Ok(value) => Ok(value),
+        Err(error) => Err(error.before(rest)),
     }
 }
 
@@ -38,13 +59,13 @@ pub fn read_whole<'a, T: Readable<'a, A>, A: Allocator + Copy>(
 /// # Errors
 ///
 /// Any error but `Memory` means that the bytes as a whole encode no such values.
-pub fn read_to_end<'a, T: Readable<'a, A>, A: Allocator + Copy>(
+pub fn read_to_end<'a, T: Readable<'a, A, G>, A: Allocator + Copy, G: Grammar>(
     bytes: &'a [u8],
     alloc: A,
-) -> Result<Vec<T, A>, ReadFault>
+) -> Result<Vec<T, A>, DecodeError>
     requires { BeginsWith (λ b. Unit {0}) T.format }
-    ensures found { IfOk result (λ x. members T.format padded bytes.now (map T.view x.items)) }
-    ensures none { IfErr result (λ e. e ≢ Memory → RejectsWhole (members T.format) bytes.now) }
+    ensures found { IfOk result (λ x. members T.format (padded_of G.grammar) bytes.now (map T.view x.items)) }
+    ensures none { IfErr result (λ e. e.cause ≢ Memory → RejectsWhole (members T.format) (padded_of G.grammar) bytes.now) }
 {
     let mut items = Vec::new(alloc);
     let mut rest = bytes;

@@ -6,7 +6,7 @@ ghost use Rattle.wasm_code.specs.BodyViews.{body_view};
 
 use crate::answers::NO_ANSWER;
 use std::alloc::Global;
-use wasm_base::ReadFault;
+use wasm_base::DecodeError;
 use wasm_code::{Body, Instructions};
 use wasm_reader::{Items, SectionKind, read_section};
 
@@ -34,7 +34,7 @@ pub extern "C" fn wb_read(alloc: Global, section: &[u8]) -> u64
 }
 
 /// Returns the number of instructions that a visitor visits.
-fn walked(alloc: Global, body: &[u8]) -> Result<u64, ReadFault>
+fn walked(alloc: Global, body: &[u8]) -> Result<u64, DecodeError>
     ensures { IfOk result (λ n. HasWalked body.now n) }
 {
     let (_runs, mut walk) = Instructions::of_body(body, alloc)?;

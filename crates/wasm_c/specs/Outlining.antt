@@ -66,7 +66,7 @@ pub record Refuses (module_bytes : List ℕ) (old new : List DzOutlined) (place 
   pub fault : ReadFault
   pub numbered : cause ≡ fault_number fault
   pub ends : fault ≢ Memory → EndsAt module_bytes place
-  pub no_module : fault ≢ Memory → RejectsWhole wasm_module module_bytes
+  pub no_module : fault ≢ Memory → RejectsWhole wasm_module padded module_bytes
 
 -- The result of a call with a module: an error or an outline.
 abbrev pub Outcome : List ℕ → List DzOutlined → List DzOutlined → ℕ → ℕ → ℕ → Type 0

@@ -1,5 +1,5 @@
 // Messages of causes, for C.
-ghost use Rattle.std.specs.Prelude.{◌≡◌, option_map, string_bytes};
+ghost use Rattle.std.specs.Prelude.{◌≡◌, option_map};
 ghost use Rattle.wasm_c.specs.Causes.{fault_texts, recipe_texts, text_numbered, Determines};
 
 use crate::NO_ANSWER;

@@ -2,8 +2,8 @@
 ghost use Rattle.std.specs.Prelude.{◌≡◌, ◌≢◌, IfOk, IfErr, Err, OnOk, OnErr, map, List};
 ghost use Rattle.wasm_base.specs.Formats.{members, size_prefixed};
 ghost use Rattle.wasm_base.specs.Continuing.{RejectsWhole};
-ghost use Rattle.wasm_base.specs.Numbers.{padded};
-ghost use Rattle.wasm_insn.specs.Plain.{instruction, Plain as PlainInstruction, part, arguments};
+ghost use Rattle.wasm_base.specs.Numbers.{padded, padded_of};
+ghost use Rattle.wasm_insn.specs.Plain.{instruction, Plain as PlainInstruction};
 ghost use Rattle.wasm_insn.specs.Table.{table};
 ghost use Rattle.wasm_code.specs.Bodies.{Body as BodyModel, body};
 ghost use Rattle.wasm_base.specs.declared.refused.Refused.TheVariants.{TooLong};
@@ -11,16 +11,12 @@ ghost use Rattle.wasm_base.specs.Minimal.{AppendsMinimal, IsFrontOf, HasEncoding
 ghost use Rattle.wasm_base.specs.declared.fault.ReadFault.TheVariants.{Memory};
 ghost use Rattle.wasm_insn.specs.Views.{plain_view};
 ghost use Rattle.wasm_code.specs.BodyViews.{body_view};
-ghost use Rattle.wasm_base.specs.Decoding.{Decodes, Rejects};
-ghost use Rattle.wasm_insn.specs.Arguments.{Argument};
-ghost use Rattle.wasm_insn.specs.Parts.{parts_of};
-ghost use Rattle.wasm_code.specs.Expressions.{expression};
 
 use crate::walk::Instructions;
 use std::alloc::{Allocator, Global};
 use wasm_base::{
-    Dropped, Layout, ReadFault, Readable, Result, Shorten, Skip, ValType, prefix_size_since,
-    skip_many,
+    DecodeError, Dropped, Grammar, Layout, Readable, Result, Shorten, Skip, ValType,
+    prefix_size_since, skip_many,
 };
 use wasm_insn::{Plain, append_instruction};
 
@@ -33,12 +29,12 @@ const BYTES_OF_ONE: usize = 4;
 /// # Errors
 ///
 /// Any error but `Memory` means that the bytes as a whole encode no instructions.
-pub fn read_code<'a, A: Allocator + Copy>(
+pub fn read_code<'a, A: Allocator + Copy, G: Grammar>(
     bytes: &'a [u8],
     alloc: A,
-) -> Result<Vec<Plain<A>, A>, ReadFault>
-    ensures found { IfOk result (λ x. members (instruction table) padded bytes.now (map plain_view x.items)) }
-    ensures none { IfErr result (λ e. e ≢ Memory → RejectsWhole (members (instruction table)) bytes.now) }
+) -> Result<Vec<Plain<A>, A>, DecodeError>
+    ensures found { IfOk result (λ x. members (instruction table) (padded_of G.grammar) bytes.now (map plain_view x.items)) }
+    ensures none { IfErr result (λ e. e.cause ≢ Memory → RejectsWhole (members (instruction table)) (padded_of G.grammar) bytes.now) }
 {
     let mut items = Vec::with_capacity(alloc, bytes.len() / BYTES_OF_ONE)?;
     let mut rest = bytes;
@@ -46,7 +42,7 @@ pub fn read_code<'a, A: Allocator + Copy>(
         if rest.is_empty() {
             return Ok(items);
         }
-        let (item, after) = <Plain<A> as Readable<'a, A>>::read(rest, alloc)?;
+        let (item, after) = <Plain<A> as Readable<'a, A, G>>::read(rest, alloc)?;
         items.push(item)?;
         rest = after;
     }
@@ -82,12 +78,15 @@ pub struct Body<A: Allocator = Global> {
 ///
 /// Any error but `Memory` means that the bytes as a whole encode no body.
 #[tactic(auto, using(crate::proofs::DecodeLists::body_steps))]
-pub fn read_body<'a, A: Allocator + Copy>(bytes: &'a [u8], alloc: A) -> Result<Body<A>, ReadFault>
-    ensures found { IfOk result (λ x. body padded bytes.now (body_view x)) }
-    ensures none { IfErr result (λ e. e ≢ Memory → RejectsWhole body bytes.now) }
+pub fn read_body<'a, A: Allocator + Copy, G: Grammar>(
+    bytes: &'a [u8],
+    alloc: A,
+) -> Result<Body<A>, DecodeError>
+    ensures found { IfOk result (λ x. body (padded_of G.grammar) bytes.now (body_view x)) }
+    ensures none { IfErr result (λ e. e.cause ≢ Memory → RejectsWhole body (padded_of G.grammar) bytes.now) }
 {
-    let (runs, rest) = <Vec<(u32, ValType), A> as Readable<'a, A>>::read(bytes, alloc)?;
-    let code = read_code(rest, alloc)?;
+    let (runs, rest) = <Vec<(u32, ValType), A> as Readable<'a, A, G>>::read(bytes, alloc)?;
+    let code = read_code::<A, G>(rest, alloc)?;
     Ok(Body { runs, code })
 }
 
@@ -103,11 +102,13 @@ impl<A: Allocator> Layout for Body<A> {
     fn laws() {}
 }
 
-impl<'a, A: Allocator + Copy> Readable<'a, A> for Body<A> {
-    fn read(bytes: &'a [u8], alloc: A) -> Result<(Body<A>, &'a [u8]), ReadFault> {
-        let (content, rest) = <&'a [u8] as Readable<'a, A>>::read(bytes, alloc)?;
-        let body = read_body(content, alloc)?;
-        Ok((body, rest))
+impl<'a, A: Allocator + Copy, G: Grammar> Readable<'a, A, G> for Body<A> {
+    fn read(bytes: &'a [u8], alloc: A) -> Result<(Body<A>, &'a [u8]), DecodeError> {
+        let (content, rest) = <&'a [u8] as Readable<'a, A, G>>::read(bytes, alloc)?;
+        match read_body::<A, G>(content, alloc) {
+            Ok(body) => Ok((body, rest)),
+            Err(error) => Err(error.before(rest)),
+        }
     }
 }
 
@@ -127,9 +128,9 @@ fn write_body<A: Allocator + Copy, B: Allocator>(
     bytes: &[u8],
     alloc: A,
     sink: &mut Vec<u8, B>,
-) -> Result<(), ReadFault>
+) -> Result<(), DecodeError>
     ensures found { OnOk result ((x : BodyModel) × body padded bytes.now x × AppendsMinimal (size_prefixed body) x sink.old.items sink.new.items) }
-    ensures none { IfErr result (λ e. e ≢ Memory → RejectsWhole body bytes.now) }
+    ensures none { IfErr result (λ e. e.cause ≢ Memory → RejectsWhole body padded bytes.now) }
     ensures front { IsFrontOf sink.old.items sink.new.items }
 {
     let start = sink.len();
@@ -158,9 +159,9 @@ pub fn shorten_body<A: Allocator + Copy, B: Allocator>(
     bytes: &[u8],
     alloc: A,
     sink: &mut Vec<u8, B>,
-) -> Result<(), ReadFault>
+) -> Result<(), DecodeError>
     ensures found { OnOk result ((x : BodyModel) × body padded bytes.now x × AppendsMinimal (size_prefixed body) x sink.old.items sink.new.items) }
-    ensures none { IfErr result (λ e. e ≢ Memory → RejectsWhole body bytes.now) }
+    ensures none { IfErr result (λ e. e.cause ≢ Memory → RejectsWhole body padded bytes.now) }
     ensures err { OnErr result (sink.new.items ≡ sink.old.items) }
 {
     let start = sink.len();
@@ -172,35 +173,43 @@ pub fn shorten_body<A: Allocator + Copy, B: Allocator>(
 }
 
 /// Skips instructions up to the last byte.
-fn skip_code<'a, A: Allocator + Copy>(bytes: &'a [u8], alloc: A) -> Result<(), ReadFault>
-    ensures found { OnOk result ((xs : List PlainInstruction) × members (instruction table) padded bytes.now xs) }
-    ensures none { IfErr result (λ e. e ≢ Memory → RejectsWhole (members (instruction table)) bytes.now) }
+fn skip_code<'a, A: Allocator + Copy, G: Grammar>(
+    bytes: &'a [u8],
+    alloc: A,
+) -> Result<(), DecodeError>
+    ensures found { OnOk result ((xs : List PlainInstruction) × members (instruction table) (padded_of G.grammar) bytes.now xs) }
+    ensures none { IfErr result (λ e. e.cause ≢ Memory → RejectsWhole (members (instruction table)) (padded_of G.grammar) bytes.now) }
 {
     let mut rest = bytes;
     loop {
         if rest.is_empty() {
             return Ok(());
         }
-        rest = <Plain<A> as Skip<'a, A>>::skip(rest, alloc)?;
+        rest = <Plain<A> as Skip<'a, A, G>>::skip(rest, alloc)?;
     }
 }
 
 /// Skips the bytes of a body without its size prefix.
 #[tactic(auto, using(crate::proofs::DecodeLists::body_steps))]
-fn skip_body<'a, A: Allocator + Copy>(bytes: &'a [u8], alloc: A) -> Result<(), ReadFault>
-    ensures found { OnOk result ((x : BodyModel) × body padded bytes.now x) }
-    ensures none { IfErr result (λ e. e ≢ Memory → RejectsWhole body bytes.now) }
+fn skip_body<'a, A: Allocator + Copy, G: Grammar>(
+    bytes: &'a [u8],
+    alloc: A,
+) -> Result<(), DecodeError>
+    ensures found { OnOk result ((x : BodyModel) × body (padded_of G.grammar) bytes.now x) }
+    ensures none { IfErr result (λ e. e.cause ≢ Memory → RejectsWhole body (padded_of G.grammar) bytes.now) }
 {
-    let (_count, rest) = skip_many::<'a, Dropped<(u32, ValType)>, A>(bytes, alloc)?;
-    skip_code(rest, alloc)?;
+    let (_count, rest) = skip_many::<'a, Dropped<(u32, ValType)>, A, G>(bytes, alloc)?;
+    skip_code::<A, G>(rest, alloc)?;
     Ok(())
 }
 
 /// Skips a body with its size prefix, as in a code section, and allocates nothing.
-impl<'a, A: Allocator + Copy> Skip<'a, A> for Body<A> {
-    fn skip(bytes: &'a [u8], alloc: A) -> Result<&'a [u8], ReadFault> {
-        let (sized, rest) = <&'a [u8] as Readable<'a, A>>::read(bytes, alloc)?;
-        skip_body(sized, alloc)?;
-        Ok(rest)
+impl<'a, A: Allocator + Copy, G: Grammar> Skip<'a, A, G> for Body<A> {
+    fn skip(bytes: &'a [u8], alloc: A) -> Result<&'a [u8], DecodeError> {
+        let (sized, rest) = <&'a [u8] as Readable<'a, A, G>>::read(bytes, alloc)?;
+        match skip_body::<A, G>(sized, alloc) {
+            Ok(()) => Ok(rest),
+            Err(error) => Err(error.before(rest)),
+        }
     }
 }

@@ -1,5 +1,5 @@
 // Constant expressions: the initializers of globals, tables and segments.
-ghost use Rattle.std.specs.Prelude.{◌≡◌, ◌≢◌, ◌<◌, ◌≤◌, ◌^◌, ℕ, List, [], ◌++◌, IfOk, IfSome, ⊤};
+ghost use Rattle.std.specs.Prelude.{◌≡◌, ◌≢◌, ◌<◌, ℕ, List, [], ◌++◌, IfOk, ⊤};
 ghost use Rattle.std.specs.Iterator.{Drains, IsFinite};
 ghost use Rattle.wasm_base.specs.Calls.{DecodesBack};
 ghost use Rattle.wasm_base.specs.declared.refused.Refused.TheVariants.{TooLong};

@@ -1,21 +1,13 @@
 // Constant expressions as instructions up to `End`: decoded, skipped and minimized.
-ghost use Rattle.std.specs.Prelude.{List, map, ◌≢◌, IfOk, IfErr, OnOk};
-ghost use Rattle.wasm_insn.specs.Plain.{Plain as PlainInstruction, part, arguments, instruction};
+ghost use Rattle.std.specs.Prelude.{List, map};
+ghost use Rattle.wasm_insn.specs.Plain.{Plain as PlainInstruction};
 ghost use Rattle.wasm_code.specs.Expressions.{expression};
 ghost use Rattle.wasm_insn.specs.Views.{plain_view};
-ghost use Rattle.wasm_base.specs.Formats.{members, size_prefixed};
-ghost use Rattle.wasm_base.specs.Continuing.{RejectsWhole};
-ghost use Rattle.wasm_base.specs.Numbers.{padded};
-ghost use Rattle.wasm_base.specs.Decoding.{Decodes, Rejects};
-ghost use Rattle.wasm_insn.specs.Arguments.{Argument};
-ghost use Rattle.wasm_insn.specs.Parts.{parts_of};
-ghost use Rattle.wasm_insn.specs.Table.{table};
-ghost use Rattle.wasm_code.specs.Bodies.{Body as BodyModel, body};
-ghost use Rattle.wasm_base.specs.declared.fault.ReadFault.TheVariants.{Memory};
+ghost use Rattle.wasm_code.specs.Bodies.{body};
 
 use crate::body::append_code;
 use std::alloc::{Allocator, Global};
-use wasm_base::{Layout, ReadFault, Readable, Result, Shorten, Skip};
+use wasm_base::{DecodeError, Grammar, Layout, ReadFault, Readable, Result, Shorten, Skip};
 use wasm_insn::Plain;
 
 /// The opcode of `End`.
@@ -36,19 +28,19 @@ impl<A: Allocator> Layout for Expression<A> {
     fn laws() {}
 }
 
-impl<'a, A: Allocator + Copy> Readable<'a, A> for Expression<A> {
+impl<'a, A: Allocator + Copy, G: Grammar> Readable<'a, A, G> for Expression<A> {
     #[tactic(auto, using(wasm_insn::proofs::InstructionLaws::any_begins))]
-    fn read(bytes: &'a [u8], alloc: A) -> Result<(Expression<A>, &'a [u8]), ReadFault> {
+    fn read(bytes: &'a [u8], alloc: A) -> Result<(Expression<A>, &'a [u8]), DecodeError> {
         let mut items = Vec::new(alloc);
         let mut rest = bytes;
         loop {
             let [first, after @ ..] = rest else {
-                return Err(ReadFault::Ended);
+                return Err(ReadFault::Ended.at(b""));
             };
             if *first == END {
                 return Ok((Expression(items), after));
             }
-            let (item, after) = <Plain<A> as Readable<'a, A>>::read(rest, alloc)?;
+            let (item, after) = <Plain<A> as Readable<'a, A, G>>::read(rest, alloc)?;
             items.push(item)?;
             rest = after;
         }
@@ -65,18 +57,18 @@ impl<A: Allocator> Shorten for Expression<A> {
 }
 
 /// Skips a constant expression with its `End`, and allocates nothing.
-impl<'a, A: Allocator + Copy> Skip<'a, A> for Expression<A> {
+impl<'a, A: Allocator + Copy, G: Grammar> Skip<'a, A, G> for Expression<A> {
     #[tactic(auto, using(wasm_insn::proofs::InstructionLaws::any_begins))]
-    fn skip(bytes: &'a [u8], alloc: A) -> Result<&'a [u8], ReadFault> {
+    fn skip(bytes: &'a [u8], alloc: A) -> Result<&'a [u8], DecodeError> {
         let mut rest = bytes;
         loop {
             let [first, after @ ..] = rest else {
-                return Err(ReadFault::Ended);
+                return Err(ReadFault::Ended.at(b""));
             };
             if *first == END {
                 return Ok(after);
             }
-            rest = <Plain<A> as Skip<'a, A>>::skip(rest, alloc)?;
+            rest = <Plain<A> as Skip<'a, A, G>>::skip(rest, alloc)?;
         }
     }
 }

@@ -1,5 +1,5 @@
-//! Constant expressions, function bodies and the code section of a WebAssembly module, by the core
-//! specification, "Binary Format", "Instructions" and "Modules".
+//! Constant expressions, function bodies and the code section of a WebAssembly module, encoded and
+//! decoded, by the core specification, "Binary Format", "Instructions" and "Modules".
 #![tactic(auto)]
 
 mod body;

@@ -16,7 +16,7 @@ ghost use Rattle.wasm_code.specs.Walks.{Walking, ahead};
 use crate::expression::END;
 use std::alloc::{Allocator, Global};
 use std::marker::Model;
-use wasm_base::{ReadFault, Readable, ValType};
+use wasm_base::{DecodeError, Padded, ReadFault, Readable, ValType};
 use wasm_insn::{Arg, Op, read_instruction_into};
 
 /// Visits the instructions of a body or an expression, one after another. It keeps the arguments of
@@ -72,14 +72,14 @@ impl<'a, A: Allocator + Copy> Instructions<'a, A> {
     /// The bytes are those of the body without its size prefix. Offsets count from the first byte,
     /// before the runs.
     #[tactic(auto, using(crate::proofs::WalkLaws::body_steps))]
-    pub fn of_body(bytes: &'a [u8], alloc: A) -> Result<(Vec<(u32, ValType), A>, Self), ReadFault>
+    pub fn of_body(bytes: &'a [u8], alloc: A) -> Result<(Vec<(u32, ValType), A>, Self), DecodeError>
         ensures found { IfOk result (λ x. Decodes (vec (pair u32 val_type)) padded bytes.now x.0.items (ahead x.1)) }
         ensures same { IfOk result (λ x. x.1.bytes ≡ bytes.now) }
         ensures within { IfOk result (λ x. x.1.offset ≤ length bytes.now) }
         ensures before { IfOk result (λ x. x.1.arguments ≡ []) }
-        ensures none { IfErr result (λ e. e ≢ Memory → RejectsWhole body bytes.now) }
+        ensures none { IfErr result (λ e. e.cause ≢ Memory → RejectsWhole body padded bytes.now) }
     {
-        let (runs, rest) = <Vec<(u32, ValType), A> as Readable<'a, A>>::read(bytes, alloc)?;
+        let (runs, rest) = <Vec<(u32, ValType), A> as Readable<'a, A, Padded>>::read(bytes, alloc)?;
         let instructions = Instructions {
             bytes,
             offset: bytes.len() - rest.len(),
@@ -89,24 +89,28 @@ impl<'a, A: Allocator + Copy> Instructions<'a, A> {
     }
 
     /// Visits the instruction at the offset of the visitor, and advances the offset past it.
-    fn step(&mut self) -> Result<Step, ReadFault>
+    fn step(&mut self) -> Result<Step, DecodeError>
         ensures offset { IfOk result (λ step. step.offset ≡ self.old.offset) }
         ensures found { IfOk result (λ step. Decodes (instruction table) padded (ahead self.old) (record { op = step.op; arguments = self.new.arguments }) (ahead self.new)) }
         ensures further { IfOk result (λ _. (self.old.offset < self.new.offset) × (self.new.offset ≤ length self.new.bytes)) }
         ensures same { self.new.bytes ≡ self.old.bytes }
         ensures stays { IfErr result (λ _. self.new.offset ≡ self.old.offset) }
-        ensures none { IfErr result (λ e. e ≢ Memory → Rejects (instruction table) padded (ahead self.old)) }
+        ensures none { IfErr result (λ e. e.cause ≢ Memory → Rejects (instruction table) padded (ahead self.old)) }
     {
         let offset = self.offset;
         let alloc = *self.args.allocator();
-        let (op, rest) = read_instruction_into(&self.bytes[offset..], alloc, &mut self.args)?;
+        let (op, rest) = read_instruction_into::<A, Padded>(
+            &self.bytes[offset..],
+            alloc,
+            &mut self.args,
+        )?;
         self.offset = self.bytes.len() - rest.len();
         Ok(Step { offset, op })
     }
 
     /// Visits the next instruction, or returns `None` at the end of the bytes. After an error the
     /// offset is unchanged.
-    pub fn next(&mut self) -> Result<Option<Step>, ReadFault>
+    pub fn next(&mut self) -> Result<Option<Step>, DecodeError>
         ensures offset { IfOk result (λ next. IfSome next (λ step. step.offset ≡ self.old.offset)) }
         ensures found { IfOk result (λ next. IfSome next (λ step. Decodes (instruction table) padded (ahead self.old) (record { op = step.op; arguments = self.new.arguments }) (ahead self.new))) }
         ensures further { IfOk result (λ next. IfSome next (λ _. (self.old.offset < self.new.offset) × (self.new.offset ≤ length self.new.bytes))) }
@@ -114,7 +118,7 @@ impl<'a, A: Allocator + Copy> Instructions<'a, A> {
         ensures ended { IfOk result (λ next. next ≡ None → self.new ≡ self.old) }
         ensures same { self.new.bytes ≡ self.old.bytes }
         ensures stays { IfErr result (λ _. self.new.offset ≡ self.old.offset) }
-        ensures none { IfErr result (λ e. e ≢ Memory → Rejects (instruction table) padded (ahead self.old)) }
+        ensures none { IfErr result (λ e. e.cause ≢ Memory → Rejects (instruction table) padded (ahead self.old)) }
         ensures left { IfErr result (λ _. ahead self.old ≢ []) }
     {
         if self.offset == self.bytes.len() {
@@ -126,7 +130,7 @@ impl<'a, A: Allocator + Copy> Instructions<'a, A> {
 
     /// Visits the next instruction of an expression, or returns `None` at its final `End`, which
     /// the visitor does not pass. After an error the offset is unchanged.
-    pub fn next_before_end(&mut self) -> Result<Option<Step>, ReadFault>
+    pub fn next_before_end(&mut self) -> Result<Option<Step>, DecodeError>
         ensures offset { IfOk result (λ next. IfSome next (λ step. step.offset ≡ self.old.offset)) }
         ensures found { IfOk result (λ next. IfSome next (λ step. Decodes (such IsNoEnd (instruction table)) padded (ahead self.old) (record { op = step.op; arguments = self.new.arguments }) (ahead self.new))) }
         ensures further { IfOk result (λ next. IfSome next (λ _. (self.old.offset < self.new.offset) × (self.new.offset ≤ length self.new.bytes))) }
@@ -134,10 +138,10 @@ impl<'a, A: Allocator + Copy> Instructions<'a, A> {
         ensures ended { IfOk result (λ next. next ≡ None → self.new ≡ self.old) }
         ensures same { self.new.bytes ≡ self.old.bytes }
         ensures stays { IfErr result (λ _. self.new.offset ≡ self.old.offset) }
-        ensures none { IfErr result (λ e. e ≢ Memory → Rejects expression padded (ahead self.old)) }
+        ensures none { IfErr result (λ e. e.cause ≢ Memory → Rejects expression padded (ahead self.old)) }
     {
         let [first, ..] = &self.bytes[self.offset..] else {
-            return Err(ReadFault::Ended);
+            return Err(ReadFault::Ended.at(b""));
         };
         if *first == END {
             return Ok(None);

@@ -15,11 +15,15 @@ use Rattle.std.specs.declared.vec.IntoIter.{IntoIter as VecIter}
 use Rattle.wasm_custom.specs.{AddsList, AddsTwoLists, modules_name, instances_name, marked_encoding, core_name, SaysProcess, marked_name, Instance, instance, ContainsModules, ContainsInstances}
 use Rattle.wasm_custom.specs.{modules_payload, instances_payload, core_payload, StackFrame, stack_name, SaysStack, stack_payload, value_encoding, IsValue, named_payload, named_encoding}
 use Rattle.wasm_custom.specs.{IsEncodableNamed, NamedPayload, named_sized, subsection_encoding, entries_encoding, hints_name, hint_encoding, IsHint, hints, ContainsHints, hints_payload, linking_name}
-use Rattle.wasm_custom.specs.{version, LinkItem, Target, link, ContainsLinks, linking_payload, list_encoding, IsListOf, name_name, Naming, Inside, NameItem, Module, Map, Indirect, Other, name_map}
-use Rattle.wasm_custom.specs.{indirect_map, subsection, of_map, of_indirect, of_other, name_kind_of, AreNamings, AreInsides, ContainsNames, name_payload, producers_name, Producer, Field, field}
-use Rattle.wasm_custom.specs.{AreProducers, ContainsFields, producers_payload, Symbol, symbol_encoding, IsGivenSymbol, IsAsFlagged, IsSymbol, AreSymbols}
+use Rattle.wasm_custom.specs.{link_encoding, IsObjectLink, full_link, ContainsObjectLinks, object_payload, SegmentInfo, segment_encoding, AreSegments, init_encoding, AreInits, comdat_symbol_encoding}
+use Rattle.wasm_custom.specs.{AreComdatSymbols, Comdat, AreComdats, version, LinkItem, Target, link, ContainsLinks, linking_payload, list_encoding, IsListOf, name_name, Naming, Inside, NameItem}
+use Rattle.wasm_custom.specs.{Module, Map, Indirect, Other, name_map, indirect_map, subsection, of_map, of_indirect, of_other, name_kind_of, AreNamings, AreInsides, ContainsNames, name_payload}
+use Rattle.wasm_custom.specs.{producers_name, Producer, Field, field, AreProducers, ContainsFields, producers_payload, Symbol, symbol_encoding, IsFullSymbol, IsGivenSymbol, IsAsFlagged, AreSymbols}
+use Rattle.wasm_custom.specs.{AreObjectSymbols}
 use Rattle.wasm_custom.specs.Hints.{Hints}
-use Rattle.wasm_custom.specs.Words.{Symbols}
+use Rattle.wasm_custom.specs.Linking.{Segments, InitFunctions, Comdats, Symbols}
+use Rattle.wasm_custom.specs.declared.init_functions.InitFunction.{InitFunction}
+use Rattle.wasm_custom.specs.declared.comdats.ComdatSymbol.{ComdatSymbol}
 use Rattle.wasm_custom.specs.declared.hints.BranchHint.{BranchHint}
 use Rattle.wasm_custom.specs.declared.core_values.CoreDumpValue.{CoreDumpValue}
 use Rattle.wasm_custom.proofs.CustomLaws.{custom_back}
@@ -28,9 +32,12 @@ use Rattle.wasm_custom.proofs.NameLaws.{names_padded, names_inside_padded, subse
 use Rattle.wasm_custom.proofs.CoreDumpLaws.{marked_unambiguous, core_whole, core_unambiguous, modules_section, instance_unambiguous, instances_section}
 use Rattle.wasm_custom.proofs.CoreStackLaws.{value_unambiguous, stack_frame_unambiguous, stack_frame_laws, stack_whole, stack_unambiguous}
 use Rattle.wasm_custom.proofs.HintLaws.{hints_unambiguous, hints_section}
-use Rattle.wasm_custom.proofs.LinkLaws.{link_unambiguous, linking_section}
+use Rattle.wasm_custom.proofs.LinkLaws.{link_unambiguous, linking_section, full_link_unambiguous, object_section}
 use Rattle.wasm_custom.proofs.ProducerLaws.{field_unambiguous, producers_section}
-use Rattle.wasm_custom.proofs.SymbolLaws.{symbol_unambiguous}
+use Rattle.wasm_custom.proofs.SymbolLaws.{symbol_unambiguous, full_symbol_unambiguous}
+use Rattle.wasm_custom.proofs.SegmentLaws.{segment_unambiguous}
+use Rattle.wasm_custom.proofs.InitLaws.{init_unambiguous}
+use Rattle.wasm_custom.proofs.ComdatLaws.{comdat_symbol_unambiguous, comdat_unambiguous}
 
 -- ---- lists
 
@@ -45,6 +52,21 @@ new_indirect_map e = new_list e
 
 pub new_symbols : {entries : List (List ℕ)} → entries ≡ [] → AreSymbols entries []
 new_symbols e = new_list e
+
+pub new_object_symbols : {entries : List (List ℕ)} → entries ≡ [] → AreObjectSymbols entries []
+new_object_symbols e = new_list e
+
+pub new_segments : {entries : List (List ℕ)} → entries ≡ [] → AreSegments entries []
+new_segments e = new_list e
+
+pub new_inits : {entries : List (List ℕ)} → entries ≡ [] → AreInits entries []
+new_inits e = new_list e
+
+pub new_comdat_symbols : {entries : List (List ℕ)} → entries ≡ [] → AreComdatSymbols entries []
+new_comdat_symbols e = new_list e
+
+pub new_comdats : {entries : List (List ℕ)} → entries ≡ [] → AreComdats entries []
+new_comdats e = new_list e
 
 pub new_field : {entries : List (List ℕ)} → entries ≡ [] → AreProducers entries []
 new_field e = new_list e
@@ -68,6 +90,29 @@ adds_inside {old = old} {names = names} before index held e spare range =
 pub adds_symbol : {old new : List (List ℕ)} {symbols : List Symbol} → AreSymbols old symbols → (symbol : Symbol) → new ≡ old ++ symbol_encoding symbol ∷ [] → length old < longest → IsGivenSymbol symbol → AreSymbols new (symbols ++ symbol ∷ [])
 adds_symbol before symbol e spare given = adds_member before symbol e spare given
 
+-- The table of an object file gains a symbol.
+pub adds_object_symbol : {old new : List (List ℕ)} {symbols : List Symbol} → AreObjectSymbols old symbols → (symbol : Symbol) → new ≡ old ++ symbol_encoding symbol ∷ [] → length old < longest → IsFullSymbol symbol → AreObjectSymbols new (symbols ++ symbol ∷ [])
+adds_object_symbol before symbol e spare full = adds_member before symbol e spare full
+
+-- The list gains a segment, whose name's length the call has checked.
+pub adds_segment : {old new : List (List ℕ)} {segments : List SegmentInfo} → AreSegments old segments → (segment : SegmentInfo) → new ≡ old ++ segment_encoding segment ∷ [] → length old < longest → HasEncodableSize segment.name
+    → IsUtf8 segment.name → segment.alignment < 2 ^ 32 → segment.flags < 2 ^ 32 → AreSegments new (segments ++ segment ∷ [])
+adds_segment before segment e spare encodable utf8 alignment flags = adds_member before segment e spare (record { name = (utf8, encodable); alignment = alignment; flags = flags })
+
+-- The list gains an init function.
+pub adds_init : {old new : List (List ℕ)} {functions : List InitFunction} → AreInits old functions → (function : InitFunction) → new ≡ old ++ init_encoding function ∷ [] → length old < longest → function.priority < 2 ^ 32 → function.symbol < 2 ^ 32 → AreInits new (functions ++ function ∷ [])
+adds_init before function e spare priority symbol = adds_member before function e spare (record { priority = priority; symbol = symbol })
+
+-- The group gains a member.
+pub adds_comdat_symbol : {old new : List (List ℕ)} {symbols : List ComdatSymbol} → AreComdatSymbols old symbols → (symbol : ComdatSymbol) → new ≡ old ++ comdat_symbol_encoding symbol ∷ [] → length old < longest → symbol.index < 2 ^ 32 → AreComdatSymbols new (symbols ++ symbol ∷ [])
+adds_comdat_symbol before symbol e spare range = adds_member before symbol e spare range
+
+-- The list gains a group of these members, whose name's length the call has checked.
+pub adds_comdat : {old new entries : List (List ℕ)} {comdats : List Comdat} {symbols : List ComdatSymbol} → AreComdats old comdats → (n : List ℕ) (flags : ℕ) → AreComdatSymbols entries symbols → new ≡ old ++ (size_prefixed_encoding n ++ (unsigned_encoding flags ++ list_encoding entries)) ∷ []
+    → length old < longest → HasEncodableSize n → IsUtf8 n → flags < 2 ^ 32 → AreComdats new (comdats ++ record { name = n; flags = flags; symbols = symbols } ∷ [])
+adds_comdat {old = old} {symbols = symbols} before n flags held e spare encodable utf8 range =
+    adds_member before (record { name = n; flags = flags; symbols = symbols }) (e ∙ ap (λ s. old ++ (size_prefixed_encoding n ++ (unsigned_encoding flags ++ s)) ∷ []) (list_vector held)) spare (record { name = (utf8, encodable); flags = range; symbols = held.encodable })
+
 -- The field gains a value, whose lengths the call has checked.
 pub adds_value : {old new : List (List ℕ)} {values : List Producer} → AreProducers old values → (value : Producer) → new ≡ old ++ (size_prefixed_encoding value.0 ++ size_prefixed_encoding value.1) ∷ [] → length old < longest → HasEncodableSize value.0 × HasEncodableSize value.1
     → IsUtf8 value.0 → IsUtf8 value.1 → AreProducers new (values ++ value ∷ [])
@@ -80,6 +125,9 @@ new_names e = new_section e
 
 pub new_linking : {entries : List (List ℕ)} → entries ≡ [] → ContainsLinks entries []
 new_linking e = new_section e
+
+pub new_objects : {entries : List (List ℕ)} → entries ≡ [] → ContainsObjectLinks entries []
+new_objects e = new_section e
 
 pub new_producers : {entries : List (List ℕ)} → entries ≡ [] → ContainsFields entries []
 new_producers e = new_section e
@@ -124,8 +172,8 @@ pub adds_raw_names_inside : {old new : List (List ℕ)} {items : List NameItem} 
     → indirect_map padded content insides → ContainsPadded subsection new (items ++ Indirect id insides ∷ [])
 adds_raw_names_inside before id content insides e encodable kind encodes = adds_raw_padded names_section.held_padded before (Indirect id insides) e (names_inside_padded id content insides kind encodable.0 encodes)
 
-all_symbols : (symbols : List Symbol) → All IsGivenSymbol symbols → AllByRecursion IsAsFlagged symbols → All IsSymbol symbols
-all_symbols symbols given flagged = λ k d l. (given k d l, all_of symbols flagged k d l)
+all_flagged : (Is : Symbol → Type 0) (symbols : List Symbol) → All Is symbols → AllByRecursion IsAsFlagged symbols → All (λ x. Is x × IsAsFlagged x) symbols
+all_flagged Is symbols given flagged = λ k d l. (given k d l, all_of symbols flagged k d l)
   where
     all_of : (xs : List Symbol) → AllByRecursion IsAsFlagged xs → All IsAsFlagged xs
     all_of [] h = All-nil IsAsFlagged
@@ -136,11 +184,38 @@ pub adds_symbols : {old new entries : List (List ℕ)} {items : List LinkItem} {
     → AllByRecursion IsAsFlagged symbols → ContainsLinks new (items ++ Symbols symbols ∷ [])
 adds_symbols {old = old} {symbols = symbols} before held e flagged =
     adds_item before (Symbols symbols) (e ∙ ap (λ s. old ++ subsection_encoding 8 s ∷ []) (list_vector held))
-    (record { count = held.encodable.count; members = all_symbols symbols held.encodable.members flagged })
+    (record { count = held.encodable.count; members = all_flagged IsGivenSymbol symbols held.encodable.members flagged })
 
 -- The section gains the architecture of the target.
 pub adds_target : {old new : List (List ℕ)} {items : List LinkItem} → ContainsLinks old items → (n : List ℕ) → new ≡ old ++ subsection_encoding 9 (size_prefixed_encoding n) ∷ [] → IsUtf8 n → ContainsLinks new (items ++ Target n ∷ [])
 adds_target before n e utf8 = adds_item before (Target n) e utf8
+
+-- The section of an object file gains a subsection whose content is the vector of a list.
+adds_vector : {X : Type 0} {encoding : X → List ℕ} {Is : X → Type 0} {old new entries : List (List ℕ)} {items : List LinkItem} {xs : List X} → ContainsObjectLinks old items → (item : LinkItem) (id : ℕ) → link_encoding item ≡ subsection_encoding id (vec_encoding encoding xs)
+    → IsListOf encoding Is entries xs → new ≡ old ++ subsection_encoding id (list_encoding entries) ∷ [] → IsObjectLink item → ContainsObjectLinks new (items ++ item ∷ [])
+adds_vector {old = old} before item id is held e plain = adds_item before item (e ∙ ap (λ s. old ++ subsection_encoding id s ∷ []) (list_vector held) ∙ ap (λ s. old ++ s ∷ []) (sym is)) plain
+
+-- The section of an object file gains the segments of a list.
+pub adds_segments : {old new entries : List (List ℕ)} {items : List LinkItem} {segments : List SegmentInfo} → ContainsObjectLinks old items → AreSegments entries segments → new ≡ old ++ subsection_encoding 5 (list_encoding entries) ∷ [] → ContainsObjectLinks new (items ++ Segments segments ∷ [])
+adds_segments {segments = segments} before held e = adds_vector before (Segments segments) 5 refl held e held.encodable
+
+-- The section of an object file gains the init functions of a list.
+pub adds_inits : {old new entries : List (List ℕ)} {items : List LinkItem} {functions : List InitFunction} → ContainsObjectLinks old items → AreInits entries functions → new ≡ old ++ subsection_encoding 6 (list_encoding entries) ∷ [] → ContainsObjectLinks new (items ++ InitFunctions functions ∷ [])
+adds_inits {functions = functions} before held e = adds_vector before (InitFunctions functions) 6 refl held e held.encodable
+
+-- The section of an object file gains the COMDAT groups of a list.
+pub adds_comdats : {old new entries : List (List ℕ)} {items : List LinkItem} {comdats : List Comdat} → ContainsObjectLinks old items → AreComdats entries comdats → new ≡ old ++ subsection_encoding 7 (list_encoding entries) ∷ [] → ContainsObjectLinks new (items ++ Comdats comdats ∷ [])
+adds_comdats {comdats = comdats} before held e = adds_vector before (Comdats comdats) 7 refl held e held.encodable
+
+-- The section of an object file gains the symbols of a table, each of which is as its flags say.
+pub adds_object_symbols : {old new entries : List (List ℕ)} {items : List LinkItem} {symbols : List Symbol} → ContainsObjectLinks old items → AreObjectSymbols entries symbols → new ≡ old ++ subsection_encoding 8 (list_encoding entries) ∷ []
+    → AllByRecursion IsAsFlagged symbols → ContainsObjectLinks new (items ++ Symbols symbols ∷ [])
+adds_object_symbols {symbols = symbols} before held e flagged =
+    adds_vector before (Symbols symbols) 8 refl held e (record { count = held.encodable.count; members = all_flagged IsFullSymbol symbols held.encodable.members flagged })
+
+-- The section of an object file gains the architecture of the target.
+pub adds_object_target : {old new : List (List ℕ)} {items : List LinkItem} → ContainsObjectLinks old items → (n : List ℕ) → new ≡ old ++ subsection_encoding 9 (size_prefixed_encoding n) ∷ [] → IsUtf8 n → ContainsObjectLinks new (items ++ Target n ∷ [])
+adds_object_target before n e utf8 = adds_item before (Target n) e utf8
 
 -- The section gains a field of producers, whose name's length the call has checked.
 pub adds_field : {old new entries : List (List ℕ)} {items : List Field} {values : List Producer} → ContainsFields old items → (n : List ℕ) → AreProducers entries values → new ≡ old ++ (size_prefixed_encoding n ++ list_encoding entries) ∷ [] → HasEncodableSize n × Unit {0} → IsUtf8 n
@@ -274,6 +349,11 @@ pub gains_linking : {decodings : List SectionDecoding} {id : ℕ} {old new : Lis
     → ContainsLinks entries items → DecodesSections (decodings ++ decoding_of id linking_payload items ∷ []) new
 gains_linking before more encodable decodes contains = gains_custom linking_section.whole before _ more encodable decodes.plain contains
 
+pub gains_objects : {decodings : List SectionDecoding} {id : ℕ} {old new : List ℕ} {entries : List (List ℕ)} {items : List LinkItem} → DecodesSections decodings old
+    → DecodesOneMore (NamedPayload linking_name (entries_encoding (version ∷ []) false entries)) id old new → IsEncodableNamed linking_name (entries_encoding (version ∷ []) false entries)
+    → DecodesBackBoth (size_prefixed object_payload) (ContainsObjectLinks entries) (ContainsPadded full_link entries) (named_encoding linking_name (entries_encoding (version ∷ []) false entries)) → ContainsObjectLinks entries items → DecodesSections (decodings ++ decoding_of id object_payload items ∷ []) new
+gains_objects before more encodable decodes contains = gains_custom object_section.whole before _ more encodable decodes.plain contains
+
 pub gains_producers : {decodings : List SectionDecoding} {id : ℕ} {old new : List ℕ} {entries : List (List ℕ)} {items : List Field} → DecodesSections decodings old
     → DecodesOneMore (NamedPayload producers_name (entries_encoding [] true entries)) id old new → IsEncodableNamed producers_name (entries_encoding [] true entries) → DecodesBackBoth (size_prefixed producers_payload) (ContainsFields entries) (ContainsPadded field entries) (named_encoding producers_name (entries_encoding [] true entries))
     → ContainsFields entries items → DecodesSections (decodings ++ decoding_of id producers_payload items ∷ []) new
@@ -334,10 +414,10 @@ encodes_entries F Says SaysPadded {result = Err e} appends decodes says = tt
 -- ---- rules by which the laws of this crate are proved
 
 -- The laws of each section that calls add items to.
-pub ruleset sections = (names_section, linking_section, producers_section, hints_section, modules_section, instances_section)
+pub ruleset sections = (names_section, linking_section, object_section, producers_section, hints_section, modules_section, instances_section)
 
 -- The other unambiguous formats: sections without entries, and the entries of sections.
-pub ruleset parts = (core_unambiguous, stack_unambiguous, custom_unambiguous, subsection_unambiguous, link_unambiguous, symbol_unambiguous, field_unambiguous, hints_unambiguous, marked_unambiguous, instance_unambiguous, stack_frame_unambiguous, value_unambiguous, stack_frame_laws)
+pub ruleset parts = (core_unambiguous, stack_unambiguous, custom_unambiguous, subsection_unambiguous, link_unambiguous, symbol_unambiguous, full_link_unambiguous, full_symbol_unambiguous, segment_unambiguous, init_unambiguous, comdat_symbol_unambiguous, comdat_unambiguous, field_unambiguous, hints_unambiguous, marked_unambiguous, instance_unambiguous, stack_frame_unambiguous, value_unambiguous, stack_frame_laws)
 
 -- The payloads of the other sections.
 pub ruleset payloads = (payload-decodes, core_whole, stack_whole, custom-payload)

@@ -1,6 +1,6 @@
 -- This file proves that core dumps are unambiguous, and how they are decoded and minimized.
 use Rattle.wasm_base.proofs.Words.{◌≡◌, ℕ, List, [], ◌∷◌, ◌++◌, length, true, IsUtf8, refl, sym, ap, subst, arith, length-append, map, ap₂, DecodesBack, ItemLaws, u32, name, pair, vec, fixed, just}
-use Rattle.wasm_base.proofs.Words.{prefixed, IsUnsignedInRange, minimal, unsigned_encoding, padded, Unambiguous, Decodes, Rejects, UnambiguousWhole, size_prefixed_encoding, HasEncodableSize}
+use Rattle.wasm_base.proofs.Words.{prefixed, IsUnsignedInRange, minimal, unsigned_encoding, Mode, Unambiguous, Decodes, Rejects, UnambiguousWhole, size_prefixed_encoding, HasEncodableSize}
 use Rattle.wasm_base.proofs.Words.{vec_encoding, name_unambiguous, vec_u32_unambiguous, ascii, mapped_unambiguous, pair_unambiguous, prefixed_unambiguous, whole_from_unique, size_prefixed_unambiguous}
 use Rattle.wasm_base.proofs.Words.{u32_unambiguous, pair_encodes, prefixed_encodes, decodes_uniquely, u32_encodes, name_encodes, vec_encodes, map-id, RejectsWhole, mapped_decodes, mapped_rejects}
 use Rattle.wasm_base.proofs.Words.{after_whole, SectionLaws, AppendsMinimal, HasEncoding, left_encoded, right_encoded, prefixed_encoded, mapped_encoded, pair_appended, prefixed_appended}
@@ -75,22 +75,22 @@ instances_section = entries_laws instance_laws instance_layout (λ given plain. 
 
 -- ---- decoding core dumps
 
-pub process_fills : (bytes rest encoding : List ℕ) → Decodes (just core_name name) padded bytes tt rest → marked_name padded rest encoding → core_payload padded bytes encoding
+pub process_fills : {m : Mode} (bytes rest encoding : List ℕ) → Decodes (just core_name name) m bytes tt rest → marked_name m rest encoding → core_payload m bytes encoding
 process_fills bytes rest encoding h g = named_fills core_name marked_name bytes rest encoding h g
 
-pub process_none : (bytes : List ℕ) → Rejects (just core_name name) padded bytes → RejectsWhole core_payload bytes
+pub process_none : {m : Mode} (bytes : List ℕ) → Rejects (just core_name name) m bytes → RejectsWhole core_payload m bytes
 process_none bytes n = named_none core_name marked_name bytes n
 
-pub process_rejects : (bytes rest : List ℕ) → Decodes (just core_name name) padded bytes tt rest → RejectsWhole marked_name rest → RejectsWhole core_payload bytes
+pub process_rejects : {m : Mode} (bytes rest : List ℕ) → Decodes (just core_name name) m bytes tt rest → RejectsWhole marked_name m rest → RejectsWhole core_payload m bytes
 process_rejects bytes rest h n = named_rejects core_name marked_name bytes rest h n
 
 pub ruleset process_steps = (process_fills, process_none, process_rejects)
 
-pub instance_decodes : (bytes last : List ℕ) (n : ℕ) (ms gs : List ℕ) → Decodes (prefixed (0x00 ∷ []) (pair u32 (pair (vec u32) (vec u32)))) padded bytes (n, (map (λ m. m) ms, map (λ g. g) gs)) last
-    → Decodes instance padded bytes (record { module_index = n; memories = ms; globals = gs }) last
-instance_decodes bytes last n ms gs h = mapped_decodes instance_of (subst (λ z. Decodes (prefixed (0x00 ∷ []) (pair u32 (pair (vec u32) (vec u32)))) padded bytes (n, z) last) (ap₂ (λ a b. (a, b)) (map-id ms) (map-id gs)) h)
+pub instance_decodes : {m : Mode} (bytes last : List ℕ) (n : ℕ) (ms gs : List ℕ) → Decodes (prefixed (0x00 ∷ []) (pair u32 (pair (vec u32) (vec u32)))) m bytes (n, (map (λ m. m) ms, map (λ g. g) gs)) last
+    → Decodes instance m bytes (record { module_index = n; memories = ms; globals = gs }) last
+instance_decodes {m = m} bytes last n ms gs h = mapped_decodes instance_of (subst (λ z. Decodes (prefixed (0x00 ∷ []) (pair u32 (pair (vec u32) (vec u32)))) m bytes (n, z) last) (ap₂ (λ a b. (a, b)) (map-id ms) (map-id gs)) h)
 
-pub instance_none : (bytes : List ℕ) → Rejects (prefixed (0x00 ∷ []) (pair u32 (pair (vec u32) (vec u32)))) padded bytes → Rejects instance padded bytes
+pub instance_none : {m : Mode} (bytes : List ℕ) → Rejects (prefixed (0x00 ∷ []) (pair u32 (pair (vec u32) (vec u32)))) m bytes → Rejects instance m bytes
 instance_none bytes n = mapped_rejects instance_of n
 
 pub ruleset instance_steps = (instance_decodes, instance_none)

@@ -1,7 +1,7 @@
 -- This file proves that stacks of core dumps are unambiguous, and how they are decoded and
 -- minimized.
 use Rattle.wasm_base.proofs.Words.{ℕ, ◌≤◌, List, [], ◌∷◌, ◌++◌, length, map, true, refl, sym, ap, subst, arith, length-append, ◌≡◌, ◌≢◌, ℤ, AllZip, DecodesBack, ItemLaws, entry_encoding, u32, byte}
-use Rattle.wasm_base.proofs.Words.{pair, prefixed, vec, Format, name, just, s32, s64, little_endian, impossible, choice, minimal, unsigned_encoding, signed_encoding, padded, joined, Unambiguous}
+use Rattle.wasm_base.proofs.Words.{pair, prefixed, vec, Format, name, just, s32, s64, little_endian, impossible, choice, minimal, unsigned_encoding, signed_encoding, Mode, padded, joined, Unambiguous}
 use Rattle.wasm_base.proofs.Words.{Decodes, Rejects, UnambiguousWhole, longest, HasEncodableSize, vec_encoding, little_endian_encoding, size_prefixed_encoding, IsEncodableVec, s32_unambiguous}
 use Rattle.wasm_base.proofs.Words.{s64_unambiguous, name_unambiguous, entries_encodes, mapped_unambiguous, pair_unambiguous, pair_whole, vec_unambiguous, prefixed_unambiguous, fixed_unambiguous}
 use Rattle.wasm_base.proofs.Words.{byte_unambiguous, choice_of, little_endian_unambiguous, whole_from_unique, size_prefixed_unambiguous, AllValues, values_tagged, u32_unambiguous, decodes_uniquely}
@@ -113,43 +113,43 @@ stack_unique front pieces few encodable = record {
 abbrev after_tag : ℕ → Format CoreDumpValue
 after_tag b = choice value_tags (λ c. impossible) b
 
-tag_is : (c : ℕ) {bytes rest last : List ℕ} {b : ℕ} {x : CoreDumpValue} → Decodes byte padded bytes b rest → b ≡ c → Decodes (after_tag c) padded rest x last → Decodes value padded bytes x last
-tag_is c {rest = rest} {last = last} {x = x} h e g = tagged_decodes {G = after_tag} h (subst (λ z. Decodes (after_tag z) padded rest x last) (sym e) g)
+tag_is : {m : Mode} (c : ℕ) {bytes rest last : List ℕ} {b : ℕ} {x : CoreDumpValue} → Decodes byte m bytes b rest → b ≡ c → Decodes (after_tag c) m rest x last → Decodes value m bytes x last
+tag_is {m = m} c {rest = rest} {last = last} {x = x} h e g = tagged_decodes {G = after_tag} h (subst (λ z. Decodes (after_tag z) m rest x last) (sym e) g)
 
-tag_is_not : (c : ℕ) {bytes rest : List ℕ} {b : ℕ} → Decodes byte padded bytes b rest → b ≡ c → Rejects (after_tag c) padded rest → Rejects value padded bytes
-tag_is_not c {rest = rest} h e n = tagged_rejects {G = after_tag} byte_unambiguous h (subst (λ z. Rejects (after_tag z) padded rest) (sym e) n)
+tag_is_not : {m : Mode} (c : ℕ) {bytes rest : List ℕ} {b : ℕ} → Decodes byte m bytes b rest → b ≡ c → Rejects (after_tag c) m rest → Rejects value m bytes
+tag_is_not {m = m} c {rest = rest} h e n = tagged_rejects {G = after_tag} byte_unambiguous h (subst (λ z. Rejects (after_tag z) m rest) (sym e) n)
 
-pub value_none : (bytes : List ℕ) → Rejects byte padded bytes → Rejects value padded bytes
+pub value_none : {m : Mode} (bytes : List ℕ) → Rejects byte m bytes → Rejects value m bytes
 value_none bytes n = tagged_none byte after_tag bytes n
 
-pub missing_decodes : (bytes rest : List ℕ) (b : ℕ) → Decodes byte padded bytes b rest → b ≡ 0x01 → Decodes value padded bytes values.Missing rest
+pub missing_decodes : {m : Mode} (bytes rest : List ℕ) (b : ℕ) → Decodes byte m bytes b rest → b ≡ 0x01 → Decodes value m bytes values.Missing rest
 missing_decodes bytes rest b h e = tag_is 0x01 h e (fixed_decodes rest values.Missing)
 
-pub i32_decodes : (bytes rest last : List ℕ) (b : ℕ) (v : ℤ) → Decodes byte padded bytes b rest → b ≡ 0x7F → Decodes s32 padded rest v last → Decodes value padded bytes (values.I32 v) last
+pub i32_decodes : {m : Mode} (bytes rest last : List ℕ) (b : ℕ) (v : ℤ) → Decodes byte m bytes b rest → b ≡ 0x7F → Decodes s32 m rest v last → Decodes value m bytes (values.I32 v) last
 i32_decodes bytes rest last b v h e g = tag_is 0x7F h e (mapped_decodes values.I32 g)
 
-pub i32_none : (bytes rest : List ℕ) (b : ℕ) → Decodes byte padded bytes b rest → b ≡ 0x7F → Rejects s32 padded rest → Rejects value padded bytes
+pub i32_none : {m : Mode} (bytes rest : List ℕ) (b : ℕ) → Decodes byte m bytes b rest → b ≡ 0x7F → Rejects s32 m rest → Rejects value m bytes
 i32_none bytes rest b h e n = tag_is_not 0x7F h e (mapped_rejects values.I32 n)
 
-pub i64_decodes : (bytes rest last : List ℕ) (b : ℕ) (v : ℤ) → Decodes byte padded bytes b rest → b ≡ 0x7E → Decodes s64 padded rest v last → Decodes value padded bytes (values.I64 v) last
+pub i64_decodes : {m : Mode} (bytes rest last : List ℕ) (b : ℕ) (v : ℤ) → Decodes byte m bytes b rest → b ≡ 0x7E → Decodes s64 m rest v last → Decodes value m bytes (values.I64 v) last
 i64_decodes bytes rest last b v h e g = tag_is 0x7E h e (mapped_decodes values.I64 g)
 
-pub i64_none : (bytes rest : List ℕ) (b : ℕ) → Decodes byte padded bytes b rest → b ≡ 0x7E → Rejects s64 padded rest → Rejects value padded bytes
+pub i64_none : {m : Mode} (bytes rest : List ℕ) (b : ℕ) → Decodes byte m bytes b rest → b ≡ 0x7E → Rejects s64 m rest → Rejects value m bytes
 i64_none bytes rest b h e n = tag_is_not 0x7E h e (mapped_rejects values.I64 n)
 
-pub f32_decodes : (bytes rest last : List ℕ) (b : ℕ) (v : Ieee32) → Decodes byte padded bytes b rest → b ≡ 0x7D → Decodes (little_endian 4) padded rest v.bits last → Decodes value padded bytes (values.F32 v) last
+pub f32_decodes : {m : Mode} (bytes rest last : List ℕ) (b : ℕ) (v : Ieee32) → Decodes byte m bytes b rest → b ≡ 0x7D → Decodes (little_endian 4) m rest v.bits last → Decodes value m bytes (values.F32 v) last
 f32_decodes bytes rest last b v h e g = tag_is 0x7D h e (mapped_decodes f32_of g)
 
-pub f32_none : (bytes rest : List ℕ) (b : ℕ) → Decodes byte padded bytes b rest → b ≡ 0x7D → Rejects (little_endian 4) padded rest → Rejects value padded bytes
+pub f32_none : {m : Mode} (bytes rest : List ℕ) (b : ℕ) → Decodes byte m bytes b rest → b ≡ 0x7D → Rejects (little_endian 4) m rest → Rejects value m bytes
 f32_none bytes rest b h e n = tag_is_not 0x7D h e (mapped_rejects f32_of n)
 
-pub f64_decodes : (bytes rest last : List ℕ) (b : ℕ) (v : Ieee64) → Decodes byte padded bytes b rest → b ≡ 0x7C → Decodes (little_endian 8) padded rest v.bits last → Decodes value padded bytes (values.F64 v) last
+pub f64_decodes : {m : Mode} (bytes rest last : List ℕ) (b : ℕ) (v : Ieee64) → Decodes byte m bytes b rest → b ≡ 0x7C → Decodes (little_endian 8) m rest v.bits last → Decodes value m bytes (values.F64 v) last
 f64_decodes bytes rest last b v h e g = tag_is 0x7C h e (mapped_decodes f64_of g)
 
-pub f64_none : (bytes rest : List ℕ) (b : ℕ) → Decodes byte padded bytes b rest → b ≡ 0x7C → Rejects (little_endian 8) padded rest → Rejects value padded bytes
+pub f64_none : {m : Mode} (bytes rest : List ℕ) (b : ℕ) → Decodes byte m bytes b rest → b ≡ 0x7C → Rejects (little_endian 8) m rest → Rejects value m bytes
 f64_none bytes rest b h e n = tag_is_not 0x7C h e (mapped_rejects f64_of n)
 
-pub value_unknown : (bytes rest : List ℕ) (b : ℕ) → Decodes byte padded bytes b rest → b ≢ 0x01 → b ≢ 0x7F → b ≢ 0x7E → b ≢ 0x7D → b ≢ 0x7C → Rejects value padded bytes
+pub value_unknown : {m : Mode} (bytes rest : List ℕ) (b : ℕ) → Decodes byte m bytes b rest → b ≢ 0x01 → b ≢ 0x7F → b ≢ 0x7E → b ≢ 0x7D → b ≢ 0x7C → Rejects value m bytes
 value_unknown bytes rest b h p q r s t = tagged_rejects {G = after_tag} byte_unambiguous h (no_choice value_tags b rest (p, (q, (r, (s, (t, tt))))))
 
 pub ruleset value_steps = (missing_decodes, value_unknown)
@@ -162,18 +162,18 @@ place = prefixed (0x00 ∷ []) (pair u32 (pair u32 u32))
 location_unambiguous : Unambiguous place
 location_unambiguous = prefixed_unambiguous (0x00 ∷ []) (pair_unambiguous u32_unambiguous (pair_unambiguous u32_unambiguous u32_unambiguous))
 
-pub frame_decodes : (bytes rest next last : List ℕ) (p : CodeLocation) (ls ss : List CoreDumpValue) → Decodes place padded bytes p rest → Decodes (vec value) padded rest (map (λ v. v) ls) next → Decodes (vec value) padded next (map (λ v. v) ss) last
-    → Decodes stack_frame padded bytes (record { instance = p.0; function = p.1.0; offset = p.1.1; locals = ls; stack = ss }) last
-frame_decodes bytes rest next last p ls ss h g k =
-    mapped_decodes stack_frame_of (then_decodes h (then_decodes (subst (λ z. Decodes (vec value) padded rest z next) (map-id ls) g) (subst (λ z. Decodes (vec value) padded next z last) (map-id ss) k)))
+pub frame_decodes : {m : Mode} (bytes rest next last : List ℕ) (p : CodeLocation) (ls ss : List CoreDumpValue) → Decodes place m bytes p rest → Decodes (vec value) m rest (map (λ v. v) ls) next → Decodes (vec value) m next (map (λ v. v) ss) last
+    → Decodes stack_frame m bytes (record { instance = p.0; function = p.1.0; offset = p.1.1; locals = ls; stack = ss }) last
+frame_decodes {m = m} bytes rest next last p ls ss h g k =
+    mapped_decodes stack_frame_of (then_decodes h (then_decodes (subst (λ z. Decodes (vec value) m rest z next) (map-id ls) g) (subst (λ z. Decodes (vec value) m next z last) (map-id ss) k)))
 
-pub frame_no_location : (bytes : List ℕ) → Rejects place padded bytes → Rejects stack_frame padded bytes
+pub frame_no_location : {m : Mode} (bytes : List ℕ) → Rejects place m bytes → Rejects stack_frame m bytes
 frame_no_location bytes n = mapped_rejects stack_frame_of (then_rejects_first n)
 
-pub frame_no_locals : (bytes rest : List ℕ) (p : CodeLocation) → Decodes place padded bytes p rest → Rejects (vec value) padded rest → Rejects stack_frame padded bytes
+pub frame_no_locals : {m : Mode} (bytes rest : List ℕ) (p : CodeLocation) → Decodes place m bytes p rest → Rejects (vec value) m rest → Rejects stack_frame m bytes
 frame_no_locals bytes rest p h n = mapped_rejects stack_frame_of (then_rejects_second location_unambiguous h (then_rejects_first n))
 
-pub frame_no_stack : (bytes rest next : List ℕ) (p : CodeLocation) (ls : List CoreDumpValue) → Decodes place padded bytes p rest → Decodes (vec value) padded rest ls next → Rejects (vec value) padded next → Rejects stack_frame padded bytes
+pub frame_no_stack : {m : Mode} (bytes rest next : List ℕ) (p : CodeLocation) (ls : List CoreDumpValue) → Decodes place m bytes p rest → Decodes (vec value) m rest ls next → Rejects (vec value) m next → Rejects stack_frame m bytes
 frame_no_stack bytes rest next p ls h g n = mapped_rejects stack_frame_of (then_rejects_second location_unambiguous h (then_rejects_second (vec_unambiguous value_unambiguous) g n))
 
 pub ruleset frame_steps = (frame_decodes, frame_no_location, frame_no_locals, frame_no_stack)
@@ -183,21 +183,21 @@ pub ruleset frame_steps = (frame_decodes, frame_no_location, frame_no_locals, fr
 abbrev threaded : Format (List ℕ × List StackFrame)
 threaded = pair marked_name (vec stack_frame)
 
-pub stack_fills : (bytes rest last thread : List ℕ) (frames : List StackFrame) → Decodes (just stack_name name) padded bytes tt rest → Decodes marked_name padded rest thread last → vec stack_frame padded last frames → stack_payload padded bytes (thread, frames)
+pub stack_fills : {m : Mode} (bytes rest last thread : List ℕ) (frames : List StackFrame) → Decodes (just stack_name name) m bytes tt rest → Decodes marked_name m rest thread last → vec stack_frame m last frames → stack_payload m bytes (thread, frames)
 stack_fills bytes rest last thread frames h g k = named_fills stack_name threaded bytes rest (thread, frames) h (record { front = g.front; back = last; joined = g.split; first = g.encodes; second = k })
 
-pub stack_none : (bytes : List ℕ) → Rejects (just stack_name name) padded bytes → RejectsWhole stack_payload bytes
+pub stack_none : {m : Mode} (bytes : List ℕ) → Rejects (just stack_name name) m bytes → RejectsWhole stack_payload m bytes
 stack_none bytes n = named_none stack_name threaded bytes n
 
-pub stack_no_thread : (bytes rest : List ℕ) → Decodes (just stack_name name) padded bytes tt rest → Rejects marked_name padded rest → RejectsWhole stack_payload bytes
+pub stack_no_thread : {m : Mode} (bytes rest : List ℕ) → Decodes (just stack_name name) m bytes tt rest → Rejects marked_name m rest → RejectsWhole stack_payload m bytes
 stack_no_thread bytes rest h n =
     named_rejects stack_name threaded bytes rest h (record { none = λ x s. n.none x.0 s.back (record { front = s.front; split = s.joined; encodes = s.first }) })
 
-pub stack_no_frames : (bytes rest last thread : List ℕ) → Decodes (just stack_name name) padded bytes tt rest → Decodes marked_name padded rest thread last → RejectsWhole (vec stack_frame) last → RejectsWhole stack_payload bytes
-stack_no_frames bytes rest last thread h g n = named_rejects stack_name threaded bytes rest h (record {
+pub stack_no_frames : {m : Mode} (bytes rest last thread : List ℕ) → Decodes (just stack_name name) m bytes tt rest → Decodes marked_name m rest thread last → RejectsWhole (vec stack_frame) m last → RejectsWhole stack_payload m bytes
+stack_no_frames {m = m} bytes rest last thread h g n = named_rejects stack_name threaded bytes rest h (record {
   none = λ x s.
       let same = decodes_same marked_unambiguous g (record { front = s.front; split = s.joined; encodes = s.first }) in
-      n.none x.1 (subst (λ z. vec stack_frame padded z x.1) (sym same.1) s.second);
+      n.none x.1 (subst (λ z. vec stack_frame m z x.1) (sym same.1) s.second);
 })
 
 pub ruleset stack_steps = (stack_fills, stack_none, stack_no_thread, stack_no_frames)

@@ -1,6 +1,6 @@
 -- This file proves that branch hints are unambiguous, and how they are decoded and minimized.
 use Rattle.wasm_base.proofs.Words.{◌<◌, [], ◌∷◌, true, false, refl, ap, ℕ, ◌≤◌, ◌≡◌, List, subst, arith, ◌++◌, ItemLaws, u32, byte, prefixed, such, vec, fixed, Format, minimal, unsigned_encoding}
-use Rattle.wasm_base.proofs.Words.{padded, Unambiguous, Decodes, Rejects, vec_encoding, IsEncodableVec, mapped_unambiguous, pair_unambiguous, vec_unambiguous, byte_unambiguous, such_unambiguous}
+use Rattle.wasm_base.proofs.Words.{Mode, padded, Unambiguous, Decodes, Rejects, vec_encoding, IsEncodableVec, mapped_unambiguous, pair_unambiguous, vec_unambiguous, byte_unambiguous, such_unambiguous}
 use Rattle.wasm_base.proofs.Words.{prefixed_unambiguous, AllValues, u32_unambiguous, groups_encoding-last, u32_encodes, vec_encodes, ascii, pair_encodes, prefixed_encodes, map-id, then_decodes}
 use Rattle.wasm_base.proofs.Words.{then_rejects_first, then_rejects_second, mapped_decodes, mapped_rejects, such_decodes, such_none, such_rejects, SectionLaws, AppendsMinimal, HasEncoding}
 use Rattle.wasm_base.proofs.Words.{right_encoded, counted_encodable, pair_appended, records_appended}
@@ -41,13 +41,13 @@ hints_section = entries_laws hint_laws hint_layout (λ given plain. plain) (λ g
 abbrev value : Format ℕ
 value = such (λ b. b < 128) byte
 
-pub value_decodes : (bytes rest : List ℕ) (b : ℕ) → Decodes byte padded bytes b rest → b < 128 → Decodes value padded bytes b rest
+pub value_decodes : {m : Mode} (bytes rest : List ℕ) (b : ℕ) → Decodes byte m bytes b rest → b < 128 → Decodes value m bytes b rest
 value_decodes bytes rest b h l = such_decodes (λ b. b < 128) h l
 
-pub hint_value_none : (bytes : List ℕ) → Rejects byte padded bytes → Rejects value padded bytes
+pub hint_value_none : {m : Mode} (bytes : List ℕ) → Rejects byte m bytes → Rejects value m bytes
 hint_value_none bytes n = such_none (λ b. b < 128) n
 
-pub value_large : (bytes rest : List ℕ) (b : ℕ) → Decodes byte padded bytes b rest → 128 ≤ b → Rejects value padded bytes
+pub value_large : {m : Mode} (bytes rest : List ℕ) (b : ℕ) → Decodes byte m bytes b rest → 128 ≤ b → Rejects value m bytes
 value_large bytes rest b h l = such_rejects (λ b. b < 128) byte_unambiguous h (λ p. omega (arith, p, l))
 
 pub ruleset hint_value_steps = (value_decodes, value_large)
@@ -57,13 +57,13 @@ pub ruleset hint_value_steps = (value_decodes, value_large)
 abbrev marked_value : Format ℕ
 marked_value = prefixed (0x01 ∷ []) value
 
-pub hint_decodes : (bytes rest last : List ℕ) (n v : ℕ) → Decodes u32 padded bytes n rest → Decodes marked_value padded rest v last → Decodes hint padded bytes (record { branch_func_offset = n; branch_hint_value = v }) last
+pub hint_decodes : {m : Mode} (bytes rest last : List ℕ) (n v : ℕ) → Decodes u32 m bytes n rest → Decodes marked_value m rest v last → Decodes hint m bytes (record { branch_func_offset = n; branch_hint_value = v }) last
 hint_decodes bytes rest last n v h g = mapped_decodes hint_of (then_decodes h g)
 
-pub hint_none : (bytes : List ℕ) → Rejects u32 padded bytes → Rejects hint padded bytes
+pub hint_none : {m : Mode} (bytes : List ℕ) → Rejects u32 m bytes → Rejects hint m bytes
 hint_none bytes n = mapped_rejects hint_of (then_rejects_first n)
 
-pub hint_rejects : (bytes rest : List ℕ) (n : ℕ) → Decodes u32 padded bytes n rest → Rejects marked_value padded rest → Rejects hint padded bytes
+pub hint_rejects : {m : Mode} (bytes rest : List ℕ) (n : ℕ) → Decodes u32 m bytes n rest → Rejects marked_value m rest → Rejects hint m bytes
 hint_rejects bytes rest n h none = mapped_rejects hint_of (then_rejects_second u32_unambiguous h none)
 
 pub ruleset hint_steps = (hint_decodes, hint_rejects)

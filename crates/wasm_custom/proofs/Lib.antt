@@ -5,7 +5,11 @@ pub mod EntriesLaws
 pub mod ListLaws
 pub mod AddingLaws
 pub mod NameLaws
+pub mod WiderLaws
 pub mod SymbolLaws
+pub mod SegmentLaws
+pub mod InitLaws
+pub mod ComdatLaws
 pub mod LinkLaws
 pub mod ProducerLaws
 pub mod HintLaws

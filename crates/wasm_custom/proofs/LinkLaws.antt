@@ -1,33 +1,81 @@
 -- This file proves that linking sections are unambiguous, and how they are decoded and minimized.
-use Rattle.wasm_base.proofs.Words.{ℕ, [], ◌∷◌, length, false, refl, ap, arith, length-append, ◌≡◌, ◌≢◌, List, sym, subst, ◌++◌, take, drop, ◌∙◌, ItemLaws, u32, byte, name, just, vec, Format}
-use Rattle.wasm_base.proofs.Words.{any_bytes, size_prefixed, members, impossible, choice, minimal, unsigned_encoding, padded, Unambiguous, Decodes, Rejects, size_prefixed_encoding, HasEncodableSize}
-use Rattle.wasm_base.proofs.Words.{vec_encoding, just_unambiguous, name_unambiguous, ascii, mapped_unambiguous, vec_unambiguous, size_prefixed_unambiguous, whole_from_unique, byte_unambiguous}
-use Rattle.wasm_base.proofs.Words.{choice_of, choice_determines, u32_unambiguous, flag_encodes, tagged_begins, tagged_encodes, name_encodes, vec_encodes, size_prefixed_encodes, RejectsWhole}
-use Rattle.wasm_base.proofs.Words.{mapped_decodes, mapped_rejects, tagged_decodes, tagged_none, tagged_rejects, no_choice, filled_decodes, filled_none, filled_rejects, AppendsMinimal, HasEncoding}
-use Rattle.wasm_base.proofs.Words.{tagged_encoded, mapped_encoded, content_encoded, behind_encodable, u32_appended, encoding_appended, tagged_appended, mapped_appended, size_prefixed_appended}
-use Rattle.wasm_base.proofs.Words.{SectionLaws}
-use Rattle.wasm_custom.specs.{CustomLayoutLaws, listing, entries, LinkItem, Target, link_encoding, IsLink, link_tags, link, linking_name, version, link_items, linking_payload, symbol_encoding}
-use Rattle.wasm_custom.specs.{IsSymbol, symbol, Symbol}
-use Rattle.wasm_custom.specs.Words.{Symbols}
+use Rattle.wasm_base.proofs.Words.{ℕ, [], ◌∷◌, length, false, true, refl, ap, arith, length-append, map, map-id, ◌≡◌, ◌≢◌, ◌<◌, ◌≤◌, ◌⊎◌, inl, inr, List, subst, ◌++◌, take, drop, ItemLaws, u32, byte}
+use Rattle.wasm_base.proofs.Words.{name, just, vec, Format, size_prefixed, members, mapped, prefixed, minimal, unsigned_encoding, Mode, padded, standard, standard_minimal, Grammar, builders, admitted}
+use Rattle.wasm_base.proofs.Words.{is_admitted, padded_of, Unambiguous, Decodes, Rejects, size_prefixed_encoding, HasEncodableSize, vec_encoding, just_unambiguous, name_unambiguous, ascii}
+use Rattle.wasm_base.proofs.Words.{mapped_unambiguous, vec_unambiguous, size_prefixed_unambiguous, whole_from_unique, byte_unambiguous, choice_of, u32_unambiguous, flag_encodes, tagged_begins}
+use Rattle.wasm_base.proofs.Words.{tagged_encodes, name_encodes, vec_encodes, size_prefixed_encodes, RejectsWhole, AllDetermine, BeginsWith, IsIncludedIn, mapped_decodes, mapped_rejects, no_choice}
+use Rattle.wasm_base.proofs.Words.{AppendsMinimal, HasEncoding, tagged_encoded, content_encoded, behind_encodable, prefixed_encoded, prefixed_appended, u32_appended, tagged_appended}
+use Rattle.wasm_base.proofs.Words.{size_prefixed_appended, SectionLaws}
+use Rattle.wasm_custom.specs.{CustomLayoutLaws, listing, entries, LinkItem, Target, link_encoding, IsLink, IsObjectLink, link_tags, built_link, full_link_tags, full_link, link, linking_name, version}
+use Rattle.wasm_custom.specs.{link_items, linking_payload, object_items, object_payload, named_payload, symbol_encoding, IsSymbol, IsObjectSymbol, built_symbol, full_symbol, symbol, Symbol}
+use Rattle.wasm_custom.specs.{SegmentInfo, segment_encoding, IsSegment, segment, init_encoding, IsInit, init_function, Comdat, comdat_encoding, IsComdat, comdat}
+use Rattle.wasm_custom.specs.Linking.{Segments, InitFunctions, Comdats, Symbols}
+use Rattle.wasm_custom.specs.declared.init_functions.InitFunction.{InitFunction}
 use Rattle.wasm_custom.proofs.CustomLaws.{named_encoded, content_encodable, just_appended, named_appended}
-use Rattle.wasm_custom.proofs.SymbolLaws.{symbol_unambiguous, symbol_encodes}
+use Rattle.wasm_custom.proofs.WiderLaws.{mapped_included, members_included, behind_included, vec_included, size_prefixed_included, tagged_included, decodes_included, rejects_included}
+use Rattle.wasm_custom.proofs.WiderLaws.{wider_unambiguous, wider_begins, tag_is, tag_is_not, tag_none, tag_rejects, tag_appended, unknown_appended, known_encoded, unknown_encoded}
+use Rattle.wasm_custom.proofs.SymbolLaws.{built_symbol_unambiguous, full_symbol_unambiguous, built_is_full, symbol_encodes, full_symbol_encodes}
+use Rattle.wasm_custom.proofs.SegmentLaws.{segment_unambiguous, segment_encodes}
+use Rattle.wasm_custom.proofs.InitLaws.{init_unambiguous, init_encodes}
+use Rattle.wasm_custom.proofs.ComdatLaws.{comdat_unambiguous, comdat_encodes}
 use Rattle.wasm_custom.proofs.DecodeNamed.{just_this, just_none, just_other, behind_fills, behind_none, behind_rejects, named_fills, named_none, named_rejects}
 use Rattle.wasm_custom.proofs.EntriesLaws.{entries_laws}
 
 abbrev link_id : LinkItem → ℕ
+link_id (Segments segments) = 5
+link_id (InitFunctions functions) = 6
+link_id (Comdats comdats) = 7
 link_id (Symbols symbols) = 8
 link_id (Target n) = 9
 
-pub link_unambiguous : Unambiguous link
-link_unambiguous =
-    choice_of byte link_id link_tags byte_unambiguous
-    (mapped_unambiguous Symbols (λ x y e. cc) (size_prefixed_unambiguous (whole_from_unique (vec_unambiguous symbol_unambiguous))), (mapped_unambiguous Target (λ x y e. cc) (size_prefixed_unambiguous (whole_from_unique name_unambiguous)), tt))
-    (λ mode s x h. ap link_id h.1, (λ mode s x h. ap link_id h.1, tt))
+-- The id is determined by a subsection of the builders' grammar.
+built_ids : AllDetermine link_id link_tags
+built_ids = (λ mode s x h. ap link_id h.1, (λ mode s x h. ap link_id h.1, tt))
 
-link_encodes : (x : LinkItem) → IsLink x → HasEncodableSize (link_encoding x) → link minimal (link_encoding x) x
+built_unambiguous : Unambiguous built_link
+built_unambiguous =
+    choice_of byte link_id link_tags byte_unambiguous
+    (mapped_unambiguous Symbols (λ x y e. cc) (size_prefixed_unambiguous (whole_from_unique (vec_unambiguous built_symbol_unambiguous))), (mapped_unambiguous Target (λ x y e. cc) (size_prefixed_unambiguous (whole_from_unique name_unambiguous)), tt))
+    built_ids
+
+pub full_link_unambiguous : Unambiguous full_link
+full_link_unambiguous =
+    choice_of byte link_id full_link_tags byte_unambiguous (
+      mapped_unambiguous Segments (λ x y e. cc) (size_prefixed_unambiguous (whole_from_unique (vec_unambiguous segment_unambiguous))),
+      (
+        mapped_unambiguous InitFunctions (λ x y e. cc) (size_prefixed_unambiguous (whole_from_unique (vec_unambiguous init_unambiguous))),
+        (
+          mapped_unambiguous Comdats (λ x y e. cc) (size_prefixed_unambiguous (whole_from_unique (vec_unambiguous comdat_unambiguous))),
+          (
+            mapped_unambiguous Symbols (λ x y e. cc) (size_prefixed_unambiguous (whole_from_unique (vec_unambiguous full_symbol_unambiguous))),
+            (mapped_unambiguous Target (λ x y e. cc) (size_prefixed_unambiguous (whole_from_unique name_unambiguous)), tt),
+          ),
+        ),
+      ),
+    )
+    (λ mode s x h. ap link_id h.1, (λ mode s x h. ap link_id h.1, (λ mode s x h. ap link_id h.1, (λ mode s x h. ap link_id h.1, (λ mode s x h. ap link_id h.1, tt)))))
+
+-- A table of symbols of one format is a table of a format that includes it.
+tables_included : (F G : Format Symbol) (m : Mode) → IsIncludedIn (F m) (G m) → IsIncludedIn (size_prefixed (vec F) m) (size_prefixed (vec G) m)
+tables_included F G m h = size_prefixed_included (vec F) (vec G) m (vec_included F G m h)
+
+built_is_full_link : (m : Mode) → IsIncludedIn (built_link m) (full_link m)
+built_is_full_link m = tagged_included link_tags full_link_tags m (mapped_included Symbols (size_prefixed (vec built_symbol)) (size_prefixed (vec full_symbol)) m (tables_included built_symbol full_symbol m (built_is_full m)), (λ s x h. h, tt))
+
+pub link_unambiguous : Unambiguous link
+link_unambiguous = wider_unambiguous built_link full_link built_unambiguous full_link_unambiguous (built_is_full_link padded)
+
+pub link_begins : BeginsWith (λ b. Unit {0}) link
+link_begins = wider_begins (λ b. Unit {0}) tagged_begins tagged_begins
+
+link_encodes : (x : LinkItem) → IsLink x → HasEncodableSize (link_encoding x) → built_link minimal (link_encoding x) x
+link_encodes (Segments segments) plain encodable = absurd plain
+link_encodes (InitFunctions functions) plain encodable = absurd plain
+link_encodes (Comdats comdats) plain encodable = absurd plain
 link_encodes (Symbols symbols) plain encodable =
     let content = vec_encoding symbol_encoding symbols in
-    tagged_encodes minimal 8 (size_prefixed_encoding content) (Symbols symbols) (symbols, refl, size_prefixed_encodes (vec symbol) content symbols (content_encodable 8 content encodable) (vec_encodes symbol IsSymbol symbol_encoding symbol_encodes symbols plain))
+    tagged_encodes minimal 8 (size_prefixed_encoding content) (Symbols symbols)
+    (symbols, refl, size_prefixed_encodes (vec built_symbol) content symbols (content_encodable 8 content encodable) (vec_encodes built_symbol IsSymbol symbol_encoding symbol_encodes symbols plain))
 link_encodes (Target n) plain encodable =
     let inside = content_encodable 9 (size_prefixed_encoding n) encodable in
     tagged_encodes minimal 9 (size_prefixed_encoding (size_prefixed_encoding n)) (Target n) (n, refl, size_prefixed_encodes name (size_prefixed_encoding n) n inside (name_encodes n plain (omega (arith, inside, length-append (unsigned_encoding (length n)) n))))
@@ -40,57 +88,144 @@ link_layout = record {
   name_utf8 = ascii {bytes = linking_name} refl;
   front_unique = just_unambiguous version u32_unambiguous;
   front_encodes = flag_encodes version (omega arith);
-  begins = λ e. tagged_begins;
+  begins = λ e. link_begins;
 }
 
 pub linking_section : SectionLaws link_items linking_payload
 linking_section = entries_laws link_laws link_layout (λ given plain. plain) (λ given plain. plain)
 
+-- ---- the linking section of an object file
+
+object_encodes : (x : LinkItem) → IsObjectLink x → HasEncodableSize (link_encoding x) → full_link minimal (link_encoding x) x
+object_encodes (Segments segments) plain encodable =
+    let content = vec_encoding segment_encoding segments in
+    tagged_encodes minimal 5 (size_prefixed_encoding content) (Segments segments)
+    (segments, refl, size_prefixed_encodes (vec segment) content segments (content_encodable 5 content encodable) (vec_encodes segment IsSegment segment_encoding segment_encodes segments plain))
+object_encodes (InitFunctions functions) plain encodable =
+    let content = vec_encoding init_encoding functions in
+    tagged_encodes minimal 6 (size_prefixed_encoding content) (InitFunctions functions)
+    (functions, refl, size_prefixed_encodes (vec init_function) content functions (content_encodable 6 content encodable) (vec_encodes init_function IsInit init_encoding init_encodes functions plain))
+object_encodes (Comdats comdats) plain encodable =
+    let content = vec_encoding comdat_encoding comdats in
+    tagged_encodes minimal 7 (size_prefixed_encoding content) (Comdats comdats)
+    (comdats, refl, size_prefixed_encodes (vec comdat) content comdats (content_encodable 7 content encodable) (vec_encodes comdat IsComdat comdat_encoding comdat_encodes comdats plain))
+object_encodes (Symbols symbols) plain encodable =
+    let content = vec_encoding symbol_encoding symbols in
+    tagged_encodes minimal 8 (size_prefixed_encoding content) (Symbols symbols)
+    (symbols, refl, size_prefixed_encodes (vec full_symbol) content symbols (content_encodable 8 content encodable) (vec_encodes full_symbol IsObjectSymbol symbol_encoding full_symbol_encodes symbols plain))
+object_encodes (Target n) plain encodable =
+    let inside = content_encodable 9 (size_prefixed_encoding n) encodable in
+    tagged_encodes minimal 9 (size_prefixed_encoding (size_prefixed_encoding n)) (Target n) (n, refl, size_prefixed_encodes name (size_prefixed_encoding n) n inside (name_encodes n plain (omega (arith, inside, length-append (unsigned_encoding (length n)) n))))
+
+pub object_laws : ItemLaws object_items
+object_laws = record { unique = full_link_unambiguous; encodes = object_encodes }
+
+pub object_layout : CustomLayoutLaws full_link linking_name (version ∷ []) (just version u32) false
+object_layout = record {
+  name_utf8 = ascii {bytes = linking_name} refl;
+  front_unique = just_unambiguous version u32_unambiguous;
+  front_encodes = flag_encodes version (omega arith);
+  begins = λ e. tagged_begins;
+}
+
+pub object_section : SectionLaws object_items object_payload
+object_section = entries_laws object_laws object_layout (λ given plain. plain) (λ given plain. plain)
+
+-- A section whose subsections are encodings by another format that includes them.
+payload_included : (F G : Format LinkItem) (m : Mode) → IsIncludedIn (F m) (G m) → IsIncludedIn (named_payload linking_name (entries (just version u32) false F) m) (named_payload linking_name (entries (just version u32) false G) m)
+payload_included F G m h = behind_included (just linking_name name) (entries (just version u32) false F) (entries (just version u32) false G) m (behind_included (just version u32) (members F) (members G) m (members_included F G m h))
+
+-- In the standard's grammar, a linking section is that of an object file.
+pub decoded_is_object : IsIncludedIn (linking_payload standard) (object_payload standard)
+decoded_is_object = payload_included link full_link standard (λ s x h. h)
+
+pub object_is_decoded : IsIncludedIn (object_payload standard) (linking_payload standard)
+object_is_decoded = payload_included full_link link standard (λ s x h. h)
+
+pub minimal_is_object : IsIncludedIn (linking_payload standard_minimal) (object_payload standard_minimal)
+minimal_is_object = payload_included link full_link standard_minimal (λ s x h. h)
+
+pub object_is_minimal : IsIncludedIn (object_payload standard_minimal) (linking_payload standard_minimal)
+object_is_minimal = payload_included full_link link standard_minimal (λ s x h. h)
+
+-- In the builders' grammar, it is one too.
+pub built_is_object : IsIncludedIn (linking_payload padded) (object_payload padded)
+built_is_object = payload_included link full_link padded (built_is_full_link padded)
+
+pub ruleset object_linking = (decoded_is_object, object_is_decoded, minimal_is_object, object_is_minimal, built_is_object)
+
 -- ---- decoding the linking section
 
 -- ---- subsections
 
-abbrev after_id : ℕ → Format LinkItem
-after_id b = choice link_tags (λ c. impossible) b
+pub link_none : (w : Grammar) (bytes : List ℕ) → Rejects byte (padded_of w) bytes → Rejects link (padded_of w) bytes
+link_none w bytes n = tag_none link_tags full_link_tags w bytes n
 
-id_is : (c : ℕ) {bytes rest last : List ℕ} {b : ℕ} {x : LinkItem} → Decodes byte padded bytes b rest → b ≡ c → Decodes (after_id c) padded rest x last → Decodes link padded bytes x last
-id_is c {rest = rest} {last = last} {x = x} h e g = tagged_decodes {G = after_id} h (subst (λ z. Decodes (after_id z) padded rest x last) (sym e) g)
+-- The subsections of the standard's grammar alone.
+pub segments_decodes : (w : Grammar) (bytes rest last : List ℕ) (b : ℕ) (xs : List SegmentInfo) → Decodes byte (padded_of w) bytes b rest → b ≡ 5 → is_admitted w ≡ true → Decodes (size_prefixed (vec segment)) (padded_of w) rest xs last → Decodes link (padded_of w) bytes (Segments xs) last
+segments_decodes builders bytes rest last b xs h e f g = absurd (cc f)
+segments_decodes admitted bytes rest last b xs h e f g = tag_is link_tags full_link_tags admitted 5 h e (mapped_decodes Segments g)
 
-id_is_not : (c : ℕ) {bytes rest : List ℕ} {b : ℕ} → Decodes byte padded bytes b rest → b ≡ c → Rejects (after_id c) padded rest → Rejects link padded bytes
-id_is_not c {rest = rest} h e n = tagged_rejects {G = after_id} byte_unambiguous h (subst (λ z. Rejects (after_id z) padded rest) (sym e) n)
+pub segments_none : (w : Grammar) (bytes rest : List ℕ) (b : ℕ) → Decodes byte (padded_of w) bytes b rest → b ≡ 5 → is_admitted w ≡ true → Rejects (size_prefixed (vec segment)) (padded_of w) rest → Rejects link (padded_of w) bytes
+segments_none builders bytes rest b h e f n = absurd (cc f)
+segments_none admitted bytes rest b h e f n = tag_is_not link_tags full_link_tags admitted 5 h e (mapped_rejects Segments n)
 
-pub link_none : (bytes : List ℕ) → Rejects byte padded bytes → Rejects link padded bytes
-link_none bytes n = tagged_none byte after_id bytes n
+pub inits_decodes : (w : Grammar) (bytes rest last : List ℕ) (b : ℕ) (xs : List InitFunction) → Decodes byte (padded_of w) bytes b rest → b ≡ 6 → is_admitted w ≡ true → Decodes (size_prefixed (vec init_function)) (padded_of w) rest (map (λ f. f) xs) last → Decodes link (padded_of w) bytes (InitFunctions xs) last
+inits_decodes builders bytes rest last b xs h e f g = absurd (cc f)
+inits_decodes admitted bytes rest last b xs h e f g = tag_is link_tags full_link_tags admitted 6 h e (mapped_decodes InitFunctions (subst (λ z. Decodes (size_prefixed (vec init_function)) standard rest z last) (map-id xs) g))
 
-pub symbols_read : (bytes rest content last : List ℕ) (b : ℕ) (symbols : List Symbol) → Decodes byte padded bytes b rest → b ≡ 8 → Decodes (size_prefixed any_bytes) padded rest content last → vec symbol padded content symbols → Decodes link padded bytes (Symbols symbols) last
-symbols_read bytes rest content last b symbols h e g s = id_is 8 h e (mapped_decodes Symbols (filled_decodes (vec symbol) rest content last symbols g s))
+pub inits_none : (w : Grammar) (bytes rest : List ℕ) (b : ℕ) → Decodes byte (padded_of w) bytes b rest → b ≡ 6 → is_admitted w ≡ true → Rejects (size_prefixed (vec init_function)) (padded_of w) rest → Rejects link (padded_of w) bytes
+inits_none builders bytes rest b h e f n = absurd (cc f)
+inits_none admitted bytes rest b h e f n = tag_is_not link_tags full_link_tags admitted 6 h e (mapped_rejects InitFunctions n)
 
-pub symbols_not_size_prefixed : (bytes rest : List ℕ) (b : ℕ) → Decodes byte padded bytes b rest → b ≡ 8 → Rejects (size_prefixed any_bytes) padded rest → Rejects link padded bytes
-symbols_not_size_prefixed bytes rest b h e n = id_is_not 8 h e (mapped_rejects Symbols (filled_none (vec symbol) rest n))
+pub comdats_decodes : (w : Grammar) (bytes rest last : List ℕ) (b : ℕ) (xs : List Comdat) → Decodes byte (padded_of w) bytes b rest → b ≡ 7 → is_admitted w ≡ true → Decodes (size_prefixed (vec comdat)) (padded_of w) rest xs last → Decodes link (padded_of w) bytes (Comdats xs) last
+comdats_decodes builders bytes rest last b xs h e f g = absurd (cc f)
+comdats_decodes admitted bytes rest last b xs h e f g = tag_is link_tags full_link_tags admitted 7 h e (mapped_decodes Comdats g)
 
-pub symbols_rejects : (bytes rest content last : List ℕ) (b : ℕ) → Decodes byte padded bytes b rest → b ≡ 8 → Decodes (size_prefixed any_bytes) padded rest content last → RejectsWhole (vec symbol) content → Rejects link padded bytes
-symbols_rejects bytes rest content last b h e g n = id_is_not 8 h e (mapped_rejects Symbols (filled_rejects (vec symbol) rest content last g n))
+pub comdats_none : (w : Grammar) (bytes rest : List ℕ) (b : ℕ) → Decodes byte (padded_of w) bytes b rest → b ≡ 7 → is_admitted w ≡ true → Rejects (size_prefixed (vec comdat)) (padded_of w) rest → Rejects link (padded_of w) bytes
+comdats_none builders bytes rest b h e f n = absurd (cc f)
+comdats_none admitted bytes rest b h e f n = tag_is_not link_tags full_link_tags admitted 7 h e (mapped_rejects Comdats n)
 
-pub arch_decodes : (bytes rest last : List ℕ) (b : ℕ) (n : List ℕ) → Decodes byte padded bytes b rest → b ≡ 9 → Decodes (size_prefixed name) padded rest n last → Decodes link padded bytes (Target n) last
-arch_decodes bytes rest last b n h e g = id_is 9 h e (mapped_decodes Target g)
+-- The subsections of both grammars.
+pub symbols_decodes : (w : Grammar) (bytes rest last : List ℕ) (b : ℕ) (xs : List Symbol) → Decodes byte (padded_of w) bytes b rest → b ≡ 8 → Decodes (size_prefixed (vec symbol)) (padded_of w) rest xs last → Decodes link (padded_of w) bytes (Symbols xs) last
+symbols_decodes builders bytes rest last b xs h e g = tag_is link_tags full_link_tags builders 8 h e (mapped_decodes Symbols (decodes_included (size_prefixed (vec symbol)) (size_prefixed (vec built_symbol)) padded (tables_included symbol built_symbol padded (λ s x k. k)) g))
+symbols_decodes admitted bytes rest last b xs h e g = tag_is link_tags full_link_tags admitted 8 h e (mapped_decodes Symbols (decodes_included (size_prefixed (vec symbol)) (size_prefixed (vec full_symbol)) standard (tables_included symbol full_symbol standard (λ s x k. k)) g))
 
-pub arch_none : (bytes rest : List ℕ) (b : ℕ) → Decodes byte padded bytes b rest → b ≡ 9 → Rejects (size_prefixed name) padded rest → Rejects link padded bytes
-arch_none bytes rest b h e n = id_is_not 9 h e (mapped_rejects Target n)
+pub symbols_none : (w : Grammar) (bytes rest : List ℕ) (b : ℕ) → Decodes byte (padded_of w) bytes b rest → b ≡ 8 → Rejects (size_prefixed (vec symbol)) (padded_of w) rest → Rejects link (padded_of w) bytes
+symbols_none builders bytes rest b h e n = tag_is_not link_tags full_link_tags builders 8 h e (mapped_rejects Symbols (rejects_included (size_prefixed (vec built_symbol)) (size_prefixed (vec symbol)) padded (tables_included built_symbol symbol padded (λ s x k. k)) n))
+symbols_none admitted bytes rest b h e n = tag_is_not link_tags full_link_tags admitted 8 h e (mapped_rejects Symbols (rejects_included (size_prefixed (vec full_symbol)) (size_prefixed (vec symbol)) standard (tables_included full_symbol symbol standard (λ s x k. k)) n))
 
-pub link_unknown : (bytes rest : List ℕ) (b : ℕ) → Decodes byte padded bytes b rest → b ≢ 8 → b ≢ 9 → Rejects link padded bytes
-link_unknown bytes rest b h p q = tagged_rejects {G = after_id} byte_unambiguous h (no_choice link_tags b rest (p, (q, tt)))
+pub arch_decodes : (w : Grammar) (bytes rest last : List ℕ) (b : ℕ) (n : List ℕ) → Decodes byte (padded_of w) bytes b rest → b ≡ 9 → Decodes (size_prefixed name) (padded_of w) rest n last → Decodes link (padded_of w) bytes (Target n) last
+arch_decodes builders bytes rest last b n h e g = tag_is link_tags full_link_tags builders 9 h e (mapped_decodes Target g)
+arch_decodes admitted bytes rest last b n h e g = tag_is link_tags full_link_tags admitted 9 h e (mapped_decodes Target g)
 
-pub ruleset link_steps = (arch_decodes, arch_none, link_unknown)
+pub arch_none : (w : Grammar) (bytes rest : List ℕ) (b : ℕ) → Decodes byte (padded_of w) bytes b rest → b ≡ 9 → Rejects (size_prefixed name) (padded_of w) rest → Rejects link (padded_of w) bytes
+arch_none builders bytes rest b h e n = tag_is_not link_tags full_link_tags builders 9 h e (mapped_rejects Target n)
+arch_none admitted bytes rest b h e n = tag_is_not link_tags full_link_tags admitted 9 h e (mapped_rejects Target n)
+
+-- No subsection has the id, or only the standard's grammar has one.
+pub link_unknown : (w : Grammar) (bytes rest : List ℕ) (b : ℕ) → Decodes byte (padded_of w) bytes b rest → (is_admitted w ≡ true → (b < 5) ⊎ (7 < b)) → b ≢ 8 → b ≢ 9 → Rejects link (padded_of w) bytes
+link_unknown builders bytes rest b h f p q = tag_rejects link_tags full_link_tags builders h (no_choice link_tags b rest (p, (q, tt)))
+link_unknown admitted bytes rest b h f p q = tag_rejects link_tags full_link_tags admitted h (no_choice full_link_tags b rest (outside (f refl) 5 (omega arith) (omega arith), (outside (f refl) 6 (omega arith) (omega arith), (outside (f refl) 7 (omega arith) (omega arith), (p, (q, tt))))))
+  where
+    outside : (b < 5) ⊎ (7 < b) → (c : ℕ) → 5 ≤ c → c ≤ 7 → b ≢ c
+    outside (inl l) c low high e = omega (arith, l, low, e)
+    outside (inr l) c low high e = omega (arith, l, high, e)
+
+pub link_of_builders : (w : Grammar) (bytes rest : List ℕ) (b : ℕ) → Decodes byte (padded_of w) bytes b rest → is_admitted w ≡ false → b < 8 → Rejects link (padded_of w) bytes
+link_of_builders w bytes rest b h f l = link_unknown w bytes rest b h (λ t. absurd (cc (f, t))) (omega (arith, l)) (omega (arith, l))
+
+pub ruleset link_steps = (arch_decodes, arch_none, link_unknown, link_of_builders)
 
 -- ---- the version
 
-pub version_there : (bytes rest : List ℕ) (n : ℕ) → Decodes u32 padded bytes n rest → n ≡ 2 → Decodes (just version u32) padded bytes tt rest
+pub version_there : {m : Mode} (bytes rest : List ℕ) (n : ℕ) → Decodes u32 m bytes n rest → n ≡ 2 → Decodes (just version u32) m bytes tt rest
 version_there bytes rest n h e = just_this u32 version bytes rest n h e
 
-pub version_none : (bytes : List ℕ) → Rejects u32 padded bytes → Rejects (just version u32) padded bytes
+pub version_none : {m : Mode} (bytes : List ℕ) → Rejects u32 m bytes → Rejects (just version u32) m bytes
 version_none bytes n = just_none u32 version bytes n
 
-pub version_other : (bytes rest : List ℕ) (n : ℕ) → Decodes u32 padded bytes n rest → n ≢ 2 → Rejects (just version u32) padded bytes
+pub version_other : {m : Mode} (bytes rest : List ℕ) (n : ℕ) → Decodes u32 m bytes n rest → n ≢ 2 → Rejects (just version u32) m bytes
 version_other bytes rest n h p = just_other u32 version bytes u32_unambiguous rest n h p
 
 pub ruleset version_steps = (version_there, version_other)
@@ -100,35 +235,67 @@ pub ruleset version_steps = (version_there, version_other)
 abbrev items : Format (List LinkItem)
 items = entries (just version u32) false link
 
-pub links_fill : (bytes rest last : List ℕ) (links : List LinkItem) → Decodes (just linking_name name) padded bytes tt rest → Decodes (just version u32) padded rest tt last → members link padded last links → linking_payload padded bytes links
+pub links_fill : {m : Mode} (bytes rest last : List ℕ) (links : List LinkItem) → Decodes (just linking_name name) m bytes tt rest → Decodes (just version u32) m rest tt last → members link m last links → linking_payload m bytes links
 links_fill bytes rest last links h g l = named_fills linking_name items bytes rest links h (behind_fills (just version u32) (listing false link) rest last links g l)
 
-pub links_none : (bytes : List ℕ) → Rejects (just linking_name name) padded bytes → RejectsWhole linking_payload bytes
+pub links_none : {m : Mode} (bytes : List ℕ) → Rejects (just linking_name name) m bytes → RejectsWhole linking_payload m bytes
 links_none bytes n = named_none linking_name items bytes n
 
-pub links_no_version : (bytes rest : List ℕ) → Decodes (just linking_name name) padded bytes tt rest → Rejects (just version u32) padded rest → RejectsWhole linking_payload bytes
+pub links_no_version : {m : Mode} (bytes rest : List ℕ) → Decodes (just linking_name name) m bytes tt rest → Rejects (just version u32) m rest → RejectsWhole linking_payload m bytes
 links_no_version bytes rest h n = named_rejects linking_name items bytes rest h (behind_none (just version u32) (listing false link) rest n)
 
-pub no_links : (bytes rest last : List ℕ) → Decodes (just linking_name name) padded bytes tt rest → Decodes (just version u32) padded rest tt last → RejectsWhole (members link) last → RejectsWhole linking_payload bytes
+pub no_links : {m : Mode} (bytes rest last : List ℕ) → Decodes (just linking_name name) m bytes tt rest → Decodes (just version u32) m rest tt last → RejectsWhole (members link) m last → RejectsWhole linking_payload m bytes
 no_links bytes rest last h g n = named_rejects linking_name items bytes rest h (behind_rejects (just version u32) (listing false link) rest (just_unambiguous version u32_unambiguous) last g n)
 
 pub ruleset section_steps = (links_fill, links_none, links_no_version, no_links)
 
 -- ---- the one minimal encoding of decoded linking sections
 
-known : (x : LinkItem) (s : List ℕ) (b : ℕ) → after_id b padded s x → b ≡ link_id x
-known x s b h = choice_determines link_id link_tags (λ c. impossible) (λ mode s x h. ap link_id h.1, (λ mode s x h. ap link_id h.1, tt)) (λ b mode s x h. absurd h) padded b s x h
+-- A vector after the id of its subsection.
+pub vector_appended : {X : Type 0} (F : Format X) (id : ℕ) (xs : List X) (start : ℕ) (old front middle new : List ℕ) → front ≡ old ++ id ∷ [] → start ≡ length front → AppendsMinimal (vec F) xs front middle → HasEncodableSize (drop start middle)
+    → new ≡ take start middle ++ size_prefixed_encoding (drop start middle) → AppendsMinimal (prefixed (id ∷ []) (size_prefixed (vec F))) xs old new
+vector_appended F id xs start old front middle new e l a encodable is = prefixed_appended (id ∷ []) (size_prefixed (vec F)) xs old front new e (size_prefixed_appended (vec F) xs start front middle new l a encodable is)
 
-of_id : (b : ℕ) (x : LinkItem) (old front new : List ℕ) → b ≡ link_id x → front ≡ old ++ b ∷ [] → AppendsMinimal (after_id b) x front new → AppendsMinimal link x old new
-of_id b x old front new is e a = tagged_appended byte after_id (λ s z h. known x s z h ∙ sym is) (encoding_appended byte b (b ∷ []) old front (λ s h. refl) e) a
+pub target_appended : (n old front new : List ℕ) → front ≡ old ++ 9 ∷ [] → AppendsMinimal (size_prefixed name) n front new → AppendsMinimal (prefixed (9 ∷ []) (size_prefixed name)) n old new
+target_appended n old front new e a = prefixed_appended (9 ∷ []) (size_prefixed name) n old front new e a
 
-pub symbols_appended : (symbols : List Symbol) (start : ℕ) (old front middle new : List ℕ) → front ≡ old ++ 8 ∷ [] → start ≡ length front → AppendsMinimal (vec symbol) symbols front middle → HasEncodableSize (drop start middle)
-    → new ≡ take start middle ++ size_prefixed_encoding (drop start middle) → AppendsMinimal link (Symbols symbols) old new
-symbols_appended symbols start old front middle new e l a encodable is =
-    of_id 8 (Symbols symbols) old front new refl e (mapped_appended Symbols (size_prefixed (vec symbol)) symbols front new (λ z k. cc k) (size_prefixed_appended (vec symbol) symbols start front middle new l a encodable is))
+-- The subsection of an id whose content is encoded alike in both formats.
+module _ {X : Type 0} (f : X → LinkItem) (apart : (x z : X) → f z ≡ f x → z ≡ x) (id : ℕ) (F G : Format X) (x : X) (within : IsIncludedIn (G padded) (F padded)) where
+  in_content : (s : List ℕ) → prefixed (id ∷ []) (mapped f G) padded s (f x) → prefixed (id ∷ []) F padded s x
+  in_content s h =
+      let y : mapped f G padded h.2.back (f x) = subst (λ y. mapped f G padded h.2.back y) h.1 h.2.second in
+      let inside : G padded h.2.back x = subst (λ z. G padded h.2.back z) (apart x y.0 y.1) y.2 in
+      ((tt, x), refl, record { front = h.2.front; back = h.2.back; joined = h.2.joined; first = h.2.first; second = within h.2.back x inside })
 
-pub arch_appended : (n old front new : List ℕ) → front ≡ old ++ 9 ∷ [] → AppendsMinimal (size_prefixed name) n front new → AppendsMinimal link (Target n) old new
-arch_appended n old front new e a = of_id 9 (Target n) old front new refl e (mapped_appended Target (size_prefixed name) n front new (λ z k. cc k) a)
+  content_appended : IsIncludedIn (F minimal) (G minimal) → {old new : List ℕ} → AppendsMinimal (prefixed (id ∷ []) F) x old new → AppendsMinimal (prefixed (id ∷ []) (mapped f G)) (f x) old new
+  content_appended short a = record {
+    encoding = a.encoding;
+    appended = a.appended;
+    encodes = λ s h.
+        let k = a.encodes s (in_content s h) in
+        ((tt, f x), refl, record { front = k.2.front; back = k.2.back; joined = k.2.joined; first = k.2.first; second = (k.0.1, ap f k.1, short k.2.back k.0.1 k.2.second) });
+  }
+
+  content_of : HasEncoding (prefixed (id ∷ []) (mapped f G)) (f x) → HasEncoding (prefixed (id ∷ []) F) x
+  content_of h = record { bytes = h.bytes; decoded = in_content h.bytes h.decoded }
+
+-- The bytes that a call appends for a subsection are its minimal encoding.
+pub segments_short : (xs : List SegmentInfo) (old new : List ℕ) → AppendsMinimal (prefixed (5 ∷ []) (size_prefixed (vec segment))) xs old new → AppendsMinimal link (Segments xs) old new
+segments_short xs old new a = unknown_appended link_tags full_link_tags link_id built_ids (Segments xs) refl (prefixed (5 ∷ []) (size_prefixed (vec segment))) xs a
+
+pub inits_short : (xs : List InitFunction) (old new : List ℕ) → AppendsMinimal (prefixed (6 ∷ []) (size_prefixed (vec init_function))) (map (λ f. f) xs) old new → AppendsMinimal link (InitFunctions xs) old new
+inits_short xs old new a = unknown_appended link_tags full_link_tags link_id built_ids (InitFunctions xs) refl (prefixed (6 ∷ []) (size_prefixed (vec init_function))) (map (λ f. f) xs) a
+
+pub comdats_short : (xs : List Comdat) (old new : List ℕ) → AppendsMinimal (prefixed (7 ∷ []) (size_prefixed (vec comdat))) xs old new → AppendsMinimal link (Comdats xs) old new
+comdats_short xs old new a = unknown_appended link_tags full_link_tags link_id built_ids (Comdats xs) refl (prefixed (7 ∷ []) (size_prefixed (vec comdat))) xs a
+
+pub symbols_short : (xs : List Symbol) (old new : List ℕ) → AppendsMinimal (prefixed (8 ∷ []) (size_prefixed (vec symbol))) xs old new → AppendsMinimal link (Symbols xs) old new
+symbols_short xs old new a =
+    tag_appended link_tags full_link_tags link_id built_ids (Symbols xs)
+    (content_appended Symbols (λ x z k. cc k) 8 (size_prefixed (vec symbol)) (size_prefixed (vec built_symbol)) xs (tables_included built_symbol symbol padded (λ s x k. k)) (tables_included symbol built_symbol minimal (λ s x k. k)) a)
+
+pub arch_short : (n old new : List ℕ) → AppendsMinimal (prefixed (9 ∷ []) (size_prefixed name)) n old new → AppendsMinimal link (Target n) old new
+arch_short n old new a = tag_appended link_tags full_link_tags link_id built_ids (Target n) (content_appended Target (λ x z k. cc k) 9 (size_prefixed name) (size_prefixed name) n (λ s x k. k) (λ s x k. k) a)
 
 pub links_appended : (xs : List LinkItem) (old front middle new : List ℕ) → HasEncodableSize linking_name → front ≡ old ++ size_prefixed_encoding linking_name → middle ≡ front ++ unsigned_encoding 2 → AppendsMinimal (members link) xs middle new → AppendsMinimal linking_payload xs old new
 links_appended xs old front middle new encodable e f a =
@@ -137,20 +304,35 @@ links_appended xs old front middle new encodable e f a =
 
 -- ---- parts that have encodings
 
-behind_id : (b : ℕ) (x : LinkItem) → b ≡ link_id x → HasEncoding link x → HasEncoding (after_id b) x
-behind_id b x is h = tagged_encoded byte after_id b x (λ s z k. known x s z k ∙ sym is) h
+module _ {X : Type 0} (F : Format X) (id : ℕ) (xs : List X) where
+  pub vector_encoded : HasEncoding (prefixed (id ∷ []) (size_prefixed (vec F))) xs → HasEncoding (vec F) xs
+  vector_encoded h = content_encoded (vec F) xs (prefixed_encoded (id ∷ []) (size_prefixed (vec F)) xs h)
 
-sized_symbols : (symbols : List Symbol) → HasEncoding link (Symbols symbols) → HasEncoding (size_prefixed (vec symbol)) symbols
-sized_symbols symbols h = mapped_encoded Symbols (size_prefixed (vec symbol)) symbols (λ z k. cc k) (behind_id 8 (Symbols symbols) refl h)
+  pub vector_encodable : (start : ℕ) (old new : List ℕ) → Unambiguous F → start ≡ length old → AppendsMinimal (vec F) xs old new → HasEncoding (prefixed (id ∷ []) (size_prefixed (vec F))) xs → HasEncodableSize (drop start new)
+  vector_encodable start old new k e a h = behind_encodable (vec F) xs start old new (vec_unambiguous k).encodings e a (prefixed_encoded (id ∷ []) (size_prefixed (vec F)) xs h)
 
-pub symbols_encoded : (symbols : List Symbol) → HasEncoding link (Symbols symbols) → HasEncoding (vec symbol) symbols
-symbols_encoded symbols h = content_encoded (vec symbol) symbols (sized_symbols symbols h)
+pub target_encoded : (n : List ℕ) → HasEncoding (prefixed (9 ∷ []) (size_prefixed name)) n → HasEncoding (size_prefixed name) n
+target_encoded n h = prefixed_encoded (9 ∷ []) (size_prefixed name) n h
 
-pub symbols_encodable : (symbols : List Symbol) (start : ℕ) (old new : List ℕ) → start ≡ length old → AppendsMinimal (vec symbol) symbols old new → HasEncoding link (Symbols symbols) → HasEncodableSize (drop start new)
-symbols_encodable symbols start old new e a h = behind_encodable (vec symbol) symbols start old new (vec_unambiguous symbol_unambiguous).encodings e a (sized_symbols symbols h)
+-- A subsection that has an encoding has one with its content. The builders' grammar has no encoding
+-- of the other subsections.
+pub segments_encoded : (xs : List SegmentInfo) → HasEncoding link (Segments xs) → ⊥
+segments_encoded xs h = unknown_encoded link_tags full_link_tags link_id built_ids (Segments xs) refl h
 
-pub arch_encoded : (n : List ℕ) → HasEncoding link (Target n) → HasEncoding (size_prefixed name) n
-arch_encoded n h = mapped_encoded Target (size_prefixed name) n (λ z k. cc k) (behind_id 9 (Target n) refl h)
+pub inits_encoded : (xs : List InitFunction) → HasEncoding link (InitFunctions xs) → ⊥
+inits_encoded xs h = unknown_encoded link_tags full_link_tags link_id built_ids (InitFunctions xs) refl h
+
+pub comdats_encoded : (xs : List Comdat) → HasEncoding link (Comdats xs) → ⊥
+comdats_encoded xs h = unknown_encoded link_tags full_link_tags link_id built_ids (Comdats xs) refl h
+
+pub symbols_encoded : (xs : List Symbol) → HasEncoding link (Symbols xs) → HasEncoding (prefixed (8 ∷ []) (size_prefixed (vec symbol))) xs
+symbols_encoded xs h =
+    content_of Symbols (λ x z k. cc k) 8 (size_prefixed (vec symbol)) (size_prefixed (vec built_symbol)) xs (tables_included built_symbol symbol padded (λ s x k. k)) (known_encoded link_tags full_link_tags link_id built_ids (Symbols xs) h)
+
+pub arch_encoded : (n : List ℕ) → HasEncoding link (Target n) → HasEncoding (prefixed (9 ∷ []) (size_prefixed name)) n
+arch_encoded n h = content_of Target (λ x z k. cc k) 9 (size_prefixed name) (size_prefixed name) n (λ s x k. k) (known_encoded link_tags full_link_tags link_id built_ids (Target n) h)
+
+pub ruleset short_steps = (segments_short, inits_short, comdats_short, symbols_short, arch_short, segments_encoded, inits_encoded, comdats_encoded, symbols_encoded, arch_encoded)
 
 pub links_encoded : (xs : List LinkItem) → HasEncoding linking_payload xs → HasEncoding (members link) xs
 links_encoded xs h = tagged_encoded (just version u32) (λ u. listing false link) tt xs (λ s z h. refl) (named_encoded linking_name (entries (just version u32) false link) xs h)

@@ -111,87 +111,87 @@ names_section = entries_laws name_laws name_layout (λ given plain. plain) (λ g
 
 -- The image of a size-prefixed value decodes as the size-prefixed image.
 module _ {X Y : Type 0} (f : X → Y) (F : Format X) {bytes rest : List ℕ} {y : Y} where
-  image_of_size_prefixed : Decodes (size_prefixed (mapped f F)) padded bytes y rest → Decodes (mapped f (size_prefixed F)) padded bytes y rest
+  image_of_size_prefixed : {m : Mode} → Decodes (size_prefixed (mapped f F)) m bytes y rest → Decodes (mapped f (size_prefixed F)) m bytes y rest
   image_of_size_prefixed h =
       let s = h.encodes in
       record { front = h.front; split = h.split; encodes = (s.encodes.0, s.encodes.1, record { front = s.front; content = s.content; joined = s.joined; size = s.size; encodes = s.encodes.2 }) }
 
-  size_prefixed_of_image : Decodes (mapped f (size_prefixed F)) padded bytes y rest → Decodes (size_prefixed (mapped f F)) padded bytes y rest
+  size_prefixed_of_image : {m : Mode} → Decodes (mapped f (size_prefixed F)) m bytes y rest → Decodes (size_prefixed (mapped f F)) m bytes y rest
   size_prefixed_of_image h =
       let s = h.encodes.2 in
       record { front = h.front; split = h.split; encodes = record { front = s.front; content = s.content; joined = s.joined; size = s.size; encodes = (h.encodes.0, h.encodes.1, s.encodes) } }
 
-image_rejects : {X Y : Type 0} (f : X → Y) {F : Format X} {bytes : List ℕ} → RejectsWhole F bytes → RejectsWhole (mapped f F) bytes
+image_rejects : {m : Mode} {X Y : Type 0} (f : X → Y) {F : Format X} {bytes : List ℕ} → RejectsWhole F m bytes → RejectsWhole (mapped f F) m bytes
 image_rejects f n = record { none = λ y h. n.none h.0 h.2 }
 
 -- ---- the content of a subsection
 
-pub module_fills : (bytes : List ℕ) (id : ℕ) (n : List ℕ) → name padded bytes n → inside of_module id padded bytes (Module n)
+pub module_fills : {m : Mode} (bytes : List ℕ) (id : ℕ) (n : List ℕ) → name m bytes n → inside of_module id m bytes (Module n)
 module_fills bytes id n h = (n, refl, h)
 
-pub no_module : (bytes : List ℕ) (id : ℕ) → RejectsWhole name bytes → RejectsWhole (inside of_module id) bytes
+pub no_module : {m : Mode} (bytes : List ℕ) (id : ℕ) → RejectsWhole name m bytes → RejectsWhole (inside of_module id) m bytes
 no_module bytes id n = image_rejects Module n
 
-pub map_fills : (bytes : List ℕ) (id : ℕ) (names : List Naming) → name_map padded bytes names → inside of_map id padded bytes (Map id names)
+pub map_fills : {m : Mode} (bytes : List ℕ) (id : ℕ) (names : List Naming) → name_map m bytes names → inside of_map id m bytes (Map id names)
 map_fills bytes id names h = (names, refl, h)
 
-pub no_map : (bytes : List ℕ) (id : ℕ) → RejectsWhole name_map bytes → RejectsWhole (inside of_map id) bytes
+pub no_map : {m : Mode} (bytes : List ℕ) (id : ℕ) → RejectsWhole name_map m bytes → RejectsWhole (inside of_map id) m bytes
 no_map bytes id n = image_rejects (Map id) n
 
-pub indirect_fills : (bytes : List ℕ) (id : ℕ) (maps : List Inside) → indirect_map padded bytes maps → inside of_indirect id padded bytes (Indirect id maps)
+pub indirect_fills : {m : Mode} (bytes : List ℕ) (id : ℕ) (maps : List Inside) → indirect_map m bytes maps → inside of_indirect id m bytes (Indirect id maps)
 indirect_fills bytes id maps h = (maps, refl, h)
 
-pub no_indirect : (bytes : List ℕ) (id : ℕ) → RejectsWhole indirect_map bytes → RejectsWhole (inside of_indirect id) bytes
+pub no_indirect : {m : Mode} (bytes : List ℕ) (id : ℕ) → RejectsWhole indirect_map m bytes → RejectsWhole (inside of_indirect id) m bytes
 no_indirect bytes id n = image_rejects (Indirect id) n
 
-pub other_fills : (bytes : List ℕ) (id : ℕ) → inside of_other id padded bytes (Other id bytes)
-other_fills bytes id = (bytes, refl, refl)
+pub other_fills : (m : Mode) (bytes : List ℕ) (id : ℕ) → inside of_other id m bytes (Other id bytes)
+other_fills m bytes id = (bytes, refl, refl)
 
 pub ruleset kind_steps = (module_fills, no_module, map_fills, no_map, indirect_fills, no_indirect, other_fills)
 
 -- ---- subsections
 
-behind_decodes : (k : NameKind) (id : ℕ) (bytes rest : List ℕ) (x : NameItem) → Decodes (size_prefixed (inside k id)) padded bytes x rest → Decodes (after_id k id) padded bytes x rest
+behind_decodes : {m : Mode} (k : NameKind) (id : ℕ) (bytes rest : List ℕ) (x : NameItem) → Decodes (size_prefixed (inside k id)) m bytes x rest → Decodes (after_id k id) m bytes x rest
 behind_decodes of_module id bytes rest x h = image_of_size_prefixed Module name h
 behind_decodes of_map id bytes rest x h = image_of_size_prefixed (Map id) name_map h
 behind_decodes of_indirect id bytes rest x h = image_of_size_prefixed (Indirect id) indirect_map h
 behind_decodes of_other id bytes rest x h = image_of_size_prefixed (Other id) any_bytes h
 
-decodes_behind : (k : NameKind) (id : ℕ) (bytes rest : List ℕ) (x : NameItem) → Decodes (after_id k id) padded bytes x rest → Decodes (size_prefixed (inside k id)) padded bytes x rest
+decodes_behind : {m : Mode} (k : NameKind) (id : ℕ) (bytes rest : List ℕ) (x : NameItem) → Decodes (after_id k id) m bytes x rest → Decodes (size_prefixed (inside k id)) m bytes x rest
 decodes_behind of_module id bytes rest x h = size_prefixed_of_image Module name h
 decodes_behind of_map id bytes rest x h = size_prefixed_of_image (Map id) name_map h
 decodes_behind of_indirect id bytes rest x h = size_prefixed_of_image (Indirect id) indirect_map h
 decodes_behind of_other id bytes rest x h = size_prefixed_of_image (Other id) any_bytes h
 
-nothing_behind : (k : NameKind) (id : ℕ) (bytes : List ℕ) → Rejects (size_prefixed (inside k id)) padded bytes → Rejects (after_id k id) padded bytes
+nothing_behind : {m : Mode} (k : NameKind) (id : ℕ) (bytes : List ℕ) → Rejects (size_prefixed (inside k id)) m bytes → Rejects (after_id k id) m bytes
 nothing_behind k id bytes n = record { none = λ x rest h. n.none x rest (decodes_behind k id bytes rest x h) }
 
 abbrev behind : ℕ → Format NameItem
 behind id = after_id (name_kind_of id) id
 
-pub subsection_decodes : (bytes rest content last : List ℕ) (id : ℕ) (k : NameKind) (x : NameItem) → Decodes byte padded bytes id rest → Decodes (size_prefixed any_bytes) padded rest content last → k ≡ name_kind_of id → inside k id padded content x → Decodes subsection padded bytes x last
-subsection_decodes bytes rest content last id k x h g e s =
-    tagged_decodes {G = behind} h (subst (λ k. Decodes (after_id k id) padded rest x last) e (behind_decodes k id rest last x (filled_decodes (inside k id) rest content last x g s)))
+pub subsection_decodes : {m : Mode} (bytes rest content last : List ℕ) (id : ℕ) (k : NameKind) (x : NameItem) → Decodes byte m bytes id rest → Decodes (size_prefixed any_bytes) m rest content last → k ≡ name_kind_of id → inside k id m content x → Decodes subsection m bytes x last
+subsection_decodes {m = m} bytes rest content last id k x h g e s =
+    tagged_decodes {G = behind} h (subst (λ k. Decodes (after_id k id) m rest x last) e (behind_decodes k id rest last x (filled_decodes (inside k id) rest content last x g s)))
 
-pub subsection_none : (bytes : List ℕ) → Rejects byte padded bytes → Rejects subsection padded bytes
+pub subsection_none : {m : Mode} (bytes : List ℕ) → Rejects byte m bytes → Rejects subsection m bytes
 subsection_none bytes n = tagged_none byte behind bytes n
 
-pub subsection_not_size_prefixed : (bytes rest : List ℕ) (id : ℕ) → Decodes byte padded bytes id rest → Rejects (size_prefixed any_bytes) padded rest → Rejects subsection padded bytes
+pub subsection_not_size_prefixed : {m : Mode} (bytes rest : List ℕ) (id : ℕ) → Decodes byte m bytes id rest → Rejects (size_prefixed any_bytes) m rest → Rejects subsection m bytes
 subsection_not_size_prefixed bytes rest id h n = tagged_rejects {G = behind} byte_unambiguous h (nothing_behind (name_kind_of id) id rest (filled_none (inside (name_kind_of id) id) rest n))
 
-pub subsection_rejects : (bytes rest content last : List ℕ) (id : ℕ) (k : NameKind) → Decodes byte padded bytes id rest → Decodes (size_prefixed any_bytes) padded rest content last → k ≡ name_kind_of id → RejectsWhole (inside k id) content → Rejects subsection padded bytes
-subsection_rejects bytes rest content last id k h g e n =
-    tagged_rejects {G = behind} byte_unambiguous h (subst (λ k. Rejects (after_id k id) padded rest) e (nothing_behind k id rest (filled_rejects (inside k id) rest content last g n)))
+pub subsection_rejects : {m : Mode} (bytes rest content last : List ℕ) (id : ℕ) (k : NameKind) → Decodes byte m bytes id rest → Decodes (size_prefixed any_bytes) m rest content last → k ≡ name_kind_of id → RejectsWhole (inside k id) m content → Rejects subsection m bytes
+subsection_rejects {m = m} bytes rest content last id k h g e n =
+    tagged_rejects {G = behind} byte_unambiguous h (subst (λ k. Rejects (after_id k id) m rest) e (nothing_behind k id rest (filled_rejects (inside k id) rest content last g n)))
 
 -- ---- sections
 
-pub names_fill : (bytes rest : List ℕ) (items : List NameItem) → Decodes (just name_name name) padded bytes tt rest → members subsection padded rest items → name_payload padded bytes items
+pub names_fill : {m : Mode} (bytes rest : List ℕ) (items : List NameItem) → Decodes (just name_name name) m bytes tt rest → members subsection m rest items → name_payload m bytes items
 names_fill bytes rest items h g = items_fill name_name false subsection bytes rest items h g
 
-pub names_none : (bytes : List ℕ) → Rejects (just name_name name) padded bytes → RejectsWhole name_payload bytes
+pub names_none : {m : Mode} (bytes : List ℕ) → Rejects (just name_name name) m bytes → RejectsWhole name_payload m bytes
 names_none bytes n = named_none name_name _ bytes n
 
-pub no_names : (bytes rest : List ℕ) → Decodes (just name_name name) padded bytes tt rest → RejectsWhole (members subsection) rest → RejectsWhole name_payload bytes
+pub no_names : {m : Mode} (bytes rest : List ℕ) → Decodes (just name_name name) m bytes tt rest → RejectsWhole (members subsection) m rest → RejectsWhole name_payload m bytes
 no_names bytes rest h n = no_items name_name false subsection bytes rest h n
 
 pub ruleset name_steps = (names_fill, names_none, no_names)

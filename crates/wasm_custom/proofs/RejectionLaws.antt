@@ -4,7 +4,7 @@ use Rattle.wasm_base.proofs.Words.{optional, size_prefixed, vec, members, just, 
 use Rattle.wasm_base.proofs.Words.{ascii, byte_unambiguous, fixed_unambiguous, size_prefixed_of, vec_of_one, then_at, tagged_at, member_at, rejects_padded, u32_unambiguous, u32_small}
 use Rattle.wasm_base.proofs.SectionLaws.{unambiguous}
 use Rattle.wasm_custom.specs.{named_payload, hint, hints, hints_name, hints_payload, LinkItem, link_tags, link, linking_name, version, linking_payload, Symbol, has_name, indexed_of, symbol_tags}
-use Rattle.wasm_custom.specs.{symbol}
+use Rattle.wasm_custom.specs.{built_symbol}
 use Rattle.wasm_custom.specs.Hints.{Hints}
 use Rattle.wasm_custom.specs.declared.hints.BranchHint.{BranchHint}
 use Rattle.wasm_custom.specs.declared.symbols.SymbolKind.TheVariants.{Function}
@@ -57,7 +57,7 @@ no_groups : (s t : List ℕ) → [] ≡ s ++ t → AreGroups s → ⊥
 no_groups [] t e h = h
 no_groups (b ∷ s) t e h = absurd (cc e)
 
-no_symbol : (x : Symbol) → symbol padded (0 ∷ 0 ∷ 1 ∷ []) x → ⊥
+no_symbol : (x : Symbol) → built_symbol padded (0 ∷ 0 ∷ 1 ∷ []) x → ⊥
 no_symbol x h =
     let function = behind_tag {F = byte} {G = choice symbol_tags (λ b. impossible)} byte_unambiguous (0 ∷ []) 0 refl (0 ∷ 1 ∷ []) x h in
     let parts = behind_tag {F = u32} {G = λ flags. mapped (indexed_of Function flags) (pair u32 (optional (has_name flags) name))} u32_unambiguous (0 ∷ []) 0 (u32_small padded 0 (omega arith)) (1 ∷ []) x function in
@@ -67,8 +67,8 @@ no_symbol x h =
 no_link : (front back : List ℕ) (x : LinkItem) → 8 ∷ 4 ∷ 1 ∷ 0 ∷ 0 ∷ 1 ∷ [] ≡ front ++ back → link padded front x → ⊥
 no_link front back x e h =
     let found = tagged_at {F = byte} {G = choice link_tags (λ b. impossible)} byte_unambiguous padded (8 ∷ []) 8 refl (4 ∷ 1 ∷ 0 ∷ 0 ∷ 1 ∷ []) front back x e h in
-    let symbols = size_prefixed_of {F = vec symbol} padded 4 (1 ∷ 0 ∷ 0 ∷ 1 ∷ []) [] found.0 back found.2.0 (u32_small padded 4 (omega arith)) refl found.1 found.2.2 in
-    let one = vec_of_one {F = symbol} padded (0 ∷ 0 ∷ 1 ∷ []) found.2.0 (u32_small padded 1 (omega arith)) symbols in
+    let symbols = size_prefixed_of {F = vec built_symbol} padded 4 (1 ∷ 0 ∷ 0 ∷ 1 ∷ []) [] found.0 back found.2.0 (u32_small padded 4 (omega arith)) refl found.1 found.2.2 in
+    let one = vec_of_one {F = built_symbol} padded (0 ∷ 0 ∷ 1 ∷ []) found.2.0 (u32_small padded 1 (omega arith)) symbols in
     no_symbol one.0 one.1
 
 no_links : (xs : List LinkItem) → linking_payload padded (7 ∷ (linking_name ++ (2 ∷ 8 ∷ 4 ∷ 1 ∷ 0 ∷ 0 ∷ 1 ∷ []))) xs → ⊥

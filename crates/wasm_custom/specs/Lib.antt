@@ -6,6 +6,9 @@ pub mod Lists
 pub mod Adding
 pub mod Names
 pub mod Symbols
+pub mod Segments
+pub mod InitFunctions
+pub mod Comdats
 pub mod Linking
 pub mod Producers
 pub mod Hints
@@ -18,6 +21,9 @@ unfoldable pub use Rattle.wasm_custom.specs.Lists.*
 unfoldable pub use Rattle.wasm_custom.specs.Adding.*
 unfoldable pub use Rattle.wasm_custom.specs.Names.*
 unfoldable pub use Rattle.wasm_custom.specs.Symbols.*
+unfoldable pub use Rattle.wasm_custom.specs.Segments.*
+unfoldable pub use Rattle.wasm_custom.specs.InitFunctions.*
+unfoldable pub use Rattle.wasm_custom.specs.Comdats.*
 unfoldable pub use Rattle.wasm_custom.specs.Linking.*
 unfoldable pub use Rattle.wasm_custom.specs.Producers.*
 unfoldable pub use Rattle.wasm_custom.specs.Hints.*

@@ -1,12 +1,14 @@
 -- This file passes on the definitions that those of the crates above use.
+pub use Rattle.wasm_custom.specs.Comdats.{Comdat, comdat_view}
 pub use Rattle.wasm_custom.specs.CoreDumps.{Instance, core_decoding, core_name, core_payload, instance_view, instances_decoding, instances_name, instances_payload, modules_decoding, modules_name}
 pub use Rattle.wasm_custom.specs.CoreDumps.{modules_payload}
 pub use Rattle.wasm_custom.specs.CoreStacks.{StackFrame, stack_decoding, stack_frame_view, stack_name, stack_payload}
 pub use Rattle.wasm_custom.specs.Customs.{IsEncodableNamed, custom_decoding, subsection_encoding}
 unfoldable pub use Rattle.wasm_custom.specs.Customs.{named_encoding}
 pub use Rattle.wasm_custom.specs.Hints.{Hints, hints_decoding, hints_name, hints_payload, hints_view}
-pub use Rattle.wasm_custom.specs.Linking.{LinkItem, Symbols, Target, link_view, linking_decoding, linking_name, linking_payload}
+pub use Rattle.wasm_custom.specs.Linking.{Comdats, InitFunctions, LinkItem, Segments, Symbols, Target, link_view, linking_decoding, linking_name, linking_payload, object_decoding, object_payload}
 unfoldable pub use Rattle.wasm_custom.specs.Lists.{list_encoding}
 pub use Rattle.wasm_custom.specs.Names.{Indirect, Map, Module, NameItem, Naming, Other, name_item_view, name_name, name_payload}
 pub use Rattle.wasm_custom.specs.Producers.{Field, field_view, producers_decoding, producers_name, producers_payload}
-pub use Rattle.wasm_custom.specs.Symbols.{Symbol, indexed, of_data}
+pub use Rattle.wasm_custom.specs.Segments.{SegmentInfo, segment_view}
+pub use Rattle.wasm_custom.specs.Symbols.{Symbol, indexed, of_data, of_section}

@@ -5,7 +5,7 @@ ghost use Rattle.wasm_base.specs.Cow.{items_of, encoding_of};
 ghost use Rattle.wasm_base.specs.Formats.{fixed};
 ghost use Rattle.wasm_base.specs.Continuing.{RejectsWhole};
 ghost use Rattle.wasm_base.specs.Iterators.{HasKnownLength};
-ghost use Rattle.wasm_base.specs.Numbers.{unsigned_encoding, padded};
+ghost use Rattle.wasm_base.specs.Numbers.{unsigned_encoding, padded_of};
 ghost use Rattle.wasm_base.specs.Decoding.{Unambiguous};
 ghost use Rattle.wasm_base.specs.Encodings.{HasEncodableSize, vec_encoding};
 ghost use Rattle.wasm_base.specs.declared.refused.Refused.TheVariants.{TooLong};
@@ -24,7 +24,8 @@ use crate::named::after_name;
 use std::alloc::{Allocator, Global};
 use std::marker::Model;
 use wasm_base::{
-    Encode, Kind, ReadFault, Readable, Result, Section, SectionId, Shorten, read_whole, vec_of,
+    DecodeError, Encode, Grammar, Kind, Readable, Result, Section, SectionId, Shorten, read_whole,
+    vec_of,
 };
 
 /// The `core` section of a dumped process, modelled as its data: the byte 00, and the name of the
@@ -262,21 +263,21 @@ impl<A: Allocator> CoreDumpInstancesSection<A> {
     }
 }
 
-/// Decodes the payload of a process section: the name of the process.
+/// Decodes the payload of a process section, in the grammar `G`: the name of the process.
 ///
 /// # Errors
 ///
 /// Any error but `Memory` means that the bytes are not such a payload.
 #[tactic(auto, using(crate::proofs::CoreDumpLaws::process_steps))]
-pub fn read_process<'a, A: Allocator + Copy>(
+pub fn read_process<'a, A: Allocator + Copy, G: Grammar>(
     bytes: &'a [u8],
     alloc: A,
-) -> Result<&'a str, ReadFault>
-    ensures found { IfOk result (λ x. core_payload padded bytes.now x.now) }
-    ensures none { IfErr result (λ e. e ≢ Memory → RejectsWhole core_payload bytes.now) }
+) -> Result<&'a str, DecodeError>
+    ensures found { IfOk result (λ x. core_payload (padded_of G.grammar) bytes.now x.now) }
+    ensures none { IfErr result (λ e. e.cause ≢ Memory → RejectsWhole core_payload (padded_of G.grammar) bytes.now) }
 {
-    let rest = after_name("core", bytes, alloc)?;
-    let MarkedName(name) = read_whole::<'a, MarkedName<'a>, A>(rest, alloc)?;
+    let rest = after_name::<A, G>("core", bytes, alloc)?;
+    let MarkedName(name) = read_whole::<'a, MarkedName<'a>, A, G>(rest, alloc)?;
     Ok(name)
 }
 
@@ -297,26 +298,26 @@ impl<'a> ItemsAs<&'a str> for ModuleItems {
     }
 }
 
-impl<'a, A: Allocator + Copy> DecodesItems<'a, &'a str, A> for ModuleItems {
-    fn read_item(bytes: &'a [u8], alloc: A) -> Result<(&'a str, &'a [u8]), ReadFault> {
-        let (MarkedName(name), rest) = <MarkedName<'a> as Readable<'a, A>>::read(bytes, alloc)?;
+impl<'a, A: Allocator + Copy, G: Grammar> DecodesItems<'a, &'a str, A, G> for ModuleItems {
+    fn read_item(bytes: &'a [u8], alloc: A) -> Result<(&'a str, &'a [u8]), DecodeError> {
+        let (MarkedName(name), rest) = <MarkedName<'a> as Readable<'a, A, G>>::read(bytes, alloc)?;
         Ok((name, rest))
     }
 }
 
-/// Decodes the payload of a modules section: the names of the modules.
+/// Decodes the payload of a modules section, in the grammar `G`: the names of the modules.
 ///
 /// # Errors
 ///
 /// Any error but `Memory` means that the bytes are not such a payload.
-pub fn read_modules<'a, A: Allocator + Copy>(
+pub fn read_modules<'a, A: Allocator + Copy, G: Grammar>(
     bytes: &'a [u8],
     alloc: A,
-) -> Result<Vec<&'a str, A>, ReadFault>
-    ensures found { IfOk result (λ x. modules_payload padded bytes.now (map (λ name. name.now) x.items)) }
-    ensures none { IfErr result (λ e. e ≢ Memory → RejectsWhole modules_payload bytes.now) }
+) -> Result<Vec<&'a str, A>, DecodeError>
+    ensures found { IfOk result (λ x. modules_payload (padded_of G.grammar) bytes.now (map (λ name. name.now) x.items)) }
+    ensures none { IfErr result (λ e. e.cause ≢ Memory → RejectsWhole modules_payload (padded_of G.grammar) bytes.now) }
 {
-    read_counted::<'a, ModuleItems, &'a str, A>(bytes, alloc)
+    read_counted::<'a, ModuleItems, &'a str, A, G>(bytes, alloc)
 }
 
 impl<A: Allocator> ItemsAs<(u32, Vec<u32, A>, Vec<u32, A>)> for InstanceItems {
@@ -342,36 +343,37 @@ impl<A: Allocator> ItemsAs<(u32, Vec<u32, A>, Vec<u32, A>)> for InstanceItems {
     }
 }
 
-impl<'a, A: Allocator + Copy> DecodesItems<'a, (u32, Vec<u32, A>, Vec<u32, A>), A>
+impl<'a, A: Allocator + Copy, G: Grammar> DecodesItems<'a, (u32, Vec<u32, A>, Vec<u32, A>), A, G>
     for InstanceItems {
     #[tactic(auto, using(crate::proofs::CoreDumpLaws::instance_steps))]
     fn read_item(
         bytes: &'a [u8],
         alloc: A,
-    ) -> Result<((u32, Vec<u32, A>, Vec<u32, A>), &'a [u8]), ReadFault> {
+    ) -> Result<((u32, Vec<u32, A>, Vec<u32, A>), &'a [u8]), DecodeError> {
         let ((module_index, (memories, globals)), rest) = read_marked::<
             'a,
             (u32, (Vec<u32, A>, Vec<u32, A>)),
             A,
+            G,
         >(0x00, bytes, alloc)?;
         Ok(((module_index, memories, globals), rest))
     }
 }
 
-/// Decodes the payload of an instances section: for each instance the index of its module, its
-/// memories and its globals.
+/// Decodes the payload of an instances section, in the grammar `G`: for each instance the index of
+/// its module, its memories and its globals.
 ///
 /// # Errors
 ///
 /// Any error but `Memory` means that the bytes are not such a payload.
-pub fn read_instances<'a, A: Allocator + Copy>(
+pub fn read_instances<'a, A: Allocator + Copy, G: Grammar>(
     bytes: &'a [u8],
     alloc: A,
-) -> Result<Vec<(u32, Vec<u32, A>, Vec<u32, A>), A>, ReadFault>
-    ensures found { IfOk result (λ x. instances_payload padded bytes.now (map instance_view x.items)) }
-    ensures none { IfErr result (λ e. e ≢ Memory → RejectsWhole instances_payload bytes.now) }
+) -> Result<Vec<(u32, Vec<u32, A>, Vec<u32, A>), A>, DecodeError>
+    ensures found { IfOk result (λ x. instances_payload (padded_of G.grammar) bytes.now (map instance_view x.items)) }
+    ensures none { IfErr result (λ e. e.cause ≢ Memory → RejectsWhole instances_payload (padded_of G.grammar) bytes.now) }
 {
-    read_counted::<'a, InstanceItems, (u32, Vec<u32, A>, Vec<u32, A>), A>(bytes, alloc)
+    read_counted::<'a, InstanceItems, (u32, Vec<u32, A>, Vec<u32, A>), A, G>(bytes, alloc)
 }
 
 /// Appends the byte 00 and a name.

@@ -4,7 +4,7 @@ ghost use Rattle.wasm_base.specs.Calls.{DecodesBack};
 ghost use Rattle.wasm_base.specs.Cow.{items_of, encoding_of};
 ghost use Rattle.wasm_base.specs.Continuing.{RejectsWhole};
 ghost use Rattle.wasm_base.specs.Iterators.{HasKnownLength};
-ghost use Rattle.wasm_base.specs.Numbers.{unsigned_encoding, padded};
+ghost use Rattle.wasm_base.specs.Numbers.{unsigned_encoding, padded_of};
 ghost use Rattle.wasm_base.specs.Encodings.{HasEncodableSize, vec_encoding};
 ghost use Rattle.wasm_base.specs.declared.refused.Refused.TheVariants.{TooLong};
 ghost use Rattle.wasm_custom.specs.Adding.{AddsTwoLists};
@@ -25,8 +25,8 @@ use crate::named::after_name;
 use std::alloc::{Allocator, Global};
 use std::marker::Model;
 use wasm_base::{
-    CowSlice, CowStr, Encode, Layout, Pieces, ReadFault, Readable, Result, Section, SectionId,
-    Shorten, read_whole, vec_of,
+    CowSlice, CowStr, DecodeError, Encode, Grammar, Layout, Pieces, Readable, Result, Section,
+    SectionId, Shorten, read_whole, vec_of,
 };
 
 /// The `corestack` section of a thread, modelled as the bytes before its stack frames and the bytes
@@ -178,14 +178,17 @@ impl<A: Allocator> Layout for CoreFrame<A> {
     fn laws() {}
 }
 
-impl<'a, A: Allocator + Copy> Readable<'a, A> for CoreFrame<A> {
+impl<'a, A: Allocator + Copy, G: Grammar> Readable<'a, A, G> for CoreFrame<A> {
     #[tactic(auto, using(crate::proofs::CoreStackLaws::frame_steps))]
-    fn read(bytes: &'a [u8], alloc: A) -> Result<(CoreFrame<A>, &'a [u8]), ReadFault> {
-        let ((instanceidx, (funcidx, codeoffset)), rest) = read_marked::<'a, (u32, (u32, u32)), A>(
-            0x00, bytes, alloc,
-        )?;
-        let (locals, rest) = <Vec<CoreDumpValue, A> as Readable<'a, A>>::read(rest, alloc)?;
-        let (stack, rest) = <Vec<CoreDumpValue, A> as Readable<'a, A>>::read(rest, alloc)?;
+    fn read(bytes: &'a [u8], alloc: A) -> Result<(CoreFrame<A>, &'a [u8]), DecodeError> {
+        let ((instanceidx, (funcidx, codeoffset)), rest) = read_marked::<
+            'a,
+            (u32, (u32, u32)),
+            A,
+            G,
+        >(0x00, bytes, alloc)?;
+        let (locals, rest) = <Vec<CoreDumpValue, A> as Readable<'a, A, G>>::read(rest, alloc)?;
+        let (stack, rest) = <Vec<CoreDumpValue, A> as Readable<'a, A, G>>::read(rest, alloc)?;
         let frame = CoreFrame {
             instanceidx,
             funcidx,
@@ -197,22 +200,23 @@ impl<'a, A: Allocator + Copy> Readable<'a, A> for CoreFrame<A> {
     }
 }
 
-/// Decodes the payload of a stack section: the name of the thread, and the frames of its stack.
+/// Decodes the payload of a stack section, in the grammar `G`: the name of the thread, and the
+/// frames of its stack.
 ///
 /// # Errors
 ///
 /// Any error but `Memory` means that the bytes are not such a payload.
 #[tactic(auto, using(crate::proofs::CoreStackLaws::stack_steps))]
-pub fn read_stack<'a, A: Allocator + Copy>(
+pub fn read_stack<'a, A: Allocator + Copy, G: Grammar>(
     bytes: &'a [u8],
     alloc: A,
-) -> Result<(&'a str, Vec<CoreFrame<A>, A>), ReadFault>
-    ensures found { IfOk result (λ x. stack_payload padded bytes.now (x.0.now, map stack_frame_view x.1.items)) }
-    ensures none { IfErr result (λ e. e ≢ Memory → RejectsWhole stack_payload bytes.now) }
+) -> Result<(&'a str, Vec<CoreFrame<A>, A>), DecodeError>
+    ensures found { IfOk result (λ x. stack_payload (padded_of G.grammar) bytes.now (x.0.now, map stack_frame_view x.1.items)) }
+    ensures none { IfErr result (λ e. e.cause ≢ Memory → RejectsWhole stack_payload (padded_of G.grammar) bytes.now) }
 {
-    let rest = after_name("corestack", bytes, alloc)?;
-    let (thread, rest) = read_marked::<'a, &'a str, A>(0x00, rest, alloc)?;
-    let frames = read_whole::<'a, Vec<CoreFrame<A>, A>, A>(rest, alloc)?;
+    let rest = after_name::<A, G>("corestack", bytes, alloc)?;
+    let (thread, rest) = read_marked::<'a, &'a str, A, G>(0x00, rest, alloc)?;
+    let frames = read_whole::<'a, Vec<CoreFrame<A>, A>, A, G>(rest, alloc)?;
     Ok((thread, frames))
 }
 

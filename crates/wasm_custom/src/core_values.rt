@@ -4,7 +4,7 @@ ghost use Rattle.wasm_custom.specs.CoreValues.{value_encoding, value as value_fo
 ghost use Rattle.wasm_custom.specs.declared.core_values.CoreDumpValue.{CoreDumpValue as ValueModel};
 
 use std::alloc::Allocator;
-use wasm_base::{Encode, Layout, ReadFault, Readable, Result};
+use wasm_base::{DecodeError, Encode, Grammar, Layout, ReadFault, Readable, Result};
 use wasm_immediates::{Ieee32, Ieee64};
 
 /// A value of a local or of the stack, or none if it was optimized away.
@@ -45,29 +45,29 @@ impl Layout for CoreDumpValue {
     fn laws() {}
 }
 
-impl<'a, A: Allocator + Copy> Readable<'a, A> for CoreDumpValue {
+impl<'a, A: Allocator + Copy, G: Grammar> Readable<'a, A, G> for CoreDumpValue {
     #[tactic(auto, using(crate::proofs::CoreStackLaws::value_steps))]
-    fn read(bytes: &'a [u8], alloc: A) -> Result<(CoreDumpValue, &'a [u8]), ReadFault> {
-        let (tag, rest) = <u8 as Readable<'a, A>>::read(bytes, alloc)?;
+    fn read(bytes: &'a [u8], alloc: A) -> Result<(CoreDumpValue, &'a [u8]), DecodeError> {
+        let (tag, rest) = <u8 as Readable<'a, A, G>>::read(bytes, alloc)?;
         match tag {
             0x01 => Ok((CoreDumpValue::Missing, rest)),
             0x7F => {
-                let (value, rest) = <i32 as Readable<'a, A>>::read(rest, alloc)?;
+                let (value, rest) = <i32 as Readable<'a, A, G>>::read(rest, alloc)?;
                 Ok((CoreDumpValue::I32(value), rest))
             }
             0x7E => {
-                let (value, rest) = <i64 as Readable<'a, A>>::read(rest, alloc)?;
+                let (value, rest) = <i64 as Readable<'a, A, G>>::read(rest, alloc)?;
                 Ok((CoreDumpValue::I64(value), rest))
             }
             0x7D => {
-                let (value, rest) = <Ieee32 as Readable<'a, A>>::read(rest, alloc)?;
+                let (value, rest) = <Ieee32 as Readable<'a, A, G>>::read(rest, alloc)?;
                 Ok((CoreDumpValue::F32(value), rest))
             }
             0x7C => {
-                let (value, rest) = <Ieee64 as Readable<'a, A>>::read(rest, alloc)?;
+                let (value, rest) = <Ieee64 as Readable<'a, A, G>>::read(rest, alloc)?;
                 Ok((CoreDumpValue::F64(value), rest))
             }
-            _ => Err(ReadFault::UnknownTag),
+            _ => Err(ReadFault::UnknownTag.just_before(rest)),
         }
     }
 }

@@ -2,7 +2,7 @@
 ghost use Rattle.std.specs.Prelude.{◌≡◌, ◌≢◌, ℕ, List, IfOk, IfErr, Err, OnOk, OnErr, map};
 ghost use Rattle.wasm_base.specs.Formats.{vec};
 ghost use Rattle.wasm_base.specs.Continuing.{RejectsWhole};
-ghost use Rattle.wasm_base.specs.Numbers.{Mode, padded};
+ghost use Rattle.wasm_base.specs.Numbers.{Mode, padded_of};
 ghost use Rattle.wasm_base.specs.Decoding.{Unambiguous, Decodes, Rejects};
 ghost use Rattle.wasm_custom.specs.Entries.{counted_payload};
 ghost use Rattle.wasm_base.specs.declared.refused.Refused.TheVariants.{TooLong};
@@ -12,7 +12,7 @@ ghost use Rattle.wasm_base.specs.declared.fault.ReadFault.TheVariants.{Memory};
 use crate::entries::CustomKind;
 use crate::named::after_name;
 use std::alloc::Allocator;
-use wasm_base::{Encode, ReadFault, Readable, Result};
+use wasm_base::{DecodeError, Encode, Grammar, ReadFault, Readable, Result};
 
 /// A kind whose items can be encoded from a decoded `T`.
 pub(crate) trait ItemsAs<T>: CustomKind {
@@ -38,25 +38,24 @@ pub(crate) trait ItemsAs<T>: CustomKind {
 }
 
 /// A kind whose items decode to a `T`.
-pub(crate) trait DecodesItems<'a, T: Drop, A: Allocator + Copy>: ItemsAs<T> {
-    /// Decodes the item at the front, padded numbers included, and returns it with the remaining
-    /// bytes.
-    fn read_item(bytes: &'a [u8], alloc: A) -> Result<(T, &'a [u8]), ReadFault>
-        ensures found { IfOk result (λ x. Decodes Self.format padded bytes.now (Self.view x.0) x.1.now) }
-        ensures none { IfErr result (λ e. e ≢ Memory → Rejects Self.format padded bytes.now) };
+pub(crate) trait DecodesItems<'a, T: Drop, A: Allocator + Copy, G: Grammar>: ItemsAs<T> {
+    /// Decodes the item at the front, in the grammar `G`, and returns it with the remaining bytes.
+    fn read_item(bytes: &'a [u8], alloc: A) -> Result<(T, &'a [u8]), DecodeError>
+        ensures found { IfOk result (λ x. Decodes Self.format (padded_of G.grammar) bytes.now (Self.view x.0) x.1.now) }
+        ensures none { IfErr result (λ e. e.cause ≢ Memory → Rejects Self.format (padded_of G.grammar) bytes.now) };
 }
 
 /// Decodes a count and that many items, and returns them with the remaining bytes. Memory grows
 /// with the items that decode, and is not allocated by the count.
 #[tactic(auto, using(wasm_base::proofs::DecodeVectors::vec_steps))]
-fn read_items<'a, K: DecodesItems<'a, T, A>, T: Drop, A: Allocator + Copy>(
+fn read_items<'a, K: DecodesItems<'a, T, A, G>, T: Drop, A: Allocator + Copy, G: Grammar>(
     bytes: &'a [u8],
     alloc: A,
-) -> Result<(Vec<T, A>, &'a [u8]), ReadFault>
-    ensures found { IfOk result (λ x. Decodes (vec K.format) padded bytes.now (map K.view x.0.items) x.1.now) }
-    ensures none { IfErr result (λ e. e ≢ Memory → Rejects (vec K.format) padded bytes.now) }
+) -> Result<(Vec<T, A>, &'a [u8]), DecodeError>
+    ensures found { IfOk result (λ x. Decodes (vec K.format) (padded_of G.grammar) bytes.now (map K.view x.0.items) x.1.now) }
+    ensures none { IfErr result (λ e. e.cause ≢ Memory → Rejects (vec K.format) (padded_of G.grammar) bytes.now) }
 {
-    let (count, mut rest) = <u32 as Readable<'a, A>>::read(bytes, alloc)?;
+    let (count, mut rest) = <u32 as Readable<'a, A, G>>::read(bytes, alloc)?;
     let mut items = Vec::new(alloc);
     K::unique();
     for _taken in 0..count {
@@ -68,20 +67,23 @@ fn read_items<'a, K: DecodesItems<'a, T, A>, T: Drop, A: Allocator + Copy>(
 }
 
 /// Decodes the payload of a section of this kind, including its name.
-pub(crate) fn read_counted<'a, K: DecodesItems<'a, T, A>, T: Drop, A: Allocator + Copy>(
-    bytes: &'a [u8],
-    alloc: A,
-) -> Result<Vec<T, A>, ReadFault>
-    ensures found { IfOk result (λ x. counted_payload K.name K.format padded bytes.now (map K.view x.items)) }
-    ensures none { IfErr result (λ e. e ≢ Memory → RejectsWhole (counted_payload K.name K.format) bytes.now) }
+pub(crate) fn read_counted<
+    'a,
+    K: DecodesItems<'a, T, A, G>,
+    T: Drop,
+    A: Allocator + Copy,
+    G: Grammar,
+>(bytes: &'a [u8], alloc: A) -> Result<Vec<T, A>, DecodeError>
+    ensures found { IfOk result (λ x. counted_payload K.name K.format (padded_of G.grammar) bytes.now (map K.view x.items)) }
+    ensures none { IfErr result (λ e. e.cause ≢ Memory → RejectsWhole (counted_payload K.name K.format) (padded_of G.grammar) bytes.now) }
 {
     K::unique();
-    let rest = after_name(K::name(), bytes, alloc)?;
-    let (items, left) = read_items::<'a, K, T, A>(rest, alloc)?;
+    let rest = after_name::<A, G>(K::name(), bytes, alloc)?;
+    let (items, left) = read_items::<'a, K, T, A, G>(rest, alloc)?;
     if left.is_empty() {
         Ok(items)
     } else {
-        Err(ReadFault::SizeMismatch)
+        Err(ReadFault::SizeMismatch.at(left))
     }
 }
 

@@ -3,7 +3,7 @@ ghost use Rattle.std.specs.Prelude.{◌≡◌, [], ◌++◌, true, ⊤, ◌≢�
 ghost use Rattle.wasm_base.specs.Formats.{fixed, byte, such};
 ghost use Rattle.wasm_base.specs.Continuing.{RejectsWhole};
 ghost use Rattle.wasm_base.specs.Iterators.{HasKnownLength};
-ghost use Rattle.wasm_base.specs.Numbers.{unsigned_encoding, padded};
+ghost use Rattle.wasm_base.specs.Numbers.{unsigned_encoding, padded_of};
 ghost use Rattle.wasm_base.specs.Encodings.{vec_encoding};
 ghost use Rattle.wasm_custom.specs.Adding.{AddsList};
 ghost use Rattle.wasm_custom.specs.Hints.{hint_items, hint_encoding, Hints, hints, hints_name, hint, hints_view, hints_payload};
@@ -16,7 +16,9 @@ use crate::counted::{DecodesItems, ItemsAs, append_counted, read_counted};
 use crate::entries::{CustomEntries, CustomKind};
 use crate::marked::read_marked;
 use std::alloc::{Allocator, Global};
-use wasm_base::{Encode, Kind, Layout, ReadFault, Readable, Result, Shorten, vec_of};
+use wasm_base::{
+    DecodeError, Encode, Grammar, Kind, Layout, ReadFault, Readable, Result, Shorten, vec_of,
+};
 
 /// The branch hint section: which branches are likely to be taken, as a list of hints for each
 /// function. It belongs before the code section.
@@ -123,12 +125,12 @@ impl Layout for HintValue {
     fn laws() {}
 }
 
-impl<'a, A: Allocator + Copy> Readable<'a, A> for HintValue {
+impl<'a, A: Allocator + Copy, G: Grammar> Readable<'a, A, G> for HintValue {
     #[tactic(auto, using(crate::proofs::HintLaws::hint_value_steps))]
-    fn read(bytes: &'a [u8], alloc: A) -> Result<(HintValue, &'a [u8]), ReadFault> {
-        let (value, rest) = <u8 as Readable<'a, A>>::read(bytes, alloc)?;
+    fn read(bytes: &'a [u8], alloc: A) -> Result<(HintValue, &'a [u8]), DecodeError> {
+        let (value, rest) = <u8 as Readable<'a, A, G>>::read(bytes, alloc)?;
         if value >= 128 {
-            return Err(ReadFault::TooLarge);
+            return Err(ReadFault::TooLarge.just_before(rest));
         }
         Ok((HintValue(value), rest))
     }
@@ -145,11 +147,11 @@ impl Layout for BranchHint {
     fn laws() {}
 }
 
-impl<'a, A: Allocator + Copy> Readable<'a, A> for BranchHint {
+impl<'a, A: Allocator + Copy, G: Grammar> Readable<'a, A, G> for BranchHint {
     #[tactic(auto, using(crate::proofs::HintLaws::hint_steps))]
-    fn read(bytes: &'a [u8], alloc: A) -> Result<(BranchHint, &'a [u8]), ReadFault> {
-        let (branch_func_offset, rest) = <u32 as Readable<'a, A>>::read(bytes, alloc)?;
-        let (HintValue(value), rest) = read_marked::<'a, HintValue, A>(0x01, rest, alloc)?;
+    fn read(bytes: &'a [u8], alloc: A) -> Result<(BranchHint, &'a [u8]), DecodeError> {
+        let (branch_func_offset, rest) = <u32 as Readable<'a, A, G>>::read(bytes, alloc)?;
+        let (HintValue(value), rest) = read_marked::<'a, HintValue, A, G>(0x01, rest, alloc)?;
         let hint = BranchHint {
             branch_func_offset,
             branch_hint_value: u32::from(value),
@@ -179,29 +181,30 @@ impl<A: Allocator> ItemsAs<(u32, Vec<BranchHint, A>)> for HintItems {
     }
 }
 
-impl<'a, A: Allocator + Copy> DecodesItems<'a, (u32, Vec<BranchHint, A>), A> for HintItems {
+impl<'a, A: Allocator + Copy, G: Grammar> DecodesItems<'a, (u32, Vec<BranchHint, A>), A, G>
+    for HintItems {
     fn read_item(
         bytes: &'a [u8],
         alloc: A,
-    ) -> Result<((u32, Vec<BranchHint, A>), &'a [u8]), ReadFault> {
-        <(u32, Vec<BranchHint, A>) as Readable<'a, A>>::read(bytes, alloc)
+    ) -> Result<((u32, Vec<BranchHint, A>), &'a [u8]), DecodeError> {
+        <(u32, Vec<BranchHint, A>) as Readable<'a, A, G>>::read(bytes, alloc)
     }
 }
 
-/// Decodes the payload of a branch hint section: for each function its index, and the hints of its
-/// branches.
+/// Decodes the payload of a branch hint section, in the grammar `G`: for each function its index,
+/// and the hints of its branches.
 ///
 /// # Errors
 ///
 /// Any error but `Memory` means that the bytes are not such a payload.
-pub fn read_hints<'a, A: Allocator + Copy>(
+pub fn read_hints<'a, A: Allocator + Copy, G: Grammar>(
     bytes: &'a [u8],
     alloc: A,
-) -> Result<Vec<(u32, Vec<BranchHint, A>), A>, ReadFault>
-    ensures found { IfOk result (λ x. hints_payload padded bytes.now (map hints_view x.items)) }
-    ensures none { IfErr result (λ e. e ≢ Memory → RejectsWhole hints_payload bytes.now) }
+) -> Result<Vec<(u32, Vec<BranchHint, A>), A>, DecodeError>
+    ensures found { IfOk result (λ x. hints_payload (padded_of G.grammar) bytes.now (map hints_view x.items)) }
+    ensures none { IfErr result (λ e. e.cause ≢ Memory → RejectsWhole hints_payload (padded_of G.grammar) bytes.now) }
 {
-    read_counted::<'a, HintItems, (u32, Vec<BranchHint, A>), A>(bytes, alloc)
+    read_counted::<'a, HintItems, (u32, Vec<BranchHint, A>), A, G>(bytes, alloc)
 }
 
 /// Appends the minimal encoding of the payload of a section of these hints. On an error, the sink

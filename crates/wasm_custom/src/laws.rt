@@ -8,22 +8,27 @@ ghost use Rattle.wasm_base.specs.Entries.{ItemLaws};
 ghost use Rattle.wasm_base.specs.Formats.{custom, size_prefixed, pair, name, any_bytes};
 ghost use Rattle.wasm_base.specs.Laws.{ContainsMore, ContainsMorePadded, RejectsAllAfterPadded};
 ghost use Rattle.wasm_base.specs.Modules.{DecodesPayloads, DecodesPayloadsPadded};
-ghost use Rattle.wasm_base.specs.Decoding.{Unambiguous, UnambiguousPadded};
+ghost use Rattle.wasm_base.specs.Decoding.{IsIncludedIn, Unambiguous, UnambiguousPadded};
 ghost use Rattle.wasm_custom.specs.CoreDumps.{marked_name, instance, module_items, instance_items, modules_payload, instances_payload, core_payload};
 ghost use Rattle.wasm_custom.specs.CoreStacks.{stack_frame, frame_items, stack_payload};
 ghost use Rattle.wasm_custom.specs.CoreValues.{value};
 ghost use Rattle.wasm_custom.specs.Hints.{hints, hints_name, hint_items, hints_payload};
-ghost use Rattle.wasm_custom.specs.Linking.{link, linking_name, link_items, linking_payload};
+ghost use Rattle.wasm_base.specs.Numbers.{padded as padded_mode, standard, standard_minimal};
+ghost use Rattle.wasm_custom.specs.Linking.{link, linking_name, link_items, linking_payload, full_link, object_items, object_payload};
+ghost use Rattle.wasm_custom.specs.Segments.{segment_encoding, IsSegment, segment};
+ghost use Rattle.wasm_custom.specs.InitFunctions.{init_encoding, IsInit, init_function};
+ghost use Rattle.wasm_custom.specs.Comdats.{comdat_symbol_encoding, IsComdatSymbol, comdat_symbol, comdat_encoding, IsComdat, comdat};
 ghost use Rattle.wasm_custom.specs.Lists.{IsVectorOf, ListMore};
 ghost use Rattle.wasm_custom.specs.Names.{naming_encoding, IsNaming, inside_encoding, IsInside, subsection, name_items, name_payload};
 ghost use Rattle.wasm_custom.specs.Producers.{producer_encoding, IsProducer, field, field_items, producers_payload};
-ghost use Rattle.wasm_custom.specs.Symbols.{symbol_encoding, IsGivenSymbol, symbol};
+ghost use Rattle.wasm_custom.specs.Symbols.{symbol_encoding, IsFullSymbol, IsGivenSymbol, symbol, full_symbol};
 
 /// The formats of sections and of their items are unambiguous. A well-formed record encodes its
 /// item.
 pub fn sections()
     ensures names { Unambiguous (size_prefixed name_payload) }
     ensures linking { Unambiguous (size_prefixed linking_payload) }
+    ensures objects { Unambiguous (size_prefixed object_payload) }
     ensures producers { Unambiguous (size_prefixed producers_payload) }
     ensures hints { Unambiguous (size_prefixed hints_payload) }
     ensures modules { Unambiguous (size_prefixed modules_payload) }
@@ -34,6 +39,12 @@ pub fn sections()
     ensures subsections { Unambiguous subsection }
     ensures links { Unambiguous link }
     ensures symbols { Unambiguous symbol }
+    ensures object_links { Unambiguous full_link }
+    ensures object_symbols { Unambiguous full_symbol }
+    ensures segments { Unambiguous segment }
+    ensures init_functions { Unambiguous init_function }
+    ensures comdat_symbols { Unambiguous comdat_symbol }
+    ensures comdats { Unambiguous comdat }
     ensures fields { Unambiguous field }
     ensures functions_hints { Unambiguous hints }
     ensures marked_names { Unambiguous marked_name }
@@ -43,6 +54,7 @@ pub fn sections()
 
     ensures name_laws { ItemLaws name_items }
     ensures linking_items { ItemLaws link_items }
+    ensures object_laws { ItemLaws object_items }
     ensures producer_laws { ItemLaws field_items }
     ensures hint_laws { ItemLaws hint_items }
     ensures module_laws { ItemLaws module_items }
@@ -55,6 +67,7 @@ pub fn sections()
 pub fn padded()
     ensures names { UnambiguousPadded (size_prefixed name_payload) }
     ensures linking { UnambiguousPadded (size_prefixed linking_payload) }
+    ensures objects { UnambiguousPadded (size_prefixed object_payload) }
     ensures producers { UnambiguousPadded (size_prefixed producers_payload) }
     ensures hints { UnambiguousPadded (size_prefixed hints_payload) }
     ensures modules { UnambiguousPadded (size_prefixed modules_payload) }
@@ -69,6 +82,7 @@ pub fn padded()
 pub fn calls()
     ensures names { ContainsMore name_items }
     ensures linking { ContainsMore link_items }
+    ensures objects { ContainsMore object_items }
     ensures producers { ContainsMore field_items }
     ensures hints { ContainsMore hint_items }
     ensures modules { ContainsMore module_items }
@@ -77,10 +91,20 @@ pub fn calls()
     ensures name_maps { ListMore naming_encoding IsNaming }
     ensures indirect_maps { ListMore inside_encoding IsInside }
     ensures symbol_tables { ListMore symbol_encoding IsGivenSymbol }
+    ensures object_symbols { ListMore symbol_encoding IsFullSymbol }
+    ensures segments { ListMore segment_encoding IsSegment }
+    ensures init_functions { ListMore init_encoding IsInit }
+    ensures comdat_symbols { ListMore comdat_symbol_encoding IsComdatSymbol }
+    ensures comdats { ListMore comdat_encoding IsComdat }
     ensures producer_fields { ListMore producer_encoding IsProducer }
     ensures name_maps_encoding { IsVectorOf naming_encoding IsNaming }
     ensures indirect_maps_encoding { IsVectorOf inside_encoding IsInside }
     ensures symbol_tables_encoding { IsVectorOf symbol_encoding IsGivenSymbol }
+    ensures object_symbols_encoding { IsVectorOf symbol_encoding IsFullSymbol }
+    ensures segments_encoding { IsVectorOf segment_encoding IsSegment }
+    ensures init_functions_encoding { IsVectorOf init_encoding IsInit }
+    ensures comdat_symbols_encoding { IsVectorOf comdat_symbol_encoding IsComdatSymbol }
+    ensures comdats_encoding { IsVectorOf comdat_encoding IsComdat }
     ensures producer_fields_encoding { IsVectorOf producer_encoding IsProducer }
 {}
 
@@ -90,6 +114,7 @@ pub fn calls()
 pub fn padded_calls()
     ensures names { ContainsMorePadded name_items }
     ensures linking { ContainsMorePadded link_items }
+    ensures objects { ContainsMorePadded object_items }
     ensures producers { ContainsMorePadded field_items }
     ensures hints { ContainsMorePadded hint_items }
     ensures modules { ContainsMorePadded module_items }
@@ -102,6 +127,7 @@ pub fn padded_calls()
 pub fn payloads()
     ensures names { DecodesPayloads name_payload }
     ensures linking { DecodesPayloads linking_payload }
+    ensures objects { DecodesPayloads object_payload }
     ensures producers { DecodesPayloads producers_payload }
     ensures hints { DecodesPayloads hints_payload }
     ensures modules { DecodesPayloads modules_payload }
@@ -116,6 +142,7 @@ pub fn payloads()
 pub fn padded_payloads()
     ensures names { DecodesPayloadsPadded name_payload }
     ensures linking { DecodesPayloadsPadded linking_payload }
+    ensures objects { DecodesPayloadsPadded object_payload }
     ensures producers { DecodesPayloadsPadded producers_payload }
     ensures hints { DecodesPayloadsPadded hints_payload }
     ensures modules { DecodesPayloadsPadded modules_payload }
@@ -123,6 +150,18 @@ pub fn padded_payloads()
     ensures core { DecodesPayloadsPadded core_payload }
     ensures stack { DecodesPayloadsPadded stack_payload }
     ensures customs { DecodesPayloadsPadded (pair name any_bytes) }
+{}
+
+/// In the standard's grammar, a payload encodes the items of a linking section if and only if it
+/// encodes them as that of an object file, which is the format that `ObjectLinking` promises. In
+/// the builders' grammar, the payload of a linking section is one of an object file too.
+#[tactic(auto, using(crate::proofs::LinkLaws::object_linking))]
+pub fn object_linking()
+    ensures decoded { IsIncludedIn (linking_payload standard) (object_payload standard) }
+    ensures encoded { IsIncludedIn (object_payload standard) (linking_payload standard) }
+    ensures minimal_decoded { IsIncludedIn (linking_payload standard_minimal) (object_payload standard_minimal) }
+    ensures minimal_encoded { IsIncludedIn (object_payload standard_minimal) (linking_payload standard_minimal) }
+    ensures built { IsIncludedIn (linking_payload padded_mode) (object_payload padded_mode) }
 {}
 
 /// These two byte sequences encode no section, with padded numbers neither. In that of branch

@@ -3,7 +3,7 @@
 //!
 //! The crate builds these sections, decodes them, and writes decoded ones in their minimal
 //! encoding. A call that decodes receives the payload of a section: its name and its items, up to
-//! the last byte. `Ok` holds the items that the bytes encode, padded numbers included, and any
+//! the last byte. `Ok` holds the items that the bytes encode in the grammar of the call, and any
 //! error but [`ReadFault::Memory`] means that the bytes encode no such items.
 //!
 //! The name section is that of the WebAssembly core specification, "Custom Sections", with further
@@ -13,6 +13,7 @@
 //! [`ReadFault::Memory`]: wasm_base::ReadFault::Memory
 #![tactic(auto)]
 
+mod comdats;
 mod core_dumps;
 mod core_stack;
 mod core_values;
@@ -20,17 +21,25 @@ mod counted;
 mod custom_section;
 mod entries;
 mod hints;
+mod init_functions;
 pub mod laws;
 mod linking;
 mod lists;
 mod marked;
 mod named;
 mod names;
+mod object_linking;
+mod object_symbols;
 mod producers;
 mod raw_custom;
+mod segments;
+mod standard;
 mod subsections;
 mod symbols;
 
+pub use comdats::{
+    Comdat, ComdatMembers, ComdatSymbol, ComdatSymbolMembers, ComdatSymbols, Comdats,
+};
 pub use core_dumps::{
     CoreDumpInstancesSection, CoreDumpModulesSection, CoreDumpSection, InstanceItems, ModuleItems,
     append_instances, append_modules, append_process, read_instances, read_modules, read_process,
@@ -40,14 +49,18 @@ pub use core_values::CoreDumpValue;
 pub use custom_section::CustomSection;
 pub use entries::{CustomEntries, CustomKind};
 pub use hints::{BranchHint, BranchHints, HintItems, append_hints, read_hints};
+pub use init_functions::{InitFunction, InitFunctions, InitMembers};
 pub use linking::{LinkItem, LinkingItems, LinkingSection, append_links, read_links};
 pub use lists::{CountedList, ListKind};
 pub use names::{
     IndirectMembers, IndirectNameMap, NameItem, NameItems, NameMap, NameMembers, NameSection,
     append_names, read_names,
 };
+pub use object_linking::{ObjectLinking, ObjectLinkingItems};
+pub use object_symbols::{ObjectSymbolMembers, ObjectSymbols};
 pub use producers::{
     ProducerItems, ProducersField, ProducersSection, ValueMembers, append_producers, read_producers,
 };
 pub use raw_custom::RawCustomSection;
+pub use segments::{SegmentInfo, SegmentInfos, SegmentMembers};
 pub use symbols::{DataSymbolDefinition, Symbol, SymbolKind, SymbolMembers, SymbolTable};

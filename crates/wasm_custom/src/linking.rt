@@ -1,9 +1,9 @@
 // The linking section: its builder, its reader and its minimizer.
 ghost use Rattle.std.specs.Prelude.{◌≡◌, [], ◌∷◌, false, ⊤, ◌≢◌, IfOk, IfErr, Err, OnOk, OnErr, map};
 ghost use Rattle.wasm_base.specs.Calls.{Adds};
-ghost use Rattle.wasm_base.specs.Formats.{u32 as u32_format, just};
+ghost use Rattle.wasm_base.specs.Formats.{u32 as u32_format, just, name as name_format, prefixed, size_prefixed, vec};
 ghost use Rattle.wasm_base.specs.Continuing.{RejectsWhole};
-ghost use Rattle.wasm_base.specs.Numbers.{padded};
+ghost use Rattle.wasm_base.specs.Numbers.{padded_of};
 ghost use Rattle.wasm_base.specs.Decoding.{Unambiguous, Decodes, Rejects};
 ghost use Rattle.wasm_base.specs.Encodings.{size_prefixed_encoding, HasEncodableSize};
 ghost use Rattle.wasm_custom.specs.Customs.{subsection_encoding};
@@ -13,14 +13,18 @@ ghost use Rattle.wasm_base.specs.declared.refused.Refused.TheVariants.{TooLong};
 ghost use Rattle.wasm_base.specs.Minimal.{AppendsMinimal, IsFrontOf, HasEncoding};
 ghost use Rattle.wasm_base.specs.declared.fault.ReadFault.TheVariants.{Memory};
 
+use crate::comdats::Comdat;
 use crate::entries::{CustomEntries, CustomKind};
+use crate::init_functions::InitFunction;
 use crate::named::after_name;
+use crate::segments::SegmentInfo;
+use crate::standard::require_standard;
 use crate::subsections::Subsection;
 use crate::symbols::{Symbol, SymbolTable};
 use std::alloc::{Allocator, Global};
 use wasm_base::{
-    Encode, Kind, Layout, ReadFault, Readable, Result, Shorten, SizePrefixed, append_all,
-    prefix_size_since, read_to_end, read_whole,
+    DecodeError, Encode, Grammar, Kind, Layout, ReadFault, Readable, Result, Shorten, SizePrefixed,
+    append_all, prefix_size_since, read_to_end,
 };
 
 /// The linking section: the symbols and target of a module for a linker, in version 2 of the
@@ -97,12 +101,34 @@ impl<A: Allocator> LinkingSection<A> {
 /// The version of linking sections.
 const VERSION: u32 = 2;
 
-/// A decoded subsection of a linking section.
+/// A decoded subsection of a linking section. The builders' grammar has symbol tables and
+/// architectures alone.
 #[derive(Debug, Drop)]
 pub enum LinkItem<'a, A: Allocator = Global> {
+    /// The data segments, in the order of the data section.
+    Segments(Vec<SegmentInfo<'a>, A>),
+    /// The functions that the linked module calls when it starts.
+    InitFunctions(Vec<InitFunction, A>),
+    /// The COMDAT groups.
+    Comdats(Vec<Comdat<'a, A>, A>),
+    /// The symbol table.
     Symbols(Vec<Symbol<'a>, A>),
     /// The architecture of the target.
     Arch(&'a str),
+}
+
+/// Decodes a size-prefixed vector, which is the content of most subsections.
+fn read_vector<'a, T: Readable<'a, A, G>, A: Allocator + Copy, G: Grammar>(
+    bytes: &'a [u8],
+    alloc: A,
+) -> Result<(Vec<T, A>, &'a [u8]), DecodeError>
+    ensures found { IfOk result (λ x. Decodes (size_prefixed (vec T.format)) (padded_of G.grammar) bytes.now (map T.view x.0.items) x.1.now) }
+    ensures none { IfErr result (λ e. e.cause ≢ Memory → Rejects (size_prefixed (vec T.format)) (padded_of G.grammar) bytes.now) }
+{
+    let (SizePrefixed(items), rest) = <SizePrefixed<Vec<T, A>> as Readable<'a, A, G>>::read(
+        bytes, alloc,
+    )?;
+    Ok((items, rest))
 }
 
 impl<'a, A: Allocator> Layout for LinkItem<'a, A> {
@@ -118,74 +144,117 @@ impl<'a, A: Allocator> Layout for LinkItem<'a, A> {
     {}
 }
 
-impl<'a, A: Allocator + Copy + 'a> Readable<'a, A> for LinkItem<'a, A> {
+impl<'a, A: Allocator + Copy + 'a, G: Grammar> Readable<'a, A, G> for LinkItem<'a, A> {
     #[tactic(auto, using(crate::proofs::LinkLaws::link_steps))]
-    fn read(bytes: &'a [u8], alloc: A) -> Result<(LinkItem<'a, A>, &'a [u8]), ReadFault> {
-        let (id, rest) = <u8 as Readable<'a, A>>::read(bytes, alloc)?;
+    fn read(bytes: &'a [u8], alloc: A) -> Result<(LinkItem<'a, A>, &'a [u8]), DecodeError> {
+        let (id, rest) = <u8 as Readable<'a, A, G>>::read(bytes, alloc)?;
         match id {
+            5 => {
+                require_standard::<G>(rest)?;
+                let (segments, rest) = read_vector::<'a, SegmentInfo<'a>, A, G>(rest, alloc)?;
+                Ok((LinkItem::Segments(segments), rest))
+            }
+            6 => {
+                require_standard::<G>(rest)?;
+                let (functions, rest) = read_vector::<'a, InitFunction, A, G>(rest, alloc)?;
+                Ok((LinkItem::InitFunctions(functions), rest))
+            }
+            7 => {
+                require_standard::<G>(rest)?;
+                let (comdats, rest) = read_vector::<'a, Comdat<'a, A>, A, G>(rest, alloc)?;
+                Ok((LinkItem::Comdats(comdats), rest))
+            }
             8 => {
-                let (content, rest) = <&'a [u8] as Readable<'a, A>>::read(rest, alloc)?;
-                let symbols = read_whole::<'a, Vec<Symbol<'a>, A>, A>(content, alloc)?;
+                let (symbols, rest) = read_vector::<'a, Symbol<'a>, A, G>(rest, alloc)?;
                 Ok((LinkItem::Symbols(symbols), rest))
             }
             9 => {
-                let (SizePrefixed(name), rest) = <SizePrefixed<&'a str> as Readable<'a, A>>::read(
-                    rest, alloc,
-                )?;
+                let (SizePrefixed(name), rest) = <SizePrefixed<&'a str> as Readable<
+                    'a,
+                    A,
+                    G,
+                >>::read(rest, alloc)?;
                 Ok((LinkItem::Arch(name), rest))
             }
-            _ => Err(ReadFault::UnknownTag),
+            _ => Err(ReadFault::UnknownTag.just_before(rest)),
         }
     }
 }
 
 /// Skips the version, and returns the remaining bytes.
 #[tactic(auto, using(crate::proofs::LinkLaws::version_steps))]
-fn after_version<'a, A: Allocator + Copy>(bytes: &'a [u8], alloc: A) -> Result<&'a [u8], ReadFault>
-    ensures found { IfOk result (λ rest. Decodes (just version u32_format) padded bytes.now tt rest.now) }
-    ensures none { IfErr result (λ e. e ≢ Memory → Rejects (just version u32_format) padded bytes.now) }
+fn after_version<'a, A: Allocator + Copy, G: Grammar>(
+    bytes: &'a [u8],
+    alloc: A,
+) -> Result<&'a [u8], DecodeError>
+    ensures found { IfOk result (λ rest. Decodes (just version u32_format) (padded_of G.grammar) bytes.now tt rest.now) }
+    ensures none { IfErr result (λ e. e.cause ≢ Memory → Rejects (just version u32_format) (padded_of G.grammar) bytes.now) }
 {
-    let (known, rest) = <u32 as Readable<'a, A>>::read(bytes, alloc)?;
+    let (known, rest) = <u32 as Readable<'a, A, G>>::read(bytes, alloc)?;
     if known == VERSION {
         Ok(rest)
     } else {
-        Err(ReadFault::UnknownTag)
+        Err(ReadFault::UnknownTag.just_before(rest))
     }
 }
 
-/// Decodes the payload of a linking section: its subsections.
+/// Decodes the payload of a linking section, in the grammar `G`: its subsections.
 ///
 /// # Errors
 ///
 /// Any error but `Memory` means that the bytes are not such a payload.
 #[tactic(auto, using(crate::proofs::LinkLaws::section_steps))]
-pub fn read_links<'a, A: Allocator + Copy + 'a>(
+pub fn read_links<'a, A: Allocator + Copy + 'a, G: Grammar>(
     bytes: &'a [u8],
     alloc: A,
-) -> Result<Vec<LinkItem<'a, A>, A>, ReadFault>
-    ensures found { IfOk result (λ x. linking_payload padded bytes.now (map link_view x.items)) }
-    ensures none { IfErr result (λ e. e ≢ Memory → RejectsWhole linking_payload bytes.now) }
+) -> Result<Vec<LinkItem<'a, A>, A>, DecodeError>
+    ensures found { IfOk result (λ x. linking_payload (padded_of G.grammar) bytes.now (map link_view x.items)) }
+    ensures none { IfErr result (λ e. e.cause ≢ Memory → RejectsWhole linking_payload (padded_of G.grammar) bytes.now) }
 {
-    let rest = after_name("linking", bytes, alloc)?;
-    let rest = after_version(rest, alloc)?;
-    let items = read_to_end::<'a, LinkItem<'a, A>, A>(rest, alloc)?;
+    let rest = after_name::<A, G>("linking", bytes, alloc)?;
+    let rest = after_version::<A, G>(rest, alloc)?;
+    let items = read_to_end::<'a, LinkItem<'a, A>, A, G>(rest, alloc)?;
     Ok(items)
 }
 
+/// Appends the subsection of this id, whose content is the vector of the items.
+#[tactic(auto, using(crate::proofs::LinkLaws::vector_appended, crate::proofs::LinkLaws::vector_encoded, crate::proofs::LinkLaws::vector_encodable))]
+fn append_vector<T: Shorten, A: Allocator, B: Allocator>(
+    id: u8,
+    items: &Vec<T, A>,
+    sink: &mut Vec<u8, B>,
+) -> Result<()>
+    ensures ok { OnOk result (AppendsMinimal (prefixed (id ∷ []) (size_prefixed (vec T.format))) (map T.view items.now.items) sink.old.items sink.new.items) }
+    ensures front { IsFrontOf sink.old.items sink.new.items }
+    ensures too_long { HasEncoding (prefixed (id ∷ []) (size_prefixed (vec T.format))) (map T.view items.now.items) → result ≢ Err TooLong }
+{
+    T::laws();
+    id.encode(sink)?;
+    let start = sink.len();
+    items.write_minimal(sink)?;
+    prefix_size_since(sink, start)
+}
+
+/// Appends the subsection of an architecture.
+#[tactic(auto, using(crate::proofs::LinkLaws::target_appended, crate::proofs::LinkLaws::target_encoded))]
+fn append_target<B: Allocator>(name: &str, sink: &mut Vec<u8, B>) -> Result<()>
+    ensures ok { OnOk result (AppendsMinimal (prefixed (9 ∷ []) (size_prefixed name_format)) name.now sink.old.items sink.new.items) }
+    ensures front { IsFrontOf sink.old.items sink.new.items }
+    ensures too_long { HasEncoding (prefixed (9 ∷ []) (size_prefixed name_format)) name.now → result ≢ Err TooLong }
+{
+    9u8.encode(sink)?;
+    SizePrefixed(name).write_minimal(sink)
+}
+
 impl<'a, A: Allocator> Shorten for LinkItem<'a, A> {
-    #[tactic(auto, using(crate::proofs::LinkLaws::symbols_appended, crate::proofs::LinkLaws::arch_appended, crate::proofs::LinkLaws::symbols_encoded, crate::proofs::LinkLaws::symbols_encodable, crate::proofs::LinkLaws::arch_encoded))]
+    #[tactic(auto, using(crate::proofs::LinkLaws::short_steps))]
     fn write_minimal<B: Allocator>(&self, sink: &mut Vec<u8, B>) -> Result<()> {
         match self {
-            LinkItem::Symbols(symbols) => {
-                8u8.encode(sink)?;
-                let start = sink.len();
-                symbols.write_minimal(sink)?;
-                prefix_size_since(sink, start)
-            }
-            LinkItem::Arch(name) => {
-                9u8.encode(sink)?;
-                SizePrefixed(*name).write_minimal(sink)
-            }
+            LinkItem::Segments(segments) => append_vector(5, segments, sink),
+            LinkItem::InitFunctions(functions) => append_vector(6, functions, sink),
+            LinkItem::Comdats(comdats) => append_vector(7, comdats, sink),
+            LinkItem::Symbols(symbols) => append_vector(8, symbols, sink),
+            LinkItem::Arch(name) => append_target(name, sink),
         }
     }
 }

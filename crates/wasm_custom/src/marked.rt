@@ -1,27 +1,27 @@
 // Values after a fixed byte.
 ghost use Rattle.std.specs.Prelude.{◌≢◌, ◌∷◌, [], List, ℕ, IfOk, IfErr};
 ghost use Rattle.wasm_base.specs.Formats.{prefixed};
-ghost use Rattle.wasm_base.specs.Numbers.{padded};
+ghost use Rattle.wasm_base.specs.Numbers.{padded_of};
 ghost use Rattle.wasm_base.specs.Decoding.{Unambiguous, Decodes, Rejects};
 ghost use Rattle.wasm_custom.specs.CoreDumps.{marked_name};
 ghost use Rattle.wasm_base.specs.declared.fault.ReadFault.TheVariants.{Memory};
 
 use std::alloc::Allocator;
-use wasm_base::{Layout, ReadFault, Readable};
+use wasm_base::{DecodeError, Grammar, Layout, ReadFault, Readable};
 
 /// Decodes the byte `mark` and the value after it, and returns the value with the remaining bytes.
 #[tactic(auto, using(crate::proofs::DecodeMarked::marked_steps))]
-pub(crate) fn read_marked<'a, T: Readable<'a, A>, A: Allocator + Copy>(
+pub(crate) fn read_marked<'a, T: Readable<'a, A, G>, A: Allocator + Copy, G: Grammar>(
     mark: u8,
     bytes: &'a [u8],
     alloc: A,
-) -> Result<(T, &'a [u8]), ReadFault>
-    ensures found { IfOk result (λ x. Decodes (prefixed (mark ∷ []) T.format) padded bytes.now (T.view x.0) x.1.now) }
-    ensures none { IfErr result (λ e. e ≢ Memory → Rejects (prefixed (mark ∷ []) T.format) padded bytes.now) }
+) -> Result<(T, &'a [u8]), DecodeError>
+    ensures found { IfOk result (λ x. Decodes (prefixed (mark ∷ []) T.format) (padded_of G.grammar) bytes.now (T.view x.0) x.1.now) }
+    ensures none { IfErr result (λ e. e.cause ≢ Memory → Rejects (prefixed (mark ∷ []) T.format) (padded_of G.grammar) bytes.now) }
 {
-    let (first, rest) = <u8 as Readable<'a, A>>::read(bytes, alloc)?;
+    let (first, rest) = <u8 as Readable<'a, A, G>>::read(bytes, alloc)?;
     if first != mark {
-        return Err(ReadFault::UnknownTag);
+        return Err(ReadFault::UnknownTag.just_before(rest));
     }
     let (value, rest) = T::read(rest, alloc)?;
     Ok((value, rest))
@@ -44,9 +44,9 @@ impl<'a> Layout for MarkedName<'a> {
     {}
 }
 
-impl<'a, A: Allocator + Copy> Readable<'a, A> for MarkedName<'a> {
-    fn read(bytes: &'a [u8], alloc: A) -> Result<(MarkedName<'a>, &'a [u8]), ReadFault> {
-        let (name, rest) = read_marked::<'a, &'a str, A>(0x00, bytes, alloc)?;
+impl<'a, A: Allocator + Copy, G: Grammar> Readable<'a, A, G> for MarkedName<'a> {
+    fn read(bytes: &'a [u8], alloc: A) -> Result<(MarkedName<'a>, &'a [u8]), DecodeError> {
+        let (name, rest) = read_marked::<'a, &'a str, A, G>(0x00, bytes, alloc)?;
         Ok((MarkedName(name), rest))
     }
 }

@@ -4,7 +4,7 @@ ghost use Rattle.wasm_base.specs.Calls.{Adds};
 ghost use Rattle.wasm_base.specs.Cow.{items_of, encoding_of};
 ghost use Rattle.wasm_base.specs.Formats.{fixed, u32};
 ghost use Rattle.wasm_base.specs.Continuing.{RejectsWhole};
-ghost use Rattle.wasm_base.specs.Numbers.{unsigned_encoding, padded};
+ghost use Rattle.wasm_base.specs.Numbers.{unsigned_encoding, padded_of};
 ghost use Rattle.wasm_base.specs.Pieces.{joined};
 ghost use Rattle.wasm_base.specs.Decoding.{Unambiguous};
 ghost use Rattle.wasm_base.specs.Encodings.{size_prefixed_encoding, HasEncodableSize};
@@ -22,8 +22,8 @@ use crate::named::after_name;
 use crate::subsections::{RawContent, Subsection};
 use std::alloc::{Allocator, Global};
 use wasm_base::{
-    CowSlice, CowStr, Encode, Kind, Layout, Lent, ReadFault, Readable, Result, Shorten, append_all,
-    prefix_size_since, read_to_end, read_whole,
+    CowSlice, CowStr, DecodeError, Encode, Grammar, Kind, Layout, Lent, Readable, Result, Shorten,
+    append_all, prefix_size_since, read_before, read_to_end,
 };
 
 /// A name map: indices and their names. The calls check neither their order nor whether an index is
@@ -334,28 +334,31 @@ fn name_kind_of(id: u8) -> NameKind
     }
 }
 
-/// Decodes the content of a subsection of this kind and id.
+/// Decodes the content of a subsection of this kind and id, which `rest` follows.
 #[tactic(auto, using(crate::proofs::NameLaws::kind_steps))]
-fn fill_subsection<'a, A: Allocator + Copy + 'a>(
+fn fill_subsection<'a, A: Allocator + Copy + 'a, G: Grammar>(
     kind: NameKind,
     id: u8,
     bytes: &'a [u8],
+    rest: &[u8],
     alloc: A,
-) -> Result<NameItem<'a, A>, ReadFault>
-    ensures found { IfOk result (λ x. inside (kind_as kind) id padded bytes.now (name_item_view x)) }
-    ensures none { IfErr result (λ e. e ≢ Memory → RejectsWhole (inside (kind_as kind) id) bytes.now) }
+) -> Result<NameItem<'a, A>, DecodeError>
+    ensures found { IfOk result (λ x. inside (kind_as kind) id (padded_of G.grammar) bytes.now (name_item_view x)) }
+    ensures none { IfErr result (λ e. e.cause ≢ Memory → RejectsWhole (inside (kind_as kind) id) (padded_of G.grammar) bytes.now) }
 {
     match kind {
         NameKind::Module => {
-            let name = read_whole::<'a, &'a str, A>(bytes, alloc)?;
+            let name = read_before::<&'a str, A, G>(bytes, rest, alloc)?;
             Ok(NameItem::Module(name))
         }
         NameKind::Map => {
-            let names = read_whole::<'a, Vec<(u32, &'a str), A>, A>(bytes, alloc)?;
+            let names = read_before::<Vec<(u32, &'a str), A>, A, G>(bytes, rest, alloc)?;
             Ok(NameItem::Map { id, names })
         }
         NameKind::Indirect => {
-            let maps = read_whole::<'a, Vec<(u32, Vec<(u32, &'a str), A>), A>, A>(bytes, alloc)?;
+            let maps = read_before::<Vec<(u32, Vec<(u32, &'a str), A>), A>, A, G>(
+                bytes, rest, alloc,
+            )?;
             Ok(NameItem::Indirect { id, maps })
         }
         NameKind::Other => Ok(NameItem::Other { id, bytes }),
@@ -375,31 +378,31 @@ impl<'a, A: Allocator> Layout for NameItem<'a, A> {
     {}
 }
 
-impl<'a, A: Allocator + Copy + 'a> Readable<'a, A> for NameItem<'a, A> {
+impl<'a, A: Allocator + Copy + 'a, G: Grammar> Readable<'a, A, G> for NameItem<'a, A> {
     #[tactic(auto, using(crate::proofs::NameLaws::subsection_decodes))]
-    fn read(bytes: &'a [u8], alloc: A) -> Result<(NameItem<'a, A>, &'a [u8]), ReadFault> {
-        let (id, rest) = <u8 as Readable<'a, A>>::read(bytes, alloc)?;
-        let (content, rest) = <&'a [u8] as Readable<'a, A>>::read(rest, alloc)?;
-        let item = fill_subsection(name_kind_of(id), id, content, alloc)?;
+    fn read(bytes: &'a [u8], alloc: A) -> Result<(NameItem<'a, A>, &'a [u8]), DecodeError> {
+        let (id, rest) = <u8 as Readable<'a, A, G>>::read(bytes, alloc)?;
+        let (content, rest) = <&'a [u8] as Readable<'a, A, G>>::read(rest, alloc)?;
+        let item = fill_subsection::<A, G>(name_kind_of(id), id, content, rest, alloc)?;
         Ok((item, rest))
     }
 }
 
-/// Decodes the payload of a name section: its subsections.
+/// Decodes the payload of a name section, in the grammar `G`: its subsections.
 ///
 /// # Errors
 ///
 /// Any error but `Memory` means that the bytes are not such a payload.
 #[tactic(auto, using(crate::proofs::NameLaws::name_steps))]
-pub fn read_names<'a, A: Allocator + Copy + 'a>(
+pub fn read_names<'a, A: Allocator + Copy + 'a, G: Grammar>(
     bytes: &'a [u8],
     alloc: A,
-) -> Result<Vec<NameItem<'a, A>, A>, ReadFault>
-    ensures found { IfOk result (λ x. name_payload padded bytes.now (map name_item_view x.items)) }
-    ensures none { IfErr result (λ e. e ≢ Memory → RejectsWhole name_payload bytes.now) }
+) -> Result<Vec<NameItem<'a, A>, A>, DecodeError>
+    ensures found { IfOk result (λ x. name_payload (padded_of G.grammar) bytes.now (map name_item_view x.items)) }
+    ensures none { IfErr result (λ e. e.cause ≢ Memory → RejectsWhole name_payload (padded_of G.grammar) bytes.now) }
 {
-    let rest = after_name("name", bytes, alloc)?;
-    let items = read_to_end::<'a, NameItem<'a, A>, A>(rest, alloc)?;
+    let rest = after_name::<A, G>("name", bytes, alloc)?;
+    let items = read_to_end::<'a, NameItem<'a, A>, A, G>(rest, alloc)?;
     Ok(items)
 }
 

@@ -3,7 +3,7 @@ ghost use Rattle.std.specs.Prelude.{None, ◌≡◌, ◌++◌, [], true, ⊤, �
 ghost use Rattle.wasm_base.specs.Calls.{Adds};
 ghost use Rattle.wasm_base.specs.Formats.{fixed};
 ghost use Rattle.wasm_base.specs.Continuing.{RejectsWhole};
-ghost use Rattle.wasm_base.specs.Numbers.{padded};
+ghost use Rattle.wasm_base.specs.Numbers.{padded_of};
 ghost use Rattle.wasm_base.specs.Decoding.{Unambiguous};
 ghost use Rattle.wasm_base.specs.Encodings.{size_prefixed_encoding, HasEncodableSize};
 ghost use Rattle.wasm_custom.specs.Lists.{list_encoding};
@@ -16,7 +16,7 @@ use crate::counted::{DecodesItems, ItemsAs, append_counted, read_counted};
 use crate::entries::{CustomEntries, CustomKind};
 use crate::lists::{CountedList, ListKind};
 use std::alloc::{Allocator, Global};
-use wasm_base::{Kind, Lent, ReadFault, Readable, Result, Shorten};
+use wasm_base::{DecodeError, Grammar, Kind, Lent, Readable, Result, Shorten};
 
 /// The values of a producers field: the tools that produced the module, and their versions.
 pub type ProducersField<A = Global> = CountedList<ValueMembers, A>;
@@ -128,30 +128,34 @@ impl<'a, A: Allocator> ItemsAs<(&'a str, Vec<(&'a str, &'a str), A>)> for Produc
     }
 }
 
-impl<'a, A: Allocator + Copy + 'a> DecodesItems<'a, (&'a str, Vec<(&'a str, &'a str), A>), A>
-    for ProducerItems {
+impl<'a, A: Allocator + Copy + 'a, G: Grammar> DecodesItems<
+    'a,
+    (&'a str, Vec<(&'a str, &'a str), A>),
+    A,
+    G,
+> for ProducerItems {
     fn read_item(
         bytes: &'a [u8],
         alloc: A,
-    ) -> Result<((&'a str, Vec<(&'a str, &'a str), A>), &'a [u8]), ReadFault> {
-        <(&'a str, Vec<(&'a str, &'a str), A>) as Readable<'a, A>>::read(bytes, alloc)
+    ) -> Result<((&'a str, Vec<(&'a str, &'a str), A>), &'a [u8]), DecodeError> {
+        <(&'a str, Vec<(&'a str, &'a str), A>) as Readable<'a, A, G>>::read(bytes, alloc)
     }
 }
 
-/// Decodes the payload of a producers section: its fields, each a name and its values, which are a
-/// name and a version.
+/// Decodes the payload of a producers section, in the grammar `G`: its fields, each a name and its
+/// values, which are a name and a version.
 ///
 /// # Errors
 ///
 /// Any error but `Memory` means that the bytes are not such a payload.
-pub fn read_producers<'a, A: Allocator + Copy + 'a>(
+pub fn read_producers<'a, A: Allocator + Copy + 'a, G: Grammar>(
     bytes: &'a [u8],
     alloc: A,
-) -> Result<Vec<(&'a str, Vec<(&'a str, &'a str), A>), A>, ReadFault>
-    ensures found { IfOk result (λ x. producers_payload padded bytes.now (map field_view x.items)) }
-    ensures none { IfErr result (λ e. e ≢ Memory → RejectsWhole producers_payload bytes.now) }
+) -> Result<Vec<(&'a str, Vec<(&'a str, &'a str), A>), A>, DecodeError>
+    ensures found { IfOk result (λ x. producers_payload (padded_of G.grammar) bytes.now (map field_view x.items)) }
+    ensures none { IfErr result (λ e. e.cause ≢ Memory → RejectsWhole producers_payload (padded_of G.grammar) bytes.now) }
 {
-    read_counted::<'a, ProducerItems, (&'a str, Vec<(&'a str, &'a str), A>), A>(bytes, alloc)
+    read_counted::<'a, ProducerItems, (&'a str, Vec<(&'a str, &'a str), A>), A, G>(bytes, alloc)
 }
 
 /// Appends the minimal encoding of the payload of a producers section of these fields. On an error,

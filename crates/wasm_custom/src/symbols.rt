@@ -1,11 +1,11 @@
 // The symbol table of a linking section: its builder, its reader and its minimizer.
 ghost use Rattle.std.specs.Prelude.{◌≡◌, ◌∷◌, [], IfSome, IsUtf8, ⊤, ◌≢◌, IfOk, IfErr, Err, OnOk, option_map, None, Some};
 ghost use Rattle.wasm_base.specs.Calls.{Adds};
-ghost use Rattle.wasm_base.specs.Formats.{name as name_format, optional};
-ghost use Rattle.wasm_base.specs.Numbers.{padded};
+ghost use Rattle.wasm_base.specs.Formats.{name as name_format, optional, prefixed};
+ghost use Rattle.wasm_base.specs.Numbers.{padded_of};
 ghost use Rattle.wasm_base.specs.Decoding.{Unambiguous, Decodes, Rejects};
 ghost use Rattle.wasm_base.specs.Encodings.{size_prefixed_encoding, HasEncodableSize, optional_encoding};
-ghost use Rattle.wasm_custom.specs.Symbols.{kind_code, indexed_encoding, of_data_encoding, definition_encoding, Symbol as SymbolModel, symbol_encoding, IsDefinition, IsGivenSymbol, indexed, of_data, has_name as flags_name, has_definition as flags_definition, definition as definition_format, indexed_symbol, data_symbol, symbol, symbol_view};
+ghost use Rattle.wasm_custom.specs.Symbols.{kind_code, indexed_encoding, of_data_encoding, definition_encoding, Symbol as SymbolModel, symbol_encoding, IsDefinition, IsGivenSymbol, indexed, of_data, of_section, has_name as flags_name, has_definition as flags_definition, definition as definition_format, IsBuiltKind, indexed_symbol, data_symbol, section_symbol, symbol, symbol_view};
 ghost use Rattle.wasm_custom.specs.declared.symbols.DataSymbolDefinition.{DataSymbolDefinition as DefinitionModel};
 ghost use Rattle.wasm_custom.specs.declared.symbols.SymbolKind.TheVariants as kinds;
 ghost use Rattle.wasm_base.specs.declared.refused.Refused.TheVariants.{TooLong};
@@ -13,12 +13,16 @@ ghost use Rattle.wasm_base.specs.Minimal.{AppendsMinimal, IsFrontOf, HasEncoding
 ghost use Rattle.wasm_base.specs.declared.fault.ReadFault.TheVariants.{Memory};
 
 use crate::lists::{CountedList, ListKind};
+use crate::standard::require_standard;
 use std::alloc::{Allocator, Global};
 use wasm_base::laws::plain_name;
-use wasm_base::{Encode, Layout, Optional, ReadFault, Readable, Result, Shorten, read_optional};
+use wasm_base::{
+    DecodeError, Encode, Grammar, Layout, Optional, ReadFault, Readable, Result, Shorten,
+    read_optional,
+};
 
 /// A symbol table: the symbols of a module, in the order in which they are added. It is encoded as
-/// subsection 8 of a linking section.
+/// subsection 8 of a linking section. `ObjectSymbols` has further kinds of symbols.
 ///
 /// ```rust
 /// let mut symbols = SymbolTable::new(alloc);
@@ -71,6 +75,7 @@ impl Encode for DataSymbolDefinition {
 pub enum SymbolKind {
     Function = 0x00,
     Global = 0x02,
+    Tag = 0x04,
     Table = 0x05,
 }
 
@@ -87,7 +92,7 @@ impl Encode for SymbolKind {
 
 /// Proves that a name, if there is one, is UTF-8. The function does nothing.
 #[inline]
-fn given_name(name: Option<&str>)
+pub(crate) fn given_name(name: Option<&str>)
     ensures { IfSome name.entry (λ n. IsUtf8 n.now) }
 {
     if let Some(name) = name {
@@ -98,7 +103,7 @@ fn given_name(name: Option<&str>)
 /// Proves that the numbers of a definition, if there is one, are in range. The function does
 /// nothing.
 #[inline]
-fn given_definition(definition: Option<DataSymbolDefinition>)
+pub(crate) fn given_definition(definition: Option<DataSymbolDefinition>)
     ensures { IfSome definition IsDefinition }
 {
     if let Some(given) = definition {
@@ -140,7 +145,7 @@ const _: () = prove!(<SymbolTable>::WASM_SYM_EXPLICIT_NAME == 0x40);
 const _: () = prove!(<SymbolTable>::WASM_SYM_NO_STRIP == 0x80);
 
 impl<A: Allocator> SymbolTable<A> {
-    /// Adds a symbol with an index.
+    /// Adds a symbol with an index, of a kind that the builders' grammar has.
     fn indexed(
         &mut self,
         kind: SymbolKind,
@@ -148,6 +153,7 @@ impl<A: Allocator> SymbolTable<A> {
         index: u32,
         name: Option<&str>,
     ) -> Result<()>
+        requires { IsBuiltKind kind }
         ensures { Adds (indexed_encoding kind flags index (optional_encoding (λ n. size_prefixed_encoding n.now) name.entry)) (IfSome name.entry (λ n. HasEncodableSize n.now)) self.old self.new result }
     {
         given_name(name);
@@ -215,6 +221,18 @@ pub enum Symbol<'a> {
         /// `None` if the flags say that the data are not defined in this module.
         definition: Option<DataSymbolDefinition>,
     },
+    /// A section, which only the standard's grammar has as a symbol.
+    Section {
+        flags: u32,
+        /// The index of the section in the module.
+        section: u32,
+    },
+    /// A tag, which only the standard's grammar has as a symbol.
+    Tag {
+        flags: u32,
+        index: u32,
+        name: Option<&'a str>,
+    },
 }
 
 /// Returns `true` if the encoding of a symbol with an index has a name.
@@ -236,20 +254,21 @@ fn has_definition(flags: u32) -> bool
 
 /// Decodes a symbol with an index, after the byte of its kind.
 #[tactic(auto, using(crate::proofs::SymbolLaws::indexed_decodes))]
-fn read_indexed<'a, A: Allocator + Copy>(
+fn read_indexed<'a, A: Allocator + Copy, G: Grammar>(
     kind: SymbolKind,
     bytes: &'a [u8],
     alloc: A,
-) -> Result<(Symbol<'a>, &'a [u8]), ReadFault>
-    ensures found { IfOk result (λ x. Decodes (indexed_symbol kind) padded bytes.now (symbol_view x.0) x.1.now) }
-    ensures none { IfErr result (λ e. e ≢ Memory → Rejects (indexed_symbol kind) padded bytes.now) }
+) -> Result<(Symbol<'a>, &'a [u8]), DecodeError>
+    ensures found { IfOk result (λ x. Decodes (indexed_symbol kind) (padded_of G.grammar) bytes.now (symbol_view x.0) x.1.now) }
+    ensures none { IfErr result (λ e. e.cause ≢ Memory → Rejects (indexed_symbol kind) (padded_of G.grammar) bytes.now) }
 {
-    let (flags, rest) = <u32 as Readable<'a, A>>::read(bytes, alloc)?;
-    let (index, rest) = <u32 as Readable<'a, A>>::read(rest, alloc)?;
-    let (name, rest) = read_optional::<'a, &'a str, A>(has_name(flags), rest, alloc)?;
+    let (flags, rest) = <u32 as Readable<'a, A, G>>::read(bytes, alloc)?;
+    let (index, rest) = <u32 as Readable<'a, A, G>>::read(rest, alloc)?;
+    let (name, rest) = read_optional::<'a, &'a str, A, G>(has_name(flags), rest, alloc)?;
     let symbol = match kind {
         SymbolKind::Function => Symbol::Function { flags, index, name },
         SymbolKind::Global => Symbol::Global { flags, index, name },
+        SymbolKind::Tag => Symbol::Tag { flags, index, name },
         SymbolKind::Table => Symbol::Table { flags, index, name },
     };
     Ok((symbol, rest))
@@ -266,10 +285,10 @@ impl Layout for DataSymbolDefinition {
     fn laws() {}
 }
 
-impl<'a, A: Allocator + Copy> Readable<'a, A> for DataSymbolDefinition {
+impl<'a, A: Allocator + Copy, G: Grammar> Readable<'a, A, G> for DataSymbolDefinition {
     #[tactic(auto, using(crate::proofs::SymbolLaws::definition_decodes))]
-    fn read(bytes: &'a [u8], alloc: A) -> Result<(DataSymbolDefinition, &'a [u8]), ReadFault> {
-        let ((index, (offset, size)), rest) = <(u32, (u32, u32)) as Readable<'a, A>>::read(
+    fn read(bytes: &'a [u8], alloc: A) -> Result<(DataSymbolDefinition, &'a [u8]), DecodeError> {
+        let ((index, (offset, size)), rest) = <(u32, (u32, u32)) as Readable<'a, A, G>>::read(
             bytes, alloc,
         )?;
         let definition = DataSymbolDefinition {
@@ -283,16 +302,16 @@ impl<'a, A: Allocator + Copy> Readable<'a, A> for DataSymbolDefinition {
 
 /// Decodes a definition if the flag is set, and returns `None` otherwise.
 #[tactic(auto, using(wasm_base::proofs::Tags::optional_steps))]
-fn read_definition<'a, A: Allocator + Copy>(
+fn read_definition<'a, A: Allocator + Copy, G: Grammar>(
     given: bool,
     bytes: &'a [u8],
     alloc: A,
-) -> Result<(Option<DataSymbolDefinition>, &'a [u8]), ReadFault>
-    ensures found { IfOk result (λ x. Decodes (optional given definition_format) padded bytes.now x.0 x.1.now) }
-    ensures none { IfErr result (λ e. e ≢ Memory → Rejects (optional given definition_format) padded bytes.now) }
+) -> Result<(Option<DataSymbolDefinition>, &'a [u8]), DecodeError>
+    ensures found { IfOk result (λ x. Decodes (optional given definition_format) (padded_of G.grammar) bytes.now x.0 x.1.now) }
+    ensures none { IfErr result (λ e. e.cause ≢ Memory → Rejects (optional given definition_format) (padded_of G.grammar) bytes.now) }
 {
     if given {
-        let (definition, rest) = <DataSymbolDefinition as Readable<'a, A>>::read(bytes, alloc)?;
+        let (definition, rest) = <DataSymbolDefinition as Readable<'a, A, G>>::read(bytes, alloc)?;
         Ok((Some(definition), rest))
     } else {
         Ok((None, bytes))
@@ -301,16 +320,16 @@ fn read_definition<'a, A: Allocator + Copy>(
 
 /// Decodes a data symbol, after the byte of its kind.
 #[tactic(auto, using(crate::proofs::SymbolLaws::data_steps))]
-fn read_data<'a, A: Allocator + Copy>(
+fn read_data<'a, A: Allocator + Copy, G: Grammar>(
     bytes: &'a [u8],
     alloc: A,
-) -> Result<(Symbol<'a>, &'a [u8]), ReadFault>
-    ensures found { IfOk result (λ x. Decodes data_symbol padded bytes.now (symbol_view x.0) x.1.now) }
-    ensures none { IfErr result (λ e. e ≢ Memory → Rejects data_symbol padded bytes.now) }
+) -> Result<(Symbol<'a>, &'a [u8]), DecodeError>
+    ensures found { IfOk result (λ x. Decodes data_symbol (padded_of G.grammar) bytes.now (symbol_view x.0) x.1.now) }
+    ensures none { IfErr result (λ e. e.cause ≢ Memory → Rejects data_symbol (padded_of G.grammar) bytes.now) }
 {
-    let (flags, rest) = <u32 as Readable<'a, A>>::read(bytes, alloc)?;
-    let (name, rest) = <&'a str as Readable<'a, A>>::read(rest, alloc)?;
-    let (definition, rest) = read_definition(has_definition(flags), rest, alloc)?;
+    let (flags, rest) = <u32 as Readable<'a, A, G>>::read(bytes, alloc)?;
+    let (name, rest) = <&'a str as Readable<'a, A, G>>::read(rest, alloc)?;
+    let (definition, rest) = read_definition::<A, G>(has_definition(flags), rest, alloc)?;
     Ok((
         Symbol::DataSymbol {
             flags,
@@ -319,6 +338,20 @@ fn read_data<'a, A: Allocator + Copy>(
         },
         rest,
     ))
+}
+
+/// Decodes a section symbol, after the byte of its kind.
+#[tactic(auto, using(crate::proofs::SymbolLaws::section_steps))]
+fn read_section<'a, A: Allocator + Copy, G: Grammar>(
+    bytes: &'a [u8],
+    alloc: A,
+) -> Result<(Symbol<'a>, &'a [u8]), DecodeError>
+    ensures found { IfOk result (λ x. Decodes section_symbol (padded_of G.grammar) bytes.now (symbol_view x.0) x.1.now) }
+    ensures none { IfErr result (λ e. e.cause ≢ Memory → Rejects section_symbol (padded_of G.grammar) bytes.now) }
+{
+    let (flags, rest) = <u32 as Readable<'a, A, G>>::read(bytes, alloc)?;
+    let (section, rest) = <u32 as Readable<'a, A, G>>::read(rest, alloc)?;
+    Ok((Symbol::Section { flags, section }, rest))
 }
 
 impl<'a> Layout for Symbol<'a> {
@@ -334,28 +367,37 @@ impl<'a> Layout for Symbol<'a> {
     {}
 }
 
-impl<'a, A: Allocator + Copy> Readable<'a, A> for Symbol<'a> {
-    #[tactic(auto, using(crate::proofs::SymbolLaws::symbol_steps))]
-    fn read(bytes: &'a [u8], alloc: A) -> Result<(Symbol<'a>, &'a [u8]), ReadFault> {
-        let (kind, rest) = <u8 as Readable<'a, A>>::read(bytes, alloc)?;
+impl<'a, A: Allocator + Copy, G: Grammar> Readable<'a, A, G> for Symbol<'a> {
+    fn read(bytes: &'a [u8], alloc: A) -> Result<(Symbol<'a>, &'a [u8]), DecodeError> {
+        let (kind, rest) = <u8 as Readable<'a, A, G>>::read(bytes, alloc)?;
         match kind {
             0x00 => {
-                let (symbol, rest) = read_indexed(SymbolKind::Function, rest, alloc)?;
+                let (symbol, rest) = read_indexed::<A, G>(SymbolKind::Function, rest, alloc)?;
                 Ok((symbol, rest))
             }
             0x01 => {
-                let (symbol, rest) = read_data(rest, alloc)?;
+                let (symbol, rest) = read_data::<A, G>(rest, alloc)?;
                 Ok((symbol, rest))
             }
             0x02 => {
-                let (symbol, rest) = read_indexed(SymbolKind::Global, rest, alloc)?;
+                let (symbol, rest) = read_indexed::<A, G>(SymbolKind::Global, rest, alloc)?;
+                Ok((symbol, rest))
+            }
+            0x03 => {
+                require_standard::<G>(rest)?;
+                let (symbol, rest) = read_section::<A, G>(rest, alloc)?;
+                Ok((symbol, rest))
+            }
+            0x04 => {
+                require_standard::<G>(rest)?;
+                let (symbol, rest) = read_indexed::<A, G>(SymbolKind::Tag, rest, alloc)?;
                 Ok((symbol, rest))
             }
             0x05 => {
-                let (symbol, rest) = read_indexed(SymbolKind::Table, rest, alloc)?;
+                let (symbol, rest) = read_indexed::<A, G>(SymbolKind::Table, rest, alloc)?;
                 Ok((symbol, rest))
             }
-            _ => Err(ReadFault::UnknownTag),
+            _ => Err(ReadFault::UnknownTag.just_before(rest)),
         }
     }
 }
@@ -373,7 +415,7 @@ fn append_name<B: Allocator>(flags: u32, name: Option<&str>, sink: &mut Vec<u8, 
     }
 }
 
-/// Appends a symbol with an index.
+/// Appends a symbol with an index, whose kind is a byte.
 #[tactic(auto, using(crate::proofs::SymbolLaws::indexed_appended, crate::proofs::SymbolLaws::indexed_encoded))]
 fn append_indexed<B: Allocator>(
     kind: SymbolKind,
@@ -382,9 +424,9 @@ fn append_indexed<B: Allocator>(
     name: Option<&str>,
     sink: &mut Vec<u8, B>,
 ) -> Result<()>
-    ensures ok { OnOk result (AppendsMinimal symbol (indexed kind flags index (option_map (λ n. n.now) name.entry)) sink.old.items sink.new.items) }
+    ensures ok { OnOk result (AppendsMinimal (prefixed (kind_code kind ∷ []) (indexed_symbol kind)) (indexed kind flags index (option_map (λ n. n.now) name.entry)) sink.old.items sink.new.items) }
     ensures front { IsFrontOf sink.old.items sink.new.items }
-    ensures too_long { HasEncoding symbol (indexed kind flags index (option_map (λ n. n.now) name.entry)) → result ≢ Err TooLong }
+    ensures too_long { HasEncoding (prefixed (kind_code kind ∷ []) (indexed_symbol kind)) (indexed kind flags index (option_map (λ n. n.now) name.entry)) → result ≢ Err TooLong }
 {
     kind.encode(sink)?;
     flags.write_minimal(sink)?;
@@ -409,7 +451,7 @@ fn append_definition<B: Allocator>(
     }
 }
 
-/// Appends a data symbol.
+/// Appends a data symbol, whose kind is 01.
 #[tactic(auto, using(crate::proofs::SymbolLaws::data_appended, crate::proofs::SymbolLaws::data_name_encoded, crate::proofs::SymbolLaws::data_definition_encoded))]
 fn append_data<B: Allocator>(
     flags: u32,
@@ -417,9 +459,9 @@ fn append_data<B: Allocator>(
     definition: Option<DataSymbolDefinition>,
     sink: &mut Vec<u8, B>,
 ) -> Result<()>
-    ensures ok { OnOk result (AppendsMinimal symbol (of_data flags name.now definition) sink.old.items sink.new.items) }
+    ensures ok { OnOk result (AppendsMinimal (prefixed (0x01 ∷ []) data_symbol) (of_data flags name.now definition) sink.old.items sink.new.items) }
     ensures front { IsFrontOf sink.old.items sink.new.items }
-    ensures too_long { HasEncoding symbol (of_data flags name.now definition) → result ≢ Err TooLong }
+    ensures too_long { HasEncoding (prefixed (0x01 ∷ []) data_symbol) (of_data flags name.now definition) → result ≢ Err TooLong }
 {
     0x01u8.encode(sink)?;
     flags.write_minimal(sink)?;
@@ -427,7 +469,20 @@ fn append_data<B: Allocator>(
     append_definition(flags, definition, sink)
 }
 
+/// Appends a section symbol, whose kind is 03.
+#[tactic(auto, using(crate::proofs::SymbolLaws::section_appended))]
+fn append_section<B: Allocator>(flags: u32, section: u32, sink: &mut Vec<u8, B>) -> Result<()>
+    ensures ok { OnOk result (AppendsMinimal (prefixed (0x03 ∷ []) section_symbol) (of_section flags section) sink.old.items sink.new.items) }
+    ensures front { IsFrontOf sink.old.items sink.new.items }
+    ensures too_long { result ≢ Err TooLong }
+{
+    0x03u8.encode(sink)?;
+    flags.write_minimal(sink)?;
+    section.write_minimal(sink)
+}
+
 impl<'a> Shorten for Symbol<'a> {
+    #[tactic(auto, using(crate::proofs::SymbolLaws::short_steps))]
     fn write_minimal<B: Allocator>(&self, sink: &mut Vec<u8, B>) -> Result<()> {
         match *self {
             Symbol::Function { flags, index, name } => {
@@ -444,6 +499,10 @@ impl<'a> Shorten for Symbol<'a> {
                 name,
                 definition,
             } => append_data(flags, name, definition, sink),
+            Symbol::Section { flags, section } => append_section(flags, section, sink),
+            Symbol::Tag { flags, index, name } => {
+                append_indexed(SymbolKind::Tag, flags, index, name, sink)
+            }
         }
     }
 }

@@ -1,14 +1,14 @@
 -- This file proves how readers decode immediates.
-use Rattle.wasm_base.proofs.Words.{◌≡◌, ◌≢◌, ◌⊎◌, inl, inr, ℕ, ◌<◌, ◌≤◌, ◌/◌, ◌%◌, ◌^◌, ◌==◌, List, ◌∷◌, Bool, true, false, Option, Some, None, option_map, refl, sym, ap, subst, arith, lt-ltb, le-ltb}
-use Rattle.wasm_base.proofs.Words.{padded, Format, u32, u64, byte, s33, choice, impossible, mapped, tagged, pair, optional, when, Decodes, Rejects, val_tags, val_ref, IsIndexByte, byte_unambiguous}
-use Rattle.wasm_base.proofs.Words.{optional_unambiguous, u32_unambiguous, begins_s33, val_begins, u32_byte, no_index_byte, then_decodes, then_rejects_first, then_rejects_second, mapped_decodes}
-use Rattle.wasm_base.proofs.Words.{mapped_rejects, such_decodes, such_none, such_rejects, tagged_decodes, tagged_none, tagged_rejects, no_choice, choice_other, fixed_decodes, impossible_rejects}
-use Rattle.wasm_base.proofs.Words.{optional_none, one_of_rejects, one_of_left, one_of_right, not_begun, no_bytes, code_decodes, code_none, code_unknown}
+use Rattle.wasm_base.proofs.Words.{val_type_rejects, val_type_none, begins_fixed, val_type_decodes, val_type, [], IsValByte, BeginsWith, fixed, after_byte, ◌∙◌, Mode, Grammar, padded_of, ◌≡◌, ◌≢◌}
+use Rattle.wasm_base.proofs.Words.{◌⊎◌, inl, inr, ℕ, ◌<◌, ◌≤◌, ◌/◌, ◌%◌, ◌^◌, ◌==◌, List, ◌∷◌, Bool, true, false, Option, Some, None, option_map, refl, sym, ap, subst, arith, lt-ltb, le-ltb, Format}
+use Rattle.wasm_base.proofs.Words.{u32, u64, byte, s33, choice, impossible, pair, optional, when, Decodes, Rejects, IsIndexByte, byte_unambiguous, optional_unambiguous, u32_unambiguous, begins_s33}
+use Rattle.wasm_base.proofs.Words.{val_begins, u32_byte, no_index_byte, then_decodes, then_rejects_first, then_rejects_second, mapped_decodes, mapped_rejects, such_decodes, such_none, such_rejects}
+use Rattle.wasm_base.proofs.Words.{tagged_decodes, tagged_none, tagged_rejects, no_choice, fixed_decodes, impossible_rejects, optional_none, one_of_rejects, not_begun, no_bytes, code_decodes}
+use Rattle.wasm_base.proofs.Words.{code_none, code_unknown}
 use Rattle.wasm_base.specs.declared.types.ValType.{ValType}
 use Rattle.wasm_immediates.specs.declared.memory.Ordering.{Ordering}
 use Rattle.wasm_immediates.specs.declared.memory.MemArgOrdering.{MemArgOrdering}
 use Rattle.wasm_immediates.specs.declared.memory.MemArg.{MemArg}
-use Rattle.wasm_immediates.specs.declared.block_type.BlockType.{BlockType}
 use Rattle.wasm_immediates.specs.declared.control.Catch.{Catch}
 use Rattle.wasm_immediates.specs.declared.control.Handle.{Handle}
 use Rattle.wasm_immediates.specs.{ordering_code, block_type, ordering_format, mem_orderings, mem_ordering, bit, target_of, mem_arg_of, mem_arg_with, after_flags, mem_arg, one_of_pair, one_ref_of_pair}
@@ -18,19 +18,19 @@ use Rattle.wasm_immediates.specs.declared.memory.MemArgTarget.{MemArgTarget}
 use Rattle.wasm_immediates.specs.declared.memory.MemArgTarget.TheVariants.{Memory, Array}
 use Rattle.wasm_immediates.specs.declared.control.Catch.TheVariants.{One, OneRef, All, AllRef}
 use Rattle.wasm_immediates.specs.declared.control.Handle.TheVariants.{OnLabel, OnSwitch}
-use Rattle.wasm_immediates.proofs.ImmediateLaws.{target_unambiguous, mem_ordering_unambiguous, block_tags, block_result}
+use Rattle.wasm_immediates.proofs.ImmediateLaws.{target_unambiguous, mem_ordering_unambiguous}
 use Rattle.wasm_immediates.specs.declared.memory.MemArgOrdering.TheVariants as orders
 use Rattle.wasm_immediates.specs.declared.block_type.BlockType.TheVariants as blocks
 
 -- ---- orderings
 
-pub ordering_decodes : (bytes rest : List ℕ) (b : ℕ) (o : Ordering) → Decodes byte padded bytes b rest → b ≡ ordering_code o → Decodes ordering_format padded bytes o rest
+pub ordering_decodes : {m : Mode} (bytes rest : List ℕ) (b : ℕ) (o : Ordering) → Decodes byte m bytes b rest → b ≡ ordering_code o → Decodes ordering_format m bytes o rest
 ordering_decodes = code_decodes ordering_code
 
-pub ordering_none : (bytes : List ℕ) → Rejects byte padded bytes → Rejects ordering_format padded bytes
+pub ordering_none : {m : Mode} (bytes : List ℕ) → Rejects byte m bytes → Rejects ordering_format m bytes
 ordering_none = code_none ordering_code
 
-pub ordering_unknown : (bytes rest : List ℕ) (b : ℕ) → Decodes byte padded bytes b rest → 2 ≤ b → Rejects ordering_format padded bytes
+pub ordering_unknown : {m : Mode} (bytes rest : List ℕ) (b : ℕ) → Decodes byte m bytes b rest → 2 ≤ b → Rejects ordering_format m bytes
 ordering_unknown bytes rest b h l = code_unknown ordering_code bytes rest b h other
   where
     other : (o : Ordering) → b ≢ ordering_code o
@@ -42,47 +42,47 @@ pub ruleset ordering_steps = (ordering_decodes, ordering_none, ordering_unknown)
 abbrev after_order : ℕ → Format MemArgOrdering
 after_order b = choice mem_orderings (λ c. impossible) b
 
-mem_tag : (bytes rest : List ℕ) (b c : ℕ) (o : MemArgOrdering) → Decodes byte padded bytes b rest → b ≡ c → Decodes (after_order c) padded rest o rest → Decodes mem_ordering padded bytes o rest
-mem_tag bytes rest b c o h e g = tagged_decodes {G = after_order} h (subst (λ c. Decodes (after_order c) padded rest o rest) (sym e) g)
+mem_tag : {m : Mode} (bytes rest : List ℕ) (b c : ℕ) (o : MemArgOrdering) → Decodes byte m bytes b rest → b ≡ c → Decodes (after_order c) m rest o rest → Decodes mem_ordering m bytes o rest
+mem_tag {m = m} bytes rest b c o h e g = tagged_decodes {G = after_order} h (subst (λ c. Decodes (after_order c) m rest o rest) (sym e) g)
 
-pub mem_seq_cst : (bytes rest : List ℕ) (b : ℕ) → Decodes byte padded bytes b rest → b ≡ 0x00 → Decodes mem_ordering padded bytes (orders.Op SeqCst) rest
+pub mem_seq_cst : {m : Mode} (bytes rest : List ℕ) (b : ℕ) → Decodes byte m bytes b rest → b ≡ 0x00 → Decodes mem_ordering m bytes (orders.Op SeqCst) rest
 mem_seq_cst bytes rest b h e = mem_tag bytes rest b 0x00 (orders.Op SeqCst) h e (fixed_decodes rest (orders.Op SeqCst))
 
-pub mem_acq_rel : (bytes rest : List ℕ) (b : ℕ) → Decodes byte padded bytes b rest → b ≡ 0x01 → Decodes mem_ordering padded bytes (orders.Op AcqRel) rest
+pub mem_acq_rel : {m : Mode} (bytes rest : List ℕ) (b : ℕ) → Decodes byte m bytes b rest → b ≡ 0x01 → Decodes mem_ordering m bytes (orders.Op AcqRel) rest
 mem_acq_rel bytes rest b h e = mem_tag bytes rest b 0x01 (orders.Op AcqRel) h e (fixed_decodes rest (orders.Op AcqRel))
 
-pub mem_rmw : (bytes rest : List ℕ) (b : ℕ) → Decodes byte padded bytes b rest → b ≡ 0x11 → Decodes mem_ordering padded bytes (orders.Rmw AcqRel) rest
+pub mem_rmw : {m : Mode} (bytes rest : List ℕ) (b : ℕ) → Decodes byte m bytes b rest → b ≡ 0x11 → Decodes mem_ordering m bytes (orders.Rmw AcqRel) rest
 mem_rmw bytes rest b h e = mem_tag bytes rest b 0x11 (orders.Rmw AcqRel) h e (fixed_decodes rest (orders.Rmw AcqRel))
 
-pub mem_order_none : (bytes : List ℕ) → Rejects byte padded bytes → Rejects mem_ordering padded bytes
+pub mem_order_none : {m : Mode} (bytes : List ℕ) → Rejects byte m bytes → Rejects mem_ordering m bytes
 mem_order_none bytes n = tagged_none byte after_order bytes n
 
-pub mem_order_unknown : (bytes rest : List ℕ) (b : ℕ) → Decodes byte padded bytes b rest → b ≢ 0x00 → b ≢ 0x01 → b ≢ 0x11 → Rejects mem_ordering padded bytes
+pub mem_order_unknown : {m : Mode} (bytes rest : List ℕ) (b : ℕ) → Decodes byte m bytes b rest → b ≢ 0x00 → b ≢ 0x01 → b ≢ 0x11 → Rejects mem_ordering m bytes
 mem_order_unknown bytes rest b h p q r = tagged_rejects {G = after_order} byte_unambiguous h (no_choice mem_orderings b rest (p, (q, (r, tt))))
 
 pub ruleset mem_ordering_steps = (mem_seq_cst, mem_acq_rel, mem_rmw, mem_order_none, mem_order_unknown)
 
 -- ---- targets
 
-pub target_memory_0 : (array other : Bool) (bytes : List ℕ) → array ≡ false → other ≡ false → Decodes (target_of array other) padded bytes (Memory 0) bytes
+pub target_memory_0 : {m : Mode} (array other : Bool) (bytes : List ℕ) → array ≡ false → other ≡ false → Decodes (target_of array other) m bytes (Memory 0) bytes
 target_memory_0 array other bytes e f = rw (e, f) (fixed_decodes bytes (Memory 0))
 
-pub target_array : (array other : Bool) (bytes rest : List ℕ) (n : ℕ) → array ≡ true → other ≡ false → Decodes u32 padded bytes n rest → Decodes (target_of array other) padded bytes (Array n) rest
+pub target_array : {m : Mode} (array other : Bool) (bytes rest : List ℕ) (n : ℕ) → array ≡ true → other ≡ false → Decodes u32 m bytes n rest → Decodes (target_of array other) m bytes (Array n) rest
 target_array array other bytes rest n e f h = rw (e, f) (mapped_decodes Array h)
 
-pub target_memory : (array other : Bool) (bytes rest : List ℕ) (n : ℕ) → array ≡ false → other ≡ true → Decodes u32 padded bytes n rest → n ≢ 0 → Decodes (target_of array other) padded bytes (Memory n) rest
+pub target_memory : {m : Mode} (array other : Bool) (bytes rest : List ℕ) (n : ℕ) → array ≡ false → other ≡ true → Decodes u32 m bytes n rest → n ≢ 0 → Decodes (target_of array other) m bytes (Memory n) rest
 target_memory array other bytes rest n e f h p = rw (e, f) (mapped_decodes Memory (such_decodes (λ n. 0 < n) h (omega (arith, p))))
 
-pub target_both : (array other : Bool) (bytes : List ℕ) → array ≡ true → other ≡ true → Rejects (target_of array other) padded bytes
+pub target_both : {m : Mode} (array other : Bool) (bytes : List ℕ) → array ≡ true → other ≡ true → Rejects (target_of array other) m bytes
 target_both array other bytes e f = rw (e, f) (impossible_rejects bytes)
 
-pub target_no_array : (array other : Bool) (bytes : List ℕ) → array ≡ true → other ≡ false → Rejects u32 padded bytes → Rejects (target_of array other) padded bytes
+pub target_no_array : {m : Mode} (array other : Bool) (bytes : List ℕ) → array ≡ true → other ≡ false → Rejects u32 m bytes → Rejects (target_of array other) m bytes
 target_no_array array other bytes e f n = rw (e, f) (mapped_rejects Array n)
 
-pub target_no_memory : (array other : Bool) (bytes : List ℕ) → array ≡ false → other ≡ true → Rejects u32 padded bytes → Rejects (target_of array other) padded bytes
+pub target_no_memory : {m : Mode} (array other : Bool) (bytes : List ℕ) → array ≡ false → other ≡ true → Rejects u32 m bytes → Rejects (target_of array other) m bytes
 target_no_memory array other bytes e f n = rw (e, f) (mapped_rejects Memory (such_none (λ n. 0 < n) n))
 
-pub target_zero : (array other : Bool) (bytes rest : List ℕ) (n : ℕ) → array ≡ false → other ≡ true → Decodes u32 padded bytes n rest → n ≡ 0 → Rejects (target_of array other) padded bytes
+pub target_zero : {m : Mode} (array other : Bool) (bytes rest : List ℕ) (n : ℕ) → array ≡ false → other ≡ true → Decodes u32 m bytes n rest → n ≡ 0 → Rejects (target_of array other) m bytes
 target_zero array other bytes rest n e f h p = rw (e, f) (mapped_rejects Memory (such_rejects (λ n. 0 < n) u32_unambiguous h (λ l. omega (arith, l, p))))
 
 pub ruleset target_steps = (target_memory_0, target_array, target_memory, target_both, target_no_array, target_no_memory, target_zero)
@@ -99,32 +99,32 @@ mem_parts flags = pair (target_of (bit 5 flags) (bit 6 flags)) (pair (optional (
 abbrev pub mem_after : ℕ → Bool → Format MemArg
 mem_after flags low = when low (mem_arg_with (flags % 16) (bit 4 flags) (bit 5 flags) (bit 6 flags)) impossible
 
-pub memory_decodes : (bytes start next last end : List ℕ) (flags offset : ℕ) (t : MemArgTarget) (o : Option MemArgOrdering) → Decodes u32 padded bytes flags start → flags < 0x80 → Decodes (target_of (bit 5 flags) (bit 6 flags)) padded start t next
-    → Decodes (optional (bit 4 flags) mem_ordering) padded next (option_map (λ n. n) o) last → Decodes u64 padded last offset end → Decodes mem_arg padded bytes (record { offset = offset; align = flags % 16; target = t; ordering = o }) end
-memory_decodes bytes start next last end flags offset t o h l g k j =
+pub memory_decodes : {m : Mode} (bytes start next last end : List ℕ) (flags offset : ℕ) (t : MemArgTarget) (o : Option MemArgOrdering) → Decodes u32 m bytes flags start → flags < 0x80 → Decodes (target_of (bit 5 flags) (bit 6 flags)) m start t next
+    → Decodes (optional (bit 4 flags) mem_ordering) m next (option_map (λ n. n) o) last → Decodes u64 m last offset end → Decodes mem_arg m bytes (record { offset = offset; align = flags % 16; target = t; ordering = o }) end
+memory_decodes {m = m} bytes start next last end flags offset t o h l g k j =
     tagged_decodes {G = after_flags} h
-    (subst (λ low. Decodes (mem_after flags low) padded start (mem_arg_of (flags % 16) (t, (o, offset))) end) (sym (lt-ltb flags 0x80 l))
-    (mapped_decodes (mem_arg_of (flags % 16)) (then_decodes g (then_decodes (subst (λ z. Decodes (optional (bit 4 flags) mem_ordering) padded next z last) (option_same o) k) j))))
+    (subst (λ low. Decodes (mem_after flags low) m start (mem_arg_of (flags % 16) (t, (o, offset))) end) (sym (lt-ltb flags 0x80 l))
+    (mapped_decodes (mem_arg_of (flags % 16)) (then_decodes g (then_decodes (subst (λ z. Decodes (optional (bit 4 flags) mem_ordering) m next z last) (option_same o) k) j))))
 
-pub memory_none : (bytes : List ℕ) → Rejects u32 padded bytes → Rejects mem_arg padded bytes
+pub memory_none : {m : Mode} (bytes : List ℕ) → Rejects u32 m bytes → Rejects mem_arg m bytes
 memory_none bytes n = tagged_none u32 after_flags bytes n
 
-pub memory_unknown : (bytes rest : List ℕ) (flags : ℕ) → Decodes u32 padded bytes flags rest → 0x80 ≤ flags → Rejects mem_arg padded bytes
-memory_unknown bytes rest flags h l = tagged_rejects {G = after_flags} u32_unambiguous h (subst (λ low. Rejects (mem_after flags low) padded rest) (sym (le-ltb flags 0x80 l)) (impossible_rejects rest))
+pub memory_unknown : {m : Mode} (bytes rest : List ℕ) (flags : ℕ) → Decodes u32 m bytes flags rest → 0x80 ≤ flags → Rejects mem_arg m bytes
+memory_unknown {m = m} bytes rest flags h l = tagged_rejects {G = after_flags} u32_unambiguous h (subst (λ low. Rejects (mem_after flags low) m rest) (sym (le-ltb flags 0x80 l)) (impossible_rejects rest))
 
-memory_rejects : (bytes start : List ℕ) (flags : ℕ) → Decodes u32 padded bytes flags start → flags < 0x80 → Rejects (mem_parts flags) padded start → Rejects mem_arg padded bytes
-memory_rejects bytes start flags h l n =
-    tagged_rejects {G = after_flags} u32_unambiguous h (subst (λ low. Rejects (mem_after flags low) padded start) (sym (lt-ltb flags 0x80 l)) (mapped_rejects (mem_arg_of (flags % 16)) n))
+memory_rejects : {m : Mode} (bytes start : List ℕ) (flags : ℕ) → Decodes u32 m bytes flags start → flags < 0x80 → Rejects (mem_parts flags) m start → Rejects mem_arg m bytes
+memory_rejects {m = m} bytes start flags h l n =
+    tagged_rejects {G = after_flags} u32_unambiguous h (subst (λ low. Rejects (mem_after flags low) m start) (sym (lt-ltb flags 0x80 l)) (mapped_rejects (mem_arg_of (flags % 16)) n))
 
-pub memory_no_target : (bytes start : List ℕ) (flags : ℕ) → Decodes u32 padded bytes flags start → flags < 0x80 → Rejects (target_of (bit 5 flags) (bit 6 flags)) padded start → Rejects mem_arg padded bytes
+pub memory_no_target : {m : Mode} (bytes start : List ℕ) (flags : ℕ) → Decodes u32 m bytes flags start → flags < 0x80 → Rejects (target_of (bit 5 flags) (bit 6 flags)) m start → Rejects mem_arg m bytes
 memory_no_target bytes start flags h l n = memory_rejects bytes start flags h l (then_rejects_first n)
 
-pub memory_no_ordering : (bytes start next : List ℕ) (flags : ℕ) (t : MemArgTarget) → Decodes u32 padded bytes flags start → flags < 0x80 → Decodes (target_of (bit 5 flags) (bit 6 flags)) padded start t next
-    → Rejects (optional (bit 4 flags) mem_ordering) padded next → Rejects mem_arg padded bytes
+pub memory_no_ordering : {m : Mode} (bytes start next : List ℕ) (flags : ℕ) (t : MemArgTarget) → Decodes u32 m bytes flags start → flags < 0x80 → Decodes (target_of (bit 5 flags) (bit 6 flags)) m start t next
+    → Rejects (optional (bit 4 flags) mem_ordering) m next → Rejects mem_arg m bytes
 memory_no_ordering bytes start next flags t h l g n = memory_rejects bytes start flags h l (then_rejects_second (target_unambiguous (bit 5 flags) (bit 6 flags)) g (then_rejects_first n))
 
-pub memory_no_offset : (bytes start next last : List ℕ) (flags : ℕ) (t : MemArgTarget) (o : Option MemArgOrdering) → Decodes u32 padded bytes flags start → flags < 0x80 → Decodes (target_of (bit 5 flags) (bit 6 flags)) padded start t next
-    → Decodes (optional (bit 4 flags) mem_ordering) padded next (option_map (λ n. n) o) last → Rejects u64 padded last → Rejects mem_arg padded bytes
+pub memory_no_offset : {m : Mode} (bytes start next last : List ℕ) (flags : ℕ) (t : MemArgTarget) (o : Option MemArgOrdering) → Decodes u32 m bytes flags start → flags < 0x80 → Decodes (target_of (bit 5 flags) (bit 6 flags)) m start t next
+    → Decodes (optional (bit 4 flags) mem_ordering) m next (option_map (λ n. n) o) last → Rejects u64 m last → Rejects mem_arg m bytes
 memory_no_offset bytes start next last flags t o h l g k n =
     memory_rejects bytes start flags h l (then_rejects_second (target_unambiguous (bit 5 flags) (bit 6 flags)) g (then_rejects_second (optional_unambiguous (bit 4 flags) mem_ordering_unambiguous) k n))
 
@@ -133,71 +133,61 @@ unset : (place flags : ℕ) → flags / 2 ^ place % 2 ≡ 0 → bit place flags 
 unset place flags e = ap (λ z. z == 1) e
 
 module _ (bytes start : List ℕ) (flags : ℕ) (e : bytes ≡ flags ∷ start) (low : flags < 0x10) where
-  few_flags : Decodes u32 padded bytes flags start
-  few_flags = u32_byte bytes start flags flags e (omega (arith, low)) refl
+  few_flags : (w : Grammar) → Decodes u32 (padded_of w) bytes flags start
+  few_flags w = u32_byte w bytes start flags flags e (omega (arith, low)) refl
 
-  memory_0 : Decodes (target_of (bit 5 flags) (bit 6 flags)) padded start (Memory 0) start
+  memory_0 : {m : Mode} → Decodes (target_of (bit 5 flags) (bit 6 flags)) m start (Memory 0) start
   memory_0 = target_memory_0 (bit 5 flags) (bit 6 flags) start (unset 5 flags (omega (arith, low))) (unset 6 flags (omega (arith, low)))
 
-  no_order : Decodes (optional (bit 4 flags) mem_ordering) padded start None start
+  no_order : {m : Mode} → Decodes (optional (bit 4 flags) mem_ordering) m start None start
   no_order = optional_none mem_ordering (bit 4 flags) start (unset 4 flags (omega (arith, low)))
 
-  pub memory_plain : (last : List ℕ) (align offset : ℕ) → align ≡ flags → Decodes u64 padded start offset last → Decodes mem_arg padded bytes (record { offset = offset; align = align; target = Memory 0; ordering = None }) last
-  memory_plain last align offset is h =
+  pub memory_plain : (w : Grammar) (last : List ℕ) (align offset : ℕ) → align ≡ flags → Decodes u64 (padded_of w) start offset last → Decodes mem_arg (padded_of w) bytes (record { offset = offset; align = align; target = Memory 0; ordering = None }) last
+  memory_plain w last align offset is h =
       let same : flags % 16 ≡ align = omega (arith, low, is) in
-      subst (λ n. Decodes mem_arg padded bytes (record { offset = offset; align = n; target = Memory 0; ordering = None }) last) same
-      (memory_decodes bytes start start start last flags offset (Memory 0) None few_flags (omega (arith, low)) memory_0 no_order h)
+      subst (λ n. Decodes mem_arg (padded_of w) bytes (record { offset = offset; align = n; target = Memory 0; ordering = None }) last) same
+      (memory_decodes bytes start start start last flags offset (Memory 0) None (few_flags w) (omega (arith, low)) memory_0 no_order h)
 
-  pub memory_plain_none : Rejects u64 padded start → Rejects mem_arg padded bytes
-  memory_plain_none n = memory_no_offset bytes start start start flags (Memory 0) None few_flags (omega (arith, low)) memory_0 no_order n
+  pub memory_plain_none : (w : Grammar) → Rejects u64 (padded_of w) start → Rejects mem_arg (padded_of w) bytes
+  memory_plain_none w n = memory_no_offset bytes start start start flags (Memory 0) None (few_flags w) (omega (arith, low)) memory_0 no_order n
 
 pub ruleset memory_steps = (memory_decodes, memory_none, memory_unknown, memory_no_target, memory_no_ordering, memory_no_offset)
 
 -- ---- block types
 
-abbrev pub after_block : ℕ → Format BlockType
-after_block b = choice block_tags block_result b
+pub block_empty : {m : Mode} (bytes rest : List ℕ) (b : ℕ) → Decodes byte m bytes b rest → b ≡ 0x40 → Decodes block_type m bytes blocks.Empty rest
+block_empty bytes rest b h e = record { front = h.front; split = h.split; encodes = inl (h.encodes ∙ ap (λ z. z ∷ []) e, refl) }
 
-abbrev tagged_block : Format BlockType
-tagged_block = tagged byte after_block
+pub block_result_decodes : {m : Mode} (bytes rest last : List ℕ) (b : ℕ) (v : ValType) → Decodes byte m bytes b rest → Decodes (after_byte val_type b) m rest v last → Decodes block_type m bytes (blocks.Result v) last
+block_result_decodes bytes rest last b v h g = let k = val_type_decodes bytes rest last b v h g in record { front = k.front; split = k.split; encodes = inr (inl (v, refl, k.encodes)) }
 
-block_tagged : {bytes rest : List ℕ} {x : BlockType} → Decodes tagged_block padded bytes x rest → Decodes block_type padded bytes x rest
-block_tagged r = one_of_left (mapped blocks.FunctionType s33) r
+pub block_index : {m : Mode} (bytes rest : List ℕ) (n : ℕ) → Decodes s33 m bytes n rest → Decodes block_type m bytes (blocks.FunctionType n) rest
+block_index bytes rest n h = record { front = h.front; split = h.split; encodes = inr (inr (n, refl, h.encodes)) }
 
-is_result : (b : ℕ) → b ≢ 0x40 → after_block b ≡ block_result b
-is_result b p = choice_other block_tags block_result b (p, tt)
+block_rejects : {m : Mode} {bytes : List ℕ} → Rejects (fixed (0x40 ∷ []) blocks.Empty) m bytes → Rejects val_type m bytes → Rejects s33 m bytes → Rejects block_type m bytes
+block_rejects f g h = one_of_rejects f (one_of_rejects (mapped_rejects blocks.Result g) (mapped_rejects blocks.FunctionType h))
 
-pub block_empty : (bytes rest : List ℕ) (b : ℕ) → Decodes byte padded bytes b rest → b ≡ 0x40 → Decodes block_type padded bytes blocks.Empty rest
-block_empty bytes rest b h e = block_tagged (tagged_decodes {G = after_block} h (subst (λ c. Decodes (after_block c) padded rest blocks.Empty rest) (sym e) (fixed_decodes rest blocks.Empty)))
+empty_begins : BeginsWith (λ b. b ≡ 0x40) (fixed (0x40 ∷ []) blocks.Empty)
+empty_begins = begins_fixed (λ b. b ≡ 0x40) 0x40 [] blocks.Empty refl
 
-pub block_result_decodes : (bytes rest last : List ℕ) (b : ℕ) (v : ValType) → Decodes byte padded bytes b rest → b ≢ 0x40 → Decodes (choice val_tags val_ref b) padded rest v last → Decodes block_type padded bytes (blocks.Result v) last
-block_result_decodes bytes rest last b v h p g = block_tagged (tagged_decodes {G = after_block} h (subst (λ F. Decodes {X = BlockType} F padded rest (blocks.Result v) last) (sym (is_result b p)) (mapped_decodes blocks.Result g)))
+pub block_none : {m : Mode} (bytes : List ℕ) → Rejects byte m bytes → Rejects block_type m bytes
+block_none bytes n = block_rejects (no_bytes (λ b. b ≡ 0x40) (fixed (0x40 ∷ []) blocks.Empty) empty_begins n) (val_type_none bytes n) (no_bytes IsIndexByte s33 begins_s33 n)
 
-pub block_index : (bytes rest : List ℕ) (n : ℕ) → Decodes s33 padded bytes n rest → Decodes block_type padded bytes (blocks.FunctionType n) rest
-block_index bytes rest n h = one_of_right tagged_block (mapped_decodes blocks.FunctionType h)
+not_empty : {m : Mode} (bytes rest : List ℕ) (b : ℕ) → Decodes byte m bytes b rest → b ≢ 0x40 → Rejects (fixed (0x40 ∷ []) blocks.Empty) m bytes
+not_empty bytes rest b h p = not_begun (λ b. b ≡ 0x40) (fixed (0x40 ∷ []) blocks.Empty) empty_begins h p
 
-pub block_none : (bytes : List ℕ) → Rejects byte padded bytes → Rejects block_type padded bytes
-block_none bytes n = one_of_rejects (tagged_none byte after_block bytes n) (mapped_rejects blocks.FunctionType (no_bytes IsIndexByte s33 begins_s33 n))
-
-pub block_no_result : (bytes rest : List ℕ) (b : ℕ) → Decodes byte padded bytes b rest → 0x40 < b → b < 0x80 → Rejects (choice val_tags val_ref b) padded rest → Rejects block_type padded bytes
+pub block_no_result : {m : Mode} (bytes rest : List ℕ) (b : ℕ) → Decodes byte m bytes b rest → 0x40 < b → b < 0x80 → Rejects (after_byte val_type b) m rest → Rejects block_type m bytes
 block_no_result bytes rest b h l u n =
-    one_of_rejects
-    (tagged_rejects {G = after_block} byte_unambiguous h (subst (λ F. Rejects {X = BlockType} F padded rest) (sym (is_result b (omega (arith, l)))) (mapped_rejects blocks.Result n)))
-    (mapped_rejects blocks.FunctionType (not_begun IsIndexByte s33 begins_s33 h (no_index_byte b (omega (arith, l)) u)))
+    block_rejects (not_empty bytes rest b h (omega (arith, l))) (val_type_rejects bytes rest b h n) (not_begun IsIndexByte s33 begins_s33 h (no_index_byte b (omega (arith, l)) u))
 
-no_value : (bytes : List ℕ) (b : ℕ) → (b < 0x40) ⊎ (0x80 ≤ b) → Rejects (choice val_tags val_ref b) padded bytes
-no_value bytes b h = record {
-  none = λ x rest g.
-      let p = val_begins b padded g.front x g.encodes in
-      elim h [ inl l ↦ omega (arith, l, p.0) | inr l ↦ omega (arith, l, p.1) ];
-}
+no_value : (b : ℕ) → (b < 0x40) ⊎ (0x80 ≤ b) → IsValByte b → ⊥
+no_value b (inl l) v = elim v [ inl p ↦ omega (arith, l, p.0) | inr p ↦ omega (arith, l, p.0) ]
+no_value b (inr l) v = elim v [ inl p ↦ omega (arith, l, p.1) | inr p ↦ omega (arith, l, p.1) ]
 
-pub block_no_index : (bytes rest : List ℕ) (b : ℕ) → Decodes byte padded bytes b rest → (b < 0x40) ⊎ (0x80 ≤ b) → Rejects s33 padded bytes → Rejects block_type padded bytes
+pub block_no_index : {m : Mode} (bytes rest : List ℕ) (b : ℕ) → Decodes byte m bytes b rest → (b < 0x40) ⊎ (0x80 ≤ b) → Rejects s33 m bytes → Rejects block_type m bytes
 block_no_index bytes rest b h other n =
     let p : b ≢ 0x40 = λ e. elim other [ inl l ↦ omega (arith, l, e) | inr l ↦ omega (arith, l, e) ] in
-    one_of_rejects
-    (tagged_rejects {G = after_block} byte_unambiguous h (subst (λ F. Rejects {X = BlockType} F padded rest) (sym (is_result b p)) (mapped_rejects blocks.Result (no_value rest b other))))
-    (mapped_rejects blocks.FunctionType n)
+    block_rejects (not_empty bytes rest b h p) (not_begun IsValByte val_type val_begins h (no_value b other)) n
 
 pub ruleset block_steps = (block_empty, block_result_decodes, block_index, block_none, block_no_result, block_no_index)
 
@@ -206,40 +196,40 @@ pub ruleset block_steps = (block_empty, block_result_decodes, block_index, block
 abbrev pub after_catch : ℕ → Format Catch
 after_catch b = choice catch_tags (λ c. impossible) b
 
-catch_is : (bytes rest last : List ℕ) (b c : ℕ) (x : Catch) → Decodes byte padded bytes b rest → b ≡ c → Decodes (after_catch c) padded rest x last → Decodes catch padded bytes x last
-catch_is bytes rest last b c x h e g = tagged_decodes {G = after_catch} h (subst (λ c. Decodes (after_catch c) padded rest x last) (sym e) g)
+catch_is : {m : Mode} (bytes rest last : List ℕ) (b c : ℕ) (x : Catch) → Decodes byte m bytes b rest → b ≡ c → Decodes (after_catch c) m rest x last → Decodes catch m bytes x last
+catch_is {m = m} bytes rest last b c x h e g = tagged_decodes {G = after_catch} h (subst (λ c. Decodes (after_catch c) m rest x last) (sym e) g)
 
-catch_is_not : (bytes rest : List ℕ) (b c : ℕ) → Decodes byte padded bytes b rest → b ≡ c → Rejects (after_catch c) padded rest → Rejects catch padded bytes
-catch_is_not bytes rest b c h e n = tagged_rejects {G = after_catch} byte_unambiguous h (subst (λ c. Rejects (after_catch c) padded rest) (sym e) n)
+catch_is_not : {m : Mode} (bytes rest : List ℕ) (b c : ℕ) → Decodes byte m bytes b rest → b ≡ c → Rejects (after_catch c) m rest → Rejects catch m bytes
+catch_is_not {m = m} bytes rest b c h e n = tagged_rejects {G = after_catch} byte_unambiguous h (subst (λ c. Rejects (after_catch c) m rest) (sym e) n)
 
-pub catch_one : (bytes rest last : List ℕ) (b : ℕ) (tag label : ℕ) → Decodes byte padded bytes b rest → b ≡ 0x00 → Decodes (pair u32 u32) padded rest (tag, label) last → Decodes catch padded bytes (One tag label) last
+pub catch_one : {m : Mode} (bytes rest last : List ℕ) (b : ℕ) (tag label : ℕ) → Decodes byte m bytes b rest → b ≡ 0x00 → Decodes (pair u32 u32) m rest (tag, label) last → Decodes catch m bytes (One tag label) last
 catch_one bytes rest last b tag label h e g = catch_is bytes rest last b 0x00 (One tag label) h e (mapped_decodes one_of_pair g)
 
-pub catch_one_ref : (bytes rest last : List ℕ) (b : ℕ) (tag label : ℕ) → Decodes byte padded bytes b rest → b ≡ 0x01 → Decodes (pair u32 u32) padded rest (tag, label) last → Decodes catch padded bytes (OneRef tag label) last
+pub catch_one_ref : {m : Mode} (bytes rest last : List ℕ) (b : ℕ) (tag label : ℕ) → Decodes byte m bytes b rest → b ≡ 0x01 → Decodes (pair u32 u32) m rest (tag, label) last → Decodes catch m bytes (OneRef tag label) last
 catch_one_ref bytes rest last b tag label h e g = catch_is bytes rest last b 0x01 (OneRef tag label) h e (mapped_decodes one_ref_of_pair g)
 
-pub catch_all : (bytes rest last : List ℕ) (b label : ℕ) → Decodes byte padded bytes b rest → b ≡ 0x02 → Decodes u32 padded rest label last → Decodes catch padded bytes (All label) last
+pub catch_all : {m : Mode} (bytes rest last : List ℕ) (b label : ℕ) → Decodes byte m bytes b rest → b ≡ 0x02 → Decodes u32 m rest label last → Decodes catch m bytes (All label) last
 catch_all bytes rest last b label h e g = catch_is bytes rest last b 0x02 (All label) h e (mapped_decodes All g)
 
-pub catch_all_ref : (bytes rest last : List ℕ) (b label : ℕ) → Decodes byte padded bytes b rest → b ≡ 0x03 → Decodes u32 padded rest label last → Decodes catch padded bytes (AllRef label) last
+pub catch_all_ref : {m : Mode} (bytes rest last : List ℕ) (b label : ℕ) → Decodes byte m bytes b rest → b ≡ 0x03 → Decodes u32 m rest label last → Decodes catch m bytes (AllRef label) last
 catch_all_ref bytes rest last b label h e g = catch_is bytes rest last b 0x03 (AllRef label) h e (mapped_decodes AllRef g)
 
-pub catch_none : (bytes : List ℕ) → Rejects byte padded bytes → Rejects catch padded bytes
+pub catch_none : {m : Mode} (bytes : List ℕ) → Rejects byte m bytes → Rejects catch m bytes
 catch_none bytes n = tagged_none byte after_catch bytes n
 
-pub catch_no_one : (bytes rest : List ℕ) (b : ℕ) → Decodes byte padded bytes b rest → b ≡ 0x00 → Rejects (pair u32 u32) padded rest → Rejects catch padded bytes
+pub catch_no_one : {m : Mode} (bytes rest : List ℕ) (b : ℕ) → Decodes byte m bytes b rest → b ≡ 0x00 → Rejects (pair u32 u32) m rest → Rejects catch m bytes
 catch_no_one bytes rest b h e n = catch_is_not bytes rest b 0x00 h e (mapped_rejects one_of_pair n)
 
-pub catch_no_one_ref : (bytes rest : List ℕ) (b : ℕ) → Decodes byte padded bytes b rest → b ≡ 0x01 → Rejects (pair u32 u32) padded rest → Rejects catch padded bytes
+pub catch_no_one_ref : {m : Mode} (bytes rest : List ℕ) (b : ℕ) → Decodes byte m bytes b rest → b ≡ 0x01 → Rejects (pair u32 u32) m rest → Rejects catch m bytes
 catch_no_one_ref bytes rest b h e n = catch_is_not bytes rest b 0x01 h e (mapped_rejects one_ref_of_pair n)
 
-pub catch_no_all : (bytes rest : List ℕ) (b : ℕ) → Decodes byte padded bytes b rest → b ≡ 0x02 → Rejects u32 padded rest → Rejects catch padded bytes
+pub catch_no_all : {m : Mode} (bytes rest : List ℕ) (b : ℕ) → Decodes byte m bytes b rest → b ≡ 0x02 → Rejects u32 m rest → Rejects catch m bytes
 catch_no_all bytes rest b h e n = catch_is_not bytes rest b 0x02 h e (mapped_rejects All n)
 
-pub catch_no_all_ref : (bytes rest : List ℕ) (b : ℕ) → Decodes byte padded bytes b rest → b ≡ 0x03 → Rejects u32 padded rest → Rejects catch padded bytes
+pub catch_no_all_ref : {m : Mode} (bytes rest : List ℕ) (b : ℕ) → Decodes byte m bytes b rest → b ≡ 0x03 → Rejects u32 m rest → Rejects catch m bytes
 catch_no_all_ref bytes rest b h e n = catch_is_not bytes rest b 0x03 h e (mapped_rejects AllRef n)
 
-pub catch_unknown : (bytes rest : List ℕ) (b : ℕ) → Decodes byte padded bytes b rest → 4 ≤ b → Rejects catch padded bytes
+pub catch_unknown : {m : Mode} (bytes rest : List ℕ) (b : ℕ) → Decodes byte m bytes b rest → 4 ≤ b → Rejects catch m bytes
 catch_unknown bytes rest b h l = tagged_rejects {G = after_catch} byte_unambiguous h (no_choice catch_tags b rest (omega arith, (omega arith, (omega arith, (omega arith, tt)))))
 
 pub ruleset catch_steps = (catch_one, catch_one_ref, catch_all, catch_all_ref, catch_none, catch_no_one, catch_no_one_ref, catch_no_all, catch_no_all_ref, catch_unknown)
@@ -249,28 +239,28 @@ pub ruleset catch_steps = (catch_one, catch_one_ref, catch_all, catch_all_ref, c
 abbrev pub after_handle : ℕ → Format Handle
 after_handle b = choice handle_tags (λ c. impossible) b
 
-handle_is : (bytes rest last : List ℕ) (b c : ℕ) (x : Handle) → Decodes byte padded bytes b rest → b ≡ c → Decodes (after_handle c) padded rest x last → Decodes handle padded bytes x last
-handle_is bytes rest last b c x h e g = tagged_decodes {G = after_handle} h (subst (λ c. Decodes (after_handle c) padded rest x last) (sym e) g)
+handle_is : {m : Mode} (bytes rest last : List ℕ) (b c : ℕ) (x : Handle) → Decodes byte m bytes b rest → b ≡ c → Decodes (after_handle c) m rest x last → Decodes handle m bytes x last
+handle_is {m = m} bytes rest last b c x h e g = tagged_decodes {G = after_handle} h (subst (λ c. Decodes (after_handle c) m rest x last) (sym e) g)
 
-handle_is_not : (bytes rest : List ℕ) (b c : ℕ) → Decodes byte padded bytes b rest → b ≡ c → Rejects (after_handle c) padded rest → Rejects handle padded bytes
-handle_is_not bytes rest b c h e n = tagged_rejects {G = after_handle} byte_unambiguous h (subst (λ c. Rejects (after_handle c) padded rest) (sym e) n)
+handle_is_not : {m : Mode} (bytes rest : List ℕ) (b c : ℕ) → Decodes byte m bytes b rest → b ≡ c → Rejects (after_handle c) m rest → Rejects handle m bytes
+handle_is_not {m = m} bytes rest b c h e n = tagged_rejects {G = after_handle} byte_unambiguous h (subst (λ c. Rejects (after_handle c) m rest) (sym e) n)
 
-pub handle_on_label : (bytes rest last : List ℕ) (b : ℕ) (tag label : ℕ) → Decodes byte padded bytes b rest → b ≡ 0x00 → Decodes (pair u32 u32) padded rest (tag, label) last → Decodes handle padded bytes (OnLabel tag label) last
+pub handle_on_label : {m : Mode} (bytes rest last : List ℕ) (b : ℕ) (tag label : ℕ) → Decodes byte m bytes b rest → b ≡ 0x00 → Decodes (pair u32 u32) m rest (tag, label) last → Decodes handle m bytes (OnLabel tag label) last
 handle_on_label bytes rest last b tag label h e g = handle_is bytes rest last b 0x00 (OnLabel tag label) h e (mapped_decodes on_label_of_pair g)
 
-pub handle_on_switch : (bytes rest last : List ℕ) (b tag : ℕ) → Decodes byte padded bytes b rest → b ≡ 0x01 → Decodes u32 padded rest tag last → Decodes handle padded bytes (OnSwitch tag) last
+pub handle_on_switch : {m : Mode} (bytes rest last : List ℕ) (b tag : ℕ) → Decodes byte m bytes b rest → b ≡ 0x01 → Decodes u32 m rest tag last → Decodes handle m bytes (OnSwitch tag) last
 handle_on_switch bytes rest last b tag h e g = handle_is bytes rest last b 0x01 (OnSwitch tag) h e (mapped_decodes OnSwitch g)
 
-pub handle_none : (bytes : List ℕ) → Rejects byte padded bytes → Rejects handle padded bytes
+pub handle_none : {m : Mode} (bytes : List ℕ) → Rejects byte m bytes → Rejects handle m bytes
 handle_none bytes n = tagged_none byte after_handle bytes n
 
-pub handle_no_label : (bytes rest : List ℕ) (b : ℕ) → Decodes byte padded bytes b rest → b ≡ 0x00 → Rejects (pair u32 u32) padded rest → Rejects handle padded bytes
+pub handle_no_label : {m : Mode} (bytes rest : List ℕ) (b : ℕ) → Decodes byte m bytes b rest → b ≡ 0x00 → Rejects (pair u32 u32) m rest → Rejects handle m bytes
 handle_no_label bytes rest b h e n = handle_is_not bytes rest b 0x00 h e (mapped_rejects on_label_of_pair n)
 
-pub handle_no_switch : (bytes rest : List ℕ) (b : ℕ) → Decodes byte padded bytes b rest → b ≡ 0x01 → Rejects u32 padded rest → Rejects handle padded bytes
+pub handle_no_switch : {m : Mode} (bytes rest : List ℕ) (b : ℕ) → Decodes byte m bytes b rest → b ≡ 0x01 → Rejects u32 m rest → Rejects handle m bytes
 handle_no_switch bytes rest b h e n = handle_is_not bytes rest b 0x01 h e (mapped_rejects OnSwitch n)
 
-pub handle_unknown : (bytes rest : List ℕ) (b : ℕ) → Decodes byte padded bytes b rest → 2 ≤ b → Rejects handle padded bytes
+pub handle_unknown : {m : Mode} (bytes rest : List ℕ) (b : ℕ) → Decodes byte m bytes b rest → 2 ≤ b → Rejects handle m bytes
 handle_unknown bytes rest b h l = tagged_rejects {G = after_handle} byte_unambiguous h (no_choice handle_tags b rest (omega arith, (omega arith, tt)))
 
 pub ruleset handle_steps = (handle_on_label, handle_on_switch, handle_none, handle_no_label, handle_no_switch, handle_unknown)

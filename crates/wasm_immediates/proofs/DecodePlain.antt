@@ -1,10 +1,9 @@
 -- This file proves that decoded immediates are well-formed and in normal form.
-use Rattle.wasm_base.proofs.Words.{◌≡◌, ℕ, ◌<◌, ◌%◌, List, Bool, true, false, Option, Some, refl, sym, ap, subst, arith, nat_lt, Mode, byte, choice, tagged, when, impossible, optional, AllValues}
-use Rattle.wasm_base.proofs.Words.{values_one_of, values_tagged, values_choice, val_is, index_is}
+use Rattle.wasm_base.proofs.Words.{val_type_is, ◌≡◌, ℕ, ◌<◌, ◌%◌, List, Bool, true, false, Option, Some, refl, sym, ap, subst, arith, nat_lt, Mode, when, impossible, optional, AllValues}
+use Rattle.wasm_base.proofs.Words.{values_one_of, values_tagged, index_is}
 use Rattle.wasm_immediates.specs.{IsWellFormedTarget, IsWellFormedBlock, IsWellFormedCatch, IsWellFormedHandle, IsNormalMemory, normal_ordering, normal_order, mem_arg_of, mem_ordering, mem_orderings}
 use Rattle.wasm_immediates.specs.{mem_arg_with, after_flags, mem_arg, target_of, bit, block_type, catch, catch_tags, handle, handle_tags}
 use Rattle.wasm_immediates.specs.declared.memory.MemArgOrdering.{MemArgOrdering}
-use Rattle.wasm_immediates.proofs.ImmediateLaws.{block_tags, block_result}
 
 abbrev IsNormalOrdering : MemArgOrdering → Type 0
 IsNormalOrdering o = normal_ordering o ≡ o
@@ -41,12 +40,9 @@ memory_is mode s m h = subst IsNormalMemory h.1 (after h.0.0 mode h.2.back h.0.1
         go false k = absurd k
 
 pub block_is : AllValues IsWellFormedBlock block_type
-block_is = values_one_of IsWellFormedBlock tagged_blocks (λ mode s x h. subst IsWellFormedBlock h.1 (index_is mode s h.0 h.2))
-  where
-    tagged_blocks : AllValues IsWellFormedBlock (tagged byte (choice block_tags block_result))
-    tagged_blocks mode s x h =
-        subst IsWellFormedBlock h.1
-        (values_choice IsWellFormedBlock block_tags block_result (λ mode s x h. subst IsWellFormedBlock (sym h.1) tt, tt) (λ b mode s x h. subst IsWellFormedBlock h.1 (val_is b mode s h.0 h.2)) h.0.0 mode h.2.back h.0.1 h.2.second)
+block_is =
+    values_one_of IsWellFormedBlock (λ mode s x h. subst IsWellFormedBlock (sym h.1) tt)
+    (values_one_of IsWellFormedBlock (λ mode s x h. subst IsWellFormedBlock h.1 (val_type_is mode s h.0 h.2)) (λ mode s x h. subst IsWellFormedBlock h.1 (index_is mode s h.0 h.2)))
 
 pub catch_is : AllValues IsWellFormedCatch catch
 catch_is =

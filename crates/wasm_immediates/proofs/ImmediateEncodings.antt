@@ -1,9 +1,8 @@
 -- This file proves that the encodings of well-formed immediates encode their normal forms.
 use Rattle.wasm_base.proofs.Words.{◌≡◌, ℕ, zero, suc, ◌+◌, ◌*◌, ◌%◌, ◌^◌, ◌<◌, List, [], ◌∷◌, ◌++◌, Bool, true, false, eqb, Option, Some, None, refl, sym, ap, ap₂, subst, ◌∙◌, arith, inl, inr, ℤ, pos}
-use Rattle.wasm_base.proofs.Words.{negsuc, lt-ltb, ne_eqb, or_shifted, or_comm, bit_or, nat_lt, ⊤, minimal, unsigned_encoding, u32, byte, tagged, pair, optional, choice, twos_complement}
-use Rattle.wasm_base.proofs.Words.{vector_format, IsVector, HasMinimalEncodings, UnambiguousPadded, optional_encoding, val_type, val_encoding, val_tags, val_ref, unambiguous_padded}
-use Rattle.wasm_base.proofs.Words.{vector_unambiguous, one_group, val_bytes, val-encodings, decodes_uniquely, u32_encodes, u64_encodes, s33_encodes, little_endian_encodes, tagged_encodes}
-use Rattle.wasm_base.specs.declared.types.ValType.{ValType}
+use Rattle.wasm_base.proofs.Words.{negsuc, lt-ltb, or_shifted, or_comm, bit_or, nat_lt, ⊤, minimal, unsigned_encoding, u32, pair, optional, twos_complement, vector_format, IsVector}
+use Rattle.wasm_base.proofs.Words.{HasMinimalEncodings, UnambiguousPadded, optional_encoding, unambiguous_padded, vector_unambiguous, one_group, val-encodings, decodes_uniquely, u32_encodes}
+use Rattle.wasm_base.proofs.Words.{u64_encodes, s33_encodes, little_endian_encodes, tagged_encodes}
 use Rattle.wasm_immediates.specs.declared.memory.Ordering.TheVariants.{AcqRel, SeqCst}
 use Rattle.wasm_immediates.specs.declared.memory.MemArgOrdering.{MemArgOrdering}
 use Rattle.wasm_immediates.specs.declared.memory.MemArg.{MemArg}
@@ -18,7 +17,7 @@ use Rattle.wasm_immediates.specs.declared.memory.MemArgTarget.{MemArgTarget}
 use Rattle.wasm_immediates.specs.declared.memory.MemArgTarget.TheVariants.{Memory, Array}
 use Rattle.wasm_immediates.specs.declared.control.Catch.TheVariants.{One, OneRef, All, AllRef}
 use Rattle.wasm_immediates.specs.declared.control.Handle.TheVariants.{OnLabel, OnSwitch}
-use Rattle.wasm_immediates.proofs.ImmediateLaws.{ordering_unambiguous, mem_arg_unambiguous, block_unambiguous, catch_unambiguous, handle_unambiguous, block_tags, block_result}
+use Rattle.wasm_immediates.proofs.ImmediateLaws.{ordering_unambiguous, mem_arg_unambiguous, block_unambiguous, catch_unambiguous, handle_unambiguous}
 use Rattle.wasm_immediates.specs.declared.memory.MemArgOrdering.TheVariants as orders
 use Rattle.wasm_immediates.specs.declared.block_type.BlockType.TheVariants as blocks
 
@@ -116,25 +115,10 @@ memory_encodes m h =
 
 -- ---- the encodings of other immediates
 
-result_encodes : (s : List ℕ) (t : ValType) → val_type minimal s t → tagged byte (choice block_tags block_result) minimal s (blocks.Result t)
-result_encodes s t h =
-    let bytes = val_bytes h.0.0 minimal h.2.back h.0.1 h.2.second in
-    let other : eqb h.0.0 0x40 ≡ false = ne_eqb h.0.0 0x40 (omega (arith, bytes.0)) in (
-      (h.0.0, blocks.Result t),
-      refl,
-      record {
-        front = h.2.front;
-        back = h.2.back;
-        joined = h.2.joined;
-        first = h.2.first;
-        second = rw other (t, refl, subst (λ v. choice val_tags val_ref h.0.0 minimal h.2.back v) h.1 h.2.second);
-      },
-    )
-
 pub block_encodes : (b : BlockType) → IsWellFormedBlock b → block_type minimal (block_encoding b) b
-block_encodes blocks.Empty h = inl (tagged_encodes minimal 0x40 [] blocks.Empty (refl, refl))
-block_encodes (blocks.Result t) h = inl (result_encodes (val_encoding t) t (val-encodings.encodes t h))
-block_encodes (blocks.FunctionType index) h = inr (index, refl, s33_encodes index h)
+block_encodes blocks.Empty h = inl (refl, refl)
+block_encodes (blocks.Result t) h = inr (inl (t, refl, val-encodings.encodes t h))
+block_encodes (blocks.FunctionType index) h = inr (inr (index, refl, s33_encodes index h))
 
 -- Two numbers, one after another.
 numbers_encodes : (a b : ℕ) → a < 2 ^ 32 → b < 2 ^ 32 → pair u32 u32 minimal (unsigned_encoding a ++ unsigned_encoding b) (a, b)

@@ -1,10 +1,9 @@
 -- This file proves that immediates are unambiguous.
-use Rattle.wasm_base.proofs.Words.{◌≡◌, ◌≢◌, ℕ, zero, suc, ◌+◌, ◌*◌, ◌/◌, ◌%◌, ◌^◌, ◌<◌, List, [], ◌∷◌, Bool, true, false, cond, eqb, Option, refl, sym, ap, ◌∙◌, arith, eqb-true, eqb-false, ltb-true}
-use Rattle.wasm_base.proofs.Words.{nat_lt, Mode, Format, u32, byte, fixed, impossible, mapped, when, choice, tagged, pair, optional, Unambiguous, BeginsWith, val_tags, val_ref, IsIndexByte}
-use Rattle.wasm_base.proofs.Words.{IsInjective, DeterminesTag, when_unambiguous, mapped_unambiguous, such_unambiguous, coded_unambiguous, fixed_unambiguous, impossible_unambiguous, tagged_unambiguous}
-use Rattle.wasm_base.proofs.Words.{one_of_unambiguous, byte_unambiguous, pair_unambiguous, optional_unambiguous, choice_of, choice_unambiguous, choice_determines, choice_begins, choice_tags}
-use Rattle.wasm_base.proofs.Words.{begins_mapped, values_mapped, AllValues, none_in_common, u32_unambiguous, u64_unambiguous, s33_unambiguous, val_tag, val_begins, begins_s33, val_choice_unambiguous}
-use Rattle.wasm_base.proofs.Words.{val_determines, IsTypeByte, types_apart}
+use Rattle.wasm_base.proofs.Words.{s33, val_type, inl, inr, one_of, values_one_of, val_unambiguous, begins_weaker, ◌⊎◌, begins_fixed, begins_one_of, IsValByte, ◌≡◌, ℕ, zero, suc, ◌+◌, ◌*◌, ◌/◌, ◌%◌}
+use Rattle.wasm_base.proofs.Words.{◌^◌, ◌<◌, List, [], ◌∷◌, Bool, true, false, cond, eqb, Option, refl, sym, ap, ◌∙◌, arith, eqb-true, eqb-false, ltb-true, nat_lt, Mode, Format, u32, byte, impossible}
+use Rattle.wasm_base.proofs.Words.{mapped, when, pair, optional, Unambiguous, BeginsWith, IsIndexByte, IsInjective, DeterminesTag, when_unambiguous, mapped_unambiguous, such_unambiguous}
+use Rattle.wasm_base.proofs.Words.{coded_unambiguous, fixed_unambiguous, impossible_unambiguous, tagged_unambiguous, one_of_unambiguous, byte_unambiguous, pair_unambiguous, optional_unambiguous}
+use Rattle.wasm_base.proofs.Words.{choice_of, begins_mapped, values_mapped, none_in_common, u32_unambiguous, u64_unambiguous, s33_unambiguous, val_begins, begins_s33}
 use Rattle.wasm_immediates.specs.declared.memory.Ordering.{Ordering}
 use Rattle.wasm_immediates.specs.declared.memory.MemArgOrdering.{MemArgOrdering}
 use Rattle.wasm_immediates.specs.declared.memory.MemArg.{MemArg}
@@ -120,41 +119,46 @@ mem_arg_unambiguous =
 
 -- ---- block types
 
-abbrev pub block_tags : List (ℕ × Format BlockType)
-block_tags = (0x40, fixed [] blocks.Empty) ∷ []
+abbrev pub typed_block : Format BlockType
+typed_block = one_of (mapped blocks.Result val_type) (mapped blocks.FunctionType s33)
 
-abbrev pub block_result : ℕ → Format BlockType
-block_result b = mapped blocks.Result (choice val_tags val_ref b)
+-- The case of a block type, out of three.
+abbrev block_case : BlockType → ℕ
+block_case blocks.Empty = 0
+block_case (blocks.Result t) = 1
+block_case (blocks.FunctionType f) = 2
 
-abbrev block_tag : BlockType → ℕ
-block_tag blocks.Empty = 0x40
-block_tag (blocks.Result t) = val_tag t
-block_tag (blocks.FunctionType f) = 0
+-- Bytes from 0x63 on up to 0x7F, or of an index: no typed block begins with 40.
+abbrev IsTypedByte : ℕ → Type 0
+IsTypedByte b = IsValByte b ⊎ IsIndexByte b
 
-block_determines : DeterminesTag (choice block_tags block_result) block_tag
-block_determines = choice_determines block_tag block_tags block_result (λ mode s x h. ap block_tag (sym h.1), tt) (λ b mode s x h. val_determines mode b s h.0 h.2 ∙ ap block_tag h.1)
+val_apart : (b : ℕ) → IsValByte b → IsIndexByte b → ⊥
+val_apart b (inl p) q = elim q [ inl l ↦ omega (arith, p.0, l) | inr l ↦ omega (arith, p.1, l) ]
+val_apart b (inr p) q = elim q [ inl l ↦ omega (arith, p.0, l) | inr l ↦ omega (arith, p.1, l) ]
 
-tagged_block_unambiguous : Unambiguous (tagged byte (choice block_tags block_result))
-tagged_block_unambiguous =
-    tagged_unambiguous block_tag block_determines byte_unambiguous
-    (choice_unambiguous block_tags block_result (fixed_unambiguous [] blocks.Empty, tt) (λ b. mapped_unambiguous blocks.Result (λ x y e. cc) (val_choice_unambiguous b)))
+empty_apart : (b : ℕ) → b ≡ 0x40 → IsTypedByte b → ⊥
+empty_apart b e (inl p) = elim p [ inl q ↦ omega (arith, q.0, e) | inr q ↦ omega (arith, q.0, e) ]
+empty_apart b e (inr p) = elim p [ inl q ↦ omega (arith, q, e) | inr q ↦ omega (arith, q, e) ]
 
-block_after_begins : (b : ℕ) → AllValues (λ x. IsTypeByte b) (choice block_tags block_result b)
-block_after_begins b mode s x h = choice_tags IsTypeByte block_tags block_result ((omega arith, omega arith), tt) (λ b mode s x h. val_begins b mode s h.0 h.2) b mode s x h
+typed_begins : BeginsWith IsTypedByte typed_block
+typed_begins =
+    begins_one_of IsTypedByte
+    (begins_weaker IsValByte IsTypedByte (λ b p. inl p) (begins_mapped IsValByte blocks.Result val_begins))
+    (begins_weaker IsIndexByte IsTypedByte (λ b p. inr p) (begins_mapped IsIndexByte blocks.FunctionType begins_s33))
 
-block_begins : BeginsWith IsTypeByte (tagged byte (choice block_tags block_result))
-block_begins = choice_begins IsTypeByte block_tags block_result ((omega arith, omega arith), tt) (λ b mode s x h. val_begins b mode s h.0 h.2)
-
-block_values : AllValues (λ x. block_tag x ≢ 0) (tagged byte (choice block_tags block_result))
-block_values mode s x h e =
-    omega (arith, e, ap block_tag h.1, block_determines mode h.0.0 h.2.back h.0.1 h.2.second, (block_after_begins h.0.0 mode h.2.back h.0.1 h.2.second).0)
+typed_unambiguous : Unambiguous typed_block
+typed_unambiguous =
+    one_of_unambiguous IsValByte IsIndexByte val_apart (begins_mapped IsValByte blocks.Result val_begins) (begins_mapped IsIndexByte blocks.FunctionType begins_s33)
+    (none_in_common (λ x. block_case x ≡ 1) (λ x. block_case x ≡ 2) (λ x p q. omega (arith, p, q)) (values_mapped (λ x. block_case x ≡ 1) blocks.Result _ (λ x. refl)) (values_mapped (λ x. block_case x ≡ 2) blocks.FunctionType _ (λ x. refl)))
+    (mapped_unambiguous blocks.Result (λ x y e. cc) val_unambiguous) (mapped_unambiguous blocks.FunctionType (λ x y e. cc) s33_unambiguous)
 
 pub block_unambiguous : Unambiguous block_type
 block_unambiguous =
-    one_of_unambiguous IsTypeByte IsIndexByte types_apart
-    block_begins (begins_mapped IsIndexByte blocks.FunctionType begins_s33)
-    (none_in_common (λ x. block_tag x ≢ 0) (λ x. block_tag x ≡ 0) (λ x p q. p q) block_values (values_mapped (λ x. block_tag x ≡ 0) blocks.FunctionType _ (λ x. refl)))
-    tagged_block_unambiguous (mapped_unambiguous blocks.FunctionType (λ x y e. cc) s33_unambiguous)
+    one_of_unambiguous (λ b. b ≡ 0x40) IsTypedByte empty_apart
+    (begins_fixed (λ b. b ≡ 0x40) 0x40 [] blocks.Empty refl) typed_begins
+    (none_in_common (λ x. block_case x ≡ 0) (λ x. 0 < block_case x) (λ x p q. omega (arith, p, q)) (λ mode s x h. ap block_case h.1)
+    (values_one_of (λ x. 0 < block_case x) (values_mapped (λ x. 0 < block_case x) blocks.Result _ (λ x. omega arith)) (values_mapped (λ x. 0 < block_case x) blocks.FunctionType _ (λ x. omega arith))))
+    (fixed_unambiguous (0x40 ∷ []) blocks.Empty) typed_unambiguous
 
 -- ---- catches and handles
 

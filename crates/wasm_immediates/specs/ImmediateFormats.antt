@@ -1,6 +1,6 @@
 -- This file defines well-formed immediates, their normal forms and their formats.
+use Rattle.wasm_base.specs.Words.{val_type, Format, u32, u64, s33, byte, fixed, impossible, coded, mapped, such, when, choice, tagged, one_of, pair, optional, DecodesUniquely, IsVal}
 use Rattle.std.specs.Prelude.{◌≡◌, ℕ, ◌/◌, ◌%◌, ◌^◌, ◌<◌, List, [], ◌∷◌, Bool, true, false, ◌==◌, nat_lt, Option, Some, None, ⊤}
-use Rattle.wasm_base.specs.Words.{Format, u32, u64, s33, byte, fixed, impossible, coded, mapped, such, when, choice, tagged, one_of, pair, optional, DecodesUniquely, val_tags, val_ref, IsVal}
 use Rattle.wasm_immediates.specs.declared.memory.Ordering.{Ordering}
 use Rattle.wasm_immediates.specs.declared.memory.Ordering.TheVariants.{AcqRel, SeqCst}
 use Rattle.wasm_immediates.specs.declared.memory.MemArgOrdering.{MemArgOrdering}
@@ -81,7 +81,7 @@ ordering_encoding o = ordering_code o ∷ []
 -- A block type: 40, a value type, or an index, whose first byte is neither 40 nor that of a value
 -- type. Core specification, Binary Format, Instructions, Control Instructions.
 abbrev pub block_type : Format BlockType
-block_type = one_of (tagged byte (choice ((0x40, fixed [] blocks.Empty) ∷ []) (λ b. mapped blocks.Result (choice val_tags val_ref b)))) (mapped blocks.FunctionType s33)
+block_type = one_of (fixed (0x40 ∷ []) blocks.Empty) (one_of (mapped blocks.Result val_type) (mapped blocks.FunctionType s33))
 
 -- An ordering: one byte.
 abbrev pub ordering_format : Format Ordering

@@ -1,14 +1,16 @@
 // The types of blocks.
 ghost use Rattle.std.specs.Prelude.{⊤, ◌≢◌, IfOk, IfErr};
 ghost use Rattle.wasm_immediates.specs.Immediates.{block_encoding};
-ghost use Rattle.wasm_base.specs.Numbers.{padded};
+ghost use Rattle.wasm_base.specs.Numbers.{padded_of};
 ghost use Rattle.wasm_base.specs.Decoding.{Decodes, Rejects};
 ghost use Rattle.wasm_immediates.specs.ImmediateFormats.{block_type};
 ghost use Rattle.wasm_immediates.specs.declared.block_type.BlockType.{BlockType as BlockModel};
 ghost use Rattle.wasm_base.specs.declared.fault.ReadFault.TheVariants.{Memory};
 
 use std::alloc::Allocator;
-use wasm_base::{Encode, Layout, ReadFault, Readable, Result, ValType, read_index, read_val_after};
+use wasm_base::{
+    DecodeError, Encode, Grammar, Layout, Readable, Result, ValType, read_index, read_val_after,
+};
 
 /// The type of a block: its parameters and results.
 #[derive(Clone, Copy, Debug)]
@@ -39,22 +41,22 @@ impl Encode for BlockType {
 /// Decodes a block type. Out of line, for those with a type.
 #[inline(never)]
 #[tactic(auto, using(crate::proofs::DecodeImmediates::block_steps))]
-fn read_any_block<'a, A: Allocator + Copy>(
+fn read_any_block<'a, A: Allocator + Copy, G: Grammar>(
     bytes: &'a [u8],
     alloc: A,
-) -> Result<(BlockType, &'a [u8]), ReadFault>
-    ensures found { IfOk result (λ x. Decodes block_type padded bytes.now x.0 x.1.now) }
-    ensures none { IfErr result (λ e. e ≢ Memory → Rejects block_type padded bytes.now) }
+) -> Result<(BlockType, &'a [u8]), DecodeError>
+    ensures found { IfOk result (λ x. Decodes block_type (padded_of G.grammar) bytes.now x.0 x.1.now) }
+    ensures none { IfErr result (λ e. e.cause ≢ Memory → Rejects block_type (padded_of G.grammar) bytes.now) }
 {
-    let (tag, rest) = <u8 as Readable<'a, A>>::read(bytes, alloc)?;
+    let (tag, rest) = <u8 as Readable<'a, A, G>>::read(bytes, alloc)?;
     match tag {
         0x40 => Ok((BlockType::Empty, rest)),
         0x41..=0x7F => {
-            let (ty, rest) = read_val_after(tag, rest, alloc)?;
+            let (ty, rest) = read_val_after::<A, G>(tag, rest, alloc)?;
             Ok((BlockType::Result(ty), rest))
         }
         _ => {
-            let (index, rest) = read_index(bytes)?;
+            let (index, rest) = read_index::<G>(bytes)?;
             Ok((BlockType::FunctionType(index), rest))
         }
     }
@@ -71,14 +73,14 @@ impl Layout for BlockType {
     fn laws() {}
 }
 
-impl<'a, A: Allocator + Copy> Readable<'a, A> for BlockType {
+impl<'a, A: Allocator + Copy, G: Grammar> Readable<'a, A, G> for BlockType {
     #[tactic(auto, using(crate::proofs::DecodeImmediates::block_steps))]
     #[inline]
-    fn read(bytes: &'a [u8], alloc: A) -> Result<(BlockType, &'a [u8]), ReadFault> {
-        let (tag, rest) = <u8 as Readable<'a, A>>::read(bytes, alloc)?;
+    fn read(bytes: &'a [u8], alloc: A) -> Result<(BlockType, &'a [u8]), DecodeError> {
+        let (tag, rest) = <u8 as Readable<'a, A, G>>::read(bytes, alloc)?;
         if tag == 0x40 {
             return Ok((BlockType::Empty, rest));
         }
-        read_any_block(bytes, alloc)
+        read_any_block::<A, G>(bytes, alloc)
     }
 }

@@ -4,7 +4,7 @@ ghost use Rattle.wasm_base.specs.Encodings.{little_endian_encoding};
 ghost use Rattle.wasm_base.specs.Formats.{little_endian};
 
 use std::alloc::Allocator;
-use wasm_base::{Encode, Layout, ReadFault, Readable, Result};
+use wasm_base::{DecodeError, Encode, Grammar, Layout, ReadFault, Readable, Result};
 
 /// A float of 32 bits, as its IEEE 754 bits.
 #[derive(Clone, Copy, PartialEq, Eq, Hash, Debug)]
@@ -88,11 +88,11 @@ impl Layout for Ieee32 {
     fn laws() {}
 }
 
-impl<'a, A: Allocator + Copy> Readable<'a, A> for Ieee32 {
-    fn read(bytes: &'a [u8], _alloc: A) -> Result<(Ieee32, &'a [u8]), ReadFault> {
+impl<'a, A: Allocator + Copy, G: Grammar> Readable<'a, A, G> for Ieee32 {
+    fn read(bytes: &'a [u8], _alloc: A) -> Result<(Ieee32, &'a [u8]), DecodeError> {
         match bytes.split_first_chunk::<4>() {
             Some((front, rest)) => Ok((Ieee32::new(u32::from_le_bytes(*front)), rest)),
-            None => Err(ReadFault::Ended),
+            None => Err(ReadFault::Ended.at(b"")),
         }
     }
 }
@@ -109,11 +109,11 @@ impl Layout for Ieee64 {
     fn laws() {}
 }
 
-impl<'a, A: Allocator + Copy> Readable<'a, A> for Ieee64 {
-    fn read(bytes: &'a [u8], _alloc: A) -> Result<(Ieee64, &'a [u8]), ReadFault> {
+impl<'a, A: Allocator + Copy, G: Grammar> Readable<'a, A, G> for Ieee64 {
+    fn read(bytes: &'a [u8], _alloc: A) -> Result<(Ieee64, &'a [u8]), DecodeError> {
         match bytes.split_first_chunk::<8>() {
             Some((front, rest)) => Ok((Ieee64::new(u64::from_le_bytes(*front)), rest)),
-            None => Err(ReadFault::Ended),
+            None => Err(ReadFault::Ended.at(b"")),
         }
     }
 }

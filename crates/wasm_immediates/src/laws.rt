@@ -3,8 +3,8 @@
 //!
 //! `Unambiguous F` says that the format `F` is unambiguous: at most one value decodes from the
 //! front of any bytes, with minimal and with padded numbers. A value has at most one minimal
-//! encoding. `HasMinimalEncodings F encodable encoding` says that `encoding` is the minimal encoding of each value that
-//! fits.
+//! encoding. `HasMinimalEncodings F encodable encoding` says that `encoding` is the minimal
+//! encoding of each value that fits.
 ghost use Rattle.std.specs.Prelude.{⊤};
 ghost use Rattle.wasm_base.specs.Decoding.{Unambiguous, HasMinimalEncodings, UnambiguousPadded};
 ghost use Rattle.wasm_immediates.specs.Immediates.{mem_arg_encoding, block_encoding, catch_encoding, handle_encoding, vector_encoding};

@@ -1,24 +1,24 @@
 // The arguments (immediates) of decoded instructions: decoded, skipped, and encoded again.
 ghost use Rattle.std.specs.Prelude.{◌≡◌, ◌≢◌, ◌++◌, [], ◌∷◌, IfOk, IfErr, Err, OnOk, OnErr, map, List};
 ghost use Rattle.std.specs.List.{flat_map};
-ghost use Rattle.wasm_base.specs.Numbers.{padded};
+ghost use Rattle.wasm_base.specs.Numbers.{padded_of};
 ghost use Rattle.wasm_base.specs.Decoding.{Decodes, Rejects};
 ghost use Rattle.wasm_base.specs.declared.refused.Refused.TheVariants.{TooLong};
 ghost use Rattle.wasm_insn.specs.Parts.{parts_of};
 ghost use Rattle.wasm_insn.specs.declared.part.Part.TheVariants as parts;
 ghost use Rattle.wasm_insn.specs.Arguments.{argument_encoding, Argument};
-ghost use Rattle.wasm_insn.specs.Plain.{part, arguments, IsWellFormedArgument, AreWellFormed, Plain as PlainInstruction, instruction};
+ghost use Rattle.wasm_insn.specs.Plain.{part, arguments, IsWellFormedArgument, AreWellFormed};
 ghost use Rattle.wasm_insn.specs.Views.{argument_view};
 ghost use Rattle.wasm_base.specs.Minimal.{IsFrontOf};
 ghost use Rattle.wasm_base.specs.declared.fault.ReadFault.TheVariants.{Memory};
-ghost use Rattle.wasm_base.specs.Formats.{members, size_prefixed};
-ghost use Rattle.wasm_base.specs.Continuing.{RejectsWhole};
-ghost use Rattle.wasm_insn.specs.Table.{table};
 
 use crate::op::Shape;
 use crate::part::Part;
 use std::alloc::{Allocator, Global};
-use wasm_base::{Dropped, Encode, HeapType, ReadFault, Readable, Result, Skip, ValType, skip_many};
+use wasm_base::{
+    DecodeError, Dropped, Encode, Grammar, HeapType, ReadFault, Readable, Result, Skip, ValType,
+    skip_many,
+};
 use wasm_immediates::{BlockType, Catch, Handle, Ieee32, Ieee64, MemArg, Ordering};
 
 /// An argument of an instruction, decoded from one immediate of its shape.
@@ -54,289 +54,289 @@ pub enum Arg<A: Allocator = Global> {
 /// Decodes an unsigned number of 32 bits.
 #[inline(always)]
 #[tactic(auto, using(crate::proofs::DecodeArguments::unsigned_part))]
-pub(crate) fn read_unsigned<'a, A: Allocator + Copy>(
+pub(crate) fn read_unsigned<'a, A: Allocator + Copy, G: Grammar>(
     bytes: &'a [u8],
     alloc: A,
-) -> Result<(Arg<A>, &'a [u8]), ReadFault>
-    ensures found { IfOk result (λ x. Decodes (part parts.Unsigned) padded bytes.now (argument_view x.0) x.1.now) }
-    ensures none { IfErr result (λ e. e ≢ Memory → Rejects (part parts.Unsigned) padded bytes.now) }
+) -> Result<(Arg<A>, &'a [u8]), DecodeError>
+    ensures found { IfOk result (λ x. Decodes (part parts.Unsigned) (padded_of G.grammar) bytes.now (argument_view x.0) x.1.now) }
+    ensures none { IfErr result (λ e. e.cause ≢ Memory → Rejects (part parts.Unsigned) (padded_of G.grammar) bytes.now) }
 {
-    let (value, rest) = <u32 as Readable<'a, A>>::read(bytes, alloc)?;
+    let (value, rest) = <u32 as Readable<'a, A, G>>::read(bytes, alloc)?;
     Ok((Arg::U32(value), rest))
 }
 
 /// Decodes a signed number of 32 bits.
 #[inline(always)]
 #[tactic(auto, using(crate::proofs::DecodeArguments::signed32_part))]
-pub(crate) fn read_signed32<'a, A: Allocator + Copy>(
+pub(crate) fn read_signed32<'a, A: Allocator + Copy, G: Grammar>(
     bytes: &'a [u8],
     alloc: A,
-) -> Result<(Arg<A>, &'a [u8]), ReadFault>
-    ensures found { IfOk result (λ x. Decodes (part parts.Signed32) padded bytes.now (argument_view x.0) x.1.now) }
-    ensures none { IfErr result (λ e. e ≢ Memory → Rejects (part parts.Signed32) padded bytes.now) }
+) -> Result<(Arg<A>, &'a [u8]), DecodeError>
+    ensures found { IfOk result (λ x. Decodes (part parts.Signed32) (padded_of G.grammar) bytes.now (argument_view x.0) x.1.now) }
+    ensures none { IfErr result (λ e. e.cause ≢ Memory → Rejects (part parts.Signed32) (padded_of G.grammar) bytes.now) }
 {
-    let (value, rest) = <i32 as Readable<'a, A>>::read(bytes, alloc)?;
+    let (value, rest) = <i32 as Readable<'a, A, G>>::read(bytes, alloc)?;
     Ok((Arg::S32(value), rest))
 }
 
 /// Decodes a signed number of 64 bits.
 #[inline(always)]
 #[tactic(auto, using(crate::proofs::DecodeArguments::signed64_part))]
-pub(crate) fn read_signed64<'a, A: Allocator + Copy>(
+pub(crate) fn read_signed64<'a, A: Allocator + Copy, G: Grammar>(
     bytes: &'a [u8],
     alloc: A,
-) -> Result<(Arg<A>, &'a [u8]), ReadFault>
-    ensures found { IfOk result (λ x. Decodes (part parts.Signed64) padded bytes.now (argument_view x.0) x.1.now) }
-    ensures none { IfErr result (λ e. e ≢ Memory → Rejects (part parts.Signed64) padded bytes.now) }
+) -> Result<(Arg<A>, &'a [u8]), DecodeError>
+    ensures found { IfOk result (λ x. Decodes (part parts.Signed64) (padded_of G.grammar) bytes.now (argument_view x.0) x.1.now) }
+    ensures none { IfErr result (λ e. e.cause ≢ Memory → Rejects (part parts.Signed64) (padded_of G.grammar) bytes.now) }
 {
-    let (value, rest) = <i64 as Readable<'a, A>>::read(bytes, alloc)?;
+    let (value, rest) = <i64 as Readable<'a, A, G>>::read(bytes, alloc)?;
     Ok((Arg::S64(value), rest))
 }
 
 /// Decodes a float of 32 bits.
 #[inline(never)]
 #[tactic(auto, using(crate::proofs::DecodeArguments::float32_part))]
-fn read_float32<'a, A: Allocator + Copy>(
+fn read_float32<'a, A: Allocator + Copy, G: Grammar>(
     bytes: &'a [u8],
     alloc: A,
-) -> Result<(Arg<A>, &'a [u8]), ReadFault>
-    ensures found { IfOk result (λ x. Decodes (part parts.Float32) padded bytes.now (argument_view x.0) x.1.now) }
-    ensures none { IfErr result (λ e. e ≢ Memory → Rejects (part parts.Float32) padded bytes.now) }
+) -> Result<(Arg<A>, &'a [u8]), DecodeError>
+    ensures found { IfOk result (λ x. Decodes (part parts.Float32) (padded_of G.grammar) bytes.now (argument_view x.0) x.1.now) }
+    ensures none { IfErr result (λ e. e.cause ≢ Memory → Rejects (part parts.Float32) (padded_of G.grammar) bytes.now) }
 {
-    let (value, rest) = <Ieee32 as Readable<'a, A>>::read(bytes, alloc)?;
+    let (value, rest) = <Ieee32 as Readable<'a, A, G>>::read(bytes, alloc)?;
     Ok((Arg::F32(value), rest))
 }
 
 /// Decodes a float of 64 bits.
 #[inline(never)]
 #[tactic(auto, using(crate::proofs::DecodeArguments::float64_part))]
-fn read_float64<'a, A: Allocator + Copy>(
+fn read_float64<'a, A: Allocator + Copy, G: Grammar>(
     bytes: &'a [u8],
     alloc: A,
-) -> Result<(Arg<A>, &'a [u8]), ReadFault>
-    ensures found { IfOk result (λ x. Decodes (part parts.Float64) padded bytes.now (argument_view x.0) x.1.now) }
-    ensures none { IfErr result (λ e. e ≢ Memory → Rejects (part parts.Float64) padded bytes.now) }
+) -> Result<(Arg<A>, &'a [u8]), DecodeError>
+    ensures found { IfOk result (λ x. Decodes (part parts.Float64) (padded_of G.grammar) bytes.now (argument_view x.0) x.1.now) }
+    ensures none { IfErr result (λ e. e.cause ≢ Memory → Rejects (part parts.Float64) (padded_of G.grammar) bytes.now) }
 {
-    let (value, rest) = <Ieee64 as Readable<'a, A>>::read(bytes, alloc)?;
+    let (value, rest) = <Ieee64 as Readable<'a, A, G>>::read(bytes, alloc)?;
     Ok((Arg::F64(value), rest))
 }
 
 /// Decodes a vector of 128 bits.
 #[inline(never)]
 #[tactic(auto, using(crate::proofs::DecodeArguments::vector_part))]
-fn read_vector<'a, A: Allocator + Copy>(
+fn read_vector<'a, A: Allocator + Copy, G: Grammar>(
     bytes: &'a [u8],
     alloc: A,
-) -> Result<(Arg<A>, &'a [u8]), ReadFault>
-    ensures found { IfOk result (λ x. Decodes (part parts.Vector) padded bytes.now (argument_view x.0) x.1.now) }
-    ensures none { IfErr result (λ e. e ≢ Memory → Rejects (part parts.Vector) padded bytes.now) }
+) -> Result<(Arg<A>, &'a [u8]), DecodeError>
+    ensures found { IfOk result (λ x. Decodes (part parts.Vector) (padded_of G.grammar) bytes.now (argument_view x.0) x.1.now) }
+    ensures none { IfErr result (λ e. e.cause ≢ Memory → Rejects (part parts.Vector) (padded_of G.grammar) bytes.now) }
 {
-    let (value, rest) = <i128 as Readable<'a, A>>::read(bytes, alloc)?;
+    let (value, rest) = <i128 as Readable<'a, A, G>>::read(bytes, alloc)?;
     Ok((Arg::V128(value), rest))
 }
 
 /// Decodes a memory argument.
 #[inline(always)]
 #[tactic(auto, using(crate::proofs::DecodeArguments::memory_part))]
-pub(crate) fn read_memory<'a, A: Allocator + Copy>(
+pub(crate) fn read_memory<'a, A: Allocator + Copy, G: Grammar>(
     bytes: &'a [u8],
     alloc: A,
-) -> Result<(Arg<A>, &'a [u8]), ReadFault>
-    ensures found { IfOk result (λ x. Decodes (part parts.Memory) padded bytes.now (argument_view x.0) x.1.now) }
-    ensures none { IfErr result (λ e. e ≢ Memory → Rejects (part parts.Memory) padded bytes.now) }
+) -> Result<(Arg<A>, &'a [u8]), DecodeError>
+    ensures found { IfOk result (λ x. Decodes (part parts.Memory) (padded_of G.grammar) bytes.now (argument_view x.0) x.1.now) }
+    ensures none { IfErr result (λ e. e.cause ≢ Memory → Rejects (part parts.Memory) (padded_of G.grammar) bytes.now) }
 {
-    let (value, rest) = <MemArg as Readable<'a, A>>::read(bytes, alloc)?;
+    let (value, rest) = <MemArg as Readable<'a, A, G>>::read(bytes, alloc)?;
     Ok((Arg::Mem(value), rest))
 }
 
 /// Decodes a lane.
 #[tactic(auto, using(crate::proofs::DecodeArguments::lane_part))]
-fn read_lane<'a, A: Allocator + Copy>(
+fn read_lane<'a, A: Allocator + Copy, G: Grammar>(
     bytes: &'a [u8],
     alloc: A,
-) -> Result<(Arg<A>, &'a [u8]), ReadFault>
-    ensures found { IfOk result (λ x. Decodes (part parts.Lane) padded bytes.now (argument_view x.0) x.1.now) }
-    ensures none { IfErr result (λ e. e ≢ Memory → Rejects (part parts.Lane) padded bytes.now) }
+) -> Result<(Arg<A>, &'a [u8]), DecodeError>
+    ensures found { IfOk result (λ x. Decodes (part parts.Lane) (padded_of G.grammar) bytes.now (argument_view x.0) x.1.now) }
+    ensures none { IfErr result (λ e. e.cause ≢ Memory → Rejects (part parts.Lane) (padded_of G.grammar) bytes.now) }
 {
-    let (value, rest) = <u8 as Readable<'a, A>>::read(bytes, alloc)?;
+    let (value, rest) = <u8 as Readable<'a, A, G>>::read(bytes, alloc)?;
     Ok((Arg::Lane(value), rest))
 }
 
 /// Decodes sixteen lanes.
 #[inline(never)]
 #[tactic(auto, using(crate::proofs::DecodeArguments::lanes_part))]
-fn read_lanes<'a, A: Allocator + Copy>(
+fn read_lanes<'a, A: Allocator + Copy, G: Grammar>(
     bytes: &'a [u8],
     alloc: A,
-) -> Result<(Arg<A>, &'a [u8]), ReadFault>
-    ensures found { IfOk result (λ x. Decodes (part parts.Lanes) padded bytes.now (argument_view x.0) x.1.now) }
-    ensures none { IfErr result (λ e. e ≢ Memory → Rejects (part parts.Lanes) padded bytes.now) }
+) -> Result<(Arg<A>, &'a [u8]), DecodeError>
+    ensures found { IfOk result (λ x. Decodes (part parts.Lanes) (padded_of G.grammar) bytes.now (argument_view x.0) x.1.now) }
+    ensures none { IfErr result (λ e. e.cause ≢ Memory → Rejects (part parts.Lanes) (padded_of G.grammar) bytes.now) }
 {
-    let (value, rest) = <[u8; 16] as Readable<'a, A>>::read(bytes, alloc)?;
+    let (value, rest) = <[u8; 16] as Readable<'a, A, G>>::read(bytes, alloc)?;
     Ok((Arg::Lanes(value), rest))
 }
 
 /// Decodes a block type.
 #[inline(always)]
 #[tactic(auto, using(crate::proofs::DecodeArguments::block_part))]
-pub(crate) fn read_block<'a, A: Allocator + Copy>(
+pub(crate) fn read_block<'a, A: Allocator + Copy, G: Grammar>(
     bytes: &'a [u8],
     alloc: A,
-) -> Result<(Arg<A>, &'a [u8]), ReadFault>
-    ensures found { IfOk result (λ x. Decodes (part parts.Block) padded bytes.now (argument_view x.0) x.1.now) }
-    ensures none { IfErr result (λ e. e ≢ Memory → Rejects (part parts.Block) padded bytes.now) }
+) -> Result<(Arg<A>, &'a [u8]), DecodeError>
+    ensures found { IfOk result (λ x. Decodes (part parts.Block) (padded_of G.grammar) bytes.now (argument_view x.0) x.1.now) }
+    ensures none { IfErr result (λ e. e.cause ≢ Memory → Rejects (part parts.Block) (padded_of G.grammar) bytes.now) }
 {
-    let (value, rest) = <BlockType as Readable<'a, A>>::read(bytes, alloc)?;
+    let (value, rest) = <BlockType as Readable<'a, A, G>>::read(bytes, alloc)?;
     Ok((Arg::Block(value), rest))
 }
 
 /// Decodes a heap type.
 #[inline(never)]
 #[tactic(auto, using(crate::proofs::DecodeArguments::heap_part))]
-fn read_heap<'a, A: Allocator + Copy>(
+fn read_heap<'a, A: Allocator + Copy, G: Grammar>(
     bytes: &'a [u8],
     alloc: A,
-) -> Result<(Arg<A>, &'a [u8]), ReadFault>
-    ensures found { IfOk result (λ x. Decodes (part parts.Heap) padded bytes.now (argument_view x.0) x.1.now) }
-    ensures none { IfErr result (λ e. e ≢ Memory → Rejects (part parts.Heap) padded bytes.now) }
+) -> Result<(Arg<A>, &'a [u8]), DecodeError>
+    ensures found { IfOk result (λ x. Decodes (part parts.Heap) (padded_of G.grammar) bytes.now (argument_view x.0) x.1.now) }
+    ensures none { IfErr result (λ e. e.cause ≢ Memory → Rejects (part parts.Heap) (padded_of G.grammar) bytes.now) }
 {
-    let (value, rest) = <HeapType as Readable<'a, A>>::read(bytes, alloc)?;
+    let (value, rest) = <HeapType as Readable<'a, A, G>>::read(bytes, alloc)?;
     Ok((Arg::Heap(value), rest))
 }
 
 /// Decodes an ordering.
 #[inline(never)]
 #[tactic(auto, using(crate::proofs::DecodeArguments::ordering_part))]
-fn read_ordering<'a, A: Allocator + Copy>(
+fn read_ordering<'a, A: Allocator + Copy, G: Grammar>(
     bytes: &'a [u8],
     alloc: A,
-) -> Result<(Arg<A>, &'a [u8]), ReadFault>
-    ensures found { IfOk result (λ x. Decodes (part parts.Ordering) padded bytes.now (argument_view x.0) x.1.now) }
-    ensures none { IfErr result (λ e. e ≢ Memory → Rejects (part parts.Ordering) padded bytes.now) }
+) -> Result<(Arg<A>, &'a [u8]), DecodeError>
+    ensures found { IfOk result (λ x. Decodes (part parts.Ordering) (padded_of G.grammar) bytes.now (argument_view x.0) x.1.now) }
+    ensures none { IfErr result (λ e. e.cause ≢ Memory → Rejects (part parts.Ordering) (padded_of G.grammar) bytes.now) }
 {
-    let (value, rest) = <Ordering as Readable<'a, A>>::read(bytes, alloc)?;
+    let (value, rest) = <Ordering as Readable<'a, A, G>>::read(bytes, alloc)?;
     Ok((Arg::Order(value), rest))
 }
 
 /// Decodes a vector of labels.
 #[inline(never)]
 #[tactic(auto, using(crate::proofs::DecodeArguments::labels_part))]
-fn read_labels<'a, A: Allocator + Copy>(
+fn read_labels<'a, A: Allocator + Copy, G: Grammar>(
     bytes: &'a [u8],
     alloc: A,
-) -> Result<(Arg<A>, &'a [u8]), ReadFault>
-    ensures found { IfOk result (λ x. Decodes (part parts.Labels) padded bytes.now (argument_view x.0) x.1.now) }
-    ensures none { IfErr result (λ e. e ≢ Memory → Rejects (part parts.Labels) padded bytes.now) }
+) -> Result<(Arg<A>, &'a [u8]), DecodeError>
+    ensures found { IfOk result (λ x. Decodes (part parts.Labels) (padded_of G.grammar) bytes.now (argument_view x.0) x.1.now) }
+    ensures none { IfErr result (λ e. e.cause ≢ Memory → Rejects (part parts.Labels) (padded_of G.grammar) bytes.now) }
 {
-    let (value, rest) = <Vec<u32, A> as Readable<'a, A>>::read(bytes, alloc)?;
+    let (value, rest) = <Vec<u32, A> as Readable<'a, A, G>>::read(bytes, alloc)?;
     Ok((Arg::Labels(value), rest))
 }
 
 /// Decodes a vector of catch clauses.
 #[inline(never)]
 #[tactic(auto, using(crate::proofs::DecodeArguments::catches_part))]
-fn read_catches<'a, A: Allocator + Copy>(
+fn read_catches<'a, A: Allocator + Copy, G: Grammar>(
     bytes: &'a [u8],
     alloc: A,
-) -> Result<(Arg<A>, &'a [u8]), ReadFault>
-    ensures found { IfOk result (λ x. Decodes (part parts.Catches) padded bytes.now (argument_view x.0) x.1.now) }
-    ensures none { IfErr result (λ e. e ≢ Memory → Rejects (part parts.Catches) padded bytes.now) }
+) -> Result<(Arg<A>, &'a [u8]), DecodeError>
+    ensures found { IfOk result (λ x. Decodes (part parts.Catches) (padded_of G.grammar) bytes.now (argument_view x.0) x.1.now) }
+    ensures none { IfErr result (λ e. e.cause ≢ Memory → Rejects (part parts.Catches) (padded_of G.grammar) bytes.now) }
 {
-    let (value, rest) = <Vec<Catch, A> as Readable<'a, A>>::read(bytes, alloc)?;
+    let (value, rest) = <Vec<Catch, A> as Readable<'a, A, G>>::read(bytes, alloc)?;
     Ok((Arg::Catches(value), rest))
 }
 
 /// Decodes a vector of value types.
 #[inline(never)]
 #[tactic(auto, using(crate::proofs::DecodeArguments::types_part))]
-fn read_types<'a, A: Allocator + Copy>(
+fn read_types<'a, A: Allocator + Copy, G: Grammar>(
     bytes: &'a [u8],
     alloc: A,
-) -> Result<(Arg<A>, &'a [u8]), ReadFault>
-    ensures found { IfOk result (λ x. Decodes (part parts.Types) padded bytes.now (argument_view x.0) x.1.now) }
-    ensures none { IfErr result (λ e. e ≢ Memory → Rejects (part parts.Types) padded bytes.now) }
+) -> Result<(Arg<A>, &'a [u8]), DecodeError>
+    ensures found { IfOk result (λ x. Decodes (part parts.Types) (padded_of G.grammar) bytes.now (argument_view x.0) x.1.now) }
+    ensures none { IfErr result (λ e. e.cause ≢ Memory → Rejects (part parts.Types) (padded_of G.grammar) bytes.now) }
 {
-    let (value, rest) = <Vec<ValType, A> as Readable<'a, A>>::read(bytes, alloc)?;
+    let (value, rest) = <Vec<ValType, A> as Readable<'a, A, G>>::read(bytes, alloc)?;
     Ok((Arg::Types(value), rest))
 }
 
 /// Decodes a vector of handle clauses.
 #[inline(never)]
 #[tactic(auto, using(crate::proofs::DecodeArguments::handles_part))]
-fn read_handles<'a, A: Allocator + Copy>(
+fn read_handles<'a, A: Allocator + Copy, G: Grammar>(
     bytes: &'a [u8],
     alloc: A,
-) -> Result<(Arg<A>, &'a [u8]), ReadFault>
-    ensures found { IfOk result (λ x. Decodes (part parts.Handles) padded bytes.now (argument_view x.0) x.1.now) }
-    ensures none { IfErr result (λ e. e ≢ Memory → Rejects (part parts.Handles) padded bytes.now) }
+) -> Result<(Arg<A>, &'a [u8]), DecodeError>
+    ensures found { IfOk result (λ x. Decodes (part parts.Handles) (padded_of G.grammar) bytes.now (argument_view x.0) x.1.now) }
+    ensures none { IfErr result (λ e. e.cause ≢ Memory → Rejects (part parts.Handles) (padded_of G.grammar) bytes.now) }
 {
-    let (value, rest) = <Vec<Handle, A> as Readable<'a, A>>::read(bytes, alloc)?;
+    let (value, rest) = <Vec<Handle, A> as Readable<'a, A, G>>::read(bytes, alloc)?;
     Ok((Arg::Handles(value), rest))
 }
 
 /// Decodes the flags of a cast.
 #[tactic(auto, using(crate::proofs::DecodeArguments::flag_part))]
-fn read_flag<'a, A: Allocator + Copy>(
+fn read_flag<'a, A: Allocator + Copy, G: Grammar>(
     bytes: &'a [u8],
     alloc: A,
-) -> Result<(Arg<A>, &'a [u8]), ReadFault>
-    ensures found { IfOk result (λ x. Decodes (part parts.Flag) padded bytes.now (argument_view x.0) x.1.now) }
-    ensures none { IfErr result (λ e. e ≢ Memory → Rejects (part parts.Flag) padded bytes.now) }
+) -> Result<(Arg<A>, &'a [u8]), DecodeError>
+    ensures found { IfOk result (λ x. Decodes (part parts.Flag) (padded_of G.grammar) bytes.now (argument_view x.0) x.1.now) }
+    ensures none { IfErr result (λ e. e.cause ≢ Memory → Rejects (part parts.Flag) (padded_of G.grammar) bytes.now) }
 {
-    let (value, rest) = <u8 as Readable<'a, A>>::read(bytes, alloc)?;
+    let (value, rest) = <u8 as Readable<'a, A, G>>::read(bytes, alloc)?;
     if value < 4 {
         Ok((Arg::Flag(value), rest))
     } else {
-        Err(ReadFault::UnknownTag)
+        Err(ReadFault::UnknownTag.just_before(rest))
     }
 }
 
 /// Decodes one argument. Rare and long arms are not inlined: with all of them inline, the compiler
 /// moves the result of each arm through all of them.
-pub(crate) fn read_part<'a, A: Allocator + Copy>(
+pub(crate) fn read_part<'a, A: Allocator + Copy, G: Grammar>(
     wanted: Part,
     bytes: &'a [u8],
     alloc: A,
-) -> Result<(Arg<A>, &'a [u8]), ReadFault>
-    ensures found { IfOk result (λ x. Decodes (part wanted) padded bytes.now (argument_view x.0) x.1.now) }
-    ensures none { IfErr result (λ e. e ≢ Memory → Rejects (part wanted) padded bytes.now) }
+) -> Result<(Arg<A>, &'a [u8]), DecodeError>
+    ensures found { IfOk result (λ x. Decodes (part wanted) (padded_of G.grammar) bytes.now (argument_view x.0) x.1.now) }
+    ensures none { IfErr result (λ e. e.cause ≢ Memory → Rejects (part wanted) (padded_of G.grammar) bytes.now) }
 {
     match wanted {
-        Part::Unsigned => read_unsigned(bytes, alloc),
-        Part::Signed32 => read_signed32(bytes, alloc),
-        Part::Signed64 => read_signed64(bytes, alloc),
-        Part::Float32 => read_float32(bytes, alloc),
-        Part::Float64 => read_float64(bytes, alloc),
-        Part::Vector => read_vector(bytes, alloc),
-        Part::Memory => read_memory(bytes, alloc),
-        Part::Lane => read_lane(bytes, alloc),
-        Part::Lanes => read_lanes(bytes, alloc),
-        Part::Block => read_block(bytes, alloc),
-        Part::Heap => read_heap(bytes, alloc),
-        Part::Ordering => read_ordering(bytes, alloc),
-        Part::Labels => read_labels(bytes, alloc),
-        Part::Catches => read_catches(bytes, alloc),
-        Part::Types => read_types(bytes, alloc),
-        Part::Handles => read_handles(bytes, alloc),
-        Part::Flag => read_flag(bytes, alloc),
+        Part::Unsigned => read_unsigned::<A, G>(bytes, alloc),
+        Part::Signed32 => read_signed32::<A, G>(bytes, alloc),
+        Part::Signed64 => read_signed64::<A, G>(bytes, alloc),
+        Part::Float32 => read_float32::<A, G>(bytes, alloc),
+        Part::Float64 => read_float64::<A, G>(bytes, alloc),
+        Part::Vector => read_vector::<A, G>(bytes, alloc),
+        Part::Memory => read_memory::<A, G>(bytes, alloc),
+        Part::Lane => read_lane::<A, G>(bytes, alloc),
+        Part::Lanes => read_lanes::<A, G>(bytes, alloc),
+        Part::Block => read_block::<A, G>(bytes, alloc),
+        Part::Heap => read_heap::<A, G>(bytes, alloc),
+        Part::Ordering => read_ordering::<A, G>(bytes, alloc),
+        Part::Labels => read_labels::<A, G>(bytes, alloc),
+        Part::Catches => read_catches::<A, G>(bytes, alloc),
+        Part::Types => read_types::<A, G>(bytes, alloc),
+        Part::Handles => read_handles::<A, G>(bytes, alloc),
+        Part::Flag => read_flag::<A, G>(bytes, alloc),
     }
 }
 
 /// Decodes one argument for each of `wanted`, appends it to `args`, and returns the remaining
 /// bytes.
-fn read_parts<'a, A: Allocator + Copy>(
+fn read_parts<'a, A: Allocator + Copy, G: Grammar>(
     wanted: &[Part],
     bytes: &'a [u8],
     alloc: A,
     args: &mut Vec<Arg<A>, A>,
-) -> Result<&'a [u8], ReadFault>
+) -> Result<&'a [u8], DecodeError>
     requires { args.old.items ≡ [] }
-    ensures found { IfOk result (λ rest. Decodes (arguments wanted.now) padded bytes.now (map argument_view args.new.items) rest.now) }
-    ensures none { IfErr result (λ e. e ≢ Memory → Rejects (arguments wanted.now) padded bytes.now) }
+    ensures found { IfOk result (λ rest. Decodes (arguments wanted.now) (padded_of G.grammar) bytes.now (map argument_view args.new.items) rest.now) }
+    ensures none { IfErr result (λ e. e.cause ≢ Memory → Rejects (arguments wanted.now) (padded_of G.grammar) bytes.now) }
 {
     let mut rest = bytes;
     for part in wanted {
-        let (arg, after) = read_part(*part, rest, alloc)?;
+        let (arg, after) = read_part::<A, G>(*part, rest, alloc)?;
         args.push(arg)?;
         rest = after;
     }
@@ -347,17 +347,17 @@ fn read_parts<'a, A: Allocator + Copy>(
 /// shapes.
 #[inline(never)]
 #[tactic(auto, using(crate::proofs::DecodeArguments::shape_steps))]
-fn read_any<'a, A: Allocator + Copy>(
+fn read_any<'a, A: Allocator + Copy, G: Grammar>(
     shape: Shape,
     bytes: &'a [u8],
     alloc: A,
-) -> Result<(Vec<Arg<A>, A>, &'a [u8]), ReadFault>
-    ensures found { IfOk result (λ x. Decodes (arguments (parts_of shape)) padded bytes.now (map argument_view x.0.items) x.1.now) }
-    ensures none { IfErr result (λ e. e ≢ Memory → Rejects (arguments (parts_of shape)) padded bytes.now) }
+) -> Result<(Vec<Arg<A>, A>, &'a [u8]), DecodeError>
+    ensures found { IfOk result (λ x. Decodes (arguments (parts_of shape)) (padded_of G.grammar) bytes.now (map argument_view x.0.items) x.1.now) }
+    ensures none { IfErr result (λ e. e.cause ≢ Memory → Rejects (arguments (parts_of shape)) (padded_of G.grammar) bytes.now) }
 {
     let wanted = shape.parts();
     let mut args = Vec::with_capacity(alloc, wanted.len())?;
-    let rest = read_parts(wanted, bytes, alloc, &mut args)?;
+    let rest = read_parts::<A, G>(wanted, bytes, alloc, &mut args)?;
     Ok((args, rest))
 }
 
@@ -366,9 +366,9 @@ fn read_any<'a, A: Allocator + Copy>(
 fn list_one<'a, A: Allocator + Copy>(
     alloc: A,
     read: (Arg<A>, &'a [u8]),
-) -> Result<(Vec<Arg<A>, A>, &'a [u8]), ReadFault>
+) -> Result<(Vec<Arg<A>, A>, &'a [u8]), DecodeError>
     ensures listed { IfOk result (λ x. (x.0.items ≡ read.entry.0 ∷ []) × (x.1.now ≡ read.entry.1.now)) }
-    ensures refused { IfErr result (λ e. e ≡ Memory) }
+    ensures refused { IfErr result (λ e. e.cause ≡ Memory) }
 {
     let (arg, rest) = read;
     let mut args = Vec::with_capacity(alloc, 1)?;
@@ -379,39 +379,39 @@ fn list_one<'a, A: Allocator + Copy>(
 /// Decodes the arguments of an opcode of this shape, into a list of exactly their number. Common
 /// shapes are decoded inline.
 #[inline]
-pub(crate) fn read_arguments<'a, A: Allocator + Copy>(
+pub(crate) fn read_arguments<'a, A: Allocator + Copy, G: Grammar>(
     shape: Shape,
     bytes: &'a [u8],
     alloc: A,
-) -> Result<(Vec<Arg<A>, A>, &'a [u8]), ReadFault>
-    ensures found { IfOk result (λ x. Decodes (arguments (parts_of shape)) padded bytes.now (map argument_view x.0.items) x.1.now) }
-    ensures none { IfErr result (λ e. e ≢ Memory → Rejects (arguments (parts_of shape)) padded bytes.now) }
+) -> Result<(Vec<Arg<A>, A>, &'a [u8]), DecodeError>
+    ensures found { IfOk result (λ x. Decodes (arguments (parts_of shape)) (padded_of G.grammar) bytes.now (map argument_view x.0.items) x.1.now) }
+    ensures none { IfErr result (λ e. e.cause ≢ Memory → Rejects (arguments (parts_of shape)) (padded_of G.grammar) bytes.now) }
 {
     match shape {
         Shape::Nothing => Ok((Vec::new(alloc), bytes)),
-        Shape::U => list_one(alloc, read_unsigned(bytes, alloc)?),
-        Shape::M => list_one(alloc, read_memory(bytes, alloc)?),
-        Shape::C32 => list_one(alloc, read_signed32(bytes, alloc)?),
-        Shape::C64 => list_one(alloc, read_signed64(bytes, alloc)?),
-        Shape::B => list_one(alloc, read_block(bytes, alloc)?),
-        _ => read_any(shape, bytes, alloc),
+        Shape::U => list_one(alloc, read_unsigned::<A, G>(bytes, alloc)?),
+        Shape::M => list_one(alloc, read_memory::<A, G>(bytes, alloc)?),
+        Shape::C32 => list_one(alloc, read_signed32::<A, G>(bytes, alloc)?),
+        Shape::C64 => list_one(alloc, read_signed64::<A, G>(bytes, alloc)?),
+        Shape::B => list_one(alloc, read_block::<A, G>(bytes, alloc)?),
+        _ => read_any::<A, G>(shape, bytes, alloc),
     }
 }
 
 /// Decodes the arguments of any shape into the memory of `args`. Out of line, for rare shapes.
 #[inline(never)]
 #[tactic(auto, using(crate::proofs::DecodeArguments::shape_steps))]
-fn read_any_into<'a, A: Allocator + Copy>(
+fn read_any_into<'a, A: Allocator + Copy, G: Grammar>(
     shape: Shape,
     bytes: &'a [u8],
     alloc: A,
     args: &mut Vec<Arg<A>, A>,
-) -> Result<&'a [u8], ReadFault>
-    ensures found { IfOk result (λ rest. Decodes (arguments (parts_of shape)) padded bytes.now (map argument_view args.new.items) rest.now) }
-    ensures none { IfErr result (λ e. e ≢ Memory → Rejects (arguments (parts_of shape)) padded bytes.now) }
+) -> Result<&'a [u8], DecodeError>
+    ensures found { IfOk result (λ rest. Decodes (arguments (parts_of shape)) (padded_of G.grammar) bytes.now (map argument_view args.new.items) rest.now) }
+    ensures none { IfErr result (λ e. e.cause ≢ Memory → Rejects (arguments (parts_of shape)) (padded_of G.grammar) bytes.now) }
 {
     args.clear();
-    read_parts(shape.parts(), bytes, alloc, args)
+    read_parts::<A, G>(shape.parts(), bytes, alloc, args)
 }
 
 /// Makes the decoded argument the only one of the list, and returns the remaining bytes.
@@ -419,9 +419,9 @@ fn read_any_into<'a, A: Allocator + Copy>(
 fn keep_one<'a, A: Allocator + Copy>(
     args: &mut Vec<Arg<A>, A>,
     read: (Arg<A>, &'a [u8]),
-) -> Result<&'a [u8], ReadFault>
+) -> Result<&'a [u8], DecodeError>
     ensures kept { IfOk result (λ rest. (args.new.items ≡ read.entry.0 ∷ []) × (rest.now ≡ read.entry.1.now)) }
-    ensures refused { IfErr result (λ e. e ≡ Memory) }
+    ensures refused { IfErr result (λ e. e.cause ≡ Memory) }
 {
     let (arg, rest) = read;
     if let [one] = &mut args[..] {
@@ -436,26 +436,26 @@ fn keep_one<'a, A: Allocator + Copy>(
 /// Decodes the arguments of an opcode of this shape into the memory of `args`, and drops its old
 /// ones. Common shapes are decoded inline.
 #[inline]
-pub(crate) fn read_arguments_into<'a, A: Allocator + Copy>(
+pub(crate) fn read_arguments_into<'a, A: Allocator + Copy, G: Grammar>(
     shape: Shape,
     bytes: &'a [u8],
     alloc: A,
     args: &mut Vec<Arg<A>, A>,
-) -> Result<&'a [u8], ReadFault>
-    ensures found { IfOk result (λ rest. Decodes (arguments (parts_of shape)) padded bytes.now (map argument_view args.new.items) rest.now) }
-    ensures none { IfErr result (λ e. e ≢ Memory → Rejects (arguments (parts_of shape)) padded bytes.now) }
+) -> Result<&'a [u8], DecodeError>
+    ensures found { IfOk result (λ rest. Decodes (arguments (parts_of shape)) (padded_of G.grammar) bytes.now (map argument_view args.new.items) rest.now) }
+    ensures none { IfErr result (λ e. e.cause ≢ Memory → Rejects (arguments (parts_of shape)) (padded_of G.grammar) bytes.now) }
 {
     match shape {
         Shape::Nothing => {
             args.clear();
             Ok(bytes)
         }
-        Shape::U => keep_one(args, read_unsigned(bytes, alloc)?),
-        Shape::M => keep_one(args, read_memory(bytes, alloc)?),
-        Shape::C32 => keep_one(args, read_signed32(bytes, alloc)?),
-        Shape::C64 => keep_one(args, read_signed64(bytes, alloc)?),
-        Shape::B => keep_one(args, read_block(bytes, alloc)?),
-        _ => read_any_into(shape, bytes, alloc, args),
+        Shape::U => keep_one(args, read_unsigned::<A, G>(bytes, alloc)?),
+        Shape::M => keep_one(args, read_memory::<A, G>(bytes, alloc)?),
+        Shape::C32 => keep_one(args, read_signed32::<A, G>(bytes, alloc)?),
+        Shape::C64 => keep_one(args, read_signed64::<A, G>(bytes, alloc)?),
+        Shape::B => keep_one(args, read_block::<A, G>(bytes, alloc)?),
+        _ => read_any_into::<A, G>(shape, bytes, alloc, args),
     }
 }
 
@@ -503,50 +503,50 @@ pub(crate) fn append_arguments<A: Allocator, B: Allocator>(
 }
 
 /// Skips one argument, and returns the remaining bytes. Lists are skipped member by member.
-fn skip_part<'a, A: Allocator + Copy>(
+fn skip_part<'a, A: Allocator + Copy, G: Grammar>(
     wanted: Part,
     bytes: &'a [u8],
     alloc: A,
-) -> Result<&'a [u8], ReadFault>
-    ensures found { IfOk result (λ rest. (x : Argument) × Decodes (part wanted) padded bytes.now x rest.now) }
-    ensures none { IfErr result (λ e. e ≢ Memory → Rejects (part wanted) padded bytes.now) }
+) -> Result<&'a [u8], DecodeError>
+    ensures found { IfOk result (λ rest. (x : Argument) × Decodes (part wanted) (padded_of G.grammar) bytes.now x rest.now) }
+    ensures none { IfErr result (λ e. e.cause ≢ Memory → Rejects (part wanted) (padded_of G.grammar) bytes.now) }
 {
     match wanted {
         Part::Labels => {
-            let (_count, rest) = skip_many::<'a, Dropped<u32>, A>(bytes, alloc)?;
+            let (_count, rest) = skip_many::<'a, Dropped<u32>, A, G>(bytes, alloc)?;
             Ok(rest)
         }
         Part::Catches => {
-            let (_count, rest) = skip_many::<'a, Dropped<Catch>, A>(bytes, alloc)?;
+            let (_count, rest) = skip_many::<'a, Dropped<Catch>, A, G>(bytes, alloc)?;
             Ok(rest)
         }
         Part::Types => {
-            let (_count, rest) = skip_many::<'a, Dropped<ValType>, A>(bytes, alloc)?;
+            let (_count, rest) = skip_many::<'a, Dropped<ValType>, A, G>(bytes, alloc)?;
             Ok(rest)
         }
         Part::Handles => {
-            let (_count, rest) = skip_many::<'a, Dropped<Handle>, A>(bytes, alloc)?;
+            let (_count, rest) = skip_many::<'a, Dropped<Handle>, A, G>(bytes, alloc)?;
             Ok(rest)
         }
         _ => {
-            let (_arg, rest) = read_part(wanted, bytes, alloc)?;
+            let (_arg, rest) = read_part::<A, G>(wanted, bytes, alloc)?;
             Ok(rest)
         }
     }
 }
 
 /// Skips one argument for each of `wanted`, and returns the remaining bytes.
-fn skip_parts<'a, A: Allocator + Copy>(
+fn skip_parts<'a, A: Allocator + Copy, G: Grammar>(
     wanted: &[Part],
     bytes: &'a [u8],
     alloc: A,
-) -> Result<&'a [u8], ReadFault>
-    ensures found { IfOk result (λ rest. (xs : List Argument) × Decodes (arguments wanted.now) padded bytes.now xs rest.now) }
-    ensures none { IfErr result (λ e. e ≢ Memory → Rejects (arguments wanted.now) padded bytes.now) }
+) -> Result<&'a [u8], DecodeError>
+    ensures found { IfOk result (λ rest. (xs : List Argument) × Decodes (arguments wanted.now) (padded_of G.grammar) bytes.now xs rest.now) }
+    ensures none { IfErr result (λ e. e.cause ≢ Memory → Rejects (arguments wanted.now) (padded_of G.grammar) bytes.now) }
 {
     let mut rest = bytes;
     for part in wanted {
-        rest = skip_part(*part, rest, alloc)?;
+        rest = skip_part::<A, G>(*part, rest, alloc)?;
     }
     Ok(rest)
 }
@@ -554,50 +554,50 @@ fn skip_parts<'a, A: Allocator + Copy>(
 /// Skips the arguments of any shape, and returns the remaining bytes. Out of line, for rare shapes.
 #[inline(never)]
 #[tactic(auto, using(crate::proofs::DecodeArguments::shape_steps))]
-fn skip_any<'a, A: Allocator + Copy>(
+fn skip_any<'a, A: Allocator + Copy, G: Grammar>(
     shape: Shape,
     bytes: &'a [u8],
     alloc: A,
-) -> Result<&'a [u8], ReadFault>
-    ensures found { IfOk result (λ rest. (xs : List Argument) × Decodes (arguments (parts_of shape)) padded bytes.now xs rest.now) }
-    ensures none { IfErr result (λ e. e ≢ Memory → Rejects (arguments (parts_of shape)) padded bytes.now) }
+) -> Result<&'a [u8], DecodeError>
+    ensures found { IfOk result (λ rest. (xs : List Argument) × Decodes (arguments (parts_of shape)) (padded_of G.grammar) bytes.now xs rest.now) }
+    ensures none { IfErr result (λ e. e.cause ≢ Memory → Rejects (arguments (parts_of shape)) (padded_of G.grammar) bytes.now) }
 {
-    skip_parts(shape.parts(), bytes, alloc)
+    skip_parts::<A, G>(shape.parts(), bytes, alloc)
 }
 
 /// Skips the arguments of an opcode of this shape, and returns the remaining bytes. Common shapes
 /// are skipped inline.
 #[inline]
-pub(crate) fn skip_arguments<'a, A: Allocator + Copy>(
+pub(crate) fn skip_arguments<'a, A: Allocator + Copy, G: Grammar>(
     shape: Shape,
     bytes: &'a [u8],
     alloc: A,
-) -> Result<&'a [u8], ReadFault>
-    ensures found { IfOk result (λ rest. (xs : List Argument) × Decodes (arguments (parts_of shape)) padded bytes.now xs rest.now) }
-    ensures none { IfErr result (λ e. e ≢ Memory → Rejects (arguments (parts_of shape)) padded bytes.now) }
+) -> Result<&'a [u8], DecodeError>
+    ensures found { IfOk result (λ rest. (xs : List Argument) × Decodes (arguments (parts_of shape)) (padded_of G.grammar) bytes.now xs rest.now) }
+    ensures none { IfErr result (λ e. e.cause ≢ Memory → Rejects (arguments (parts_of shape)) (padded_of G.grammar) bytes.now) }
 {
     match shape {
         Shape::Nothing => Ok(bytes),
         Shape::U => {
-            let (_arg, rest) = read_unsigned(bytes, alloc)?;
+            let (_arg, rest) = read_unsigned::<A, G>(bytes, alloc)?;
             Ok(rest)
         }
         Shape::M => {
-            let (_arg, rest) = read_memory(bytes, alloc)?;
+            let (_arg, rest) = read_memory::<A, G>(bytes, alloc)?;
             Ok(rest)
         }
         Shape::C32 => {
-            let (_arg, rest) = read_signed32(bytes, alloc)?;
+            let (_arg, rest) = read_signed32::<A, G>(bytes, alloc)?;
             Ok(rest)
         }
         Shape::C64 => {
-            let (_arg, rest) = read_signed64(bytes, alloc)?;
+            let (_arg, rest) = read_signed64::<A, G>(bytes, alloc)?;
             Ok(rest)
         }
         Shape::B => {
-            let (_arg, rest) = read_block(bytes, alloc)?;
+            let (_arg, rest) = read_block::<A, G>(bytes, alloc)?;
             Ok(rest)
         }
-        _ => skip_any(shape, bytes, alloc),
+        _ => skip_any::<A, G>(shape, bytes, alloc),
     }
 }

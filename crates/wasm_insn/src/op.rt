@@ -1,13 +1,13 @@
 // Opcodes, and the shapes of their immediates.
 ghost use Rattle.std.specs.Prelude.{⊤, ◌≢◌, IfOk, IfErr};
 ghost use Rattle.wasm_insn.specs.Opcodes.{op_encoding};
-ghost use Rattle.wasm_base.specs.Numbers.{padded};
+ghost use Rattle.wasm_base.specs.Numbers.{padded_of};
 ghost use Rattle.wasm_base.specs.Decoding.{Decodes, Rejects};
 ghost use Rattle.wasm_insn.specs.Plain.{opcode};
 ghost use Rattle.wasm_base.specs.declared.fault.ReadFault.TheVariants.{Memory};
 
 use std::alloc::Allocator;
-use wasm_base::{Encode, Layout, ReadFault, Readable, Result, Shorten};
+use wasm_base::{DecodeError, Encode, Grammar, Readable, Result};
 
 /// An opcode: a byte, or a prefix and a number.
 #[derive(Clone, Copy, PartialEq, Eq, Hash, Debug)]
@@ -86,20 +86,20 @@ impl Encode for Op {
 /// Decodes the opcode at the front, and returns it with the remaining bytes.
 #[tactic(auto, using(crate::proofs::DecodeInstructions::opcode_steps))]
 #[inline]
-pub(crate) fn read_op<'a, A: Allocator + Copy>(
+pub(crate) fn read_op<'a, A: Allocator + Copy, G: Grammar>(
     bytes: &'a [u8],
     alloc: A,
-) -> Result<(Op, &'a [u8]), ReadFault>
-    ensures found { IfOk result (λ x. Decodes opcode padded bytes.now x.0 x.1.now) }
-    ensures none { IfErr result (λ e. e ≢ Memory → Rejects opcode padded bytes.now) }
+) -> Result<(Op, &'a [u8]), DecodeError>
+    ensures found { IfOk result (λ x. Decodes opcode (padded_of G.grammar) bytes.now x.0 x.1.now) }
+    ensures none { IfErr result (λ e. e.cause ≢ Memory → Rejects opcode (padded_of G.grammar) bytes.now) }
 {
-    let (byte, rest) = <u8 as Readable<'a, A>>::read(bytes, alloc)?;
+    let (byte, rest) = <u8 as Readable<'a, A, G>>::read(bytes, alloc)?;
     if byte < 0xFB {
         return Ok((Op::Byte(byte), rest));
     }
     if byte == 0xFF {
         return Ok((Op::Byte(byte), rest));
     }
-    let (number, rest) = <u32 as Readable<'a, A>>::read(rest, alloc)?;
+    let (number, rest) = <u32 as Readable<'a, A, G>>::read(rest, alloc)?;
     Ok((Op::Prefixed(byte, number), rest))
 }

@@ -1,24 +1,20 @@
 // An instruction in normal form, an opcode and its arguments: decoded, skipped and minimized.
-ghost use Rattle.std.specs.Prelude.{◌≡◌, ◌≢◌, IfOk, IfErr, Err, OnOk, map, List};
-ghost use Rattle.wasm_base.specs.Numbers.{padded};
+ghost use Rattle.std.specs.Prelude.{◌≢◌, IfOk, IfErr, Err, OnOk, map};
+ghost use Rattle.wasm_base.specs.Numbers.{padded_of};
 ghost use Rattle.wasm_base.specs.Decoding.{Decodes, Rejects};
-ghost use Rattle.wasm_insn.specs.Plain.{Plain as PlainInstruction, opcode, instruction, part, arguments};
+ghost use Rattle.wasm_insn.specs.Plain.{Plain as PlainInstruction, instruction, arguments};
 ghost use Rattle.wasm_insn.specs.Table.{table};
 ghost use Rattle.wasm_base.specs.declared.refused.Refused.TheVariants.{TooLong};
 ghost use Rattle.wasm_base.specs.Minimal.{AppendsMinimal, IsFrontOf, HasEncoding};
 ghost use Rattle.wasm_base.specs.declared.fault.ReadFault.TheVariants.{Memory};
 ghost use Rattle.wasm_insn.specs.Views.{argument_view, plain_view};
-ghost use Rattle.wasm_base.specs.Formats.{members, size_prefixed};
-ghost use Rattle.wasm_base.specs.Continuing.{RejectsWhole};
-ghost use Rattle.wasm_insn.specs.Arguments.{Argument};
-ghost use Rattle.wasm_insn.specs.Parts.{parts_of};
 
 use crate::arguments::{
     Arg, append_arguments, read_arguments, read_arguments_into, skip_arguments,
 };
 use crate::op::{Op, read_op};
 use std::alloc::{Allocator, Global};
-use wasm_base::{Encode, Layout, ReadFault, Readable, Result, Shorten, Skip};
+use wasm_base::{DecodeError, Encode, Grammar, Layout, ReadFault, Readable, Result, Shorten, Skip};
 
 /// An instruction in normal form: its opcode, and an argument for each immediate of the opcode's
 /// shape.
@@ -39,14 +35,14 @@ impl<A: Allocator> Layout for Plain<A> {
     fn laws() {}
 }
 
-impl<'a, A: Allocator + Copy> Readable<'a, A> for Plain<A> {
+impl<'a, A: Allocator + Copy, G: Grammar> Readable<'a, A, G> for Plain<A> {
     #[tactic(auto, using(crate::proofs::DecodeInstructions::instruction_steps))]
-    fn read(bytes: &'a [u8], alloc: A) -> Result<(Plain<A>, &'a [u8]), ReadFault> {
-        let (op, rest) = read_op(bytes, alloc)?;
+    fn read(bytes: &'a [u8], alloc: A) -> Result<(Plain<A>, &'a [u8]), DecodeError> {
+        let (op, rest) = read_op::<A, G>(bytes, alloc)?;
         let Some(shape) = op.shape() else {
-            return Err(ReadFault::UnknownOpcode);
+            return Err(ReadFault::UnknownOpcode.at(bytes));
         };
-        let (args, rest) = read_arguments(shape, rest, alloc)?;
+        let (args, rest) = read_arguments::<A, G>(shape, rest, alloc)?;
         Ok((Plain { op, args }, rest))
     }
 }
@@ -54,19 +50,19 @@ impl<'a, A: Allocator + Copy> Readable<'a, A> for Plain<A> {
 /// Decodes the instruction at the front: returns its opcode and the remaining bytes, and replaces
 /// the content of `args` by its arguments.
 #[tactic(auto, using(crate::proofs::DecodeInstructions::instruction_steps))]
-pub fn read_instruction_into<'a, A: Allocator + Copy>(
+pub fn read_instruction_into<'a, A: Allocator + Copy, G: Grammar>(
     bytes: &'a [u8],
     alloc: A,
     args: &mut Vec<Arg<A>, A>,
-) -> Result<(Op, &'a [u8]), ReadFault>
-    ensures found { IfOk result (λ x. Decodes (instruction table) padded bytes.now (record { op = x.0; arguments = map argument_view args.new.items }) x.1.now) }
-    ensures none { IfErr result (λ e. e ≢ Memory → Rejects (instruction table) padded bytes.now) }
+) -> Result<(Op, &'a [u8]), DecodeError>
+    ensures found { IfOk result (λ x. Decodes (instruction table) (padded_of G.grammar) bytes.now (record { op = x.0; arguments = map argument_view args.new.items }) x.1.now) }
+    ensures none { IfErr result (λ e. e.cause ≢ Memory → Rejects (instruction table) (padded_of G.grammar) bytes.now) }
 {
-    let (op, rest) = read_op(bytes, alloc)?;
+    let (op, rest) = read_op::<A, G>(bytes, alloc)?;
     let Some(shape) = op.shape() else {
-        return Err(ReadFault::UnknownOpcode);
+        return Err(ReadFault::UnknownOpcode.at(bytes));
     };
-    let rest = read_arguments_into(shape, rest, alloc, args)?;
+    let rest = read_arguments_into::<A, G>(shape, rest, alloc, args)?;
     Ok((op, rest))
 }
 
@@ -91,15 +87,15 @@ impl<A: Allocator> Shorten for Plain<A> {
 }
 
 /// Skips the instruction at the front, and allocates nothing.
-impl<'a, A: Allocator + Copy> Skip<'a, A> for Plain<A> {
+impl<'a, A: Allocator + Copy, G: Grammar> Skip<'a, A, G> for Plain<A> {
     #[tactic(auto, using(crate::proofs::DecodeInstructions::instruction_steps))]
     #[inline]
-    fn skip(bytes: &'a [u8], alloc: A) -> Result<&'a [u8], ReadFault> {
-        let (op, rest) = read_op(bytes, alloc)?;
+    fn skip(bytes: &'a [u8], alloc: A) -> Result<&'a [u8], DecodeError> {
+        let (op, rest) = read_op::<A, G>(bytes, alloc)?;
         let Some(shape) = op.shape() else {
-            return Err(ReadFault::UnknownOpcode);
+            return Err(ReadFault::UnknownOpcode.at(bytes));
         };
-        let rest = skip_arguments(shape, rest, alloc)?;
+        let rest = skip_arguments::<A, G>(shape, rest, alloc)?;
         Ok(rest)
     }
 }

@@ -6,7 +6,7 @@ ghost use Rattle.wasm_base.specs.Types.{IsHeap, IsVal};
 ghost use Rattle.wasm_immediates.specs.ImmediateFormats.{IsWellFormedMemory, IsWellFormedBlock, IsWellFormedCatch, IsWellFormedHandle};
 ghost use Rattle.wasm_insn.specs.Arguments.{unsigned, heap, flag};
 ghost use Rattle.wasm_insn.specs.Atomic.{atomic_row};
-ghost use Rattle.wasm_insn.specs.Instructions.{row_of, cast_flag_of, IsWellFormedWhereAligned};
+ghost use Rattle.wasm_insn.specs.Instructions.{cast_flag_of, IsWellFormedWhereAligned};
 ghost use Rattle.wasm_insn.specs.Plain.{AreWellFormed, HaveSmallAlignments};
 ghost use Rattle.wasm_insn.specs.VectorImmediate.{vector_immediate_row};
 

@@ -18,8 +18,8 @@ pub trait Buffer {
     /// `written`: the bytes in the buffer.
     ghost written: { Self → List ℕ };
 
-    /// `has_spare_capacity`: the buffer has spare capacity for this many bytes. A buffer may leave this
-    /// unspecified.
+    /// `has_spare_capacity`: the buffer has spare capacity for this many bytes. A buffer may leave
+    /// this unspecified.
     ghost has_spare_capacity: { Self → ℕ → Type 0 } = { λ _ _. ⊥ };
 
     /// Appends the encoding of the value. On an error, the bytes are unchanged.

@@ -45,7 +45,7 @@ as_size_prefixed h = record { front = h.front; split = h.split; encodes = h.enco
 pub line_not_size_prefixed : (bytes rest : List ℕ) (id : ℕ) → Decodes byte padded bytes id rest → Rejects (size_prefixed any_bytes) padded rest → Rejects sized_section padded bytes
 line_not_size_prefixed bytes rest id h n = then_rejects_second {G = λ i. Sized (kind_of_id i)} byte_unambiguous h (record { none = λ p last g. n.none g.encodes.payload last (as_size_prefixed g) })
 
-pub line_rejects : (bytes rest sized after : List ℕ) (id : ℕ) → Decodes byte padded bytes id rest → Decodes (size_prefixed any_bytes) padded rest sized after → RejectsWhole (content (kind_of_id id)) sized → Rejects sized_section padded bytes
+pub line_rejects : (bytes rest sized after : List ℕ) (id : ℕ) → Decodes byte padded bytes id rest → Decodes (size_prefixed any_bytes) padded rest sized after → RejectsWhole (content (kind_of_id id)) padded sized → Rejects sized_section padded bytes
 line_rejects bytes rest sized after id h g n =
     then_rejects_second {G = λ i. Sized (kind_of_id i)} byte_unambiguous h (record {
       none = λ p last k. n.none p.1 (subst (λ z. content (kind_of_id id) padded z p.1) (sym (decodes_same size_prefixed_bytes_unambiguous g (as_size_prefixed k)).0) k.encodes.contains);

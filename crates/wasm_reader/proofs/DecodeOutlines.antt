@@ -1,11 +1,11 @@
 -- This file proves how the reader outlines a module.
+use Rattle.wasm_base.proofs.Words.{standard, ◌≡◌, ◌≢◌, ℕ, ◌<◌, ◌^◌, ◌+◌, ◌-◌, suc, List, [], ◌∷◌, ◌++◌, length, map, take, Option, Some, None, refl, sym, ap, subst, ◌∙◌, append_assoc, append-nil}
+use Rattle.wasm_base.proofs.Words.{arith, AllByRecursion, flat_map, flat_map-append, length-map, take_at, RejectsWhole, padded, Format, any_bytes, any_section, byte, fixed, size_prefixed, header}
+use Rattle.wasm_base.proofs.Words.{members, vec, wasm_module, Decodes, Rejects, BeginsWith, byte_unambiguous, begins_then, section_unambiguous, then_rejects_first, then_rejects_second}
 use Rattle.wasm_reader.specs.{number_in, Contents, Types, content, Section, IsSection, bytes_of, count_in, IsCount, IsOutline, AreOutlines, HasOutline, EndsAt}
 use Rattle.wasm_reader.specs.declared.outlines.Outlined.{Outlined}
 use Rattle.wasm_reader.specs.declared.kinds.SectionKind.{SectionKind}
 use Rattle.wasm_reader.proofs.KindLaws.{content_whole, counted_alike}
-use Rattle.wasm_base.proofs.Words.{◌≡◌, ◌≢◌, ℕ, ◌<◌, ◌^◌, ◌+◌, ◌-◌, suc, List, [], ◌∷◌, ◌++◌, length, map, take, Option, Some, None, refl, sym, ap, subst, ◌∙◌, append_assoc, append-nil, arith}
-use Rattle.wasm_base.proofs.Words.{AllByRecursion, flat_map, flat_map-append, length-map, take_at, RejectsWhole, padded, Format, any_bytes, any_section, byte, fixed, size_prefixed, header, members}
-use Rattle.wasm_base.proofs.Words.{vec, wasm_module, Decodes, Rejects, BeginsWith, byte_unambiguous, begins_then, section_unambiguous, then_rejects_first, then_rejects_second}
 use Rattle.std.proofs.lemmas.List.{length-append}
 use Rattle.wasm_types.proofs.Words.{TypeItem, type_item}
 use Rattle.wasm_reader.proofs.ModuleLaws.{one_way}
@@ -37,25 +37,25 @@ pub ruleset standing_steps = (sized_is, section_split)
 
 -- ---- the number of items
 
-same_count : (kind : SectionKind) (payload : List ℕ) (x : Contents) (number : Option ℕ) → content kind padded payload x → count_in x ≡ number → IsCount kind payload number
+same_count : (kind : SectionKind) (payload : List ℕ) (x : Contents) (number : Option ℕ) → content kind standard payload x → count_in x ≡ number → IsCount kind payload number
 same_count kind payload x (Some n) h e = (x, h, e)
-same_count kind payload x None h e = λ y g. ap count_in ((content_whole kind).whole padded payload y x g h) ∙ e
+same_count kind payload x None h e = λ y g. ap count_in ((content_whole kind).whole standard payload y x g h) ∙ e
 
-pub types_counted : (payload : List ℕ) (types : List TypeItem) (n : ℕ) → vec type_item padded payload types → n ≡ length types → IsCount kinds.Types payload (Some n)
+pub types_counted : (payload : List ℕ) (types : List TypeItem) (n : ℕ) → vec type_item standard payload types → n ≡ length types → IsCount kinds.Types payload (Some n)
 types_counted payload types n h e = (Types types, (types, refl, h), ap Some (sym e))
 
-pub types_uncounted : (payload : List ℕ) → RejectsWhole (vec type_item) payload → IsCount kinds.Types payload None
+pub types_uncounted : (payload : List ℕ) → RejectsWhole (vec type_item) standard payload → IsCount kinds.Types payload None
 types_uncounted payload n = λ x h. absurd (n.none h.0 h.2)
 
-pub types_few : (payload : List ℕ) (types : List TypeItem) → vec type_item padded payload types → length types < 2 ^ 32
+pub types_few : (payload : List ℕ) (types : List TypeItem) → vec type_item standard payload types → length types < 2 ^ 32
 types_few payload types h = h.first.range
 
 -- The number of items in a list is that in an outline, for kinds other than types.
-pub listed_count : (kind : SectionKind) (payload : List ℕ) (x : Contents) (number : Option ℕ) → kind ≢ kinds.Types → content kind padded payload x → number ≡ number_in x → IsCount kind payload number
-listed_count kind payload x number other h e = same_count kind payload x number h (counted_alike kind payload x other h ∙ sym e)
+pub listed_count : (kind : SectionKind) (payload : List ℕ) (x : Contents) (number : Option ℕ) → kind ≢ kinds.Types → content kind standard payload x → number ≡ number_in x → IsCount kind payload number
+listed_count kind payload x number other h e = same_count kind payload x number h (counted_alike standard kind payload x other h ∙ sym e)
 
 -- There is no number of items if nothing decodes.
-pub not_counted : (kind : SectionKind) (payload : List ℕ) → RejectsWhole (content kind) payload → IsCount kind payload None
+pub not_counted : (kind : SectionKind) (payload : List ℕ) → RejectsWhole (content kind) standard payload → IsCount kind payload None
 not_counted kind payload n = λ x h. absurd (n.none x h)
 
 pub ruleset count_steps = (types_counted, types_few)
@@ -99,7 +99,7 @@ pub sections_read : (bytes rest : List ℕ) (sections : List Section) → AllByR
 sections_read bytes rest sections h e = record { front = flat_map bytes_of sections; split = e; encodes = sections_encodes sections h }
 
 -- If no section decodes at the end of the sections, the bytes are not a module.
-pub no_module : (bytes start rest : List ℕ) (xs : List (ℕ × List ℕ)) → bytes ≡ header ++ start → Decodes (members any_section) padded start xs rest → rest ≢ [] → Rejects any_section padded rest → RejectsWhole wasm_module bytes
+pub no_module : (bytes start rest : List ℕ) (xs : List (ℕ × List ℕ)) → bytes ≡ header ++ start → Decodes (members any_section) padded start xs rest → rest ≢ [] → Rejects any_section padded rest → RejectsWhole wasm_module padded bytes
 no_module bytes start rest xs e h more n = record {
   none = λ ys g.
       let t = g.2 in
@@ -112,7 +112,7 @@ no_module bytes start rest xs e h more n = record {
     cancel : (a b : List ℕ) → header ++ a ≡ header ++ b → a ≡ b
     cancel a b e = cc e
 
-pub no_header : (bytes : List ℕ) → Rejects (fixed header (tt {0})) padded bytes → RejectsWhole wasm_module bytes
+pub no_header : (bytes : List ℕ) → Rejects (fixed header (tt {0})) padded bytes → RejectsWhole wasm_module padded bytes
 no_header bytes n = record { none = λ ys g. let t = g.2 in n.none tt t.back (record { front = header; split = t.joined ∙ ap (λ z. z ++ t.back) t.first.0; encodes = (refl, refl) }) }
 
 pub ends_behind : (bytes start rest : List ℕ) (xs : List (ℕ × List ℕ)) → bytes ≡ header ++ start → Decodes (members any_section) padded start xs rest → rest ≢ [] → Rejects any_section padded rest → EndsAt bytes (suc (length xs))
@@ -171,7 +171,7 @@ module _ (bytes start rest : List ℕ) (lines : List Outlined) (e : bytes ≡ he
   pub outlined_ends : EndsAt bytes (suc (length lines))
   outlined_ends = subst (λ z. EndsAt bytes (suc z)) (length-map h.sections any_of ∙ outlines_length (length header) h.sections lines h.are_outlines) (ends_behind bytes start rest (map any_of h.sections) e read more n)
 
-  pub outlined_none : RejectsWhole wasm_module bytes
+  pub outlined_none : RejectsWhole wasm_module padded bytes
   outlined_none = no_module bytes start rest (map any_of h.sections) e read more n
 
 pub section_shorter : (s : Section) (bytes after : List ℕ) → bytes ≡ bytes_of s ++ after → length after < length bytes

@@ -20,7 +20,7 @@ takes kind bytes sized rest x n h g e = record { within = omega (arith, e); deco
 pub section_none : (kind : SectionKind) (bytes : List ℕ) → Rejects (size_prefixed any_bytes) padded bytes → Rejects (section kind) padded bytes
 section_none kind bytes n = filled_none (content kind) bytes n
 
-pub section_rejects : (kind : SectionKind) (bytes sized rest : List ℕ) → Decodes (size_prefixed any_bytes) padded bytes sized rest → RejectsWhole (content kind) sized → Rejects (section kind) padded bytes
+pub section_rejects : (kind : SectionKind) (bytes sized rest : List ℕ) → Decodes (size_prefixed any_bytes) padded bytes sized rest → RejectsWhole (content kind) padded sized → Rejects (section kind) padded bytes
 section_rejects kind bytes sized rest h n = filled_rejects (content kind) bytes sized rest h n
 
 pub ruleset section_steps = (takes)

@@ -1,10 +1,10 @@
 -- This file proves the laws of the kinds of sections: their decoding, their encoding, and their ids
 -- and names.
-use Rattle.wasm_base.proofs.Words.{◌≡◌, ℕ, List, [], ◌++◌, map, length, refl, sym, ap, subst, ◌∙◌, ◌≢◌, ◌∷◌, Bool, true, false, if◌then◌else◌, cond, Option, Some, Result, Ok, Err, map-id, minimal}
-use Rattle.wasm_base.proofs.Words.{padded, u32, name, any_bytes, pair, vec, size_prefixed, Format, mapped, UnambiguousWhole, Decodes, Rejects, vec_encoding, IsEncodableVec, name_unambiguous}
+use Rattle.wasm_base.proofs.Words.{Mode, ◌≡◌, ℕ, List, [], ◌++◌, map, length, refl, sym, ap, subst, ◌∙◌, ◌≢◌, ◌∷◌, Bool, true, false, if◌then◌else◌, cond, Option, Some, Result, Ok, Err, map-id}
+use Rattle.wasm_base.proofs.Words.{minimal, padded, u32, name, any_bytes, pair, vec, size_prefixed, Format, mapped, UnambiguousWhole, Decodes, Rejects, vec_encoding, IsEncodableVec, name_unambiguous}
 use Rattle.wasm_base.proofs.Words.{vec_unambiguous, whole_from_unique, mapped_whole, pair_whole, any_bytes_whole, u32_unambiguous, decodes_same, AppendsMinimal, encoding_appended, pair_appended}
 use Rattle.wasm_base.proofs.Words.{mapped_appended, records_appended, RejectsWhole, bytes_eq, ne_eqb}
-use Rattle.wasm_base.specs.declared.fault.ReadFault.{ReadFault}
+use Rattle.wasm_base.specs.declared.fault.DecodeError.{DecodeError}
 use Rattle.std.proofs.Common.{IfOk}
 use Rattle.wasm_code.proofs.Words.{body, size_prefixed_body_unambiguous}
 use Rattle.wasm_sections.proofs.Words.{data_item, element, global_item, import_format, table_item, IsEncodableExport, export_encoding, item_of, export, memory_encoding, memory_type, tag_encoding}
@@ -152,12 +152,12 @@ kind_is kinds.Types s x h = sym (ap kind_in h.1)
 -- If `F` decodes the whole bytes, a section of the kind decodes to the image by `f`. If `F` decodes
 -- nothing, neither does the kind.
 abbrev pub DecodesAs : {X : Type 0} → (X → Contents) → Format X → SectionKind → Type 0
-DecodesAs {X} f F k = (kind : SectionKind) (bytes : List ℕ) → kind ≡ k → (RejectsWhole F bytes → RejectsWhole (content kind) bytes) × ((x : X) → F padded bytes x → content kind padded bytes (f x))
+DecodesAs {X} f F k = (m : Mode) (kind : SectionKind) (bytes : List ℕ) → kind ≡ k → (RejectsWhole F m bytes → RejectsWhole (content kind) m bytes) × ((x : X) → F m bytes x → content kind m bytes (f x))
 
 decodes_as : {X : Type 0} (f : X → Contents) {F : Format X} {k : SectionKind} → content k ≡ mapped f F → DecodesAs f F k
-decodes_as f {F} is kind bytes e =
+decodes_as f {F} is m kind bytes e =
     let same : mapped f F ≡ content kind = sym (ap content e ∙ is) in
-    (λ n. subst (λ G. RejectsWhole G bytes) same (record { none = λ y h. n.none h.0 h.2 }), λ x h. subst (λ G. G padded bytes (f x)) same (x, refl, h))
+    (λ n. subst (λ G. RejectsWhole G m bytes) same (record { none = λ y h. n.none h.0 h.2 }), λ x h. subst (λ G. G m bytes (f x)) same (x, refl, h))
 
 pub bodies_read : DecodesAs Bodies (vec (size_prefixed body)) kinds.Bodies
 bodies_read = decodes_as Bodies refl
@@ -222,15 +222,15 @@ core_stack_read = decodes_as CoreStack refl
 pub types_read : DecodesAs Types (vec type_item) kinds.Types
 types_read = decodes_as Types refl
 
-pub custom_read : (kind : SectionKind) (bytes : List ℕ) → kind ≡ kinds.Custom → (Rejects name padded bytes → RejectsWhole (content kind) bytes) × ((encoding rest : List ℕ) → Decodes name padded bytes encoding rest → content kind padded bytes (Custom (encoding, rest)))
-custom_read kind bytes e =
-    let all = decodes_as Custom {F = pair name any_bytes} refl kind bytes e in (
+pub custom_read : (m : Mode) (kind : SectionKind) (bytes : List ℕ) → kind ≡ kinds.Custom → (Rejects name m bytes → RejectsWhole (content kind) m bytes) × ((encoding rest : List ℕ) → Decodes name m bytes encoding rest → content kind m bytes (Custom (encoding, rest)))
+custom_read m kind bytes e =
+    let all = decodes_as Custom {F = pair name any_bytes} refl m kind bytes e in (
       λ n. all.0 (record { none = λ y s. n.none y.0 s.back (record { front = s.front; split = s.joined; encodes = s.first }) }),
       λ encoding rest h. all.1 (encoding, rest) (record { front = h.front; back = rest; joined = h.split; first = h.encodes; second = refl }),
     )
 
-pub raw_read : (bytes : List ℕ) → content kinds.Raw padded bytes (Raw bytes)
-raw_read bytes = (bytes, refl, refl)
+pub raw_read : (m : Mode) (bytes : List ℕ) → content kinds.Raw m bytes (Raw bytes)
+raw_read m bytes = (bytes, refl, refl)
 
 pub ruleset content_steps = (bodies_read, segments_read, data_count_read, elements_read, exports_read, functions_read, globals_read, imports_read, memories_read, start_read, tables_read, tags_read, names_read, linking_read, producers_read, hints_read, core_read, core_modules_read, core_instances_read, core_stack_read, types_read, custom_read, raw_read)
 
@@ -319,11 +319,11 @@ keeps_name = kept_among known_names (names_kept, (linking_kept, (producers_kept,
 -- If the bytes are a vector of `F`, a section of the kind has as many items, which are the image by
 -- `f`.
 abbrev pub CountsAs : {X : Type 0} → (List X → Contents) → Format X → SectionKind → Type 0
-CountsAs {X} f F k = (kind : SectionKind) (bytes : List ℕ) (r : Result (Option ℕ) ReadFault) → kind ≡ k → IfOk r (λ n. (xs : List X) × vec F padded bytes xs × (n ≡ Some (length xs))) → IfOk r (λ n. (x : Contents) × content kind padded bytes x × (n ≡ number_in x))
+CountsAs {X} f F k = (m : Mode) (kind : SectionKind) (bytes : List ℕ) (r : Result (Option ℕ) DecodeError) → kind ≡ k → IfOk r (λ n. (xs : List X) × vec F m bytes xs × (n ≡ Some (length xs))) → IfOk r (λ n. (x : Contents) × content kind m bytes x × (n ≡ number_in x))
 
 count_as : {X : Type 0} (f : List X → Contents) {F : Format X} {k : SectionKind} → DecodesAs f (vec F) k → ((xs : List X) → Some (length xs) ≡ number_in (f xs)) → CountsAs f F k
-count_as f decodes numbered kind bytes (Ok n) e h = (f h.0, (decodes kind bytes e).1 h.0 h.1, h.2 ∙ numbered h.0)
-count_as f decodes numbered kind bytes (Err z) e h = tt
+count_as f decodes numbered m kind bytes (Ok n) e h = (f h.0, (decodes m kind bytes e).1 h.0 h.1, h.2 ∙ numbered h.0)
+count_as f decodes numbered m kind bytes (Err z) e h = tt
 
 pub bodies_counted : CountsAs Bodies (size_prefixed body) kinds.Bodies
 bodies_counted = count_as Bodies bodies_read (λ xs. refl)
@@ -358,27 +358,27 @@ tags_counted = count_as Tags tags_read (λ xs. refl)
 pub ruleset number_steps = (bodies_counted, segments_counted, elements_counted, exports_counted, functions_counted, globals_counted, imports_counted, memories_counted, tables_counted, tags_counted)
 
 -- Every kind but types has as many items in an outline as in a list.
-pub counted_alike : (kind : SectionKind) (payload : List ℕ) (x : Contents) → kind ≢ kinds.Types → content kind padded payload x → count_in x ≡ number_in x
-counted_alike kinds.Types payload x other h = absurd (other refl)
-counted_alike kinds.Bodies payload x other h = ap count_in (sym h.1) ∙ ap number_in h.1
-counted_alike kinds.Segments payload x other h = ap count_in (sym h.1) ∙ ap number_in h.1
-counted_alike kinds.DataCount payload x other h = ap count_in (sym h.1) ∙ ap number_in h.1
-counted_alike kinds.Elements payload x other h = ap count_in (sym h.1) ∙ ap number_in h.1
-counted_alike kinds.Exports payload x other h = ap count_in (sym h.1) ∙ ap number_in h.1
-counted_alike kinds.Functions payload x other h = ap count_in (sym h.1) ∙ ap number_in h.1
-counted_alike kinds.Globals payload x other h = ap count_in (sym h.1) ∙ ap number_in h.1
-counted_alike kinds.Imports payload x other h = ap count_in (sym h.1) ∙ ap number_in h.1
-counted_alike kinds.Memories payload x other h = ap count_in (sym h.1) ∙ ap number_in h.1
-counted_alike kinds.Start payload x other h = ap count_in (sym h.1) ∙ ap number_in h.1
-counted_alike kinds.Tables payload x other h = ap count_in (sym h.1) ∙ ap number_in h.1
-counted_alike kinds.Tags payload x other h = ap count_in (sym h.1) ∙ ap number_in h.1
-counted_alike kinds.Names payload x other h = ap count_in (sym h.1) ∙ ap number_in h.1
-counted_alike kinds.Linking payload x other h = ap count_in (sym h.1) ∙ ap number_in h.1
-counted_alike kinds.Producers payload x other h = ap count_in (sym h.1) ∙ ap number_in h.1
-counted_alike kinds.Hints payload x other h = ap count_in (sym h.1) ∙ ap number_in h.1
-counted_alike kinds.Core payload x other h = ap count_in (sym h.1) ∙ ap number_in h.1
-counted_alike kinds.CoreModules payload x other h = ap count_in (sym h.1) ∙ ap number_in h.1
-counted_alike kinds.CoreInstances payload x other h = ap count_in (sym h.1) ∙ ap number_in h.1
-counted_alike kinds.CoreStack payload x other h = ap count_in (sym h.1) ∙ ap number_in h.1
-counted_alike kinds.Custom payload x other h = ap count_in (sym h.1) ∙ ap number_in h.1
-counted_alike kinds.Raw payload x other h = ap count_in (sym h.1) ∙ ap number_in h.1
+pub counted_alike : (m : Mode) (kind : SectionKind) (payload : List ℕ) (x : Contents) → kind ≢ kinds.Types → content kind m payload x → count_in x ≡ number_in x
+counted_alike m kinds.Types payload x other h = absurd (other refl)
+counted_alike m kinds.Bodies payload x other h = ap count_in (sym h.1) ∙ ap number_in h.1
+counted_alike m kinds.Segments payload x other h = ap count_in (sym h.1) ∙ ap number_in h.1
+counted_alike m kinds.DataCount payload x other h = ap count_in (sym h.1) ∙ ap number_in h.1
+counted_alike m kinds.Elements payload x other h = ap count_in (sym h.1) ∙ ap number_in h.1
+counted_alike m kinds.Exports payload x other h = ap count_in (sym h.1) ∙ ap number_in h.1
+counted_alike m kinds.Functions payload x other h = ap count_in (sym h.1) ∙ ap number_in h.1
+counted_alike m kinds.Globals payload x other h = ap count_in (sym h.1) ∙ ap number_in h.1
+counted_alike m kinds.Imports payload x other h = ap count_in (sym h.1) ∙ ap number_in h.1
+counted_alike m kinds.Memories payload x other h = ap count_in (sym h.1) ∙ ap number_in h.1
+counted_alike m kinds.Start payload x other h = ap count_in (sym h.1) ∙ ap number_in h.1
+counted_alike m kinds.Tables payload x other h = ap count_in (sym h.1) ∙ ap number_in h.1
+counted_alike m kinds.Tags payload x other h = ap count_in (sym h.1) ∙ ap number_in h.1
+counted_alike m kinds.Names payload x other h = ap count_in (sym h.1) ∙ ap number_in h.1
+counted_alike m kinds.Linking payload x other h = ap count_in (sym h.1) ∙ ap number_in h.1
+counted_alike m kinds.Producers payload x other h = ap count_in (sym h.1) ∙ ap number_in h.1
+counted_alike m kinds.Hints payload x other h = ap count_in (sym h.1) ∙ ap number_in h.1
+counted_alike m kinds.Core payload x other h = ap count_in (sym h.1) ∙ ap number_in h.1
+counted_alike m kinds.CoreModules payload x other h = ap count_in (sym h.1) ∙ ap number_in h.1
+counted_alike m kinds.CoreInstances payload x other h = ap count_in (sym h.1) ∙ ap number_in h.1
+counted_alike m kinds.CoreStack payload x other h = ap count_in (sym h.1) ∙ ap number_in h.1
+counted_alike m kinds.Custom payload x other h = ap count_in (sym h.1) ∙ ap number_in h.1
+counted_alike m kinds.Raw payload x other h = ap count_in (sym h.1) ∙ ap number_in h.1

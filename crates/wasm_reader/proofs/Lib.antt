@@ -1,6 +1,7 @@
 -- The lemmas of the crate, each file. `Words` passes on what the crates above use.
 pub mod Words
 pub mod Calls
+pub mod Causes
 pub mod Counting
 pub mod KeptOffsets
 pub mod KindLaws

@@ -19,7 +19,7 @@ module _ {X : Type 0} (F : Format X) where
   pub shortened_step : (start rest after old middle new : List ℕ) (count : ℕ) (x : X) → HasShortened F start count rest old middle → Decodes F padded rest x after → AppendsMinimal F x middle new → HasShortened F start (count + 1) after old new
   shortened_step start rest after old middle new count x h g a = record { values = h.values ++ x ∷ []; read = steps.members_step F h.read g; counted = omega (arith, length-append h.values (x ∷ []), h.counted); written = members_more F h.values x old middle new h.written a }
 
-  pub skip : {start rest old new : List ℕ} {count : ℕ} → HasShortened F start count rest old new → HasSkipped F start count rest
+  pub skip : {start rest old new : List ℕ} {count : ℕ} → HasShortened F start count rest old new → HasSkipped F padded start count rest
   skip h = record { values = h.values; read = h.read; counted = h.counted }
 
   -- Their count is appended before them.

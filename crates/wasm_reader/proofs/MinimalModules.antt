@@ -233,7 +233,7 @@ module _ (offsets : Offsets) (bytes start old middle new : List ℕ) (tally : Ta
       cases Refuse e k = (e, loses number e k)
       cases LeaveOut e k = absurd (cc k)
 
-pub stops_at : (bytes start : List ℕ) (number : ℕ) → bytes ≡ header ++ start → StopsAfter start number → EndsAt bytes number × RejectsWhole wasm_module bytes
+pub stops_at : (bytes start : List ℕ) (number : ℕ) → bytes ≡ header ++ start → StopsAfter start number → EndsAt bytes number × RejectsWhole wasm_module padded bytes
 stops_at bytes start number e s =
     let behind : suc (length s.sections) ≡ number = omega (arith, s.counted) in
     (subst (λ z. EndsAt bytes z) behind (ends_behind bytes start s.rest s.sections e s.read s.more s.none), no_module bytes start s.rest s.sections e s.read s.more s.none)

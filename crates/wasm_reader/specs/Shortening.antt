@@ -171,7 +171,7 @@ pub record LosesOffsets (bytes : List ℕ) (number : ℕ) : Type 0 where
 -- whatever its payload, and the bytes are not a module. Or the section of this number loses its
 -- offsets. `Memory` means nothing about the bytes.
 abbrev pub Explains : Offsets → List ℕ → ModuleFault → Type 0
-Explains offsets bytes (faults.Section number fault) = fault ≢ Memory → EndsAt bytes number × RejectsWhole wasm_module bytes
+Explains offsets bytes (faults.Section number fault) = fault ≢ Memory → EndsAt bytes number × RejectsWhole wasm_module padded bytes
 Explains offsets bytes (faults.Offsets number) = (offsets ≡ Refuse) × LosesOffsets bytes number
 
 -- ---- intermediate steps

@@ -12,7 +12,9 @@ ghost use Rattle.wasm_reader.specs.Sections.{section, Shortens};
 
 use crate::kinds::{Items, SectionKind, append_content, read_content};
 use std::alloc::Allocator;
-use wasm_base::{Encode, ReadFault, Readable, Result, Shorten, encode_size_prefixed};
+use wasm_base::{
+    DecodeError, Encode, Padded, ReadFault, Readable, Result, Shorten, encode_size_prefixed,
+};
 use wasm_code::shorten_body;
 
 /// Appends the minimal encoding of a vector of bodies that occupies all of the bytes. It keeps none
@@ -21,21 +23,21 @@ fn shorten_bodies<A: Allocator + Copy>(
     bytes: &[u8],
     alloc: A,
     sink: &mut Vec<u8, A>,
-) -> Result<(), ReadFault>
+) -> Result<(), DecodeError>
     ensures found { OnOk result ((xs : List Body) × vec (size_prefixed body) padded bytes.now xs × AppendsMinimal (vec (size_prefixed body)) xs sink.old.items sink.new.items) }
-    ensures none { IfErr result (λ e. e ≢ Memory → RejectsWhole (vec (size_prefixed body)) bytes.now) }
+    ensures none { IfErr result (λ e. e.cause ≢ Memory → RejectsWhole (vec (size_prefixed body)) padded bytes.now) }
 {
-    let (count, mut rest) = <u32 as Readable<'_, A>>::read(bytes, alloc)?;
+    let (count, mut rest) = <u32 as Readable<'_, A, Padded>>::read(bytes, alloc)?;
     count.write_minimal(sink)?;
     for _taken in 0..count {
-        let (sized, after) = <&[u8] as Readable<'_, A>>::read(rest, alloc)?;
+        let (sized, after) = <&[u8] as Readable<'_, A, Padded>>::read(rest, alloc)?;
         shorten_body(sized, alloc, sink)?;
         rest = after;
     }
     if rest.is_empty() {
         Ok(())
     } else {
-        Err(ReadFault::SizeMismatch)
+        Err(ReadFault::SizeMismatch.at(rest))
     }
 }
 
@@ -45,14 +47,14 @@ fn shorten_content<A: Allocator + Copy>(
     bytes: &[u8],
     alloc: A,
     sink: &mut Vec<u8, A>,
-) -> Result<(), ReadFault>
+) -> Result<(), DecodeError>
     ensures found { OnOk result ((x : Contents) × content kind padded bytes.now x × AppendsMinimal (content kind) x sink.old.items sink.new.items) }
-    ensures none { IfErr result (λ e. e ≢ Memory → RejectsWhole (content kind) bytes.now) }
+    ensures none { IfErr result (λ e. e.cause ≢ Memory → RejectsWhole (content kind) padded bytes.now) }
 {
     match kind {
         SectionKind::Bodies => shorten_bodies(bytes, alloc, sink),
         _ => {
-            let items = read_content(kind, bytes, alloc)?;
+            let items = read_content::<A, Padded>(kind, bytes, alloc)?;
             append_content(items, sink)?;
             Ok(())
         }
@@ -86,7 +88,7 @@ pub fn shorten<A: Allocator + Copy>(
     ensures none { IfErr result (λ e. e ≢ Memory → Rejects (section kind) padded bytes.now) }
 {
     let alloc = *sink.allocator();
-    let (sized, rest) = <&[u8] as Readable<'_, A>>::read(bytes, alloc)?;
+    let (sized, rest) = <&[u8] as Readable<'_, A, Padded>>::read(bytes, alloc)?;
     let mut content = Vec::with_capacity(alloc, sized.len())?;
     shorten_content(kind, sized, alloc, &mut content)?;
     encode_size_prefixed(sink, &content)?;

@@ -9,7 +9,7 @@ ghost use Rattle.wasm_reader.specs.Modules.{sized_section, line_of, HasLines, St
 
 use crate::kinds::{kind_of_id, read_number};
 use std::alloc::Allocator;
-use wasm_base::{ReadFault, Readable};
+use wasm_base::{Padded, ReadFault, Readable};
 
 /// The magic and the version of a module.
 pub(crate) const HEADER: [u8; 8] = [0x00, 0x61, 0x73, 0x6D, 0x01, 0x00, 0x00, 0x00];
@@ -53,9 +53,9 @@ fn read_line<'a, A: Allocator + Copy>(
     ensures found { IfOk result (λ x. (s : ℕ × (ℕ × Contents)) × Decodes sized_section padded bytes.now s x.1.now × (x.0 ≡ line_of s)) }
     ensures none { IfErr result (λ e. e ≢ Memory → Rejects sized_section padded bytes.now) }
 {
-    let (id, rest) = <u8 as Readable<'a, A>>::read(bytes, alloc)?;
-    let (sized, rest) = <&'a [u8] as Readable<'a, A>>::read(rest, alloc)?;
-    let items = read_number(kind_of_id(id), sized, alloc)?;
+    let (id, rest) = <u8 as Readable<'a, A, Padded>>::read(bytes, alloc)?;
+    let (sized, rest) = <&'a [u8] as Readable<'a, A, Padded>>::read(rest, alloc)?;
+    let items = read_number::<A, Padded>(kind_of_id(id), sized, alloc)?;
     let size = sized.len() as u32;
     Ok((Listed { id, size, items }, rest))
 }

@@ -12,7 +12,7 @@ use crate::kinds::{SectionKind, read_number};
 use crate::modules::read_header;
 use crate::standing::{Standing, read_standing};
 use std::alloc::Allocator;
-use wasm_base::ReadFault;
+use wasm_base::{DecodeError, ReadFault, Standard};
 use wasm_types::read_types;
 
 /// A section in the outline of a module.
@@ -23,9 +23,9 @@ pub struct Outlined<'a> {
     pub offset: usize,
     /// The length of the payload, in bytes.
     pub size: u32,
-    /// The number of items, if the payload decodes as a section of its id and its items are
-    /// counted. These are the items that `list_module` counts, and the entries of a type section. A
-    /// recursion group is one entry, however many types it defines.
+    /// The number of items, if the payload decodes as a section of its id, by the standard's
+    /// grammar, and its items are counted. These are the items that `list_module` counts, and the
+    /// entries of a type section. A recursion group is one entry, however many types it defines.
     pub items: Option<u32>,
     /// The name of a custom section, if its payload begins with one.
     pub name: Option<&'a str>,
@@ -33,28 +33,28 @@ pub struct Outlined<'a> {
 
 /// Returns the number of entries in the payload of a type section.
 #[tactic(auto, using(crate::proofs::DecodeOutlines::count_steps))]
-fn count_entries<A: Allocator + Copy>(bytes: &[u8], alloc: A) -> Result<Option<u32>, ReadFault>
+fn count_entries<A: Allocator + Copy>(bytes: &[u8], alloc: A) -> Result<Option<u32>, DecodeError>
     ensures found { IfOk result (λ count. IsCount kinds.Types bytes.now count) }
-    ensures none { IfErr result (λ e. e ≢ Memory → IsCount kinds.Types bytes.now None) }
+    ensures none { IfErr result (λ e. e.cause ≢ Memory → IsCount kinds.Types bytes.now None) }
 {
-    let entries = read_types(bytes, alloc)?;
+    let entries = read_types::<A, Standard>(bytes, alloc)?;
     Ok(Some(entries.len() as u32))
 }
 
 /// Returns the number of items of a section, if its payload decodes as its kind and the items are
 /// counted.
 #[tactic(auto, using(crate::proofs::DecodeOutlines::count_steps))]
-fn count<A: Allocator + Copy>(section: &Standing<'_>, alloc: A) -> Result<Option<u32>, ReadFault>
+fn count<A: Allocator + Copy>(section: &Standing<'_>, alloc: A) -> Result<Option<u32>, DecodeError>
     ensures found { IfOk result (λ count. IsCount (section_kind_of (section_of section.now)) section.now.payload.now count) }
-    ensures memory { IfErr result (λ e. e ≡ Memory) }
+    ensures memory { IfErr result (λ e. e.cause ≡ Memory) }
 {
     let kind = section.kind();
     let counted = match kind {
         SectionKind::Types => count_entries(section.payload, alloc),
-        _ => read_number(kind, section.payload, alloc),
+        _ => read_number::<A, Standard>(kind, section.payload, alloc),
     };
     match counted {
-        Err(ReadFault::Memory) => Err(ReadFault::Memory),
+        Err(error) if error.cause == ReadFault::Memory => Err(error),
         Err(_) => Ok(None),
         Ok(count) => Ok(count),
     }
@@ -67,10 +67,10 @@ fn read_line<'a, A: Allocator + Copy>(
     section_start: usize,
     bytes: &'a [u8],
     alloc: A,
-) -> Result<(Outlined<'a>, &'a [u8]), ReadFault>
+) -> Result<(Outlined<'a>, &'a [u8]), DecodeError>
     requires { section_start + length bytes.now < 2 ^ 64 }
     ensures found { IfOk result (λ x. (s : Section) × IsSection s × (bytes.now ≡ bytes_of s ++ x.1.now) × IsOutline section_start s x.0) }
-    ensures none { IfErr result (λ e. e ≢ Memory → Rejects any_section padded bytes.now) }
+    ensures none { IfErr result (λ e. e.cause ≢ Memory → Rejects any_section padded bytes.now) }
 {
     let (section, after) = read_standing(bytes, alloc)?;
     let items = count(&section, alloc)?;
@@ -101,7 +101,7 @@ pub fn outline<'a, A: Allocator + Copy>(
 ) -> Result<Vec<Outlined<'a>, A>, (usize, ReadFault)>
     ensures found { IfOk result (λ lines. HasOutline bytes.now lines.items) }
     ensures none { IfErr result (λ e. e.1 ≢ Memory → EndsAt bytes.now e.0) }
-    ensures no_module { IfErr result (λ e. e.1 ≢ Memory → RejectsWhole wasm_module bytes.now) }
+    ensures no_module { IfErr result (λ e. e.1 ≢ Memory → RejectsWhole wasm_module padded bytes.now) }
 {
     let mut rest = match read_header(bytes) {
         Ok(rest) => rest,
@@ -115,7 +115,7 @@ pub fn outline<'a, A: Allocator + Copy>(
         let number = lines.len() + 1;
         let (line, after) = match read_line(bytes.len() - rest.len(), rest, alloc) {
             Ok(read) => read,
-            Err(fault) => return Err((number, fault)),
+            Err(error) => return Err((number, error.cause)),
         };
         match lines.push(line) {
             Ok(()) => rest = after,

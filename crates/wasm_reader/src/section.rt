@@ -8,7 +8,7 @@ ghost use Rattle.wasm_reader.specs.Sections.{section, Takes};
 
 use crate::kinds::{Items, SectionKind, read_content};
 use std::alloc::Allocator;
-use wasm_base::{ReadFault, Readable};
+use wasm_base::{Padded, ReadFault, Readable};
 
 /// Decodes the section at the front, and returns its items and its length in bytes. The bytes begin
 /// with the section's size prefix, after its id.
@@ -30,7 +30,7 @@ pub fn read_section<'a, A: Allocator + Copy + 'a>(
     ensures found { IfOk result (λ x. Takes kind bytes.now (contents_of x.0) x.1) }
     ensures none { IfErr result (λ e. e ≢ Memory → Rejects (section kind) padded bytes.now) }
 {
-    let (sized, rest) = <&'a [u8] as Readable<'a, A>>::read(bytes, alloc)?;
-    let items = read_content(kind, sized, alloc)?;
+    let (sized, rest) = <&'a [u8] as Readable<'a, A, Padded>>::read(bytes, alloc)?;
+    let items = read_content::<A, Padded>(kind, sized, alloc)?;
     Ok((items, bytes.len() - rest.len()))
 }

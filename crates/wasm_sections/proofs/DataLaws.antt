@@ -120,29 +120,29 @@ other_memory (suc n) offset bytes h = ap (λ s. 0x02 ∷ s) (append_assoc (unsig
 
 -- ---- size-prefixed bytes
 
-are_members : (bytes : List ℕ) → members byte padded bytes bytes
-are_members [] = refl
-are_members (b ∷ bs) = (b ∷ [], bs, refl, refl, are_members bs)
+are_members : (m : Mode) (bytes : List ℕ) → members byte m bytes bytes
+are_members m [] = refl
+are_members m (b ∷ bs) = (b ∷ [], bs, refl, refl, are_members m bs)
 
-members_are : (s xs : List ℕ) → members byte padded s xs → s ≡ xs
-members_are s [] h = h
-members_are s (x ∷ xs) h = h.2 ∙ ap₂ ◌++◌ h.3 (members_are h.1 xs h.4)
+members_are : (m : Mode) (s xs : List ℕ) → members byte m s xs → s ≡ xs
+members_are m s [] h = h
+members_are m s (x ∷ xs) h = h.2 ∙ ap₂ ◌++◌ h.3 (members_are m h.1 xs h.4)
 
-pub bytes_read : (bytes rest x : List ℕ) → Decodes (size_prefixed any_bytes) padded bytes x rest → Decodes (vec byte) padded bytes x rest
-bytes_read bytes rest x h =
+pub bytes_read : {m : Mode} (bytes rest x : List ℕ) → Decodes (size_prefixed any_bytes) m bytes x rest → Decodes (vec byte) m bytes x rest
+bytes_read {m = m} bytes rest x h =
     let s = h.encodes in
     record {
       front = h.front;
       split = h.split;
-      encodes = record { front = s.front; back = s.content; joined = s.joined; first = subst (λ z. u32 padded s.front (length z)) s.encodes s.size; second = subst (λ z. members byte padded s.content z) s.encodes (are_members s.content) };
+      encodes = record { front = s.front; back = s.content; joined = s.joined; first = subst (λ z. u32 m s.front (length z)) s.encodes s.size; second = subst (λ z. members byte m s.content z) s.encodes (are_members m s.content) };
     }
 
-pub bytes_none : (bytes : List ℕ) → Rejects (size_prefixed any_bytes) padded bytes → Rejects (vec byte) padded bytes
-bytes_none bytes n = record {
+pub bytes_none : {m : Mode} (bytes : List ℕ) → Rejects (size_prefixed any_bytes) m bytes → Rejects (vec byte) m bytes
+bytes_none {m = m} bytes n = record {
   none = λ x rest h.
       let s = h.encodes in
-      let same = members_are s.back x s.second in
-      n.none x rest (record { front = h.front; split = h.split; encodes = record { front = s.front; content = s.back; joined = s.joined; size = subst (λ z. u32 padded s.front (length z)) (sym same) s.first; encodes = same } });
+      let same = members_are m s.back x s.second in
+      n.none x rest (record { front = h.front; split = h.split; encodes = record { front = s.front; content = s.back; joined = s.joined; size = subst (λ z. u32 m s.front (length z)) (sym same) s.first; encodes = same } });
 }
 
 pub ruleset bytes_steps = (bytes_read)
@@ -155,44 +155,44 @@ after_flag n = choice data_tags (λ flag. impossible) n
 abbrev placed_format : Format (List Plain × List ℕ)
 placed_format = pair expression (vec byte)
 
-segment_at : (c : ℕ) {bytes rest last : List ℕ} {n : ℕ} {x : DataItem} → Decodes u32 padded bytes n rest → n ≡ c → Decodes (after_flag c) padded rest x last → Decodes data_item padded bytes x last
-segment_at c {rest = rest} {last = last} {x = x} h e g = tagged_decodes {G = after_flag} h (subst (λ z. Decodes (after_flag z) padded rest x last) (sym e) g)
+segment_at : {m : Mode} (c : ℕ) {bytes rest last : List ℕ} {n : ℕ} {x : DataItem} → Decodes u32 m bytes n rest → n ≡ c → Decodes (after_flag c) m rest x last → Decodes data_item m bytes x last
+segment_at {m = m} c {rest = rest} {last = last} {x = x} h e g = tagged_decodes {G = after_flag} h (subst (λ z. Decodes (after_flag z) m rest x last) (sym e) g)
 
-segment_not : (c : ℕ) {bytes rest : List ℕ} {n : ℕ} → Decodes u32 padded bytes n rest → n ≡ c → Rejects (after_flag c) padded rest → Rejects data_item padded bytes
-segment_not c {rest = rest} h e n = tagged_rejects {G = after_flag} u32_unambiguous h (subst (λ z. Rejects (after_flag z) padded rest) (sym e) n)
+segment_not : {m : Mode} (c : ℕ) {bytes rest : List ℕ} {n : ℕ} → Decodes u32 m bytes n rest → n ≡ c → Rejects (after_flag c) m rest → Rejects data_item m bytes
+segment_not {m = m} c {rest = rest} h e n = tagged_rejects {G = after_flag} u32_unambiguous h (subst (λ z. Rejects (after_flag z) m rest) (sym e) n)
 
-pub segment_none : (bytes : List ℕ) → Rejects u32 padded bytes → Rejects data_item padded bytes
+pub segment_none : {m : Mode} (bytes : List ℕ) → Rejects u32 m bytes → Rejects data_item m bytes
 segment_none bytes n = tagged_none u32 after_flag bytes n
 
-pub segment_unknown : (bytes rest : List ℕ) (n : ℕ) → Decodes u32 padded bytes n rest → 3 ≤ n → Rejects data_item padded bytes
+pub segment_unknown : {m : Mode} (bytes rest : List ℕ) (n : ℕ) → Decodes u32 m bytes n rest → 3 ≤ n → Rejects data_item m bytes
 segment_unknown bytes rest n h l = tagged_rejects {G = after_flag} u32_unambiguous h (no_choice data_tags n rest ((λ e. omega (arith, l, e)), ((λ e. omega (arith, l, e)), ((λ e. omega (arith, l, e)), tt))))
 
-pub first_decodes : (bytes rest last : List ℕ) (n : ℕ) (is : List Plain) (x : List ℕ) → Decodes u32 padded bytes n rest → n ≡ 0 → Decodes placed_format padded rest (is, x) last → Decodes data_item padded bytes (active 0 is x) last
+pub first_decodes : {m : Mode} (bytes rest last : List ℕ) (n : ℕ) (is : List Plain) (x : List ℕ) → Decodes u32 m bytes n rest → n ≡ 0 → Decodes placed_format m rest (is, x) last → Decodes data_item m bytes (active 0 is x) last
 first_decodes bytes rest last n is x h e g = segment_at 0 h e (mapped_decodes in_first g)
 
-pub first_none : (bytes rest : List ℕ) (n : ℕ) → Decodes u32 padded bytes n rest → n ≡ 0 → Rejects placed_format padded rest → Rejects data_item padded bytes
+pub first_none : {m : Mode} (bytes rest : List ℕ) (n : ℕ) → Decodes u32 m bytes n rest → n ≡ 0 → Rejects placed_format m rest → Rejects data_item m bytes
 first_none bytes rest n h e none = segment_not 0 h e (mapped_rejects in_first none)
 
-pub passive_decodes : (bytes rest last : List ℕ) (n : ℕ) (x : List ℕ) → Decodes u32 padded bytes n rest → n ≡ 1 → Decodes (vec byte) padded rest x last → Decodes data_item padded bytes (passive x) last
+pub passive_decodes : {m : Mode} (bytes rest last : List ℕ) (n : ℕ) (x : List ℕ) → Decodes u32 m bytes n rest → n ≡ 1 → Decodes (vec byte) m rest x last → Decodes data_item m bytes (passive x) last
 passive_decodes bytes rest last n x h e g = segment_at 1 h e (mapped_decodes passive g)
 
-pub passive_none : (bytes rest : List ℕ) (n : ℕ) → Decodes u32 padded bytes n rest → n ≡ 1 → Rejects (vec byte) padded rest → Rejects data_item padded bytes
+pub passive_none : {m : Mode} (bytes rest : List ℕ) (n : ℕ) → Decodes u32 m bytes n rest → n ≡ 1 → Rejects (vec byte) m rest → Rejects data_item m bytes
 passive_none bytes rest n h e none = segment_not 1 h e (mapped_rejects passive none)
 
 abbrev IsOther : ℕ → Type 0
 IsOther n = 0 < n
 
-pub other_decodes : (bytes rest next last : List ℕ) (n m : ℕ) (is : List Plain) (x : List ℕ) → Decodes u32 padded bytes n rest → n ≡ 2 → Decodes u32 padded rest m next → m ≢ 0 → Decodes placed_format padded next (is, x) last → Decodes data_item padded bytes (active m is x) last
-other_decodes bytes rest next last n m is x h e g p k = segment_at 2 h e (mapped_decodes in_memory (then_decodes (such_decodes IsOther g (omega (arith, p))) k))
+pub other_decodes : {m : Mode} (bytes rest next last : List ℕ) (n k : ℕ) (is : List Plain) (x : List ℕ) → Decodes u32 m bytes n rest → n ≡ 2 → Decodes u32 m rest k next → k ≢ 0 → Decodes placed_format m next (is, x) last → Decodes data_item m bytes (active k is x) last
+other_decodes bytes rest next last n k is x h e g p placed = segment_at 2 h e (mapped_decodes in_memory (then_decodes (such_decodes IsOther g (omega (arith, p))) placed))
 
-pub other_no_memory : (bytes rest : List ℕ) (n : ℕ) → Decodes u32 padded bytes n rest → n ≡ 2 → Rejects u32 padded rest → Rejects data_item padded bytes
+pub other_no_memory : {m : Mode} (bytes rest : List ℕ) (n : ℕ) → Decodes u32 m bytes n rest → n ≡ 2 → Rejects u32 m rest → Rejects data_item m bytes
 other_no_memory bytes rest n h e none = segment_not 2 h e (mapped_rejects in_memory (then_rejects_first (such_none IsOther none)))
 
-pub other_zero : (bytes rest next : List ℕ) (n m : ℕ) → Decodes u32 padded bytes n rest → n ≡ 2 → Decodes u32 padded rest m next → m ≡ 0 → Rejects data_item padded bytes
-other_zero bytes rest next n m h e g z = segment_not 2 h e (mapped_rejects in_memory (then_rejects_first (such_rejects IsOther u32_unambiguous g (λ p. omega (arith, p, z)))))
+pub other_zero : {m : Mode} (bytes rest next : List ℕ) (n k : ℕ) → Decodes u32 m bytes n rest → n ≡ 2 → Decodes u32 m rest k next → k ≡ 0 → Rejects data_item m bytes
+other_zero bytes rest next n k h e g z = segment_not 2 h e (mapped_rejects in_memory (then_rejects_first (such_rejects IsOther u32_unambiguous g (λ p. omega (arith, p, z)))))
 
-pub other_none : (bytes rest next : List ℕ) (n m : ℕ) → Decodes u32 padded bytes n rest → n ≡ 2 → Decodes u32 padded rest m next → m ≢ 0 → Rejects placed_format padded next → Rejects data_item padded bytes
-other_none bytes rest next n m h e g p none = segment_not 2 h e (mapped_rejects in_memory (then_rejects_second (such_unambiguous IsOther u32_unambiguous) (such_decodes IsOther g (omega (arith, p))) none))
+pub other_none : {m : Mode} (bytes rest next : List ℕ) (n k : ℕ) → Decodes u32 m bytes n rest → n ≡ 2 → Decodes u32 m rest k next → k ≢ 0 → Rejects placed_format m next → Rejects data_item m bytes
+other_none bytes rest next n k h e g p none = segment_not 2 h e (mapped_rejects in_memory (then_rejects_second (such_unambiguous IsOther u32_unambiguous) (such_decodes IsOther g (omega (arith, p))) none))
 
 pub ruleset segment_steps = (segment_unknown, first_decodes, other_zero)
 

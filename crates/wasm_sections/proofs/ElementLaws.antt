@@ -13,11 +13,11 @@ use Rattle.wasm_base.specs.declared.types.HeapType.TheVariants.{Abstract}
 use Rattle.wasm_code.proofs.Words.{expression, expression_encoding, expression_unambiguous, expression_encodes}
 use Rattle.wasm_immediates.proofs.Words.{where_set, bit, bit_value}
 use Rattle.wasm_insn.proofs.Words.{Plain}
-use Rattle.wasm_sections.specs.{Stored, IsStoredIn, is_nullable_func, is_funcref, SegmentMode, passive, active, ElementList, functions, expressions, ElementItem, needs_table}
+use Rattle.wasm_sections.specs.{Stored, IsStoredIn, is_nullable_func, is_funcref, SegmentMode, passive, active, ElementList, functions, expressions, ElementItem, needs_table, settled_segment_mode}
+use Rattle.wasm_sections.specs.{settled, ElementFlag, flag_code, has_kind, is_inactive, is_second, are_expressions, flag_of, segment_mode_encoding, elements_encoding, settled_encoding}
+use Rattle.wasm_sections.specs.{stored_encoding, element_encoding, IsSegmentModeIn, AreElementsIn, IsSegmentIn, stored_by, segment_mode_of, elements_of, said_by, element_of, in_no_table, in_table}
+use Rattle.wasm_sections.specs.{segment_mode, list_of, elements_as, segment_of, element, element_items, IsSegmentMode, HaveOneEncoding}
 use Rattle.wasm_sections.specs.Elements.{declared}
-use Rattle.wasm_sections.specs.{settled_segment_mode, settled, ElementFlag, flag_code, has_kind, is_inactive, is_second, are_expressions, flag_of, segment_mode_encoding, elements_encoding}
-use Rattle.wasm_sections.specs.{settled_encoding, stored_encoding, element_encoding, IsSegmentModeIn, AreElementsIn, IsSegmentIn, stored_by, segment_mode_of, elements_of, said_by, element_of}
-use Rattle.wasm_sections.specs.{in_no_table, in_table, segment_mode, list_of, elements_as, segment_of, element, element_items, IsSegmentMode, HaveOneEncoding}
 use Rattle.wasm_sections.specs.declared.element.ElementSegment.{ElementSegment}
 use Rattle.wasm_sections.proofs.ViewedLists.{viewed_encoding}
 use Rattle.std.specs.Prelude.{◌==◌}
@@ -250,16 +250,16 @@ bits_of b l =
     let r = bit_value (b / 4 % 2 == 1) (b / 4 % 2) (omega arith) refl in
     omega (arith, l, p, q, r, weight_is (b / 2 % 2 == 1) 2, weight_is (b / 4 % 2 == 1) 4)
 
-pub flag_decodes : (bytes rest : List ℕ) (b : ℕ) → Decodes u32 padded bytes b rest → b < 8 → Decodes (numbered flag_code) padded bytes (record { not_active = b % 2 == 1; second = b / 2 % 2 == 1; expressions = b / 4 % 2 == 1 }) rest
-flag_decodes bytes rest b h l = record { front = h.front; split = h.split; encodes = subst (λ z. u32 padded h.front z) (bits_of b l) h.encodes }
+pub flag_decodes : {m : Mode} (bytes rest : List ℕ) (b : ℕ) → Decodes u32 m bytes b rest → b < 8 → Decodes (numbered flag_code) m bytes (record { not_active = b % 2 == 1; second = b / 2 % 2 == 1; expressions = b / 4 % 2 == 1 }) rest
+flag_decodes {m = m} bytes rest b h l = record { front = h.front; split = h.split; encodes = subst (λ z. u32 m h.front z) (bits_of b l) h.encodes }
 
-pub flag_none : (bytes : List ℕ) → Rejects u32 padded bytes → Rejects (numbered flag_code) padded bytes
+pub flag_none : {m : Mode} (bytes : List ℕ) → Rejects u32 m bytes → Rejects (numbered flag_code) m bytes
 flag_none bytes n = record { none = λ f rest h. n.none (flag_code f) rest (record { front = h.front; split = h.split; encodes = h.encodes }) }
 
 flag_small : (f : ElementFlag) → flag_code f < 8
 flag_small f = omega (arith, bit_low f.not_active, bit_low f.second, bit_low f.expressions, weight_is f.second 2, weight_is f.expressions 4)
 
-pub flag_unknown : (bytes rest : List ℕ) (b : ℕ) → Decodes u32 padded bytes b rest → 8 ≤ b → Rejects (numbered flag_code) padded bytes
+pub flag_unknown : {m : Mode} (bytes rest : List ℕ) (b : ℕ) → Decodes u32 m bytes b rest → 8 ≤ b → Rejects (numbered flag_code) m bytes
 flag_unknown bytes rest b h l = record {
   none = λ f last g. let same = decodes_same u32_unambiguous h (record { front = g.front; split = g.split; encodes = g.encodes }) in omega (arith, l, same.0, flag_small f);
 }
@@ -272,28 +272,28 @@ pub ruleset element_flag_steps = (flag_decodes)
 abbrev segment_mode_at : Bool → Bool → Format (SegmentMode (List Plain))
 segment_mode_at a b = when a (when b (fixed [] declared) (fixed [] passive)) (when b (mapped in_table (pair u32 expression)) (mapped in_no_table expression))
 
-placed : {a b : Bool} (f : ElementFlag) {bytes rest : List ℕ} {x : SegmentMode (List Plain)} → f.not_active ≡ a → f.second ≡ b → Decodes (segment_mode_at a b) padded bytes x rest → Decodes (segment_mode f) padded bytes x rest
-placed {a = a} f {bytes = bytes} {rest = rest} {x = x} p q h = subst (λ z. Decodes (segment_mode_at z f.second) padded bytes x rest) (sym p) (subst (λ z. Decodes (segment_mode_at a z) padded bytes x rest) (sym q) h)
+placed : {m : Mode} {a b : Bool} (f : ElementFlag) {bytes rest : List ℕ} {x : SegmentMode (List Plain)} → f.not_active ≡ a → f.second ≡ b → Decodes (segment_mode_at a b) m bytes x rest → Decodes (segment_mode f) m bytes x rest
+placed {m = m} {a = a} f {bytes = bytes} {rest = rest} {x = x} p q h = subst (λ z. Decodes (segment_mode_at z f.second) m bytes x rest) (sym p) (subst (λ z. Decodes (segment_mode_at a z) m bytes x rest) (sym q) h)
 
-not_placed : {a b : Bool} (f : ElementFlag) {bytes : List ℕ} → f.not_active ≡ a → f.second ≡ b → Rejects (segment_mode_at a b) padded bytes → Rejects (segment_mode f) padded bytes
-not_placed {a = a} f {bytes = bytes} p q n = subst (λ z. Rejects (segment_mode_at z f.second) padded bytes) (sym p) (subst (λ z. Rejects (segment_mode_at a z) padded bytes) (sym q) n)
+not_placed : {m : Mode} {a b : Bool} (f : ElementFlag) {bytes : List ℕ} → f.not_active ≡ a → f.second ≡ b → Rejects (segment_mode_at a b) m bytes → Rejects (segment_mode f) m bytes
+not_placed {m = m} {a = a} f {bytes = bytes} p q n = subst (λ z. Rejects (segment_mode_at z f.second) m bytes) (sym p) (subst (λ z. Rejects (segment_mode_at a z) m bytes) (sym q) n)
 
-pub segment_mode_declared : (f : ElementFlag) (bytes : List ℕ) → f.not_active ≡ true → f.second ≡ true → Decodes (segment_mode f) padded bytes declared bytes
+pub segment_mode_declared : {m : Mode} (f : ElementFlag) (bytes : List ℕ) → f.not_active ≡ true → f.second ≡ true → Decodes (segment_mode f) m bytes declared bytes
 segment_mode_declared f bytes p q = placed f p q (fixed_decodes bytes declared)
 
-pub segment_mode_passive : (f : ElementFlag) (bytes : List ℕ) → f.not_active ≡ true → f.second ≡ false → Decodes (segment_mode f) padded bytes passive bytes
+pub segment_mode_passive : {m : Mode} (f : ElementFlag) (bytes : List ℕ) → f.not_active ≡ true → f.second ≡ false → Decodes (segment_mode f) m bytes passive bytes
 segment_mode_passive f bytes p q = placed f p q (fixed_decodes bytes passive)
 
-pub segment_mode_in_table : (f : ElementFlag) (bytes rest : List ℕ) (table : ℕ) (is : List Plain) → f.not_active ≡ false → f.second ≡ true → Decodes (pair u32 expression) padded bytes (table, is) rest → Decodes (segment_mode f) padded bytes (active (Some table) is) rest
+pub segment_mode_in_table : {m : Mode} (f : ElementFlag) (bytes rest : List ℕ) (table : ℕ) (is : List Plain) → f.not_active ≡ false → f.second ≡ true → Decodes (pair u32 expression) m bytes (table, is) rest → Decodes (segment_mode f) m bytes (active (Some table) is) rest
 segment_mode_in_table f bytes rest table is p q h = placed f p q (mapped_decodes in_table h)
 
-pub segment_mode_no_table : (f : ElementFlag) (bytes : List ℕ) → f.not_active ≡ false → f.second ≡ true → Rejects (pair u32 expression) padded bytes → Rejects (segment_mode f) padded bytes
+pub segment_mode_no_table : {m : Mode} (f : ElementFlag) (bytes : List ℕ) → f.not_active ≡ false → f.second ≡ true → Rejects (pair u32 expression) m bytes → Rejects (segment_mode f) m bytes
 segment_mode_no_table f bytes p q n = not_placed f p q (mapped_rejects in_table n)
 
-pub segment_mode_implicit : (f : ElementFlag) (bytes rest : List ℕ) (is : List Plain) → f.not_active ≡ false → f.second ≡ false → Decodes expression padded bytes is rest → Decodes (segment_mode f) padded bytes (active None is) rest
+pub segment_mode_implicit : {m : Mode} (f : ElementFlag) (bytes rest : List ℕ) (is : List Plain) → f.not_active ≡ false → f.second ≡ false → Decodes expression m bytes is rest → Decodes (segment_mode f) m bytes (active None is) rest
 segment_mode_implicit f bytes rest is p q h = placed f p q (mapped_decodes in_no_table h)
 
-pub segment_mode_no_offset : (f : ElementFlag) (bytes : List ℕ) → f.not_active ≡ false → f.second ≡ false → Rejects expression padded bytes → Rejects (segment_mode f) padded bytes
+pub segment_mode_no_offset : {m : Mode} (f : ElementFlag) (bytes : List ℕ) → f.not_active ≡ false → f.second ≡ false → Rejects expression m bytes → Rejects (segment_mode f) m bytes
 segment_mode_no_offset f bytes p q n = not_placed f p q (mapped_rejects in_no_table n)
 
 pub ruleset segment_mode_steps = (segment_mode_declared, segment_mode_passive, segment_mode_in_table, segment_mode_no_table, segment_mode_implicit, segment_mode_no_offset)
@@ -303,39 +303,39 @@ pub ruleset segment_mode_steps = (segment_mode_declared, segment_mode_passive, s
 abbrev kind_before : Bool → List ℕ
 kind_before explicit = cond explicit (0x00 ∷ []) []
 
-functions_at : {a : Bool} (explicit : Bool) {bytes rest : List ℕ} {x : ElementList (List Plain)} → explicit ≡ a → Decodes (elements_as a false) padded bytes x rest → Decodes (elements_as explicit false) padded bytes x rest
-functions_at explicit {bytes = bytes} {rest = rest} {x = x} e h = subst (λ z. Decodes (elements_as z false) padded bytes x rest) (sym e) h
+functions_at : {m : Mode} {a : Bool} (explicit : Bool) {bytes rest : List ℕ} {x : ElementList (List Plain)} → explicit ≡ a → Decodes (elements_as a false) m bytes x rest → Decodes (elements_as explicit false) m bytes x rest
+functions_at {m = m} explicit {bytes = bytes} {rest = rest} {x = x} e h = subst (λ z. Decodes (elements_as z false) m bytes x rest) (sym e) h
 
-no_functions_at : {a : Bool} (explicit : Bool) {bytes : List ℕ} → explicit ≡ a → Rejects (elements_as a false) padded bytes → Rejects (elements_as explicit false) padded bytes
-no_functions_at explicit {bytes = bytes} e n = subst (λ z. Rejects (elements_as z false) padded bytes) (sym e) n
+no_functions_at : {m : Mode} {a : Bool} (explicit : Bool) {bytes : List ℕ} → explicit ≡ a → Rejects (elements_as a false) m bytes → Rejects (elements_as explicit false) m bytes
+no_functions_at {m = m} explicit {bytes = bytes} e n = subst (λ z. Rejects (elements_as z false) m bytes) (sym e) n
 
-behind_kind : {bytes rest : List ℕ} {b : ℕ} → Decodes byte padded bytes b rest → b ≡ 0x00 → bytes ≡ 0x00 ∷ rest
+behind_kind : {m : Mode} {bytes rest : List ℕ} {b : ℕ} → Decodes byte m bytes b rest → b ≡ 0x00 → bytes ≡ 0x00 ∷ rest
 behind_kind {rest = rest} h e = h.split ∙ ap (λ z. z ++ rest) h.encodes ∙ ap (λ z. z ∷ rest) e
 
-pub functions_behind : (explicit : Bool) (bytes rest last : List ℕ) (b : ℕ) (fs : List ℕ) → explicit ≡ true → Decodes byte padded bytes b rest → b ≡ 0x00 → Decodes (vec u32) padded rest fs last → Decodes (elements_as explicit false) padded bytes (functions fs) last
+pub functions_behind : {m : Mode} (explicit : Bool) (bytes rest last : List ℕ) (b : ℕ) (fs : List ℕ) → explicit ≡ true → Decodes byte m bytes b rest → b ≡ 0x00 → Decodes (vec u32) m rest fs last → Decodes (elements_as explicit false) m bytes (functions fs) last
 functions_behind explicit bytes rest last b fs p h e g = functions_at explicit p (mapped_decodes functions (prefixed_decodes (0x00 ∷ []) (vec u32) (behind_kind h e) g))
 
-pub functions_read : (explicit : Bool) (bytes rest last : List ℕ) (b : ℕ) (fs : List ℕ) → explicit ≡ true → Decodes byte padded bytes b rest → b ≡ 0x00 → Decodes (vec u32) padded rest (map (λ n. n) fs) last → Decodes (elements_as explicit false) padded bytes (functions fs) last
-functions_read explicit bytes rest last b fs p h e g = functions_behind explicit bytes rest last b fs p h e (subst (λ z. Decodes (vec u32) padded rest z last) (map-id fs) g)
+pub functions_read : {m : Mode} (explicit : Bool) (bytes rest last : List ℕ) (b : ℕ) (fs : List ℕ) → explicit ≡ true → Decodes byte m bytes b rest → b ≡ 0x00 → Decodes (vec u32) m rest (map (λ n. n) fs) last → Decodes (elements_as explicit false) m bytes (functions fs) last
+functions_read {m = m} explicit bytes rest last b fs p h e g = functions_behind explicit bytes rest last b fs p h e (subst (λ z. Decodes (vec u32) m rest z last) (map-id fs) g)
 
-pub functions_no_kind : (explicit : Bool) (bytes : List ℕ) → explicit ≡ true → Rejects byte padded bytes → Rejects (elements_as explicit false) padded bytes
+pub functions_no_kind : {m : Mode} (explicit : Bool) (bytes : List ℕ) → explicit ≡ true → Rejects byte m bytes → Rejects (elements_as explicit false) m bytes
 functions_no_kind explicit bytes p n =
     no_functions_at explicit p (mapped_rejects functions (prefixed_other (0x00 ∷ []) (vec u32) (λ rest e. n.none 0x00 rest (record { front = 0x00 ∷ []; split = e; encodes = refl }))))
 
-pub functions_other : (explicit : Bool) (bytes rest : List ℕ) (b : ℕ) → explicit ≡ true → Decodes byte padded bytes b rest → b ≢ 0x00 → Rejects (elements_as explicit false) padded bytes
+pub functions_other : {m : Mode} (explicit : Bool) (bytes rest : List ℕ) (b : ℕ) → explicit ≡ true → Decodes byte m bytes b rest → b ≢ 0x00 → Rejects (elements_as explicit false) m bytes
 functions_other explicit bytes rest b p h other =
     no_functions_at explicit p (mapped_rejects functions (prefixed_other (0x00 ∷ []) (vec u32) (λ q e. other (decodes_same byte_unambiguous h (record { front = 0x00 ∷ []; split = e; encodes = refl })).0)))
 
-pub functions_none : (explicit : Bool) (bytes rest : List ℕ) (b : ℕ) → explicit ≡ true → Decodes byte padded bytes b rest → b ≡ 0x00 → Rejects (vec u32) padded rest → Rejects (elements_as explicit false) padded bytes
+pub functions_none : {m : Mode} (explicit : Bool) (bytes rest : List ℕ) (b : ℕ) → explicit ≡ true → Decodes byte m bytes b rest → b ≡ 0x00 → Rejects (vec u32) m rest → Rejects (elements_as explicit false) m bytes
 functions_none explicit bytes rest b p h e n = no_functions_at explicit p (mapped_rejects functions (prefixed_rejects (0x00 ∷ []) (vec u32) (behind_kind h e) n))
 
-pub functions_unique : (explicit : Bool) (bytes last : List ℕ) (fs : List ℕ) → explicit ≡ false → Decodes (vec u32) padded bytes fs last → Decodes (elements_as explicit false) padded bytes (functions fs) last
+pub functions_unique : {m : Mode} (explicit : Bool) (bytes last : List ℕ) (fs : List ℕ) → explicit ≡ false → Decodes (vec u32) m bytes fs last → Decodes (elements_as explicit false) m bytes (functions fs) last
 functions_unique explicit bytes last fs p g = functions_at explicit p (mapped_decodes functions (prefixed_decodes [] (vec u32) refl g))
 
-pub functions_implicit : (explicit : Bool) (bytes last : List ℕ) (fs : List ℕ) → explicit ≡ false → Decodes (vec u32) padded bytes (map (λ n. n) fs) last → Decodes (elements_as explicit false) padded bytes (functions fs) last
-functions_implicit explicit bytes last fs p g = functions_unique explicit bytes last fs p (subst (λ z. Decodes (vec u32) padded bytes z last) (map-id fs) g)
+pub functions_implicit : {m : Mode} (explicit : Bool) (bytes last : List ℕ) (fs : List ℕ) → explicit ≡ false → Decodes (vec u32) m bytes (map (λ n. n) fs) last → Decodes (elements_as explicit false) m bytes (functions fs) last
+functions_implicit {m = m} explicit bytes last fs p g = functions_unique explicit bytes last fs p (subst (λ z. Decodes (vec u32) m bytes z last) (map-id fs) g)
 
-pub functions_none_implicit : (explicit : Bool) (bytes : List ℕ) → explicit ≡ false → Rejects (vec u32) padded bytes → Rejects (elements_as explicit false) padded bytes
+pub functions_none_implicit : {m : Mode} (explicit : Bool) (bytes : List ℕ) → explicit ≡ false → Rejects (vec u32) m bytes → Rejects (elements_as explicit false) m bytes
 functions_none_implicit explicit bytes p n = no_functions_at explicit p (mapped_rejects functions (prefixed_rejects [] (vec u32) refl n))
 
 pub ruleset function_steps = (functions_read, functions_no_kind, functions_other, functions_none, functions_implicit, functions_none_implicit)
@@ -345,22 +345,22 @@ pub ruleset function_steps = (functions_read, functions_no_kind, functions_other
 abbrev type_at : Bool → Format RefType
 type_at explicit = when explicit ref_type (fixed [] FUNCREF)
 
-expressions_at : {a : Bool} (explicit : Bool) {bytes rest : List ℕ} {x : ElementList (List Plain)} → explicit ≡ a → Decodes (elements_as a true) padded bytes x rest → Decodes (elements_as explicit true) padded bytes x rest
-expressions_at explicit {bytes = bytes} {rest = rest} {x = x} e h = subst (λ z. Decodes (elements_as z true) padded bytes x rest) (sym e) h
+expressions_at : {m : Mode} {a : Bool} (explicit : Bool) {bytes rest : List ℕ} {x : ElementList (List Plain)} → explicit ≡ a → Decodes (elements_as a true) m bytes x rest → Decodes (elements_as explicit true) m bytes x rest
+expressions_at {m = m} explicit {bytes = bytes} {rest = rest} {x = x} e h = subst (λ z. Decodes (elements_as z true) m bytes x rest) (sym e) h
 
-no_expressions_at : {a : Bool} (explicit : Bool) {bytes : List ℕ} → explicit ≡ a → Rejects (elements_as a true) padded bytes → Rejects (elements_as explicit true) padded bytes
-no_expressions_at explicit {bytes = bytes} e n = subst (λ z. Rejects (elements_as z true) padded bytes) (sym e) n
+no_expressions_at : {m : Mode} {a : Bool} (explicit : Bool) {bytes : List ℕ} → explicit ≡ a → Rejects (elements_as a true) m bytes → Rejects (elements_as explicit true) m bytes
+no_expressions_at {m = m} explicit {bytes = bytes} e n = subst (λ z. Rejects (elements_as z true) m bytes) (sym e) n
 
-pub expressions_read : (explicit : Bool) (bytes last : List ℕ) (r : RefType) (es : List (List Plain)) → explicit ≡ true → Decodes (pair ref_type (vec expression)) padded bytes (r, es) last → Decodes (elements_as explicit true) padded bytes (expressions r es) last
+pub expressions_read : {m : Mode} (explicit : Bool) (bytes last : List ℕ) (r : RefType) (es : List (List Plain)) → explicit ≡ true → Decodes (pair ref_type (vec expression)) m bytes (r, es) last → Decodes (elements_as explicit true) m bytes (expressions r es) last
 expressions_read explicit bytes last r es p h = expressions_at explicit p (mapped_decodes list_of h)
 
-pub expressions_none : (explicit : Bool) (bytes : List ℕ) → explicit ≡ true → Rejects (pair ref_type (vec expression)) padded bytes → Rejects (elements_as explicit true) padded bytes
+pub expressions_none : {m : Mode} (explicit : Bool) (bytes : List ℕ) → explicit ≡ true → Rejects (pair ref_type (vec expression)) m bytes → Rejects (elements_as explicit true) m bytes
 expressions_none explicit bytes p n = no_expressions_at explicit p (mapped_rejects list_of n)
 
-pub expressions_implicit : (explicit : Bool) (bytes last : List ℕ) (es : List (List Plain)) → explicit ≡ false → Decodes (vec expression) padded bytes es last → Decodes (elements_as explicit true) padded bytes (expressions FUNCREF es) last
+pub expressions_implicit : {m : Mode} (explicit : Bool) (bytes last : List ℕ) (es : List (List Plain)) → explicit ≡ false → Decodes (vec expression) m bytes es last → Decodes (elements_as explicit true) m bytes (expressions FUNCREF es) last
 expressions_implicit explicit bytes last es p h = expressions_at explicit p (mapped_decodes list_of (then_decodes (fixed_decodes bytes FUNCREF) h))
 
-pub expressions_none_implicit : (explicit : Bool) (bytes : List ℕ) → explicit ≡ false → Rejects (vec expression) padded bytes → Rejects (elements_as explicit true) padded bytes
+pub expressions_none_implicit : {m : Mode} (explicit : Bool) (bytes : List ℕ) → explicit ≡ false → Rejects (vec expression) m bytes → Rejects (elements_as explicit true) m bytes
 expressions_none_implicit explicit bytes p n = no_expressions_at explicit p (mapped_rejects list_of (then_rejects_second (fixed_unambiguous [] FUNCREF) (fixed_decodes bytes FUNCREF) n))
 
 pub ruleset expression_steps = (expressions_read)
@@ -370,17 +370,17 @@ pub ruleset expression_steps = (expressions_read)
 abbrev after_flag : ElementFlag → Format (ElementItem (List Plain))
 after_flag f = mapped segment_of (pair (segment_mode f) (elements_as (has_kind f) f.expressions))
 
-pub element_decodes : (bytes start middle last : List ℕ) (f : ElementFlag) (p : SegmentMode (List Plain)) (x : ElementList (List Plain)) (explicit : Bool) → Decodes (numbered flag_code) padded bytes f start → Decodes (segment_mode f) padded start p middle → explicit ≡ has_kind f
-    → Decodes (elements_as explicit f.expressions) padded middle x last → Decodes element padded bytes (record { segment_mode = p; elements = x }) last
-element_decodes bytes start middle last f p x explicit h g e k = tagged_decodes {G = after_flag} h (mapped_decodes segment_of (then_decodes g (subst (λ t. Decodes (elements_as t f.expressions) padded middle x last) e k)))
+pub element_decodes : {m : Mode} (bytes start middle last : List ℕ) (f : ElementFlag) (p : SegmentMode (List Plain)) (x : ElementList (List Plain)) (explicit : Bool) → Decodes (numbered flag_code) m bytes f start → Decodes (segment_mode f) m start p middle → explicit ≡ has_kind f
+    → Decodes (elements_as explicit f.expressions) m middle x last → Decodes element m bytes (record { segment_mode = p; elements = x }) last
+element_decodes {m = m} bytes start middle last f p x explicit h g e k = tagged_decodes {G = after_flag} h (mapped_decodes segment_of (then_decodes g (subst (λ t. Decodes (elements_as t f.expressions) m middle x last) e k)))
 
-pub element_none : (bytes : List ℕ) → Rejects (numbered flag_code) padded bytes → Rejects element padded bytes
+pub element_none : {m : Mode} (bytes : List ℕ) → Rejects (numbered flag_code) m bytes → Rejects element m bytes
 element_none bytes n = tagged_none (numbered flag_code) after_flag bytes n
 
-pub element_no_segment_mode : (bytes start : List ℕ) (f : ElementFlag) → Decodes (numbered flag_code) padded bytes f start → Rejects (segment_mode f) padded start → Rejects element padded bytes
+pub element_no_segment_mode : {m : Mode} (bytes start : List ℕ) (f : ElementFlag) → Decodes (numbered flag_code) m bytes f start → Rejects (segment_mode f) m start → Rejects element m bytes
 element_no_segment_mode bytes start f h n = tagged_rejects {G = after_flag} element_flag_unambiguous h (mapped_rejects segment_of (then_rejects_first n))
 
-pub element_no_list : (bytes start middle : List ℕ) (f : ElementFlag) (p : SegmentMode (List Plain)) → Decodes (numbered flag_code) padded bytes f start → Decodes (segment_mode f) padded start p middle → Rejects (elements_as (has_kind f) f.expressions) padded middle → Rejects element padded bytes
+pub element_no_list : {m : Mode} (bytes start middle : List ℕ) (f : ElementFlag) (p : SegmentMode (List Plain)) → Decodes (numbered flag_code) m bytes f start → Decodes (segment_mode f) m start p middle → Rejects (elements_as (has_kind f) f.expressions) m middle → Rejects element m bytes
 element_no_list bytes start middle f p h g n = tagged_rejects {G = after_flag} element_flag_unambiguous h (mapped_rejects segment_of (then_rejects_second (segment_mode_unambiguous f) g n))
 
 pub ruleset element_steps = (element_no_list)

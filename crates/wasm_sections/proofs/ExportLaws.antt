@@ -1,8 +1,8 @@
 -- This file proves that exports are unambiguous, and how they are decoded and minimized.
-use Rattle.wasm_base.proofs.Words.{◌≡◌, ℕ, zero, suc, [], ◌∷◌, ◌++◌, refl, ap, ◌≢◌, ◌≤◌, List, arith, ◌^◌, ◌<◌, IsUtf8, subst, ItemLaws, u32, name, coded, pair, vec, byte, minimal, unsigned_encoding}
-use Rattle.wasm_base.proofs.Words.{padded, Unambiguous, Decodes, Rejects, size_prefixed_encoding, HasEncodableSize, name_unambiguous, coded_unambiguous, mapped_unambiguous, pair_unambiguous}
-use Rattle.wasm_base.proofs.Words.{AllValues, u32_unambiguous, u32_encodes, name_encodes, pair_encodes, front_name_encodes, SectionLaws, counted_laws, mapped_decodes, mapped_rejects, code_decodes}
-use Rattle.wasm_base.proofs.Words.{code_none, code_unknown}
+use Rattle.wasm_base.proofs.Words.{Mode, ◌≡◌, ℕ, zero, suc, [], ◌∷◌, ◌++◌, refl, ap, ◌≢◌, ◌≤◌, List, arith, ◌^◌, ◌<◌, IsUtf8, subst, ItemLaws, u32, name, coded, pair, vec, byte, minimal}
+use Rattle.wasm_base.proofs.Words.{unsigned_encoding, padded, Unambiguous, Decodes, Rejects, size_prefixed_encoding, HasEncodableSize, name_unambiguous, coded_unambiguous, mapped_unambiguous}
+use Rattle.wasm_base.proofs.Words.{pair_unambiguous, AllValues, u32_unambiguous, u32_encodes, name_encodes, pair_encodes, front_name_encodes, SectionLaws, counted_laws, mapped_decodes, mapped_rejects}
+use Rattle.wasm_base.proofs.Words.{code_decodes, code_none, code_unknown}
 use Rattle.wasm_sections.specs.{kind_code, export_encoding, IsExport, item_of, export_of, export, export_items, IsEncodableExport, ExportItem}
 use Rattle.wasm_sections.specs.declared.export.Export.{Export}
 use Rattle.wasm_sections.specs.declared.export.ExportKind.{ExportKind}
@@ -47,13 +47,13 @@ exports_section = counted_laws export_laws (λ given plain. plain) (λ given pla
 
 -- ---- decoding exports
 
-pub export_kind_decodes : (bytes rest : List ℕ) (b : ℕ) (k : ExportKind) → Decodes byte padded bytes b rest → b ≡ kind_code k → Decodes (coded kind_code) padded bytes k rest
+pub export_kind_decodes : {m : Mode} (bytes rest : List ℕ) (b : ℕ) (k : ExportKind) → Decodes byte m bytes b rest → b ≡ kind_code k → Decodes (coded kind_code) m bytes k rest
 export_kind_decodes = code_decodes kind_code
 
-pub export_kind_none : (bytes : List ℕ) → Rejects byte padded bytes → Rejects (coded kind_code) padded bytes
+pub export_kind_none : {m : Mode} (bytes : List ℕ) → Rejects byte m bytes → Rejects (coded kind_code) m bytes
 export_kind_none = code_none kind_code
 
-pub export_kind_unknown : (bytes rest : List ℕ) (b : ℕ) → Decodes byte padded bytes b rest → 5 ≤ b → Rejects (coded kind_code) padded bytes
+pub export_kind_unknown : {m : Mode} (bytes rest : List ℕ) (b : ℕ) → Decodes byte m bytes b rest → 5 ≤ b → Rejects (coded kind_code) m bytes
 export_kind_unknown bytes rest b h l = code_unknown kind_code bytes rest b h other
   where
     other : (k : ExportKind) → b ≢ kind_code k
@@ -65,10 +65,10 @@ export_kind_unknown bytes rest b h l = code_unknown kind_code bytes rest b h oth
 
 pub ruleset export_kind_steps = (export_kind_decodes, export_kind_unknown)
 
-pub export_decodes : (bytes rest encoding : List ℕ) (k : ExportKind) (n : ℕ) → Decodes (pair name (pair (coded kind_code) u32)) padded bytes (encoding, (k, n)) rest → Decodes export padded bytes (record { name = encoding; kind = k; index = n }) rest
+pub export_decodes : {m : Mode} (bytes rest encoding : List ℕ) (k : ExportKind) (n : ℕ) → Decodes (pair name (pair (coded kind_code) u32)) m bytes (encoding, (k, n)) rest → Decodes export m bytes (record { name = encoding; kind = k; index = n }) rest
 export_decodes bytes rest encoding k n h = mapped_decodes export_of h
 
-pub export_none : (bytes : List ℕ) → Rejects (pair name (pair (coded kind_code) u32)) padded bytes → Rejects export padded bytes
+pub export_none : {m : Mode} (bytes : List ℕ) → Rejects (pair name (pair (coded kind_code) u32)) m bytes → Rejects export m bytes
 export_none bytes n = mapped_rejects export_of n
 
 pub ruleset export_steps = (export_decodes)

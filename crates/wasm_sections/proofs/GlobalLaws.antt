@@ -62,32 +62,32 @@ bits_of b l =
     let q = bit_value (b / 2 % 2 == 1) (b / 2 % 2) (omega arith) refl in
     omega (arith, l, p, q, weight_is (b / 2 % 2 == 1) 0x02)
 
-pub flags_read : (bytes rest : List ℕ) (b : ℕ) → Decodes byte padded bytes b rest → b < 4 → Decodes (coded global_code) padded bytes (record { mutable = b % 2 == 1; shared = b / 2 % 2 == 1 }) rest
+pub flags_read : {m : Mode} (bytes rest : List ℕ) (b : ℕ) → Decodes byte m bytes b rest → b < 4 → Decodes (coded global_code) m bytes (record { mutable = b % 2 == 1; shared = b / 2 % 2 == 1 }) rest
 flags_read bytes rest b h l = code_decodes global_code bytes rest b _ h (bits_of b l)
 
-pub flags_none : (bytes : List ℕ) → Rejects byte padded bytes → Rejects (coded global_code) padded bytes
+pub flags_none : {m : Mode} (bytes : List ℕ) → Rejects byte m bytes → Rejects (coded global_code) m bytes
 flags_none = code_none global_code
 
 flags_small : (f : GlobalFlags) → global_code f < 4
 flags_small f = omega (arith, bit_low f.mutable, bit_low f.shared, weight_is f.shared 0x02)
 
-pub flags_unknown : (bytes rest : List ℕ) (b : ℕ) → Decodes byte padded bytes b rest → 4 ≤ b → Rejects (coded global_code) padded bytes
+pub flags_unknown : {m : Mode} (bytes rest : List ℕ) (b : ℕ) → Decodes byte m bytes b rest → 4 ≤ b → Rejects (coded global_code) m bytes
 flags_unknown bytes rest b h l = code_unknown global_code bytes rest b h (λ f e. omega (arith, l, e, flags_small f))
 
 pub ruleset flag_steps = (flags_read)
 
-pub type_decodes : (bytes rest : List ℕ) (v : ValType) (f : GlobalFlags) → Decodes (pair val_type (coded global_code)) padded bytes (v, f) rest → Decodes global_type padded bytes (record { val_type = v; mutable = f.mutable; shared = f.shared }) rest
+pub type_decodes : {m : Mode} (bytes rest : List ℕ) (v : ValType) (f : GlobalFlags) → Decodes (pair val_type (coded global_code)) m bytes (v, f) rest → Decodes global_type m bytes (record { val_type = v; mutable = f.mutable; shared = f.shared }) rest
 type_decodes bytes rest v f h = mapped_decodes global_of h
 
-pub type_none : (bytes : List ℕ) → Rejects (pair val_type (coded global_code)) padded bytes → Rejects global_type padded bytes
+pub type_none : {m : Mode} (bytes : List ℕ) → Rejects (pair val_type (coded global_code)) m bytes → Rejects global_type m bytes
 type_none bytes n = mapped_rejects global_of n
 
 pub ruleset type_steps = (type_decodes)
 
-pub item_decodes : (bytes rest : List ℕ) (g : GlobalType) (is : List Plain) → Decodes (pair global_type expression) padded bytes (g, is) rest → Decodes global_item padded bytes (record { global_type = g; init = is }) rest
+pub item_decodes : {m : Mode} (bytes rest : List ℕ) (g : GlobalType) (is : List Plain) → Decodes (pair global_type expression) m bytes (g, is) rest → Decodes global_item m bytes (record { global_type = g; init = is }) rest
 item_decodes bytes rest g is h = mapped_decodes global_from h
 
-pub item_none : (bytes : List ℕ) → Rejects (pair global_type expression) padded bytes → Rejects global_item padded bytes
+pub item_none : {m : Mode} (bytes : List ℕ) → Rejects (pair global_type expression) m bytes → Rejects global_item m bytes
 item_none bytes n = mapped_rejects global_from n
 
 pub ruleset item_steps = (item_decodes)

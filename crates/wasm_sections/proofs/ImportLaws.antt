@@ -175,52 +175,52 @@ imports_section = counted_laws import_laws (λ given plain. plain) (λ given pla
 abbrev after_kind : ℕ → Format EntityType
 after_kind b = choice entity_tags (λ c. impossible) b
 
-entity_at : (c : ℕ) {bytes rest last : List ℕ} {b : ℕ} {x : EntityType} → Decodes byte padded bytes b rest → b ≡ c → Decodes (after_kind c) padded rest x last → Decodes entity padded bytes x last
-entity_at c {rest = rest} {last = last} {x = x} h e g = tagged_decodes {G = after_kind} h (subst (λ z. Decodes (after_kind z) padded rest x last) (sym e) g)
+entity_at : {m : Mode} (c : ℕ) {bytes rest last : List ℕ} {b : ℕ} {x : EntityType} → Decodes byte m bytes b rest → b ≡ c → Decodes (after_kind c) m rest x last → Decodes entity m bytes x last
+entity_at {m = m} c {rest = rest} {last = last} {x = x} h e g = tagged_decodes {G = after_kind} h (subst (λ z. Decodes (after_kind z) m rest x last) (sym e) g)
 
-entity_not : (c : ℕ) {bytes rest : List ℕ} {b : ℕ} → Decodes byte padded bytes b rest → b ≡ c → Rejects (after_kind c) padded rest → Rejects entity padded bytes
-entity_not c {rest = rest} h e n = tagged_rejects {G = after_kind} byte_unambiguous h (subst (λ z. Rejects (after_kind z) padded rest) (sym e) n)
+entity_not : {m : Mode} (c : ℕ) {bytes rest : List ℕ} {b : ℕ} → Decodes byte m bytes b rest → b ≡ c → Rejects (after_kind c) m rest → Rejects entity m bytes
+entity_not {m = m} c {rest = rest} h e n = tagged_rejects {G = after_kind} byte_unambiguous h (subst (λ z. Rejects (after_kind z) m rest) (sym e) n)
 
-pub entity_none : (bytes : List ℕ) → Rejects byte padded bytes → Rejects entity padded bytes
+pub entity_none : {m : Mode} (bytes : List ℕ) → Rejects byte m bytes → Rejects entity m bytes
 entity_none bytes n = tagged_none byte after_kind bytes n
 
-pub entity_unknown : (bytes rest : List ℕ) (b : ℕ) → Decodes byte padded bytes b rest → b ≢ 0x00 → b ≢ 0x01 → b ≢ 0x02 → b ≢ 0x03 → b ≢ 0x04 → b ≢ 0x20 → Rejects entity padded bytes
+pub entity_unknown : {m : Mode} (bytes rest : List ℕ) (b : ℕ) → Decodes byte m bytes b rest → b ≢ 0x00 → b ≢ 0x01 → b ≢ 0x02 → b ≢ 0x03 → b ≢ 0x04 → b ≢ 0x20 → Rejects entity m bytes
 entity_unknown bytes rest b h p q r s t u = tagged_rejects {G = after_kind} byte_unambiguous h (no_choice entity_tags b rest (p, (q, (r, (s, (t, (u, tt)))))))
 
-pub entity_function : (bytes rest last : List ℕ) (b n : ℕ) → Decodes byte padded bytes b rest → b ≡ 0x00 → Decodes u32 padded rest n last → Decodes entity padded bytes (Function n) last
+pub entity_function : {m : Mode} (bytes rest last : List ℕ) (b n : ℕ) → Decodes byte m bytes b rest → b ≡ 0x00 → Decodes u32 m rest n last → Decodes entity m bytes (Function n) last
 entity_function bytes rest last b n h e g = entity_at 0x00 h e (mapped_decodes Function g)
 
-pub entity_no_function : (bytes rest : List ℕ) (b : ℕ) → Decodes byte padded bytes b rest → b ≡ 0x00 → Rejects u32 padded rest → Rejects entity padded bytes
+pub entity_no_function : {m : Mode} (bytes rest : List ℕ) (b : ℕ) → Decodes byte m bytes b rest → b ≡ 0x00 → Rejects u32 m rest → Rejects entity m bytes
 entity_no_function bytes rest b h e n = entity_not 0x00 h e (mapped_rejects Function n)
 
-pub entity_table : (bytes rest last : List ℕ) (b : ℕ) (t : TableType) → Decodes byte padded bytes b rest → b ≡ 0x01 → Decodes table_type padded rest t last → Decodes entity padded bytes (Table t) last
+pub entity_table : {m : Mode} (bytes rest last : List ℕ) (b : ℕ) (t : TableType) → Decodes byte m bytes b rest → b ≡ 0x01 → Decodes table_type m rest t last → Decodes entity m bytes (Table t) last
 entity_table bytes rest last b t h e g = entity_at 0x01 h e (mapped_decodes Table g)
 
-pub entity_no_table : (bytes rest : List ℕ) (b : ℕ) → Decodes byte padded bytes b rest → b ≡ 0x01 → Rejects table_type padded rest → Rejects entity padded bytes
+pub entity_no_table : {m : Mode} (bytes rest : List ℕ) (b : ℕ) → Decodes byte m bytes b rest → b ≡ 0x01 → Rejects table_type m rest → Rejects entity m bytes
 entity_no_table bytes rest b h e n = entity_not 0x01 h e (mapped_rejects Table n)
 
-pub entity_memory : (bytes rest last : List ℕ) (b : ℕ) (t : MemoryType) → Decodes byte padded bytes b rest → b ≡ 0x02 → Decodes memory_type padded rest t last → Decodes entity padded bytes (Memory t) last
+pub entity_memory : {m : Mode} (bytes rest last : List ℕ) (b : ℕ) (t : MemoryType) → Decodes byte m bytes b rest → b ≡ 0x02 → Decodes memory_type m rest t last → Decodes entity m bytes (Memory t) last
 entity_memory bytes rest last b t h e g = entity_at 0x02 h e (mapped_decodes Memory g)
 
-pub entity_no_memory : (bytes rest : List ℕ) (b : ℕ) → Decodes byte padded bytes b rest → b ≡ 0x02 → Rejects memory_type padded rest → Rejects entity padded bytes
+pub entity_no_memory : {m : Mode} (bytes rest : List ℕ) (b : ℕ) → Decodes byte m bytes b rest → b ≡ 0x02 → Rejects memory_type m rest → Rejects entity m bytes
 entity_no_memory bytes rest b h e n = entity_not 0x02 h e (mapped_rejects Memory n)
 
-pub entity_global : (bytes rest last : List ℕ) (b : ℕ) (t : GlobalType) → Decodes byte padded bytes b rest → b ≡ 0x03 → Decodes global_type padded rest t last → Decodes entity padded bytes (Global t) last
+pub entity_global : {m : Mode} (bytes rest last : List ℕ) (b : ℕ) (t : GlobalType) → Decodes byte m bytes b rest → b ≡ 0x03 → Decodes global_type m rest t last → Decodes entity m bytes (Global t) last
 entity_global bytes rest last b t h e g = entity_at 0x03 h e (mapped_decodes Global g)
 
-pub entity_no_global : (bytes rest : List ℕ) (b : ℕ) → Decodes byte padded bytes b rest → b ≡ 0x03 → Rejects global_type padded rest → Rejects entity padded bytes
+pub entity_no_global : {m : Mode} (bytes rest : List ℕ) (b : ℕ) → Decodes byte m bytes b rest → b ≡ 0x03 → Rejects global_type m rest → Rejects entity m bytes
 entity_no_global bytes rest b h e n = entity_not 0x03 h e (mapped_rejects Global n)
 
-pub entity_tag : (bytes rest last : List ℕ) (b : ℕ) (t : TagType) → Decodes byte padded bytes b rest → b ≡ 0x04 → Decodes tag_type padded rest t last → Decodes entity padded bytes (Tag t) last
+pub entity_tag : {m : Mode} (bytes rest last : List ℕ) (b : ℕ) (t : TagType) → Decodes byte m bytes b rest → b ≡ 0x04 → Decodes tag_type m rest t last → Decodes entity m bytes (Tag t) last
 entity_tag bytes rest last b t h e g = entity_at 0x04 h e (mapped_decodes Tag g)
 
-pub entity_no_tag : (bytes rest : List ℕ) (b : ℕ) → Decodes byte padded bytes b rest → b ≡ 0x04 → Rejects tag_type padded rest → Rejects entity padded bytes
+pub entity_no_tag : {m : Mode} (bytes rest : List ℕ) (b : ℕ) → Decodes byte m bytes b rest → b ≡ 0x04 → Rejects tag_type m rest → Rejects entity m bytes
 entity_no_tag bytes rest b h e n = entity_not 0x04 h e (mapped_rejects Tag n)
 
-pub entity_exact : (bytes rest last : List ℕ) (b n : ℕ) → Decodes byte padded bytes b rest → b ≡ 0x20 → Decodes u32 padded rest n last → Decodes entity padded bytes (FunctionExact n) last
+pub entity_exact : {m : Mode} (bytes rest last : List ℕ) (b n : ℕ) → Decodes byte m bytes b rest → b ≡ 0x20 → Decodes u32 m rest n last → Decodes entity m bytes (FunctionExact n) last
 entity_exact bytes rest last b n h e g = entity_at 0x20 h e (mapped_decodes FunctionExact g)
 
-pub entity_no_exact : (bytes rest : List ℕ) (b : ℕ) → Decodes byte padded bytes b rest → b ≡ 0x20 → Rejects u32 padded rest → Rejects entity padded bytes
+pub entity_no_exact : {m : Mode} (bytes rest : List ℕ) (b : ℕ) → Decodes byte m bytes b rest → b ≡ 0x20 → Rejects u32 m rest → Rejects entity m bytes
 entity_no_exact bytes rest b h e n = entity_not 0x20 h e (mapped_rejects FunctionExact n)
 
 pub ruleset entity_steps = (entity_unknown, entity_memory, entity_exact)
@@ -237,66 +237,66 @@ group_found (b ∷ []) l e = absurd (omega (arith, l))
 group_found (b ∷ c ∷ rest) l e = ap (λ z. z ∷ c ∷ rest) e ∙ ap (λ z. 0x00 ∷ c ∷ z) (sym (take_all (suc (suc (length rest)) - 2) rest (omega arith)))
 
 -- A group begins with its byte.
-of_group : {bytes last : List ℕ} {x : Imported} → Decodes group padded bytes x last → (b : ℕ) × (rest : List ℕ) × (bytes ≡ b ∷ rest) × IsGroupByte b
-of_group {last = last} {x = x} h = let b = group_begins padded h.front x h.encodes in (b.0, b.1 ++ last, h.split ∙ ap (λ z. z ++ last) b.2, b.3)
+of_group : {m : Mode} {bytes last : List ℕ} {x : Imported} → Decodes group m bytes x last → (b : ℕ) × (rest : List ℕ) × (bytes ≡ b ∷ rest) × IsGroupByte b
+of_group {m = m} {last = last} {x = x} h = let b = group_begins m h.front x h.encodes in (b.0, b.1 ++ last, h.split ∙ ap (λ z. z ++ last) b.2, b.3)
 
-no_group : (bytes : List ℕ) → ((k : ℕ) (rest : List ℕ) → bytes ≡ 0x00 ∷ k ∷ rest → 0x7E ≤ k → ⊥) → Rejects behind_zero padded bytes
-no_group bytes none = record {
+no_group : {m : Mode} (bytes : List ℕ) → ((k : ℕ) (rest : List ℕ) → bytes ≡ 0x00 ∷ k ∷ rest → 0x7E ≤ k → ⊥) → Rejects behind_zero m bytes
+no_group {m = m} bytes none = record {
   none = λ x last h.
       let s = h.encodes.2 in
-      let g : Decodes group padded (s.back ++ last) x last = record { front = s.back; split = refl; encodes = subst (λ z. group padded s.back z) h.encodes.1 s.second } in
+      let g : Decodes group m (s.back ++ last) x last = record { front = s.back; split = refl; encodes = subst (λ z. group m s.back z) h.encodes.1 s.second } in
       let b = of_group g in
       none b.0 b.1 (h.split ∙ ap (λ z. z ++ last) (s.joined ∙ ap (λ z. z ++ s.back) s.first.0) ∙ ap (λ z. 0x00 ∷ z) b.2) b.3;
 }
 
-pub group_short : (bytes : List ℕ) → length bytes < 2 → Rejects behind_zero padded bytes
+pub group_short : {m : Mode} (bytes : List ℕ) → length bytes < 2 → Rejects behind_zero m bytes
 group_short bytes l = no_group bytes (λ k rest e p. omega (arith, l, ap length e))
 
-pub group_not_empty : (bytes : List ℕ) → 2 ≤ length bytes → slice_index_or bytes 0 0 ≢ 0 → Rejects behind_zero padded bytes
+pub group_not_empty : {m : Mode} (bytes : List ℕ) → 2 ≤ length bytes → slice_index_or bytes 0 0 ≢ 0 → Rejects behind_zero m bytes
 group_not_empty bytes l other = no_group bytes (λ k rest e p. other (ap (λ z. slice_index_or z 0 0) e))
 
-pub group_low : (bytes : List ℕ) → 2 ≤ length bytes → slice_index_or bytes 1 0 < 0x7E → Rejects behind_zero padded bytes
+pub group_low : {m : Mode} (bytes : List ℕ) → 2 ≤ length bytes → slice_index_or bytes 1 0 < 0x7E → Rejects behind_zero m bytes
 group_low bytes l low = no_group bytes (λ k rest e p. omega (arith, low, p, ap (λ z. slice_index_or z 1 0) e))
 
 pub ruleset group_steps = (group_found, group_short, group_not_empty, group_low)
 
 -- ---- single imports
 
-named_from : {bytes last encoding : List ℕ} {ty : EntityType} → Decodes (pair name entity) padded bytes (encoding, ty) last → Decodes named_entity padded bytes (single encoding ty) last
+named_from : {m : Mode} {bytes last encoding : List ℕ} {ty : EntityType} → Decodes (pair name entity) m bytes (encoding, ty) last → Decodes named_entity m bytes (single encoding ty) last
 named_from {encoding = encoding} {ty = ty} h =
     let s = h.encodes in
     record { front = h.front; split = h.split; encodes = ((encoding, single encoding ty), refl, record { front = s.front; back = s.back; joined = s.joined; first = s.first; second = (ty, refl, s.second) }) }
 
-named_rejects : {bytes : List ℕ} → Rejects (pair name entity) padded bytes → Rejects named_entity padded bytes
+named_rejects : {m : Mode} {bytes : List ℕ} → Rejects (pair name entity) m bytes → Rejects named_entity m bytes
 named_rejects n = record {
   none = λ x last h.
       let s = h.encodes.2 in
       n.none (h.encodes.0.0, s.second.0) last (record { front = h.front; split = h.split; encodes = record { front = s.front; back = s.back; joined = s.joined; first = s.first; second = s.second.2 } });
 }
 
-pub import_no_module : (bytes : List ℕ) → Rejects name padded bytes → Rejects import_format padded bytes
+pub import_no_module : {m : Mode} (bytes : List ℕ) → Rejects name m bytes → Rejects import_format m bytes
 import_no_module bytes n = mapped_rejects import_of (then_rejects_first n)
 
-pub single_decodes : (bytes rest next last m encoding : List ℕ) (ty : EntityType) → Decodes name padded bytes m rest → Decodes name padded rest encoding next → Decodes entity padded next ty last → Decodes import_format padded bytes (record { module_name = m; imported = single encoding ty }) last
-single_decodes bytes rest next last m encoding ty h g k = mapped_decodes import_of (then_decodes h (one_of_left behind_zero (named_from (then_decodes g k))))
+pub single_decodes : {m : Mode} (bytes rest next last from encoding : List ℕ) (ty : EntityType) → Decodes name m bytes from rest → Decodes name m rest encoding next → Decodes entity m next ty last → Decodes import_format m bytes (record { module_name = from; imported = single encoding ty }) last
+single_decodes bytes rest next last from encoding ty h g k = mapped_decodes import_of (then_decodes h (one_of_left behind_zero (named_from (then_decodes g k))))
 
-single_none : {bytes rest m : List ℕ} → Decodes name padded bytes m rest → Rejects behind_zero padded rest → Rejects (pair name entity) padded rest → Rejects import_format padded bytes
+single_none : {m : Mode} {bytes rest from : List ℕ} → Decodes name m bytes from rest → Rejects behind_zero m rest → Rejects (pair name entity) m rest → Rejects import_format m bytes
 single_none h other n = mapped_rejects import_of (then_rejects_second name_unambiguous h (one_of_rejects (named_rejects n) other))
 
-pub single_no_name : (bytes rest m : List ℕ) → Decodes name padded bytes m rest → Rejects behind_zero padded rest → Rejects name padded rest → Rejects import_format padded bytes
-single_no_name bytes rest m h other n = single_none h other (then_rejects_first n)
+pub single_no_name : {m : Mode} (bytes rest from : List ℕ) → Decodes name m bytes from rest → Rejects behind_zero m rest → Rejects name m rest → Rejects import_format m bytes
+single_no_name bytes rest from h other n = single_none h other (then_rejects_first n)
 
-pub single_no_type : (bytes rest next m encoding : List ℕ) → Decodes name padded bytes m rest → Rejects behind_zero padded rest → Decodes name padded rest encoding next → Rejects entity padded next → Rejects import_format padded bytes
-single_no_type bytes rest next m encoding h other g n = single_none h other (then_rejects_second name_unambiguous g n)
+pub single_no_type : {m : Mode} (bytes rest next from encoding : List ℕ) → Decodes name m bytes from rest → Rejects behind_zero m rest → Decodes name m rest encoding next → Rejects entity m next → Rejects import_format m bytes
+single_no_type bytes rest next from encoding h other g n = single_none h other (then_rejects_second name_unambiguous g n)
 
 -- ---- groups
 
 -- After an empty name, the byte of a group begins no entity.
-not_named : {bytes after : List ℕ} {k : ℕ} → bytes ≡ 0x00 ∷ k ∷ after → 0x7E ≤ k → Rejects named_entity padded bytes
-not_named {after = after} {k = k} e l = record {
+not_named : {m : Mode} {bytes after : List ℕ} {k : ℕ} → bytes ≡ 0x00 ∷ k ∷ after → 0x7E ≤ k → Rejects named_entity m bytes
+not_named {m = m} {after = after} {k = k} e l = record {
   none = λ x last h.
-      let found = tagged_at {F = name} {G = λ item. mapped (single item) entity} name_unambiguous padded (0x00 ∷ []) [] (empty_name padded) (k ∷ after) h.front last x (sym e ∙ h.split) h.encodes in
-      let b = entity_begins padded found.0 found.2.0 found.2.2 in
+      let found = tagged_at {F = name} {G = λ item. mapped (single item) entity} name_unambiguous m (0x00 ∷ []) [] (empty_name m) (k ∷ after) h.front last x (sym e ∙ h.split) h.encodes in
+      let b = entity_begins m found.0 found.2.0 found.2.2 in
       let same : k ≡ b.0 = first (found.1 ∙ ap (λ z. z ++ last) b.2) in
       omega (arith, l, same, b.3);
 }
@@ -307,41 +307,41 @@ not_named {after = after} {k = k} e l = record {
 abbrev after_zero : ℕ → Format Imported
 after_zero b = choice group_tags (λ c. impossible) b
 
-at_byte : (k : ℕ) (after : List ℕ) → Decodes byte padded (k ∷ after) k after
+at_byte : {m : Mode} (k : ℕ) (after : List ℕ) → Decodes byte m (k ∷ after) k after
 at_byte k after = record { front = k ∷ []; split = refl; encodes = refl }
 
-group_decodes : (c : ℕ) {bytes rest after last m : List ℕ} {k : ℕ} {x : Imported} → Decodes name padded bytes m rest → rest ≡ 0x00 ∷ k ∷ after → k ≡ c → Decodes (after_zero c) padded after x last → Decodes import_format padded bytes (record { module_name = m; imported = x }) last
-group_decodes c {after = after} {last = last} {k = k} {x = x} h e f g =
-    let inside : Decodes group padded (k ∷ after) x last = tagged_decodes {G = after_zero} (at_byte k after) (subst (λ z. Decodes (after_zero z) padded after x last) (sym f) g) in
+group_decodes : {m : Mode} (c : ℕ) {bytes rest after last from : List ℕ} {k : ℕ} {x : Imported} → Decodes name m bytes from rest → rest ≡ 0x00 ∷ k ∷ after → k ≡ c → Decodes (after_zero c) m after x last → Decodes import_format m bytes (record { module_name = from; imported = x }) last
+group_decodes {m = m} c {after = after} {last = last} {k = k} {x = x} h e f g =
+    let inside : Decodes group m (k ∷ after) x last = tagged_decodes {G = after_zero} (at_byte k after) (subst (λ z. Decodes (after_zero z) m after x last) (sym f) g) in
     mapped_decodes import_of (then_decodes h (one_of_right named_entity (prefixed_decodes (0x00 ∷ []) group e inside)))
 
-group_rejects : {bytes rest after m : List ℕ} {k : ℕ} → Decodes name padded bytes m rest → rest ≡ 0x00 ∷ k ∷ after → 0x7E ≤ k → Rejects (after_zero k) padded after → Rejects import_format padded bytes
-group_rejects {after = after} {k = k} h e l n =
-    let inside : Rejects group padded (k ∷ after) = tagged_rejects {G = after_zero} byte_unambiguous (at_byte k after) n in
+group_rejects : {m : Mode} {bytes rest after from : List ℕ} {k : ℕ} → Decodes name m bytes from rest → rest ≡ 0x00 ∷ k ∷ after → 0x7E ≤ k → Rejects (after_zero k) m after → Rejects import_format m bytes
+group_rejects {m = m} {after = after} {k = k} h e l n =
+    let inside : Rejects group m (k ∷ after) = tagged_rejects {G = after_zero} byte_unambiguous (at_byte k after) n in
     mapped_rejects import_of (then_rejects_second name_unambiguous h (one_of_rejects (not_named e l) (prefixed_rejects (0x00 ∷ []) group e inside)))
 
-pub named_decodes : (bytes rest after last m : List ℕ) (k : ℕ) (items : List (List ℕ × EntityType)) → Decodes name padded bytes m rest → rest ≡ 0x00 ∷ k ∷ after → k ≡ 0x7F → Decodes (vec (pair name entity)) padded after items last
-    → Decodes import_format padded bytes (record { module_name = m; imported = named items }) last
-named_decodes bytes rest after last m k items h e f g = group_decodes 0x7F h e f (mapped_decodes named g)
+pub named_decodes : {m : Mode} (bytes rest after last from : List ℕ) (k : ℕ) (items : List (List ℕ × EntityType)) → Decodes name m bytes from rest → rest ≡ 0x00 ∷ k ∷ after → k ≡ 0x7F → Decodes (vec (pair name entity)) m after items last
+    → Decodes import_format m bytes (record { module_name = from; imported = named items }) last
+named_decodes bytes rest after last from k items h e f g = group_decodes 0x7F h e f (mapped_decodes named g)
 
-pub named_none : (bytes rest after m : List ℕ) (k : ℕ) → Decodes name padded bytes m rest → rest ≡ 0x00 ∷ k ∷ after → k ≡ 0x7F → Rejects (vec (pair name entity)) padded after → Rejects import_format padded bytes
-named_none bytes rest after m k h e f n = group_rejects h e (omega (arith, f)) (subst (λ z. Rejects (after_zero z) padded after) (sym f) (mapped_rejects named n))
+pub named_none : {m : Mode} (bytes rest after from : List ℕ) (k : ℕ) → Decodes name m bytes from rest → rest ≡ 0x00 ∷ k ∷ after → k ≡ 0x7F → Rejects (vec (pair name entity)) m after → Rejects import_format m bytes
+named_none {m = m} bytes rest after from k h e f n = group_rejects h e (omega (arith, f)) (subst (λ z. Rejects (after_zero z) m after) (sym f) (mapped_rejects named n))
 
-pub alike_decodes : (bytes rest after next last m : List ℕ) (k : ℕ) (ty : EntityType) (names : List (List ℕ)) → Decodes name padded bytes m rest → rest ≡ 0x00 ∷ k ∷ after → k ≡ 0x7E → Decodes entity padded after ty next → Decodes (vec name) padded next names last
-    → Decodes import_format padded bytes (record { module_name = m; imported = alike ty names }) last
-alike_decodes bytes rest after next last m k ty names h e f g j = group_decodes 0x7E h e f (mapped_decodes alike_of (then_decodes g j))
+pub alike_decodes : {m : Mode} (bytes rest after next last from : List ℕ) (k : ℕ) (ty : EntityType) (names : List (List ℕ)) → Decodes name m bytes from rest → rest ≡ 0x00 ∷ k ∷ after → k ≡ 0x7E → Decodes entity m after ty next → Decodes (vec name) m next names last
+    → Decodes import_format m bytes (record { module_name = from; imported = alike ty names }) last
+alike_decodes bytes rest after next last from k ty names h e f g j = group_decodes 0x7E h e f (mapped_decodes alike_of (then_decodes g j))
 
-alike_none : {bytes rest after m : List ℕ} {k : ℕ} → Decodes name padded bytes m rest → rest ≡ 0x00 ∷ k ∷ after → k ≡ 0x7E → Rejects (pair entity (vec name)) padded after → Rejects import_format padded bytes
-alike_none {after = after} h e f n = group_rejects h e (omega (arith, f)) (subst (λ z. Rejects (after_zero z) padded after) (sym f) (mapped_rejects alike_of n))
+alike_none : {m : Mode} {bytes rest after from : List ℕ} {k : ℕ} → Decodes name m bytes from rest → rest ≡ 0x00 ∷ k ∷ after → k ≡ 0x7E → Rejects (pair entity (vec name)) m after → Rejects import_format m bytes
+alike_none {m = m} {after = after} h e f n = group_rejects h e (omega (arith, f)) (subst (λ z. Rejects (after_zero z) m after) (sym f) (mapped_rejects alike_of n))
 
-pub alike_no_type : (bytes rest after m : List ℕ) (k : ℕ) → Decodes name padded bytes m rest → rest ≡ 0x00 ∷ k ∷ after → k ≡ 0x7E → Rejects entity padded after → Rejects import_format padded bytes
-alike_no_type bytes rest after m k h e f n = alike_none h e f (then_rejects_first n)
+pub alike_no_type : {m : Mode} (bytes rest after from : List ℕ) (k : ℕ) → Decodes name m bytes from rest → rest ≡ 0x00 ∷ k ∷ after → k ≡ 0x7E → Rejects entity m after → Rejects import_format m bytes
+alike_no_type bytes rest after from k h e f n = alike_none h e f (then_rejects_first n)
 
-pub alike_no_names : (bytes rest after next m : List ℕ) (k : ℕ) (ty : EntityType) → Decodes name padded bytes m rest → rest ≡ 0x00 ∷ k ∷ after → k ≡ 0x7E → Decodes entity padded after ty next → Rejects (vec name) padded next → Rejects import_format padded bytes
-alike_no_names bytes rest after next m k ty h e f g n = alike_none h e f (then_rejects_second entity_unambiguous g n)
+pub alike_no_names : {m : Mode} (bytes rest after next from : List ℕ) (k : ℕ) (ty : EntityType) → Decodes name m bytes from rest → rest ≡ 0x00 ∷ k ∷ after → k ≡ 0x7E → Decodes entity m after ty next → Rejects (vec name) m next → Rejects import_format m bytes
+alike_no_names bytes rest after next from k ty h e f g n = alike_none h e f (then_rejects_second entity_unambiguous g n)
 
-pub group_unknown : (bytes rest after m : List ℕ) (k : ℕ) → Decodes name padded bytes m rest → rest ≡ 0x00 ∷ k ∷ after → 0x7E ≤ k → k ≢ 0x7F → k ≢ 0x7E → Rejects import_format padded bytes
-group_unknown bytes rest after m k h e l p q = group_rejects h e l (no_choice group_tags k after (p, (q, tt)))
+pub group_unknown : {m : Mode} (bytes rest after from : List ℕ) (k : ℕ) → Decodes name m bytes from rest → rest ≡ 0x00 ∷ k ∷ after → 0x7E ≤ k → k ≢ 0x7F → k ≢ 0x7E → Rejects import_format m bytes
+group_unknown bytes rest after from k h e l p q = group_rejects h e l (no_choice group_tags k after (p, (q, tt)))
 
 pub ruleset import_steps = (alike_decodes, alike_no_type, alike_no_names, group_unknown)
 

@@ -1,9 +1,9 @@
 -- This file proves that table types and tables are unambiguous, and how they are decoded and
 -- minimized.
-use Rattle.wasm_base.proofs.Words.{◌≡◌, ℕ, ◌^◌, ◌<◌, List, [], ◌∷◌, ◌++◌, Bool, true, false, Option, Some, None, refl, ap, ◌∙◌, arith, inl, inr, ◌≢◌, sym, subst, IfSome, ItemLaws, u64, impossible}
-use Rattle.wasm_base.proofs.Words.{mapped, pair, optional, when, prefixed, is_given, Format, byte, vec, Mode, minimal, unsigned_encoding, padded, IsOfBuilders, Unambiguous, BeginsWith, Decodes}
-use Rattle.wasm_base.proofs.Words.{Rejects, optional_encoding, ref_type, ref_tags, ref_encoding, u64_unambiguous, DeterminesTag, tagged_unambiguous, mapped_unambiguous, when_unambiguous}
-use Rattle.wasm_base.proofs.Words.{impossible_unambiguous, pair_unambiguous, optional_unambiguous, prefixed_unambiguous, one_of_unambiguous, begins_then, begins_mapped, begins_fixed, choice_begins}
+use Rattle.wasm_base.proofs.Words.{IsRefByte, begins_weaker, ref_begins, ◌≡◌, ℕ, ◌^◌, ◌<◌, List, [], ◌∷◌, ◌++◌, Bool, true, false, Option, Some, None, refl, ap, ◌∙◌, arith, inl, inr, ◌≢◌, sym, subst}
+use Rattle.wasm_base.proofs.Words.{IfSome, ItemLaws, u64, impossible, mapped, pair, optional, when, prefixed, is_given, Format, byte, vec, Mode, minimal, unsigned_encoding, padded, IsOfBuilders}
+use Rattle.wasm_base.proofs.Words.{Unambiguous, BeginsWith, Decodes, Rejects, optional_encoding, ref_type, ref_encoding, u64_unambiguous, DeterminesTag, tagged_unambiguous, mapped_unambiguous}
+use Rattle.wasm_base.proofs.Words.{when_unambiguous, impossible_unambiguous, pair_unambiguous, optional_unambiguous, prefixed_unambiguous, one_of_unambiguous, begins_then, begins_mapped, begins_fixed}
 use Rattle.wasm_base.proofs.Words.{none_in_common, values_mapped, AllValues, encodes_in, u64_encodes, ref_unambiguous, ref-encodings, pair_in, pair_encodes, optional_encodes, optional_determines}
 use Rattle.wasm_base.proofs.Words.{mapped_decodes, mapped_rejects, one_of_rejects, one_of_left, one_of_right, not_begun, no_bytes, SectionLaws, counted_laws_padded, ref_is, fitting_appended}
 use Rattle.wasm_base.proofs.Words.{pair_appended, prefixed_appended, mapped_appended, AppendsMinimal, HasEncoding, right_encoded, prefixed_encoded, mapped_encoded}
@@ -60,7 +60,7 @@ IsTypeByte b = 0x40 < b
 
 pub type_begins : BeginsWith IsTypeByte table_type
 type_begins =
-    begins_mapped IsTypeByte table_of (begins_then IsTypeByte (choice_begins IsTypeByte ref_tags (λ b. impossible) (omega arith, (omega arith, (omega arith, (omega arith, tt)))) (λ b mode s x h. absurd h)))
+    begins_mapped IsTypeByte table_of (begins_then IsTypeByte (begins_weaker IsRefByte IsTypeByte (λ b p. omega (arith, p.0)) ref_begins))
 
 abbrev pub IsInitByte : ℕ → Type 0
 IsInitByte b = b ≡ 0x40
@@ -107,43 +107,43 @@ abbrev typed : Format (TableType × List Plain)
 typed = pair table_type expression
 
 -- A table without an initial value.
-pub table_decodes : (bytes last : List ℕ) (t : TableType) → Decodes table_type padded bytes t last → Decodes table_item padded bytes (record { table_type = t; init = None }) last
+pub table_decodes : {m : Mode} (bytes last : List ℕ) (t : TableType) → Decodes table_type m bytes t last → Decodes table_item m bytes (record { table_type = t; init = None }) last
 table_decodes bytes last t h = one_of_left (mapped with_init (prefixed before_init typed)) (mapped_decodes without_init h)
 
-pub table_none : (bytes : List ℕ) → Rejects byte padded bytes → Rejects table_item padded bytes
+pub table_none : {m : Mode} (bytes : List ℕ) → Rejects byte m bytes → Rejects table_item m bytes
 table_none bytes n =
     one_of_rejects (no_bytes IsTypeByte (mapped without_init table_type) (begins_mapped IsTypeByte without_init type_begins) n)
     (no_bytes IsInitByte (mapped with_init (prefixed before_init typed)) init_begins n)
 
-pub table_no_type : (bytes rest : List ℕ) (b : ℕ) → Decodes byte padded bytes b rest → b ≢ 0x40 → Rejects table_type padded bytes → Rejects table_item padded bytes
+pub table_no_type : {m : Mode} (bytes rest : List ℕ) (b : ℕ) → Decodes byte m bytes b rest → b ≢ 0x40 → Rejects table_type m bytes → Rejects table_item m bytes
 table_no_type bytes rest b h other n = one_of_rejects (mapped_rejects without_init n) (not_begun IsInitByte (mapped with_init (prefixed before_init typed)) init_begins h other)
 
 -- A table with an initial value, after two bytes.
-two_bytes : (bytes rest after : List ℕ) (b c : ℕ) → Decodes byte padded bytes b rest → b ≡ 0x40 → Decodes byte padded rest c after → c ≡ 0x00 → bytes ≡ before_init ++ after
+two_bytes : {m : Mode} (bytes rest after : List ℕ) (b c : ℕ) → Decodes byte m bytes b rest → b ≡ 0x40 → Decodes byte m rest c after → c ≡ 0x00 → bytes ≡ before_init ++ after
 two_bytes bytes rest after b c h e g f =
     h.split ∙ ap (λ z. z ++ rest) h.encodes ∙ ap (λ z. b ∷ z) (g.split ∙ ap (λ z. z ++ after) g.encodes) ∙ ap (λ z. z ∷ c ∷ after) e ∙ ap (λ z. 0x40 ∷ z ∷ after) f
 
-with_rejects : (bytes rest : List ℕ) (b : ℕ) → Decodes byte padded bytes b rest → b ≡ 0x40 → Rejects (prefixed before_init typed) padded bytes → Rejects table_item padded bytes
+with_rejects : {m : Mode} (bytes rest : List ℕ) (b : ℕ) → Decodes byte m bytes b rest → b ≡ 0x40 → Rejects (prefixed before_init typed) m bytes → Rejects table_item m bytes
 with_rejects bytes rest b h e n =
     one_of_rejects (not_begun IsTypeByte (mapped without_init table_type) (begins_mapped IsTypeByte without_init type_begins) h (λ l. omega (arith, l, e))) (mapped_rejects with_init n)
 
-pub table_with : (bytes rest after last : List ℕ) (b c : ℕ) (t : TableType) (is : List Plain) → Decodes byte padded bytes b rest → b ≡ 0x40 → Decodes byte padded rest c after → c ≡ 0x00 → Decodes typed padded after (t, is) last
-    → Decodes table_item padded bytes (record { table_type = t; init = Some is }) last
+pub table_with : {m : Mode} (bytes rest after last : List ℕ) (b c : ℕ) (t : TableType) (is : List Plain) → Decodes byte m bytes b rest → b ≡ 0x40 → Decodes byte m rest c after → c ≡ 0x00 → Decodes typed m after (t, is) last
+    → Decodes table_item m bytes (record { table_type = t; init = Some is }) last
 table_with bytes rest after last b c t is h e g f k =
     one_of_right (mapped without_init table_type) (mapped_decodes with_init (prefixed_decodes before_init typed (two_bytes bytes rest after b c h e g f) k))
 
-pub table_no_second : (bytes rest : List ℕ) (b : ℕ) → Decodes byte padded bytes b rest → b ≡ 0x40 → Rejects byte padded rest → Rejects table_item padded bytes
-table_no_second bytes rest b h e n = with_rejects bytes rest b h e (prefixed_other before_init typed none)
+pub table_no_second : {m : Mode} (bytes rest : List ℕ) (b : ℕ) → Decodes byte m bytes b rest → b ≡ 0x40 → Rejects byte m rest → Rejects table_item m bytes
+table_no_second {m = m} bytes rest b h e n = with_rejects bytes rest b h e (prefixed_other before_init typed none)
   where
     none : (q : List ℕ) → bytes ≡ before_init ++ q → ⊥
     none q s =
-        let second : Decodes byte padded rest 0x00 q = record { front = 0x00 ∷ []; split = tail (sym (h.split ∙ ap (λ z. z ++ rest) h.encodes) ∙ s); encodes = refl } in
+        let second : Decodes byte m rest 0x00 q = record { front = 0x00 ∷ []; split = tail (sym (h.split ∙ ap (λ z. z ++ rest) h.encodes) ∙ s); encodes = refl } in
         n.none 0x00 q second
       where
         tail : b ∷ rest ≡ 0x40 ∷ 0x00 ∷ q → rest ≡ 0x00 ∷ q
         tail e = cc e
 
-pub table_other : (bytes rest after : List ℕ) (b c : ℕ) → Decodes byte padded bytes b rest → b ≡ 0x40 → Decodes byte padded rest c after → c ≢ 0x00 → Rejects table_item padded bytes
+pub table_other : {m : Mode} (bytes rest after : List ℕ) (b c : ℕ) → Decodes byte m bytes b rest → b ≡ 0x40 → Decodes byte m rest c after → c ≢ 0x00 → Rejects table_item m bytes
 table_other bytes rest after b c h e g other = with_rejects bytes rest b h e (prefixed_other before_init typed none)
   where
     second : (q : List ℕ) → b ∷ c ∷ after ≡ 0x40 ∷ 0x00 ∷ q → c ≡ 0x00
@@ -152,7 +152,7 @@ table_other bytes rest after b c h e g other = with_rejects bytes rest b h e (pr
     none : (q : List ℕ) → bytes ≡ before_init ++ q → ⊥
     none q s = other (second q (sym (h.split ∙ ap (λ z. z ++ rest) h.encodes ∙ ap (λ z. b ∷ z) (g.split ∙ ap (λ z. z ++ after) g.encodes)) ∙ s))
 
-pub table_no_with : (bytes rest after : List ℕ) (b c : ℕ) → Decodes byte padded bytes b rest → b ≡ 0x40 → Decodes byte padded rest c after → c ≡ 0x00 → Rejects typed padded after → Rejects table_item padded bytes
+pub table_no_with : {m : Mode} (bytes rest after : List ℕ) (b c : ℕ) → Decodes byte m bytes b rest → b ≡ 0x40 → Decodes byte m rest c after → c ≡ 0x00 → Rejects typed m after → Rejects table_item m bytes
 table_no_with bytes rest after b c h e g f n = with_rejects bytes rest b h e (prefixed_rejects before_init typed (two_bytes bytes rest after b c h e g f) n)
 
 pub ruleset table_steps = (table_other)

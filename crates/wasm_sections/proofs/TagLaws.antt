@@ -1,5 +1,5 @@
 -- This file proves that tag types are unambiguous.
-use Rattle.wasm_base.proofs.Words.{◌≡◌, [], ◌∷◌, refl, ap, ◌≢◌, ℕ, List, subst, ItemLaws, u32, coded, vec, byte, pair, minimal, unsigned_encoding, padded, Unambiguous, Decodes, Rejects}
+use Rattle.wasm_base.proofs.Words.{Mode, ◌≡◌, [], ◌∷◌, refl, ap, ◌≢◌, ℕ, List, subst, ItemLaws, u32, coded, vec, byte, pair, minimal, unsigned_encoding, Unambiguous, Decodes, Rejects}
 use Rattle.wasm_base.proofs.Words.{coded_unambiguous, mapped_unambiguous, pair_unambiguous, AllValues, u32_unambiguous, u32_encodes, pair_encodes, SectionLaws, counted_laws, mapped_decodes}
 use Rattle.wasm_base.proofs.Words.{mapped_rejects, code_decodes, code_none, code_unknown}
 use Rattle.wasm_sections.specs.{tag_code, tag_encoding, IsTag, tag_of, tag_type, tag_items}
@@ -28,13 +28,13 @@ tags_section = counted_laws tag_laws (λ given plain. plain) (λ given plain. pl
 
 -- ---- decoding tag types
 
-pub tag_kind_decodes : (bytes rest : List ℕ) (b : ℕ) → Decodes byte padded bytes b rest → b ≡ 0 → Decodes (coded tag_code) padded bytes Exception rest
+pub tag_kind_decodes : {m : Mode} (bytes rest : List ℕ) (b : ℕ) → Decodes byte m bytes b rest → b ≡ 0 → Decodes (coded tag_code) m bytes Exception rest
 tag_kind_decodes bytes rest b h e = code_decodes tag_code bytes rest b Exception h e
 
-pub tag_kind_none : (bytes : List ℕ) → Rejects byte padded bytes → Rejects (coded tag_code) padded bytes
+pub tag_kind_none : {m : Mode} (bytes : List ℕ) → Rejects byte m bytes → Rejects (coded tag_code) m bytes
 tag_kind_none = code_none tag_code
 
-pub tag_kind_unknown : (bytes rest : List ℕ) (b : ℕ) → Decodes byte padded bytes b rest → b ≢ 0 → Rejects (coded tag_code) padded bytes
+pub tag_kind_unknown : {m : Mode} (bytes rest : List ℕ) (b : ℕ) → Decodes byte m bytes b rest → b ≢ 0 → Rejects (coded tag_code) m bytes
 tag_kind_unknown bytes rest b h p = code_unknown tag_code bytes rest b h other
   where
     other : (k : TagKind) → b ≢ tag_code k
@@ -42,10 +42,10 @@ tag_kind_unknown bytes rest b h p = code_unknown tag_code bytes rest b h other
 
 pub ruleset tag_kind_steps = (tag_kind_decodes)
 
-pub tag_decodes : (bytes rest : List ℕ) (k : TagKind) (n : ℕ) → Decodes (pair (coded tag_code) u32) padded bytes (k, n) rest → Decodes tag_type padded bytes (record { kind = k; func_type_idx = n }) rest
+pub tag_decodes : {m : Mode} (bytes rest : List ℕ) (k : TagKind) (n : ℕ) → Decodes (pair (coded tag_code) u32) m bytes (k, n) rest → Decodes tag_type m bytes (record { kind = k; func_type_idx = n }) rest
 tag_decodes bytes rest k n h = mapped_decodes tag_of h
 
-pub tag_none : (bytes : List ℕ) → Rejects (pair (coded tag_code) u32) padded bytes → Rejects tag_type padded bytes
+pub tag_none : {m : Mode} (bytes : List ℕ) → Rejects (pair (coded tag_code) u32) m bytes → Rejects tag_type m bytes
 tag_none bytes n = mapped_rejects tag_of n
 
 pub ruleset tag_steps = (tag_decodes)

@@ -4,7 +4,7 @@ ghost use Rattle.wasm_base.specs.Calls.{Adds};
 ghost use Rattle.wasm_base.specs.Formats.{byte, pair, vec};
 ghost use Rattle.wasm_base.specs.Continuing.{RejectsWhole};
 ghost use Rattle.wasm_base.specs.Iterators.{HasKnownLength};
-ghost use Rattle.wasm_base.specs.Numbers.{padded};
+ghost use Rattle.wasm_base.specs.Numbers.{padded_of};
 ghost use Rattle.wasm_base.specs.Decoding.{Unambiguous};
 ghost use Rattle.wasm_base.specs.Encodings.{size_prefixed_encoding};
 ghost use Rattle.wasm_base.specs.declared.refused.Refused.TheVariants.{TooLong};
@@ -17,8 +17,8 @@ ghost use Rattle.wasm_sections.specs.DataSegments.{data_items, DataItem, active,
 use crate::counted_section::{CountedSection, ItemKind};
 use std::alloc::{Allocator, Global};
 use wasm_base::{
-    Dropped, Encode, Kind, Layout, Lent, ReadFault, Readable, Result, SectionId, Shorten, Skip,
-    bytes_of, encode_size_prefixed, read_whole,
+    DecodeError, Dropped, Encode, Grammar, Kind, Layout, Lent, ReadFault, Readable, Result,
+    SectionId, Shorten, Skip, bytes_of, encode_size_prefixed, read_whole,
 };
 use wasm_code::{ConstExpr, Expression};
 
@@ -90,7 +90,7 @@ impl<'a, D: Clone, A: Allocator> DataSegment<'a, D, A> {
 }
 
 impl Kind for DataItems {
-    ghost use Rattle.wasm_sections.specs.DataSegments.{GivenData, data_encoding, IsGivenData, data_of};
+    ghost use Rattle.wasm_sections.specs.DataSegments.{GivenData};
 
     ghost Record = { GivenData };
 
@@ -218,10 +218,10 @@ impl<'a> Layout for Bytes<'a> {
     {}
 }
 
-impl<'a, A: Allocator + Copy> Readable<'a, A> for Bytes<'a> {
+impl<'a, A: Allocator + Copy, G: Grammar> Readable<'a, A, G> for Bytes<'a> {
     #[tactic(auto, using(crate::proofs::DataLaws::bytes_steps))]
-    fn read(bytes: &'a [u8], alloc: A) -> Result<(Bytes<'a>, &'a [u8]), ReadFault> {
-        let (bytes, rest) = <&'a [u8] as Readable<'a, A>>::read(bytes, alloc)?;
+    fn read(bytes: &'a [u8], alloc: A) -> Result<(Bytes<'a>, &'a [u8]), DecodeError> {
+        let (bytes, rest) = <&'a [u8] as Readable<'a, A, G>>::read(bytes, alloc)?;
         Ok((Bytes(bytes), rest))
     }
 }
@@ -255,15 +255,16 @@ impl<'a, A: Allocator> Layout for Segment<'a, A> {
     {}
 }
 
-impl<'a, A: Allocator + Copy> Readable<'a, A> for Segment<'a, A> {
+impl<'a, A: Allocator + Copy, G: Grammar> Readable<'a, A, G> for Segment<'a, A> {
     #[tactic(auto, using(crate::proofs::DataLaws::segment_steps))]
-    fn read(bytes: &'a [u8], alloc: A) -> Result<(Segment<'a, A>, &'a [u8]), ReadFault> {
-        let (flag, rest) = <u32 as Readable<'a, A>>::read(bytes, alloc)?;
+    fn read(bytes: &'a [u8], alloc: A) -> Result<(Segment<'a, A>, &'a [u8]), DecodeError> {
+        let (flag, rest) = <u32 as Readable<'a, A, G>>::read(bytes, alloc)?;
         match flag {
             0 => {
                 let ((offset, Bytes(bytes)), rest) = <(Expression<A>, Bytes<'a>) as Readable<
                     'a,
                     A,
+                    G,
                 >>::read(rest, alloc)?;
                 let memory = 0;
                 Ok((
@@ -276,17 +277,18 @@ impl<'a, A: Allocator + Copy> Readable<'a, A> for Segment<'a, A> {
                 ))
             }
             1 => {
-                let (Bytes(bytes), rest) = <Bytes<'a> as Readable<'a, A>>::read(rest, alloc)?;
+                let (Bytes(bytes), rest) = <Bytes<'a> as Readable<'a, A, G>>::read(rest, alloc)?;
                 Ok((Segment::Passive { bytes }, rest))
             }
             2 => {
-                let (memory, rest) = <u32 as Readable<'a, A>>::read(rest, alloc)?;
+                let (memory, rest) = <u32 as Readable<'a, A, G>>::read(rest, alloc)?;
                 if memory == 0 {
-                    return Err(ReadFault::UnknownTag);
+                    return Err(ReadFault::UnknownTag.just_before(rest));
                 }
                 let ((offset, Bytes(bytes)), rest) = <(Expression<A>, Bytes<'a>) as Readable<
                     'a,
                     A,
+                    G,
                 >>::read(rest, alloc)?;
                 Ok((
                     Segment::Active {
@@ -297,7 +299,7 @@ impl<'a, A: Allocator + Copy> Readable<'a, A> for Segment<'a, A> {
                     rest,
                 ))
             }
-            _ => Err(ReadFault::UnknownTag),
+            _ => Err(ReadFault::UnknownTag.just_before(rest)),
         }
     }
 }
@@ -308,14 +310,14 @@ impl<'a, A: Allocator + Copy> Readable<'a, A> for Segment<'a, A> {
 /// # Errors
 ///
 /// Any error but `Memory` means that the bytes are not such a payload.
-pub fn read_segments<'a, A: Allocator + Copy + 'a>(
+pub fn read_segments<'a, A: Allocator + Copy + 'a, G: Grammar>(
     bytes: &'a [u8],
     alloc: A,
-) -> Result<Vec<Segment<'a, A>, A>, ReadFault>
-    ensures found { IfOk result (λ x. vec data_item padded bytes.now (map segment_view x.items)) }
-    ensures none { IfErr result (λ e. e ≢ Memory → RejectsWhole (vec data_item) bytes.now) }
+) -> Result<Vec<Segment<'a, A>, A>, DecodeError>
+    ensures found { IfOk result (λ x. vec data_item (padded_of G.grammar) bytes.now (map segment_view x.items)) }
+    ensures none { IfErr result (λ e. e.cause ≢ Memory → RejectsWhole (vec data_item) (padded_of G.grammar) bytes.now) }
 {
-    read_whole::<'a, Vec<Segment<'a, A>, A>, A>(bytes, alloc)
+    read_whole::<'a, Vec<Segment<'a, A>, A>, A, G>(bytes, alloc)
 }
 
 /// Appends the offset and the bytes of a segment.
@@ -370,28 +372,32 @@ impl<'a, A: Allocator> Shorten for Segment<'a, A> {
     }
 }
 
-impl<'a, A: Allocator + Copy> Skip<'a, A> for Segment<'a, A> {
+impl<'a, A: Allocator + Copy, G: Grammar> Skip<'a, A, G> for Segment<'a, A> {
     #[tactic(auto, using(crate::proofs::DataLaws::segment_steps))]
-    fn skip(bytes: &'a [u8], alloc: A) -> Result<&'a [u8], ReadFault> {
-        let (flag, rest) = <u32 as Readable<'a, A>>::read(bytes, alloc)?;
+    fn skip(bytes: &'a [u8], alloc: A) -> Result<&'a [u8], DecodeError> {
+        let (flag, rest) = <u32 as Readable<'a, A, G>>::read(bytes, alloc)?;
         match flag {
             0 => {
-                let rest = <(Expression<A>, Dropped<Bytes<'a>>) as Skip<'a, A>>::skip(rest, alloc)?;
+                let rest = <(Expression<A>, Dropped<Bytes<'a>>) as Skip<'a, A, G>>::skip(
+                    rest, alloc,
+                )?;
                 Ok(rest)
             }
             1 => {
-                let (_bytes, rest) = <Bytes<'a> as Readable<'a, A>>::read(rest, alloc)?;
+                let (_bytes, rest) = <Bytes<'a> as Readable<'a, A, G>>::read(rest, alloc)?;
                 Ok(rest)
             }
             2 => {
-                let (memory, rest) = <u32 as Readable<'a, A>>::read(rest, alloc)?;
+                let (memory, rest) = <u32 as Readable<'a, A, G>>::read(rest, alloc)?;
                 if memory == 0 {
-                    return Err(ReadFault::UnknownTag);
+                    return Err(ReadFault::UnknownTag.just_before(rest));
                 }
-                let rest = <(Expression<A>, Dropped<Bytes<'a>>) as Skip<'a, A>>::skip(rest, alloc)?;
+                let rest = <(Expression<A>, Dropped<Bytes<'a>>) as Skip<'a, A, G>>::skip(
+                    rest, alloc,
+                )?;
                 Ok(rest)
             }
-            _ => Err(ReadFault::UnknownTag),
+            _ => Err(ReadFault::UnknownTag.just_before(rest)),
         }
     }
 }

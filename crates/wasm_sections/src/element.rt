@@ -259,7 +259,7 @@ impl Kind for ElementItems {
     ghost use Rattle.std.specs.Prelude.{List};
     ghost use Rattle.wasm_insn.specs.Plain.{Plain};
     ghost use Rattle.wasm_sections.specs.Constants.{Stored};
-    ghost use Rattle.wasm_sections.specs.Elements.{ElementItem, element_encoding, IsSegment, element_of, element};
+    ghost use Rattle.wasm_sections.specs.Elements.{ElementItem};
 
     ghost Record = { ElementItem Stored };
 
@@ -284,7 +284,6 @@ impl ItemKind for ElementItems {
 
 /// Adding calls. The layout is that of "Element Section".
 impl<A: Allocator> ElementSection<A> {
-    ghost use Rattle.wasm_sections.specs.declared.element.ElementMode.{ElementMode as Mode};
     ghost use Rattle.wasm_sections.specs.declared.element.ElementMode.TheVariants as modes;
     ghost use Rattle.wasm_sections.specs.GivenElements.{given_encoding, list_in};
 

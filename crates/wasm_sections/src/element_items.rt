@@ -1,7 +1,7 @@
 // The reader and the minimizer of the element section.
 ghost use Rattle.std.specs.Prelude.{◌≡◌, true, false, ◌≢◌, List, IfOk, IfErr, Err, OnOk, map};
 ghost use Rattle.wasm_base.specs.Formats.{is_given, numbered};
-ghost use Rattle.wasm_base.specs.Numbers.{padded};
+ghost use Rattle.wasm_base.specs.Numbers.{padded_of};
 ghost use Rattle.wasm_base.specs.Decoding.{Decodes, Rejects};
 ghost use Rattle.wasm_insn.specs.Plain.{Plain};
 ghost use Rattle.wasm_base.specs.declared.refused.Refused.TheVariants.{TooLong};
@@ -12,7 +12,8 @@ ghost use Rattle.wasm_sections.specs.Elements.{ElementItem, ElementFlag as FlagM
 
 use std::alloc::{Allocator, Global};
 use wasm_base::{
-    Dropped, Encode, Layout, ReadFault, Readable, RefType, Result, Shorten, Skip, skip_many,
+    DecodeError, Dropped, Encode, Grammar, Layout, ReadFault, Readable, RefType, Result, Shorten,
+    Skip, skip_many,
 };
 use wasm_code::Expression;
 
@@ -54,12 +55,12 @@ impl Layout for ElementFlag {
     fn laws() {}
 }
 
-impl<'a, A: Allocator + Copy> Readable<'a, A> for ElementFlag {
+impl<'a, A: Allocator + Copy, G: Grammar> Readable<'a, A, G> for ElementFlag {
     #[tactic(auto, using(crate::proofs::ElementLaws::element_flag_steps))]
-    fn read(bytes: &'a [u8], alloc: A) -> Result<(ElementFlag, &'a [u8]), ReadFault> {
-        let (number, rest) = <u32 as Readable<'a, A>>::read(bytes, alloc)?;
+    fn read(bytes: &'a [u8], alloc: A) -> Result<(ElementFlag, &'a [u8]), DecodeError> {
+        let (number, rest) = <u32 as Readable<'a, A, G>>::read(bytes, alloc)?;
         if number >= 8 {
-            return Err(ReadFault::UnknownTag);
+            return Err(ReadFault::UnknownTag.just_before(rest));
         }
         let flag = ElementFlag {
             not_active: number % 2 == 1,
@@ -104,26 +105,26 @@ pub struct ElementItem<A: Allocator = Global> {
 
 /// Decodes the mode that the flag selects.
 #[tactic(auto, using(crate::proofs::ElementLaws::segment_mode_steps))]
-fn read_mode<'a, A: Allocator + Copy>(
+fn read_mode<'a, A: Allocator + Copy, G: Grammar>(
     flag: ElementFlag,
     bytes: &'a [u8],
     alloc: A,
-) -> Result<(ElementItemMode<A>, &'a [u8]), ReadFault>
-    ensures found { IfOk result (λ x. Decodes (segment_mode (element_flag_view flag)) padded bytes.now (segment_mode_view x.0) x.1.now) }
-    ensures none { IfErr result (λ e. e ≢ Memory → Rejects (segment_mode (element_flag_view flag)) padded bytes.now) }
+) -> Result<(ElementItemMode<A>, &'a [u8]), DecodeError>
+    ensures found { IfOk result (λ x. Decodes (segment_mode (element_flag_view flag)) (padded_of G.grammar) bytes.now (segment_mode_view x.0) x.1.now) }
+    ensures none { IfErr result (λ e. e.cause ≢ Memory → Rejects (segment_mode (element_flag_view flag)) (padded_of G.grammar) bytes.now) }
 {
     match (flag.not_active, flag.second) {
         (true, true) => Ok((ElementItemMode::Declared, bytes)),
         (true, false) => Ok((ElementItemMode::Passive, bytes)),
         (false, true) => {
-            let ((table, offset), rest) = <(u32, Expression<A>) as Readable<'a, A>>::read(
+            let ((table, offset), rest) = <(u32, Expression<A>) as Readable<'a, A, G>>::read(
                 bytes, alloc,
             )?;
             let table = Some(table);
             Ok((ElementItemMode::Active { table, offset }, rest))
         }
         (false, false) => {
-            let (offset, rest) = <Expression<A> as Readable<'a, A>>::read(bytes, alloc)?;
+            let (offset, rest) = <Expression<A> as Readable<'a, A, G>>::read(bytes, alloc)?;
             let table = None;
             Ok((ElementItemMode::Active { table, offset }, rest))
         }
@@ -132,43 +133,45 @@ fn read_mode<'a, A: Allocator + Copy>(
 
 /// Decodes the indices of functions, after the byte of their kind if that is explicit.
 #[tactic(auto, using(crate::proofs::ElementLaws::function_steps))]
-fn read_functions<'a, A: Allocator + Copy>(
+fn read_functions<'a, A: Allocator + Copy, G: Grammar>(
     explicit: bool,
     bytes: &'a [u8],
     alloc: A,
-) -> Result<(ElementList<A>, &'a [u8]), ReadFault>
-    ensures found { IfOk result (λ x. Decodes (elements_as explicit false) padded bytes.now (list_view x.0) x.1.now) }
-    ensures none { IfErr result (λ e. e ≢ Memory → Rejects (elements_as explicit false) padded bytes.now) }
+) -> Result<(ElementList<A>, &'a [u8]), DecodeError>
+    ensures found { IfOk result (λ x. Decodes (elements_as explicit false) (padded_of G.grammar) bytes.now (list_view x.0) x.1.now) }
+    ensures none { IfErr result (λ e. e.cause ≢ Memory → Rejects (elements_as explicit false) (padded_of G.grammar) bytes.now) }
 {
     if explicit {
-        let (kind, rest) = <u8 as Readable<'a, A>>::read(bytes, alloc)?;
+        let (kind, rest) = <u8 as Readable<'a, A, G>>::read(bytes, alloc)?;
         if kind != 0x00 {
-            return Err(ReadFault::UnknownTag);
+            return Err(ReadFault::UnknownTag.just_before(rest));
         }
-        let (functions, rest) = <Vec<u32, A> as Readable<'a, A>>::read(rest, alloc)?;
+        let (functions, rest) = <Vec<u32, A> as Readable<'a, A, G>>::read(rest, alloc)?;
         return Ok((ElementList::Functions(functions), rest));
     }
-    let (functions, rest) = <Vec<u32, A> as Readable<'a, A>>::read(bytes, alloc)?;
+    let (functions, rest) = <Vec<u32, A> as Readable<'a, A, G>>::read(bytes, alloc)?;
     Ok((ElementList::Functions(functions), rest))
 }
 
 /// Decodes expressions, after their type if that is explicit.
 #[tactic(auto, using(crate::proofs::ElementLaws::expression_steps))]
-fn read_expressions<'a, A: Allocator + Copy>(
+fn read_expressions<'a, A: Allocator + Copy, G: Grammar>(
     explicit: bool,
     bytes: &'a [u8],
     alloc: A,
-) -> Result<(ElementList<A>, &'a [u8]), ReadFault>
-    ensures found { IfOk result (λ x. Decodes (elements_as explicit true) padded bytes.now (list_view x.0) x.1.now) }
-    ensures none { IfErr result (λ e. e ≢ Memory → Rejects (elements_as explicit true) padded bytes.now) }
+) -> Result<(ElementList<A>, &'a [u8]), DecodeError>
+    ensures found { IfOk result (λ x. Decodes (elements_as explicit true) (padded_of G.grammar) bytes.now (list_view x.0) x.1.now) }
+    ensures none { IfErr result (λ e. e.cause ≢ Memory → Rejects (elements_as explicit true) (padded_of G.grammar) bytes.now) }
 {
     if explicit {
-        let ((ty, expressions), rest) = <(RefType, Vec<Expression<A>, A>) as Readable<'a, A>>::read(
-            bytes, alloc,
-        )?;
+        let ((ty, expressions), rest) = <(RefType, Vec<Expression<A>, A>) as Readable<
+            'a,
+            A,
+            G,
+        >>::read(bytes, alloc)?;
         return Ok((ElementList::Expressions(ty, expressions), rest));
     }
-    let (expressions, rest) = <Vec<Expression<A>, A> as Readable<'a, A>>::read(bytes, alloc)?;
+    let (expressions, rest) = <Vec<Expression<A>, A> as Readable<'a, A, G>>::read(bytes, alloc)?;
     Ok((
         ElementList::Expressions(RefType::FUNCREF, expressions),
         rest,
@@ -176,19 +179,19 @@ fn read_expressions<'a, A: Allocator + Copy>(
 }
 
 /// Decodes the elements of the kind that the flag selects.
-fn read_elements<'a, A: Allocator + Copy>(
+fn read_elements<'a, A: Allocator + Copy, G: Grammar>(
     explicit: bool,
     of_expressions: bool,
     bytes: &'a [u8],
     alloc: A,
-) -> Result<(ElementList<A>, &'a [u8]), ReadFault>
-    ensures found { IfOk result (λ x. Decodes (elements_as explicit of_expressions) padded bytes.now (list_view x.0) x.1.now) }
-    ensures none { IfErr result (λ e. e ≢ Memory → Rejects (elements_as explicit of_expressions) padded bytes.now) }
+) -> Result<(ElementList<A>, &'a [u8]), DecodeError>
+    ensures found { IfOk result (λ x. Decodes (elements_as explicit of_expressions) (padded_of G.grammar) bytes.now (list_view x.0) x.1.now) }
+    ensures none { IfErr result (λ e. e.cause ≢ Memory → Rejects (elements_as explicit of_expressions) (padded_of G.grammar) bytes.now) }
 {
     if of_expressions {
-        read_expressions(explicit, bytes, alloc)
+        read_expressions::<A, G>(explicit, bytes, alloc)
     } else {
-        read_functions(explicit, bytes, alloc)
+        read_functions::<A, G>(explicit, bytes, alloc)
     }
 }
 
@@ -203,12 +206,17 @@ impl<A: Allocator> Layout for ElementItem<A> {
     fn laws() {}
 }
 
-impl<'a, A: Allocator + Copy> Readable<'a, A> for ElementItem<A> {
+impl<'a, A: Allocator + Copy, G: Grammar> Readable<'a, A, G> for ElementItem<A> {
     #[tactic(auto, using(crate::proofs::ElementLaws::element_steps))]
-    fn read(bytes: &'a [u8], alloc: A) -> Result<(ElementItem<A>, &'a [u8]), ReadFault> {
-        let (flag, rest) = <ElementFlag as Readable<'a, A>>::read(bytes, alloc)?;
-        let (mode, rest) = read_mode(flag, rest, alloc)?;
-        let (elements, rest) = read_elements(flag.has_kind(), flag.expressions, rest, alloc)?;
+    fn read(bytes: &'a [u8], alloc: A) -> Result<(ElementItem<A>, &'a [u8]), DecodeError> {
+        let (flag, rest) = <ElementFlag as Readable<'a, A, G>>::read(bytes, alloc)?;
+        let (mode, rest) = read_mode::<A, G>(flag, rest, alloc)?;
+        let (elements, rest) = read_elements::<A, G>(
+            flag.has_kind(),
+            flag.expressions,
+            rest,
+            alloc,
+        )?;
         Ok((ElementItem { mode, elements }, rest))
     }
 }
@@ -332,90 +340,90 @@ impl<A: Allocator> Shorten for ElementItem<A> {
 
 /// Skips the table and the offset that the flag selects.
 #[tactic(auto, using(crate::proofs::ElementLaws::segment_mode_steps))]
-fn skip_segment_mode<'a, A: Allocator + Copy>(
+fn skip_segment_mode<'a, A: Allocator + Copy, G: Grammar>(
     flag: ElementFlag,
     bytes: &'a [u8],
     alloc: A,
-) -> Result<&'a [u8], ReadFault>
-    ensures found { IfOk result (λ rest. (x : SegmentMode (List Plain)) × Decodes (segment_mode (element_flag_view flag)) padded bytes.now x rest.now) }
-    ensures none { IfErr result (λ e. e ≢ Memory → Rejects (segment_mode (element_flag_view flag)) padded bytes.now) }
+) -> Result<&'a [u8], DecodeError>
+    ensures found { IfOk result (λ rest. (x : SegmentMode (List Plain)) × Decodes (segment_mode (element_flag_view flag)) (padded_of G.grammar) bytes.now x rest.now) }
+    ensures none { IfErr result (λ e. e.cause ≢ Memory → Rejects (segment_mode (element_flag_view flag)) (padded_of G.grammar) bytes.now) }
 {
     match (flag.not_active, flag.second) {
         (true, true) => Ok(bytes),
         (true, false) => Ok(bytes),
         (false, true) => {
-            let rest = <(Dropped<u32>, Expression<A>) as Skip<'a, A>>::skip(bytes, alloc)?;
+            let rest = <(Dropped<u32>, Expression<A>) as Skip<'a, A, G>>::skip(bytes, alloc)?;
             Ok(rest)
         }
         (false, false) => {
-            let rest = <Expression<A> as Skip<'a, A>>::skip(bytes, alloc)?;
+            let rest = <Expression<A> as Skip<'a, A, G>>::skip(bytes, alloc)?;
             Ok(rest)
         }
     }
 }
 
 /// Skips the indices of functions, and the byte of their kind if that is explicit.
-fn skip_functions<'a, A: Allocator + Copy>(
+fn skip_functions<'a, A: Allocator + Copy, G: Grammar>(
     explicit: bool,
     bytes: &'a [u8],
     alloc: A,
-) -> Result<&'a [u8], ReadFault>
-    ensures found { IfOk result (λ rest. (x : ListModel (List Plain)) × Decodes (elements_as explicit false) padded bytes.now x rest.now) }
-    ensures none { IfErr result (λ e. e ≢ Memory → Rejects (elements_as explicit false) padded bytes.now) }
+) -> Result<&'a [u8], DecodeError>
+    ensures found { IfOk result (λ rest. (x : ListModel (List Plain)) × Decodes (elements_as explicit false) (padded_of G.grammar) bytes.now x rest.now) }
+    ensures none { IfErr result (λ e. e.cause ≢ Memory → Rejects (elements_as explicit false) (padded_of G.grammar) bytes.now) }
 {
     if explicit {
-        let (kind, rest) = <u8 as Readable<'a, A>>::read(bytes, alloc)?;
+        let (kind, rest) = <u8 as Readable<'a, A, G>>::read(bytes, alloc)?;
         if kind != 0x00 {
-            return Err(ReadFault::UnknownTag);
+            return Err(ReadFault::UnknownTag.just_before(rest));
         }
-        let (_count, rest) = skip_many::<'a, Dropped<u32>, A>(rest, alloc)?;
+        let (_count, rest) = skip_many::<'a, Dropped<u32>, A, G>(rest, alloc)?;
         return Ok(rest);
     }
-    let (_count, rest) = skip_many::<'a, Dropped<u32>, A>(bytes, alloc)?;
+    let (_count, rest) = skip_many::<'a, Dropped<u32>, A, G>(bytes, alloc)?;
     Ok(rest)
 }
 
 /// Skips expressions, and their type if that is explicit.
-fn skip_expressions<'a, A: Allocator + Copy>(
+fn skip_expressions<'a, A: Allocator + Copy, G: Grammar>(
     explicit: bool,
     bytes: &'a [u8],
     alloc: A,
-) -> Result<&'a [u8], ReadFault>
-    ensures found { IfOk result (λ rest. (x : ListModel (List Plain)) × Decodes (elements_as explicit true) padded bytes.now x rest.now) }
-    ensures none { IfErr result (λ e. e ≢ Memory → Rejects (elements_as explicit true) padded bytes.now) }
+) -> Result<&'a [u8], DecodeError>
+    ensures found { IfOk result (λ rest. (x : ListModel (List Plain)) × Decodes (elements_as explicit true) (padded_of G.grammar) bytes.now x rest.now) }
+    ensures none { IfErr result (λ e. e.cause ≢ Memory → Rejects (elements_as explicit true) (padded_of G.grammar) bytes.now) }
 {
     if explicit {
-        let (_type, rest) = <RefType as Readable<'a, A>>::read(bytes, alloc)?;
-        let (_count, rest) = skip_many::<'a, Expression<A>, A>(rest, alloc)?;
+        let (_type, rest) = <RefType as Readable<'a, A, G>>::read(bytes, alloc)?;
+        let (_count, rest) = skip_many::<'a, Expression<A>, A, G>(rest, alloc)?;
         return Ok(rest);
     }
-    let (_count, rest) = skip_many::<'a, Expression<A>, A>(bytes, alloc)?;
+    let (_count, rest) = skip_many::<'a, Expression<A>, A, G>(bytes, alloc)?;
     Ok(rest)
 }
 
 /// Skips the elements of the kind that the flag selects.
-fn skip_elements<'a, A: Allocator + Copy>(
+fn skip_elements<'a, A: Allocator + Copy, G: Grammar>(
     explicit: bool,
     of_expressions: bool,
     bytes: &'a [u8],
     alloc: A,
-) -> Result<&'a [u8], ReadFault>
-    ensures found { IfOk result (λ rest. (x : ListModel (List Plain)) × Decodes (elements_as explicit of_expressions) padded bytes.now x rest.now) }
-    ensures none { IfErr result (λ e. e ≢ Memory → Rejects (elements_as explicit of_expressions) padded bytes.now) }
+) -> Result<&'a [u8], DecodeError>
+    ensures found { IfOk result (λ rest. (x : ListModel (List Plain)) × Decodes (elements_as explicit of_expressions) (padded_of G.grammar) bytes.now x rest.now) }
+    ensures none { IfErr result (λ e. e.cause ≢ Memory → Rejects (elements_as explicit of_expressions) (padded_of G.grammar) bytes.now) }
 {
     if of_expressions {
-        skip_expressions(explicit, bytes, alloc)
+        skip_expressions::<A, G>(explicit, bytes, alloc)
     } else {
-        skip_functions(explicit, bytes, alloc)
+        skip_functions::<A, G>(explicit, bytes, alloc)
     }
 }
 
-impl<'a, A: Allocator + Copy> Skip<'a, A> for ElementItem<A> {
+impl<'a, A: Allocator + Copy, G: Grammar> Skip<'a, A, G> for ElementItem<A> {
     #[tactic(auto, using(crate::proofs::ElementLaws::element_steps))]
-    fn skip(bytes: &'a [u8], alloc: A) -> Result<&'a [u8], ReadFault> {
-        let (flag, rest) = <ElementFlag as Readable<'a, A>>::read(bytes, alloc)?;
-        let rest = skip_segment_mode(flag, rest, alloc)?;
-        let rest = skip_elements(flag.has_kind(), flag.expressions, rest, alloc)?;
+    fn skip(bytes: &'a [u8], alloc: A) -> Result<&'a [u8], DecodeError> {
+        let (flag, rest) = <ElementFlag as Readable<'a, A, G>>::read(bytes, alloc)?;
+        let rest = skip_segment_mode::<A, G>(flag, rest, alloc)?;
+        let rest = skip_elements::<A, G>(flag.has_kind(), flag.expressions, rest, alloc)?;
         Ok(rest)
     }
 }

@@ -11,7 +11,9 @@ ghost use Rattle.wasm_sections.specs.declared.export.ExportKind.{ExportKind as K
 
 use crate::counted_section::{CountedSection, ItemKind, RecordOf};
 use std::alloc::{Allocator, Global};
-use wasm_base::{Encode, Kind, Layout, ReadFault, Readable, Result, SectionId};
+use wasm_base::{
+    DecodeError, Encode, Grammar, Kind, Layout, ReadFault, Readable, Result, SectionId,
+};
 
 /// The export section: the items that a module exports.
 ///
@@ -112,17 +114,17 @@ impl Layout for ExportKind {
     fn laws() {}
 }
 
-impl<'a, A: Allocator + Copy> Readable<'a, A> for ExportKind {
+impl<'a, A: Allocator + Copy, G: Grammar> Readable<'a, A, G> for ExportKind {
     #[tactic(auto, using(crate::proofs::ExportLaws::export_kind_steps))]
-    fn read(bytes: &'a [u8], alloc: A) -> Result<(ExportKind, &'a [u8]), ReadFault> {
-        let (code, rest) = <u8 as Readable<'a, A>>::read(bytes, alloc)?;
+    fn read(bytes: &'a [u8], alloc: A) -> Result<(ExportKind, &'a [u8]), DecodeError> {
+        let (code, rest) = <u8 as Readable<'a, A, G>>::read(bytes, alloc)?;
         match code {
             0x00 => Ok((ExportKind::Func, rest)),
             0x01 => Ok((ExportKind::Table, rest)),
             0x02 => Ok((ExportKind::Memory, rest)),
             0x03 => Ok((ExportKind::Global, rest)),
             0x04 => Ok((ExportKind::Tag, rest)),
-            _ => Err(ReadFault::UnknownTag),
+            _ => Err(ReadFault::UnknownTag.just_before(rest)),
         }
     }
 }
@@ -140,12 +142,14 @@ impl<'a> Layout for Export<'a> {
     {}
 }
 
-impl<'a, A: Allocator + Copy> Readable<'a, A> for Export<'a> {
+impl<'a, A: Allocator + Copy, G: Grammar> Readable<'a, A, G> for Export<'a> {
     #[tactic(auto, using(crate::proofs::ExportLaws::export_steps))]
-    fn read(bytes: &'a [u8], alloc: A) -> Result<(Export<'a>, &'a [u8]), ReadFault> {
-        let ((name, (kind, index)), rest) = <(&'a str, (ExportKind, u32)) as Readable<'a, A>>::read(
-            bytes, alloc,
-        )?;
+    fn read(bytes: &'a [u8], alloc: A) -> Result<(Export<'a>, &'a [u8]), DecodeError> {
+        let ((name, (kind, index)), rest) = <(&'a str, (ExportKind, u32)) as Readable<
+            'a,
+            A,
+            G,
+        >>::read(bytes, alloc)?;
         Ok((Export { name, kind, index }, rest))
     }
 }

@@ -1,5 +1,5 @@
 // The function section.
-ghost use Rattle.std.specs.Prelude.{◌≡◌, ℕ, ⊤};
+ghost use Rattle.std.specs.Prelude.{ℕ, ⊤};
 ghost use Rattle.wasm_base.specs.Calls.{Adds};
 ghost use Rattle.wasm_base.specs.Numbers.{unsigned_encoding};
 ghost use Rattle.wasm_sections.specs.Functions.{function_items};

@@ -10,8 +10,8 @@ use crate::counted_section::{CountedSection, ItemKind};
 use crate::flags::where_set;
 use std::alloc::{Allocator, Global};
 use wasm_base::{
-    Dropped, Encode, Kind, Layout, Lent, ReadFault, Readable, Result, SectionId, Shorten, Skip,
-    ValType,
+    DecodeError, Dropped, Encode, Grammar, Kind, Layout, Lent, ReadFault, Readable, Result,
+    SectionId, Shorten, Skip, ValType,
 };
 use wasm_code::{ConstExpr, Expression};
 
@@ -121,12 +121,12 @@ impl Layout for GlobalFlags {
     fn laws() {}
 }
 
-impl<'a, A: Allocator + Copy> Readable<'a, A> for GlobalFlags {
+impl<'a, A: Allocator + Copy, G: Grammar> Readable<'a, A, G> for GlobalFlags {
     #[tactic(auto, using(crate::proofs::GlobalLaws::flag_steps))]
-    fn read(bytes: &'a [u8], alloc: A) -> Result<(GlobalFlags, &'a [u8]), ReadFault> {
-        let (byte, rest) = <u8 as Readable<'a, A>>::read(bytes, alloc)?;
+    fn read(bytes: &'a [u8], alloc: A) -> Result<(GlobalFlags, &'a [u8]), DecodeError> {
+        let (byte, rest) = <u8 as Readable<'a, A, G>>::read(bytes, alloc)?;
         if byte >= 0x04 {
-            return Err(ReadFault::UnknownTag);
+            return Err(ReadFault::UnknownTag.just_before(rest));
         }
         let flags = GlobalFlags {
             mutable: byte % 2 == 1,
@@ -147,10 +147,10 @@ impl Layout for GlobalType {
     fn laws() {}
 }
 
-impl<'a, A: Allocator + Copy> Readable<'a, A> for GlobalType {
+impl<'a, A: Allocator + Copy, G: Grammar> Readable<'a, A, G> for GlobalType {
     #[tactic(auto, using(crate::proofs::GlobalLaws::type_steps))]
-    fn read(bytes: &'a [u8], alloc: A) -> Result<(GlobalType, &'a [u8]), ReadFault> {
-        let ((val_type, flags), rest) = <(ValType, GlobalFlags) as Readable<'a, A>>::read(
+    fn read(bytes: &'a [u8], alloc: A) -> Result<(GlobalType, &'a [u8]), DecodeError> {
+        let ((val_type, flags), rest) = <(ValType, GlobalFlags) as Readable<'a, A, G>>::read(
             bytes, alloc,
         )?;
         let global_type = GlobalType {
@@ -180,10 +180,10 @@ impl<A: Allocator> Layout for GlobalItem<A> {
     fn laws() {}
 }
 
-impl<'a, A: Allocator + Copy> Readable<'a, A> for GlobalItem<A> {
+impl<'a, A: Allocator + Copy, G: Grammar> Readable<'a, A, G> for GlobalItem<A> {
     #[tactic(auto, using(crate::proofs::GlobalLaws::item_steps))]
-    fn read(bytes: &'a [u8], alloc: A) -> Result<(GlobalItem<A>, &'a [u8]), ReadFault> {
-        let ((global_type, init), rest) = <(GlobalType, Expression<A>) as Readable<'a, A>>::read(
+    fn read(bytes: &'a [u8], alloc: A) -> Result<(GlobalItem<A>, &'a [u8]), DecodeError> {
+        let ((global_type, init), rest) = <(GlobalType, Expression<A>) as Readable<'a, A, G>>::read(
             bytes, alloc,
         )?;
         Ok((GlobalItem { global_type, init }, rest))
@@ -198,10 +198,10 @@ impl<A: Allocator> Shorten for GlobalItem<A> {
     }
 }
 
-impl<'a, A: Allocator + Copy> Skip<'a, A> for GlobalItem<A> {
+impl<'a, A: Allocator + Copy, G: Grammar> Skip<'a, A, G> for GlobalItem<A> {
     #[tactic(auto, using(crate::proofs::GlobalLaws::item_steps))]
-    fn skip(bytes: &'a [u8], alloc: A) -> Result<&'a [u8], ReadFault> {
-        let rest = <(Dropped<GlobalType>, Expression<A>) as Skip<'a, A>>::skip(bytes, alloc)?;
+    fn skip(bytes: &'a [u8], alloc: A) -> Result<&'a [u8], DecodeError> {
+        let rest = <(Dropped<GlobalType>, Expression<A>) as Skip<'a, A, G>>::skip(bytes, alloc)?;
         Ok(rest)
     }
 }

@@ -3,7 +3,7 @@ ghost use Rattle.std.specs.Prelude.{◌≡◌, ◌≢◌, ◌++◌, IfOk, ⊤, �
 ghost use Rattle.wasm_base.specs.Calls.{Adds};
 ghost use Rattle.wasm_base.specs.Formats.{name, pair, prefixed, vec};
 ghost use Rattle.wasm_base.specs.Continuing.{RejectsWhole};
-ghost use Rattle.wasm_base.specs.Numbers.{padded};
+ghost use Rattle.wasm_base.specs.Numbers.{padded_of};
 ghost use Rattle.wasm_base.specs.Decoding.{Unambiguous, Rejects};
 ghost use Rattle.wasm_base.specs.Encodings.{size_prefixed_encoding, HasEncodableSize};
 ghost use Rattle.wasm_base.specs.declared.refused.Refused.TheVariants.{TooLong};
@@ -21,8 +21,8 @@ use crate::tag::TagType;
 use std::alloc::{Allocator, Global};
 use wasm_base::{
     CORE_FUNCTION_EXACT_SORT, CORE_FUNCTION_SORT, CORE_GLOBAL_SORT, CORE_MEMORY_SORT,
-    CORE_TABLE_SORT, CORE_TAG_SORT, CowSlice, Dropped, Encode, Kind, Layout, ReadFault, Readable,
-    Result, SectionId, Skip, read_whole, skip_many,
+    CORE_TABLE_SORT, CORE_TAG_SORT, CowSlice, DecodeError, Dropped, Encode, Grammar, Kind, Layout,
+    ReadFault, Readable, Result, SectionId, Skip, read_whole, skip_many,
 };
 
 /// The import section: the items that a module imports.
@@ -253,36 +253,36 @@ impl Layout for EntityType {
     fn laws() {}
 }
 
-impl<'a, A: Allocator + Copy> Readable<'a, A> for EntityType {
+impl<'a, A: Allocator + Copy, G: Grammar> Readable<'a, A, G> for EntityType {
     #[tactic(auto, using(crate::proofs::ImportLaws::entity_steps))]
-    fn read(bytes: &'a [u8], alloc: A) -> Result<(EntityType, &'a [u8]), ReadFault> {
-        let (kind, rest) = <u8 as Readable<'a, A>>::read(bytes, alloc)?;
+    fn read(bytes: &'a [u8], alloc: A) -> Result<(EntityType, &'a [u8]), DecodeError> {
+        let (kind, rest) = <u8 as Readable<'a, A, G>>::read(bytes, alloc)?;
         match kind {
             0x00 => {
-                let (index, rest) = <u32 as Readable<'a, A>>::read(rest, alloc)?;
+                let (index, rest) = <u32 as Readable<'a, A, G>>::read(rest, alloc)?;
                 Ok((EntityType::Function(index), rest))
             }
             0x01 => {
-                let (ty, rest) = <TableType as Readable<'a, A>>::read(rest, alloc)?;
+                let (ty, rest) = <TableType as Readable<'a, A, G>>::read(rest, alloc)?;
                 Ok((EntityType::Table(ty), rest))
             }
             0x02 => {
-                let (ty, rest) = <MemoryType as Readable<'a, A>>::read(rest, alloc)?;
+                let (ty, rest) = <MemoryType as Readable<'a, A, G>>::read(rest, alloc)?;
                 Ok((EntityType::Memory(ty), rest))
             }
             0x03 => {
-                let (ty, rest) = <GlobalType as Readable<'a, A>>::read(rest, alloc)?;
+                let (ty, rest) = <GlobalType as Readable<'a, A, G>>::read(rest, alloc)?;
                 Ok((EntityType::Global(ty), rest))
             }
             0x04 => {
-                let (ty, rest) = <TagType as Readable<'a, A>>::read(rest, alloc)?;
+                let (ty, rest) = <TagType as Readable<'a, A, G>>::read(rest, alloc)?;
                 Ok((EntityType::Tag(ty), rest))
             }
             0x20 => {
-                let (index, rest) = <u32 as Readable<'a, A>>::read(rest, alloc)?;
+                let (index, rest) = <u32 as Readable<'a, A, G>>::read(rest, alloc)?;
                 Ok((EntityType::FunctionExact(index), rest))
             }
-            _ => Err(ReadFault::UnknownTag),
+            _ => Err(ReadFault::UnknownTag.just_before(rest)),
         }
     }
 }
@@ -301,9 +301,9 @@ impl<'a> Layout for ImportCompact<'a> {
     }
 }
 
-impl<'a, A: Allocator + Copy> Readable<'a, A> for ImportCompact<'a> {
-    fn read(bytes: &'a [u8], alloc: A) -> Result<(ImportCompact<'a>, &'a [u8]), ReadFault> {
-        let ((name, ty), rest) = <(&'a str, EntityType) as Readable<'a, A>>::read(bytes, alloc)?;
+impl<'a, A: Allocator + Copy, G: Grammar> Readable<'a, A, G> for ImportCompact<'a> {
+    fn read(bytes: &'a [u8], alloc: A) -> Result<(ImportCompact<'a>, &'a [u8]), DecodeError> {
+        let ((name, ty), rest) = <(&'a str, EntityType) as Readable<'a, A, G>>::read(bytes, alloc)?;
         Ok((ImportCompact { name, ty }, rest))
     }
 }
@@ -311,8 +311,8 @@ impl<'a, A: Allocator + Copy> Readable<'a, A> for ImportCompact<'a> {
 /// Returns the kind byte of a group and the remaining bytes, if no single import is at the front:
 /// after an empty name, this byte is the kind of no entity.
 #[tactic(auto, using(crate::proofs::ImportLaws::group_steps))]
-fn group_kind(bytes: &[u8]) -> Option<(u8, &[u8])>
-    ensures { MatchOption result (Rejects (prefixed (0x00 ∷ []) group) padded bytes.now) (λ x. (bytes.now ≡ 0x00 ∷ x.0 ∷ x.1.now) × (0x7E ≤ x.0)) }
+fn group_kind<G: Grammar>(bytes: &[u8]) -> Option<(u8, &[u8])>
+    ensures { MatchOption result (Rejects (prefixed (0x00 ∷ []) group) (padded_of G.grammar) bytes.now) (λ x. (bytes.now ≡ 0x00 ∷ x.0 ∷ x.1.now) × (0x7E ≤ x.0)) }
 {
     match bytes {
         [0x00, kind @ 0x7E..=0xFF, rest @ ..] => Some((*kind, rest)),
@@ -333,30 +333,30 @@ impl<'a, A: Allocator> Layout for Imports<'a, A> {
     {}
 }
 
-impl<'a, A: Allocator + Copy> Readable<'a, A> for Imports<'a, A> {
+impl<'a, A: Allocator + Copy, G: Grammar> Readable<'a, A, G> for Imports<'a, A> {
     #[tactic(auto, using(crate::proofs::ImportLaws::import_steps))]
-    fn read(bytes: &'a [u8], alloc: A) -> Result<(Imports<'a, A>, &'a [u8]), ReadFault> {
-        let (module, rest) = <&'a str as Readable<'a, A>>::read(bytes, alloc)?;
-        let Some((kind, rest)) = group_kind(rest) else {
-            let (name, rest) = <&'a str as Readable<'a, A>>::read(rest, alloc)?;
-            let (ty, rest) = <EntityType as Readable<'a, A>>::read(rest, alloc)?;
+    fn read(bytes: &'a [u8], alloc: A) -> Result<(Imports<'a, A>, &'a [u8]), DecodeError> {
+        let (module, rest) = <&'a str as Readable<'a, A, G>>::read(bytes, alloc)?;
+        let Some((kind, rest)) = group_kind::<G>(rest) else {
+            let (name, rest) = <&'a str as Readable<'a, A, G>>::read(rest, alloc)?;
+            let (ty, rest) = <EntityType as Readable<'a, A, G>>::read(rest, alloc)?;
             return Ok((Imports::Single(Import { module, name, ty }), rest));
         };
         match kind {
             0x7F => {
-                let (items, rest) = <Vec<ImportCompact<'a>, A> as Readable<'a, A>>::read(
+                let (items, rest) = <Vec<ImportCompact<'a>, A> as Readable<'a, A, G>>::read(
                     rest, alloc,
                 )?;
                 let items = CowSlice::Owned(items);
                 Ok((Imports::Compact1 { module, items }, rest))
             }
             0x7E => {
-                let (ty, rest) = <EntityType as Readable<'a, A>>::read(rest, alloc)?;
-                let (names, rest) = <Vec<&'a str, A> as Readable<'a, A>>::read(rest, alloc)?;
+                let (ty, rest) = <EntityType as Readable<'a, A, G>>::read(rest, alloc)?;
+                let (names, rest) = <Vec<&'a str, A> as Readable<'a, A, G>>::read(rest, alloc)?;
                 let names = CowSlice::Owned(names);
                 Ok((Imports::Compact2 { module, ty, names }, rest))
             }
-            _ => Err(ReadFault::UnknownTag),
+            _ => Err(ReadFault::UnknownTag.just_before(rest)),
         }
     }
 }
@@ -367,14 +367,14 @@ impl<'a, A: Allocator + Copy> Readable<'a, A> for Imports<'a, A> {
 /// # Errors
 ///
 /// Any error but `Memory` means that the bytes are not such a payload.
-pub fn read_imports<'a, A: Allocator + Copy + 'a>(
+pub fn read_imports<'a, A: Allocator + Copy + 'a, G: Grammar>(
     bytes: &'a [u8],
     alloc: A,
-) -> Result<Vec<Imports<'a, A>, A>, ReadFault>
-    ensures found { IfOk result (λ x. vec import_format padded bytes.now (map imports_item x.items)) }
-    ensures none { IfErr result (λ e. e ≢ Memory → RejectsWhole (vec import_format) bytes.now) }
+) -> Result<Vec<Imports<'a, A>, A>, DecodeError>
+    ensures found { IfOk result (λ x. vec import_format (padded_of G.grammar) bytes.now (map imports_item x.items)) }
+    ensures none { IfErr result (λ e. e.cause ≢ Memory → RejectsWhole (vec import_format) (padded_of G.grammar) bytes.now) }
 {
-    read_whole::<'a, Vec<Imports<'a, A>, A>, A>(bytes, alloc)
+    read_whole::<'a, Vec<Imports<'a, A>, A>, A, G>(bytes, alloc)
 }
 
 /// Writes the bytes that [`append_imports`] appends. After an error, part of them may follow the
@@ -413,26 +413,28 @@ pub fn append_imports<A: Allocator, B: Allocator>(
     written
 }
 
-impl<'a, A: Allocator + Copy> Skip<'a, A> for Imports<'a, A> {
+impl<'a, A: Allocator + Copy, G: Grammar> Skip<'a, A, G> for Imports<'a, A> {
     #[tactic(auto, using(crate::proofs::ImportLaws::import_steps))]
-    fn skip(bytes: &'a [u8], alloc: A) -> Result<&'a [u8], ReadFault> {
-        let (_module, rest) = <&'a str as Readable<'a, A>>::read(bytes, alloc)?;
-        let Some((kind, rest)) = group_kind(rest) else {
-            let (_name, rest) = <&'a str as Readable<'a, A>>::read(rest, alloc)?;
-            let (_type, rest) = <EntityType as Readable<'a, A>>::read(rest, alloc)?;
+    fn skip(bytes: &'a [u8], alloc: A) -> Result<&'a [u8], DecodeError> {
+        let (_module, rest) = <&'a str as Readable<'a, A, G>>::read(bytes, alloc)?;
+        let Some((kind, rest)) = group_kind::<G>(rest) else {
+            let (_name, rest) = <&'a str as Readable<'a, A, G>>::read(rest, alloc)?;
+            let (_type, rest) = <EntityType as Readable<'a, A, G>>::read(rest, alloc)?;
             return Ok(rest);
         };
         match kind {
             0x7F => {
-                let (_count, rest) = skip_many::<'a, Dropped<ImportCompact<'a>>, A>(rest, alloc)?;
+                let (_count, rest) = skip_many::<'a, Dropped<ImportCompact<'a>>, A, G>(
+                    rest, alloc,
+                )?;
                 Ok(rest)
             }
             0x7E => {
-                let (_type, rest) = <EntityType as Readable<'a, A>>::read(rest, alloc)?;
-                let (_count, rest) = skip_many::<'a, Dropped<&'a str>, A>(rest, alloc)?;
+                let (_type, rest) = <EntityType as Readable<'a, A, G>>::read(rest, alloc)?;
+                let (_count, rest) = skip_many::<'a, Dropped<&'a str>, A, G>(rest, alloc)?;
                 Ok(rest)
             }
-            _ => Err(ReadFault::UnknownTag),
+            _ => Err(ReadFault::UnknownTag.just_before(rest)),
         }
     }
 }

@@ -10,7 +10,7 @@ ghost use Rattle.wasm_base.specs.Modules.{DecodesPayloads, DecodesPayloadsPadded
 ghost use Rattle.wasm_base.specs.Decoding.{Unambiguous, UnambiguousPadded};
 ghost use Rattle.wasm_sections.specs.Constants.{Stored};
 ghost use Rattle.wasm_sections.specs.DataSegments.{data_item, data_items};
-ghost use Rattle.wasm_sections.specs.Elements.{ElementItem, element_encoding, element, element_items};
+ghost use Rattle.wasm_sections.specs.Elements.{ElementItem, element, element_items};
 ghost use Rattle.wasm_sections.specs.Exports.{IsExport, export, export_items};
 ghost use Rattle.wasm_sections.specs.GivenElements.{HaveOneEncoding};
 ghost use Rattle.wasm_sections.specs.Globals.{global_type, IsGlobal, global_item, global_items};
@@ -104,8 +104,8 @@ pub fn padded_calls()
     ensures tags { ContainsMorePadded tag_items }
 {}
 
-/// A call of an element section appends `given_encoding`. It equals the `element_encoding` of each record
-/// that has the segment's mode and elements, with the same bytes of expressions.
+/// A call of an element section appends `given_encoding`. It equals the `element_encoding` of each
+/// record that has the segment's mode and elements, with the same bytes of expressions.
 #[tactic(auto, using(crate::proofs::ElementLaws::given_element))]
 pub fn given_elements<A: Allocator>()
     ensures { (segment : ElementSegment A) (given : ElementItem Stored) → HaveOneEncoding segment given }

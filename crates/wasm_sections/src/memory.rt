@@ -9,7 +9,8 @@ use crate::counted_section::{CountedSection, ItemKind, RecordOf};
 use crate::flags::where_set;
 use std::alloc::{Allocator, Global};
 use wasm_base::{
-    Encode, Kind, Layout, Optional, ReadFault, Readable, Result, SectionId, read_optional,
+    DecodeError, Encode, Grammar, Kind, Layout, Optional, ReadFault, Readable, Result, SectionId,
+    read_optional,
 };
 
 /// The memory section: the memories that a module defines.
@@ -137,12 +138,12 @@ impl Layout for Flags {
     fn laws() {}
 }
 
-impl<'a, A: Allocator + Copy> Readable<'a, A> for Flags {
+impl<'a, A: Allocator + Copy, G: Grammar> Readable<'a, A, G> for Flags {
     #[tactic(auto, using(crate::proofs::DecodeLimits::flag_steps))]
-    fn read(bytes: &'a [u8], alloc: A) -> Result<(Flags, &'a [u8]), ReadFault> {
-        let (byte, rest) = <u8 as Readable<'a, A>>::read(bytes, alloc)?;
+    fn read(bytes: &'a [u8], alloc: A) -> Result<(Flags, &'a [u8]), DecodeError> {
+        let (byte, rest) = <u8 as Readable<'a, A, G>>::read(bytes, alloc)?;
         if byte >= 0x10 {
-            return Err(ReadFault::UnknownTag);
+            return Err(ReadFault::UnknownTag.just_before(rest));
         }
         let flags = Flags {
             has_maximum: byte % 2 == 1,
@@ -165,13 +166,17 @@ impl Layout for MemoryType {
     fn laws() {}
 }
 
-impl<'a, A: Allocator + Copy> Readable<'a, A> for MemoryType {
+impl<'a, A: Allocator + Copy, G: Grammar> Readable<'a, A, G> for MemoryType {
     #[tactic(auto, using(crate::proofs::DecodeLimits::memory_steps))]
-    fn read(bytes: &'a [u8], alloc: A) -> Result<(MemoryType, &'a [u8]), ReadFault> {
-        let (flags, rest) = <Flags as Readable<'a, A>>::read(bytes, alloc)?;
-        let (minimum, rest) = <u64 as Readable<'a, A>>::read(rest, alloc)?;
-        let (maximum, rest) = read_optional::<'a, u64, A>(flags.has_maximum, rest, alloc)?;
-        let (page_size_log2, rest) = read_optional::<'a, u32, A>(flags.has_page_size, rest, alloc)?;
+    fn read(bytes: &'a [u8], alloc: A) -> Result<(MemoryType, &'a [u8]), DecodeError> {
+        let (flags, rest) = <Flags as Readable<'a, A, G>>::read(bytes, alloc)?;
+        let (minimum, rest) = <u64 as Readable<'a, A, G>>::read(rest, alloc)?;
+        let (maximum, rest) = read_optional::<'a, u64, A, G>(flags.has_maximum, rest, alloc)?;
+        let (page_size_log2, rest) = read_optional::<'a, u32, A, G>(
+            flags.has_page_size,
+            rest,
+            alloc,
+        )?;
         let memory = MemoryType {
             minimum,
             maximum,

@@ -8,7 +8,9 @@ ghost use Rattle.wasm_sections.specs.declared.tag.TagType.{TagType as Tag};
 
 use crate::counted_section::{CountedSection, ItemKind, RecordOf};
 use std::alloc::{Allocator, Global};
-use wasm_base::{Encode, Kind, Layout, ReadFault, Readable, Result, SectionId};
+use wasm_base::{
+    DecodeError, Encode, Grammar, Kind, Layout, ReadFault, Readable, Result, SectionId,
+};
 
 /// The tag section: the tags that a module defines.
 ///
@@ -105,14 +107,14 @@ impl Layout for TagKind {
     fn laws() {}
 }
 
-impl<'a, A: Allocator + Copy> Readable<'a, A> for TagKind {
+impl<'a, A: Allocator + Copy, G: Grammar> Readable<'a, A, G> for TagKind {
     #[tactic(auto, using(crate::proofs::TagLaws::tag_kind_steps))]
-    fn read(bytes: &'a [u8], alloc: A) -> Result<(TagKind, &'a [u8]), ReadFault> {
-        let (code, rest) = <u8 as Readable<'a, A>>::read(bytes, alloc)?;
+    fn read(bytes: &'a [u8], alloc: A) -> Result<(TagKind, &'a [u8]), DecodeError> {
+        let (code, rest) = <u8 as Readable<'a, A, G>>::read(bytes, alloc)?;
         if code == 0x00 {
             Ok((TagKind::Exception, rest))
         } else {
-            Err(ReadFault::UnknownTag)
+            Err(ReadFault::UnknownTag.just_before(rest))
         }
     }
 }
@@ -128,10 +130,10 @@ impl Layout for TagType {
     fn laws() {}
 }
 
-impl<'a, A: Allocator + Copy> Readable<'a, A> for TagType {
+impl<'a, A: Allocator + Copy, G: Grammar> Readable<'a, A, G> for TagType {
     #[tactic(auto, using(crate::proofs::TagLaws::tag_steps))]
-    fn read(bytes: &'a [u8], alloc: A) -> Result<(TagType, &'a [u8]), ReadFault> {
-        let ((kind, func_type_idx), rest) = <(TagKind, u32) as Readable<'a, A>>::read(
+    fn read(bytes: &'a [u8], alloc: A) -> Result<(TagType, &'a [u8]), DecodeError> {
+        let ((kind, func_type_idx), rest) = <(TagKind, u32) as Readable<'a, A, G>>::read(
             bytes, alloc,
         )?;
         let tag = TagType {

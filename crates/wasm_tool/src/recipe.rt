@@ -1,5 +1,5 @@
 // Recipes: from lines to a module.
-ghost use Rattle.std.specs.Prelude.{get_or, ◌≡◌, ◌≢◌, ◌⊎◌, ◌++◌, ◌∷◌, [], All, IfOk, IfErr, IsErr, OnOk, MatchResult, Some, None, length};
+ghost use Rattle.std.specs.Prelude.{get_or, ◌≡◌, ◌≢◌, ◌⊎◌, ◌∷◌, [], All, IfOk, IfErr, IsErr, OnOk, MatchResult, Some, None};
 ghost use Rattle.std.specs.Str.Lines.{strip_carriage_return};
 ghost use Rattle.hex.specs.Hex.{decode_of};
 ghost use Rattle.wasm_base.specs.Calls.{Adds};

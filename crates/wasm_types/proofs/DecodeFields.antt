@@ -1,16 +1,15 @@
 -- This file proves how readers decode storage and field types.
-use Rattle.wasm_base.proofs.Words.{◌≡◌, ◌≢◌, ℕ, List, ◌++◌, Bool, true, false, refl, sym, ap, subst, ◌∙◌, append_assoc, padded, Format, Then, byte, coded, choice, pair, Decodes, Rejects, val_type}
-use Rattle.wasm_base.proofs.Words.{val_tags, val_ref, byte_unambiguous, mapped_decodes, mapped_rejects, IsOther, tagged_decodes, tagged_none, tagged_rejects, choice_other, fixed_decodes, code_decodes}
-use Rattle.wasm_base.proofs.Words.{code_none, code_unknown}
+use Rattle.wasm_base.proofs.Words.{Mode, ◌≡◌, ◌≢◌, ℕ, List, ◌++◌, Bool, true, false, refl, sym, ap, subst, ◌∙◌, append_assoc, Format, Then, byte, impossible, coded, choice, mapped, pair, Decodes}
+use Rattle.wasm_base.proofs.Words.{Rejects, val_type, val_begins, IsValByte, byte_unambiguous, mapped_decodes, mapped_rejects, IsOther, tagged_decodes, tagged_none, tagged_rejects, choice_other}
+use Rattle.wasm_base.proofs.Words.{fixed_decodes, code_decodes, code_none, code_unknown, no_choice, no_bytes, one_of_left, one_of_right, one_of_rejects}
 use Rattle.wasm_base.specs.declared.types.ValType.{ValType}
-use Rattle.wasm_types.specs.{mutable_code, storage_tags, storage_val, storage_type, field_of, field_type}
+use Rattle.wasm_types.specs.{mutable_code, storage_tags, packed_type, storage_type, field_of, field_type}
 use Rattle.wasm_types.specs.declared.types.StorageType.{StorageType}
 use Rattle.wasm_types.specs.declared.types.StorageType.TheVariants.{I8, I16, Val}
-use Rattle.wasm_types.proofs.TypeLaws.{val_storage}
 
 -- ---- one value, then another
 
-pub first_of_both : {X Y : Type 0} {F : Format X} {G : X → Format Y} {bytes rest : List ℕ} {p : X × Y} → Decodes (Then F G) padded bytes p rest → (middle : List ℕ) × Decodes F padded bytes p.0 middle × Decodes (G p.0) padded middle p.1 rest
+pub first_of_both : {m : Mode} {X Y : Type 0} {F : Format X} {G : X → Format Y} {bytes rest : List ℕ} {p : X × Y} → Decodes (Then F G) m bytes p rest → (middle : List ℕ) × Decodes F m bytes p.0 middle × Decodes (G p.0) m middle p.1 rest
 first_of_both {rest = rest} h =
     let s = h.encodes in
     (s.back ++ rest, record { front = s.front; split = h.split ∙ ap (λ z. z ++ rest) s.joined ∙ append_assoc s.front s.back rest; encodes = s.first }, record { front = s.back; split = refl; encodes = s.second })
@@ -18,31 +17,31 @@ first_of_both {rest = rest} h =
 -- ---- a choice of tags
 
 -- The format that this tag selects.
-pub at_tag : {X : Type 0} (G : ℕ → Format X) (tag : ℕ) {b : ℕ} {bytes rest : List ℕ} {x : X} → b ≡ tag → Decodes (G tag) padded bytes x rest → Decodes (G b) padded bytes x rest
-at_tag G tag {bytes = bytes} {rest = rest} {x = x} e h = subst (λ c. Decodes (G c) padded bytes x rest) (sym e) h
+pub at_tag : {m : Mode} {X : Type 0} (G : ℕ → Format X) (tag : ℕ) {b : ℕ} {bytes rest : List ℕ} {x : X} → b ≡ tag → Decodes (G tag) m bytes x rest → Decodes (G b) m bytes x rest
+at_tag {m = m} G tag {bytes = bytes} {rest = rest} {x = x} e h = subst (λ c. Decodes (G c) m bytes x rest) (sym e) h
 
-pub not_tag : {X : Type 0} (G : ℕ → Format X) (tag : ℕ) {b : ℕ} {bytes : List ℕ} → b ≡ tag → Rejects (G tag) padded bytes → Rejects (G b) padded bytes
-not_tag G tag {bytes = bytes} e h = subst (λ c. Rejects (G c) padded bytes) (sym e) h
+pub not_tag : {m : Mode} {X : Type 0} (G : ℕ → Format X) (tag : ℕ) {b : ℕ} {bytes : List ℕ} → b ≡ tag → Rejects (G tag) m bytes → Rejects (G b) m bytes
+not_tag {m = m} G tag {bytes = bytes} e h = subst (λ c. Rejects (G c) m bytes) (sym e) h
 
 -- The format that any other tag selects.
-pub at_other : {X : Type 0} (cs : List (ℕ × Format X)) (other : ℕ → Format X) {b : ℕ} {bytes rest : List ℕ} {x : X} → IsOther cs b → Decodes (other b) padded bytes x rest → Decodes (choice cs other b) padded bytes x rest
-at_other cs other {b = b} {bytes = bytes} {rest = rest} {x = x} p h = subst (λ F. Decodes F padded bytes x rest) (sym (choice_other cs other b p)) h
+pub at_other : {m : Mode} {X : Type 0} (cs : List (ℕ × Format X)) (other : ℕ → Format X) {b : ℕ} {bytes rest : List ℕ} {x : X} → IsOther cs b → Decodes (other b) m bytes x rest → Decodes (choice cs other b) m bytes x rest
+at_other {m = m} cs other {b = b} {bytes = bytes} {rest = rest} {x = x} p h = subst (λ F. Decodes F m bytes x rest) (sym (choice_other cs other b p)) h
 
-pub not_other : {X : Type 0} (cs : List (ℕ × Format X)) (other : ℕ → Format X) {b : ℕ} {bytes : List ℕ} → IsOther cs b → Rejects (other b) padded bytes → Rejects (choice cs other b) padded bytes
-not_other {X} cs other {b = b} {bytes = bytes} p h = subst (λ F. Rejects {X = X} F padded bytes) (sym (choice_other cs other b p)) h
+pub not_other : {m : Mode} {X : Type 0} (cs : List (ℕ × Format X)) (other : ℕ → Format X) {b : ℕ} {bytes : List ℕ} → IsOther cs b → Rejects (other b) m bytes → Rejects (choice cs other b) m bytes
+not_other {m = m} {X} cs other {b = b} {bytes = bytes} p h = subst (λ F. Rejects {X = X} F m bytes) (sym (choice_other cs other b p)) h
 
 -- ---- mutability
 
-pub unset_decodes : (bytes rest : List ℕ) (b : ℕ) → Decodes byte padded bytes b rest → b ≡ 0 → Decodes (coded mutable_code) padded bytes false rest
+pub unset_decodes : {m : Mode} (bytes rest : List ℕ) (b : ℕ) → Decodes byte m bytes b rest → b ≡ 0 → Decodes (coded mutable_code) m bytes false rest
 unset_decodes bytes rest b h e = code_decodes mutable_code bytes rest b false h e
 
-pub set_decodes : (bytes rest : List ℕ) (b : ℕ) → Decodes byte padded bytes b rest → b ≡ 1 → Decodes (coded mutable_code) padded bytes true rest
+pub set_decodes : {m : Mode} (bytes rest : List ℕ) (b : ℕ) → Decodes byte m bytes b rest → b ≡ 1 → Decodes (coded mutable_code) m bytes true rest
 set_decodes bytes rest b h e = code_decodes mutable_code bytes rest b true h e
 
-pub mutable_none : (bytes : List ℕ) → Rejects byte padded bytes → Rejects (coded mutable_code) padded bytes
+pub mutable_none : {m : Mode} (bytes : List ℕ) → Rejects byte m bytes → Rejects (coded mutable_code) m bytes
 mutable_none bytes none = code_none mutable_code bytes none
 
-pub mutable_unknown : (bytes rest : List ℕ) (b : ℕ) → Decodes byte padded bytes b rest → b ≢ 0 → b ≢ 1 → Rejects (coded mutable_code) padded bytes
+pub mutable_unknown : {m : Mode} (bytes rest : List ℕ) (b : ℕ) → Decodes byte m bytes b rest → b ≢ 0 → b ≢ 1 → Rejects (coded mutable_code) m bytes
 mutable_unknown bytes rest b h p q = code_unknown mutable_code bytes rest b h (other b p q)
   where
     other : (b : ℕ) → b ≢ 0 → b ≢ 1 → (x : Bool) → b ≢ mutable_code x
@@ -53,36 +52,33 @@ pub ruleset mutable_steps = (unset_decodes, set_decodes, mutable_none, mutable_u
 
 -- ---- storage types
 
-abbrev after_storage : ℕ → Format StorageType
-after_storage b = choice storage_tags storage_val b
+abbrev after_packed : ℕ → Format StorageType
+after_packed b = choice storage_tags (λ c. impossible) b
 
-pub storage_none : (bytes : List ℕ) → Rejects byte padded bytes → Rejects storage_type padded bytes
-storage_none bytes none = tagged_none byte after_storage bytes none
+pub storage_none : {m : Mode} (bytes : List ℕ) → Rejects byte m bytes → Rejects storage_type m bytes
+storage_none bytes none = one_of_rejects (tagged_none byte after_packed bytes none) (mapped_rejects Val (no_bytes IsValByte val_type val_begins none))
 
-pub i8_decodes : (bytes rest : List ℕ) (b : ℕ) → Decodes byte padded bytes b rest → b ≡ 0x78 → Decodes storage_type padded bytes I8 rest
-i8_decodes bytes rest b h e = tagged_decodes {G = after_storage} h (at_tag after_storage 0x78 e (fixed_decodes rest I8))
+pub i8_decodes : {m : Mode} (bytes rest : List ℕ) (b : ℕ) → Decodes byte m bytes b rest → b ≡ 0x78 → Decodes storage_type m bytes I8 rest
+i8_decodes bytes rest b h e = one_of_left (mapped Val val_type) (tagged_decodes {G = after_packed} h (at_tag after_packed 0x78 e (fixed_decodes rest I8)))
 
-pub i16_decodes : (bytes rest : List ℕ) (b : ℕ) → Decodes byte padded bytes b rest → b ≡ 0x77 → Decodes storage_type padded bytes I16 rest
-i16_decodes bytes rest b h e = tagged_decodes {G = after_storage} h (at_tag after_storage 0x77 e (fixed_decodes rest I16))
+pub i16_decodes : {m : Mode} (bytes rest : List ℕ) (b : ℕ) → Decodes byte m bytes b rest → b ≡ 0x77 → Decodes storage_type m bytes I16 rest
+i16_decodes bytes rest b h e = one_of_left (mapped Val val_type) (tagged_decodes {G = after_packed} h (at_tag after_packed 0x77 e (fixed_decodes rest I16)))
 
-pub val_decodes : (bytes rest : List ℕ) (ty : ValType) → Decodes val_type padded bytes ty rest → Decodes storage_type padded bytes (Val ty) rest
-val_decodes bytes rest ty h = record { front = h.front; split = h.split; encodes = val_storage padded h.front ty h.encodes }
+pub val_decodes : {m : Mode} (bytes rest : List ℕ) (ty : ValType) → Decodes val_type m bytes ty rest → Decodes storage_type m bytes (Val ty) rest
+val_decodes bytes rest ty h = one_of_right packed_type (mapped_decodes Val h)
 
 -- If the first byte is of no packed type, only a value type can decode.
-pub val_rejects : (bytes rest : List ℕ) (b : ℕ) → Decodes byte padded bytes b rest → b ≢ 0x78 → b ≢ 0x77 → Rejects val_type padded bytes → Rejects storage_type padded bytes
-val_rejects bytes rest b h p q none = tagged_rejects {G = after_storage} byte_unambiguous h (not_other storage_tags storage_val (p, (q, tt)) (mapped_rejects Val left))
-  where
-    left : Rejects (choice val_tags val_ref b) padded rest
-    left = record { none = λ x last g. none.none x last (tagged_decodes {G = choice val_tags val_ref} h g) }
+pub val_rejects : {m : Mode} (bytes rest : List ℕ) (b : ℕ) → Decodes byte m bytes b rest → b ≢ 0x78 → b ≢ 0x77 → Rejects val_type m bytes → Rejects storage_type m bytes
+val_rejects bytes rest b h p q none = one_of_rejects (tagged_rejects {G = after_packed} byte_unambiguous h (no_choice storage_tags b rest (p, (q, tt)))) (mapped_rejects Val none)
 
 pub ruleset storage_steps = (storage_none, i8_decodes, i16_decodes, val_decodes, val_rejects)
 
 -- ---- field types
 
-pub field_decodes : (bytes rest : List ℕ) (p : StorageType × Bool) → Decodes (pair storage_type (coded mutable_code)) padded bytes p rest → Decodes field_type padded bytes (field_of p) rest
+pub field_decodes : {m : Mode} (bytes rest : List ℕ) (p : StorageType × Bool) → Decodes (pair storage_type (coded mutable_code)) m bytes p rest → Decodes field_type m bytes (field_of p) rest
 field_decodes bytes rest p h = mapped_decodes field_of h
 
-pub field_none : (bytes : List ℕ) → Rejects (pair storage_type (coded mutable_code)) padded bytes → Rejects field_type padded bytes
+pub field_none : {m : Mode} (bytes : List ℕ) → Rejects (pair storage_type (coded mutable_code)) m bytes → Rejects field_type m bytes
 field_none bytes none = mapped_rejects field_of none
 
 pub ruleset field_steps = (field_decodes, field_none)

@@ -1,15 +1,15 @@
 -- This file proves that decoded types are well-formed, so that their encoding is the minimal one.
 use Rattle.wasm_base.proofs.Words.{◌≡◌, ◌≢◌, ℕ, ◌^◌, ◌<◌, List, [], ◌∷◌, ◌++◌, length, map, Bool, true, false, Option, Result, Ok, Err, refl, sym, ap, ap₂, subst, eqb, arith, flat_map, All, ints}
-use Rattle.wasm_base.proofs.Words.{length-map, All-nil, All-cons, All-head, All-tail, Mode, minimal, padded, unsigned_encoding, Format, u32, s33, byte, choice, impossible, mapped, pair, tagged, vec}
-use Rattle.wasm_base.proofs.Words.{when, IsUnsignedInRange, vec_encoding, IsEncodableVec, IsVal, val_type, val_tags, val_ref, AllValues, AllChoices, tagged_encodes, on_ok, Appends, OnOk}
-use Rattle.wasm_base.proofs.Words.{AppendsMinimal, HasEncoding, val_type_is, vec_is, records_appended}
+use Rattle.wasm_base.proofs.Words.{length-map, All-nil, All-cons, All-head, All-tail, Mode, Grammar, builders, admitted, minimal, padded, standard_minimal, standard, unsigned_encoding, Format, u32}
+use Rattle.wasm_base.proofs.Words.{s33, byte, choice, impossible, mapped, pair, tagged, vec, when, IsUnsignedInRange, vec_encoding, IsEncodableVec, IsVal, val_type, AllValues, AllChoices}
+use Rattle.wasm_base.proofs.Words.{values_one_of, values_tagged, on_ok, Appends, OnOk, AppendsMinimal, HasEncoding, val_type_is, vec_is, records_appended}
 use Rattle.wasm_base.specs.declared.refused.Refused.{Refused}
 use Rattle.std.specs.declared.vec.Vec.{Vec}
-use Rattle.wasm_types.specs.{Shape, func, array, structure, cont, Composite, single, group, before_encoding, sub_encoding, type_encoding, IsStorage, IsField, IsShape, IsGivenIndex, IsComposite, IsSub}
-use Rattle.wasm_types.specs.{IsType, storage_tags, storage_val, storage_type, field_type, shape_tags, after_shape, with_index, given_index, no_index, after_descriptor, after_describes, composite_of}
-use Rattle.wasm_types.specs.{after_composite, composite_type, sub_tags, after_sub, alone_of, sub_type, after_type, type_item, IsEncodableShape, shape_in, sub_view, entry_view, entry_encoding}
-use Rattle.wasm_types.specs.{IsEncodableSubItem, IsEncodableEntry}
-use Rattle.wasm_types.proofs.TypeLaws.{type_encodes}
+use Rattle.wasm_types.specs.{Shape, func, array, structure, cont, Composite, before_encoding, sub_encoding, type_encoding, IsStorage, IsField, IsShape, IsGivenIndex, IsComposite, IsSub, IsType}
+use Rattle.wasm_types.specs.{storage_tags, storage_type, field_type, shape_tags, after_shape, with_index, given_index, no_index, after_descriptor, after_describes, composite_of, after_composite}
+use Rattle.wasm_types.specs.{composite_type, sub_tags, after_alone, prefixed_sub, sub_type, group_tags, type_item, IsEncodableShape, shape_in, sub_view, entry_view, entry_encoding, IsEncodableSubItem}
+use Rattle.wasm_types.specs.{IsEncodableEntry}
+use Rattle.wasm_types.proofs.TypeLaws.{after_in, type_encodes}
 use Rattle.wasm_types.specs.declared.items.SubItem.{SubItem}
 use Rattle.wasm_types.specs.declared.items.TypeEntry.{TypeEntry}
 use Rattle.wasm_types.specs.declared.items.TypeEntry.TheVariants as entries
@@ -25,13 +25,10 @@ values_choice {X} Q (c ∷ cs) other h g b mode s x k = go (values_choice Q cs o
 tagged_values : {X : Type 0} (Q : X → Type 0) (G : ℕ → Format X) → ((b : ℕ) → AllValues Q (G b)) → AllValues Q (tagged byte G)
 tagged_values Q G all mode s x h = subst Q h.1 (all h.0.0 mode h.2.back h.0.1 h.2.second)
 
-after_storage_is : (b : ℕ) → AllValues IsStorage (choice storage_tags storage_val b)
-after_storage_is =
-    values_choice IsStorage storage_tags storage_val (λ mode s x h. subst IsStorage (sym h.1) tt, (λ mode s x h. subst IsStorage (sym h.1) tt, tt))
-    (λ b mode s x h. subst IsStorage h.1 (val_type_is mode (b ∷ s) h.0 (tagged_encodes {G = choice val_tags val_ref} mode b s h.0 h.2)))
-
 storage_is : AllValues IsStorage storage_type
-storage_is = tagged_values IsStorage (choice storage_tags storage_val) after_storage_is
+storage_is =
+    values_one_of IsStorage (values_tagged IsStorage storage_tags (λ mode s x h. subst IsStorage (sym h.1) tt, (λ mode s x h. subst IsStorage (sym h.1) tt, tt)))
+    (λ mode s x h. subst IsStorage h.1 (val_type_is mode s h.0 h.2))
 
 field_is : AllValues IsField field_type
 field_is mode s x h = subst IsField h.1 (storage_is mode h.2.front h.0.0 h.2.first)
@@ -86,22 +83,27 @@ AreSupertypesAnd p = IsEncodableVec (IsUnsignedInRange 32) p.0 × IsComposite p.
 supertypes_are : AllValues AreSupertypesAnd (pair (vec u32) composite_type)
 supertypes_are mode s p h = (vec_is (IsUnsignedInRange 32) u32 (λ mode s n k. k.range) mode h.front p.0 h.first, tagged_values IsComposite after_composite composite_is mode h.back p.1 h.second)
 
-sub_is : (b : ℕ) → AllValues IsSub (after_sub b)
-sub_is =
-    values_choice IsSub sub_tags (λ c. mapped alone_of (after_composite c)) (
+sub_after_is : (w : Grammar) (b : ℕ) → AllValues IsSub (after_in w b)
+sub_after_is w =
+    values_choice IsSub (sub_tags w) after_alone (
       λ mode s x h. let p = supertypes_are mode s h.0 h.2 in subst IsSub h.1 (record { supertypes = p.0; composite = p.1 }),
       (λ mode s x h. let p = supertypes_are mode s h.0 h.2.0 in subst IsSub h.1 (record { supertypes = p.0; composite = p.1 }), tt),
     )
     (λ b mode s x h. subst IsSub h.1 (record { supertypes = record { count = omega arith; members = All-nil _ }; composite = composite_is b mode s h.0 h.2 }))
 
-after_type_is : (b : ℕ) → AllValues IsType (after_type b)
-after_type_is =
-    values_choice IsType ((0x4E, mapped group (vec sub_type)) ∷ []) (λ c. mapped single (after_sub c))
-    (λ mode s x h. subst IsType h.1 (vec_is IsSub sub_type (tagged_values IsSub after_sub sub_is) mode s h.0 h.2), tt)
-    (λ b mode s x h. subst IsType h.1 (sub_is b mode s h.0 h.2))
+prefixed_is : (w : Grammar) → AllValues IsSub (prefixed_sub w)
+prefixed_is w = tagged_values IsSub (after_in w) (sub_after_is w)
+
+sub_is : AllValues IsSub sub_type
+sub_is minimal = prefixed_is builders minimal
+sub_is padded = prefixed_is builders padded
+sub_is standard_minimal = prefixed_is builders standard_minimal
+sub_is standard = prefixed_is admitted standard
 
 pub type_is : AllValues IsType type_item
-type_is = tagged_values IsType after_type after_type_is
+type_is =
+    values_one_of IsType (values_tagged IsType group_tags (λ mode s x h. subst IsType h.1 (vec_is IsSub sub_type sub_is mode s h.0 h.2), tt))
+    (λ mode s x h. subst IsType h.1 (sub_is mode s h.0 h.2))
 
 -- ---- encodings
 

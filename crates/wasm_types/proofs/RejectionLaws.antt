@@ -1,11 +1,12 @@
 -- This file proves that certain bytes are not a type section.
 use Rattle.wasm_base.proofs.Words.{◌≡◌, ℕ, ◌<◌, List, [], ◌∷◌, ◌++◌, length, Bool, true, false, refl, sym, subst, ◌∙◌, append-nil, arith, counted_format, Format, u32, byte, tagged, vec, coded, Then}
 use Rattle.wasm_base.proofs.Words.{RejectsAllAfterPadded, padded, Unambiguous, vec_u32_unambiguous, byte_unambiguous, vec_of_one, then_at, tagged_at, rejects_padded, one_item, u32_small}
+use Rattle.wasm_base.proofs.Words.{tagged_encodes, inl, inr, ◌≢◌, builders, choice, choice_tags, impossible}
 use Rattle.wasm_base.specs.declared.types.ValType.TheVariants.{I32}
-use Rattle.wasm_types.specs.{TypeItem, mutable_code, storage_type, field_type, after_type, type_item}
+use Rattle.wasm_types.specs.{Sub, TypeItem, mutable_code, storage_type, field_type, group_tags, type_item}
 use Rattle.wasm_types.specs.declared.types.FieldType.{FieldType}
 use Rattle.wasm_types.specs.declared.types.StorageType.TheVariants.{Val}
-use Rattle.wasm_types.proofs.TypeLaws.{storage_unambiguous, val_storage, types_section}
+use Rattle.wasm_types.proofs.TypeLaws.{storage_unambiguous, after_in, types_section}
 use Rattle.wasm_base.proofs.SectionLaws.{unambiguous}
 
 -- ---- the suffix of a known front, up to the last byte
@@ -27,15 +28,20 @@ no_mutability false e = let two : ◌≡◌ {A = ℕ} 2 0 = cc e in omega (arith
 no_mutability true e = let two : ◌≡◌ {A = ℕ} 2 1 = cc e in omega (arith, two)
 
 number : storage_type padded (0x7F ∷ []) (Val I32)
-number = val_storage padded (0x7F ∷ []) I32 ((0x7F, I32), refl, record { front = 0x7F ∷ []; back = []; joined = refl; first = refl; second = (refl, refl) })
+number = inr (I32, refl, inl (tagged_encodes padded 0x7F [] I32 (refl, refl)))
 
 no_field : (x : FieldType) → field_type padded (0x7F ∷ 0x02 ∷ []) x → ⊥
 no_field x h = no_mutability h.0.1 (behind_first {F = storage_type} {G = coded mutable_code} storage_unambiguous (0x7F ∷ []) (Val I32) number (0x02 ∷ []) h.0 h.2)
 
+-- An entry that begins with another byte than 4E is a subtype.
+behind_entry : (b : ℕ) (rest : List ℕ) (x : TypeItem) → b ≢ 0x4E → type_item padded (b ∷ rest) x → (s : Sub) × after_in builders b padded rest s
+behind_entry b rest x p (inl k) = absurd (p (choice_tags (λ c. c ≡ 0x4E) group_tags (λ c. impossible) (refl, tt) (λ c mode s y h. absurd h) b padded rest x (behind_byte {G = choice group_tags (λ c. impossible)} b rest x k)))
+behind_entry b rest x p (inr k) = (k.0, behind_byte {G = after_in builders} b rest k.0 k.2)
+
 no_structure : (x : TypeItem) → type_item padded (0x5F ∷ 0x01 ∷ 0x7F ∷ 0x02 ∷ []) x → ⊥
 no_structure x h =
-    let shape = behind_byte {G = after_type} 0x5F (0x01 ∷ 0x7F ∷ 0x02 ∷ []) x h in
-    let fields = shape.2.2.2.2.2 in
+    let shape = behind_entry 0x5F (0x01 ∷ 0x7F ∷ 0x02 ∷ []) x (omega arith) h in
+    let fields = shape.1.2.2.2.2 in
     let one = vec_of_one {F = field_type} padded (0x7F ∷ 0x02 ∷ []) fields.0 (u32_small padded 1 (omega arith)) fields.2 in
     no_field one.0 one.1
 
@@ -48,8 +54,8 @@ mutability_of_2 =
 
 no_group : (x : TypeItem) → type_item padded (0xCE ∷ 0x00 ∷ 0x00 ∷ []) x → ⊥
 no_group x h =
-    let none = behind_byte {G = after_type} 0xCE (0x00 ∷ 0x00 ∷ []) x h in
-    absurd none.2.2.2.2.2
+    let none = behind_entry 0xCE (0x00 ∷ 0x00 ∷ []) x (omega arith) h in
+    absurd none.1.2.2.2.2
 
 pub padded_group : RejectsAllAfterPadded (counted_format type_item) (4 ∷ 1 ∷ 206 ∷ 0 ∷ 0 ∷ [])
 padded_group =
@@ -63,10 +69,10 @@ no_indices = record { front = 0 ∷ []; back = []; joined = refl; first = u32_sm
 
 no_final : (x : TypeItem) → type_item padded (0x4F ∷ 0x00 ∷ 0x5F ∷ 0x00 ∷ []) x → ⊥
 no_final x h =
-    let sub = behind_byte {G = after_type} 0x4F (0x00 ∷ 0x5F ∷ 0x00 ∷ []) x h in
-    let parts = sub.2.2.0 in
-    let none = vec_u32_unambiguous.unique padded (0 ∷ []) parts.front (0x5F ∷ 0x00 ∷ []) parts.back [] sub.2.0.0 no_indices parts.first parts.joined in
-    let some : 0 < length {A = ℕ} [] = subst (λ xs. 0 < length xs) (sym none.0) sub.2.2.1 in
+    let sub = behind_entry 0x4F (0x00 ∷ 0x5F ∷ 0x00 ∷ []) x (omega arith) h in
+    let parts = sub.1.2.0 in
+    let none = vec_u32_unambiguous.unique padded (0 ∷ []) parts.front (0x5F ∷ 0x00 ∷ []) parts.back [] sub.1.0.0 no_indices parts.first parts.joined in
+    let some : 0 < length {A = ℕ} [] = subst (λ xs. 0 < length xs) (sym none.0) sub.1.2.1 in
     omega (arith, some)
 
 pub no_supertypes : RejectsAllAfterPadded (counted_format type_item) (5 ∷ 1 ∷ 79 ∷ 0 ∷ 95 ∷ 0 ∷ [])

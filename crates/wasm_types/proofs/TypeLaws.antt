@@ -1,16 +1,19 @@
 -- This file proves that the entries of a type section are unambiguous and that their encodings
 -- encode them.
-use Rattle.wasm_base.proofs.Words.{◌≡◌, ◌≢◌, ℕ, zero, suc, ◌<◌, List, [], ◌∷◌, ◌++◌, length, Bool, true, false, cond, Option, Some, None, refl, sym, ap, ◌∙◌, arith, pos, ne_eqb, ItemLaws, Format, u32}
-use Rattle.wasm_base.proofs.Words.{byte, impossible, coded, mapped, pair, tagged, choice, vec, IsUnsignedInRange, Mode, minimal, unsigned_encoding, signed_encoding, Unambiguous, vec_encoding}
-use Rattle.wasm_base.proofs.Words.{IsEncodableVec, val_type, val_encoding, IsVal, val_tags, val_ref, ref_tags, s33_unambiguous, vec_u32_unambiguous, DeterminesTag, mapped_unambiguous}
-use Rattle.wasm_base.proofs.Words.{such_unambiguous, coded_unambiguous, fixed_unambiguous, impossible_unambiguous, pair_unambiguous, tagged_unambiguous, vec_unambiguous, byte_unambiguous}
-use Rattle.wasm_base.proofs.Words.{choice_unambiguous, choice_determines, choice_tags, u32_unambiguous, pair_encodes, u32_encodes, s33_encodes, vec_encodes, tagged_encodes, val_unambiguous}
-use Rattle.wasm_base.proofs.Words.{val-encodings, val_tag, val_determines, val_choice_unambiguous, SectionLaws, counted_laws}
+use Rattle.wasm_base.proofs.Words.{◌≡◌, ◌≢◌, ◌⊎◌, inl, inr, ℕ, zero, suc, ◌<◌, List, [], ◌∷◌, ◌++◌, length, length-append, Bool, true, false, cond, eqb, Option, Some, None, refl, sym, ap, subst, ◌∙◌}
+use Rattle.wasm_base.proofs.Words.{arith, pos, ne_eqb, ItemLaws, Grammar, builders, admitted, padded, standard_minimal, standard, Format, u32, byte, impossible, coded, mapped, pair, such, tagged}
+use Rattle.wasm_base.proofs.Words.{choice, when, vec, IsUnsignedInRange, Mode, minimal, unsigned_encoding, signed_encoding, Unambiguous, DeterminesPrefix, IsIncludedIn, ShrinksTo, BeginsWith}
+use Rattle.wasm_base.proofs.Words.{vec_encoding, IsEncodableVec, val_type, val_encoding, IsVal, IsValByte, val_begins, s33_unambiguous, vec_u32_unambiguous, DeterminesTag, AllValues}
+use Rattle.wasm_base.proofs.Words.{mapped_unambiguous, such_unambiguous, coded_unambiguous, fixed_unambiguous, impossible_unambiguous, pair_unambiguous, tagged_unambiguous, vec_unambiguous}
+use Rattle.wasm_base.proofs.Words.{byte_unambiguous, Then_unambiguous, by_mode_unambiguous, choice_unambiguous, choice_determines, choice_tags, u32_small, u32_unambiguous, pair_encodes, u32_encodes}
+use Rattle.wasm_base.proofs.Words.{s33_encodes, vec_encodes, tagged_encodes, val_unambiguous, val-encodings, SectionLaws, counted_laws, begins_mapped, choice_begins, choice_of, none_in_common}
+use Rattle.wasm_base.proofs.Words.{one_of_unambiguous, values_mapped, values_tagged}
 use Rattle.wasm_base.specs.declared.types.ValType.{ValType}
 use Rattle.wasm_types.specs.{Shape, func, array, structure, cont, Composite, Sub, TypeItem, single, group, storage_encoding, mutable_code, field_encoding, shape_encoding, index_encoding}
 use Rattle.wasm_types.specs.{shared_encoding, composite_encoding, before_encoding, sub_encoding, type_encoding, IsStorage, IsField, IsShape, IsGivenIndex, IsComposite, IsSub, IsType, storage_tags}
-use Rattle.wasm_types.specs.{storage_val, storage_type, field_of, field_type, func_of, shape_tags, after_shape, given_index, no_index, with_index, after_descriptor, after_describes, composite_of}
-use Rattle.wasm_types.specs.{after_composite, composite_type, HasSupertypes, sub_of, alone_of, supertypes_and, sub_tags, after_sub, sub_type, after_type, type_item, type_items}
+use Rattle.wasm_types.specs.{packed_type, storage_type, field_of, field_type, func_of, shape_tags, after_shape, given_index, no_index, with_index, after_descriptor, after_describes, composite_of}
+use Rattle.wasm_types.specs.{after_composite, composite_type, HasFinalPrefix, sub_of, alone_of, supertypes_and, sub_tags, after_alone, prefixed_sub, sub_type, group_tags, group_type, type_item}
+use Rattle.wasm_types.specs.{type_items}
 use Rattle.wasm_types.specs.declared.types.FieldType.{FieldType}
 use Rattle.wasm_types.specs.declared.types.StorageType.{StorageType}
 use Rattle.wasm_types.specs.declared.types.StorageType.TheVariants.{I8, I16, Val}
@@ -36,19 +39,38 @@ lifted P f tags to mode s x h = (
 
 -- ---- storage and field types
 
-abbrev storage_tag : StorageType → ℕ
-storage_tag I8 = 0x78
-storage_tag I16 = 0x77
-storage_tag (Val ty) = val_tag ty
+-- The byte of a packed type, and 0 for a value type.
+abbrev packed_tag : StorageType → ℕ
+packed_tag I8 = 0x78
+packed_tag I16 = 0x77
+packed_tag (Val ty) = 0
 
-storage_determines : DeterminesTag (choice storage_tags storage_val) storage_tag
-storage_determines =
-    choice_determines storage_tag storage_tags storage_val
-    (λ mode s x h. ap storage_tag (sym h.1), (λ mode s x h. ap storage_tag (sym h.1), tt))
-    (λ b mode s x h. val_determines mode b s h.0 h.2 ∙ ap storage_tag h.1)
+-- The bytes of packed types.
+abbrev IsPackedByte : ℕ → Type 0
+IsPackedByte b = (0x76 < b) × (b < 0x79)
+
+packed_unambiguous : Unambiguous packed_type
+packed_unambiguous =
+    choice_of byte packed_tag storage_tags byte_unambiguous (fixed_unambiguous [] I8, (fixed_unambiguous [] I16, tt))
+    (λ mode s x h. ap packed_tag (sym h.1), (λ mode s x h. ap packed_tag (sym h.1), tt))
+
+packed_begins : BeginsWith IsPackedByte packed_type
+packed_begins = choice_begins IsPackedByte storage_tags (λ b. impossible) ((omega arith, omega arith), ((omega arith, omega arith), tt)) (λ b mode s x h. absurd h)
+
+packed_apart : (b : ℕ) → IsPackedByte b → IsValByte b → ⊥
+packed_apart b p (inl q) = omega (arith, p.1, q.0)
+packed_apart b p (inr q) = omega (arith, p.0, q.1)
+
+packed_values : AllValues (λ x. 0 < packed_tag x) packed_type
+packed_values =
+    values_tagged (λ x. 0 < packed_tag x) storage_tags
+    (λ mode s x h. subst (λ z. 0 < packed_tag z) (sym h.1) (omega arith), (λ mode s x h. subst (λ z. 0 < packed_tag z) (sym h.1) (omega arith), tt))
 
 pub storage_unambiguous : Unambiguous storage_type
-storage_unambiguous = by_tag_unambiguous storage_tag storage_determines (choice_unambiguous storage_tags storage_val (fixed_unambiguous [] I8, (fixed_unambiguous [] I16, tt)) (λ b. mapped_unambiguous Val (λ x y e. cc) (val_choice_unambiguous b)))
+storage_unambiguous =
+    one_of_unambiguous IsPackedByte IsValByte packed_apart packed_begins (begins_mapped IsValByte Val val_begins)
+    (none_in_common (λ x. 0 < packed_tag x) (λ x. packed_tag x ≡ 0) (λ x p q. omega (arith, p, q)) packed_values (values_mapped (λ x. packed_tag x ≡ 0) Val val_type (λ x. refl)))
+    packed_unambiguous (mapped_unambiguous Val (λ x y e. cc) val_unambiguous)
 
 mutable_decode : ℕ → Bool
 mutable_decode zero = false
@@ -171,81 +193,12 @@ composite_after_unambiguous =
 pub composite_unambiguous : Unambiguous composite_type
 composite_unambiguous = by_tag_unambiguous composite_tag composite_determines composite_after_unambiguous
 
--- ---- subtypes
-
-abbrev before_tag : Bool → List ℕ → ℕ → ℕ
-before_tag true [] tag = tag
-before_tag true (x ∷ xs) tag = 0x4F
-before_tag false xs tag = 0x50
-
-abbrev sub_tag : Sub → ℕ
-sub_tag s = before_tag s.is_final s.supertypes (composite_tag s.composite)
-
-abbrev not_before : ℕ → Format Sub
-not_before c = mapped alone_of (after_composite c)
-
-final_tag : (xs : List ℕ) (tag : ℕ) → 0 < length xs → 0x4F ≡ before_tag true xs tag
-final_tag [] tag h = absurd (omega (arith, h))
-final_tag (x ∷ xs) tag h = refl
-
-sub_determines : DeterminesTag after_sub sub_tag
-sub_determines =
-    choice_determines sub_tag sub_tags not_before
-    (λ mode s x h. ap sub_tag h.1, (λ mode s x h. final_tag h.0.0 (composite_tag h.0.1) h.2.1 ∙ ap sub_tag h.1, tt))
-    (λ b mode s x h. composite_determines mode b s h.0 h.2 ∙ ap sub_tag h.1)
-
-abbrev sub_parts : Sub → List ℕ × Composite
-sub_parts s = (s.supertypes, s.composite)
-
-sub_after_unambiguous : (b : ℕ) → Unambiguous (after_sub b)
-sub_after_unambiguous =
-    let both = pair_unambiguous vec_u32_unambiguous composite_unambiguous in
-    choice_unambiguous sub_tags not_before
-    (mapped_unambiguous (sub_of false) (λ x y e. ap sub_parts e) both, (mapped_unambiguous (sub_of true) (λ x y e. ap sub_parts e) (such_unambiguous HasSupertypes both), tt))
-    (λ b. mapped_unambiguous alone_of (λ x y e. ap (λ s. s.composite) e) (composite_after_unambiguous b))
-
-pub sub_unambiguous : Unambiguous sub_type
-sub_unambiguous = by_tag_unambiguous sub_tag sub_determines sub_after_unambiguous
-
--- ---- entries
-
-abbrev type_tag : TypeItem → ℕ
-type_tag (single s) = sub_tag s
-type_tag (group subs) = 0x4E
-
-abbrev group_tags : List (ℕ × Format TypeItem)
-group_tags = (0x4E, mapped group (vec sub_type)) ∷ []
-
-abbrev not_group : ℕ → Format TypeItem
-not_group c = mapped single (after_sub c)
-
-type_determines : DeterminesTag after_type type_tag
-type_determines = choice_determines type_tag group_tags not_group (λ mode s x h. ap type_tag h.1, tt) (λ b mode s x h. sub_determines mode b s h.0 h.2 ∙ ap type_tag h.1)
-
-pub type_unambiguous : Unambiguous type_item
-type_unambiguous = by_tag_unambiguous type_tag type_determines (choice_unambiguous group_tags not_group (mapped_unambiguous group (λ x y e. cc) (vec_unambiguous sub_unambiguous), tt) (λ b. mapped_unambiguous single (λ x y e. cc) (sub_after_unambiguous b)))
-
--- ---- encodings
-
--- The first bytes of value types that are not those of packed types.
-abbrev IsUnpacked : ℕ → Type 0
-IsUnpacked b = (b ≢ 0x78) × (b ≢ 0x77)
-
-unpacked : (b : ℕ) (mode : Mode) (s : List ℕ) (x : ValType) → choice val_tags val_ref b mode s x → IsUnpacked b
-unpacked =
-    choice_tags IsUnpacked val_tags val_ref ((omega arith, omega arith), ((omega arith, omega arith), ((omega arith, omega arith), ((omega arith, omega arith), ((omega arith, omega arith), tt)))))
-    (λ b mode s x h. choice_tags IsUnpacked ref_tags (λ b. impossible) ((omega arith, omega arith), ((omega arith, omega arith), ((omega arith, omega arith), ((omega arith, omega arith), tt)))) (λ b mode s x h. absurd h) b mode s h.0 h.2)
-
-at_storage : (b : ℕ) → IsUnpacked b → (mode : Mode) (s : List ℕ) (x : ValType) → choice val_tags val_ref b mode s x → choice storage_tags storage_val b mode s (Val x)
-at_storage b p mode s x h = rw (ne_eqb b 0x78 p.0, ne_eqb b 0x77 p.1) (x, refl, h)
-
-pub val_storage : (mode : Mode) (s : List ℕ) (ty : ValType) → val_type mode s ty → storage_type mode s (Val ty)
-val_storage mode s ty h = lifted IsUnpacked Val {G = choice val_tags val_ref} {H = choice storage_tags storage_val} unpacked at_storage mode s ty h
+-- ---- encodings of composite types
 
 storage_encodes : (t : StorageType) → IsStorage t → storage_type minimal (storage_encoding t) t
-storage_encodes I8 p = tagged_encodes minimal 0x78 [] I8 (refl, refl)
-storage_encodes I16 p = tagged_encodes minimal 0x77 [] I16 (refl, refl)
-storage_encodes (Val ty) p = val_storage minimal (val_encoding ty) ty (val-encodings.encodes ty p)
+storage_encodes I8 p = inl (tagged_encodes minimal 0x78 [] I8 (refl, refl))
+storage_encodes I16 p = inl (tagged_encodes minimal 0x77 [] I16 (refl, refl))
+storage_encodes (Val ty) p = inr (ty, refl, val-encodings.encodes ty p)
 
 field_encodes : (f : FieldType) → IsField f → field_type minimal (field_encoding f) f
 field_encodes f p =
@@ -297,9 +250,6 @@ describes_bytes =
 composite_bytes : (b : ℕ) (mode : Mode) (s : List ℕ) (x : Composite) → after_composite b mode s x → IsCompositeByte b
 composite_bytes = choice_tags IsCompositeByte shared_tags not_shared ((omega arith, omega arith, omega arith), tt) (λ b mode s x h. (describes_bytes b mode s h.0 h.2).0)
 
-sub_bytes : (b : ℕ) (mode : Mode) (s : List ℕ) (x : Sub) → after_sub b mode s x → b ≢ 0x4E
-sub_bytes = choice_tags (λ b. b ≢ 0x4E) sub_tags not_before (omega arith, (omega arith, tt)) (λ b mode s x h. (composite_bytes b mode s h.0 h.2).0)
-
 -- A value with an optional index before it.
 index_encodes : {X : Type 0} (P : ℕ → Type 0) (tag : ℕ) (F : ℕ → Format X) → ((b : ℕ) (mode : Mode) (s : List ℕ) (x : X) → F b mode s x → P b) → ((b : ℕ) → P b → b ≢ tag)
     → ((s : List ℕ) (p : Option ℕ × X) → mapped given_index (pair u32 (tagged byte F)) minimal s p → with_index tag F tag minimal s p)
@@ -324,27 +274,161 @@ shared_encodes false parts s h =
 pub composite_encodes : (c : Composite) → IsComposite c → composite_type minimal (composite_encoding c) c
 composite_encodes c p = shared_encodes c.shared (composite_parts c) (index_encoding 0x4C c.describes ++ (index_encoding 0x4D c.descriptor ++ shape_encoding c.shape)) (unshared_encodes c p)
 
-at_sub : (b : ℕ) → IsCompositeByte b → (mode : Mode) (s : List ℕ) (x : Composite) → after_composite b mode s x → after_sub b mode s (alone_of x)
+-- ---- subtypes
+
+abbrev before_tag : Bool → List ℕ → ℕ → ℕ
+before_tag true [] tag = tag
+before_tag true (x ∷ xs) tag = 0x4F
+before_tag false xs tag = 0x50
+
+abbrev sub_tag : Sub → ℕ
+sub_tag s = before_tag s.is_final s.supertypes (composite_tag s.composite)
+
+abbrev pub after_in : Grammar → ℕ → Format Sub
+after_in w b = choice (sub_tags w) after_alone b
+
+final_tag : (xs : List ℕ) (tag : ℕ) → 0 < length xs → 0x4F ≡ before_tag true xs tag
+final_tag [] tag h = absurd (omega (arith, h))
+final_tag (x ∷ xs) tag h = refl
+
+sub_determines : DeterminesTag (after_in builders) sub_tag
+sub_determines =
+    choice_determines sub_tag (sub_tags builders) after_alone
+    (λ mode s x h. ap sub_tag h.1, (λ mode s x h. final_tag h.0.0 (composite_tag h.0.1) h.2.1 ∙ ap sub_tag h.1, tt))
+    (λ b mode s x h. composite_determines mode b s h.0 h.2 ∙ ap sub_tag h.1)
+
+abbrev sub_parts : Sub → List ℕ × Composite
+sub_parts s = (s.supertypes, s.composite)
+
+sub_after_unambiguous : (w : Grammar) (b : ℕ) → Unambiguous (after_in w b)
+sub_after_unambiguous w =
+    let both = pair_unambiguous vec_u32_unambiguous composite_unambiguous in
+    choice_unambiguous (sub_tags w) after_alone
+    (mapped_unambiguous (sub_of false) (λ x y e. ap sub_parts e) both, (mapped_unambiguous (sub_of true) (λ x y e. ap sub_parts e) (such_unambiguous (HasFinalPrefix w) both), tt))
+    (λ b. mapped_unambiguous alone_of (λ x y e. ap (λ s. s.composite) e) (composite_after_unambiguous b))
+
+built_unambiguous : Unambiguous (prefixed_sub builders)
+built_unambiguous = by_tag_unambiguous sub_tag sub_determines (sub_after_unambiguous builders)
+
+-- The tag of a final type without supertypes is not determined in the standard's grammar, but the
+-- tag and the value together are.
+admitted_unique : DeterminesPrefix (prefixed_sub admitted standard)
+admitted_unique s t r q x y h g e =
+    let a = (Then_unambiguous byte_unambiguous (sub_after_unambiguous admitted)).unique standard s t r q h.0 g.0 h.2 g.2 e in
+    (sym h.1 ∙ ap (λ p. p.1) a.0 ∙ g.1, a.1, a.2)
+
+-- The same subtypes, tag by tag.
+widened : (b : ℕ) (t : List ℕ) (x : Sub) → after_in builders b standard t x → after_in admitted b standard t x
+widened b t x h = go (eqb b 0x50) (eqb b 0x4F) h
+  where
+    go : (opened final : Bool) → when opened (mapped (sub_of false) supertypes_and) (when final (mapped (sub_of true) (such (HasFinalPrefix builders) supertypes_and)) (after_alone b)) standard t x
+        → when opened (mapped (sub_of false) supertypes_and) (when final (mapped (sub_of true) (such (HasFinalPrefix admitted) supertypes_and)) (after_alone b)) standard t x
+    go true final k = k
+    go false true k = (k.0, k.1, (k.2.0, tt))
+    go false false k = k
+
+built_admitted : IsIncludedIn (prefixed_sub builders standard) (prefixed_sub admitted standard)
+built_admitted s x h = (h.0, h.1, record { front = h.2.front; back = h.2.back; joined = h.2.joined; first = h.2.first; second = widened h.0.0 h.2.back h.0.1 h.2.second })
+
+at_sub : (b : ℕ) → IsCompositeByte b → (mode : Mode) (s : List ℕ) (x : Composite) → after_composite b mode s x → after_in builders b mode s (alone_of x)
 at_sub b p mode s x h = rw (ne_eqb b 0x50 p.2, ne_eqb b 0x4F p.1) (x, refl, h)
+
+-- A composite type alone.
+alone_encodes : (mode : Mode) (s : List ℕ) (c : Composite) → composite_type mode s c → prefixed_sub builders mode s (alone_of c)
+alone_encodes mode s c h = lifted IsCompositeByte alone_of {G = after_composite} {H = after_in builders} composite_bytes at_sub mode s c h
+
+-- The bytes end with an encoding of the composite type, which the subtype is alone.
+abbrev EndsAlone : List ℕ → Sub → Type 0
+EndsAlone t x = (c : Composite) × (front back : List ℕ) × (t ≡ front ++ back) × composite_type standard back c × (alone_of c ≡ x)
+
+-- A subtype of the standard's grammar is one that builders write, or has an empty vector after 4F.
+narrowed : (b : ℕ) (t : List ℕ) (x : Sub) → after_in admitted b standard t x → after_in builders b standard t x ⊎ EndsAlone t x
+narrowed b t x h = go (eqb b 0x50) (eqb b 0x4F) h
+  where
+    listed : (xs : List ℕ) (c : Composite) → sub_of true (xs, c) ≡ x → supertypes_and standard t (xs, c) → mapped (sub_of true) (such (HasFinalPrefix builders) supertypes_and) standard t x ⊎ EndsAlone t x
+    listed [] c e k = inr (c, k.front, k.back, k.joined, k.second, e)
+    listed (y ∷ ys) c e k = inl ((y ∷ ys, c), e, (k, omega arith))
+
+    go : (opened final : Bool) → when opened (mapped (sub_of false) supertypes_and) (when final (mapped (sub_of true) (such (HasFinalPrefix admitted) supertypes_and)) (after_alone b)) standard t x
+        → when opened (mapped (sub_of false) supertypes_and) (when final (mapped (sub_of true) (such (HasFinalPrefix builders) supertypes_and)) (after_alone b)) standard t x ⊎ EndsAlone t x
+    go true final k = inl k
+    go false true k = listed k.0.0 k.0.1 k.1 k.2.0
+    go false false k = inl k
+
+sub_shrinks : ShrinksTo (prefixed_sub admitted standard) (prefixed_sub builders standard_minimal)
+sub_shrinks s x h =
+    elim (narrowed h.0.0 h.2.back h.0.1 h.2.second) [
+      | inl k ↦ built_unambiguous.encodings.shorter admitted s x (h.0, h.1, record { front = h.2.front; back = h.2.back; joined = h.2.joined; first = h.2.first; second = k })
+      | inr k ↦
+          let a = composite_unambiguous.encodings.shorter admitted k.2 k.0 k.4 in
+          (a.0, subst (λ z. prefixed_sub builders standard_minimal a.0 z) (k.5 ∙ h.1) (alone_encodes standard_minimal a.0 k.0 a.1), omega (arith, a.2, ap length h.2.joined, ap length k.3, length-append h.2.front h.2.back, length-append k.1 k.2))
+    ]
+
+pub sub_unambiguous : Unambiguous sub_type
+sub_unambiguous =
+    by_mode_unambiguous (prefixed_sub builders) (prefixed_sub builders) (prefixed_sub admitted) built_unambiguous built_unambiguous admitted_unique
+    (λ s x h. built_admitted s x (built_unambiguous.encodings.included padded standard tt s x h))
+    (λ s x h. built_admitted s x (built_unambiguous.encodings.included standard_minimal standard tt s x h))
+    sub_shrinks
+
+-- A final type with an empty vector of supertypes.
+pub empty_list : (bytes : List ℕ) (c : Composite) → composite_type standard bytes c → sub_type standard (0x4F ∷ 0x00 ∷ bytes) (alone_of c)
+empty_list bytes c h =
+    tagged_encodes {G = after_in admitted} standard 0x4F (0x00 ∷ bytes) (alone_of c)
+    (([], c), refl, (record { front = 0 ∷ []; back = bytes; joined = refl; first = record { front = 0 ∷ []; back = []; joined = refl; first = u32_small standard 0 (omega arith); second = refl }; second = h }, tt))
+
+-- The first bytes of subtypes, which begin no recursion group.
+abbrev pub IsSubByte : ℕ → Type 0
+IsSubByte b = b ≢ 0x4E
+
+prefixed_begins : (w : Grammar) → BeginsWith IsSubByte (prefixed_sub w)
+prefixed_begins w = choice_begins IsSubByte (sub_tags w) after_alone (omega arith, (omega arith, tt)) (λ b mode s x h. (composite_bytes b mode s h.0 h.2).0)
+
+pub sub_begins : BeginsWith IsSubByte sub_type
+sub_begins minimal = prefixed_begins builders minimal
+sub_begins padded = prefixed_begins builders padded
+sub_begins standard_minimal = prefixed_begins builders standard_minimal
+sub_begins standard = prefixed_begins admitted standard
 
 supertypes_encodes : (xs : List ℕ) (c : Composite) → IsEncodableVec (IsUnsignedInRange 32) xs → IsComposite c → supertypes_and minimal (vec_encoding unsigned_encoding xs ++ composite_encoding c) (xs, c)
 supertypes_encodes xs c encodable p = pair_encodes (vec u32) composite_type (vec_encoding unsigned_encoding xs) (composite_encoding c) xs c (vec_encodes u32 (IsUnsignedInRange 32) unsigned_encoding u32_encodes xs encodable) (composite_encodes c p)
 
 before_encodes : (is_final : Bool) (xs : List ℕ) (c : Composite) → IsEncodableVec (IsUnsignedInRange 32) xs → IsComposite c → sub_type minimal (before_encoding is_final xs ++ composite_encoding c) (sub_of is_final (xs, c))
-before_encodes true [] c encodable p = lifted IsCompositeByte alone_of {G = after_composite} {H = after_sub} composite_bytes at_sub minimal (composite_encoding c) c (composite_encodes c p)
+before_encodes true [] c encodable p = alone_encodes minimal (composite_encoding c) c (composite_encodes c p)
 before_encodes true (x ∷ xs) c encodable p =
-    tagged_encodes {G = after_sub} minimal 0x4F (vec_encoding unsigned_encoding (x ∷ xs) ++ composite_encoding c) (sub_of true (x ∷ xs, c)) ((x ∷ xs, c), refl, (supertypes_encodes (x ∷ xs) c encodable p, omega arith))
+    tagged_encodes {G = after_in builders} minimal 0x4F (vec_encoding unsigned_encoding (x ∷ xs) ++ composite_encoding c) (sub_of true (x ∷ xs, c)) ((x ∷ xs, c), refl, (supertypes_encodes (x ∷ xs) c encodable p, omega arith))
 before_encodes false xs c encodable p =
-    tagged_encodes {G = after_sub} minimal 0x50 (vec_encoding unsigned_encoding xs ++ composite_encoding c) (sub_of false (xs, c)) ((xs, c), refl, supertypes_encodes xs c encodable p)
+    tagged_encodes {G = after_in builders} minimal 0x50 (vec_encoding unsigned_encoding xs ++ composite_encoding c) (sub_of false (xs, c)) ((xs, c), refl, supertypes_encodes xs c encodable p)
 
 pub sub_encodes : (s : Sub) → IsSub s → sub_type minimal (sub_encoding s) s
 sub_encodes s p = before_encodes s.is_final s.supertypes s.composite p.supertypes p.composite
 
+-- ---- entries
+
+group_unambiguous : Unambiguous group_type
+group_unambiguous = choice_of byte (λ x. 0x4E) group_tags byte_unambiguous (mapped_unambiguous group (λ x y e. cc) (vec_unambiguous sub_unambiguous), tt) (λ mode s x h. refl, tt)
+
+abbrev IsGroupByte : ℕ → Type 0
+IsGroupByte b = b ≡ 0x4E
+
+group_begins : BeginsWith IsGroupByte group_type
+group_begins = choice_begins IsGroupByte group_tags (λ b. impossible) (refl, tt) (λ b mode s x h. absurd h)
+
+abbrev group_form : TypeItem → ℕ
+group_form (single s) = 0
+group_form (group subs) = 1
+
+pub type_unambiguous : Unambiguous type_item
+type_unambiguous =
+    one_of_unambiguous IsGroupByte IsSubByte (λ b p q. q p) group_begins (begins_mapped IsSubByte single sub_begins)
+    (none_in_common (λ x. group_form x ≡ 1) (λ x. group_form x ≡ 0) (λ x p q. omega (arith, p, q))
+    (values_tagged (λ x. group_form x ≡ 1) group_tags (values_mapped (λ x. group_form x ≡ 1) group (vec sub_type) (λ x. refl), tt))
+    (values_mapped (λ x. group_form x ≡ 0) single sub_type (λ x. refl)))
+    group_unambiguous (mapped_unambiguous single (λ x y e. cc) sub_unambiguous)
+
 pub type_encodes : (t : TypeItem) → IsType t → type_item minimal (type_encoding t) t
-type_encodes (single s) p =
-    lifted (λ b. b ≢ 0x4E) single {G = after_sub} {H = after_type} sub_bytes (λ b p mode s x h. other_at 0x4E (mapped group (vec sub_type)) not_group b p mode s (single x) (x, refl, h)) minimal (sub_encoding s) s (sub_encodes s p)
-type_encodes (group subs) p =
-    tagged_encodes {G = after_type} minimal 0x4E (vec_encoding sub_encoding subs) (group subs) (subs, refl, vec_encodes sub_type IsSub sub_encoding sub_encodes subs p)
+type_encodes (single s) p = inr (s, refl, sub_encodes s p)
+type_encodes (group subs) p = inl (tagged_encodes minimal 0x4E (vec_encoding sub_encoding subs) (group subs) (subs, refl, vec_encodes sub_type IsSub sub_encoding sub_encodes subs p))
 
 pub type_laws : ItemLaws type_items
 type_laws = record { unique = type_unambiguous; encodes = λ t plain encodable. type_encodes t plain }

@@ -1,8 +1,8 @@
 -- This file defines the types of a type section, their encodings and their formats. Core
 -- specification, Binary Format, Types, and Modules, Type Section.
 use Rattle.std.specs.Prelude.{ℕ, ◌^◌, ◌<◌, List, [], ◌∷◌, ◌++◌, length, Bool, true, false, Option, Some, None, IfSome, pos}
-use Rattle.wasm_base.specs.Words.{Kind, ContainsItems, Format, u32, byte, s33, fixed, impossible, coded, mapped, such, pair, tagged, choice, vec, IsUnsignedInRange, unsigned_encoding, signed_encoding}
-use Rattle.wasm_base.specs.Words.{vec_encoding, IsEncodableVec, val_type, val_encoding, IsVal, val_tags, val_ref, SectionDecoding, decoding_of, number_of}
+use Rattle.wasm_base.specs.Words.{Kind, ContainsItems, Format, Grammar, builders, admitted, by_mode, after_byte, u32, byte, s33, fixed, impossible, coded, mapped, such, pair, tagged, choice, one_of}
+use Rattle.wasm_base.specs.Words.{vec, IsUnsignedInRange, unsigned_encoding, signed_encoding, vec_encoding, IsEncodableVec, val_type, val_encoding, IsVal, SectionDecoding, decoding_of, number_of}
 use Rattle.wasm_base.specs.declared.types.ValType.{ValType}
 use Rattle.wasm_types.specs.declared.types.FieldType.{FieldType}
 use Rattle.wasm_types.specs.declared.types.StorageType.{StorageType}
@@ -148,13 +148,13 @@ IsType (group subs) = IsEncodableVec IsSub subs
 abbrev pub storage_tags : List (ℕ × Format StorageType)
 storage_tags = (0x78, fixed [] I8) ∷ (0x77, fixed [] I16) ∷ []
 
--- A storage type with the first byte `b` that is a value type.
-abbrev pub storage_val : ℕ → Format StorageType
-storage_val b = mapped Val (choice val_tags val_ref b)
+-- A packed type: one byte, which begins no value type.
+abbrev pub packed_type : Format StorageType
+packed_type = tagged byte (choice storage_tags (λ b. impossible))
 
--- A storage type: the byte of a packed type, or a value type.
+-- A storage type: a packed type or a value type.
 abbrev pub storage_type : Format StorageType
-storage_type = tagged byte (choice storage_tags storage_val)
+storage_type = one_of packed_type (mapped Val val_type)
 
 -- The field type of this storage type and mutability.
 abbrev pub field_of : StorageType × Bool → FieldType
@@ -211,10 +211,6 @@ after_composite b = choice ((0x65, mapped (composite_of true) (tagged byte after
 abbrev pub composite_type : Format Composite
 composite_type = tagged byte after_composite
 
--- There is a supertype.
-abbrev pub HasSupertypes : List ℕ × Composite → Type 0
-HasSupertypes parts = 0 < length parts.0
-
 -- The subtype of these supertypes, final or not.
 abbrev pub sub_of : Bool → List ℕ × Composite → Sub
 sub_of is_final parts = record { is_final = is_final; supertypes = parts.0; composite = parts.1 }
@@ -227,26 +223,44 @@ alone_of composite = record { is_final = true; supertypes = []; composite = comp
 abbrev pub supertypes_and : Format (List ℕ × Composite)
 supertypes_and = pair (vec u32) composite_type
 
+-- The byte 4F may precede this vector of supertypes and this composite type. The builders' grammar
+-- has it where there is a supertype, and the standard's also before an empty vector.
+abbrev pub HasFinalPrefix : Grammar → List ℕ × Composite → Type 0
+HasFinalPrefix builders parts = 0 < length parts.0
+HasFinalPrefix admitted parts = Unit {0}
+
 -- The formats after 50 and 4F. Any other first byte of a subtype begins its composite type.
-abbrev pub sub_tags : List (ℕ × Format Sub)
-sub_tags = (0x50, mapped (sub_of false) supertypes_and) ∷ (0x4F, mapped (sub_of true) (such HasSupertypes supertypes_and)) ∷ []
+abbrev pub sub_tags : Grammar → List (ℕ × Format Sub)
+sub_tags w = (0x50, mapped (sub_of false) supertypes_and) ∷ (0x4F, mapped (sub_of true) (such (HasFinalPrefix w) supertypes_and)) ∷ []
+
+-- A composite type alone after its first byte `b`: a final subtype without supertypes.
+abbrev pub after_alone : ℕ → Format Sub
+after_alone b = mapped alone_of (after_composite b)
+
+-- A subtype with the prefixes of this grammar: 50, or 4F if it is final, supertypes and a composite
+-- type; or a composite type alone.
+abbrev pub prefixed_sub : Grammar → Format Sub
+prefixed_sub w = tagged byte (choice (sub_tags w) after_alone)
+
+-- A subtype. The minimal encoding of a final type without supertypes is its composite type alone.
+abbrev pub sub_type : Format Sub
+sub_type = by_mode (prefixed_sub builders) (prefixed_sub builders) (prefixed_sub admitted)
 
 -- A subtype after its first byte `b`.
 abbrev pub after_sub : ℕ → Format Sub
-after_sub b = choice sub_tags (λ c. mapped alone_of (after_composite c)) b
+after_sub b = after_byte sub_type b
 
--- A subtype: 50, or 4F if it is final, supertypes and a composite type. A final type without
--- supertypes is the composite type alone.
-abbrev pub sub_type : Format Sub
-sub_type = tagged byte after_sub
+-- The format after 4E.
+abbrev pub group_tags : List (ℕ × Format TypeItem)
+group_tags = (0x4E, mapped group (vec sub_type)) ∷ []
 
--- An entry after its first byte `b`.
-abbrev pub after_type : ℕ → Format TypeItem
-after_type b = choice ((0x4E, mapped group (vec sub_type)) ∷ []) (λ c. mapped single (after_sub c)) b
+-- A recursion group: 4E, which begins no subtype, and a vector of subtypes.
+abbrev pub group_type : Format TypeItem
+group_type = tagged byte (choice group_tags (λ b. impossible))
 
--- An entry: 4E and a vector of subtypes, or a subtype alone.
+-- An entry: a recursion group or a subtype alone.
 abbrev pub type_item : Format TypeItem
-type_item = tagged byte after_type
+type_item = one_of group_type (mapped single sub_type)
 
 -- The kind of the entries of a type section.
 abbrev pub type_items : Kind TypeItem TypeItem

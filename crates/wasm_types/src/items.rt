@@ -1,16 +1,17 @@
 // The decoded entries of a type section: subtypes and recursion groups.
 ghost use Rattle.std.specs.Prelude.{◌≢◌, IfOk, IfErr};
-ghost use Rattle.wasm_base.specs.Numbers.{padded};
+ghost use Rattle.wasm_base.specs.Formats.{such};
+ghost use Rattle.wasm_base.specs.Numbers.{padded_of};
 ghost use Rattle.wasm_base.specs.Decoding.{Decodes, Rejects};
 ghost use Rattle.wasm_base.specs.declared.fault.ReadFault.TheVariants.{Memory};
 ghost use Rattle.wasm_types.specs.Given.{composite_in};
-ghost use Rattle.wasm_types.specs.RecTypes.{supertypes_and, after_sub, sub_encoding, sub_type, type_item, Sub, TypeItem as Entry};
+ghost use Rattle.wasm_types.specs.RecTypes.{supertypes_and, HasFinalPrefix, after_sub, sub_encoding, sub_type, type_item, Sub, TypeItem as Entry};
 ghost use Rattle.wasm_types.specs.Items.{sub_view, IsEncodableSubItem, entry_view};
 
-use crate::shapes::read_composite_after;
+use crate::shapes::{read_composite, read_composite_after};
 use crate::types::CompositeType;
 use std::alloc::{Allocator, Global};
-use wasm_base::{Encode, Layout, Lent, ReadFault, Readable, Result};
+use wasm_base::{DecodeError, Encode, Grammar, Layout, Lent, ReadFault, Readable, Result};
 
 /// A decoded subtype: its supertypes, and whether it is final, so that it can have no subtypes.
 #[derive(Drop, Debug)]
@@ -30,31 +31,48 @@ pub enum TypeEntry<A: Allocator = Global> {
 }
 
 /// Decodes supertypes, and a composite type.
-fn read_supertypes_and<'a, A: Allocator + Copy>(
+fn read_supertypes_and<'a, A: Allocator + Copy, G: Grammar>(
     bytes: &'a [u8],
     alloc: A,
-) -> Result<(Vec<u32, A>, CompositeType<A>, &'a [u8]), ReadFault>
-    ensures found { IfOk result (λ x. Decodes supertypes_and padded bytes.now (x.0.items, composite_in x.1) x.2.now) }
-    ensures none { IfErr result (λ e. e ≢ Memory → Rejects supertypes_and padded bytes.now) }
+) -> Result<(Vec<u32, A>, CompositeType<A>, &'a [u8]), DecodeError>
+    ensures found { IfOk result (λ x. Decodes supertypes_and (padded_of G.grammar) bytes.now (x.0.items, composite_in x.1) x.2.now) }
+    ensures none { IfErr result (λ e. e.cause ≢ Memory → Rejects supertypes_and (padded_of G.grammar) bytes.now) }
 {
-    let ((supertypes, tag), rest) = <(Vec<u32, A>, u8) as Readable<'a, A>>::read(bytes, alloc)?;
-    let (composite_type, rest) = read_composite_after(tag, rest, alloc)?;
+    let (supertypes, rest) = <Vec<u32, A> as Readable<'a, A, G>>::read(bytes, alloc)?;
+    let (composite_type, rest) = read_composite::<A, G>(rest, alloc)?;
+    Ok((supertypes, composite_type, rest))
+}
+
+/// Decodes the supertypes of a final type, and its composite type. Only the standard's grammar has
+/// an empty vector of supertypes here.
+fn read_final_and<'a, A: Allocator + Copy, G: Grammar>(
+    bytes: &'a [u8],
+    alloc: A,
+) -> Result<(Vec<u32, A>, CompositeType<A>, &'a [u8]), DecodeError>
+    ensures found { IfOk result (λ x. Decodes (such (HasFinalPrefix G.grammar) supertypes_and) (padded_of G.grammar) bytes.now (x.0.items, composite_in x.1) x.2.now) }
+    ensures none { IfErr result (λ e. e.cause ≢ Memory → Rejects (such (HasFinalPrefix G.grammar) supertypes_and) (padded_of G.grammar) bytes.now) }
+{
+    let (supertypes, rest) = <Vec<u32, A> as Readable<'a, A, G>>::read(bytes, alloc)?;
+    if supertypes.is_empty() && !G::is_standard() {
+        return Err(ReadFault::UnknownTag.just_before(rest));
+    }
+    let (composite_type, rest) = read_composite::<A, G>(rest, alloc)?;
     Ok((supertypes, composite_type, rest))
 }
 
 /// Decodes a subtype after its first byte, `tag`.
 #[tactic(auto, using(crate::proofs::DecodeItems::sub_steps))]
-fn read_sub_after<'a, A: Allocator + Copy>(
+fn read_sub_after<'a, A: Allocator + Copy, G: Grammar>(
     tag: u8,
     bytes: &'a [u8],
     alloc: A,
-) -> Result<(SubItem<A>, &'a [u8]), ReadFault>
-    ensures found { IfOk result (λ x. Decodes (after_sub tag) padded bytes.now (sub_view x.0) x.1.now) }
-    ensures none { IfErr result (λ e. e ≢ Memory → Rejects (after_sub tag) padded bytes.now) }
+) -> Result<(SubItem<A>, &'a [u8]), DecodeError>
+    ensures found { IfOk result (λ x. Decodes (after_sub tag) (padded_of G.grammar) bytes.now (sub_view x.0) x.1.now) }
+    ensures none { IfErr result (λ e. e.cause ≢ Memory → Rejects (after_sub tag) (padded_of G.grammar) bytes.now) }
 {
     match tag {
         0x50 => {
-            let (supertypes, composite_type, rest) = read_supertypes_and(bytes, alloc)?;
+            let (supertypes, composite_type, rest) = read_supertypes_and::<A, G>(bytes, alloc)?;
             let sub = SubItem {
                 is_final: false,
                 supertypes,
@@ -63,10 +81,7 @@ fn read_sub_after<'a, A: Allocator + Copy>(
             Ok((sub, rest))
         }
         0x4F => {
-            let (supertypes, composite_type, rest) = read_supertypes_and(bytes, alloc)?;
-            if supertypes.is_empty() {
-                return Err(ReadFault::UnknownTag);
-            }
+            let (supertypes, composite_type, rest) = read_final_and::<A, G>(bytes, alloc)?;
             let sub = SubItem {
                 is_final: true,
                 supertypes,
@@ -75,7 +90,7 @@ fn read_sub_after<'a, A: Allocator + Copy>(
             Ok((sub, rest))
         }
         _ => {
-            let (composite_type, rest) = read_composite_after(tag, bytes, alloc)?;
+            let (composite_type, rest) = read_composite_after::<A, G>(tag, bytes, alloc)?;
             let sub = SubItem {
                 is_final: true,
                 supertypes: Vec::new(alloc),
@@ -97,10 +112,10 @@ impl<A: Allocator> Layout for SubItem<A> {
     fn laws() {}
 }
 
-impl<'a, A: Allocator + Copy> Readable<'a, A> for SubItem<A> {
-    fn read(bytes: &'a [u8], alloc: A) -> Result<(SubItem<A>, &'a [u8]), ReadFault> {
-        let (tag, rest) = <u8 as Readable<'a, A>>::read(bytes, alloc)?;
-        read_sub_after(tag, rest, alloc)
+impl<'a, A: Allocator + Copy, G: Grammar> Readable<'a, A, G> for SubItem<A> {
+    fn read(bytes: &'a [u8], alloc: A) -> Result<(SubItem<A>, &'a [u8]), DecodeError> {
+        let (tag, rest) = <u8 as Readable<'a, A, G>>::read(bytes, alloc)?;
+        read_sub_after::<A, G>(tag, rest, alloc)
     }
 }
 
@@ -115,14 +130,14 @@ impl<A: Allocator> Layout for TypeEntry<A> {
     fn laws() {}
 }
 
-impl<'a, A: Allocator + Copy> Readable<'a, A> for TypeEntry<A> {
-    fn read(bytes: &'a [u8], alloc: A) -> Result<(TypeEntry<A>, &'a [u8]), ReadFault> {
-        let (tag, rest) = <u8 as Readable<'a, A>>::read(bytes, alloc)?;
+impl<'a, A: Allocator + Copy, G: Grammar> Readable<'a, A, G> for TypeEntry<A> {
+    fn read(bytes: &'a [u8], alloc: A) -> Result<(TypeEntry<A>, &'a [u8]), DecodeError> {
+        let (tag, rest) = <u8 as Readable<'a, A, G>>::read(bytes, alloc)?;
         if tag == 0x4E {
-            let (types, rest) = <Vec<SubItem<A>, A> as Readable<'a, A>>::read(rest, alloc)?;
+            let (types, rest) = <Vec<SubItem<A>, A> as Readable<'a, A, G>>::read(rest, alloc)?;
             Ok((TypeEntry::Group(types), rest))
         } else {
-            let (sub, rest) = read_sub_after(tag, rest, alloc)?;
+            let (sub, rest) = read_sub_after::<A, G>(tag, rest, alloc)?;
             Ok((TypeEntry::Single(sub), rest))
         }
     }

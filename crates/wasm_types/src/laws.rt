@@ -1,12 +1,13 @@
 //! Laws about type sections, for all byte sequences: each function does nothing, and its clauses
 //! are the law.
-ghost use Rattle.std.specs.Prelude.{[], ◌∷◌};
+ghost use Rattle.std.specs.Prelude.{ℕ, List, [], ◌∷◌};
 ghost use Rattle.wasm_base.specs.Entries.{ItemLaws, counted_format};
 ghost use Rattle.wasm_base.specs.Formats.{vec};
 ghost use Rattle.wasm_base.specs.Laws.{ContainsMore, ContainsMorePadded, RejectsAllAfterPadded};
 ghost use Rattle.wasm_base.specs.Modules.{DecodesPayloads, DecodesPayloadsPadded};
+ghost use Rattle.wasm_base.specs.Numbers.{standard};
 ghost use Rattle.wasm_base.specs.Decoding.{Unambiguous, UnambiguousPadded};
-ghost use Rattle.wasm_types.specs.RecTypes.{storage_type, field_type, composite_type, sub_type, type_item, type_items};
+ghost use Rattle.wasm_types.specs.RecTypes.{Composite, alone_of, storage_type, field_type, composite_type, sub_type, type_item, type_items};
 
 /// The formats of type sections, of types and of their components are unambiguous. A well-formed
 /// record encodes its item.
@@ -18,6 +19,13 @@ pub fn types()
     ensures field { Unambiguous field_type }
     ensures storage { Unambiguous storage_type }
     ensures items { ItemLaws type_items }
+{}
+
+/// The standard's grammar also has a final type with an empty list of supertypes before its
+/// composite type. It is the same subtype as the composite type alone.
+#[tactic(auto, using(crate::proofs::TypeLaws::empty_list))]
+pub fn standard()
+    ensures { (bytes : List ℕ) (composite : Composite) → composite_type standard bytes composite → sub_type standard (0x4F ∷ 0x00 ∷ bytes) (alone_of composite) }
 {}
 
 /// With padded numbers the formats of type sections and types are unambiguous too. A minimal
@@ -51,9 +59,9 @@ pub fn padded_payloads()
     ensures { DecodesPayloadsPadded (vec type_item) }
 {}
 
-/// These three byte sequences encode no type section, with padded numbers neither. In the first a
-/// structure has a field of mutability 2. In the second the byte of a group is padded. In the third
-/// a final type has an empty list of supertypes.
+/// These three byte sequences encode no type section in the builders' grammar, with padded numbers
+/// neither. In the first a structure has a field of mutability 2. In the second the byte of a group
+/// is padded. In the third a final type has an empty list of supertypes, which the standard admits.
 #[tactic(auto, using(crate::proofs::RejectionLaws::nothing))]
 pub fn rejections()
     ensures mutability_of_2 { RejectsAllAfterPadded (counted_format type_item) (5 ∷ 1 ∷ 95 ∷ 1 ∷ 127 ∷ 2 ∷ []) }

@@ -7,7 +7,7 @@ ghost use Rattle.wasm_base.specs.Entries.{ContainsPadded, counted_format};
 ghost use Rattle.wasm_base.specs.Formats.{vec};
 ghost use Rattle.wasm_base.specs.Continuing.{RejectsWhole};
 ghost use Rattle.wasm_base.specs.Iterators.{HasKnownLength};
-ghost use Rattle.wasm_base.specs.Numbers.{padded};
+ghost use Rattle.wasm_base.specs.Numbers.{padded_of};
 ghost use Rattle.wasm_base.specs.Pieces.{section_encoding, IsEncodableSection, IsOverlong};
 ghost use Rattle.wasm_base.specs.Encodings.{IsEncodableVec};
 ghost use Rattle.wasm_base.specs.declared.refused.Refused.TheVariants.{TooLong};
@@ -22,8 +22,8 @@ use crate::types::{ARRAY, ContType, FUNC, FieldType, FuncType, STRUCT, StorageTy
 use std::alloc::{Allocator, Global};
 use std::marker::Model;
 use wasm_base::{
-    Counted, Encode, Kind, Pieces, ReadFault, Result, Section, SectionId, ValType, read_whole,
-    vec_of,
+    Counted, DecodeError, Encode, Grammar, Kind, Pieces, Result, Section, SectionId, ValType,
+    read_whole, vec_of,
 };
 
 /// The type section: the types that a module defines, modelled as the bytes of each entry.
@@ -86,8 +86,8 @@ impl<A: Allocator> TypeSection<A> {
         self.pieces.get(index)
     }
 
-    /// Adds an entry that is already encoded. The call does not check that it is a type or a recursion
-    /// group.
+    /// Adds an entry that is already encoded. The call does not check that it is a type or a
+    /// recursion group.
     pub fn raw(&mut self, entry: &[u8]) -> Result<()>
         ensures { Adds entry.now ⊤ self.old self.new result }
     {
@@ -277,20 +277,20 @@ impl<'a, A: Allocator> CoreTypeEncoder<'a, A> {
 /// The byte before a recursion group.
 pub(crate) const REC: u8 = 0x4E;
 
-/// Decodes the payload of a type section: a count and that many types, padded numbers included.
-/// They must occupy all of the bytes.
+/// Decodes the payload of a type section, in the grammar `G`: a count and that many types. They
+/// must occupy all of the bytes.
 ///
 /// # Errors
 ///
 /// Any error but `Memory` means that the bytes are not such a payload.
-pub fn read_types<'a, A: Allocator + Copy>(
+pub fn read_types<'a, A: Allocator + Copy, G: Grammar>(
     bytes: &'a [u8],
     alloc: A,
-) -> Result<Vec<TypeEntry<A>, A>, ReadFault>
-    ensures found { IfOk result (λ x. vec type_item padded bytes.now (map entry_view x.items)) }
-    ensures none { IfErr result (λ e. e ≢ Memory → RejectsWhole (vec type_item) bytes.now) }
+) -> Result<Vec<TypeEntry<A>, A>, DecodeError>
+    ensures found { IfOk result (λ x. vec type_item (padded_of G.grammar) bytes.now (map entry_view x.items)) }
+    ensures none { IfErr result (λ e. e.cause ≢ Memory → RejectsWhole (vec type_item) (padded_of G.grammar) bytes.now) }
 {
-    read_whole::<'a, Vec<TypeEntry<A>, A>, A>(bytes, alloc)
+    read_whole::<'a, Vec<TypeEntry<A>, A>, A, G>(bytes, alloc)
 }
 
 /// Appends the minimal encoding of a type section's payload: the number of types, and the types. On

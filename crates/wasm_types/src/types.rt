@@ -1,6 +1,6 @@
 // The types that a module can define: functions, structures, arrays and continuations.
 ghost use Rattle.std.specs.Iterator.{IsFinite, Drains};
-ghost use Rattle.std.specs.Prelude.{◌≡◌, ◌≢◌, ◌∷◌, ◌++◌, [], ℕ, pos, IfOk, ⊤};
+ghost use Rattle.std.specs.Prelude.{◌≡◌, ◌≢◌, ◌∷◌, [], pos, IfOk, ⊤};
 ghost use Rattle.wasm_base.specs.declared.refused.Refused.TheVariants.{TooLong};
 ghost use Rattle.wasm_base.specs.Numbers.{signed_encoding};
 ghost use Rattle.wasm_base.specs.Encodings.{vec_encoding, IsEncodableVec};

@@ -3,7 +3,8 @@
 
 use crate::vec::Sink;
 use crate::base::encode::Encode;
-use crate::base::fault::ReadFault;
+use crate::base::fault::{DecodeError, ReadFault};
+use crate::base::grammar::Grammar;
 use crate::base::readable::{Layout, Readable};
 use crate::base::refused::Result;
 use crate::alloc::Allocator;
@@ -44,11 +45,11 @@ impl Layout for u8 {
     fn laws() {}
 }
 
-impl<'a, A: Allocator + Copy> Readable<'a, A> for u8 {
+impl<'a, A: Allocator + Copy, G: Grammar> Readable<'a, A, G> for u8 {
     #[inline]
-    fn read(bytes: &'a [u8], _alloc: A) -> Result<(u8, &'a [u8]), ReadFault> {
+    fn read(bytes: &'a [u8], _alloc: A) -> Result<(u8, &'a [u8]), DecodeError> {
         match bytes {
-            [] => Err(ReadFault::Ended),
+            [] => Err(ReadFault::Ended.at(bytes)),
             [b, rest @ ..] => Ok((*b, rest)),
         }
     }
@@ -67,11 +68,11 @@ impl Layout for i128 {
     fn laws() {}
 }
 
-impl<'a, A: Allocator + Copy> Readable<'a, A> for i128 {
-    fn read(bytes: &'a [u8], _alloc: A) -> Result<(i128, &'a [u8]), ReadFault> {
+impl<'a, A: Allocator + Copy, G: Grammar> Readable<'a, A, G> for i128 {
+    fn read(bytes: &'a [u8], _alloc: A) -> Result<(i128, &'a [u8]), DecodeError> {
         match bytes.split_first_chunk::<16>() {
             Some((front, rest)) => Ok((i128::from_le_bytes(*front), rest)),
-            None => Err(ReadFault::Ended),
+            None => Err(ReadFault::Ended.at(b"")),
         }
     }
 }
@@ -81,11 +82,11 @@ impl Layout for [u8; 16] {
     fn laws() {}
 }
 
-impl<'a, A: Allocator + Copy> Readable<'a, A> for [u8; 16] {
-    fn read(bytes: &'a [u8], _alloc: A) -> Result<([u8; 16], &'a [u8]), ReadFault> {
+impl<'a, A: Allocator + Copy, G: Grammar> Readable<'a, A, G> for [u8; 16] {
+    fn read(bytes: &'a [u8], _alloc: A) -> Result<([u8; 16], &'a [u8]), DecodeError> {
         match bytes.split_first_chunk::<16>() {
             Some((front, rest)) => Ok((*front, rest)),
-            None => Err(ReadFault::Ended),
+            None => Err(ReadFault::Ended.at(b"")),
         }
     }
 }

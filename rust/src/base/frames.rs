@@ -3,11 +3,13 @@
 
 use crate::vec::Sink;
 use crate::base::encode::Encode;
-use crate::base::fault::ReadFault;
+use crate::base::fault::DecodeError;
+use crate::base::grammar::Grammar;
 use crate::base::leb128::encoding_size;
 use crate::base::readable::{Layout, Readable};
 use crate::base::refused::{Refused, Result};
 use crate::base::shorten::Shorten;
+use crate::base::whole::read_before;
 use crate::alloc::Allocator;
 
 /// Appends a size prefix, and reserves spare capacity for the payload that the caller appends next.
@@ -106,16 +108,12 @@ impl<T: Layout> Layout for SizePrefixed<T> {
     }
 }
 
-impl<'a, A: Allocator + Copy, T: Readable<'a, A>> Readable<'a, A> for SizePrefixed<T> {
-    fn read(bytes: &'a [u8], alloc: A) -> Result<(SizePrefixed<T>, &'a [u8]), ReadFault> {
-        let (content, rest) = <&'a [u8] as Readable<'a, A>>::read(bytes, alloc)?;
-        let (value, left) = T::read(content, alloc)?;
-        T::laws();
-        if left.is_empty() {
-            Ok((SizePrefixed(value), rest))
-        } else {
-            Err(ReadFault::SizeMismatch)
-        }
+impl<'a, A: Allocator + Copy, G: Grammar, T: Readable<'a, A, G>> Readable<'a, A, G>
+    for SizePrefixed<T> {
+    fn read(bytes: &'a [u8], alloc: A) -> Result<(SizePrefixed<T>, &'a [u8]), DecodeError> {
+        let (content, rest) = <&'a [u8] as Readable<'a, A, G>>::read(bytes, alloc)?;
+        let value = read_before::<T, A, G>(content, rest, alloc)?;
+        Ok((SizePrefixed(value), rest))
     }
 }
 

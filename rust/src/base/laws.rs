@@ -4,9 +4,9 @@
 //!
 //! `Unambiguous F` says that the format `F` is unambiguous: at most one value decodes from the
 //! front of any bytes, with minimal and with padded numbers. A value has at most one minimal
-//! encoding. `HasMinimalEncodings F encodable encoding` says that `encoding` is the minimal encoding of each value that
-//! fits. No clause ranges over all formats, so each vector and each size-prefixed format has a
-//! clause of its own.
+//! encoding. `HasMinimalEncodings F encodable encoding` says that `encoding` is the minimal
+//! encoding of each value that fits. No clause ranges over all formats, so each vector and each
+//! size-prefixed format has a clause of its own.
 
 /// The formats of numbers are unambiguous. `s33` is an index, encoded as a signed number.
 ///
@@ -93,6 +93,18 @@ pub fn padded_payloads() {}
 /// ensures value_encodings { HasMinimalEncodings val_type IsVal val_encoding }
 /// ```
 pub fn types() {}
+
+/// In the standard's grammar, the byte of an abstract heap type is the minimal encoding of the
+/// nullable reference type to it. In the builders' grammar only 70 and 6F are.
+///
+/// # Proved
+///
+/// ```text
+/// ensures reference { (ty : AbstractHeapType) → ref_type standard_minimal (abstract_code ty ∷ []) (nullable_abstract ty) }
+/// ensures long { (heap : HeapType) (s : List ℕ) → heap_type standard s heap → ref_type standard (0x63 ∷ s) (nullable_to heap) }
+/// ensures builders { (ty : AbstractHeapType) (rest : List ℕ) → ty ≢ Func → ty ≢ Extern → Rejects ref_type padded (abstract_code ty ∷ rest) }
+/// ```
+pub fn standard_types() {}
 
 /// The values of the constants of types.
 ///

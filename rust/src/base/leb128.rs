@@ -1,10 +1,11 @@
 // Written by tools/to-rust from crates/wasm_base/src/leb128.rt: change that.
-// LEB128 numbers: encodes them in their minimal form, and decodes minimal and padded ones. One byte is
-// decoded inline, up to five in 64 bits.
+// LEB128 numbers: encodes them in their minimal form, and decodes minimal and padded ones. One byte
+// is decoded inline, up to five in 64 bits.
 
 use crate::vec::Sink;
 use crate::base::encode::Encode;
-use crate::base::fault::ReadFault;
+use crate::base::fault::{DecodeError, ReadFault};
+use crate::base::grammar::Grammar;
 use crate::base::readable::{Layout, Readable};
 use crate::base::refused::{Refused, Result};
 use crate::base::shorten::Shorten;
@@ -348,15 +349,6 @@ pub struct Groups {
     pub last: u8,
 }
 
-/// Why no number is at the front of the bytes.
-#[derive(Clone, Copy, PartialEq, Eq, Debug)]
-pub enum NoGroups {
-    /// The bytes end before the last group.
-    Ended,
-    /// There are more groups than the limit.
-    TooMany,
-}
-
 /// Decodes the groups at the front, at most `limit` of them, and returns them with the remaining
 /// bytes.
 ///
@@ -373,15 +365,15 @@ pub enum NoGroups {
 /// ensures power { IfOk result (λ x. x.0.power ≤ 128 ^ limit) }
 /// ensures below { IfOk result (λ x. x.0.sum < x.0.power) }
 /// ensures none { IfErr result (λ _. Rejects (groups limit) padded bytes.now) }
-/// ensures ended { IfErr result (λ e. e ≡ Ended → length bytes.now < limit) }
-/// ensures too_many { IfErr result (λ e. e ≡ TooMany → limit ≤ length bytes.now) }
+/// ensures ended { IfErr result (λ e. e.cause ≡ Ended → length bytes.now < limit) }
+/// ensures too_many { IfErr result (λ e. e.cause ≡ TooLarge → limit ≤ length bytes.now) }
 /// ```
-pub fn read_groups(bytes: &[u8], limit: u8) -> Result<(Groups, &[u8]), NoGroups> {
+pub fn read_groups(bytes: &[u8], limit: u8) -> Result<(Groups, &[u8]), DecodeError> {
     if limit == 0 {
-        return Err(NoGroups::TooMany);
+        return Err(ReadFault::TooLarge.just_before(bytes));
     }
     match bytes {
-        [] => Err(NoGroups::Ended),
+        [] => Err(ReadFault::Ended.at(bytes)),
         [b, rest @ ..] => {
             if *b < 0x80 {
                 let last = Groups {
@@ -464,13 +456,13 @@ struct FewGroups {
 /// ensures none { IfErr result (λ _. Rejects (groups 5) padded bytes.now) }
 /// ```
 #[inline]
-fn read_few_groups(bytes: &[u8]) -> Result<(FewGroups, &[u8]), NoGroups> {
+fn read_few_groups(bytes: &[u8]) -> Result<(FewGroups, &[u8]), DecodeError> {
     let mut rest = bytes;
     let mut sum: u64 = 0;
     let mut power: u64 = 1;
     for _group in 0..5u8 {
         let [b, after @ ..] = rest else {
-            return Err(NoGroups::Ended);
+            return Err(ReadFault::Ended.at(rest));
         };
         sum += power * u64::from(*b % 0x80);
         power *= 0x80;
@@ -484,7 +476,7 @@ fn read_few_groups(bytes: &[u8]) -> Result<(FewGroups, &[u8]), NoGroups> {
         }
         rest = after;
     }
-    Err(NoGroups::TooMany)
+    Err(ReadFault::TooLarge.just_before(rest))
 }
 
 /// Returns the number that at most five groups encode in two's complement.
@@ -514,16 +506,16 @@ fn signed_few(groups: FewGroups) -> i64 {
 /// # Proved
 ///
 /// ```text
-/// ensures found { IfOk result (λ x. Decodes u32_format padded bytes.now x.0 x.1.now) }
-/// ensures none { IfErr result (λ e. e ≢ Memory → Rejects u32_format padded bytes.now) }
+/// ensures found { IfOk result (λ x. Decodes u32_format (padded_of G.grammar) bytes.now x.0 x.1.now) }
+/// ensures none { IfErr result (λ e. e.cause ≢ Memory → Rejects u32_format (padded_of G.grammar) bytes.now) }
 /// ```
 #[inline(never)]
-fn read_long_u32(bytes: &[u8]) -> Result<(u32, &[u8]), ReadFault> {
+fn read_long_u32<G: Grammar>(bytes: &[u8]) -> Result<(u32, &[u8]), DecodeError> {
     let (groups, rest) = read_few_groups(bytes)?;
     if groups.sum < 1 << 32 {
         Ok((groups.sum as u32, rest))
     } else {
-        Err(ReadFault::TooLarge)
+        Err(ReadFault::TooLarge.just_before(rest))
     }
 }
 
@@ -532,11 +524,11 @@ fn read_long_u32(bytes: &[u8]) -> Result<(u32, &[u8]), ReadFault> {
 /// # Proved
 ///
 /// ```text
-/// ensures found { IfOk result (λ x. Decodes u64_format padded bytes.now x.0 x.1.now) }
-/// ensures none { IfErr result (λ e. e ≢ Memory → Rejects u64_format padded bytes.now) }
+/// ensures found { IfOk result (λ x. Decodes u64_format (padded_of G.grammar) bytes.now x.0 x.1.now) }
+/// ensures none { IfErr result (λ e. e.cause ≢ Memory → Rejects u64_format (padded_of G.grammar) bytes.now) }
 /// ```
 #[inline(never)]
-fn read_long_u64(bytes: &[u8]) -> Result<(u64, &[u8]), ReadFault> {
+fn read_long_u64<G: Grammar>(bytes: &[u8]) -> Result<(u64, &[u8]), DecodeError> {
     if let Ok((groups, rest)) = read_few_groups(bytes) {
         return Ok((groups.sum, rest));
     }
@@ -544,7 +536,7 @@ fn read_long_u64(bytes: &[u8]) -> Result<(u64, &[u8]), ReadFault> {
     if groups.sum < 1 << 64 {
         Ok((groups.sum as u64, rest))
     } else {
-        Err(ReadFault::TooLarge)
+        Err(ReadFault::TooLarge.just_before(rest))
     }
 }
 
@@ -553,20 +545,20 @@ fn read_long_u64(bytes: &[u8]) -> Result<(u64, &[u8]), ReadFault> {
 /// # Proved
 ///
 /// ```text
-/// ensures found { IfOk result (λ x. Decodes s32 padded bytes.now x.0 x.1.now) }
-/// ensures none { IfErr result (λ e. e ≢ Memory → Rejects s32 padded bytes.now) }
+/// ensures found { IfOk result (λ x. Decodes s32 (padded_of G.grammar) bytes.now x.0 x.1.now) }
+/// ensures none { IfErr result (λ e. e.cause ≢ Memory → Rejects s32 (padded_of G.grammar) bytes.now) }
 /// ```
 #[inline(never)]
-fn read_long_i32(bytes: &[u8]) -> Result<(i32, &[u8]), ReadFault> {
+fn read_long_i32<G: Grammar>(bytes: &[u8]) -> Result<(i32, &[u8]), DecodeError> {
     let (groups, rest) = read_few_groups(bytes)?;
     let value = signed_few(groups);
     if value < -0x8000_0000 {
-        return Err(ReadFault::TooLarge);
+        return Err(ReadFault::TooLarge.just_before(rest));
     }
     if value < 0x8000_0000 {
         Ok((value as i32, rest))
     } else {
-        Err(ReadFault::TooLarge)
+        Err(ReadFault::TooLarge.just_before(rest))
     }
 }
 
@@ -575,23 +567,23 @@ fn read_long_i32(bytes: &[u8]) -> Result<(i32, &[u8]), ReadFault> {
 /// # Proved
 ///
 /// ```text
-/// ensures found { IfOk result (λ x. Decodes s64 padded bytes.now x.0 x.1.now) }
-/// ensures none { IfErr result (λ e. e ≢ Memory → Rejects s64 padded bytes.now) }
+/// ensures found { IfOk result (λ x. Decodes s64 (padded_of G.grammar) bytes.now x.0 x.1.now) }
+/// ensures none { IfErr result (λ e. e.cause ≢ Memory → Rejects s64 (padded_of G.grammar) bytes.now) }
 /// ```
 #[inline(never)]
-fn read_long_i64(bytes: &[u8]) -> Result<(i64, &[u8]), ReadFault> {
+fn read_long_i64<G: Grammar>(bytes: &[u8]) -> Result<(i64, &[u8]), DecodeError> {
     if let Ok((groups, rest)) = read_few_groups(bytes) {
         return Ok((signed_few(groups), rest));
     }
     let (groups, rest) = read_groups(bytes, 10)?;
     let value = signed(groups);
     if value < -0x8000_0000_0000_0000 {
-        return Err(ReadFault::TooLarge);
+        return Err(ReadFault::TooLarge.just_before(rest));
     }
     if value < 0x8000_0000_0000_0000 {
         Ok((value as i64, rest))
     } else {
-        Err(ReadFault::TooLarge)
+        Err(ReadFault::TooLarge.just_before(rest))
     }
 }
 
@@ -606,15 +598,15 @@ impl Layout for u32 {
     fn laws() {}
 }
 
-impl<'a, A: Allocator + Copy> Readable<'a, A> for u32 {
+impl<'a, A: Allocator + Copy, G: Grammar> Readable<'a, A, G> for u32 {
     #[inline]
-    fn read(bytes: &'a [u8], _alloc: A) -> Result<(u32, &'a [u8]), ReadFault> {
+    fn read(bytes: &'a [u8], _alloc: A) -> Result<(u32, &'a [u8]), DecodeError> {
         if let [b, rest @ ..] = bytes {
             if *b < 0x80 {
                 return Ok((u32::from(*b), rest));
             }
         }
-        read_long_u32(bytes)
+        read_long_u32::<G>(bytes)
     }
 }
 
@@ -629,15 +621,15 @@ impl Layout for u64 {
     fn laws() {}
 }
 
-impl<'a, A: Allocator + Copy> Readable<'a, A> for u64 {
+impl<'a, A: Allocator + Copy, G: Grammar> Readable<'a, A, G> for u64 {
     #[inline]
-    fn read(bytes: &'a [u8], _alloc: A) -> Result<(u64, &'a [u8]), ReadFault> {
+    fn read(bytes: &'a [u8], _alloc: A) -> Result<(u64, &'a [u8]), DecodeError> {
         if let [b, rest @ ..] = bytes {
             if *b < 0x80 {
                 return Ok((u64::from(*b), rest));
             }
         }
-        read_long_u64(bytes)
+        read_long_u64::<G>(bytes)
     }
 }
 
@@ -652,15 +644,15 @@ impl Layout for i32 {
     fn laws() {}
 }
 
-impl<'a, A: Allocator + Copy> Readable<'a, A> for i32 {
+impl<'a, A: Allocator + Copy, G: Grammar> Readable<'a, A, G> for i32 {
     #[inline]
-    fn read(bytes: &'a [u8], _alloc: A) -> Result<(i32, &'a [u8]), ReadFault> {
+    fn read(bytes: &'a [u8], _alloc: A) -> Result<(i32, &'a [u8]), DecodeError> {
         if let [b, rest @ ..] = bytes {
             if *b < 0x80 {
                 return Ok((i32::from(signed_byte(*b)), rest));
             }
         }
-        read_long_i32(bytes)
+        read_long_i32::<G>(bytes)
     }
 }
 
@@ -675,15 +667,15 @@ impl Layout for i64 {
     fn laws() {}
 }
 
-impl<'a, A: Allocator + Copy> Readable<'a, A> for i64 {
+impl<'a, A: Allocator + Copy, G: Grammar> Readable<'a, A, G> for i64 {
     #[inline]
-    fn read(bytes: &'a [u8], _alloc: A) -> Result<(i64, &'a [u8]), ReadFault> {
+    fn read(bytes: &'a [u8], _alloc: A) -> Result<(i64, &'a [u8]), DecodeError> {
         if let [b, rest @ ..] = bytes {
             if *b < 0x80 {
                 return Ok((i64::from(signed_byte(*b)), rest));
             }
         }
-        read_long_i64(bytes)
+        read_long_i64::<G>(bytes)
     }
 }
 
@@ -693,19 +685,19 @@ impl<'a, A: Allocator + Copy> Readable<'a, A> for i64 {
 /// # Proved
 ///
 /// ```text
-/// ensures found { IfOk result (λ x. Decodes s33 padded bytes.now x.0 x.1.now) }
-/// ensures none { IfErr result (λ e. e ≢ Memory → Rejects s33 padded bytes.now) }
+/// ensures found { IfOk result (λ x. Decodes s33 (padded_of G.grammar) bytes.now x.0 x.1.now) }
+/// ensures none { IfErr result (λ e. e.cause ≢ Memory → Rejects s33 (padded_of G.grammar) bytes.now) }
 /// ```
 #[inline]
-pub fn read_index(bytes: &[u8]) -> Result<(u32, &[u8]), ReadFault> {
+pub fn read_index<G: Grammar>(bytes: &[u8]) -> Result<(u32, &[u8]), DecodeError> {
     let (groups, rest) = read_few_groups(bytes)?;
     if groups.last >= 0x40 {
-        return Err(ReadFault::UnknownTag);
+        return Err(ReadFault::UnknownTag.just_before(rest));
     }
     if groups.sum < 1 << 32 {
         Ok((groups.sum as u32, rest))
     } else {
-        Err(ReadFault::TooLarge)
+        Err(ReadFault::TooLarge.just_before(rest))
     }
 }
 

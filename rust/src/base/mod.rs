@@ -1,6 +1,6 @@
 // Written by tools/to-rust from crates/wasm_base/src/lib.rt: change that.
-//! The base of a WebAssembly encoder: numbers, names, vectors and size prefixes, the entries of a
-//! builder, sections and modules.
+//! The base of a WebAssembly library: numbers, names, vectors, size prefixes and types, encoded and
+//! decoded, the entries of a builder, sections and modules.
 //!
 //! The formats are those of the WebAssembly core specification, "Binary Format".
 //! `specs/Formats.antt` defines which bytes encode which values, `specs/Calls.antt` the contracts
@@ -12,6 +12,7 @@ mod encode;
 mod fault;
 mod fixed;
 mod frames;
+mod grammar;
 mod kind;
 pub mod laws;
 mod leb128;
@@ -34,11 +35,12 @@ mod whole;
 pub use counted::{Counted, add_all};
 pub use cow::{CowSlice, CowStr};
 pub use encode::Encode;
-pub(crate) use fault::ReadFault;
+pub(crate) use fault::{DecodeError, ReadFault};
 pub use frames::{begin_size_prefixed, encode_section, encode_size_prefixed};
 pub(crate) use frames::{SizePrefixed, prefix_size_since};
+pub(crate) use grammar::{Grammar, Padded, Standard};
 pub use kind::Kind;
-pub use leb128::{Groups, NoGroups, encoding_size, read_groups};
+pub use leb128::{Groups, encoding_size, read_groups};
 pub(crate) use leb128::read_index;
 pub use modules::Module;
 pub use once::{BytesOf, EncodeOnce, VecOf, bytes_of, vec_of};
@@ -58,16 +60,17 @@ pub use types::{AbstractHeapType, HeapType, RefType, ValType};
 pub(crate) use types::read_val_after;
 pub use vectors::encode_vec;
 pub(crate) use vectors::append_all;
-pub(crate) use whole::{read_to_end, read_whole};
+pub(crate) use whole::{read_before, read_to_end, read_whole};
 
 /// The names that decode, which `reader` exports.
 pub(crate) mod reading {
-    pub use super::fault::ReadFault;
+    pub use super::fault::{DecodeError, ReadFault};
     pub use super::frames::{SizePrefixed, prefix_size_since};
+    pub use super::grammar::{Grammar, Padded, Standard};
     pub use super::parts::read_optional;
     pub use super::readable::{Layout, Readable};
     pub use super::shorten::Shorten;
     pub use super::skip::{Dropped, Skip, skip_many};
     pub use super::vectors::append_all;
-    pub use super::whole::{read_to_end, read_whole};
+    pub use super::whole::{read_before, read_to_end, read_whole};
 }

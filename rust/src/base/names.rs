@@ -3,8 +3,9 @@
 
 use crate::vec::Sink;
 use crate::base::encode::Encode;
-use crate::base::fault::ReadFault;
+use crate::base::fault::{DecodeError, ReadFault};
 use crate::base::frames::encode_size_prefixed;
+use crate::base::grammar::Grammar;
 use crate::base::readable::{Layout, Readable};
 use crate::base::refused::Result;
 use crate::base::shorten::Shorten;
@@ -44,11 +45,11 @@ impl<'a> Layout for &'a [u8] {
     fn laws() {}
 }
 
-impl<'a, A: Allocator + Copy> Readable<'a, A> for &'a [u8] {
-    fn read(bytes: &'a [u8], alloc: A) -> Result<(&'a [u8], &'a [u8]), ReadFault> {
-        let (size, rest) = <u32 as Readable<'a, A>>::read(bytes, alloc)?;
+impl<'a, A: Allocator + Copy, G: Grammar> Readable<'a, A, G> for &'a [u8] {
+    fn read(bytes: &'a [u8], alloc: A) -> Result<(&'a [u8], &'a [u8]), DecodeError> {
+        let (size, rest) = <u32 as Readable<'a, A, G>>::read(bytes, alloc)?;
         if rest.len() < size as usize {
-            return Err(ReadFault::Ended);
+            return Err(ReadFault::Ended.at(b""));
         }
         Ok(rest.split_at(size as usize))
     }
@@ -72,12 +73,12 @@ impl<'a> Layout for &'a str {
     fn laws() {}
 }
 
-impl<'a, A: Allocator + Copy> Readable<'a, A> for &'a str {
-    fn read(bytes: &'a [u8], alloc: A) -> Result<(&'a str, &'a [u8]), ReadFault> {
-        let (encoding, rest) = <&'a [u8] as Readable<'a, A>>::read(bytes, alloc)?;
+impl<'a, A: Allocator + Copy, G: Grammar> Readable<'a, A, G> for &'a str {
+    fn read(bytes: &'a [u8], alloc: A) -> Result<(&'a str, &'a [u8]), DecodeError> {
+        let (encoding, rest) = <&'a [u8] as Readable<'a, A, G>>::read(bytes, alloc)?;
         match str::from_utf8(encoding) {
             Ok(name) => Ok((name, rest)),
-            Err(_) => Err(ReadFault::NotUtf8),
+            Err(_) => Err(ReadFault::NotUtf8.at(encoding).before(rest)),
         }
     }
 }

@@ -3,7 +3,8 @@
 
 use crate::vec::Sink;
 use crate::base::encode::Encode;
-use crate::base::fault::ReadFault;
+use crate::base::fault::DecodeError;
+use crate::base::grammar::Grammar;
 use crate::base::readable::Readable;
 use crate::base::refused::Result;
 use crate::alloc::Allocator;
@@ -58,14 +59,14 @@ impl<T: Encode> Encode for Optional<T> {
 /// # Proved
 ///
 /// ```text
-/// ensures found { IfOk result (λ x. Decodes (optional flag T.format) padded bytes.now (option_map T.view x.0) x.1.now) }
-/// ensures none { IfErr result (λ e. e ≢ Memory → Rejects (optional flag T.format) padded bytes.now) }
+/// ensures found { IfOk result (λ x. Decodes (optional flag T.format) (padded_of G.grammar) bytes.now (option_map T.view x.0) x.1.now) }
+/// ensures none { IfErr result (λ e. e.cause ≢ Memory → Rejects (optional flag T.format) (padded_of G.grammar) bytes.now) }
 /// ```
-pub fn read_optional<'a, T: Readable<'a, A>, A: Allocator + Copy>(
+pub fn read_optional<'a, T: Readable<'a, A, G>, A: Allocator + Copy, G: Grammar>(
     flag: bool,
     bytes: &'a [u8],
     alloc: A,
-) -> Result<(Option<T>, &'a [u8]), ReadFault> {
+) -> Result<(Option<T>, &'a [u8]), DecodeError> {
     if flag {
         let (value, rest) = T::read(bytes, alloc)?;
         Ok((Some(value), rest))

@@ -1,7 +1,8 @@
 // Written by tools/to-rust from crates/wasm_base/src/readable.rt: change that.
 // The traits of decoding: the format of a value, and its decoder.
 
-use crate::base::fault::ReadFault;
+use crate::base::fault::DecodeError;
+use crate::base::grammar::Grammar;
 use crate::alloc::Allocator;
 
 /// A value with a format, which defines the bytes that encode it.
@@ -31,9 +32,8 @@ pub trait Layout {
 
 /// A value that can be decoded from the front of bytes. Lists are allocated in `A`; names and bytes
 /// are slices of the input.
-pub trait Readable<'a, A: Allocator + Copy>: Layout + Sized {
-    /// Decodes the value at the front, padded numbers included, and returns it with the remaining
-    /// bytes.
+pub trait Readable<'a, A: Allocator + Copy, G: Grammar>: Layout + Sized {
+    /// Decodes the value at the front, in the grammar `G`, and returns it with the remaining bytes.
     ///
     /// # Errors
     ///
@@ -42,8 +42,8 @@ pub trait Readable<'a, A: Allocator + Copy>: Layout + Sized {
     /// # Proved
     ///
     /// ```text
-    /// ensures found { IfOk result (λ x. Decodes Self.format padded bytes.now (Self.view x.0) x.1.now) }
-    /// ensures none { IfErr result (λ e. e ≢ Memory → Rejects Self.format padded bytes.now) }
+    /// ensures found { IfOk result (λ x. Decodes Self.format (padded_of G.grammar) bytes.now (Self.view x.0) x.1.now) }
+    /// ensures none { IfErr result (λ e. e.cause ≢ Memory → Rejects Self.format (padded_of G.grammar) bytes.now) }
     /// ```
-    fn read(bytes: &'a [u8], alloc: A) -> Result<(Self, &'a [u8]), ReadFault>;
+    fn read(bytes: &'a [u8], alloc: A) -> Result<(Self, &'a [u8]), DecodeError>;
 }

@@ -1,14 +1,15 @@
 // Written by tools/to-rust from crates/wasm_base/src/skip.rt: change that.
 // The trait `Skip`: values that are skipped and not kept.
 
-use crate::base::fault::ReadFault;
+use crate::base::fault::DecodeError;
+use crate::base::grammar::Grammar;
 use crate::base::readable::{Layout, Readable};
 use crate::alloc::Allocator;
 
 /// A value at the front of bytes, as for [`Readable`], that is skipped to reach the remaining
 /// bytes.
-pub trait Skip<'a, A: Allocator + Copy>: Layout {
-    /// Skips the value at the front, padded numbers included, and returns the remaining bytes.
+pub trait Skip<'a, A: Allocator + Copy, G: Grammar>: Layout {
+    /// Skips the value at the front, in the grammar `G`, and returns the remaining bytes.
     ///
     /// # Errors
     ///
@@ -17,10 +18,10 @@ pub trait Skip<'a, A: Allocator + Copy>: Layout {
     /// # Proved
     ///
     /// ```text
-    /// ensures found { IfOk result (λ rest. (x : Self.Value) × Decodes Self.format padded bytes.now x rest.now) }
-    /// ensures none { IfErr result (λ e. e ≢ Memory → Rejects Self.format padded bytes.now) }
+    /// ensures found { IfOk result (λ rest. (x : Self.Value) × Decodes Self.format (padded_of G.grammar) bytes.now x rest.now) }
+    /// ensures none { IfErr result (λ e. e.cause ≢ Memory → Rejects Self.format (padded_of G.grammar) bytes.now) }
     /// ```
-    fn skip(bytes: &'a [u8], alloc: A) -> Result<&'a [u8], ReadFault>;
+    fn skip(bytes: &'a [u8], alloc: A) -> Result<&'a [u8], DecodeError>;
 }
 
 /// A value that is decoded, and dropped at once.
@@ -39,9 +40,9 @@ impl<T: Layout> Layout for Dropped<T> {
     }
 }
 
-impl<'a, A: Allocator + Copy, T: Readable<'a, A>> Skip<'a, A> for Dropped<T> {
+impl<'a, A: Allocator + Copy, G: Grammar, T: Readable<'a, A, G>> Skip<'a, A, G> for Dropped<T> {
     #[inline]
-    fn skip(bytes: &'a [u8], alloc: A) -> Result<&'a [u8], ReadFault> {
+    fn skip(bytes: &'a [u8], alloc: A) -> Result<&'a [u8], DecodeError> {
         let (_value, rest) = T::read(bytes, alloc)?;
         Ok(rest)
     }
@@ -56,14 +57,14 @@ impl<'a, A: Allocator + Copy, T: Readable<'a, A>> Skip<'a, A> for Dropped<T> {
 /// # Proved
 ///
 /// ```text
-/// ensures found { IfOk result (λ x. (xs : List P.Value) × Decodes (vec P.format) padded bytes.now xs x.1.now × (x.0 ≡ length xs)) }
-/// ensures none { IfErr result (λ e. e ≢ Memory → Rejects (vec P.format) padded bytes.now) }
+/// ensures found { IfOk result (λ x. (xs : List P.Value) × Decodes (vec P.format) (padded_of G.grammar) bytes.now xs x.1.now × (x.0 ≡ length xs)) }
+/// ensures none { IfErr result (λ e. e.cause ≢ Memory → Rejects (vec P.format) (padded_of G.grammar) bytes.now) }
 /// ```
-pub fn skip_many<'a, P: Skip<'a, A>, A: Allocator + Copy>(
+pub fn skip_many<'a, P: Skip<'a, A, G>, A: Allocator + Copy, G: Grammar>(
     bytes: &'a [u8],
     alloc: A,
-) -> Result<(u32, &'a [u8]), ReadFault> {
-    let (count, mut rest) = <u32 as Readable<'a, A>>::read(bytes, alloc)?;
+) -> Result<(u32, &'a [u8]), DecodeError> {
+    let (count, mut rest) = <u32 as Readable<'a, A, G>>::read(bytes, alloc)?;
     P::laws();
     for _taken in 0..count {
         rest = P::skip(rest, alloc)?;

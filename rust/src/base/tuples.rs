@@ -3,7 +3,8 @@
 
 use crate::vec::Sink;
 use crate::base::encode::Encode;
-use crate::base::fault::ReadFault;
+use crate::base::fault::DecodeError;
+use crate::base::grammar::Grammar;
 use crate::base::readable::{Layout, Readable};
 use crate::base::refused::Result;
 use crate::base::shorten::Shorten;
@@ -69,8 +70,9 @@ impl<S: Encode, T: Encode, U: Encode> Encode for (S, T, U) {
 }
 
 /// One value, and then another.
-impl<'a, A: Allocator + Copy, P: Skip<'a, A>, Q: Skip<'a, A>> Skip<'a, A> for (P, Q) {
-    fn skip(bytes: &'a [u8], alloc: A) -> Result<&'a [u8], ReadFault> {
+impl<'a, A: Allocator + Copy, G: Grammar, P: Skip<'a, A, G>, Q: Skip<'a, A, G>> Skip<'a, A, G>
+    for (P, Q) {
+    fn skip(bytes: &'a [u8], alloc: A) -> Result<&'a [u8], DecodeError> {
         let after = P::skip(bytes, alloc)?;
         P::laws();
         let rest = Q::skip(after, alloc)?;
@@ -94,9 +96,13 @@ impl<T: Layout, U: Layout> Layout for (T, U) {
     }
 }
 
-impl<'a, A: Allocator + Copy, T: Readable<'a, A>, U: Readable<'a, A>> Readable<'a, A> for (T, U) {
+impl<'a, A: Allocator + Copy, G: Grammar, T: Readable<'a, A, G>, U: Readable<'a, A, G>> Readable<
+    'a,
+    A,
+    G,
+> for (T, U) {
     #[inline]
-    fn read(bytes: &'a [u8], alloc: A) -> Result<((T, U), &'a [u8]), ReadFault> {
+    fn read(bytes: &'a [u8], alloc: A) -> Result<((T, U), &'a [u8]), DecodeError> {
         let (first, rest) = T::read(bytes, alloc)?;
         T::laws();
         let (second, rest) = U::read(rest, alloc)?;

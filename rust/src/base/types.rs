@@ -3,7 +3,8 @@
 
 use crate::vec::Sink;
 use crate::base::encode::Encode;
-use crate::base::fault::ReadFault;
+use crate::base::fault::{DecodeError, ReadFault};
+use crate::base::grammar::Grammar;
 use crate::base::leb128::read_index;
 use crate::base::readable::{Layout, Readable};
 use crate::base::refused::Result;
@@ -245,12 +246,12 @@ impl Layout for AbstractHeapType {
     fn laws() {}
 }
 
-impl<'a, A: Allocator + Copy> Readable<'a, A> for AbstractHeapType {
-    fn read(bytes: &'a [u8], alloc: A) -> Result<(AbstractHeapType, &'a [u8]), ReadFault> {
-        let (byte, rest) = <u8 as Readable<'a, A>>::read(bytes, alloc)?;
+impl<'a, A: Allocator + Copy, G: Grammar> Readable<'a, A, G> for AbstractHeapType {
+    fn read(bytes: &'a [u8], alloc: A) -> Result<(AbstractHeapType, &'a [u8]), DecodeError> {
+        let (byte, rest) = <u8 as Readable<'a, A, G>>::read(bytes, alloc)?;
         match abstract_of(byte) {
             Some(ty) => Ok((ty, rest)),
-            None => Err(ReadFault::UnknownTag),
+            None => Err(ReadFault::UnknownTag.at(bytes)),
         }
     }
 }
@@ -266,22 +267,22 @@ impl Layout for HeapType {
     fn laws() {}
 }
 
-impl<'a, A: Allocator + Copy> Readable<'a, A> for HeapType {
-    fn read(bytes: &'a [u8], alloc: A) -> Result<(HeapType, &'a [u8]), ReadFault> {
-        let (tag, rest) = <u8 as Readable<'a, A>>::read(bytes, alloc)?;
+impl<'a, A: Allocator + Copy, G: Grammar> Readable<'a, A, G> for HeapType {
+    fn read(bytes: &'a [u8], alloc: A) -> Result<(HeapType, &'a [u8]), DecodeError> {
+        let (tag, rest) = <u8 as Readable<'a, A, G>>::read(bytes, alloc)?;
         match tag {
             0x62 => {
-                let (index, rest) = <u32 as Readable<'a, A>>::read(rest, alloc)?;
+                let (index, rest) = <u32 as Readable<'a, A, G>>::read(rest, alloc)?;
                 Ok((HeapType::Exact(index), rest))
             }
             0x65 => {
-                let (ty, rest) = <AbstractHeapType as Readable<'a, A>>::read(rest, alloc)?;
+                let (ty, rest) = <AbstractHeapType as Readable<'a, A, G>>::read(rest, alloc)?;
                 Ok((HeapType::Abstract { shared: true, ty }, rest))
             }
             _ => match abstract_of(tag) {
                 Some(ty) => Ok((HeapType::Abstract { shared: false, ty }, rest)),
                 None => {
-                    let (index, rest) = read_index(bytes)?;
+                    let (index, rest) = read_index::<G>(bytes)?;
                     Ok((HeapType::Concrete(index), rest))
                 }
             },
@@ -289,7 +290,7 @@ impl<'a, A: Allocator + Copy> Readable<'a, A> for HeapType {
     }
 }
 
-/// Returns `true` if the nullable reference to the heap type has a one-byte encoding.
+/// Returns `true` if the nullable reference to the heap type has a one-byte encoding by builders.
 ///
 /// # Proved
 ///
@@ -307,24 +308,60 @@ fn has_own_byte(heap: HeapType) -> bool {
     }
 }
 
+/// Returns `true` if the byte 63 may precede the heap type of a nullable reference type.
+///
+/// # Proved
+///
+/// ```text
+/// ensures yes { IsTrue result → HasLongForm G.grammar heap }
+/// ensures no { result ≡ false → HasLongForm G.grammar heap → ⊥ }
+/// ```
+fn has_long_form<G: Grammar>(heap: HeapType) -> bool {
+    if G::is_standard() {
+        return true;
+    }
+    !has_own_byte(heap)
+}
+
+/// Returns the reference type that the byte encodes by the standard, if the grammar is the
+/// standard's.
+///
+/// # Proved
+///
+/// ```text
+/// ensures { MatchOption result (is_admitted G.grammar ≡ true → (ty : Abstract) → byte ≢ abstract_code ty) (λ r. ref_type (padded_of G.grammar) (byte ∷ []) r) }
+/// ```
+fn short_ref<G: Grammar>(byte: u8) -> Option<RefType> {
+    if !G::is_standard() {
+        return None;
+    }
+    match abstract_of(byte) {
+        Some(ty) => Some(RefType {
+            nullable: true,
+            heap_type: HeapType::Abstract { shared: false, ty },
+        }),
+        None => None,
+    }
+}
+
 /// Decodes a reference type after its first byte, `tag`.
 ///
 /// # Proved
 ///
 /// ```text
-/// ensures found { IfOk result (λ x. Decodes (choice ref_tags (λ b. impossible) tag) padded bytes.now x.0 x.1.now) }
-/// ensures none { IfErr result (λ e. e ≢ Memory → Rejects (choice ref_tags (λ b. impossible) tag) padded bytes.now) }
+/// ensures found { IfOk result (λ x. Decodes (after_byte ref_type tag) (padded_of G.grammar) bytes.now x.0 x.1.now) }
+/// ensures none { IfErr result (λ e. e.cause ≢ Memory → Rejects (after_byte ref_type tag) (padded_of G.grammar) bytes.now) }
 /// ```
-fn read_ref_after<'a, A: Allocator + Copy>(
+fn read_ref_after<'a, A: Allocator + Copy, G: Grammar>(
     tag: u8,
     bytes: &'a [u8],
     alloc: A,
-) -> Result<(RefType, &'a [u8]), ReadFault> {
+) -> Result<(RefType, &'a [u8]), DecodeError> {
     match tag {
         0x70 => Ok((RefType::FUNCREF, bytes)),
         0x6F => Ok((RefType::EXTERNREF, bytes)),
         0x64 => {
-            let (heap_type, rest) = <HeapType as Readable<'a, A>>::read(bytes, alloc)?;
+            let (heap_type, rest) = <HeapType as Readable<'a, A, G>>::read(bytes, alloc)?;
             Ok((
                 RefType {
                     nullable: false,
@@ -334,19 +371,23 @@ fn read_ref_after<'a, A: Allocator + Copy>(
             ))
         }
         0x63 => {
-            let (heap_type, rest) = <HeapType as Readable<'a, A>>::read(bytes, alloc)?;
-            if has_own_byte(heap_type) {
-                return Err(ReadFault::UnknownTag);
+            let (heap_type, rest) = <HeapType as Readable<'a, A, G>>::read(bytes, alloc)?;
+            if has_long_form::<G>(heap_type) {
+                Ok((
+                    RefType {
+                        nullable: true,
+                        heap_type,
+                    },
+                    rest,
+                ))
+            } else {
+                Err(ReadFault::UnknownTag.just_before(rest))
             }
-            Ok((
-                RefType {
-                    nullable: true,
-                    heap_type,
-                },
-                rest,
-            ))
         }
-        _ => Err(ReadFault::UnknownTag),
+        _ => match short_ref::<G>(tag) {
+            Some(ty) => Ok((ty, bytes)),
+            None => Err(ReadFault::UnknownTag.just_before(bytes)),
+        },
     }
 }
 
@@ -361,10 +402,10 @@ impl Layout for RefType {
     fn laws() {}
 }
 
-impl<'a, A: Allocator + Copy> Readable<'a, A> for RefType {
-    fn read(bytes: &'a [u8], alloc: A) -> Result<(RefType, &'a [u8]), ReadFault> {
-        let (tag, rest) = <u8 as Readable<'a, A>>::read(bytes, alloc)?;
-        read_ref_after(tag, rest, alloc)
+impl<'a, A: Allocator + Copy, G: Grammar> Readable<'a, A, G> for RefType {
+    fn read(bytes: &'a [u8], alloc: A) -> Result<(RefType, &'a [u8]), DecodeError> {
+        let (tag, rest) = <u8 as Readable<'a, A, G>>::read(bytes, alloc)?;
+        read_ref_after::<A, G>(tag, rest, alloc)
     }
 }
 
@@ -373,14 +414,14 @@ impl<'a, A: Allocator + Copy> Readable<'a, A> for RefType {
 /// # Proved
 ///
 /// ```text
-/// ensures found { IfOk result (λ x. Decodes (choice val_tags val_ref tag) padded bytes.now x.0 x.1.now) }
-/// ensures none { IfErr result (λ e. e ≢ Memory → Rejects (choice val_tags val_ref tag) padded bytes.now) }
+/// ensures found { IfOk result (λ x. Decodes (after_byte val_type tag) (padded_of G.grammar) bytes.now x.0 x.1.now) }
+/// ensures none { IfErr result (λ e. e.cause ≢ Memory → Rejects (after_byte val_type tag) (padded_of G.grammar) bytes.now) }
 /// ```
-pub fn read_val_after<'a, A: Allocator + Copy>(
+pub fn read_val_after<'a, A: Allocator + Copy, G: Grammar>(
     tag: u8,
     bytes: &'a [u8],
     alloc: A,
-) -> Result<(ValType, &'a [u8]), ReadFault> {
+) -> Result<(ValType, &'a [u8]), DecodeError> {
     match tag {
         0x7F => Ok((ValType::I32, bytes)),
         0x7E => Ok((ValType::I64, bytes)),
@@ -388,7 +429,7 @@ pub fn read_val_after<'a, A: Allocator + Copy>(
         0x7C => Ok((ValType::F64, bytes)),
         0x7B => Ok((ValType::V128, bytes)),
         _ => {
-            let (ty, rest) = read_ref_after(tag, bytes, alloc)?;
+            let (ty, rest) = read_ref_after::<A, G>(tag, bytes, alloc)?;
             Ok((ValType::Ref(ty), rest))
         }
     }
@@ -405,10 +446,10 @@ impl Layout for ValType {
     fn laws() {}
 }
 
-impl<'a, A: Allocator + Copy> Readable<'a, A> for ValType {
-    fn read(bytes: &'a [u8], alloc: A) -> Result<(ValType, &'a [u8]), ReadFault> {
-        let (tag, rest) = <u8 as Readable<'a, A>>::read(bytes, alloc)?;
-        read_val_after(tag, rest, alloc)
+impl<'a, A: Allocator + Copy, G: Grammar> Readable<'a, A, G> for ValType {
+    fn read(bytes: &'a [u8], alloc: A) -> Result<(ValType, &'a [u8]), DecodeError> {
+        let (tag, rest) = <u8 as Readable<'a, A, G>>::read(bytes, alloc)?;
+        read_val_after::<A, G>(tag, rest, alloc)
     }
 }
 

@@ -3,7 +3,8 @@
 
 use crate::vec::{Sink, Vec};
 use crate::base::encode::Encode;
-use crate::base::fault::ReadFault;
+use crate::base::fault::DecodeError;
+use crate::base::grammar::Grammar;
 use crate::base::once::{EncodeOnce, vec_of};
 use crate::base::readable::{Layout, Readable};
 use crate::base::refused::Result;
@@ -74,9 +75,9 @@ impl<A: Allocator, T: Layout> Layout for Vec<T, A> {
     }
 }
 
-impl<'a, A: Allocator + Copy, T: Readable<'a, A>> Readable<'a, A> for Vec<T, A> {
-    fn read(bytes: &'a [u8], alloc: A) -> Result<(Vec<T, A>, &'a [u8]), ReadFault> {
-        let (count, mut rest) = <u32 as Readable<'a, A>>::read(bytes, alloc)?;
+impl<'a, A: Allocator + Copy, G: Grammar, T: Readable<'a, A, G>> Readable<'a, A, G> for Vec<T, A> {
+    fn read(bytes: &'a [u8], alloc: A) -> Result<(Vec<T, A>, &'a [u8]), DecodeError> {
+        let (count, mut rest) = <u32 as Readable<'a, A, G>>::read(bytes, alloc)?;
         let mut items = Vec::new(alloc);
         T::laws();
         for _taken in 0..count {

@@ -2,7 +2,8 @@
 // Decoding of values that occupy all of the bytes.
 
 use crate::vec::Vec;
-use crate::base::fault::ReadFault;
+use crate::base::fault::{DecodeError, ReadFault};
+use crate::base::grammar::Grammar;
 use crate::base::readable::Readable;
 use crate::alloc::Allocator;
 
@@ -15,19 +16,43 @@ use crate::alloc::Allocator;
 /// # Proved
 ///
 /// ```text
-/// ensures found { IfOk result (λ x. T.format padded bytes.now (T.view x)) }
-/// ensures none { IfErr result (λ e. e ≢ Memory → RejectsWhole T.format bytes.now) }
+/// ensures found { IfOk result (λ x. T.format (padded_of G.grammar) bytes.now (T.view x)) }
+/// ensures none { IfErr result (λ e. e.cause ≢ Memory → RejectsWhole T.format (padded_of G.grammar) bytes.now) }
 /// ```
-pub fn read_whole<'a, T: Readable<'a, A>, A: Allocator + Copy>(
+pub fn read_whole<'a, T: Readable<'a, A, G>, A: Allocator + Copy, G: Grammar>(
     bytes: &'a [u8],
     alloc: A,
-) -> Result<T, ReadFault> {
+) -> Result<T, DecodeError> {
     let (value, left) = T::read(bytes, alloc)?;
     T::laws();
     if left.is_empty() {
         Ok(value)
     } else {
-        Err(ReadFault::SizeMismatch)
+        Err(ReadFault::SizeMismatch.at(left))
+    }
+}
+
+/// Decodes a value that occupies all of the bytes. Further bytes follow in the input, from which
+/// the place of an error counts.
+///
+/// # Errors
+///
+/// Any error but `Memory` means that the bytes as a whole encode no such value.
+///
+/// # Proved
+///
+/// ```text
+/// ensures found { IfOk result (λ x. T.format (padded_of G.grammar) bytes.now (T.view x)) }
+/// ensures none { IfErr result (λ e. e.cause ≢ Memory → RejectsWhole T.format (padded_of G.grammar) bytes.now) }
+/// ```
+pub fn read_before<'a, T: Readable<'a, A, G>, A: Allocator + Copy, G: Grammar>(
+    bytes: &'a [u8],
+    rest: &[u8],
+    alloc: A,
+) -> Result<T, DecodeError> {
+    match read_whole::<'a, T, A, G>(bytes, alloc) {
+        Ok(value) => Ok(value),
+        Err(error) => Err(error.before(rest)),
     }
 }
 
@@ -47,13 +72,13 @@ pub fn read_whole<'a, T: Readable<'a, A>, A: Allocator + Copy>(
 /// # Proved
 ///
 /// ```text
-/// ensures found { IfOk result (λ x. members T.format padded bytes.now (map T.view x.items)) }
-/// ensures none { IfErr result (λ e. e ≢ Memory → RejectsWhole (members T.format) bytes.now) }
+/// ensures found { IfOk result (λ x. members T.format (padded_of G.grammar) bytes.now (map T.view x.items)) }
+/// ensures none { IfErr result (λ e. e.cause ≢ Memory → RejectsWhole (members T.format) (padded_of G.grammar) bytes.now) }
 /// ```
-pub fn read_to_end<'a, T: Readable<'a, A>, A: Allocator + Copy>(
+pub fn read_to_end<'a, T: Readable<'a, A, G>, A: Allocator + Copy, G: Grammar>(
     bytes: &'a [u8],
     alloc: A,
-) -> Result<Vec<T, A>, ReadFault> {
+) -> Result<Vec<T, A>, DecodeError> {
     let mut items = Vec::new(alloc);
     let mut rest = bytes;
     T::laws();

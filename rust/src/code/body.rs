@@ -4,7 +4,7 @@
 use crate::vec::{Sink, Vec};
 use crate::code::walk::Instructions;
 use crate::alloc::{Allocator, Global};
-use crate::base::{Dropped, Layout, ReadFault, Readable, Result, Shorten, Skip, ValType, prefix_size_since, skip_many};
+use crate::base::{DecodeError, Dropped, Grammar, Layout, Readable, Result, Shorten, Skip, ValType, prefix_size_since, skip_many};
 use crate::insn::{Plain, append_instruction};
 
 /// The capacity of a new list allows for one instruction per this many bytes. The list grows if
@@ -20,20 +20,20 @@ const BYTES_OF_ONE: usize = 4;
 /// # Proved
 ///
 /// ```text
-/// ensures found { IfOk result (λ x. members (instruction table) padded bytes.now (map plain_view x.items)) }
-/// ensures none { IfErr result (λ e. e ≢ Memory → RejectsWhole (members (instruction table)) bytes.now) }
+/// ensures found { IfOk result (λ x. members (instruction table) (padded_of G.grammar) bytes.now (map plain_view x.items)) }
+/// ensures none { IfErr result (λ e. e.cause ≢ Memory → RejectsWhole (members (instruction table)) (padded_of G.grammar) bytes.now) }
 /// ```
-pub fn read_code<'a, A: Allocator + Copy>(
+pub fn read_code<'a, A: Allocator + Copy, G: Grammar>(
     bytes: &'a [u8],
     alloc: A,
-) -> Result<Vec<Plain<A>, A>, ReadFault> {
+) -> Result<Vec<Plain<A>, A>, DecodeError> {
     let mut items = Vec::with_capacity(alloc, bytes.len() / BYTES_OF_ONE)?;
     let mut rest = bytes;
     loop {
         if rest.is_empty() {
             return Ok(items);
         }
-        let (item, after) = <Plain<A> as Readable<'a, A>>::read(rest, alloc)?;
+        let (item, after) = <Plain<A> as Readable<'a, A, G>>::read(rest, alloc)?;
         items.push(item)?;
         rest = after;
     }
@@ -75,12 +75,15 @@ pub struct Body<A: Allocator = Global> {
 /// # Proved
 ///
 /// ```text
-/// ensures found { IfOk result (λ x. body padded bytes.now (body_view x)) }
-/// ensures none { IfErr result (λ e. e ≢ Memory → RejectsWhole body bytes.now) }
+/// ensures found { IfOk result (λ x. body (padded_of G.grammar) bytes.now (body_view x)) }
+/// ensures none { IfErr result (λ e. e.cause ≢ Memory → RejectsWhole body (padded_of G.grammar) bytes.now) }
 /// ```
-pub fn read_body<'a, A: Allocator + Copy>(bytes: &'a [u8], alloc: A) -> Result<Body<A>, ReadFault> {
-    let (runs, rest) = <Vec<(u32, ValType), A> as Readable<'a, A>>::read(bytes, alloc)?;
-    let code = read_code(rest, alloc)?;
+pub fn read_body<'a, A: Allocator + Copy, G: Grammar>(
+    bytes: &'a [u8],
+    alloc: A,
+) -> Result<Body<A>, DecodeError> {
+    let (runs, rest) = <Vec<(u32, ValType), A> as Readable<'a, A, G>>::read(bytes, alloc)?;
+    let code = read_code::<A, G>(rest, alloc)?;
     Ok(Body { runs, code })
 }
 
@@ -97,11 +100,13 @@ impl<A: Allocator> Layout for Body<A> {
     fn laws() {}
 }
 
-impl<'a, A: Allocator + Copy> Readable<'a, A> for Body<A> {
-    fn read(bytes: &'a [u8], alloc: A) -> Result<(Body<A>, &'a [u8]), ReadFault> {
-        let (content, rest) = <&'a [u8] as Readable<'a, A>>::read(bytes, alloc)?;
-        let body = read_body(content, alloc)?;
-        Ok((body, rest))
+impl<'a, A: Allocator + Copy, G: Grammar> Readable<'a, A, G> for Body<A> {
+    fn read(bytes: &'a [u8], alloc: A) -> Result<(Body<A>, &'a [u8]), DecodeError> {
+        let (content, rest) = <&'a [u8] as Readable<'a, A, G>>::read(bytes, alloc)?;
+        match read_body::<A, G>(content, alloc) {
+            Ok(body) => Ok((body, rest)),
+            Err(error) => Err(error.before(rest)),
+        }
     }
 }
 
@@ -121,14 +126,14 @@ impl<A: Allocator> Shorten for Body<A> {
 ///
 /// ```text
 /// ensures found { OnOk result ((x : BodyModel) × body padded bytes.now x × AppendsMinimal (size_prefixed body) x sink.old.items sink.new.items) }
-/// ensures none { IfErr result (λ e. e ≢ Memory → RejectsWhole body bytes.now) }
+/// ensures none { IfErr result (λ e. e.cause ≢ Memory → RejectsWhole body padded bytes.now) }
 /// ensures front { IsFrontOf sink.old.items sink.new.items }
 /// ```
 fn write_body<A: Allocator + Copy, B: Sink>(
     bytes: &[u8],
     alloc: A,
     sink: &mut B,
-) -> Result<(), ReadFault> {
+) -> Result<(), DecodeError> {
     let start = sink.len();
     let (runs, mut instructions) = Instructions::of_body(bytes, alloc)?;
     runs.write_minimal(sink)?;
@@ -156,14 +161,14 @@ fn write_body<A: Allocator + Copy, B: Sink>(
 ///
 /// ```text
 /// ensures found { OnOk result ((x : BodyModel) × body padded bytes.now x × AppendsMinimal (size_prefixed body) x sink.old.items sink.new.items) }
-/// ensures none { IfErr result (λ e. e ≢ Memory → RejectsWhole body bytes.now) }
+/// ensures none { IfErr result (λ e. e.cause ≢ Memory → RejectsWhole body padded bytes.now) }
 /// ensures err { OnErr result (sink.new.items ≡ sink.old.items) }
 /// ```
 pub fn shorten_body<A: Allocator + Copy, B: Sink>(
     bytes: &[u8],
     alloc: A,
     sink: &mut B,
-) -> Result<(), ReadFault> {
+) -> Result<(), DecodeError> {
     let start = sink.len();
     let written = write_body(bytes, alloc, sink);
     if written.is_err() {
@@ -177,16 +182,19 @@ pub fn shorten_body<A: Allocator + Copy, B: Sink>(
 /// # Proved
 ///
 /// ```text
-/// ensures found { OnOk result ((xs : List PlainInstruction) × members (instruction table) padded bytes.now xs) }
-/// ensures none { IfErr result (λ e. e ≢ Memory → RejectsWhole (members (instruction table)) bytes.now) }
+/// ensures found { OnOk result ((xs : List PlainInstruction) × members (instruction table) (padded_of G.grammar) bytes.now xs) }
+/// ensures none { IfErr result (λ e. e.cause ≢ Memory → RejectsWhole (members (instruction table)) (padded_of G.grammar) bytes.now) }
 /// ```
-fn skip_code<'a, A: Allocator + Copy>(bytes: &'a [u8], alloc: A) -> Result<(), ReadFault> {
+fn skip_code<'a, A: Allocator + Copy, G: Grammar>(
+    bytes: &'a [u8],
+    alloc: A,
+) -> Result<(), DecodeError> {
     let mut rest = bytes;
     loop {
         if rest.is_empty() {
             return Ok(());
         }
-        rest = <Plain<A> as Skip<'a, A>>::skip(rest, alloc)?;
+        rest = <Plain<A> as Skip<'a, A, G>>::skip(rest, alloc)?;
     }
 }
 
@@ -195,20 +203,25 @@ fn skip_code<'a, A: Allocator + Copy>(bytes: &'a [u8], alloc: A) -> Result<(), R
 /// # Proved
 ///
 /// ```text
-/// ensures found { OnOk result ((x : BodyModel) × body padded bytes.now x) }
-/// ensures none { IfErr result (λ e. e ≢ Memory → RejectsWhole body bytes.now) }
+/// ensures found { OnOk result ((x : BodyModel) × body (padded_of G.grammar) bytes.now x) }
+/// ensures none { IfErr result (λ e. e.cause ≢ Memory → RejectsWhole body (padded_of G.grammar) bytes.now) }
 /// ```
-fn skip_body<'a, A: Allocator + Copy>(bytes: &'a [u8], alloc: A) -> Result<(), ReadFault> {
-    let (_count, rest) = skip_many::<'a, Dropped<(u32, ValType)>, A>(bytes, alloc)?;
-    skip_code(rest, alloc)?;
+fn skip_body<'a, A: Allocator + Copy, G: Grammar>(
+    bytes: &'a [u8],
+    alloc: A,
+) -> Result<(), DecodeError> {
+    let (_count, rest) = skip_many::<'a, Dropped<(u32, ValType)>, A, G>(bytes, alloc)?;
+    skip_code::<A, G>(rest, alloc)?;
     Ok(())
 }
 
 /// Skips a body with its size prefix, as in a code section, and allocates nothing.
-impl<'a, A: Allocator + Copy> Skip<'a, A> for Body<A> {
-    fn skip(bytes: &'a [u8], alloc: A) -> Result<&'a [u8], ReadFault> {
-        let (sized, rest) = <&'a [u8] as Readable<'a, A>>::read(bytes, alloc)?;
-        skip_body(sized, alloc)?;
-        Ok(rest)
+impl<'a, A: Allocator + Copy, G: Grammar> Skip<'a, A, G> for Body<A> {
+    fn skip(bytes: &'a [u8], alloc: A) -> Result<&'a [u8], DecodeError> {
+        let (sized, rest) = <&'a [u8] as Readable<'a, A, G>>::read(bytes, alloc)?;
+        match skip_body::<A, G>(sized, alloc) {
+            Ok(()) => Ok(rest),
+            Err(error) => Err(error.before(rest)),
+        }
     }
 }

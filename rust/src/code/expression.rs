@@ -4,7 +4,7 @@
 use crate::vec::{Sink, Vec};
 use crate::code::body::append_code;
 use crate::alloc::{Allocator, Global};
-use crate::base::{Layout, ReadFault, Readable, Result, Shorten, Skip};
+use crate::base::{DecodeError, Grammar, Layout, ReadFault, Readable, Result, Shorten, Skip};
 use crate::insn::Plain;
 
 /// The opcode of `End`.
@@ -25,18 +25,18 @@ impl<A: Allocator> Layout for Expression<A> {
     fn laws() {}
 }
 
-impl<'a, A: Allocator + Copy> Readable<'a, A> for Expression<A> {
-    fn read(bytes: &'a [u8], alloc: A) -> Result<(Expression<A>, &'a [u8]), ReadFault> {
+impl<'a, A: Allocator + Copy, G: Grammar> Readable<'a, A, G> for Expression<A> {
+    fn read(bytes: &'a [u8], alloc: A) -> Result<(Expression<A>, &'a [u8]), DecodeError> {
         let mut items = Vec::new(alloc);
         let mut rest = bytes;
         loop {
             let [first, after @ ..] = rest else {
-                return Err(ReadFault::Ended);
+                return Err(ReadFault::Ended.at(b""));
             };
             if *first == END {
                 return Ok((Expression(items), after));
             }
-            let (item, after) = <Plain<A> as Readable<'a, A>>::read(rest, alloc)?;
+            let (item, after) = <Plain<A> as Readable<'a, A, G>>::read(rest, alloc)?;
             items.push(item)?;
             rest = after;
         }
@@ -52,17 +52,17 @@ impl<A: Allocator> Shorten for Expression<A> {
 }
 
 /// Skips a constant expression with its `End`, and allocates nothing.
-impl<'a, A: Allocator + Copy> Skip<'a, A> for Expression<A> {
-    fn skip(bytes: &'a [u8], alloc: A) -> Result<&'a [u8], ReadFault> {
+impl<'a, A: Allocator + Copy, G: Grammar> Skip<'a, A, G> for Expression<A> {
+    fn skip(bytes: &'a [u8], alloc: A) -> Result<&'a [u8], DecodeError> {
         let mut rest = bytes;
         loop {
             let [first, after @ ..] = rest else {
-                return Err(ReadFault::Ended);
+                return Err(ReadFault::Ended.at(b""));
             };
             if *first == END {
                 return Ok(after);
             }
-            rest = <Plain<A> as Skip<'a, A>>::skip(rest, alloc)?;
+            rest = <Plain<A> as Skip<'a, A, G>>::skip(rest, alloc)?;
         }
     }
 }

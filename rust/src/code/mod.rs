@@ -1,6 +1,6 @@
 // Written by tools/to-rust from crates/wasm_code/src/lib.rt: change that.
-//! Constant expressions, function bodies and the code section of a WebAssembly module, by the core
-//! specification, "Binary Format", "Instructions" and "Modules".
+//! Constant expressions, function bodies and the code section of a WebAssembly module, encoded and
+//! decoded, by the core specification, "Binary Format", "Instructions" and "Modules".
 
 pub(crate) mod body;
 pub(crate) mod code_section;

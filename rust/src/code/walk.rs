@@ -4,7 +4,7 @@
 use crate::vec::Vec;
 use crate::code::expression::END;
 use crate::alloc::{Allocator, Global};
-use crate::base::{ReadFault, Readable, ValType};
+use crate::base::{DecodeError, Padded, ReadFault, Readable, ValType};
 use crate::insn::{Arg, Op, read_instruction_into};
 
 /// Visits the instructions of a body or an expression, one after another. It keeps the arguments of
@@ -63,10 +63,10 @@ impl<'a, A: Allocator + Copy> Instructions<'a, A> {
     /// ensures same { IfOk result (λ x. x.1.bytes ≡ bytes.now) }
     /// ensures within { IfOk result (λ x. x.1.offset ≤ length bytes.now) }
     /// ensures before { IfOk result (λ x. x.1.arguments ≡ []) }
-    /// ensures none { IfErr result (λ e. e ≢ Memory → RejectsWhole body bytes.now) }
+    /// ensures none { IfErr result (λ e. e.cause ≢ Memory → RejectsWhole body padded bytes.now) }
     /// ```
-    pub fn of_body(bytes: &'a [u8], alloc: A) -> Result<(Vec<(u32, ValType), A>, Self), ReadFault> {
-        let (runs, rest) = <Vec<(u32, ValType), A> as Readable<'a, A>>::read(bytes, alloc)?;
+    pub fn of_body(bytes: &'a [u8], alloc: A) -> Result<(Vec<(u32, ValType), A>, Self), DecodeError> {
+        let (runs, rest) = <Vec<(u32, ValType), A> as Readable<'a, A, Padded>>::read(bytes, alloc)?;
         let instructions = Instructions {
             bytes,
             offset: bytes.len() - rest.len(),
@@ -85,12 +85,16 @@ impl<'a, A: Allocator + Copy> Instructions<'a, A> {
     /// ensures further { IfOk result (λ _. (self.old.offset < self.new.offset) × (self.new.offset ≤ length self.new.bytes)) }
     /// ensures same { self.new.bytes ≡ self.old.bytes }
     /// ensures stays { IfErr result (λ _. self.new.offset ≡ self.old.offset) }
-    /// ensures none { IfErr result (λ e. e ≢ Memory → Rejects (instruction table) padded (ahead self.old)) }
+    /// ensures none { IfErr result (λ e. e.cause ≢ Memory → Rejects (instruction table) padded (ahead self.old)) }
     /// ```
-    fn step(&mut self) -> Result<Step, ReadFault> {
+    fn step(&mut self) -> Result<Step, DecodeError> {
         let offset = self.offset;
         let alloc = *self.args.allocator();
-        let (op, rest) = read_instruction_into(&self.bytes[offset..], alloc, &mut self.args)?;
+        let (op, rest) = read_instruction_into::<A, Padded>(
+            &self.bytes[offset..],
+            alloc,
+            &mut self.args,
+        )?;
         self.offset = self.bytes.len() - rest.len();
         Ok(Step { offset, op })
     }
@@ -108,10 +112,10 @@ impl<'a, A: Allocator + Copy> Instructions<'a, A> {
     /// ensures ended { IfOk result (λ next. next ≡ None → self.new ≡ self.old) }
     /// ensures same { self.new.bytes ≡ self.old.bytes }
     /// ensures stays { IfErr result (λ _. self.new.offset ≡ self.old.offset) }
-    /// ensures none { IfErr result (λ e. e ≢ Memory → Rejects (instruction table) padded (ahead self.old)) }
+    /// ensures none { IfErr result (λ e. e.cause ≢ Memory → Rejects (instruction table) padded (ahead self.old)) }
     /// ensures left { IfErr result (λ _. ahead self.old ≢ []) }
     /// ```
-    pub fn next(&mut self) -> Result<Option<Step>, ReadFault> {
+    pub fn next(&mut self) -> Result<Option<Step>, DecodeError> {
         if self.offset == self.bytes.len() {
             return Ok(None);
         }
@@ -132,11 +136,11 @@ impl<'a, A: Allocator + Copy> Instructions<'a, A> {
     /// ensures ended { IfOk result (λ next. next ≡ None → self.new ≡ self.old) }
     /// ensures same { self.new.bytes ≡ self.old.bytes }
     /// ensures stays { IfErr result (λ _. self.new.offset ≡ self.old.offset) }
-    /// ensures none { IfErr result (λ e. e ≢ Memory → Rejects expression padded (ahead self.old)) }
+    /// ensures none { IfErr result (λ e. e.cause ≢ Memory → Rejects expression padded (ahead self.old)) }
     /// ```
-    pub fn next_before_end(&mut self) -> Result<Option<Step>, ReadFault> {
+    pub fn next_before_end(&mut self) -> Result<Option<Step>, DecodeError> {
         let [first, ..] = &self.bytes[self.offset..] else {
-            return Err(ReadFault::Ended);
+            return Err(ReadFault::Ended.at(b""));
         };
         if *first == END {
             return Ok(None);

@@ -8,7 +8,7 @@ use crate::custom::entries::{CustomEntries, CustomKind};
 use crate::custom::marked::{MarkedName, read_marked};
 use crate::custom::named::after_name;
 use crate::alloc::{Allocator, Global};
-use crate::base::{Encode, Kind, ReadFault, Readable, Result, Section, SectionId, Shorten, read_whole, vec_of};
+use crate::base::{DecodeError, Encode, Grammar, Kind, Readable, Result, Section, SectionId, Shorten, read_whole, vec_of};
 
 /// The `core` section of a dumped process, modelled as its data: the byte 00, and the name of the
 /// process.
@@ -279,7 +279,7 @@ impl<A: Allocator> CoreDumpInstancesSection<A> {
     }
 }
 
-/// Decodes the payload of a process section: the name of the process.
+/// Decodes the payload of a process section, in the grammar `G`: the name of the process.
 ///
 /// # Errors
 ///
@@ -288,15 +288,15 @@ impl<A: Allocator> CoreDumpInstancesSection<A> {
 /// # Proved
 ///
 /// ```text
-/// ensures found { IfOk result (λ x. core_payload padded bytes.now x.now) }
-/// ensures none { IfErr result (λ e. e ≢ Memory → RejectsWhole core_payload bytes.now) }
+/// ensures found { IfOk result (λ x. core_payload (padded_of G.grammar) bytes.now x.now) }
+/// ensures none { IfErr result (λ e. e.cause ≢ Memory → RejectsWhole core_payload (padded_of G.grammar) bytes.now) }
 /// ```
-pub fn read_process<'a, A: Allocator + Copy>(
+pub fn read_process<'a, A: Allocator + Copy, G: Grammar>(
     bytes: &'a [u8],
     alloc: A,
-) -> Result<&'a str, ReadFault> {
-    let rest = after_name("core", bytes, alloc)?;
-    let MarkedName(name) = read_whole::<'a, MarkedName<'a>, A>(rest, alloc)?;
+) -> Result<&'a str, DecodeError> {
+    let rest = after_name::<A, G>("core", bytes, alloc)?;
+    let MarkedName(name) = read_whole::<'a, MarkedName<'a>, A, G>(rest, alloc)?;
     Ok(name)
 }
 
@@ -320,14 +320,14 @@ impl<'a> ItemsAs<&'a str> for ModuleItems {
     }
 }
 
-impl<'a, A: Allocator + Copy> DecodesItems<'a, &'a str, A> for ModuleItems {
-    fn read_item(bytes: &'a [u8], alloc: A) -> Result<(&'a str, &'a [u8]), ReadFault> {
-        let (MarkedName(name), rest) = <MarkedName<'a> as Readable<'a, A>>::read(bytes, alloc)?;
+impl<'a, A: Allocator + Copy, G: Grammar> DecodesItems<'a, &'a str, A, G> for ModuleItems {
+    fn read_item(bytes: &'a [u8], alloc: A) -> Result<(&'a str, &'a [u8]), DecodeError> {
+        let (MarkedName(name), rest) = <MarkedName<'a> as Readable<'a, A, G>>::read(bytes, alloc)?;
         Ok((name, rest))
     }
 }
 
-/// Decodes the payload of a modules section: the names of the modules.
+/// Decodes the payload of a modules section, in the grammar `G`: the names of the modules.
 ///
 /// # Errors
 ///
@@ -336,14 +336,14 @@ impl<'a, A: Allocator + Copy> DecodesItems<'a, &'a str, A> for ModuleItems {
 /// # Proved
 ///
 /// ```text
-/// ensures found { IfOk result (λ x. modules_payload padded bytes.now (map (λ name. name.now) x.items)) }
-/// ensures none { IfErr result (λ e. e ≢ Memory → RejectsWhole modules_payload bytes.now) }
+/// ensures found { IfOk result (λ x. modules_payload (padded_of G.grammar) bytes.now (map (λ name. name.now) x.items)) }
+/// ensures none { IfErr result (λ e. e.cause ≢ Memory → RejectsWhole modules_payload (padded_of G.grammar) bytes.now) }
 /// ```
-pub fn read_modules<'a, A: Allocator + Copy>(
+pub fn read_modules<'a, A: Allocator + Copy, G: Grammar>(
     bytes: &'a [u8],
     alloc: A,
-) -> Result<Vec<&'a str, A>, ReadFault> {
-    read_counted::<'a, ModuleItems, &'a str, A>(bytes, alloc)
+) -> Result<Vec<&'a str, A>, DecodeError> {
+    read_counted::<'a, ModuleItems, &'a str, A, G>(bytes, alloc)
 }
 
 /// # Defined
@@ -368,23 +368,24 @@ impl<A: Allocator> ItemsAs<(u32, Vec<u32, A>, Vec<u32, A>)> for InstanceItems {
     }
 }
 
-impl<'a, A: Allocator + Copy> DecodesItems<'a, (u32, Vec<u32, A>, Vec<u32, A>), A>
+impl<'a, A: Allocator + Copy, G: Grammar> DecodesItems<'a, (u32, Vec<u32, A>, Vec<u32, A>), A, G>
     for InstanceItems {
     fn read_item(
         bytes: &'a [u8],
         alloc: A,
-    ) -> Result<((u32, Vec<u32, A>, Vec<u32, A>), &'a [u8]), ReadFault> {
+    ) -> Result<((u32, Vec<u32, A>, Vec<u32, A>), &'a [u8]), DecodeError> {
         let ((module_index, (memories, globals)), rest) = read_marked::<
             'a,
             (u32, (Vec<u32, A>, Vec<u32, A>)),
             A,
+            G,
         >(0x00, bytes, alloc)?;
         Ok(((module_index, memories, globals), rest))
     }
 }
 
-/// Decodes the payload of an instances section: for each instance the index of its module, its
-/// memories and its globals.
+/// Decodes the payload of an instances section, in the grammar `G`: for each instance the index of
+/// its module, its memories and its globals.
 ///
 /// # Errors
 ///
@@ -393,14 +394,14 @@ impl<'a, A: Allocator + Copy> DecodesItems<'a, (u32, Vec<u32, A>, Vec<u32, A>), 
 /// # Proved
 ///
 /// ```text
-/// ensures found { IfOk result (λ x. instances_payload padded bytes.now (map instance_view x.items)) }
-/// ensures none { IfErr result (λ e. e ≢ Memory → RejectsWhole instances_payload bytes.now) }
+/// ensures found { IfOk result (λ x. instances_payload (padded_of G.grammar) bytes.now (map instance_view x.items)) }
+/// ensures none { IfErr result (λ e. e.cause ≢ Memory → RejectsWhole instances_payload (padded_of G.grammar) bytes.now) }
 /// ```
-pub fn read_instances<'a, A: Allocator + Copy>(
+pub fn read_instances<'a, A: Allocator + Copy, G: Grammar>(
     bytes: &'a [u8],
     alloc: A,
-) -> Result<Vec<(u32, Vec<u32, A>, Vec<u32, A>), A>, ReadFault> {
-    read_counted::<'a, InstanceItems, (u32, Vec<u32, A>, Vec<u32, A>), A>(bytes, alloc)
+) -> Result<Vec<(u32, Vec<u32, A>, Vec<u32, A>), A>, DecodeError> {
+    read_counted::<'a, InstanceItems, (u32, Vec<u32, A>, Vec<u32, A>), A, G>(bytes, alloc)
 }
 
 /// Appends the byte 00 and a name.

@@ -9,7 +9,7 @@ use crate::custom::entries::{data_of, encode_entries};
 use crate::custom::marked::read_marked;
 use crate::custom::named::after_name;
 use crate::alloc::{Allocator, Global};
-use crate::base::{CowSlice, CowStr, Encode, Layout, Pieces, ReadFault, Readable, Result, Section, SectionId, Shorten, read_whole, vec_of};
+use crate::base::{CowSlice, CowStr, DecodeError, Encode, Grammar, Layout, Pieces, Readable, Result, Section, SectionId, Shorten, read_whole, vec_of};
 
 /// The `corestack` section of a thread, modelled as the bytes before its stack frames and the bytes
 /// of each frame. The former are the byte 00 and the name of the thread.
@@ -174,13 +174,16 @@ impl<A: Allocator> Layout for CoreFrame<A> {
     fn laws() {}
 }
 
-impl<'a, A: Allocator + Copy> Readable<'a, A> for CoreFrame<A> {
-    fn read(bytes: &'a [u8], alloc: A) -> Result<(CoreFrame<A>, &'a [u8]), ReadFault> {
-        let ((instanceidx, (funcidx, codeoffset)), rest) = read_marked::<'a, (u32, (u32, u32)), A>(
-            0x00, bytes, alloc,
-        )?;
-        let (locals, rest) = <Vec<CoreDumpValue, A> as Readable<'a, A>>::read(rest, alloc)?;
-        let (stack, rest) = <Vec<CoreDumpValue, A> as Readable<'a, A>>::read(rest, alloc)?;
+impl<'a, A: Allocator + Copy, G: Grammar> Readable<'a, A, G> for CoreFrame<A> {
+    fn read(bytes: &'a [u8], alloc: A) -> Result<(CoreFrame<A>, &'a [u8]), DecodeError> {
+        let ((instanceidx, (funcidx, codeoffset)), rest) = read_marked::<
+            'a,
+            (u32, (u32, u32)),
+            A,
+            G,
+        >(0x00, bytes, alloc)?;
+        let (locals, rest) = <Vec<CoreDumpValue, A> as Readable<'a, A, G>>::read(rest, alloc)?;
+        let (stack, rest) = <Vec<CoreDumpValue, A> as Readable<'a, A, G>>::read(rest, alloc)?;
         let frame = CoreFrame {
             instanceidx,
             funcidx,
@@ -192,7 +195,8 @@ impl<'a, A: Allocator + Copy> Readable<'a, A> for CoreFrame<A> {
     }
 }
 
-/// Decodes the payload of a stack section: the name of the thread, and the frames of its stack.
+/// Decodes the payload of a stack section, in the grammar `G`: the name of the thread, and the
+/// frames of its stack.
 ///
 /// # Errors
 ///
@@ -201,16 +205,16 @@ impl<'a, A: Allocator + Copy> Readable<'a, A> for CoreFrame<A> {
 /// # Proved
 ///
 /// ```text
-/// ensures found { IfOk result (λ x. stack_payload padded bytes.now (x.0.now, map stack_frame_view x.1.items)) }
-/// ensures none { IfErr result (λ e. e ≢ Memory → RejectsWhole stack_payload bytes.now) }
+/// ensures found { IfOk result (λ x. stack_payload (padded_of G.grammar) bytes.now (x.0.now, map stack_frame_view x.1.items)) }
+/// ensures none { IfErr result (λ e. e.cause ≢ Memory → RejectsWhole stack_payload (padded_of G.grammar) bytes.now) }
 /// ```
-pub fn read_stack<'a, A: Allocator + Copy>(
+pub fn read_stack<'a, A: Allocator + Copy, G: Grammar>(
     bytes: &'a [u8],
     alloc: A,
-) -> Result<(&'a str, Vec<CoreFrame<A>, A>), ReadFault> {
-    let rest = after_name("corestack", bytes, alloc)?;
-    let (thread, rest) = read_marked::<'a, &'a str, A>(0x00, rest, alloc)?;
-    let frames = read_whole::<'a, Vec<CoreFrame<A>, A>, A>(rest, alloc)?;
+) -> Result<(&'a str, Vec<CoreFrame<A>, A>), DecodeError> {
+    let rest = after_name::<A, G>("corestack", bytes, alloc)?;
+    let (thread, rest) = read_marked::<'a, &'a str, A, G>(0x00, rest, alloc)?;
+    let frames = read_whole::<'a, Vec<CoreFrame<A>, A>, A, G>(rest, alloc)?;
     Ok((thread, frames))
 }
 

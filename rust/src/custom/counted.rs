@@ -5,7 +5,7 @@ use crate::vec::{Sink, Vec};
 use crate::custom::entries::CustomKind;
 use crate::custom::named::after_name;
 use crate::alloc::Allocator;
-use crate::base::{Encode, ReadFault, Readable, Result};
+use crate::base::{DecodeError, Encode, Grammar, ReadFault, Readable, Result};
 
 /// A kind whose items can be encoded from a decoded `T`.
 ///
@@ -45,17 +45,16 @@ pub(crate) trait ItemsAs<T>: CustomKind {
 }
 
 /// A kind whose items decode to a `T`.
-pub(crate) trait DecodesItems<'a, T, A: Allocator + Copy>: ItemsAs<T> {
-    /// Decodes the item at the front, padded numbers included, and returns it with the remaining
-    /// bytes.
+pub(crate) trait DecodesItems<'a, T, A: Allocator + Copy, G: Grammar>: ItemsAs<T> {
+    /// Decodes the item at the front, in the grammar `G`, and returns it with the remaining bytes.
     ///
     /// # Proved
     ///
     /// ```text
-    /// ensures found { IfOk result (λ x. Decodes Self.format padded bytes.now (Self.view x.0) x.1.now) }
-    /// ensures none { IfErr result (λ e. e ≢ Memory → Rejects Self.format padded bytes.now) }
+    /// ensures found { IfOk result (λ x. Decodes Self.format (padded_of G.grammar) bytes.now (Self.view x.0) x.1.now) }
+    /// ensures none { IfErr result (λ e. e.cause ≢ Memory → Rejects Self.format (padded_of G.grammar) bytes.now) }
     /// ```
-    fn read_item(bytes: &'a [u8], alloc: A) -> Result<(T, &'a [u8]), ReadFault>;
+    fn read_item(bytes: &'a [u8], alloc: A) -> Result<(T, &'a [u8]), DecodeError>;
 }
 
 /// Decodes a count and that many items, and returns them with the remaining bytes. Memory grows
@@ -64,14 +63,14 @@ pub(crate) trait DecodesItems<'a, T, A: Allocator + Copy>: ItemsAs<T> {
 /// # Proved
 ///
 /// ```text
-/// ensures found { IfOk result (λ x. Decodes (vec K.format) padded bytes.now (map K.view x.0.items) x.1.now) }
-/// ensures none { IfErr result (λ e. e ≢ Memory → Rejects (vec K.format) padded bytes.now) }
+/// ensures found { IfOk result (λ x. Decodes (vec K.format) (padded_of G.grammar) bytes.now (map K.view x.0.items) x.1.now) }
+/// ensures none { IfErr result (λ e. e.cause ≢ Memory → Rejects (vec K.format) (padded_of G.grammar) bytes.now) }
 /// ```
-fn read_items<'a, K: DecodesItems<'a, T, A>, T, A: Allocator + Copy>(
+fn read_items<'a, K: DecodesItems<'a, T, A, G>, T, A: Allocator + Copy, G: Grammar>(
     bytes: &'a [u8],
     alloc: A,
-) -> Result<(Vec<T, A>, &'a [u8]), ReadFault> {
-    let (count, mut rest) = <u32 as Readable<'a, A>>::read(bytes, alloc)?;
+) -> Result<(Vec<T, A>, &'a [u8]), DecodeError> {
+    let (count, mut rest) = <u32 as Readable<'a, A, G>>::read(bytes, alloc)?;
     let mut items = Vec::new(alloc);
     K::unique();
     for _taken in 0..count {
@@ -87,20 +86,23 @@ fn read_items<'a, K: DecodesItems<'a, T, A>, T, A: Allocator + Copy>(
 /// # Proved
 ///
 /// ```text
-/// ensures found { IfOk result (λ x. counted_payload K.name K.format padded bytes.now (map K.view x.items)) }
-/// ensures none { IfErr result (λ e. e ≢ Memory → RejectsWhole (counted_payload K.name K.format) bytes.now) }
+/// ensures found { IfOk result (λ x. counted_payload K.name K.format (padded_of G.grammar) bytes.now (map K.view x.items)) }
+/// ensures none { IfErr result (λ e. e.cause ≢ Memory → RejectsWhole (counted_payload K.name K.format) (padded_of G.grammar) bytes.now) }
 /// ```
-pub(crate) fn read_counted<'a, K: DecodesItems<'a, T, A>, T, A: Allocator + Copy>(
-    bytes: &'a [u8],
-    alloc: A,
-) -> Result<Vec<T, A>, ReadFault> {
+pub(crate) fn read_counted<
+    'a,
+    K: DecodesItems<'a, T, A, G>,
+    T,
+    A: Allocator + Copy,
+    G: Grammar,
+>(bytes: &'a [u8], alloc: A) -> Result<Vec<T, A>, DecodeError> {
     K::unique();
-    let rest = after_name(K::name(), bytes, alloc)?;
-    let (items, left) = read_items::<'a, K, T, A>(rest, alloc)?;
+    let rest = after_name::<A, G>(K::name(), bytes, alloc)?;
+    let (items, left) = read_items::<'a, K, T, A, G>(rest, alloc)?;
     if left.is_empty() {
         Ok(items)
     } else {
-        Err(ReadFault::SizeMismatch)
+        Err(ReadFault::SizeMismatch.at(left))
     }
 }
 

@@ -6,7 +6,7 @@ use crate::custom::counted::{DecodesItems, ItemsAs, append_counted, read_counted
 use crate::custom::entries::{CustomEntries, CustomKind};
 use crate::custom::marked::read_marked;
 use crate::alloc::{Allocator, Global};
-use crate::base::{Encode, Kind, Layout, ReadFault, Readable, Result, Shorten, vec_of};
+use crate::base::{DecodeError, Encode, Grammar, Kind, Layout, ReadFault, Readable, Result, Shorten, vec_of};
 
 /// The branch hint section: which branches are likely to be taken, as a list of hints for each
 /// function. It belongs before the code section.
@@ -131,11 +131,11 @@ impl Layout for HintValue {
     fn laws() {}
 }
 
-impl<'a, A: Allocator + Copy> Readable<'a, A> for HintValue {
-    fn read(bytes: &'a [u8], alloc: A) -> Result<(HintValue, &'a [u8]), ReadFault> {
-        let (value, rest) = <u8 as Readable<'a, A>>::read(bytes, alloc)?;
+impl<'a, A: Allocator + Copy, G: Grammar> Readable<'a, A, G> for HintValue {
+    fn read(bytes: &'a [u8], alloc: A) -> Result<(HintValue, &'a [u8]), DecodeError> {
+        let (value, rest) = <u8 as Readable<'a, A, G>>::read(bytes, alloc)?;
         if value >= 128 {
-            return Err(ReadFault::TooLarge);
+            return Err(ReadFault::TooLarge.just_before(rest));
         }
         Ok((HintValue(value), rest))
     }
@@ -152,10 +152,10 @@ impl Layout for BranchHint {
     fn laws() {}
 }
 
-impl<'a, A: Allocator + Copy> Readable<'a, A> for BranchHint {
-    fn read(bytes: &'a [u8], alloc: A) -> Result<(BranchHint, &'a [u8]), ReadFault> {
-        let (branch_func_offset, rest) = <u32 as Readable<'a, A>>::read(bytes, alloc)?;
-        let (HintValue(value), rest) = read_marked::<'a, HintValue, A>(0x01, rest, alloc)?;
+impl<'a, A: Allocator + Copy, G: Grammar> Readable<'a, A, G> for BranchHint {
+    fn read(bytes: &'a [u8], alloc: A) -> Result<(BranchHint, &'a [u8]), DecodeError> {
+        let (branch_func_offset, rest) = <u32 as Readable<'a, A, G>>::read(bytes, alloc)?;
+        let (HintValue(value), rest) = read_marked::<'a, HintValue, A, G>(0x01, rest, alloc)?;
         let hint = BranchHint {
             branch_func_offset,
             branch_hint_value: u32::from(value),
@@ -184,17 +184,18 @@ impl<A: Allocator> ItemsAs<(u32, Vec<BranchHint, A>)> for HintItems {
     }
 }
 
-impl<'a, A: Allocator + Copy> DecodesItems<'a, (u32, Vec<BranchHint, A>), A> for HintItems {
+impl<'a, A: Allocator + Copy, G: Grammar> DecodesItems<'a, (u32, Vec<BranchHint, A>), A, G>
+    for HintItems {
     fn read_item(
         bytes: &'a [u8],
         alloc: A,
-    ) -> Result<((u32, Vec<BranchHint, A>), &'a [u8]), ReadFault> {
-        <(u32, Vec<BranchHint, A>) as Readable<'a, A>>::read(bytes, alloc)
+    ) -> Result<((u32, Vec<BranchHint, A>), &'a [u8]), DecodeError> {
+        <(u32, Vec<BranchHint, A>) as Readable<'a, A, G>>::read(bytes, alloc)
     }
 }
 
-/// Decodes the payload of a branch hint section: for each function its index, and the hints of its
-/// branches.
+/// Decodes the payload of a branch hint section, in the grammar `G`: for each function its index,
+/// and the hints of its branches.
 ///
 /// # Errors
 ///
@@ -203,14 +204,14 @@ impl<'a, A: Allocator + Copy> DecodesItems<'a, (u32, Vec<BranchHint, A>), A> for
 /// # Proved
 ///
 /// ```text
-/// ensures found { IfOk result (λ x. hints_payload padded bytes.now (map hints_view x.items)) }
-/// ensures none { IfErr result (λ e. e ≢ Memory → RejectsWhole hints_payload bytes.now) }
+/// ensures found { IfOk result (λ x. hints_payload (padded_of G.grammar) bytes.now (map hints_view x.items)) }
+/// ensures none { IfErr result (λ e. e.cause ≢ Memory → RejectsWhole hints_payload (padded_of G.grammar) bytes.now) }
 /// ```
-pub fn read_hints<'a, A: Allocator + Copy>(
+pub fn read_hints<'a, A: Allocator + Copy, G: Grammar>(
     bytes: &'a [u8],
     alloc: A,
-) -> Result<Vec<(u32, Vec<BranchHint, A>), A>, ReadFault> {
-    read_counted::<'a, HintItems, (u32, Vec<BranchHint, A>), A>(bytes, alloc)
+) -> Result<Vec<(u32, Vec<BranchHint, A>), A>, DecodeError> {
+    read_counted::<'a, HintItems, (u32, Vec<BranchHint, A>), A, G>(bytes, alloc)
 }
 
 /// Appends the minimal encoding of the payload of a section of these hints. On an error, the sink

@@ -13,6 +13,7 @@
 /// ```text
 /// ensures names { Unambiguous (size_prefixed name_payload) }
 /// ensures linking { Unambiguous (size_prefixed linking_payload) }
+/// ensures objects { Unambiguous (size_prefixed object_payload) }
 /// ensures producers { Unambiguous (size_prefixed producers_payload) }
 /// ensures hints { Unambiguous (size_prefixed hints_payload) }
 /// ensures modules { Unambiguous (size_prefixed modules_payload) }
@@ -23,6 +24,12 @@
 /// ensures subsections { Unambiguous subsection }
 /// ensures links { Unambiguous link }
 /// ensures symbols { Unambiguous symbol }
+/// ensures object_links { Unambiguous full_link }
+/// ensures object_symbols { Unambiguous full_symbol }
+/// ensures segments { Unambiguous segment }
+/// ensures init_functions { Unambiguous init_function }
+/// ensures comdat_symbols { Unambiguous comdat_symbol }
+/// ensures comdats { Unambiguous comdat }
 /// ensures fields { Unambiguous field }
 /// ensures functions_hints { Unambiguous hints }
 /// ensures marked_names { Unambiguous marked_name }
@@ -31,6 +38,7 @@
 /// ensures values { Unambiguous value }
 /// ensures name_laws { ItemLaws name_items }
 /// ensures linking_items { ItemLaws link_items }
+/// ensures object_laws { ItemLaws object_items }
 /// ensures producer_laws { ItemLaws field_items }
 /// ensures hint_laws { ItemLaws hint_items }
 /// ensures module_laws { ItemLaws module_items }
@@ -47,6 +55,7 @@ pub fn sections() {}
 /// ```text
 /// ensures names { UnambiguousPadded (size_prefixed name_payload) }
 /// ensures linking { UnambiguousPadded (size_prefixed linking_payload) }
+/// ensures objects { UnambiguousPadded (size_prefixed object_payload) }
 /// ensures producers { UnambiguousPadded (size_prefixed producers_payload) }
 /// ensures hints { UnambiguousPadded (size_prefixed hints_payload) }
 /// ensures modules { UnambiguousPadded (size_prefixed modules_payload) }
@@ -65,6 +74,7 @@ pub fn padded() {}
 /// ```text
 /// ensures names { ContainsMore name_items }
 /// ensures linking { ContainsMore link_items }
+/// ensures objects { ContainsMore object_items }
 /// ensures producers { ContainsMore field_items }
 /// ensures hints { ContainsMore hint_items }
 /// ensures modules { ContainsMore module_items }
@@ -73,10 +83,20 @@ pub fn padded() {}
 /// ensures name_maps { ListMore naming_encoding IsNaming }
 /// ensures indirect_maps { ListMore inside_encoding IsInside }
 /// ensures symbol_tables { ListMore symbol_encoding IsGivenSymbol }
+/// ensures object_symbols { ListMore symbol_encoding IsFullSymbol }
+/// ensures segments { ListMore segment_encoding IsSegment }
+/// ensures init_functions { ListMore init_encoding IsInit }
+/// ensures comdat_symbols { ListMore comdat_symbol_encoding IsComdatSymbol }
+/// ensures comdats { ListMore comdat_encoding IsComdat }
 /// ensures producer_fields { ListMore producer_encoding IsProducer }
 /// ensures name_maps_encoding { IsVectorOf naming_encoding IsNaming }
 /// ensures indirect_maps_encoding { IsVectorOf inside_encoding IsInside }
 /// ensures symbol_tables_encoding { IsVectorOf symbol_encoding IsGivenSymbol }
+/// ensures object_symbols_encoding { IsVectorOf symbol_encoding IsFullSymbol }
+/// ensures segments_encoding { IsVectorOf segment_encoding IsSegment }
+/// ensures init_functions_encoding { IsVectorOf init_encoding IsInit }
+/// ensures comdat_symbols_encoding { IsVectorOf comdat_symbol_encoding IsComdatSymbol }
+/// ensures comdats_encoding { IsVectorOf comdat_encoding IsComdat }
 /// ensures producer_fields_encoding { IsVectorOf producer_encoding IsProducer }
 /// ```
 pub fn calls() {}
@@ -89,6 +109,7 @@ pub fn calls() {}
 /// ```text
 /// ensures names { ContainsMorePadded name_items }
 /// ensures linking { ContainsMorePadded link_items }
+/// ensures objects { ContainsMorePadded object_items }
 /// ensures producers { ContainsMorePadded field_items }
 /// ensures hints { ContainsMorePadded hint_items }
 /// ensures modules { ContainsMorePadded module_items }
@@ -104,6 +125,7 @@ pub fn padded_calls() {}
 /// ```text
 /// ensures names { DecodesPayloads name_payload }
 /// ensures linking { DecodesPayloads linking_payload }
+/// ensures objects { DecodesPayloads object_payload }
 /// ensures producers { DecodesPayloads producers_payload }
 /// ensures hints { DecodesPayloads hints_payload }
 /// ensures modules { DecodesPayloads modules_payload }
@@ -121,6 +143,7 @@ pub fn payloads() {}
 /// ```text
 /// ensures names { DecodesPayloadsPadded name_payload }
 /// ensures linking { DecodesPayloadsPadded linking_payload }
+/// ensures objects { DecodesPayloadsPadded object_payload }
 /// ensures producers { DecodesPayloadsPadded producers_payload }
 /// ensures hints { DecodesPayloadsPadded hints_payload }
 /// ensures modules { DecodesPayloadsPadded modules_payload }
@@ -130,6 +153,21 @@ pub fn payloads() {}
 /// ensures customs { DecodesPayloadsPadded (pair name any_bytes) }
 /// ```
 pub fn padded_payloads() {}
+
+/// In the standard's grammar, a payload encodes the items of a linking section if and only if it
+/// encodes them as that of an object file, which is the format that `ObjectLinking` promises. In
+/// the builders' grammar, the payload of a linking section is one of an object file too.
+///
+/// # Proved
+///
+/// ```text
+/// ensures decoded { IsIncludedIn (linking_payload standard) (object_payload standard) }
+/// ensures encoded { IsIncludedIn (object_payload standard) (linking_payload standard) }
+/// ensures minimal_decoded { IsIncludedIn (linking_payload standard_minimal) (object_payload standard_minimal) }
+/// ensures minimal_encoded { IsIncludedIn (object_payload standard_minimal) (linking_payload standard_minimal) }
+/// ensures built { IsIncludedIn (linking_payload padded_mode) (object_payload padded_mode) }
+/// ```
+pub fn object_linking() {}
 
 /// These two byte sequences encode no section, with padded numbers neither. In that of branch
 /// hints, a value has two bytes. In that of links, a defined function has no name.

@@ -2,12 +2,16 @@
 // The linking section: its builder, its reader and its minimizer.
 
 use crate::vec::{Sink, Vec};
+use crate::custom::comdats::Comdat;
 use crate::custom::entries::{CustomEntries, CustomKind};
+use crate::custom::init_functions::InitFunction;
 use crate::custom::named::after_name;
+use crate::custom::segments::SegmentInfo;
+use crate::custom::standard::require_standard;
 use crate::custom::subsections::Subsection;
 use crate::custom::symbols::{Symbol, SymbolTable};
 use crate::alloc::{Allocator, Global};
-use crate::base::{Encode, Kind, Layout, ReadFault, Readable, Result, Shorten, SizePrefixed, append_all, prefix_size_since, read_to_end, read_whole};
+use crate::base::{DecodeError, Encode, Grammar, Kind, Layout, ReadFault, Readable, Result, Shorten, SizePrefixed, append_all, prefix_size_since, read_to_end};
 
 /// The linking section: the symbols and target of a module for a linker, in version 2 of the
 /// format. Each call adds a subsection, and `new` allocates nothing.
@@ -96,12 +100,38 @@ impl<A: Allocator> LinkingSection<A> {
 /// The version of linking sections.
 const VERSION: u32 = 2;
 
-/// A decoded subsection of a linking section.
+/// A decoded subsection of a linking section. The builders' grammar has symbol tables and
+/// architectures alone.
 #[derive(Debug)]
 pub enum LinkItem<'a, A: Allocator = Global> {
+    /// The data segments, in the order of the data section.
+    Segments(Vec<SegmentInfo<'a>, A>),
+    /// The functions that the linked module calls when it starts.
+    InitFunctions(Vec<InitFunction, A>),
+    /// The COMDAT groups.
+    Comdats(Vec<Comdat<'a, A>, A>),
+    /// The symbol table.
     Symbols(Vec<Symbol<'a>, A>),
     /// The architecture of the target.
     Arch(&'a str),
+}
+
+/// Decodes a size-prefixed vector, which is the content of most subsections.
+///
+/// # Proved
+///
+/// ```text
+/// ensures found { IfOk result (λ x. Decodes (size_prefixed (vec T.format)) (padded_of G.grammar) bytes.now (map T.view x.0.items) x.1.now) }
+/// ensures none { IfErr result (λ e. e.cause ≢ Memory → Rejects (size_prefixed (vec T.format)) (padded_of G.grammar) bytes.now) }
+/// ```
+fn read_vector<'a, T: Readable<'a, A, G>, A: Allocator + Copy, G: Grammar>(
+    bytes: &'a [u8],
+    alloc: A,
+) -> Result<(Vec<T, A>, &'a [u8]), DecodeError> {
+    let (SizePrefixed(items), rest) = <SizePrefixed<Vec<T, A>> as Readable<'a, A, G>>::read(
+        bytes, alloc,
+    )?;
+    Ok((items, rest))
 }
 
 /// # Defined
@@ -120,22 +150,38 @@ impl<'a, A: Allocator> Layout for LinkItem<'a, A> {
     fn laws() {}
 }
 
-impl<'a, A: Allocator + Copy + 'a> Readable<'a, A> for LinkItem<'a, A> {
-    fn read(bytes: &'a [u8], alloc: A) -> Result<(LinkItem<'a, A>, &'a [u8]), ReadFault> {
-        let (id, rest) = <u8 as Readable<'a, A>>::read(bytes, alloc)?;
+impl<'a, A: Allocator + Copy + 'a, G: Grammar> Readable<'a, A, G> for LinkItem<'a, A> {
+    fn read(bytes: &'a [u8], alloc: A) -> Result<(LinkItem<'a, A>, &'a [u8]), DecodeError> {
+        let (id, rest) = <u8 as Readable<'a, A, G>>::read(bytes, alloc)?;
         match id {
+            5 => {
+                require_standard::<G>(rest)?;
+                let (segments, rest) = read_vector::<'a, SegmentInfo<'a>, A, G>(rest, alloc)?;
+                Ok((LinkItem::Segments(segments), rest))
+            }
+            6 => {
+                require_standard::<G>(rest)?;
+                let (functions, rest) = read_vector::<'a, InitFunction, A, G>(rest, alloc)?;
+                Ok((LinkItem::InitFunctions(functions), rest))
+            }
+            7 => {
+                require_standard::<G>(rest)?;
+                let (comdats, rest) = read_vector::<'a, Comdat<'a, A>, A, G>(rest, alloc)?;
+                Ok((LinkItem::Comdats(comdats), rest))
+            }
             8 => {
-                let (content, rest) = <&'a [u8] as Readable<'a, A>>::read(rest, alloc)?;
-                let symbols = read_whole::<'a, Vec<Symbol<'a>, A>, A>(content, alloc)?;
+                let (symbols, rest) = read_vector::<'a, Symbol<'a>, A, G>(rest, alloc)?;
                 Ok((LinkItem::Symbols(symbols), rest))
             }
             9 => {
-                let (SizePrefixed(name), rest) = <SizePrefixed<&'a str> as Readable<'a, A>>::read(
-                    rest, alloc,
-                )?;
+                let (SizePrefixed(name), rest) = <SizePrefixed<&'a str> as Readable<
+                    'a,
+                    A,
+                    G,
+                >>::read(rest, alloc)?;
                 Ok((LinkItem::Arch(name), rest))
             }
-            _ => Err(ReadFault::UnknownTag),
+            _ => Err(ReadFault::UnknownTag.just_before(rest)),
         }
     }
 }
@@ -145,19 +191,22 @@ impl<'a, A: Allocator + Copy + 'a> Readable<'a, A> for LinkItem<'a, A> {
 /// # Proved
 ///
 /// ```text
-/// ensures found { IfOk result (λ rest. Decodes (just version u32_format) padded bytes.now tt rest.now) }
-/// ensures none { IfErr result (λ e. e ≢ Memory → Rejects (just version u32_format) padded bytes.now) }
+/// ensures found { IfOk result (λ rest. Decodes (just version u32_format) (padded_of G.grammar) bytes.now tt rest.now) }
+/// ensures none { IfErr result (λ e. e.cause ≢ Memory → Rejects (just version u32_format) (padded_of G.grammar) bytes.now) }
 /// ```
-fn after_version<'a, A: Allocator + Copy>(bytes: &'a [u8], alloc: A) -> Result<&'a [u8], ReadFault> {
-    let (known, rest) = <u32 as Readable<'a, A>>::read(bytes, alloc)?;
+fn after_version<'a, A: Allocator + Copy, G: Grammar>(
+    bytes: &'a [u8],
+    alloc: A,
+) -> Result<&'a [u8], DecodeError> {
+    let (known, rest) = <u32 as Readable<'a, A, G>>::read(bytes, alloc)?;
     if known == VERSION {
         Ok(rest)
     } else {
-        Err(ReadFault::UnknownTag)
+        Err(ReadFault::UnknownTag.just_before(rest))
     }
 }
 
-/// Decodes the payload of a linking section: its subsections.
+/// Decodes the payload of a linking section, in the grammar `G`: its subsections.
 ///
 /// # Errors
 ///
@@ -166,32 +215,62 @@ fn after_version<'a, A: Allocator + Copy>(bytes: &'a [u8], alloc: A) -> Result<&
 /// # Proved
 ///
 /// ```text
-/// ensures found { IfOk result (λ x. linking_payload padded bytes.now (map link_view x.items)) }
-/// ensures none { IfErr result (λ e. e ≢ Memory → RejectsWhole linking_payload bytes.now) }
+/// ensures found { IfOk result (λ x. linking_payload (padded_of G.grammar) bytes.now (map link_view x.items)) }
+/// ensures none { IfErr result (λ e. e.cause ≢ Memory → RejectsWhole linking_payload (padded_of G.grammar) bytes.now) }
 /// ```
-pub fn read_links<'a, A: Allocator + Copy + 'a>(
+pub fn read_links<'a, A: Allocator + Copy + 'a, G: Grammar>(
     bytes: &'a [u8],
     alloc: A,
-) -> Result<Vec<LinkItem<'a, A>, A>, ReadFault> {
-    let rest = after_name("linking", bytes, alloc)?;
-    let rest = after_version(rest, alloc)?;
-    let items = read_to_end::<'a, LinkItem<'a, A>, A>(rest, alloc)?;
+) -> Result<Vec<LinkItem<'a, A>, A>, DecodeError> {
+    let rest = after_name::<A, G>("linking", bytes, alloc)?;
+    let rest = after_version::<A, G>(rest, alloc)?;
+    let items = read_to_end::<'a, LinkItem<'a, A>, A, G>(rest, alloc)?;
     Ok(items)
+}
+
+/// Appends the subsection of this id, whose content is the vector of the items.
+///
+/// # Proved
+///
+/// ```text
+/// ensures ok { OnOk result (AppendsMinimal (prefixed (id ∷ []) (size_prefixed (vec T.format))) (map T.view items.now.items) sink.old.items sink.new.items) }
+/// ensures front { IsFrontOf sink.old.items sink.new.items }
+/// ensures too_long { HasEncoding (prefixed (id ∷ []) (size_prefixed (vec T.format))) (map T.view items.now.items) → result ≢ Err TooLong }
+/// ```
+fn append_vector<T: Shorten, A: Allocator, B: Sink>(
+    id: u8,
+    items: &Vec<T, A>,
+    sink: &mut B,
+) -> Result<()> {
+    T::laws();
+    id.encode(sink)?;
+    let start = sink.len();
+    items.write_minimal(sink)?;
+    prefix_size_since(sink, start)
+}
+
+/// Appends the subsection of an architecture.
+///
+/// # Proved
+///
+/// ```text
+/// ensures ok { OnOk result (AppendsMinimal (prefixed (9 ∷ []) (size_prefixed name_format)) name.now sink.old.items sink.new.items) }
+/// ensures front { IsFrontOf sink.old.items sink.new.items }
+/// ensures too_long { HasEncoding (prefixed (9 ∷ []) (size_prefixed name_format)) name.now → result ≢ Err TooLong }
+/// ```
+fn append_target<B: Sink>(name: &str, sink: &mut B) -> Result<()> {
+    9u8.encode(sink)?;
+    SizePrefixed(name).write_minimal(sink)
 }
 
 impl<'a, A: Allocator> Shorten for LinkItem<'a, A> {
     fn write_minimal<B: Sink>(&self, sink: &mut B) -> Result<()> {
         match self {
-            LinkItem::Symbols(symbols) => {
-                8u8.encode(sink)?;
-                let start = sink.len();
-                symbols.write_minimal(sink)?;
-                prefix_size_since(sink, start)
-            }
-            LinkItem::Arch(name) => {
-                9u8.encode(sink)?;
-                SizePrefixed(*name).write_minimal(sink)
-            }
+            LinkItem::Segments(segments) => append_vector(5, segments, sink),
+            LinkItem::InitFunctions(functions) => append_vector(6, functions, sink),
+            LinkItem::Comdats(comdats) => append_vector(7, comdats, sink),
+            LinkItem::Symbols(symbols) => append_vector(8, symbols, sink),
+            LinkItem::Arch(name) => append_target(name, sink),
         }
     }
 }

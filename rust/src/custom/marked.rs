@@ -2,24 +2,24 @@
 // Values after a fixed byte.
 
 use crate::alloc::Allocator;
-use crate::base::{Layout, ReadFault, Readable};
+use crate::base::{DecodeError, Grammar, Layout, ReadFault, Readable};
 
 /// Decodes the byte `mark` and the value after it, and returns the value with the remaining bytes.
 ///
 /// # Proved
 ///
 /// ```text
-/// ensures found { IfOk result (λ x. Decodes (prefixed (mark ∷ []) T.format) padded bytes.now (T.view x.0) x.1.now) }
-/// ensures none { IfErr result (λ e. e ≢ Memory → Rejects (prefixed (mark ∷ []) T.format) padded bytes.now) }
+/// ensures found { IfOk result (λ x. Decodes (prefixed (mark ∷ []) T.format) (padded_of G.grammar) bytes.now (T.view x.0) x.1.now) }
+/// ensures none { IfErr result (λ e. e.cause ≢ Memory → Rejects (prefixed (mark ∷ []) T.format) (padded_of G.grammar) bytes.now) }
 /// ```
-pub(crate) fn read_marked<'a, T: Readable<'a, A>, A: Allocator + Copy>(
+pub(crate) fn read_marked<'a, T: Readable<'a, A, G>, A: Allocator + Copy, G: Grammar>(
     mark: u8,
     bytes: &'a [u8],
     alloc: A,
-) -> Result<(T, &'a [u8]), ReadFault> {
-    let (first, rest) = <u8 as Readable<'a, A>>::read(bytes, alloc)?;
+) -> Result<(T, &'a [u8]), DecodeError> {
+    let (first, rest) = <u8 as Readable<'a, A, G>>::read(bytes, alloc)?;
     if first != mark {
-        return Err(ReadFault::UnknownTag);
+        return Err(ReadFault::UnknownTag.just_before(rest));
     }
     let (value, rest) = T::read(rest, alloc)?;
     Ok((value, rest))
@@ -45,9 +45,9 @@ impl<'a> Layout for MarkedName<'a> {
     fn laws() {}
 }
 
-impl<'a, A: Allocator + Copy> Readable<'a, A> for MarkedName<'a> {
-    fn read(bytes: &'a [u8], alloc: A) -> Result<(MarkedName<'a>, &'a [u8]), ReadFault> {
-        let (name, rest) = read_marked::<'a, &'a str, A>(0x00, bytes, alloc)?;
+impl<'a, A: Allocator + Copy, G: Grammar> Readable<'a, A, G> for MarkedName<'a> {
+    fn read(bytes: &'a [u8], alloc: A) -> Result<(MarkedName<'a>, &'a [u8]), DecodeError> {
+        let (name, rest) = read_marked::<'a, &'a str, A, G>(0x00, bytes, alloc)?;
         Ok((MarkedName(name), rest))
     }
 }

@@ -2,25 +2,47 @@
 // The name at the front of a custom section's payload.
 
 use crate::alloc::Allocator;
-use crate::base::{ReadFault, Readable};
+use crate::base::{DecodeError, Grammar, ReadFault, Readable};
+
+/// Returns the error of a name that is not `name`, and which `rest` follows. Its place is the last
+/// byte of the size prefix if the sizes differ, and otherwise the first byte that differs.
+///
+/// # Proved
+///
+/// ```text
+/// ensures { result.cause ≡ UnknownTag }
+/// ```
+fn other_name(name: &str, known: &str, rest: &[u8]) -> DecodeError {
+    let mut left = known.as_bytes();
+    if left.len() != name.len() {
+        return ReadFault::UnknownTag.just_before(left).before(rest);
+    }
+    for byte in name.as_bytes() {
+        match left {
+            [first, after @ ..] if first == byte => left = after,
+            _ => break,
+        }
+    }
+    ReadFault::UnknownTag.at(left).before(rest)
+}
 
 /// Skips the section name if it is `name`, and returns the remaining bytes.
 ///
 /// # Proved
 ///
 /// ```text
-/// ensures found { IfOk result (λ rest. Decodes (just name.now name_format) padded bytes.now tt rest.now) }
-/// ensures none { IfErr result (λ e. e ≢ Memory → Rejects (just name.now name_format) padded bytes.now) }
+/// ensures found { IfOk result (λ rest. Decodes (just name.now name_format) (padded_of G.grammar) bytes.now tt rest.now) }
+/// ensures none { IfErr result (λ e. e.cause ≢ Memory → Rejects (just name.now name_format) (padded_of G.grammar) bytes.now) }
 /// ```
-pub(crate) fn after_name<'a, A: Allocator + Copy>(
+pub(crate) fn after_name<'a, A: Allocator + Copy, G: Grammar>(
     name: &str,
     bytes: &'a [u8],
     alloc: A,
-) -> Result<&'a [u8], ReadFault> {
-    let (known, rest) = <&'a str as Readable<'a, A>>::read(bytes, alloc)?;
+) -> Result<&'a [u8], DecodeError> {
+    let (known, rest) = <&'a str as Readable<'a, A, G>>::read(bytes, alloc)?;
     if known == name {
         Ok(rest)
     } else {
-        Err(ReadFault::UnknownTag)
+        Err(other_name(name, known, rest))
     }
 }

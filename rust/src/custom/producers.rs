@@ -6,7 +6,7 @@ use crate::custom::counted::{DecodesItems, ItemsAs, append_counted, read_counted
 use crate::custom::entries::{CustomEntries, CustomKind};
 use crate::custom::lists::{CountedList, ListKind};
 use crate::alloc::{Allocator, Global};
-use crate::base::{Kind, Lent, ReadFault, Readable, Result, Shorten};
+use crate::base::{DecodeError, Grammar, Kind, Lent, Readable, Result, Shorten};
 
 /// The values of a producers field: the tools that produced the module, and their versions.
 pub type ProducersField<A = Global> = CountedList<ValueMembers, A>;
@@ -134,18 +134,22 @@ impl<'a, A: Allocator> ItemsAs<(&'a str, Vec<(&'a str, &'a str), A>)> for Produc
     }
 }
 
-impl<'a, A: Allocator + Copy + 'a> DecodesItems<'a, (&'a str, Vec<(&'a str, &'a str), A>), A>
-    for ProducerItems {
+impl<'a, A: Allocator + Copy + 'a, G: Grammar> DecodesItems<
+    'a,
+    (&'a str, Vec<(&'a str, &'a str), A>),
+    A,
+    G,
+> for ProducerItems {
     fn read_item(
         bytes: &'a [u8],
         alloc: A,
-    ) -> Result<((&'a str, Vec<(&'a str, &'a str), A>), &'a [u8]), ReadFault> {
-        <(&'a str, Vec<(&'a str, &'a str), A>) as Readable<'a, A>>::read(bytes, alloc)
+    ) -> Result<((&'a str, Vec<(&'a str, &'a str), A>), &'a [u8]), DecodeError> {
+        <(&'a str, Vec<(&'a str, &'a str), A>) as Readable<'a, A, G>>::read(bytes, alloc)
     }
 }
 
-/// Decodes the payload of a producers section: its fields, each a name and its values, which are a
-/// name and a version.
+/// Decodes the payload of a producers section, in the grammar `G`: its fields, each a name and its
+/// values, which are a name and a version.
 ///
 /// # Errors
 ///
@@ -154,14 +158,14 @@ impl<'a, A: Allocator + Copy + 'a> DecodesItems<'a, (&'a str, Vec<(&'a str, &'a 
 /// # Proved
 ///
 /// ```text
-/// ensures found { IfOk result (λ x. producers_payload padded bytes.now (map field_view x.items)) }
-/// ensures none { IfErr result (λ e. e ≢ Memory → RejectsWhole producers_payload bytes.now) }
+/// ensures found { IfOk result (λ x. producers_payload (padded_of G.grammar) bytes.now (map field_view x.items)) }
+/// ensures none { IfErr result (λ e. e.cause ≢ Memory → RejectsWhole producers_payload (padded_of G.grammar) bytes.now) }
 /// ```
-pub fn read_producers<'a, A: Allocator + Copy + 'a>(
+pub fn read_producers<'a, A: Allocator + Copy + 'a, G: Grammar>(
     bytes: &'a [u8],
     alloc: A,
-) -> Result<Vec<(&'a str, Vec<(&'a str, &'a str), A>), A>, ReadFault> {
-    read_counted::<'a, ProducerItems, (&'a str, Vec<(&'a str, &'a str), A>), A>(bytes, alloc)
+) -> Result<Vec<(&'a str, Vec<(&'a str, &'a str), A>), A>, DecodeError> {
+    read_counted::<'a, ProducerItems, (&'a str, Vec<(&'a str, &'a str), A>), A, G>(bytes, alloc)
 }
 
 /// Appends the minimal encoding of the payload of a producers section of these fields. On an error,

@@ -3,12 +3,13 @@
 
 use crate::vec::Sink;
 use crate::custom::lists::{CountedList, ListKind};
+use crate::custom::standard::require_standard;
 use crate::alloc::{Allocator, Global};
 use crate::base::laws::plain_name;
-use crate::base::{Encode, Layout, Optional, ReadFault, Readable, Result, Shorten, read_optional};
+use crate::base::{DecodeError, Encode, Grammar, Layout, Optional, ReadFault, Readable, Result, Shorten, read_optional};
 
 /// A symbol table: the symbols of a module, in the order in which they are added. It is encoded as
-/// subsection 8 of a linking section.
+/// subsection 8 of a linking section. `ObjectSymbols` has further kinds of symbols.
 ///
 /// ```
 /// # use dolzhytik::{fallible::*, reader::*};
@@ -69,6 +70,7 @@ impl Encode for DataSymbolDefinition {
 pub enum SymbolKind {
     Function = 0x00,
     Global = 0x02,
+    Tag = 0x04,
     Table = 0x05,
 }
 
@@ -94,7 +96,7 @@ impl Encode for SymbolKind {
 /// ensures { IfSome name.entry (λ n. IsUtf8 n.now) }
 /// ```
 #[inline]
-fn given_name(name: Option<&str>) {
+pub(crate) fn given_name(name: Option<&str>) {
     if let Some(name) = name {
         plain_name(name);
     }
@@ -109,7 +111,7 @@ fn given_name(name: Option<&str>) {
 /// ensures { IfSome definition IsDefinition }
 /// ```
 #[inline]
-fn given_definition(definition: Option<DataSymbolDefinition>) {
+pub(crate) fn given_definition(definition: Option<DataSymbolDefinition>) {
     if let Some(given) = definition {
         let _ = (given.index, given.offset, given.size);
     }
@@ -149,7 +151,13 @@ const _: () = assert!(<SymbolTable>::WASM_SYM_EXPLICIT_NAME == 0x40);
 const _: () = assert!(<SymbolTable>::WASM_SYM_NO_STRIP == 0x80);
 
 impl<A: Allocator> SymbolTable<A> {
-    /// Adds a symbol with an index.
+    /// Adds a symbol with an index, of a kind that the builders' grammar has.
+    ///
+    /// # Asks
+    ///
+    /// ```text
+    /// requires { IsBuiltKind kind }
+    /// ```
     ///
     /// # Proved
     ///
@@ -244,6 +252,18 @@ pub enum Symbol<'a> {
         /// `None` if the flags say that the data are not defined in this module.
         definition: Option<DataSymbolDefinition>,
     },
+    /// A section, which only the standard's grammar has as a symbol.
+    Section {
+        flags: u32,
+        /// The index of the section in the module.
+        section: u32,
+    },
+    /// A tag, which only the standard's grammar has as a symbol.
+    Tag {
+        flags: u32,
+        index: u32,
+        name: Option<&'a str>,
+    },
 }
 
 /// Returns `true` if the encoding of a symbol with an index has a name.
@@ -276,20 +296,21 @@ fn has_definition(flags: u32) -> bool {
 /// # Proved
 ///
 /// ```text
-/// ensures found { IfOk result (λ x. Decodes (indexed_symbol kind) padded bytes.now (symbol_view x.0) x.1.now) }
-/// ensures none { IfErr result (λ e. e ≢ Memory → Rejects (indexed_symbol kind) padded bytes.now) }
+/// ensures found { IfOk result (λ x. Decodes (indexed_symbol kind) (padded_of G.grammar) bytes.now (symbol_view x.0) x.1.now) }
+/// ensures none { IfErr result (λ e. e.cause ≢ Memory → Rejects (indexed_symbol kind) (padded_of G.grammar) bytes.now) }
 /// ```
-fn read_indexed<'a, A: Allocator + Copy>(
+fn read_indexed<'a, A: Allocator + Copy, G: Grammar>(
     kind: SymbolKind,
     bytes: &'a [u8],
     alloc: A,
-) -> Result<(Symbol<'a>, &'a [u8]), ReadFault> {
-    let (flags, rest) = <u32 as Readable<'a, A>>::read(bytes, alloc)?;
-    let (index, rest) = <u32 as Readable<'a, A>>::read(rest, alloc)?;
-    let (name, rest) = read_optional::<'a, &'a str, A>(has_name(flags), rest, alloc)?;
+) -> Result<(Symbol<'a>, &'a [u8]), DecodeError> {
+    let (flags, rest) = <u32 as Readable<'a, A, G>>::read(bytes, alloc)?;
+    let (index, rest) = <u32 as Readable<'a, A, G>>::read(rest, alloc)?;
+    let (name, rest) = read_optional::<'a, &'a str, A, G>(has_name(flags), rest, alloc)?;
     let symbol = match kind {
         SymbolKind::Function => Symbol::Function { flags, index, name },
         SymbolKind::Global => Symbol::Global { flags, index, name },
+        SymbolKind::Tag => Symbol::Tag { flags, index, name },
         SymbolKind::Table => Symbol::Table { flags, index, name },
     };
     Ok((symbol, rest))
@@ -306,9 +327,9 @@ impl Layout for DataSymbolDefinition {
     fn laws() {}
 }
 
-impl<'a, A: Allocator + Copy> Readable<'a, A> for DataSymbolDefinition {
-    fn read(bytes: &'a [u8], alloc: A) -> Result<(DataSymbolDefinition, &'a [u8]), ReadFault> {
-        let ((index, (offset, size)), rest) = <(u32, (u32, u32)) as Readable<'a, A>>::read(
+impl<'a, A: Allocator + Copy, G: Grammar> Readable<'a, A, G> for DataSymbolDefinition {
+    fn read(bytes: &'a [u8], alloc: A) -> Result<(DataSymbolDefinition, &'a [u8]), DecodeError> {
+        let ((index, (offset, size)), rest) = <(u32, (u32, u32)) as Readable<'a, A, G>>::read(
             bytes, alloc,
         )?;
         let definition = DataSymbolDefinition {
@@ -325,16 +346,16 @@ impl<'a, A: Allocator + Copy> Readable<'a, A> for DataSymbolDefinition {
 /// # Proved
 ///
 /// ```text
-/// ensures found { IfOk result (λ x. Decodes (optional given definition_format) padded bytes.now x.0 x.1.now) }
-/// ensures none { IfErr result (λ e. e ≢ Memory → Rejects (optional given definition_format) padded bytes.now) }
+/// ensures found { IfOk result (λ x. Decodes (optional given definition_format) (padded_of G.grammar) bytes.now x.0 x.1.now) }
+/// ensures none { IfErr result (λ e. e.cause ≢ Memory → Rejects (optional given definition_format) (padded_of G.grammar) bytes.now) }
 /// ```
-fn read_definition<'a, A: Allocator + Copy>(
+fn read_definition<'a, A: Allocator + Copy, G: Grammar>(
     given: bool,
     bytes: &'a [u8],
     alloc: A,
-) -> Result<(Option<DataSymbolDefinition>, &'a [u8]), ReadFault> {
+) -> Result<(Option<DataSymbolDefinition>, &'a [u8]), DecodeError> {
     if given {
-        let (definition, rest) = <DataSymbolDefinition as Readable<'a, A>>::read(bytes, alloc)?;
+        let (definition, rest) = <DataSymbolDefinition as Readable<'a, A, G>>::read(bytes, alloc)?;
         Ok((Some(definition), rest))
     } else {
         Ok((None, bytes))
@@ -346,16 +367,16 @@ fn read_definition<'a, A: Allocator + Copy>(
 /// # Proved
 ///
 /// ```text
-/// ensures found { IfOk result (λ x. Decodes data_symbol padded bytes.now (symbol_view x.0) x.1.now) }
-/// ensures none { IfErr result (λ e. e ≢ Memory → Rejects data_symbol padded bytes.now) }
+/// ensures found { IfOk result (λ x. Decodes data_symbol (padded_of G.grammar) bytes.now (symbol_view x.0) x.1.now) }
+/// ensures none { IfErr result (λ e. e.cause ≢ Memory → Rejects data_symbol (padded_of G.grammar) bytes.now) }
 /// ```
-fn read_data<'a, A: Allocator + Copy>(
+fn read_data<'a, A: Allocator + Copy, G: Grammar>(
     bytes: &'a [u8],
     alloc: A,
-) -> Result<(Symbol<'a>, &'a [u8]), ReadFault> {
-    let (flags, rest) = <u32 as Readable<'a, A>>::read(bytes, alloc)?;
-    let (name, rest) = <&'a str as Readable<'a, A>>::read(rest, alloc)?;
-    let (definition, rest) = read_definition(has_definition(flags), rest, alloc)?;
+) -> Result<(Symbol<'a>, &'a [u8]), DecodeError> {
+    let (flags, rest) = <u32 as Readable<'a, A, G>>::read(bytes, alloc)?;
+    let (name, rest) = <&'a str as Readable<'a, A, G>>::read(rest, alloc)?;
+    let (definition, rest) = read_definition::<A, G>(has_definition(flags), rest, alloc)?;
     Ok((
         Symbol::DataSymbol {
             flags,
@@ -364,6 +385,23 @@ fn read_data<'a, A: Allocator + Copy>(
         },
         rest,
     ))
+}
+
+/// Decodes a section symbol, after the byte of its kind.
+///
+/// # Proved
+///
+/// ```text
+/// ensures found { IfOk result (λ x. Decodes section_symbol (padded_of G.grammar) bytes.now (symbol_view x.0) x.1.now) }
+/// ensures none { IfErr result (λ e. e.cause ≢ Memory → Rejects section_symbol (padded_of G.grammar) bytes.now) }
+/// ```
+fn read_section<'a, A: Allocator + Copy, G: Grammar>(
+    bytes: &'a [u8],
+    alloc: A,
+) -> Result<(Symbol<'a>, &'a [u8]), DecodeError> {
+    let (flags, rest) = <u32 as Readable<'a, A, G>>::read(bytes, alloc)?;
+    let (section, rest) = <u32 as Readable<'a, A, G>>::read(rest, alloc)?;
+    Ok((Symbol::Section { flags, section }, rest))
 }
 
 /// # Defined
@@ -382,27 +420,37 @@ impl<'a> Layout for Symbol<'a> {
     fn laws() {}
 }
 
-impl<'a, A: Allocator + Copy> Readable<'a, A> for Symbol<'a> {
-    fn read(bytes: &'a [u8], alloc: A) -> Result<(Symbol<'a>, &'a [u8]), ReadFault> {
-        let (kind, rest) = <u8 as Readable<'a, A>>::read(bytes, alloc)?;
+impl<'a, A: Allocator + Copy, G: Grammar> Readable<'a, A, G> for Symbol<'a> {
+    fn read(bytes: &'a [u8], alloc: A) -> Result<(Symbol<'a>, &'a [u8]), DecodeError> {
+        let (kind, rest) = <u8 as Readable<'a, A, G>>::read(bytes, alloc)?;
         match kind {
             0x00 => {
-                let (symbol, rest) = read_indexed(SymbolKind::Function, rest, alloc)?;
+                let (symbol, rest) = read_indexed::<A, G>(SymbolKind::Function, rest, alloc)?;
                 Ok((symbol, rest))
             }
             0x01 => {
-                let (symbol, rest) = read_data(rest, alloc)?;
+                let (symbol, rest) = read_data::<A, G>(rest, alloc)?;
                 Ok((symbol, rest))
             }
             0x02 => {
-                let (symbol, rest) = read_indexed(SymbolKind::Global, rest, alloc)?;
+                let (symbol, rest) = read_indexed::<A, G>(SymbolKind::Global, rest, alloc)?;
+                Ok((symbol, rest))
+            }
+            0x03 => {
+                require_standard::<G>(rest)?;
+                let (symbol, rest) = read_section::<A, G>(rest, alloc)?;
+                Ok((symbol, rest))
+            }
+            0x04 => {
+                require_standard::<G>(rest)?;
+                let (symbol, rest) = read_indexed::<A, G>(SymbolKind::Tag, rest, alloc)?;
                 Ok((symbol, rest))
             }
             0x05 => {
-                let (symbol, rest) = read_indexed(SymbolKind::Table, rest, alloc)?;
+                let (symbol, rest) = read_indexed::<A, G>(SymbolKind::Table, rest, alloc)?;
                 Ok((symbol, rest))
             }
-            _ => Err(ReadFault::UnknownTag),
+            _ => Err(ReadFault::UnknownTag.just_before(rest)),
         }
     }
 }
@@ -423,14 +471,14 @@ fn append_name<B: Sink>(flags: u32, name: Option<&str>, sink: &mut B) -> Result<
     }
 }
 
-/// Appends a symbol with an index.
+/// Appends a symbol with an index, whose kind is a byte.
 ///
 /// # Proved
 ///
 /// ```text
-/// ensures ok { OnOk result (AppendsMinimal symbol (indexed kind flags index (option_map (λ n. n.now) name.entry)) sink.old.items sink.new.items) }
+/// ensures ok { OnOk result (AppendsMinimal (prefixed (kind_code kind ∷ []) (indexed_symbol kind)) (indexed kind flags index (option_map (λ n. n.now) name.entry)) sink.old.items sink.new.items) }
 /// ensures front { IsFrontOf sink.old.items sink.new.items }
-/// ensures too_long { HasEncoding symbol (indexed kind flags index (option_map (λ n. n.now) name.entry)) → result ≢ Err TooLong }
+/// ensures too_long { HasEncoding (prefixed (kind_code kind ∷ []) (indexed_symbol kind)) (indexed kind flags index (option_map (λ n. n.now) name.entry)) → result ≢ Err TooLong }
 /// ```
 fn append_indexed<B: Sink>(
     kind: SymbolKind,
@@ -465,14 +513,14 @@ fn append_definition<B: Sink>(
     }
 }
 
-/// Appends a data symbol.
+/// Appends a data symbol, whose kind is 01.
 ///
 /// # Proved
 ///
 /// ```text
-/// ensures ok { OnOk result (AppendsMinimal symbol (of_data flags name.now definition) sink.old.items sink.new.items) }
+/// ensures ok { OnOk result (AppendsMinimal (prefixed (0x01 ∷ []) data_symbol) (of_data flags name.now definition) sink.old.items sink.new.items) }
 /// ensures front { IsFrontOf sink.old.items sink.new.items }
-/// ensures too_long { HasEncoding symbol (of_data flags name.now definition) → result ≢ Err TooLong }
+/// ensures too_long { HasEncoding (prefixed (0x01 ∷ []) data_symbol) (of_data flags name.now definition) → result ≢ Err TooLong }
 /// ```
 fn append_data<B: Sink>(
     flags: u32,
@@ -484,6 +532,21 @@ fn append_data<B: Sink>(
     flags.write_minimal(sink)?;
     name.write_minimal(sink)?;
     append_definition(flags, definition, sink)
+}
+
+/// Appends a section symbol, whose kind is 03.
+///
+/// # Proved
+///
+/// ```text
+/// ensures ok { OnOk result (AppendsMinimal (prefixed (0x03 ∷ []) section_symbol) (of_section flags section) sink.old.items sink.new.items) }
+/// ensures front { IsFrontOf sink.old.items sink.new.items }
+/// ensures too_long { result ≢ Err TooLong }
+/// ```
+fn append_section<B: Sink>(flags: u32, section: u32, sink: &mut B) -> Result<()> {
+    0x03u8.encode(sink)?;
+    flags.write_minimal(sink)?;
+    section.write_minimal(sink)
 }
 
 impl<'a> Shorten for Symbol<'a> {
@@ -503,6 +566,10 @@ impl<'a> Shorten for Symbol<'a> {
                 name,
                 definition,
             } => append_data(flags, name, definition, sink),
+            Symbol::Section { flags, section } => append_section(flags, section, sink),
+            Symbol::Tag { flags, index, name } => {
+                append_indexed(SymbolKind::Tag, flags, index, name, sink)
+            }
         }
     }
 }

@@ -3,7 +3,7 @@
 
 use crate::vec::Sink;
 use crate::alloc::Allocator;
-use crate::base::{Encode, Layout, ReadFault, Readable, Result, ValType, read_index, read_val_after};
+use crate::base::{DecodeError, Encode, Grammar, Layout, Readable, Result, ValType, read_index, read_val_after};
 
 /// The type of a block: its parameters and results.
 #[derive(Clone, Copy, Debug)]
@@ -39,23 +39,23 @@ impl Encode for BlockType {
 /// # Proved
 ///
 /// ```text
-/// ensures found { IfOk result (λ x. Decodes block_type padded bytes.now x.0 x.1.now) }
-/// ensures none { IfErr result (λ e. e ≢ Memory → Rejects block_type padded bytes.now) }
+/// ensures found { IfOk result (λ x. Decodes block_type (padded_of G.grammar) bytes.now x.0 x.1.now) }
+/// ensures none { IfErr result (λ e. e.cause ≢ Memory → Rejects block_type (padded_of G.grammar) bytes.now) }
 /// ```
 #[inline(never)]
-fn read_any_block<'a, A: Allocator + Copy>(
+fn read_any_block<'a, A: Allocator + Copy, G: Grammar>(
     bytes: &'a [u8],
     alloc: A,
-) -> Result<(BlockType, &'a [u8]), ReadFault> {
-    let (tag, rest) = <u8 as Readable<'a, A>>::read(bytes, alloc)?;
+) -> Result<(BlockType, &'a [u8]), DecodeError> {
+    let (tag, rest) = <u8 as Readable<'a, A, G>>::read(bytes, alloc)?;
     match tag {
         0x40 => Ok((BlockType::Empty, rest)),
         0x41..=0x7F => {
-            let (ty, rest) = read_val_after(tag, rest, alloc)?;
+            let (ty, rest) = read_val_after::<A, G>(tag, rest, alloc)?;
             Ok((BlockType::Result(ty), rest))
         }
         _ => {
-            let (index, rest) = read_index(bytes)?;
+            let (index, rest) = read_index::<G>(bytes)?;
             Ok((BlockType::FunctionType(index), rest))
         }
     }
@@ -72,13 +72,13 @@ impl Layout for BlockType {
     fn laws() {}
 }
 
-impl<'a, A: Allocator + Copy> Readable<'a, A> for BlockType {
+impl<'a, A: Allocator + Copy, G: Grammar> Readable<'a, A, G> for BlockType {
     #[inline]
-    fn read(bytes: &'a [u8], alloc: A) -> Result<(BlockType, &'a [u8]), ReadFault> {
-        let (tag, rest) = <u8 as Readable<'a, A>>::read(bytes, alloc)?;
+    fn read(bytes: &'a [u8], alloc: A) -> Result<(BlockType, &'a [u8]), DecodeError> {
+        let (tag, rest) = <u8 as Readable<'a, A, G>>::read(bytes, alloc)?;
         if tag == 0x40 {
             return Ok((BlockType::Empty, rest));
         }
-        read_any_block(bytes, alloc)
+        read_any_block::<A, G>(bytes, alloc)
     }
 }

@@ -3,7 +3,7 @@
 
 use crate::vec::Sink;
 use crate::alloc::Allocator;
-use crate::base::{Encode, Layout, ReadFault, Readable, Result};
+use crate::base::{DecodeError, Encode, Grammar, Layout, ReadFault, Readable, Result};
 
 /// A clause of `try_table`: the exceptions that it catches, and the label that it then branches to.
 #[derive(Clone, Copy, Debug)]
@@ -68,27 +68,27 @@ impl Layout for Catch {
     fn laws() {}
 }
 
-impl<'a, A: Allocator + Copy> Readable<'a, A> for Catch {
-    fn read(bytes: &'a [u8], alloc: A) -> Result<(Catch, &'a [u8]), ReadFault> {
-        let (kind, rest) = <u8 as Readable<'a, A>>::read(bytes, alloc)?;
+impl<'a, A: Allocator + Copy, G: Grammar> Readable<'a, A, G> for Catch {
+    fn read(bytes: &'a [u8], alloc: A) -> Result<(Catch, &'a [u8]), DecodeError> {
+        let (kind, rest) = <u8 as Readable<'a, A, G>>::read(bytes, alloc)?;
         match kind {
             0x00 => {
-                let ((tag, label), rest) = <(u32, u32) as Readable<'a, A>>::read(rest, alloc)?;
+                let ((tag, label), rest) = <(u32, u32) as Readable<'a, A, G>>::read(rest, alloc)?;
                 Ok((Catch::One { tag, label }, rest))
             }
             0x01 => {
-                let ((tag, label), rest) = <(u32, u32) as Readable<'a, A>>::read(rest, alloc)?;
+                let ((tag, label), rest) = <(u32, u32) as Readable<'a, A, G>>::read(rest, alloc)?;
                 Ok((Catch::OneRef { tag, label }, rest))
             }
             0x02 => {
-                let (label, rest) = <u32 as Readable<'a, A>>::read(rest, alloc)?;
+                let (label, rest) = <u32 as Readable<'a, A, G>>::read(rest, alloc)?;
                 Ok((Catch::All { label }, rest))
             }
             0x03 => {
-                let (label, rest) = <u32 as Readable<'a, A>>::read(rest, alloc)?;
+                let (label, rest) = <u32 as Readable<'a, A, G>>::read(rest, alloc)?;
                 Ok((Catch::AllRef { label }, rest))
             }
-            _ => Err(ReadFault::UnknownTag),
+            _ => Err(ReadFault::UnknownTag.just_before(rest)),
         }
     }
 }
@@ -104,19 +104,19 @@ impl Layout for Handle {
     fn laws() {}
 }
 
-impl<'a, A: Allocator + Copy> Readable<'a, A> for Handle {
-    fn read(bytes: &'a [u8], alloc: A) -> Result<(Handle, &'a [u8]), ReadFault> {
-        let (kind, rest) = <u8 as Readable<'a, A>>::read(bytes, alloc)?;
+impl<'a, A: Allocator + Copy, G: Grammar> Readable<'a, A, G> for Handle {
+    fn read(bytes: &'a [u8], alloc: A) -> Result<(Handle, &'a [u8]), DecodeError> {
+        let (kind, rest) = <u8 as Readable<'a, A, G>>::read(bytes, alloc)?;
         match kind {
             0x00 => {
-                let ((tag, label), rest) = <(u32, u32) as Readable<'a, A>>::read(rest, alloc)?;
+                let ((tag, label), rest) = <(u32, u32) as Readable<'a, A, G>>::read(rest, alloc)?;
                 Ok((Handle::OnLabel { tag, label }, rest))
             }
             0x01 => {
-                let (tag, rest) = <u32 as Readable<'a, A>>::read(rest, alloc)?;
+                let (tag, rest) = <u32 as Readable<'a, A, G>>::read(rest, alloc)?;
                 Ok((Handle::OnSwitch { tag }, rest))
             }
-            _ => Err(ReadFault::UnknownTag),
+            _ => Err(ReadFault::UnknownTag.just_before(rest)),
         }
     }
 }

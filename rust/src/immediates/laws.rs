@@ -4,8 +4,8 @@
 //!
 //! `Unambiguous F` says that the format `F` is unambiguous: at most one value decodes from the
 //! front of any bytes, with minimal and with padded numbers. A value has at most one minimal
-//! encoding. `HasMinimalEncodings F encodable encoding` says that `encoding` is the minimal encoding of each value that
-//! fits.
+//! encoding. `HasMinimalEncodings F encodable encoding` says that `encoding` is the minimal
+//! encoding of each value that fits.
 
 /// The formats of immediates are unambiguous.
 ///

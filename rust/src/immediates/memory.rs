@@ -4,7 +4,7 @@
 use crate::vec::Sink;
 use crate::alloc::Allocator;
 use core::default::Default;
-use crate::base::{Encode, Layout, ReadFault, Readable, Result, read_optional};
+use crate::base::{DecodeError, Encode, Grammar, Layout, ReadFault, Readable, Result, read_optional};
 
 /// The index of a lane of a vector.
 pub type Lane = u8;
@@ -214,13 +214,13 @@ impl Layout for Ordering {
     fn laws() {}
 }
 
-impl<'a, A: Allocator + Copy> Readable<'a, A> for Ordering {
-    fn read(bytes: &'a [u8], alloc: A) -> Result<(Ordering, &'a [u8]), ReadFault> {
-        let (byte, rest) = <u8 as Readable<'a, A>>::read(bytes, alloc)?;
+impl<'a, A: Allocator + Copy, G: Grammar> Readable<'a, A, G> for Ordering {
+    fn read(bytes: &'a [u8], alloc: A) -> Result<(Ordering, &'a [u8]), DecodeError> {
+        let (byte, rest) = <u8 as Readable<'a, A, G>>::read(bytes, alloc)?;
         match byte {
             0x00 => Ok((Ordering::SeqCst, rest)),
             0x01 => Ok((Ordering::AcqRel, rest)),
-            _ => Err(ReadFault::UnknownTag),
+            _ => Err(ReadFault::UnknownTag.just_before(rest)),
         }
     }
 }
@@ -236,14 +236,14 @@ impl Layout for MemArgOrdering {
     fn laws() {}
 }
 
-impl<'a, A: Allocator + Copy> Readable<'a, A> for MemArgOrdering {
-    fn read(bytes: &'a [u8], alloc: A) -> Result<(MemArgOrdering, &'a [u8]), ReadFault> {
-        let (tag, rest) = <u8 as Readable<'a, A>>::read(bytes, alloc)?;
+impl<'a, A: Allocator + Copy, G: Grammar> Readable<'a, A, G> for MemArgOrdering {
+    fn read(bytes: &'a [u8], alloc: A) -> Result<(MemArgOrdering, &'a [u8]), DecodeError> {
+        let (tag, rest) = <u8 as Readable<'a, A, G>>::read(bytes, alloc)?;
         match tag {
             0x00 => Ok((MemArgOrdering::Op(Ordering::SeqCst), rest)),
             0x01 => Ok((MemArgOrdering::Op(Ordering::AcqRel), rest)),
             0x11 => Ok((MemArgOrdering::Rmw(Ordering::AcqRel), rest)),
-            _ => Err(ReadFault::UnknownTag),
+            _ => Err(ReadFault::UnknownTag.just_before(rest)),
         }
     }
 }
@@ -253,26 +253,26 @@ impl<'a, A: Allocator + Copy> Readable<'a, A> for MemArgOrdering {
 /// # Proved
 ///
 /// ```text
-/// ensures found { IfOk result (λ x. Decodes (target_of array other) padded bytes.now x.0 x.1.now) }
-/// ensures none { IfErr result (λ e. e ≢ Memory → Rejects (target_of array other) padded bytes.now) }
+/// ensures found { IfOk result (λ x. Decodes (target_of array other) (padded_of G.grammar) bytes.now x.0 x.1.now) }
+/// ensures none { IfErr result (λ e. e.cause ≢ Memory → Rejects (target_of array other) (padded_of G.grammar) bytes.now) }
 /// ```
-fn read_target<'a, A: Allocator + Copy>(
+fn read_target<'a, A: Allocator + Copy, G: Grammar>(
     array: bool,
     other: bool,
     bytes: &'a [u8],
     alloc: A,
-) -> Result<(MemArgTarget, &'a [u8]), ReadFault> {
+) -> Result<(MemArgTarget, &'a [u8]), DecodeError> {
     match (array, other) {
         (false, false) => Ok((MemArgTarget::Memory(0), bytes)),
-        (true, true) => Err(ReadFault::UnknownTag),
+        (true, true) => Err(ReadFault::UnknownTag.just_before(bytes)),
         (true, false) => {
-            let (index, rest) = <u32 as Readable<'a, A>>::read(bytes, alloc)?;
+            let (index, rest) = <u32 as Readable<'a, A, G>>::read(bytes, alloc)?;
             Ok((MemArgTarget::Array(index), rest))
         }
         (false, true) => {
-            let (index, rest) = <u32 as Readable<'a, A>>::read(bytes, alloc)?;
+            let (index, rest) = <u32 as Readable<'a, A, G>>::read(bytes, alloc)?;
             if index == 0 {
-                return Err(ReadFault::UnknownTag);
+                return Err(ReadFault::UnknownTag.just_before(rest));
             }
             Ok((MemArgTarget::Memory(index), rest))
         }
@@ -284,25 +284,30 @@ fn read_target<'a, A: Allocator + Copy>(
 /// # Proved
 ///
 /// ```text
-/// ensures found { IfOk result (λ x. Decodes mem_arg padded bytes.now x.0 x.1.now) }
-/// ensures none { IfErr result (λ e. e ≢ Memory → Rejects mem_arg padded bytes.now) }
+/// ensures found { IfOk result (λ x. Decodes mem_arg (padded_of G.grammar) bytes.now x.0 x.1.now) }
+/// ensures none { IfErr result (λ e. e.cause ≢ Memory → Rejects mem_arg (padded_of G.grammar) bytes.now) }
 /// ```
 #[inline(never)]
-fn read_any_memory<'a, A: Allocator + Copy>(
+fn read_any_memory<'a, A: Allocator + Copy, G: Grammar>(
     bytes: &'a [u8],
     alloc: A,
-) -> Result<(MemArg, &'a [u8]), ReadFault> {
-    let (flags, rest) = <u32 as Readable<'a, A>>::read(bytes, alloc)?;
+) -> Result<(MemArg, &'a [u8]), DecodeError> {
+    let (flags, rest) = <u32 as Readable<'a, A, G>>::read(bytes, alloc)?;
     if flags >= 0x80 {
-        return Err(ReadFault::UnknownTag);
+        return Err(ReadFault::UnknownTag.just_before(rest));
     }
-    let (target, rest) = read_target(flags / 32 % 2 == 1, flags / 64 % 2 == 1, rest, alloc)?;
-    let (ordering, rest) = read_optional::<'a, MemArgOrdering, A>(
+    let (target, rest) = read_target::<A, G>(
+        flags / 32 % 2 == 1,
+        flags / 64 % 2 == 1,
+        rest,
+        alloc,
+    )?;
+    let (ordering, rest) = read_optional::<'a, MemArgOrdering, A, G>(
         flags / 16 % 2 == 1,
         rest,
         alloc,
     )?;
-    let (offset, rest) = <u64 as Readable<'a, A>>::read(rest, alloc)?;
+    let (offset, rest) = <u64 as Readable<'a, A, G>>::read(rest, alloc)?;
     Ok((
         MemArg {
             offset,
@@ -325,12 +330,12 @@ impl Layout for MemArg {
     fn laws() {}
 }
 
-impl<'a, A: Allocator + Copy> Readable<'a, A> for MemArg {
+impl<'a, A: Allocator + Copy, G: Grammar> Readable<'a, A, G> for MemArg {
     #[inline]
-    fn read(bytes: &'a [u8], alloc: A) -> Result<(MemArg, &'a [u8]), ReadFault> {
+    fn read(bytes: &'a [u8], alloc: A) -> Result<(MemArg, &'a [u8]), DecodeError> {
         if let [flags, rest @ ..] = bytes {
             if *flags < 0x10 {
-                let (offset, rest) = <u64 as Readable<'a, A>>::read(rest, alloc)?;
+                let (offset, rest) = <u64 as Readable<'a, A, G>>::read(rest, alloc)?;
                 let memory = MemArg {
                     offset,
                     align: u32::from(*flags),
@@ -340,6 +345,6 @@ impl<'a, A: Allocator + Copy> Readable<'a, A> for MemArg {
                 return Ok((memory, rest));
             }
         }
-        read_any_memory(bytes, alloc)
+        read_any_memory::<A, G>(bytes, alloc)
     }
 }

@@ -5,7 +5,7 @@ use crate::vec::{Sink, Vec};
 use crate::insn::op::Shape;
 use crate::insn::part::Part;
 use crate::alloc::{Allocator, Global};
-use crate::base::{Dropped, Encode, HeapType, ReadFault, Readable, Result, Skip, ValType, skip_many};
+use crate::base::{DecodeError, Dropped, Encode, Grammar, HeapType, ReadFault, Readable, Result, Skip, ValType, skip_many};
 use crate::immediates::{BlockType, Catch, Handle, Ieee32, Ieee64, MemArg, Ordering};
 
 /// An argument of an instruction, decoded from one immediate of its shape.
@@ -43,15 +43,15 @@ pub enum Arg<A: Allocator = Global> {
 /// # Proved
 ///
 /// ```text
-/// ensures found { IfOk result (λ x. Decodes (part parts.Unsigned) padded bytes.now (argument_view x.0) x.1.now) }
-/// ensures none { IfErr result (λ e. e ≢ Memory → Rejects (part parts.Unsigned) padded bytes.now) }
+/// ensures found { IfOk result (λ x. Decodes (part parts.Unsigned) (padded_of G.grammar) bytes.now (argument_view x.0) x.1.now) }
+/// ensures none { IfErr result (λ e. e.cause ≢ Memory → Rejects (part parts.Unsigned) (padded_of G.grammar) bytes.now) }
 /// ```
 #[inline(always)]
-pub(crate) fn read_unsigned<'a, A: Allocator + Copy>(
+pub(crate) fn read_unsigned<'a, A: Allocator + Copy, G: Grammar>(
     bytes: &'a [u8],
     alloc: A,
-) -> Result<(Arg<A>, &'a [u8]), ReadFault> {
-    let (value, rest) = <u32 as Readable<'a, A>>::read(bytes, alloc)?;
+) -> Result<(Arg<A>, &'a [u8]), DecodeError> {
+    let (value, rest) = <u32 as Readable<'a, A, G>>::read(bytes, alloc)?;
     Ok((Arg::U32(value), rest))
 }
 
@@ -60,15 +60,15 @@ pub(crate) fn read_unsigned<'a, A: Allocator + Copy>(
 /// # Proved
 ///
 /// ```text
-/// ensures found { IfOk result (λ x. Decodes (part parts.Signed32) padded bytes.now (argument_view x.0) x.1.now) }
-/// ensures none { IfErr result (λ e. e ≢ Memory → Rejects (part parts.Signed32) padded bytes.now) }
+/// ensures found { IfOk result (λ x. Decodes (part parts.Signed32) (padded_of G.grammar) bytes.now (argument_view x.0) x.1.now) }
+/// ensures none { IfErr result (λ e. e.cause ≢ Memory → Rejects (part parts.Signed32) (padded_of G.grammar) bytes.now) }
 /// ```
 #[inline(always)]
-pub(crate) fn read_signed32<'a, A: Allocator + Copy>(
+pub(crate) fn read_signed32<'a, A: Allocator + Copy, G: Grammar>(
     bytes: &'a [u8],
     alloc: A,
-) -> Result<(Arg<A>, &'a [u8]), ReadFault> {
-    let (value, rest) = <i32 as Readable<'a, A>>::read(bytes, alloc)?;
+) -> Result<(Arg<A>, &'a [u8]), DecodeError> {
+    let (value, rest) = <i32 as Readable<'a, A, G>>::read(bytes, alloc)?;
     Ok((Arg::S32(value), rest))
 }
 
@@ -77,15 +77,15 @@ pub(crate) fn read_signed32<'a, A: Allocator + Copy>(
 /// # Proved
 ///
 /// ```text
-/// ensures found { IfOk result (λ x. Decodes (part parts.Signed64) padded bytes.now (argument_view x.0) x.1.now) }
-/// ensures none { IfErr result (λ e. e ≢ Memory → Rejects (part parts.Signed64) padded bytes.now) }
+/// ensures found { IfOk result (λ x. Decodes (part parts.Signed64) (padded_of G.grammar) bytes.now (argument_view x.0) x.1.now) }
+/// ensures none { IfErr result (λ e. e.cause ≢ Memory → Rejects (part parts.Signed64) (padded_of G.grammar) bytes.now) }
 /// ```
 #[inline(always)]
-pub(crate) fn read_signed64<'a, A: Allocator + Copy>(
+pub(crate) fn read_signed64<'a, A: Allocator + Copy, G: Grammar>(
     bytes: &'a [u8],
     alloc: A,
-) -> Result<(Arg<A>, &'a [u8]), ReadFault> {
-    let (value, rest) = <i64 as Readable<'a, A>>::read(bytes, alloc)?;
+) -> Result<(Arg<A>, &'a [u8]), DecodeError> {
+    let (value, rest) = <i64 as Readable<'a, A, G>>::read(bytes, alloc)?;
     Ok((Arg::S64(value), rest))
 }
 
@@ -94,15 +94,15 @@ pub(crate) fn read_signed64<'a, A: Allocator + Copy>(
 /// # Proved
 ///
 /// ```text
-/// ensures found { IfOk result (λ x. Decodes (part parts.Float32) padded bytes.now (argument_view x.0) x.1.now) }
-/// ensures none { IfErr result (λ e. e ≢ Memory → Rejects (part parts.Float32) padded bytes.now) }
+/// ensures found { IfOk result (λ x. Decodes (part parts.Float32) (padded_of G.grammar) bytes.now (argument_view x.0) x.1.now) }
+/// ensures none { IfErr result (λ e. e.cause ≢ Memory → Rejects (part parts.Float32) (padded_of G.grammar) bytes.now) }
 /// ```
 #[inline(never)]
-fn read_float32<'a, A: Allocator + Copy>(
+fn read_float32<'a, A: Allocator + Copy, G: Grammar>(
     bytes: &'a [u8],
     alloc: A,
-) -> Result<(Arg<A>, &'a [u8]), ReadFault> {
-    let (value, rest) = <Ieee32 as Readable<'a, A>>::read(bytes, alloc)?;
+) -> Result<(Arg<A>, &'a [u8]), DecodeError> {
+    let (value, rest) = <Ieee32 as Readable<'a, A, G>>::read(bytes, alloc)?;
     Ok((Arg::F32(value), rest))
 }
 
@@ -111,15 +111,15 @@ fn read_float32<'a, A: Allocator + Copy>(
 /// # Proved
 ///
 /// ```text
-/// ensures found { IfOk result (λ x. Decodes (part parts.Float64) padded bytes.now (argument_view x.0) x.1.now) }
-/// ensures none { IfErr result (λ e. e ≢ Memory → Rejects (part parts.Float64) padded bytes.now) }
+/// ensures found { IfOk result (λ x. Decodes (part parts.Float64) (padded_of G.grammar) bytes.now (argument_view x.0) x.1.now) }
+/// ensures none { IfErr result (λ e. e.cause ≢ Memory → Rejects (part parts.Float64) (padded_of G.grammar) bytes.now) }
 /// ```
 #[inline(never)]
-fn read_float64<'a, A: Allocator + Copy>(
+fn read_float64<'a, A: Allocator + Copy, G: Grammar>(
     bytes: &'a [u8],
     alloc: A,
-) -> Result<(Arg<A>, &'a [u8]), ReadFault> {
-    let (value, rest) = <Ieee64 as Readable<'a, A>>::read(bytes, alloc)?;
+) -> Result<(Arg<A>, &'a [u8]), DecodeError> {
+    let (value, rest) = <Ieee64 as Readable<'a, A, G>>::read(bytes, alloc)?;
     Ok((Arg::F64(value), rest))
 }
 
@@ -128,15 +128,15 @@ fn read_float64<'a, A: Allocator + Copy>(
 /// # Proved
 ///
 /// ```text
-/// ensures found { IfOk result (λ x. Decodes (part parts.Vector) padded bytes.now (argument_view x.0) x.1.now) }
-/// ensures none { IfErr result (λ e. e ≢ Memory → Rejects (part parts.Vector) padded bytes.now) }
+/// ensures found { IfOk result (λ x. Decodes (part parts.Vector) (padded_of G.grammar) bytes.now (argument_view x.0) x.1.now) }
+/// ensures none { IfErr result (λ e. e.cause ≢ Memory → Rejects (part parts.Vector) (padded_of G.grammar) bytes.now) }
 /// ```
 #[inline(never)]
-fn read_vector<'a, A: Allocator + Copy>(
+fn read_vector<'a, A: Allocator + Copy, G: Grammar>(
     bytes: &'a [u8],
     alloc: A,
-) -> Result<(Arg<A>, &'a [u8]), ReadFault> {
-    let (value, rest) = <i128 as Readable<'a, A>>::read(bytes, alloc)?;
+) -> Result<(Arg<A>, &'a [u8]), DecodeError> {
+    let (value, rest) = <i128 as Readable<'a, A, G>>::read(bytes, alloc)?;
     Ok((Arg::V128(value), rest))
 }
 
@@ -145,15 +145,15 @@ fn read_vector<'a, A: Allocator + Copy>(
 /// # Proved
 ///
 /// ```text
-/// ensures found { IfOk result (λ x. Decodes (part parts.Memory) padded bytes.now (argument_view x.0) x.1.now) }
-/// ensures none { IfErr result (λ e. e ≢ Memory → Rejects (part parts.Memory) padded bytes.now) }
+/// ensures found { IfOk result (λ x. Decodes (part parts.Memory) (padded_of G.grammar) bytes.now (argument_view x.0) x.1.now) }
+/// ensures none { IfErr result (λ e. e.cause ≢ Memory → Rejects (part parts.Memory) (padded_of G.grammar) bytes.now) }
 /// ```
 #[inline(always)]
-pub(crate) fn read_memory<'a, A: Allocator + Copy>(
+pub(crate) fn read_memory<'a, A: Allocator + Copy, G: Grammar>(
     bytes: &'a [u8],
     alloc: A,
-) -> Result<(Arg<A>, &'a [u8]), ReadFault> {
-    let (value, rest) = <MemArg as Readable<'a, A>>::read(bytes, alloc)?;
+) -> Result<(Arg<A>, &'a [u8]), DecodeError> {
+    let (value, rest) = <MemArg as Readable<'a, A, G>>::read(bytes, alloc)?;
     Ok((Arg::Mem(value), rest))
 }
 
@@ -162,14 +162,14 @@ pub(crate) fn read_memory<'a, A: Allocator + Copy>(
 /// # Proved
 ///
 /// ```text
-/// ensures found { IfOk result (λ x. Decodes (part parts.Lane) padded bytes.now (argument_view x.0) x.1.now) }
-/// ensures none { IfErr result (λ e. e ≢ Memory → Rejects (part parts.Lane) padded bytes.now) }
+/// ensures found { IfOk result (λ x. Decodes (part parts.Lane) (padded_of G.grammar) bytes.now (argument_view x.0) x.1.now) }
+/// ensures none { IfErr result (λ e. e.cause ≢ Memory → Rejects (part parts.Lane) (padded_of G.grammar) bytes.now) }
 /// ```
-fn read_lane<'a, A: Allocator + Copy>(
+fn read_lane<'a, A: Allocator + Copy, G: Grammar>(
     bytes: &'a [u8],
     alloc: A,
-) -> Result<(Arg<A>, &'a [u8]), ReadFault> {
-    let (value, rest) = <u8 as Readable<'a, A>>::read(bytes, alloc)?;
+) -> Result<(Arg<A>, &'a [u8]), DecodeError> {
+    let (value, rest) = <u8 as Readable<'a, A, G>>::read(bytes, alloc)?;
     Ok((Arg::Lane(value), rest))
 }
 
@@ -178,15 +178,15 @@ fn read_lane<'a, A: Allocator + Copy>(
 /// # Proved
 ///
 /// ```text
-/// ensures found { IfOk result (λ x. Decodes (part parts.Lanes) padded bytes.now (argument_view x.0) x.1.now) }
-/// ensures none { IfErr result (λ e. e ≢ Memory → Rejects (part parts.Lanes) padded bytes.now) }
+/// ensures found { IfOk result (λ x. Decodes (part parts.Lanes) (padded_of G.grammar) bytes.now (argument_view x.0) x.1.now) }
+/// ensures none { IfErr result (λ e. e.cause ≢ Memory → Rejects (part parts.Lanes) (padded_of G.grammar) bytes.now) }
 /// ```
 #[inline(never)]
-fn read_lanes<'a, A: Allocator + Copy>(
+fn read_lanes<'a, A: Allocator + Copy, G: Grammar>(
     bytes: &'a [u8],
     alloc: A,
-) -> Result<(Arg<A>, &'a [u8]), ReadFault> {
-    let (value, rest) = <[u8; 16] as Readable<'a, A>>::read(bytes, alloc)?;
+) -> Result<(Arg<A>, &'a [u8]), DecodeError> {
+    let (value, rest) = <[u8; 16] as Readable<'a, A, G>>::read(bytes, alloc)?;
     Ok((Arg::Lanes(value), rest))
 }
 
@@ -195,15 +195,15 @@ fn read_lanes<'a, A: Allocator + Copy>(
 /// # Proved
 ///
 /// ```text
-/// ensures found { IfOk result (λ x. Decodes (part parts.Block) padded bytes.now (argument_view x.0) x.1.now) }
-/// ensures none { IfErr result (λ e. e ≢ Memory → Rejects (part parts.Block) padded bytes.now) }
+/// ensures found { IfOk result (λ x. Decodes (part parts.Block) (padded_of G.grammar) bytes.now (argument_view x.0) x.1.now) }
+/// ensures none { IfErr result (λ e. e.cause ≢ Memory → Rejects (part parts.Block) (padded_of G.grammar) bytes.now) }
 /// ```
 #[inline(always)]
-pub(crate) fn read_block<'a, A: Allocator + Copy>(
+pub(crate) fn read_block<'a, A: Allocator + Copy, G: Grammar>(
     bytes: &'a [u8],
     alloc: A,
-) -> Result<(Arg<A>, &'a [u8]), ReadFault> {
-    let (value, rest) = <BlockType as Readable<'a, A>>::read(bytes, alloc)?;
+) -> Result<(Arg<A>, &'a [u8]), DecodeError> {
+    let (value, rest) = <BlockType as Readable<'a, A, G>>::read(bytes, alloc)?;
     Ok((Arg::Block(value), rest))
 }
 
@@ -212,15 +212,15 @@ pub(crate) fn read_block<'a, A: Allocator + Copy>(
 /// # Proved
 ///
 /// ```text
-/// ensures found { IfOk result (λ x. Decodes (part parts.Heap) padded bytes.now (argument_view x.0) x.1.now) }
-/// ensures none { IfErr result (λ e. e ≢ Memory → Rejects (part parts.Heap) padded bytes.now) }
+/// ensures found { IfOk result (λ x. Decodes (part parts.Heap) (padded_of G.grammar) bytes.now (argument_view x.0) x.1.now) }
+/// ensures none { IfErr result (λ e. e.cause ≢ Memory → Rejects (part parts.Heap) (padded_of G.grammar) bytes.now) }
 /// ```
 #[inline(never)]
-fn read_heap<'a, A: Allocator + Copy>(
+fn read_heap<'a, A: Allocator + Copy, G: Grammar>(
     bytes: &'a [u8],
     alloc: A,
-) -> Result<(Arg<A>, &'a [u8]), ReadFault> {
-    let (value, rest) = <HeapType as Readable<'a, A>>::read(bytes, alloc)?;
+) -> Result<(Arg<A>, &'a [u8]), DecodeError> {
+    let (value, rest) = <HeapType as Readable<'a, A, G>>::read(bytes, alloc)?;
     Ok((Arg::Heap(value), rest))
 }
 
@@ -229,15 +229,15 @@ fn read_heap<'a, A: Allocator + Copy>(
 /// # Proved
 ///
 /// ```text
-/// ensures found { IfOk result (λ x. Decodes (part parts.Ordering) padded bytes.now (argument_view x.0) x.1.now) }
-/// ensures none { IfErr result (λ e. e ≢ Memory → Rejects (part parts.Ordering) padded bytes.now) }
+/// ensures found { IfOk result (λ x. Decodes (part parts.Ordering) (padded_of G.grammar) bytes.now (argument_view x.0) x.1.now) }
+/// ensures none { IfErr result (λ e. e.cause ≢ Memory → Rejects (part parts.Ordering) (padded_of G.grammar) bytes.now) }
 /// ```
 #[inline(never)]
-fn read_ordering<'a, A: Allocator + Copy>(
+fn read_ordering<'a, A: Allocator + Copy, G: Grammar>(
     bytes: &'a [u8],
     alloc: A,
-) -> Result<(Arg<A>, &'a [u8]), ReadFault> {
-    let (value, rest) = <Ordering as Readable<'a, A>>::read(bytes, alloc)?;
+) -> Result<(Arg<A>, &'a [u8]), DecodeError> {
+    let (value, rest) = <Ordering as Readable<'a, A, G>>::read(bytes, alloc)?;
     Ok((Arg::Order(value), rest))
 }
 
@@ -246,15 +246,15 @@ fn read_ordering<'a, A: Allocator + Copy>(
 /// # Proved
 ///
 /// ```text
-/// ensures found { IfOk result (λ x. Decodes (part parts.Labels) padded bytes.now (argument_view x.0) x.1.now) }
-/// ensures none { IfErr result (λ e. e ≢ Memory → Rejects (part parts.Labels) padded bytes.now) }
+/// ensures found { IfOk result (λ x. Decodes (part parts.Labels) (padded_of G.grammar) bytes.now (argument_view x.0) x.1.now) }
+/// ensures none { IfErr result (λ e. e.cause ≢ Memory → Rejects (part parts.Labels) (padded_of G.grammar) bytes.now) }
 /// ```
 #[inline(never)]
-fn read_labels<'a, A: Allocator + Copy>(
+fn read_labels<'a, A: Allocator + Copy, G: Grammar>(
     bytes: &'a [u8],
     alloc: A,
-) -> Result<(Arg<A>, &'a [u8]), ReadFault> {
-    let (value, rest) = <Vec<u32, A> as Readable<'a, A>>::read(bytes, alloc)?;
+) -> Result<(Arg<A>, &'a [u8]), DecodeError> {
+    let (value, rest) = <Vec<u32, A> as Readable<'a, A, G>>::read(bytes, alloc)?;
     Ok((Arg::Labels(value), rest))
 }
 
@@ -263,15 +263,15 @@ fn read_labels<'a, A: Allocator + Copy>(
 /// # Proved
 ///
 /// ```text
-/// ensures found { IfOk result (λ x. Decodes (part parts.Catches) padded bytes.now (argument_view x.0) x.1.now) }
-/// ensures none { IfErr result (λ e. e ≢ Memory → Rejects (part parts.Catches) padded bytes.now) }
+/// ensures found { IfOk result (λ x. Decodes (part parts.Catches) (padded_of G.grammar) bytes.now (argument_view x.0) x.1.now) }
+/// ensures none { IfErr result (λ e. e.cause ≢ Memory → Rejects (part parts.Catches) (padded_of G.grammar) bytes.now) }
 /// ```
 #[inline(never)]
-fn read_catches<'a, A: Allocator + Copy>(
+fn read_catches<'a, A: Allocator + Copy, G: Grammar>(
     bytes: &'a [u8],
     alloc: A,
-) -> Result<(Arg<A>, &'a [u8]), ReadFault> {
-    let (value, rest) = <Vec<Catch, A> as Readable<'a, A>>::read(bytes, alloc)?;
+) -> Result<(Arg<A>, &'a [u8]), DecodeError> {
+    let (value, rest) = <Vec<Catch, A> as Readable<'a, A, G>>::read(bytes, alloc)?;
     Ok((Arg::Catches(value), rest))
 }
 
@@ -280,15 +280,15 @@ fn read_catches<'a, A: Allocator + Copy>(
 /// # Proved
 ///
 /// ```text
-/// ensures found { IfOk result (λ x. Decodes (part parts.Types) padded bytes.now (argument_view x.0) x.1.now) }
-/// ensures none { IfErr result (λ e. e ≢ Memory → Rejects (part parts.Types) padded bytes.now) }
+/// ensures found { IfOk result (λ x. Decodes (part parts.Types) (padded_of G.grammar) bytes.now (argument_view x.0) x.1.now) }
+/// ensures none { IfErr result (λ e. e.cause ≢ Memory → Rejects (part parts.Types) (padded_of G.grammar) bytes.now) }
 /// ```
 #[inline(never)]
-fn read_types<'a, A: Allocator + Copy>(
+fn read_types<'a, A: Allocator + Copy, G: Grammar>(
     bytes: &'a [u8],
     alloc: A,
-) -> Result<(Arg<A>, &'a [u8]), ReadFault> {
-    let (value, rest) = <Vec<ValType, A> as Readable<'a, A>>::read(bytes, alloc)?;
+) -> Result<(Arg<A>, &'a [u8]), DecodeError> {
+    let (value, rest) = <Vec<ValType, A> as Readable<'a, A, G>>::read(bytes, alloc)?;
     Ok((Arg::Types(value), rest))
 }
 
@@ -297,15 +297,15 @@ fn read_types<'a, A: Allocator + Copy>(
 /// # Proved
 ///
 /// ```text
-/// ensures found { IfOk result (λ x. Decodes (part parts.Handles) padded bytes.now (argument_view x.0) x.1.now) }
-/// ensures none { IfErr result (λ e. e ≢ Memory → Rejects (part parts.Handles) padded bytes.now) }
+/// ensures found { IfOk result (λ x. Decodes (part parts.Handles) (padded_of G.grammar) bytes.now (argument_view x.0) x.1.now) }
+/// ensures none { IfErr result (λ e. e.cause ≢ Memory → Rejects (part parts.Handles) (padded_of G.grammar) bytes.now) }
 /// ```
 #[inline(never)]
-fn read_handles<'a, A: Allocator + Copy>(
+fn read_handles<'a, A: Allocator + Copy, G: Grammar>(
     bytes: &'a [u8],
     alloc: A,
-) -> Result<(Arg<A>, &'a [u8]), ReadFault> {
-    let (value, rest) = <Vec<Handle, A> as Readable<'a, A>>::read(bytes, alloc)?;
+) -> Result<(Arg<A>, &'a [u8]), DecodeError> {
+    let (value, rest) = <Vec<Handle, A> as Readable<'a, A, G>>::read(bytes, alloc)?;
     Ok((Arg::Handles(value), rest))
 }
 
@@ -314,18 +314,18 @@ fn read_handles<'a, A: Allocator + Copy>(
 /// # Proved
 ///
 /// ```text
-/// ensures found { IfOk result (λ x. Decodes (part parts.Flag) padded bytes.now (argument_view x.0) x.1.now) }
-/// ensures none { IfErr result (λ e. e ≢ Memory → Rejects (part parts.Flag) padded bytes.now) }
+/// ensures found { IfOk result (λ x. Decodes (part parts.Flag) (padded_of G.grammar) bytes.now (argument_view x.0) x.1.now) }
+/// ensures none { IfErr result (λ e. e.cause ≢ Memory → Rejects (part parts.Flag) (padded_of G.grammar) bytes.now) }
 /// ```
-fn read_flag<'a, A: Allocator + Copy>(
+fn read_flag<'a, A: Allocator + Copy, G: Grammar>(
     bytes: &'a [u8],
     alloc: A,
-) -> Result<(Arg<A>, &'a [u8]), ReadFault> {
-    let (value, rest) = <u8 as Readable<'a, A>>::read(bytes, alloc)?;
+) -> Result<(Arg<A>, &'a [u8]), DecodeError> {
+    let (value, rest) = <u8 as Readable<'a, A, G>>::read(bytes, alloc)?;
     if value < 4 {
         Ok((Arg::Flag(value), rest))
     } else {
-        Err(ReadFault::UnknownTag)
+        Err(ReadFault::UnknownTag.just_before(rest))
     }
 }
 
@@ -335,32 +335,32 @@ fn read_flag<'a, A: Allocator + Copy>(
 /// # Proved
 ///
 /// ```text
-/// ensures found { IfOk result (λ x. Decodes (part wanted) padded bytes.now (argument_view x.0) x.1.now) }
-/// ensures none { IfErr result (λ e. e ≢ Memory → Rejects (part wanted) padded bytes.now) }
+/// ensures found { IfOk result (λ x. Decodes (part wanted) (padded_of G.grammar) bytes.now (argument_view x.0) x.1.now) }
+/// ensures none { IfErr result (λ e. e.cause ≢ Memory → Rejects (part wanted) (padded_of G.grammar) bytes.now) }
 /// ```
-pub(crate) fn read_part<'a, A: Allocator + Copy>(
+pub(crate) fn read_part<'a, A: Allocator + Copy, G: Grammar>(
     wanted: Part,
     bytes: &'a [u8],
     alloc: A,
-) -> Result<(Arg<A>, &'a [u8]), ReadFault> {
+) -> Result<(Arg<A>, &'a [u8]), DecodeError> {
     match wanted {
-        Part::Unsigned => read_unsigned(bytes, alloc),
-        Part::Signed32 => read_signed32(bytes, alloc),
-        Part::Signed64 => read_signed64(bytes, alloc),
-        Part::Float32 => read_float32(bytes, alloc),
-        Part::Float64 => read_float64(bytes, alloc),
-        Part::Vector => read_vector(bytes, alloc),
-        Part::Memory => read_memory(bytes, alloc),
-        Part::Lane => read_lane(bytes, alloc),
-        Part::Lanes => read_lanes(bytes, alloc),
-        Part::Block => read_block(bytes, alloc),
-        Part::Heap => read_heap(bytes, alloc),
-        Part::Ordering => read_ordering(bytes, alloc),
-        Part::Labels => read_labels(bytes, alloc),
-        Part::Catches => read_catches(bytes, alloc),
-        Part::Types => read_types(bytes, alloc),
-        Part::Handles => read_handles(bytes, alloc),
-        Part::Flag => read_flag(bytes, alloc),
+        Part::Unsigned => read_unsigned::<A, G>(bytes, alloc),
+        Part::Signed32 => read_signed32::<A, G>(bytes, alloc),
+        Part::Signed64 => read_signed64::<A, G>(bytes, alloc),
+        Part::Float32 => read_float32::<A, G>(bytes, alloc),
+        Part::Float64 => read_float64::<A, G>(bytes, alloc),
+        Part::Vector => read_vector::<A, G>(bytes, alloc),
+        Part::Memory => read_memory::<A, G>(bytes, alloc),
+        Part::Lane => read_lane::<A, G>(bytes, alloc),
+        Part::Lanes => read_lanes::<A, G>(bytes, alloc),
+        Part::Block => read_block::<A, G>(bytes, alloc),
+        Part::Heap => read_heap::<A, G>(bytes, alloc),
+        Part::Ordering => read_ordering::<A, G>(bytes, alloc),
+        Part::Labels => read_labels::<A, G>(bytes, alloc),
+        Part::Catches => read_catches::<A, G>(bytes, alloc),
+        Part::Types => read_types::<A, G>(bytes, alloc),
+        Part::Handles => read_handles::<A, G>(bytes, alloc),
+        Part::Flag => read_flag::<A, G>(bytes, alloc),
     }
 }
 
@@ -376,18 +376,18 @@ pub(crate) fn read_part<'a, A: Allocator + Copy>(
 /// # Proved
 ///
 /// ```text
-/// ensures found { IfOk result (λ rest. Decodes (arguments wanted.now) padded bytes.now (map argument_view args.new.items) rest.now) }
-/// ensures none { IfErr result (λ e. e ≢ Memory → Rejects (arguments wanted.now) padded bytes.now) }
+/// ensures found { IfOk result (λ rest. Decodes (arguments wanted.now) (padded_of G.grammar) bytes.now (map argument_view args.new.items) rest.now) }
+/// ensures none { IfErr result (λ e. e.cause ≢ Memory → Rejects (arguments wanted.now) (padded_of G.grammar) bytes.now) }
 /// ```
-fn read_parts<'a, A: Allocator + Copy>(
+fn read_parts<'a, A: Allocator + Copy, G: Grammar>(
     wanted: &[Part],
     bytes: &'a [u8],
     alloc: A,
     args: &mut Vec<Arg<A>, A>,
-) -> Result<&'a [u8], ReadFault> {
+) -> Result<&'a [u8], DecodeError> {
     let mut rest = bytes;
     for part in wanted {
-        let (arg, after) = read_part(*part, rest, alloc)?;
+        let (arg, after) = read_part::<A, G>(*part, rest, alloc)?;
         args.push(arg)?;
         rest = after;
     }
@@ -400,18 +400,18 @@ fn read_parts<'a, A: Allocator + Copy>(
 /// # Proved
 ///
 /// ```text
-/// ensures found { IfOk result (λ x. Decodes (arguments (parts_of shape)) padded bytes.now (map argument_view x.0.items) x.1.now) }
-/// ensures none { IfErr result (λ e. e ≢ Memory → Rejects (arguments (parts_of shape)) padded bytes.now) }
+/// ensures found { IfOk result (λ x. Decodes (arguments (parts_of shape)) (padded_of G.grammar) bytes.now (map argument_view x.0.items) x.1.now) }
+/// ensures none { IfErr result (λ e. e.cause ≢ Memory → Rejects (arguments (parts_of shape)) (padded_of G.grammar) bytes.now) }
 /// ```
 #[inline(never)]
-fn read_any<'a, A: Allocator + Copy>(
+fn read_any<'a, A: Allocator + Copy, G: Grammar>(
     shape: Shape,
     bytes: &'a [u8],
     alloc: A,
-) -> Result<(Vec<Arg<A>, A>, &'a [u8]), ReadFault> {
+) -> Result<(Vec<Arg<A>, A>, &'a [u8]), DecodeError> {
     let wanted = shape.parts();
     let mut args = Vec::with_capacity(alloc, wanted.len())?;
-    let rest = read_parts(wanted, bytes, alloc, &mut args)?;
+    let rest = read_parts::<A, G>(wanted, bytes, alloc, &mut args)?;
     Ok((args, rest))
 }
 
@@ -421,13 +421,13 @@ fn read_any<'a, A: Allocator + Copy>(
 ///
 /// ```text
 /// ensures listed { IfOk result (λ x. (x.0.items ≡ read.entry.0 ∷ []) × (x.1.now ≡ read.entry.1.now)) }
-/// ensures refused { IfErr result (λ e. e ≡ Memory) }
+/// ensures refused { IfErr result (λ e. e.cause ≡ Memory) }
 /// ```
 #[inline(always)]
 fn list_one<'a, A: Allocator + Copy>(
     alloc: A,
     read: (Arg<A>, &'a [u8]),
-) -> Result<(Vec<Arg<A>, A>, &'a [u8]), ReadFault> {
+) -> Result<(Vec<Arg<A>, A>, &'a [u8]), DecodeError> {
     let (arg, rest) = read;
     let mut args = Vec::with_capacity(alloc, 1)?;
     args.push_reserved(arg);
@@ -440,23 +440,23 @@ fn list_one<'a, A: Allocator + Copy>(
 /// # Proved
 ///
 /// ```text
-/// ensures found { IfOk result (λ x. Decodes (arguments (parts_of shape)) padded bytes.now (map argument_view x.0.items) x.1.now) }
-/// ensures none { IfErr result (λ e. e ≢ Memory → Rejects (arguments (parts_of shape)) padded bytes.now) }
+/// ensures found { IfOk result (λ x. Decodes (arguments (parts_of shape)) (padded_of G.grammar) bytes.now (map argument_view x.0.items) x.1.now) }
+/// ensures none { IfErr result (λ e. e.cause ≢ Memory → Rejects (arguments (parts_of shape)) (padded_of G.grammar) bytes.now) }
 /// ```
 #[inline]
-pub(crate) fn read_arguments<'a, A: Allocator + Copy>(
+pub(crate) fn read_arguments<'a, A: Allocator + Copy, G: Grammar>(
     shape: Shape,
     bytes: &'a [u8],
     alloc: A,
-) -> Result<(Vec<Arg<A>, A>, &'a [u8]), ReadFault> {
+) -> Result<(Vec<Arg<A>, A>, &'a [u8]), DecodeError> {
     match shape {
         Shape::Nothing => Ok((Vec::new(alloc), bytes)),
-        Shape::U => list_one(alloc, read_unsigned(bytes, alloc)?),
-        Shape::M => list_one(alloc, read_memory(bytes, alloc)?),
-        Shape::C32 => list_one(alloc, read_signed32(bytes, alloc)?),
-        Shape::C64 => list_one(alloc, read_signed64(bytes, alloc)?),
-        Shape::B => list_one(alloc, read_block(bytes, alloc)?),
-        _ => read_any(shape, bytes, alloc),
+        Shape::U => list_one(alloc, read_unsigned::<A, G>(bytes, alloc)?),
+        Shape::M => list_one(alloc, read_memory::<A, G>(bytes, alloc)?),
+        Shape::C32 => list_one(alloc, read_signed32::<A, G>(bytes, alloc)?),
+        Shape::C64 => list_one(alloc, read_signed64::<A, G>(bytes, alloc)?),
+        Shape::B => list_one(alloc, read_block::<A, G>(bytes, alloc)?),
+        _ => read_any::<A, G>(shape, bytes, alloc),
     }
 }
 
@@ -465,18 +465,18 @@ pub(crate) fn read_arguments<'a, A: Allocator + Copy>(
 /// # Proved
 ///
 /// ```text
-/// ensures found { IfOk result (λ rest. Decodes (arguments (parts_of shape)) padded bytes.now (map argument_view args.new.items) rest.now) }
-/// ensures none { IfErr result (λ e. e ≢ Memory → Rejects (arguments (parts_of shape)) padded bytes.now) }
+/// ensures found { IfOk result (λ rest. Decodes (arguments (parts_of shape)) (padded_of G.grammar) bytes.now (map argument_view args.new.items) rest.now) }
+/// ensures none { IfErr result (λ e. e.cause ≢ Memory → Rejects (arguments (parts_of shape)) (padded_of G.grammar) bytes.now) }
 /// ```
 #[inline(never)]
-fn read_any_into<'a, A: Allocator + Copy>(
+fn read_any_into<'a, A: Allocator + Copy, G: Grammar>(
     shape: Shape,
     bytes: &'a [u8],
     alloc: A,
     args: &mut Vec<Arg<A>, A>,
-) -> Result<&'a [u8], ReadFault> {
+) -> Result<&'a [u8], DecodeError> {
     args.clear();
-    read_parts(shape.parts(), bytes, alloc, args)
+    read_parts::<A, G>(shape.parts(), bytes, alloc, args)
 }
 
 /// Makes the decoded argument the only one of the list, and returns the remaining bytes.
@@ -485,13 +485,13 @@ fn read_any_into<'a, A: Allocator + Copy>(
 ///
 /// ```text
 /// ensures kept { IfOk result (λ rest. (args.new.items ≡ read.entry.0 ∷ []) × (rest.now ≡ read.entry.1.now)) }
-/// ensures refused { IfErr result (λ e. e ≡ Memory) }
+/// ensures refused { IfErr result (λ e. e.cause ≡ Memory) }
 /// ```
 #[inline(always)]
 fn keep_one<'a, A: Allocator + Copy>(
     args: &mut Vec<Arg<A>, A>,
     read: (Arg<A>, &'a [u8]),
-) -> Result<&'a [u8], ReadFault> {
+) -> Result<&'a [u8], DecodeError> {
     let (arg, rest) = read;
     if let [one] = &mut args[..] {
         *one = arg;
@@ -508,27 +508,27 @@ fn keep_one<'a, A: Allocator + Copy>(
 /// # Proved
 ///
 /// ```text
-/// ensures found { IfOk result (λ rest. Decodes (arguments (parts_of shape)) padded bytes.now (map argument_view args.new.items) rest.now) }
-/// ensures none { IfErr result (λ e. e ≢ Memory → Rejects (arguments (parts_of shape)) padded bytes.now) }
+/// ensures found { IfOk result (λ rest. Decodes (arguments (parts_of shape)) (padded_of G.grammar) bytes.now (map argument_view args.new.items) rest.now) }
+/// ensures none { IfErr result (λ e. e.cause ≢ Memory → Rejects (arguments (parts_of shape)) (padded_of G.grammar) bytes.now) }
 /// ```
 #[inline]
-pub(crate) fn read_arguments_into<'a, A: Allocator + Copy>(
+pub(crate) fn read_arguments_into<'a, A: Allocator + Copy, G: Grammar>(
     shape: Shape,
     bytes: &'a [u8],
     alloc: A,
     args: &mut Vec<Arg<A>, A>,
-) -> Result<&'a [u8], ReadFault> {
+) -> Result<&'a [u8], DecodeError> {
     match shape {
         Shape::Nothing => {
             args.clear();
             Ok(bytes)
         }
-        Shape::U => keep_one(args, read_unsigned(bytes, alloc)?),
-        Shape::M => keep_one(args, read_memory(bytes, alloc)?),
-        Shape::C32 => keep_one(args, read_signed32(bytes, alloc)?),
-        Shape::C64 => keep_one(args, read_signed64(bytes, alloc)?),
-        Shape::B => keep_one(args, read_block(bytes, alloc)?),
-        _ => read_any_into(shape, bytes, alloc, args),
+        Shape::U => keep_one(args, read_unsigned::<A, G>(bytes, alloc)?),
+        Shape::M => keep_one(args, read_memory::<A, G>(bytes, alloc)?),
+        Shape::C32 => keep_one(args, read_signed32::<A, G>(bytes, alloc)?),
+        Shape::C64 => keep_one(args, read_signed64::<A, G>(bytes, alloc)?),
+        Shape::B => keep_one(args, read_block::<A, G>(bytes, alloc)?),
+        _ => read_any_into::<A, G>(shape, bytes, alloc, args),
     }
 }
 
@@ -587,33 +587,33 @@ pub(crate) fn append_arguments<A: Allocator, B: Sink>(
 /// # Proved
 ///
 /// ```text
-/// ensures found { IfOk result (λ rest. (x : Argument) × Decodes (part wanted) padded bytes.now x rest.now) }
-/// ensures none { IfErr result (λ e. e ≢ Memory → Rejects (part wanted) padded bytes.now) }
+/// ensures found { IfOk result (λ rest. (x : Argument) × Decodes (part wanted) (padded_of G.grammar) bytes.now x rest.now) }
+/// ensures none { IfErr result (λ e. e.cause ≢ Memory → Rejects (part wanted) (padded_of G.grammar) bytes.now) }
 /// ```
-fn skip_part<'a, A: Allocator + Copy>(
+fn skip_part<'a, A: Allocator + Copy, G: Grammar>(
     wanted: Part,
     bytes: &'a [u8],
     alloc: A,
-) -> Result<&'a [u8], ReadFault> {
+) -> Result<&'a [u8], DecodeError> {
     match wanted {
         Part::Labels => {
-            let (_count, rest) = skip_many::<'a, Dropped<u32>, A>(bytes, alloc)?;
+            let (_count, rest) = skip_many::<'a, Dropped<u32>, A, G>(bytes, alloc)?;
             Ok(rest)
         }
         Part::Catches => {
-            let (_count, rest) = skip_many::<'a, Dropped<Catch>, A>(bytes, alloc)?;
+            let (_count, rest) = skip_many::<'a, Dropped<Catch>, A, G>(bytes, alloc)?;
             Ok(rest)
         }
         Part::Types => {
-            let (_count, rest) = skip_many::<'a, Dropped<ValType>, A>(bytes, alloc)?;
+            let (_count, rest) = skip_many::<'a, Dropped<ValType>, A, G>(bytes, alloc)?;
             Ok(rest)
         }
         Part::Handles => {
-            let (_count, rest) = skip_many::<'a, Dropped<Handle>, A>(bytes, alloc)?;
+            let (_count, rest) = skip_many::<'a, Dropped<Handle>, A, G>(bytes, alloc)?;
             Ok(rest)
         }
         _ => {
-            let (_arg, rest) = read_part(wanted, bytes, alloc)?;
+            let (_arg, rest) = read_part::<A, G>(wanted, bytes, alloc)?;
             Ok(rest)
         }
     }
@@ -624,17 +624,17 @@ fn skip_part<'a, A: Allocator + Copy>(
 /// # Proved
 ///
 /// ```text
-/// ensures found { IfOk result (λ rest. (xs : List Argument) × Decodes (arguments wanted.now) padded bytes.now xs rest.now) }
-/// ensures none { IfErr result (λ e. e ≢ Memory → Rejects (arguments wanted.now) padded bytes.now) }
+/// ensures found { IfOk result (λ rest. (xs : List Argument) × Decodes (arguments wanted.now) (padded_of G.grammar) bytes.now xs rest.now) }
+/// ensures none { IfErr result (λ e. e.cause ≢ Memory → Rejects (arguments wanted.now) (padded_of G.grammar) bytes.now) }
 /// ```
-fn skip_parts<'a, A: Allocator + Copy>(
+fn skip_parts<'a, A: Allocator + Copy, G: Grammar>(
     wanted: &[Part],
     bytes: &'a [u8],
     alloc: A,
-) -> Result<&'a [u8], ReadFault> {
+) -> Result<&'a [u8], DecodeError> {
     let mut rest = bytes;
     for part in wanted {
-        rest = skip_part(*part, rest, alloc)?;
+        rest = skip_part::<A, G>(*part, rest, alloc)?;
     }
     Ok(rest)
 }
@@ -644,16 +644,16 @@ fn skip_parts<'a, A: Allocator + Copy>(
 /// # Proved
 ///
 /// ```text
-/// ensures found { IfOk result (λ rest. (xs : List Argument) × Decodes (arguments (parts_of shape)) padded bytes.now xs rest.now) }
-/// ensures none { IfErr result (λ e. e ≢ Memory → Rejects (arguments (parts_of shape)) padded bytes.now) }
+/// ensures found { IfOk result (λ rest. (xs : List Argument) × Decodes (arguments (parts_of shape)) (padded_of G.grammar) bytes.now xs rest.now) }
+/// ensures none { IfErr result (λ e. e.cause ≢ Memory → Rejects (arguments (parts_of shape)) (padded_of G.grammar) bytes.now) }
 /// ```
 #[inline(never)]
-fn skip_any<'a, A: Allocator + Copy>(
+fn skip_any<'a, A: Allocator + Copy, G: Grammar>(
     shape: Shape,
     bytes: &'a [u8],
     alloc: A,
-) -> Result<&'a [u8], ReadFault> {
-    skip_parts(shape.parts(), bytes, alloc)
+) -> Result<&'a [u8], DecodeError> {
+    skip_parts::<A, G>(shape.parts(), bytes, alloc)
 }
 
 /// Skips the arguments of an opcode of this shape, and returns the remaining bytes. Common shapes
@@ -662,37 +662,37 @@ fn skip_any<'a, A: Allocator + Copy>(
 /// # Proved
 ///
 /// ```text
-/// ensures found { IfOk result (λ rest. (xs : List Argument) × Decodes (arguments (parts_of shape)) padded bytes.now xs rest.now) }
-/// ensures none { IfErr result (λ e. e ≢ Memory → Rejects (arguments (parts_of shape)) padded bytes.now) }
+/// ensures found { IfOk result (λ rest. (xs : List Argument) × Decodes (arguments (parts_of shape)) (padded_of G.grammar) bytes.now xs rest.now) }
+/// ensures none { IfErr result (λ e. e.cause ≢ Memory → Rejects (arguments (parts_of shape)) (padded_of G.grammar) bytes.now) }
 /// ```
 #[inline]
-pub(crate) fn skip_arguments<'a, A: Allocator + Copy>(
+pub(crate) fn skip_arguments<'a, A: Allocator + Copy, G: Grammar>(
     shape: Shape,
     bytes: &'a [u8],
     alloc: A,
-) -> Result<&'a [u8], ReadFault> {
+) -> Result<&'a [u8], DecodeError> {
     match shape {
         Shape::Nothing => Ok(bytes),
         Shape::U => {
-            let (_arg, rest) = read_unsigned(bytes, alloc)?;
+            let (_arg, rest) = read_unsigned::<A, G>(bytes, alloc)?;
             Ok(rest)
         }
         Shape::M => {
-            let (_arg, rest) = read_memory(bytes, alloc)?;
+            let (_arg, rest) = read_memory::<A, G>(bytes, alloc)?;
             Ok(rest)
         }
         Shape::C32 => {
-            let (_arg, rest) = read_signed32(bytes, alloc)?;
+            let (_arg, rest) = read_signed32::<A, G>(bytes, alloc)?;
             Ok(rest)
         }
         Shape::C64 => {
-            let (_arg, rest) = read_signed64(bytes, alloc)?;
+            let (_arg, rest) = read_signed64::<A, G>(bytes, alloc)?;
             Ok(rest)
         }
         Shape::B => {
-            let (_arg, rest) = read_block(bytes, alloc)?;
+            let (_arg, rest) = read_block::<A, G>(bytes, alloc)?;
             Ok(rest)
         }
-        _ => skip_any(shape, bytes, alloc),
+        _ => skip_any::<A, G>(shape, bytes, alloc),
     }
 }

@@ -5,7 +5,8 @@
 //! `Unambiguous F` says that the format `F` is unambiguous: at most one value decodes from the
 //! front of any bytes, with minimal and with padded numbers. A value has at most one minimal
 //! encoding. `UnambiguousWhole F` says the same of a format that occupies all of the bytes.
-//! `HasMinimalEncodings F encodable encoding` says that `encoding` is the minimal encoding of each value that fits.
+//! `HasMinimalEncodings F encodable encoding` says that `encoding` is the minimal encoding of each
+//! value that fits.
 
 use crate::insn::instruction::Instruction;
 use crate::insn::ranged::arguments_ranged;

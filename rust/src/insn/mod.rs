@@ -1,5 +1,6 @@
 // Written by tools/to-rust from crates/wasm_insn/src/lib.rt: change that.
-//! The instructions of WebAssembly: their immediates, their opcodes, and their format.
+//! The instructions of WebAssembly, encoded and decoded: their immediates, their opcodes, and their
+//! format.
 //!
 //! Each instruction belongs to a type by its opcode. One-byte instructions outside 45 to C4
 //! (hexadecimal), and those with fields after the prefixes FB and FC, are cases of [`Instruction`].

@@ -3,7 +3,7 @@
 
 use crate::vec::Sink;
 use crate::alloc::Allocator;
-use crate::base::{Encode, Layout, ReadFault, Readable, Result, Shorten};
+use crate::base::{DecodeError, Encode, Grammar, Readable, Result};
 
 /// An opcode: a byte, or a prefix and a number.
 #[derive(Clone, Copy, PartialEq, Eq, Hash, Debug)]
@@ -85,21 +85,21 @@ impl Encode for Op {
 /// # Proved
 ///
 /// ```text
-/// ensures found { IfOk result (λ x. Decodes opcode padded bytes.now x.0 x.1.now) }
-/// ensures none { IfErr result (λ e. e ≢ Memory → Rejects opcode padded bytes.now) }
+/// ensures found { IfOk result (λ x. Decodes opcode (padded_of G.grammar) bytes.now x.0 x.1.now) }
+/// ensures none { IfErr result (λ e. e.cause ≢ Memory → Rejects opcode (padded_of G.grammar) bytes.now) }
 /// ```
 #[inline]
-pub(crate) fn read_op<'a, A: Allocator + Copy>(
+pub(crate) fn read_op<'a, A: Allocator + Copy, G: Grammar>(
     bytes: &'a [u8],
     alloc: A,
-) -> Result<(Op, &'a [u8]), ReadFault> {
-    let (byte, rest) = <u8 as Readable<'a, A>>::read(bytes, alloc)?;
+) -> Result<(Op, &'a [u8]), DecodeError> {
+    let (byte, rest) = <u8 as Readable<'a, A, G>>::read(bytes, alloc)?;
     if byte < 0xFB {
         return Ok((Op::Byte(byte), rest));
     }
     if byte == 0xFF {
         return Ok((Op::Byte(byte), rest));
     }
-    let (number, rest) = <u32 as Readable<'a, A>>::read(rest, alloc)?;
+    let (number, rest) = <u32 as Readable<'a, A, G>>::read(rest, alloc)?;
     Ok((Op::Prefixed(byte, number), rest))
 }

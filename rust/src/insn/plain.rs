@@ -5,7 +5,7 @@ use crate::vec::{Sink, Vec};
 use crate::insn::arguments::{Arg, append_arguments, read_arguments, read_arguments_into, skip_arguments};
 use crate::insn::op::{Op, read_op};
 use crate::alloc::{Allocator, Global};
-use crate::base::{Encode, Layout, ReadFault, Readable, Result, Shorten, Skip};
+use crate::base::{DecodeError, Encode, Grammar, Layout, ReadFault, Readable, Result, Shorten, Skip};
 
 /// An instruction in normal form: its opcode, and an argument for each immediate of the opcode's
 /// shape.
@@ -26,13 +26,13 @@ impl<A: Allocator> Layout for Plain<A> {
     fn laws() {}
 }
 
-impl<'a, A: Allocator + Copy> Readable<'a, A> for Plain<A> {
-    fn read(bytes: &'a [u8], alloc: A) -> Result<(Plain<A>, &'a [u8]), ReadFault> {
-        let (op, rest) = read_op(bytes, alloc)?;
+impl<'a, A: Allocator + Copy, G: Grammar> Readable<'a, A, G> for Plain<A> {
+    fn read(bytes: &'a [u8], alloc: A) -> Result<(Plain<A>, &'a [u8]), DecodeError> {
+        let (op, rest) = read_op::<A, G>(bytes, alloc)?;
         let Some(shape) = op.shape() else {
-            return Err(ReadFault::UnknownOpcode);
+            return Err(ReadFault::UnknownOpcode.at(bytes));
         };
-        let (args, rest) = read_arguments(shape, rest, alloc)?;
+        let (args, rest) = read_arguments::<A, G>(shape, rest, alloc)?;
         Ok((Plain { op, args }, rest))
     }
 }
@@ -43,19 +43,19 @@ impl<'a, A: Allocator + Copy> Readable<'a, A> for Plain<A> {
 /// # Proved
 ///
 /// ```text
-/// ensures found { IfOk result (λ x. Decodes (instruction table) padded bytes.now (record { op = x.0; arguments = map argument_view args.new.items }) x.1.now) }
-/// ensures none { IfErr result (λ e. e ≢ Memory → Rejects (instruction table) padded bytes.now) }
+/// ensures found { IfOk result (λ x. Decodes (instruction table) (padded_of G.grammar) bytes.now (record { op = x.0; arguments = map argument_view args.new.items }) x.1.now) }
+/// ensures none { IfErr result (λ e. e.cause ≢ Memory → Rejects (instruction table) (padded_of G.grammar) bytes.now) }
 /// ```
-pub fn read_instruction_into<'a, A: Allocator + Copy>(
+pub fn read_instruction_into<'a, A: Allocator + Copy, G: Grammar>(
     bytes: &'a [u8],
     alloc: A,
     args: &mut Vec<Arg<A>, A>,
-) -> Result<(Op, &'a [u8]), ReadFault> {
-    let (op, rest) = read_op(bytes, alloc)?;
+) -> Result<(Op, &'a [u8]), DecodeError> {
+    let (op, rest) = read_op::<A, G>(bytes, alloc)?;
     let Some(shape) = op.shape() else {
-        return Err(ReadFault::UnknownOpcode);
+        return Err(ReadFault::UnknownOpcode.at(bytes));
     };
-    let rest = read_arguments_into(shape, rest, alloc, args)?;
+    let rest = read_arguments_into::<A, G>(shape, rest, alloc, args)?;
     Ok((op, rest))
 }
 
@@ -84,14 +84,14 @@ impl<A: Allocator> Shorten for Plain<A> {
 }
 
 /// Skips the instruction at the front, and allocates nothing.
-impl<'a, A: Allocator + Copy> Skip<'a, A> for Plain<A> {
+impl<'a, A: Allocator + Copy, G: Grammar> Skip<'a, A, G> for Plain<A> {
     #[inline]
-    fn skip(bytes: &'a [u8], alloc: A) -> Result<&'a [u8], ReadFault> {
-        let (op, rest) = read_op(bytes, alloc)?;
+    fn skip(bytes: &'a [u8], alloc: A) -> Result<&'a [u8], DecodeError> {
+        let (op, rest) = read_op::<A, G>(bytes, alloc)?;
         let Some(shape) = op.shape() else {
-            return Err(ReadFault::UnknownOpcode);
+            return Err(ReadFault::UnknownOpcode.at(bytes));
         };
-        let rest = skip_arguments(shape, rest, alloc)?;
+        let rest = skip_arguments::<A, G>(shape, rest, alloc)?;
         Ok(rest)
     }
 }

@@ -15,8 +15,8 @@ use crate::immediates::{BlockType, Ieee32, Ieee64, MemArg};
 /// ```text
 /// // `written`: the bytes in the buffer.
 /// written: { Self → List ℕ }
-/// // `has_spare_capacity`: the buffer has spare capacity for this many bytes. A buffer may leave this
-/// // unspecified.
+/// // `has_spare_capacity`: the buffer has spare capacity for this many bytes. A buffer may leave
+/// // this unspecified.
 /// has_spare_capacity: { Self → ℕ → Type 0 } = { λ _ _. ⊥ }
 /// ```
 pub trait Buffer {

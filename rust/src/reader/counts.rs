@@ -2,25 +2,25 @@
 // Counts the items of a section without keeping them.
 
 use crate::alloc::Allocator;
-use crate::base::{ReadFault, Skip, skip_many};
+use crate::base::{DecodeError, Grammar, ReadFault, Skip, skip_many};
 
 /// Skips the members of a vector that occupies all of the bytes, and returns their number.
 ///
 /// # Proved
 ///
 /// ```text
-/// ensures found { IfOk result (λ count. (xs : List P.Value) × vec P.format padded bytes.now xs × (count ≡ Some (length xs))) }
-/// ensures none { IfErr result (λ e. e ≢ Memory → RejectsWhole (vec P.format) bytes.now) }
+/// ensures found { IfOk result (λ count. (xs : List P.Value) × vec P.format (padded_of G.grammar) bytes.now xs × (count ≡ Some (length xs))) }
+/// ensures none { IfErr result (λ e. e.cause ≢ Memory → RejectsWhole (vec P.format) (padded_of G.grammar) bytes.now) }
 /// ```
-pub(crate) fn count_skipped<'a, P: Skip<'a, A>, A: Allocator + Copy>(
+pub(crate) fn count_skipped<'a, P: Skip<'a, A, G>, A: Allocator + Copy, G: Grammar>(
     bytes: &'a [u8],
     alloc: A,
-) -> Result<Option<u32>, ReadFault> {
-    let (count, rest) = skip_many::<'a, P, A>(bytes, alloc)?;
+) -> Result<Option<u32>, DecodeError> {
+    let (count, rest) = skip_many::<'a, P, A, G>(bytes, alloc)?;
     P::laws();
     if rest.is_empty() {
         Ok(Some(count))
     } else {
-        Err(ReadFault::SizeMismatch)
+        Err(ReadFault::SizeMismatch.at(rest))
     }
 }

@@ -4,7 +4,7 @@
 use crate::vec::{Sink, Vec};
 use crate::reader::counts::count_skipped;
 use crate::alloc::{Allocator, Global};
-use crate::base::{Dropped, Encode, ReadFault, Readable, Result, Shorten, read_whole};
+use crate::base::{DecodeError, Dropped, Encode, Grammar, Readable, Result, Shorten, read_whole};
 use crate::code::Body;
 use crate::custom::{BranchHint, CoreFrame, LinkItem, NameItem, append_hints, append_instances, append_links, append_modules, append_names, append_process, append_producers, append_stack, read_hints, read_instances, read_links, read_modules, read_names, read_process, read_producers, read_stack};
 use crate::sections::{ElementItem, Export, GlobalItem, Imports, MemoryType, Segment, TableItem, TagType, append_imports, read_imports, read_segments};
@@ -186,102 +186,102 @@ pub(crate) fn kind_of_name(name: &str) -> SectionKind {
 /// # Proved
 ///
 /// ```text
-/// ensures found { IfOk result (λ x. content kind padded bytes.now (contents_of x)) }
-/// ensures none { IfErr result (λ e. e ≢ Memory → RejectsWhole (content kind) bytes.now) }
+/// ensures found { IfOk result (λ x. content kind (padded_of G.grammar) bytes.now (contents_of x)) }
+/// ensures none { IfErr result (λ e. e.cause ≢ Memory → RejectsWhole (content kind) (padded_of G.grammar) bytes.now) }
 /// ```
-pub(crate) fn read_content<'a, A: Allocator + Copy + 'a>(
+pub(crate) fn read_content<'a, A: Allocator + Copy + 'a, G: Grammar>(
     kind: SectionKind,
     bytes: &'a [u8],
     alloc: A,
-) -> Result<Items<'a, A>, ReadFault> {
+) -> Result<Items<'a, A>, DecodeError> {
     match kind {
         SectionKind::Bodies => {
-            let items = read_whole::<'a, Vec<Body<A>, A>, A>(bytes, alloc)?;
+            let items = read_whole::<'a, Vec<Body<A>, A>, A, G>(bytes, alloc)?;
             Ok(Items::Bodies(items))
         }
         SectionKind::Segments => {
-            let items = read_segments(bytes, alloc)?;
+            let items = read_segments::<A, G>(bytes, alloc)?;
             Ok(Items::Segments(items))
         }
         SectionKind::DataCount => {
-            let items = read_whole::<'a, u32, A>(bytes, alloc)?;
+            let items = read_whole::<'a, u32, A, G>(bytes, alloc)?;
             Ok(Items::DataCount(items))
         }
         SectionKind::Elements => {
-            let items = read_whole::<'a, Vec<ElementItem<A>, A>, A>(bytes, alloc)?;
+            let items = read_whole::<'a, Vec<ElementItem<A>, A>, A, G>(bytes, alloc)?;
             Ok(Items::Elements(items))
         }
         SectionKind::Exports => {
-            let items = read_whole::<'a, Vec<Export<'a>, A>, A>(bytes, alloc)?;
+            let items = read_whole::<'a, Vec<Export<'a>, A>, A, G>(bytes, alloc)?;
             Ok(Items::Exports(items))
         }
         SectionKind::Functions => {
-            let items = read_whole::<'a, Vec<u32, A>, A>(bytes, alloc)?;
+            let items = read_whole::<'a, Vec<u32, A>, A, G>(bytes, alloc)?;
             Ok(Items::Functions(items))
         }
         SectionKind::Globals => {
-            let items = read_whole::<'a, Vec<GlobalItem<A>, A>, A>(bytes, alloc)?;
+            let items = read_whole::<'a, Vec<GlobalItem<A>, A>, A, G>(bytes, alloc)?;
             Ok(Items::Globals(items))
         }
         SectionKind::Imports => {
-            let items = read_imports(bytes, alloc)?;
+            let items = read_imports::<A, G>(bytes, alloc)?;
             Ok(Items::Imports(items))
         }
         SectionKind::Memories => {
-            let items = read_whole::<'a, Vec<MemoryType, A>, A>(bytes, alloc)?;
+            let items = read_whole::<'a, Vec<MemoryType, A>, A, G>(bytes, alloc)?;
             Ok(Items::Memories(items))
         }
         SectionKind::Start => {
-            let items = read_whole::<'a, u32, A>(bytes, alloc)?;
+            let items = read_whole::<'a, u32, A, G>(bytes, alloc)?;
             Ok(Items::Start(items))
         }
         SectionKind::Tables => {
-            let items = read_whole::<'a, Vec<TableItem<A>, A>, A>(bytes, alloc)?;
+            let items = read_whole::<'a, Vec<TableItem<A>, A>, A, G>(bytes, alloc)?;
             Ok(Items::Tables(items))
         }
         SectionKind::Tags => {
-            let items = read_whole::<'a, Vec<TagType, A>, A>(bytes, alloc)?;
+            let items = read_whole::<'a, Vec<TagType, A>, A, G>(bytes, alloc)?;
             Ok(Items::Tags(items))
         }
         SectionKind::Names => {
-            let items = read_names(bytes, alloc)?;
+            let items = read_names::<A, G>(bytes, alloc)?;
             Ok(Items::Names(items))
         }
         SectionKind::Linking => {
-            let items = read_links(bytes, alloc)?;
+            let items = read_links::<A, G>(bytes, alloc)?;
             Ok(Items::Linking(items))
         }
         SectionKind::Producers => {
-            let items = read_producers(bytes, alloc)?;
+            let items = read_producers::<A, G>(bytes, alloc)?;
             Ok(Items::Producers(items))
         }
         SectionKind::Hints => {
-            let items = read_hints(bytes, alloc)?;
+            let items = read_hints::<A, G>(bytes, alloc)?;
             Ok(Items::Hints(items))
         }
         SectionKind::Core => {
-            let items = read_process(bytes, alloc)?;
+            let items = read_process::<A, G>(bytes, alloc)?;
             Ok(Items::Core(items))
         }
         SectionKind::CoreModules => {
-            let items = read_modules(bytes, alloc)?;
+            let items = read_modules::<A, G>(bytes, alloc)?;
             Ok(Items::CoreModules(items))
         }
         SectionKind::CoreInstances => {
-            let items = read_instances(bytes, alloc)?;
+            let items = read_instances::<A, G>(bytes, alloc)?;
             Ok(Items::CoreInstances(items))
         }
         SectionKind::CoreStack => {
-            let (thread, frames) = read_stack(bytes, alloc)?;
+            let (thread, frames) = read_stack::<A, G>(bytes, alloc)?;
             Ok(Items::CoreStack { thread, frames })
         }
         SectionKind::Custom => {
-            let (name, bytes) = <&'a str as Readable<'a, A>>::read(bytes, alloc)?;
+            let (name, bytes) = <&'a str as Readable<'a, A, G>>::read(bytes, alloc)?;
             Ok(Items::Custom { name, bytes })
         }
         SectionKind::Raw => Ok(Items::Raw(bytes)),
         SectionKind::Types => {
-            let items = read_types(bytes, alloc)?;
+            let items = read_types::<A, G>(bytes, alloc)?;
             Ok(Items::Types(items))
         }
     }
@@ -293,31 +293,31 @@ pub(crate) fn read_content<'a, A: Allocator + Copy + 'a>(
 /// # Proved
 ///
 /// ```text
-/// ensures found { IfOk result (λ number. (x : Contents) × content kind padded bytes.now x × (number ≡ number_in x)) }
-/// ensures none { IfErr result (λ e. e ≢ Memory → RejectsWhole (content kind) bytes.now) }
+/// ensures found { IfOk result (λ number. (x : Contents) × content kind (padded_of G.grammar) bytes.now x × (number ≡ number_in x)) }
+/// ensures none { IfErr result (λ e. e.cause ≢ Memory → RejectsWhole (content kind) (padded_of G.grammar) bytes.now) }
 /// ```
-pub(crate) fn read_number<'a, A: Allocator + Copy>(
+pub(crate) fn read_number<'a, A: Allocator + Copy, G: Grammar>(
     kind: SectionKind,
     bytes: &'a [u8],
     alloc: A,
-) -> Result<Option<u32>, ReadFault> {
+) -> Result<Option<u32>, DecodeError> {
     match kind {
-        SectionKind::Bodies => count_skipped::<'a, Body<A>, A>(bytes, alloc),
-        SectionKind::Segments => count_skipped::<'a, Segment<'a, A>, A>(bytes, alloc),
-        SectionKind::Elements => count_skipped::<'a, ElementItem<A>, A>(bytes, alloc),
-        SectionKind::Exports => count_skipped::<'a, Dropped<Export<'a>>, A>(bytes, alloc),
-        SectionKind::Functions => count_skipped::<'a, Dropped<u32>, A>(bytes, alloc),
-        SectionKind::Globals => count_skipped::<'a, GlobalItem<A>, A>(bytes, alloc),
-        SectionKind::Imports => count_skipped::<'a, Imports<'a, A>, A>(bytes, alloc),
-        SectionKind::Memories => count_skipped::<'a, Dropped<MemoryType>, A>(bytes, alloc),
-        SectionKind::Tables => count_skipped::<'a, TableItem<A>, A>(bytes, alloc),
-        SectionKind::Tags => count_skipped::<'a, Dropped<TagType>, A>(bytes, alloc),
+        SectionKind::Bodies => count_skipped::<'a, Body<A>, A, G>(bytes, alloc),
+        SectionKind::Segments => count_skipped::<'a, Segment<'a, A>, A, G>(bytes, alloc),
+        SectionKind::Elements => count_skipped::<'a, ElementItem<A>, A, G>(bytes, alloc),
+        SectionKind::Exports => count_skipped::<'a, Dropped<Export<'a>>, A, G>(bytes, alloc),
+        SectionKind::Functions => count_skipped::<'a, Dropped<u32>, A, G>(bytes, alloc),
+        SectionKind::Globals => count_skipped::<'a, GlobalItem<A>, A, G>(bytes, alloc),
+        SectionKind::Imports => count_skipped::<'a, Imports<'a, A>, A, G>(bytes, alloc),
+        SectionKind::Memories => count_skipped::<'a, Dropped<MemoryType>, A, G>(bytes, alloc),
+        SectionKind::Tables => count_skipped::<'a, TableItem<A>, A, G>(bytes, alloc),
+        SectionKind::Tags => count_skipped::<'a, Dropped<TagType>, A, G>(bytes, alloc),
         SectionKind::DataCount | SectionKind::Start => {
-            drop(read_content(kind, bytes, alloc)?);
+            drop(read_content::<A, G>(kind, bytes, alloc)?);
             Ok(Some(1))
         }
         _ => {
-            drop(read_content(kind, bytes, alloc)?);
+            drop(read_content::<A, G>(kind, bytes, alloc)?);
             Ok(None)
         }
     }

@@ -4,7 +4,7 @@
 use crate::vec::Vec;
 use crate::reader::kinds::{SectionKind, append_content, read_content};
 use crate::alloc::Allocator;
-use crate::base::{Encode, ReadFault, Readable, Result, Shorten, encode_size_prefixed};
+use crate::base::{DecodeError, Encode, Padded, ReadFault, Readable, Result, Shorten, encode_size_prefixed};
 use crate::code::shorten_body;
 
 /// Appends the minimal encoding of a vector of bodies that occupies all of the bytes. It keeps none
@@ -14,24 +14,24 @@ use crate::code::shorten_body;
 ///
 /// ```text
 /// ensures found { OnOk result ((xs : List Body) × vec (size_prefixed body) padded bytes.now xs × AppendsMinimal (vec (size_prefixed body)) xs sink.old.items sink.new.items) }
-/// ensures none { IfErr result (λ e. e ≢ Memory → RejectsWhole (vec (size_prefixed body)) bytes.now) }
+/// ensures none { IfErr result (λ e. e.cause ≢ Memory → RejectsWhole (vec (size_prefixed body)) padded bytes.now) }
 /// ```
 fn shorten_bodies<A: Allocator + Copy>(
     bytes: &[u8],
     alloc: A,
     sink: &mut Vec<u8, A>,
-) -> Result<(), ReadFault> {
-    let (count, mut rest) = <u32 as Readable<'_, A>>::read(bytes, alloc)?;
+) -> Result<(), DecodeError> {
+    let (count, mut rest) = <u32 as Readable<'_, A, Padded>>::read(bytes, alloc)?;
     count.write_minimal(sink)?;
     for _taken in 0..count {
-        let (sized, after) = <&[u8] as Readable<'_, A>>::read(rest, alloc)?;
+        let (sized, after) = <&[u8] as Readable<'_, A, Padded>>::read(rest, alloc)?;
         shorten_body(sized, alloc, sink)?;
         rest = after;
     }
     if rest.is_empty() {
         Ok(())
     } else {
-        Err(ReadFault::SizeMismatch)
+        Err(ReadFault::SizeMismatch.at(rest))
     }
 }
 
@@ -41,18 +41,18 @@ fn shorten_bodies<A: Allocator + Copy>(
 ///
 /// ```text
 /// ensures found { OnOk result ((x : Contents) × content kind padded bytes.now x × AppendsMinimal (content kind) x sink.old.items sink.new.items) }
-/// ensures none { IfErr result (λ e. e ≢ Memory → RejectsWhole (content kind) bytes.now) }
+/// ensures none { IfErr result (λ e. e.cause ≢ Memory → RejectsWhole (content kind) padded bytes.now) }
 /// ```
 fn shorten_content<A: Allocator + Copy>(
     kind: SectionKind,
     bytes: &[u8],
     alloc: A,
     sink: &mut Vec<u8, A>,
-) -> Result<(), ReadFault> {
+) -> Result<(), DecodeError> {
     match kind {
         SectionKind::Bodies => shorten_bodies(bytes, alloc, sink),
         _ => {
-            let items = read_content(kind, bytes, alloc)?;
+            let items = read_content::<A, Padded>(kind, bytes, alloc)?;
             append_content(items, sink)?;
             Ok(())
         }
@@ -90,7 +90,7 @@ pub fn shorten<A: Allocator + Copy>(
     sink: &mut Vec<u8, A>,
 ) -> Result<usize, ReadFault> {
     let alloc = *sink.allocator();
-    let (sized, rest) = <&[u8] as Readable<'_, A>>::read(bytes, alloc)?;
+    let (sized, rest) = <&[u8] as Readable<'_, A, Padded>>::read(bytes, alloc)?;
     let mut content = Vec::with_capacity(alloc, sized.len())?;
     shorten_content(kind, sized, alloc, &mut content)?;
     encode_size_prefixed(sink, &content)?;

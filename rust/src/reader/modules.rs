@@ -4,7 +4,7 @@
 use crate::vec::Vec;
 use crate::reader::kinds::{kind_of_id, read_number};
 use crate::alloc::Allocator;
-use crate::base::{ReadFault, Readable};
+use crate::base::{Padded, ReadFault, Readable};
 
 /// The magic and the version of a module.
 pub(crate) const HEADER: [u8; 8] = [0x00, 0x61, 0x73, 0x6D, 0x01, 0x00, 0x00, 0x00];
@@ -54,9 +54,9 @@ fn read_line<'a, A: Allocator + Copy>(
     bytes: &'a [u8],
     alloc: A,
 ) -> Result<(Listed, &'a [u8]), ReadFault> {
-    let (id, rest) = <u8 as Readable<'a, A>>::read(bytes, alloc)?;
-    let (sized, rest) = <&'a [u8] as Readable<'a, A>>::read(rest, alloc)?;
-    let items = read_number(kind_of_id(id), sized, alloc)?;
+    let (id, rest) = <u8 as Readable<'a, A, Padded>>::read(bytes, alloc)?;
+    let (sized, rest) = <&'a [u8] as Readable<'a, A, Padded>>::read(rest, alloc)?;
+    let items = read_number::<A, Padded>(kind_of_id(id), sized, alloc)?;
     let size = sized.len() as u32;
     Ok((Listed { id, size, items }, rest))
 }

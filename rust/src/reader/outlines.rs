@@ -6,7 +6,7 @@ use crate::reader::kinds::{SectionKind, read_number};
 use crate::reader::modules::read_header;
 use crate::reader::standing::{Standing, read_standing};
 use crate::alloc::Allocator;
-use crate::base::ReadFault;
+use crate::base::{DecodeError, ReadFault, Standard};
 use crate::types::read_types;
 
 /// A section in the outline of a module.
@@ -17,9 +17,9 @@ pub struct Outlined<'a> {
     pub offset: usize,
     /// The length of the payload, in bytes.
     pub size: u32,
-    /// The number of items, if the payload decodes as a section of its id and its items are
-    /// counted. These are the items that `list_module` counts, and the entries of a type section. A
-    /// recursion group is one entry, however many types it defines.
+    /// The number of items, if the payload decodes as a section of its id, by the standard's
+    /// grammar, and its items are counted. These are the items that `list_module` counts, and the
+    /// entries of a type section. A recursion group is one entry, however many types it defines.
     pub items: Option<u32>,
     /// The name of a custom section, if its payload begins with one.
     pub name: Option<&'a str>,
@@ -31,10 +31,10 @@ pub struct Outlined<'a> {
 ///
 /// ```text
 /// ensures found { IfOk result (λ count. IsCount kinds.Types bytes.now count) }
-/// ensures none { IfErr result (λ e. e ≢ Memory → IsCount kinds.Types bytes.now None) }
+/// ensures none { IfErr result (λ e. e.cause ≢ Memory → IsCount kinds.Types bytes.now None) }
 /// ```
-fn count_entries<A: Allocator + Copy>(bytes: &[u8], alloc: A) -> Result<Option<u32>, ReadFault> {
-    let entries = read_types(bytes, alloc)?;
+fn count_entries<A: Allocator + Copy>(bytes: &[u8], alloc: A) -> Result<Option<u32>, DecodeError> {
+    let entries = read_types::<A, Standard>(bytes, alloc)?;
     Ok(Some(entries.len() as u32))
 }
 
@@ -45,16 +45,16 @@ fn count_entries<A: Allocator + Copy>(bytes: &[u8], alloc: A) -> Result<Option<u
 ///
 /// ```text
 /// ensures found { IfOk result (λ count. IsCount (section_kind_of (section_of section.now)) section.now.payload.now count) }
-/// ensures memory { IfErr result (λ e. e ≡ Memory) }
+/// ensures memory { IfErr result (λ e. e.cause ≡ Memory) }
 /// ```
-fn count<A: Allocator + Copy>(section: &Standing<'_>, alloc: A) -> Result<Option<u32>, ReadFault> {
+fn count<A: Allocator + Copy>(section: &Standing<'_>, alloc: A) -> Result<Option<u32>, DecodeError> {
     let kind = section.kind();
     let counted = match kind {
         SectionKind::Types => count_entries(section.payload, alloc),
-        _ => read_number(kind, section.payload, alloc),
+        _ => read_number::<A, Standard>(kind, section.payload, alloc),
     };
     match counted {
-        Err(ReadFault::Memory) => Err(ReadFault::Memory),
+        Err(error) if error.cause == ReadFault::Memory => Err(error),
         Err(_) => Ok(None),
         Ok(count) => Ok(count),
     }
@@ -73,13 +73,13 @@ fn count<A: Allocator + Copy>(section: &Standing<'_>, alloc: A) -> Result<Option
 ///
 /// ```text
 /// ensures found { IfOk result (λ x. (s : Section) × IsSection s × (bytes.now ≡ bytes_of s ++ x.1.now) × IsOutline section_start s x.0) }
-/// ensures none { IfErr result (λ e. e ≢ Memory → Rejects any_section padded bytes.now) }
+/// ensures none { IfErr result (λ e. e.cause ≢ Memory → Rejects any_section padded bytes.now) }
 /// ```
 fn read_line<'a, A: Allocator + Copy>(
     section_start: usize,
     bytes: &'a [u8],
     alloc: A,
-) -> Result<(Outlined<'a>, &'a [u8]), ReadFault> {
+) -> Result<(Outlined<'a>, &'a [u8]), DecodeError> {
     let (section, after) = read_standing(bytes, alloc)?;
     let items = count(&section, alloc)?;
     let taken = bytes.len() - after.len();
@@ -109,7 +109,7 @@ fn read_line<'a, A: Allocator + Copy>(
 /// ```text
 /// ensures found { IfOk result (λ lines. HasOutline bytes.now lines.items) }
 /// ensures none { IfErr result (λ e. e.1 ≢ Memory → EndsAt bytes.now e.0) }
-/// ensures no_module { IfErr result (λ e. e.1 ≢ Memory → RejectsWhole wasm_module bytes.now) }
+/// ensures no_module { IfErr result (λ e. e.1 ≢ Memory → RejectsWhole wasm_module padded bytes.now) }
 /// ```
 pub fn outline<'a, A: Allocator + Copy>(
     alloc: A,
@@ -127,7 +127,7 @@ pub fn outline<'a, A: Allocator + Copy>(
         let number = lines.len() + 1;
         let (line, after) = match read_line(bytes.len() - rest.len(), rest, alloc) {
             Ok(read) => read,
-            Err(fault) => return Err((number, fault)),
+            Err(error) => return Err((number, error.cause)),
         };
         match lines.push(line) {
             Ok(()) => rest = after,

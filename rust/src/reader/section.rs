@@ -3,7 +3,7 @@
 
 use crate::reader::kinds::{Items, SectionKind, read_content};
 use crate::alloc::Allocator;
-use crate::base::{ReadFault, Readable};
+use crate::base::{Padded, ReadFault, Readable};
 
 /// Decodes the section at the front, and returns its items and its length in bytes. The bytes begin
 /// with the section's size prefix, after its id.
@@ -28,7 +28,7 @@ pub fn read_section<'a, A: Allocator + Copy + 'a>(
     kind: SectionKind,
     bytes: &'a [u8],
 ) -> Result<(Items<'a, A>, usize), ReadFault> {
-    let (sized, rest) = <&'a [u8] as Readable<'a, A>>::read(bytes, alloc)?;
-    let items = read_content(kind, sized, alloc)?;
+    let (sized, rest) = <&'a [u8] as Readable<'a, A, Padded>>::read(bytes, alloc)?;
+    let items = read_content::<A, Padded>(kind, sized, alloc)?;
     Ok((items, bytes.len() - rest.len()))
 }

@@ -3,7 +3,7 @@
 
 use crate::reader::kinds::{SectionKind, kind_of_id, kind_of_name};
 use crate::alloc::Allocator;
-use crate::base::{ReadFault, Readable};
+use crate::base::{DecodeError, Padded, ReadFault, Readable};
 
 /// A section of a module, with its payload not yet decoded.
 #[derive(Clone, Copy, Debug)]
@@ -40,19 +40,19 @@ impl Standing<'_> {
 ///
 /// ```text
 /// ensures found { IfOk result (λ name. IsNameOf id payload.now (option_map (λ n. n.now) name)) }
-/// ensures memory { IfErr result (λ e. e ≡ Memory) }
+/// ensures memory { IfErr result (λ e. e.cause ≡ Memory) }
 /// ```
 fn read_name<'a, A: Allocator + Copy>(
     id: u8,
     payload: &'a [u8],
     alloc: A,
-) -> Result<Option<&'a str>, ReadFault> {
+) -> Result<Option<&'a str>, DecodeError> {
     if id != 0 {
         return Ok(None);
     }
-    match <&'a str as Readable<'a, A>>::read(payload, alloc) {
+    match <&'a str as Readable<'a, A, Padded>>::read(payload, alloc) {
         Ok((name, _)) => Ok(Some(name)),
-        Err(ReadFault::Memory) => Err(ReadFault::Memory),
+        Err(error) if error.cause == ReadFault::Memory => Err(error),
         Err(_) => Ok(None),
     }
 }
@@ -65,14 +65,14 @@ fn read_name<'a, A: Allocator + Copy>(
 /// ```text
 /// ensures found { IfOk result (λ x. IsSection (section_of x.0)) }
 /// ensures split { IfOk result (λ x. bytes.now ≡ bytes_of (section_of x.0) ++ x.1.now) }
-/// ensures none { IfErr result (λ e. e ≢ Memory → Rejects any_section padded bytes.now) }
+/// ensures none { IfErr result (λ e. e.cause ≢ Memory → Rejects any_section padded bytes.now) }
 /// ```
 pub(crate) fn read_standing<'a, A: Allocator + Copy>(
     bytes: &'a [u8],
     alloc: A,
-) -> Result<(Standing<'a>, &'a [u8]), ReadFault> {
-    let (id, rest) = <u8 as Readable<'a, A>>::read(bytes, alloc)?;
-    let (payload, after) = <&'a [u8] as Readable<'a, A>>::read(rest, alloc)?;
+) -> Result<(Standing<'a>, &'a [u8]), DecodeError> {
+    let (id, rest) = <u8 as Readable<'a, A, Padded>>::read(bytes, alloc)?;
+    let (payload, after) = <&'a [u8] as Readable<'a, A, Padded>>::read(rest, alloc)?;
     let sized = &rest[..rest.len() - after.len()];
     let name = read_name(id, payload, alloc)?;
     Ok((

@@ -488,7 +488,7 @@ fn append_sections<A: Allocator + Copy>(
         let is_level = is_same(bytes.len() - rest.len(), sink.len() - start);
         let (section, after) = match read_standing(rest, *sink.allocator()) {
             Ok(read) => read,
-            Err(fault) => return Err((number, fault)),
+            Err(error) => return Err((number, error.cause)),
         };
         let written = match append_section(&section, offsets, sink) {
             Ok(written) => written,

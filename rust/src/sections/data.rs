@@ -4,7 +4,7 @@
 use crate::vec::{Sink, Vec};
 use crate::sections::counted_section::{CountedSection, ItemKind};
 use crate::alloc::{Allocator, Global};
-use crate::base::{Dropped, Encode, Kind, Layout, Lent, ReadFault, Readable, Result, SectionId, Shorten, Skip, bytes_of, encode_size_prefixed, read_whole};
+use crate::base::{DecodeError, Dropped, Encode, Grammar, Kind, Layout, Lent, ReadFault, Readable, Result, SectionId, Shorten, Skip, bytes_of, encode_size_prefixed, read_whole};
 use crate::code::{ConstExpr, Expression};
 
 /// The data section: segments of bytes that a module copies to memories.
@@ -261,9 +261,9 @@ impl<'a> Layout for Bytes<'a> {
     fn laws() {}
 }
 
-impl<'a, A: Allocator + Copy> Readable<'a, A> for Bytes<'a> {
-    fn read(bytes: &'a [u8], alloc: A) -> Result<(Bytes<'a>, &'a [u8]), ReadFault> {
-        let (bytes, rest) = <&'a [u8] as Readable<'a, A>>::read(bytes, alloc)?;
+impl<'a, A: Allocator + Copy, G: Grammar> Readable<'a, A, G> for Bytes<'a> {
+    fn read(bytes: &'a [u8], alloc: A) -> Result<(Bytes<'a>, &'a [u8]), DecodeError> {
+        let (bytes, rest) = <&'a [u8] as Readable<'a, A, G>>::read(bytes, alloc)?;
         Ok((Bytes(bytes), rest))
     }
 }
@@ -300,14 +300,15 @@ impl<'a, A: Allocator> Layout for Segment<'a, A> {
     fn laws() {}
 }
 
-impl<'a, A: Allocator + Copy> Readable<'a, A> for Segment<'a, A> {
-    fn read(bytes: &'a [u8], alloc: A) -> Result<(Segment<'a, A>, &'a [u8]), ReadFault> {
-        let (flag, rest) = <u32 as Readable<'a, A>>::read(bytes, alloc)?;
+impl<'a, A: Allocator + Copy, G: Grammar> Readable<'a, A, G> for Segment<'a, A> {
+    fn read(bytes: &'a [u8], alloc: A) -> Result<(Segment<'a, A>, &'a [u8]), DecodeError> {
+        let (flag, rest) = <u32 as Readable<'a, A, G>>::read(bytes, alloc)?;
         match flag {
             0 => {
                 let ((offset, Bytes(bytes)), rest) = <(Expression<A>, Bytes<'a>) as Readable<
                     'a,
                     A,
+                    G,
                 >>::read(rest, alloc)?;
                 let memory = 0;
                 Ok((
@@ -320,17 +321,18 @@ impl<'a, A: Allocator + Copy> Readable<'a, A> for Segment<'a, A> {
                 ))
             }
             1 => {
-                let (Bytes(bytes), rest) = <Bytes<'a> as Readable<'a, A>>::read(rest, alloc)?;
+                let (Bytes(bytes), rest) = <Bytes<'a> as Readable<'a, A, G>>::read(rest, alloc)?;
                 Ok((Segment::Passive { bytes }, rest))
             }
             2 => {
-                let (memory, rest) = <u32 as Readable<'a, A>>::read(rest, alloc)?;
+                let (memory, rest) = <u32 as Readable<'a, A, G>>::read(rest, alloc)?;
                 if memory == 0 {
-                    return Err(ReadFault::UnknownTag);
+                    return Err(ReadFault::UnknownTag.just_before(rest));
                 }
                 let ((offset, Bytes(bytes)), rest) = <(Expression<A>, Bytes<'a>) as Readable<
                     'a,
                     A,
+                    G,
                 >>::read(rest, alloc)?;
                 Ok((
                     Segment::Active {
@@ -341,7 +343,7 @@ impl<'a, A: Allocator + Copy> Readable<'a, A> for Segment<'a, A> {
                     rest,
                 ))
             }
-            _ => Err(ReadFault::UnknownTag),
+            _ => Err(ReadFault::UnknownTag.just_before(rest)),
         }
     }
 }
@@ -356,14 +358,14 @@ impl<'a, A: Allocator + Copy> Readable<'a, A> for Segment<'a, A> {
 /// # Proved
 ///
 /// ```text
-/// ensures found { IfOk result (λ x. vec data_item padded bytes.now (map segment_view x.items)) }
-/// ensures none { IfErr result (λ e. e ≢ Memory → RejectsWhole (vec data_item) bytes.now) }
+/// ensures found { IfOk result (λ x. vec data_item (padded_of G.grammar) bytes.now (map segment_view x.items)) }
+/// ensures none { IfErr result (λ e. e.cause ≢ Memory → RejectsWhole (vec data_item) (padded_of G.grammar) bytes.now) }
 /// ```
-pub fn read_segments<'a, A: Allocator + Copy + 'a>(
+pub fn read_segments<'a, A: Allocator + Copy + 'a, G: Grammar>(
     bytes: &'a [u8],
     alloc: A,
-) -> Result<Vec<Segment<'a, A>, A>, ReadFault> {
-    read_whole::<'a, Vec<Segment<'a, A>, A>, A>(bytes, alloc)
+) -> Result<Vec<Segment<'a, A>, A>, DecodeError> {
+    read_whole::<'a, Vec<Segment<'a, A>, A>, A, G>(bytes, alloc)
 }
 
 /// Appends the offset and the bytes of a segment.
@@ -423,27 +425,31 @@ impl<'a, A: Allocator> Shorten for Segment<'a, A> {
     }
 }
 
-impl<'a, A: Allocator + Copy> Skip<'a, A> for Segment<'a, A> {
-    fn skip(bytes: &'a [u8], alloc: A) -> Result<&'a [u8], ReadFault> {
-        let (flag, rest) = <u32 as Readable<'a, A>>::read(bytes, alloc)?;
+impl<'a, A: Allocator + Copy, G: Grammar> Skip<'a, A, G> for Segment<'a, A> {
+    fn skip(bytes: &'a [u8], alloc: A) -> Result<&'a [u8], DecodeError> {
+        let (flag, rest) = <u32 as Readable<'a, A, G>>::read(bytes, alloc)?;
         match flag {
             0 => {
-                let rest = <(Expression<A>, Dropped<Bytes<'a>>) as Skip<'a, A>>::skip(rest, alloc)?;
+                let rest = <(Expression<A>, Dropped<Bytes<'a>>) as Skip<'a, A, G>>::skip(
+                    rest, alloc,
+                )?;
                 Ok(rest)
             }
             1 => {
-                let (_bytes, rest) = <Bytes<'a> as Readable<'a, A>>::read(rest, alloc)?;
+                let (_bytes, rest) = <Bytes<'a> as Readable<'a, A, G>>::read(rest, alloc)?;
                 Ok(rest)
             }
             2 => {
-                let (memory, rest) = <u32 as Readable<'a, A>>::read(rest, alloc)?;
+                let (memory, rest) = <u32 as Readable<'a, A, G>>::read(rest, alloc)?;
                 if memory == 0 {
-                    return Err(ReadFault::UnknownTag);
+                    return Err(ReadFault::UnknownTag.just_before(rest));
                 }
-                let rest = <(Expression<A>, Dropped<Bytes<'a>>) as Skip<'a, A>>::skip(rest, alloc)?;
+                let rest = <(Expression<A>, Dropped<Bytes<'a>>) as Skip<'a, A, G>>::skip(
+                    rest, alloc,
+                )?;
                 Ok(rest)
             }
-            _ => Err(ReadFault::UnknownTag),
+            _ => Err(ReadFault::UnknownTag.just_before(rest)),
         }
     }
 }

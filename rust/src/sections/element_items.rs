@@ -3,7 +3,7 @@
 
 use crate::vec::{Sink, Vec};
 use crate::alloc::{Allocator, Global};
-use crate::base::{Dropped, Encode, Layout, ReadFault, Readable, RefType, Result, Shorten, Skip, skip_many};
+use crate::base::{DecodeError, Dropped, Encode, Grammar, Layout, ReadFault, Readable, RefType, Result, Shorten, Skip, skip_many};
 use crate::code::Expression;
 
 /// The flag of an element segment, as its bits.
@@ -52,11 +52,11 @@ impl Layout for ElementFlag {
     fn laws() {}
 }
 
-impl<'a, A: Allocator + Copy> Readable<'a, A> for ElementFlag {
-    fn read(bytes: &'a [u8], alloc: A) -> Result<(ElementFlag, &'a [u8]), ReadFault> {
-        let (number, rest) = <u32 as Readable<'a, A>>::read(bytes, alloc)?;
+impl<'a, A: Allocator + Copy, G: Grammar> Readable<'a, A, G> for ElementFlag {
+    fn read(bytes: &'a [u8], alloc: A) -> Result<(ElementFlag, &'a [u8]), DecodeError> {
+        let (number, rest) = <u32 as Readable<'a, A, G>>::read(bytes, alloc)?;
         if number >= 8 {
-            return Err(ReadFault::UnknownTag);
+            return Err(ReadFault::UnknownTag.just_before(rest));
         }
         let flag = ElementFlag {
             not_active: number % 2 == 1,
@@ -104,26 +104,26 @@ pub struct ElementItem<A: Allocator = Global> {
 /// # Proved
 ///
 /// ```text
-/// ensures found { IfOk result (λ x. Decodes (segment_mode (element_flag_view flag)) padded bytes.now (segment_mode_view x.0) x.1.now) }
-/// ensures none { IfErr result (λ e. e ≢ Memory → Rejects (segment_mode (element_flag_view flag)) padded bytes.now) }
+/// ensures found { IfOk result (λ x. Decodes (segment_mode (element_flag_view flag)) (padded_of G.grammar) bytes.now (segment_mode_view x.0) x.1.now) }
+/// ensures none { IfErr result (λ e. e.cause ≢ Memory → Rejects (segment_mode (element_flag_view flag)) (padded_of G.grammar) bytes.now) }
 /// ```
-fn read_mode<'a, A: Allocator + Copy>(
+fn read_mode<'a, A: Allocator + Copy, G: Grammar>(
     flag: ElementFlag,
     bytes: &'a [u8],
     alloc: A,
-) -> Result<(ElementItemMode<A>, &'a [u8]), ReadFault> {
+) -> Result<(ElementItemMode<A>, &'a [u8]), DecodeError> {
     match (flag.not_active, flag.second) {
         (true, true) => Ok((ElementItemMode::Declared, bytes)),
         (true, false) => Ok((ElementItemMode::Passive, bytes)),
         (false, true) => {
-            let ((table, offset), rest) = <(u32, Expression<A>) as Readable<'a, A>>::read(
+            let ((table, offset), rest) = <(u32, Expression<A>) as Readable<'a, A, G>>::read(
                 bytes, alloc,
             )?;
             let table = Some(table);
             Ok((ElementItemMode::Active { table, offset }, rest))
         }
         (false, false) => {
-            let (offset, rest) = <Expression<A> as Readable<'a, A>>::read(bytes, alloc)?;
+            let (offset, rest) = <Expression<A> as Readable<'a, A, G>>::read(bytes, alloc)?;
             let table = None;
             Ok((ElementItemMode::Active { table, offset }, rest))
         }
@@ -135,23 +135,23 @@ fn read_mode<'a, A: Allocator + Copy>(
 /// # Proved
 ///
 /// ```text
-/// ensures found { IfOk result (λ x. Decodes (elements_as explicit false) padded bytes.now (list_view x.0) x.1.now) }
-/// ensures none { IfErr result (λ e. e ≢ Memory → Rejects (elements_as explicit false) padded bytes.now) }
+/// ensures found { IfOk result (λ x. Decodes (elements_as explicit false) (padded_of G.grammar) bytes.now (list_view x.0) x.1.now) }
+/// ensures none { IfErr result (λ e. e.cause ≢ Memory → Rejects (elements_as explicit false) (padded_of G.grammar) bytes.now) }
 /// ```
-fn read_functions<'a, A: Allocator + Copy>(
+fn read_functions<'a, A: Allocator + Copy, G: Grammar>(
     explicit: bool,
     bytes: &'a [u8],
     alloc: A,
-) -> Result<(ElementList<A>, &'a [u8]), ReadFault> {
+) -> Result<(ElementList<A>, &'a [u8]), DecodeError> {
     if explicit {
-        let (kind, rest) = <u8 as Readable<'a, A>>::read(bytes, alloc)?;
+        let (kind, rest) = <u8 as Readable<'a, A, G>>::read(bytes, alloc)?;
         if kind != 0x00 {
-            return Err(ReadFault::UnknownTag);
+            return Err(ReadFault::UnknownTag.just_before(rest));
         }
-        let (functions, rest) = <Vec<u32, A> as Readable<'a, A>>::read(rest, alloc)?;
+        let (functions, rest) = <Vec<u32, A> as Readable<'a, A, G>>::read(rest, alloc)?;
         return Ok((ElementList::Functions(functions), rest));
     }
-    let (functions, rest) = <Vec<u32, A> as Readable<'a, A>>::read(bytes, alloc)?;
+    let (functions, rest) = <Vec<u32, A> as Readable<'a, A, G>>::read(bytes, alloc)?;
     Ok((ElementList::Functions(functions), rest))
 }
 
@@ -160,21 +160,23 @@ fn read_functions<'a, A: Allocator + Copy>(
 /// # Proved
 ///
 /// ```text
-/// ensures found { IfOk result (λ x. Decodes (elements_as explicit true) padded bytes.now (list_view x.0) x.1.now) }
-/// ensures none { IfErr result (λ e. e ≢ Memory → Rejects (elements_as explicit true) padded bytes.now) }
+/// ensures found { IfOk result (λ x. Decodes (elements_as explicit true) (padded_of G.grammar) bytes.now (list_view x.0) x.1.now) }
+/// ensures none { IfErr result (λ e. e.cause ≢ Memory → Rejects (elements_as explicit true) (padded_of G.grammar) bytes.now) }
 /// ```
-fn read_expressions<'a, A: Allocator + Copy>(
+fn read_expressions<'a, A: Allocator + Copy, G: Grammar>(
     explicit: bool,
     bytes: &'a [u8],
     alloc: A,
-) -> Result<(ElementList<A>, &'a [u8]), ReadFault> {
+) -> Result<(ElementList<A>, &'a [u8]), DecodeError> {
     if explicit {
-        let ((ty, expressions), rest) = <(RefType, Vec<Expression<A>, A>) as Readable<'a, A>>::read(
-            bytes, alloc,
-        )?;
+        let ((ty, expressions), rest) = <(RefType, Vec<Expression<A>, A>) as Readable<
+            'a,
+            A,
+            G,
+        >>::read(bytes, alloc)?;
         return Ok((ElementList::Expressions(ty, expressions), rest));
     }
-    let (expressions, rest) = <Vec<Expression<A>, A> as Readable<'a, A>>::read(bytes, alloc)?;
+    let (expressions, rest) = <Vec<Expression<A>, A> as Readable<'a, A, G>>::read(bytes, alloc)?;
     Ok((
         ElementList::Expressions(RefType::FUNCREF, expressions),
         rest,
@@ -186,19 +188,19 @@ fn read_expressions<'a, A: Allocator + Copy>(
 /// # Proved
 ///
 /// ```text
-/// ensures found { IfOk result (λ x. Decodes (elements_as explicit of_expressions) padded bytes.now (list_view x.0) x.1.now) }
-/// ensures none { IfErr result (λ e. e ≢ Memory → Rejects (elements_as explicit of_expressions) padded bytes.now) }
+/// ensures found { IfOk result (λ x. Decodes (elements_as explicit of_expressions) (padded_of G.grammar) bytes.now (list_view x.0) x.1.now) }
+/// ensures none { IfErr result (λ e. e.cause ≢ Memory → Rejects (elements_as explicit of_expressions) (padded_of G.grammar) bytes.now) }
 /// ```
-fn read_elements<'a, A: Allocator + Copy>(
+fn read_elements<'a, A: Allocator + Copy, G: Grammar>(
     explicit: bool,
     of_expressions: bool,
     bytes: &'a [u8],
     alloc: A,
-) -> Result<(ElementList<A>, &'a [u8]), ReadFault> {
+) -> Result<(ElementList<A>, &'a [u8]), DecodeError> {
     if of_expressions {
-        read_expressions(explicit, bytes, alloc)
+        read_expressions::<A, G>(explicit, bytes, alloc)
     } else {
-        read_functions(explicit, bytes, alloc)
+        read_functions::<A, G>(explicit, bytes, alloc)
     }
 }
 
@@ -213,11 +215,16 @@ impl<A: Allocator> Layout for ElementItem<A> {
     fn laws() {}
 }
 
-impl<'a, A: Allocator + Copy> Readable<'a, A> for ElementItem<A> {
-    fn read(bytes: &'a [u8], alloc: A) -> Result<(ElementItem<A>, &'a [u8]), ReadFault> {
-        let (flag, rest) = <ElementFlag as Readable<'a, A>>::read(bytes, alloc)?;
-        let (mode, rest) = read_mode(flag, rest, alloc)?;
-        let (elements, rest) = read_elements(flag.has_kind(), flag.expressions, rest, alloc)?;
+impl<'a, A: Allocator + Copy, G: Grammar> Readable<'a, A, G> for ElementItem<A> {
+    fn read(bytes: &'a [u8], alloc: A) -> Result<(ElementItem<A>, &'a [u8]), DecodeError> {
+        let (flag, rest) = <ElementFlag as Readable<'a, A, G>>::read(bytes, alloc)?;
+        let (mode, rest) = read_mode::<A, G>(flag, rest, alloc)?;
+        let (elements, rest) = read_elements::<A, G>(
+            flag.has_kind(),
+            flag.expressions,
+            rest,
+            alloc,
+        )?;
         Ok((ElementItem { mode, elements }, rest))
     }
 }
@@ -363,23 +370,23 @@ impl<A: Allocator> Shorten for ElementItem<A> {
 /// # Proved
 ///
 /// ```text
-/// ensures found { IfOk result (λ rest. (x : SegmentMode (List Plain)) × Decodes (segment_mode (element_flag_view flag)) padded bytes.now x rest.now) }
-/// ensures none { IfErr result (λ e. e ≢ Memory → Rejects (segment_mode (element_flag_view flag)) padded bytes.now) }
+/// ensures found { IfOk result (λ rest. (x : SegmentMode (List Plain)) × Decodes (segment_mode (element_flag_view flag)) (padded_of G.grammar) bytes.now x rest.now) }
+/// ensures none { IfErr result (λ e. e.cause ≢ Memory → Rejects (segment_mode (element_flag_view flag)) (padded_of G.grammar) bytes.now) }
 /// ```
-fn skip_segment_mode<'a, A: Allocator + Copy>(
+fn skip_segment_mode<'a, A: Allocator + Copy, G: Grammar>(
     flag: ElementFlag,
     bytes: &'a [u8],
     alloc: A,
-) -> Result<&'a [u8], ReadFault> {
+) -> Result<&'a [u8], DecodeError> {
     match (flag.not_active, flag.second) {
         (true, true) => Ok(bytes),
         (true, false) => Ok(bytes),
         (false, true) => {
-            let rest = <(Dropped<u32>, Expression<A>) as Skip<'a, A>>::skip(bytes, alloc)?;
+            let rest = <(Dropped<u32>, Expression<A>) as Skip<'a, A, G>>::skip(bytes, alloc)?;
             Ok(rest)
         }
         (false, false) => {
-            let rest = <Expression<A> as Skip<'a, A>>::skip(bytes, alloc)?;
+            let rest = <Expression<A> as Skip<'a, A, G>>::skip(bytes, alloc)?;
             Ok(rest)
         }
     }
@@ -390,23 +397,23 @@ fn skip_segment_mode<'a, A: Allocator + Copy>(
 /// # Proved
 ///
 /// ```text
-/// ensures found { IfOk result (λ rest. (x : ListModel (List Plain)) × Decodes (elements_as explicit false) padded bytes.now x rest.now) }
-/// ensures none { IfErr result (λ e. e ≢ Memory → Rejects (elements_as explicit false) padded bytes.now) }
+/// ensures found { IfOk result (λ rest. (x : ListModel (List Plain)) × Decodes (elements_as explicit false) (padded_of G.grammar) bytes.now x rest.now) }
+/// ensures none { IfErr result (λ e. e.cause ≢ Memory → Rejects (elements_as explicit false) (padded_of G.grammar) bytes.now) }
 /// ```
-fn skip_functions<'a, A: Allocator + Copy>(
+fn skip_functions<'a, A: Allocator + Copy, G: Grammar>(
     explicit: bool,
     bytes: &'a [u8],
     alloc: A,
-) -> Result<&'a [u8], ReadFault> {
+) -> Result<&'a [u8], DecodeError> {
     if explicit {
-        let (kind, rest) = <u8 as Readable<'a, A>>::read(bytes, alloc)?;
+        let (kind, rest) = <u8 as Readable<'a, A, G>>::read(bytes, alloc)?;
         if kind != 0x00 {
-            return Err(ReadFault::UnknownTag);
+            return Err(ReadFault::UnknownTag.just_before(rest));
         }
-        let (_count, rest) = skip_many::<'a, Dropped<u32>, A>(rest, alloc)?;
+        let (_count, rest) = skip_many::<'a, Dropped<u32>, A, G>(rest, alloc)?;
         return Ok(rest);
     }
-    let (_count, rest) = skip_many::<'a, Dropped<u32>, A>(bytes, alloc)?;
+    let (_count, rest) = skip_many::<'a, Dropped<u32>, A, G>(bytes, alloc)?;
     Ok(rest)
 }
 
@@ -415,20 +422,20 @@ fn skip_functions<'a, A: Allocator + Copy>(
 /// # Proved
 ///
 /// ```text
-/// ensures found { IfOk result (λ rest. (x : ListModel (List Plain)) × Decodes (elements_as explicit true) padded bytes.now x rest.now) }
-/// ensures none { IfErr result (λ e. e ≢ Memory → Rejects (elements_as explicit true) padded bytes.now) }
+/// ensures found { IfOk result (λ rest. (x : ListModel (List Plain)) × Decodes (elements_as explicit true) (padded_of G.grammar) bytes.now x rest.now) }
+/// ensures none { IfErr result (λ e. e.cause ≢ Memory → Rejects (elements_as explicit true) (padded_of G.grammar) bytes.now) }
 /// ```
-fn skip_expressions<'a, A: Allocator + Copy>(
+fn skip_expressions<'a, A: Allocator + Copy, G: Grammar>(
     explicit: bool,
     bytes: &'a [u8],
     alloc: A,
-) -> Result<&'a [u8], ReadFault> {
+) -> Result<&'a [u8], DecodeError> {
     if explicit {
-        let (_type, rest) = <RefType as Readable<'a, A>>::read(bytes, alloc)?;
-        let (_count, rest) = skip_many::<'a, Expression<A>, A>(rest, alloc)?;
+        let (_type, rest) = <RefType as Readable<'a, A, G>>::read(bytes, alloc)?;
+        let (_count, rest) = skip_many::<'a, Expression<A>, A, G>(rest, alloc)?;
         return Ok(rest);
     }
-    let (_count, rest) = skip_many::<'a, Expression<A>, A>(bytes, alloc)?;
+    let (_count, rest) = skip_many::<'a, Expression<A>, A, G>(bytes, alloc)?;
     Ok(rest)
 }
 
@@ -437,27 +444,27 @@ fn skip_expressions<'a, A: Allocator + Copy>(
 /// # Proved
 ///
 /// ```text
-/// ensures found { IfOk result (λ rest. (x : ListModel (List Plain)) × Decodes (elements_as explicit of_expressions) padded bytes.now x rest.now) }
-/// ensures none { IfErr result (λ e. e ≢ Memory → Rejects (elements_as explicit of_expressions) padded bytes.now) }
+/// ensures found { IfOk result (λ rest. (x : ListModel (List Plain)) × Decodes (elements_as explicit of_expressions) (padded_of G.grammar) bytes.now x rest.now) }
+/// ensures none { IfErr result (λ e. e.cause ≢ Memory → Rejects (elements_as explicit of_expressions) (padded_of G.grammar) bytes.now) }
 /// ```
-fn skip_elements<'a, A: Allocator + Copy>(
+fn skip_elements<'a, A: Allocator + Copy, G: Grammar>(
     explicit: bool,
     of_expressions: bool,
     bytes: &'a [u8],
     alloc: A,
-) -> Result<&'a [u8], ReadFault> {
+) -> Result<&'a [u8], DecodeError> {
     if of_expressions {
-        skip_expressions(explicit, bytes, alloc)
+        skip_expressions::<A, G>(explicit, bytes, alloc)
     } else {
-        skip_functions(explicit, bytes, alloc)
+        skip_functions::<A, G>(explicit, bytes, alloc)
     }
 }
 
-impl<'a, A: Allocator + Copy> Skip<'a, A> for ElementItem<A> {
-    fn skip(bytes: &'a [u8], alloc: A) -> Result<&'a [u8], ReadFault> {
-        let (flag, rest) = <ElementFlag as Readable<'a, A>>::read(bytes, alloc)?;
-        let rest = skip_segment_mode(flag, rest, alloc)?;
-        let rest = skip_elements(flag.has_kind(), flag.expressions, rest, alloc)?;
+impl<'a, A: Allocator + Copy, G: Grammar> Skip<'a, A, G> for ElementItem<A> {
+    fn skip(bytes: &'a [u8], alloc: A) -> Result<&'a [u8], DecodeError> {
+        let (flag, rest) = <ElementFlag as Readable<'a, A, G>>::read(bytes, alloc)?;
+        let rest = skip_segment_mode::<A, G>(flag, rest, alloc)?;
+        let rest = skip_elements::<A, G>(flag.has_kind(), flag.expressions, rest, alloc)?;
         Ok(rest)
     }
 }

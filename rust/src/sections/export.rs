@@ -4,7 +4,7 @@
 use crate::vec::Sink;
 use crate::sections::counted_section::{CountedSection, ItemKind, RecordOf};
 use crate::alloc::{Allocator, Global};
-use crate::base::{Encode, Kind, Layout, ReadFault, Readable, Result, SectionId};
+use crate::base::{DecodeError, Encode, Grammar, Kind, Layout, ReadFault, Readable, Result, SectionId};
 
 /// The export section: the items that a module exports.
 ///
@@ -121,16 +121,16 @@ impl Layout for ExportKind {
     fn laws() {}
 }
 
-impl<'a, A: Allocator + Copy> Readable<'a, A> for ExportKind {
-    fn read(bytes: &'a [u8], alloc: A) -> Result<(ExportKind, &'a [u8]), ReadFault> {
-        let (code, rest) = <u8 as Readable<'a, A>>::read(bytes, alloc)?;
+impl<'a, A: Allocator + Copy, G: Grammar> Readable<'a, A, G> for ExportKind {
+    fn read(bytes: &'a [u8], alloc: A) -> Result<(ExportKind, &'a [u8]), DecodeError> {
+        let (code, rest) = <u8 as Readable<'a, A, G>>::read(bytes, alloc)?;
         match code {
             0x00 => Ok((ExportKind::Func, rest)),
             0x01 => Ok((ExportKind::Table, rest)),
             0x02 => Ok((ExportKind::Memory, rest)),
             0x03 => Ok((ExportKind::Global, rest)),
             0x04 => Ok((ExportKind::Tag, rest)),
-            _ => Err(ReadFault::UnknownTag),
+            _ => Err(ReadFault::UnknownTag.just_before(rest)),
         }
     }
 }
@@ -151,11 +151,13 @@ impl<'a> Layout for Export<'a> {
     fn laws() {}
 }
 
-impl<'a, A: Allocator + Copy> Readable<'a, A> for Export<'a> {
-    fn read(bytes: &'a [u8], alloc: A) -> Result<(Export<'a>, &'a [u8]), ReadFault> {
-        let ((name, (kind, index)), rest) = <(&'a str, (ExportKind, u32)) as Readable<'a, A>>::read(
-            bytes, alloc,
-        )?;
+impl<'a, A: Allocator + Copy, G: Grammar> Readable<'a, A, G> for Export<'a> {
+    fn read(bytes: &'a [u8], alloc: A) -> Result<(Export<'a>, &'a [u8]), DecodeError> {
+        let ((name, (kind, index)), rest) = <(&'a str, (ExportKind, u32)) as Readable<
+            'a,
+            A,
+            G,
+        >>::read(bytes, alloc)?;
         Ok((Export { name, kind, index }, rest))
     }
 }

@@ -5,7 +5,7 @@ use crate::vec::Sink;
 use crate::sections::counted_section::{CountedSection, ItemKind};
 use crate::sections::flags::where_set;
 use crate::alloc::{Allocator, Global};
-use crate::base::{Dropped, Encode, Kind, Layout, Lent, ReadFault, Readable, Result, SectionId, Shorten, Skip, ValType};
+use crate::base::{DecodeError, Dropped, Encode, Grammar, Kind, Layout, Lent, ReadFault, Readable, Result, SectionId, Shorten, Skip, ValType};
 use crate::code::{ConstExpr, Expression};
 
 /// The global section: the globals that a module defines.
@@ -135,11 +135,11 @@ impl Layout for GlobalFlags {
     fn laws() {}
 }
 
-impl<'a, A: Allocator + Copy> Readable<'a, A> for GlobalFlags {
-    fn read(bytes: &'a [u8], alloc: A) -> Result<(GlobalFlags, &'a [u8]), ReadFault> {
-        let (byte, rest) = <u8 as Readable<'a, A>>::read(bytes, alloc)?;
+impl<'a, A: Allocator + Copy, G: Grammar> Readable<'a, A, G> for GlobalFlags {
+    fn read(bytes: &'a [u8], alloc: A) -> Result<(GlobalFlags, &'a [u8]), DecodeError> {
+        let (byte, rest) = <u8 as Readable<'a, A, G>>::read(bytes, alloc)?;
         if byte >= 0x04 {
-            return Err(ReadFault::UnknownTag);
+            return Err(ReadFault::UnknownTag.just_before(rest));
         }
         let flags = GlobalFlags {
             mutable: byte % 2 == 1,
@@ -160,9 +160,9 @@ impl Layout for GlobalType {
     fn laws() {}
 }
 
-impl<'a, A: Allocator + Copy> Readable<'a, A> for GlobalType {
-    fn read(bytes: &'a [u8], alloc: A) -> Result<(GlobalType, &'a [u8]), ReadFault> {
-        let ((val_type, flags), rest) = <(ValType, GlobalFlags) as Readable<'a, A>>::read(
+impl<'a, A: Allocator + Copy, G: Grammar> Readable<'a, A, G> for GlobalType {
+    fn read(bytes: &'a [u8], alloc: A) -> Result<(GlobalType, &'a [u8]), DecodeError> {
+        let ((val_type, flags), rest) = <(ValType, GlobalFlags) as Readable<'a, A, G>>::read(
             bytes, alloc,
         )?;
         let global_type = GlobalType {
@@ -192,9 +192,9 @@ impl<A: Allocator> Layout for GlobalItem<A> {
     fn laws() {}
 }
 
-impl<'a, A: Allocator + Copy> Readable<'a, A> for GlobalItem<A> {
-    fn read(bytes: &'a [u8], alloc: A) -> Result<(GlobalItem<A>, &'a [u8]), ReadFault> {
-        let ((global_type, init), rest) = <(GlobalType, Expression<A>) as Readable<'a, A>>::read(
+impl<'a, A: Allocator + Copy, G: Grammar> Readable<'a, A, G> for GlobalItem<A> {
+    fn read(bytes: &'a [u8], alloc: A) -> Result<(GlobalItem<A>, &'a [u8]), DecodeError> {
+        let ((global_type, init), rest) = <(GlobalType, Expression<A>) as Readable<'a, A, G>>::read(
             bytes, alloc,
         )?;
         Ok((GlobalItem { global_type, init }, rest))
@@ -208,9 +208,9 @@ impl<A: Allocator> Shorten for GlobalItem<A> {
     }
 }
 
-impl<'a, A: Allocator + Copy> Skip<'a, A> for GlobalItem<A> {
-    fn skip(bytes: &'a [u8], alloc: A) -> Result<&'a [u8], ReadFault> {
-        let rest = <(Dropped<GlobalType>, Expression<A>) as Skip<'a, A>>::skip(bytes, alloc)?;
+impl<'a, A: Allocator + Copy, G: Grammar> Skip<'a, A, G> for GlobalItem<A> {
+    fn skip(bytes: &'a [u8], alloc: A) -> Result<&'a [u8], DecodeError> {
+        let rest = <(Dropped<GlobalType>, Expression<A>) as Skip<'a, A, G>>::skip(bytes, alloc)?;
         Ok(rest)
     }
 }

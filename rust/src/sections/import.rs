@@ -8,7 +8,7 @@ use crate::sections::memory::MemoryType;
 use crate::sections::table::TableType;
 use crate::sections::tag::TagType;
 use crate::alloc::{Allocator, Global};
-use crate::base::{CORE_FUNCTION_EXACT_SORT, CORE_FUNCTION_SORT, CORE_GLOBAL_SORT, CORE_MEMORY_SORT, CORE_TABLE_SORT, CORE_TAG_SORT, CowSlice, Dropped, Encode, Kind, Layout, ReadFault, Readable, Result, SectionId, Skip, read_whole, skip_many};
+use crate::base::{CORE_FUNCTION_EXACT_SORT, CORE_FUNCTION_SORT, CORE_GLOBAL_SORT, CORE_MEMORY_SORT, CORE_TABLE_SORT, CORE_TAG_SORT, CowSlice, DecodeError, Dropped, Encode, Grammar, Kind, Layout, ReadFault, Readable, Result, SectionId, Skip, read_whole, skip_many};
 
 /// The import section: the items that a module imports.
 ///
@@ -280,35 +280,35 @@ impl Layout for EntityType {
     fn laws() {}
 }
 
-impl<'a, A: Allocator + Copy> Readable<'a, A> for EntityType {
-    fn read(bytes: &'a [u8], alloc: A) -> Result<(EntityType, &'a [u8]), ReadFault> {
-        let (kind, rest) = <u8 as Readable<'a, A>>::read(bytes, alloc)?;
+impl<'a, A: Allocator + Copy, G: Grammar> Readable<'a, A, G> for EntityType {
+    fn read(bytes: &'a [u8], alloc: A) -> Result<(EntityType, &'a [u8]), DecodeError> {
+        let (kind, rest) = <u8 as Readable<'a, A, G>>::read(bytes, alloc)?;
         match kind {
             0x00 => {
-                let (index, rest) = <u32 as Readable<'a, A>>::read(rest, alloc)?;
+                let (index, rest) = <u32 as Readable<'a, A, G>>::read(rest, alloc)?;
                 Ok((EntityType::Function(index), rest))
             }
             0x01 => {
-                let (ty, rest) = <TableType as Readable<'a, A>>::read(rest, alloc)?;
+                let (ty, rest) = <TableType as Readable<'a, A, G>>::read(rest, alloc)?;
                 Ok((EntityType::Table(ty), rest))
             }
             0x02 => {
-                let (ty, rest) = <MemoryType as Readable<'a, A>>::read(rest, alloc)?;
+                let (ty, rest) = <MemoryType as Readable<'a, A, G>>::read(rest, alloc)?;
                 Ok((EntityType::Memory(ty), rest))
             }
             0x03 => {
-                let (ty, rest) = <GlobalType as Readable<'a, A>>::read(rest, alloc)?;
+                let (ty, rest) = <GlobalType as Readable<'a, A, G>>::read(rest, alloc)?;
                 Ok((EntityType::Global(ty), rest))
             }
             0x04 => {
-                let (ty, rest) = <TagType as Readable<'a, A>>::read(rest, alloc)?;
+                let (ty, rest) = <TagType as Readable<'a, A, G>>::read(rest, alloc)?;
                 Ok((EntityType::Tag(ty), rest))
             }
             0x20 => {
-                let (index, rest) = <u32 as Readable<'a, A>>::read(rest, alloc)?;
+                let (index, rest) = <u32 as Readable<'a, A, G>>::read(rest, alloc)?;
                 Ok((EntityType::FunctionExact(index), rest))
             }
-            _ => Err(ReadFault::UnknownTag),
+            _ => Err(ReadFault::UnknownTag.just_before(rest)),
         }
     }
 }
@@ -331,9 +331,9 @@ impl<'a> Layout for ImportCompact<'a> {
     }
 }
 
-impl<'a, A: Allocator + Copy> Readable<'a, A> for ImportCompact<'a> {
-    fn read(bytes: &'a [u8], alloc: A) -> Result<(ImportCompact<'a>, &'a [u8]), ReadFault> {
-        let ((name, ty), rest) = <(&'a str, EntityType) as Readable<'a, A>>::read(bytes, alloc)?;
+impl<'a, A: Allocator + Copy, G: Grammar> Readable<'a, A, G> for ImportCompact<'a> {
+    fn read(bytes: &'a [u8], alloc: A) -> Result<(ImportCompact<'a>, &'a [u8]), DecodeError> {
+        let ((name, ty), rest) = <(&'a str, EntityType) as Readable<'a, A, G>>::read(bytes, alloc)?;
         Ok((ImportCompact { name, ty }, rest))
     }
 }
@@ -344,9 +344,9 @@ impl<'a, A: Allocator + Copy> Readable<'a, A> for ImportCompact<'a> {
 /// # Proved
 ///
 /// ```text
-/// ensures { MatchOption result (Rejects (prefixed (0x00 ∷ []) group) padded bytes.now) (λ x. (bytes.now ≡ 0x00 ∷ x.0 ∷ x.1.now) × (0x7E ≤ x.0)) }
+/// ensures { MatchOption result (Rejects (prefixed (0x00 ∷ []) group) (padded_of G.grammar) bytes.now) (λ x. (bytes.now ≡ 0x00 ∷ x.0 ∷ x.1.now) × (0x7E ≤ x.0)) }
 /// ```
-fn group_kind(bytes: &[u8]) -> Option<(u8, &[u8])> {
+fn group_kind<G: Grammar>(bytes: &[u8]) -> Option<(u8, &[u8])> {
     match bytes {
         [0x00, kind @ 0x7E..=0xFF, rest @ ..] => Some((*kind, rest)),
         _ => None,
@@ -369,29 +369,29 @@ impl<'a, A: Allocator> Layout for Imports<'a, A> {
     fn laws() {}
 }
 
-impl<'a, A: Allocator + Copy> Readable<'a, A> for Imports<'a, A> {
-    fn read(bytes: &'a [u8], alloc: A) -> Result<(Imports<'a, A>, &'a [u8]), ReadFault> {
-        let (module, rest) = <&'a str as Readable<'a, A>>::read(bytes, alloc)?;
-        let Some((kind, rest)) = group_kind(rest) else {
-            let (name, rest) = <&'a str as Readable<'a, A>>::read(rest, alloc)?;
-            let (ty, rest) = <EntityType as Readable<'a, A>>::read(rest, alloc)?;
+impl<'a, A: Allocator + Copy, G: Grammar> Readable<'a, A, G> for Imports<'a, A> {
+    fn read(bytes: &'a [u8], alloc: A) -> Result<(Imports<'a, A>, &'a [u8]), DecodeError> {
+        let (module, rest) = <&'a str as Readable<'a, A, G>>::read(bytes, alloc)?;
+        let Some((kind, rest)) = group_kind::<G>(rest) else {
+            let (name, rest) = <&'a str as Readable<'a, A, G>>::read(rest, alloc)?;
+            let (ty, rest) = <EntityType as Readable<'a, A, G>>::read(rest, alloc)?;
             return Ok((Imports::Single(Import { module, name, ty }), rest));
         };
         match kind {
             0x7F => {
-                let (items, rest) = <Vec<ImportCompact<'a>, A> as Readable<'a, A>>::read(
+                let (items, rest) = <Vec<ImportCompact<'a>, A> as Readable<'a, A, G>>::read(
                     rest, alloc,
                 )?;
                 let items = CowSlice::Owned(items);
                 Ok((Imports::Compact1 { module, items }, rest))
             }
             0x7E => {
-                let (ty, rest) = <EntityType as Readable<'a, A>>::read(rest, alloc)?;
-                let (names, rest) = <Vec<&'a str, A> as Readable<'a, A>>::read(rest, alloc)?;
+                let (ty, rest) = <EntityType as Readable<'a, A, G>>::read(rest, alloc)?;
+                let (names, rest) = <Vec<&'a str, A> as Readable<'a, A, G>>::read(rest, alloc)?;
                 let names = CowSlice::Owned(names);
                 Ok((Imports::Compact2 { module, ty, names }, rest))
             }
-            _ => Err(ReadFault::UnknownTag),
+            _ => Err(ReadFault::UnknownTag.just_before(rest)),
         }
     }
 }
@@ -406,14 +406,14 @@ impl<'a, A: Allocator + Copy> Readable<'a, A> for Imports<'a, A> {
 /// # Proved
 ///
 /// ```text
-/// ensures found { IfOk result (λ x. vec import_format padded bytes.now (map imports_item x.items)) }
-/// ensures none { IfErr result (λ e. e ≢ Memory → RejectsWhole (vec import_format) bytes.now) }
+/// ensures found { IfOk result (λ x. vec import_format (padded_of G.grammar) bytes.now (map imports_item x.items)) }
+/// ensures none { IfErr result (λ e. e.cause ≢ Memory → RejectsWhole (vec import_format) (padded_of G.grammar) bytes.now) }
 /// ```
-pub fn read_imports<'a, A: Allocator + Copy + 'a>(
+pub fn read_imports<'a, A: Allocator + Copy + 'a, G: Grammar>(
     bytes: &'a [u8],
     alloc: A,
-) -> Result<Vec<Imports<'a, A>, A>, ReadFault> {
-    read_whole::<'a, Vec<Imports<'a, A>, A>, A>(bytes, alloc)
+) -> Result<Vec<Imports<'a, A>, A>, DecodeError> {
+    read_whole::<'a, Vec<Imports<'a, A>, A>, A, G>(bytes, alloc)
 }
 
 /// Writes the bytes that [`append_imports`] appends. After an error, part of them may follow the
@@ -459,25 +459,27 @@ pub fn append_imports<A: Allocator, B: Sink>(
     written
 }
 
-impl<'a, A: Allocator + Copy> Skip<'a, A> for Imports<'a, A> {
-    fn skip(bytes: &'a [u8], alloc: A) -> Result<&'a [u8], ReadFault> {
-        let (_module, rest) = <&'a str as Readable<'a, A>>::read(bytes, alloc)?;
-        let Some((kind, rest)) = group_kind(rest) else {
-            let (_name, rest) = <&'a str as Readable<'a, A>>::read(rest, alloc)?;
-            let (_type, rest) = <EntityType as Readable<'a, A>>::read(rest, alloc)?;
+impl<'a, A: Allocator + Copy, G: Grammar> Skip<'a, A, G> for Imports<'a, A> {
+    fn skip(bytes: &'a [u8], alloc: A) -> Result<&'a [u8], DecodeError> {
+        let (_module, rest) = <&'a str as Readable<'a, A, G>>::read(bytes, alloc)?;
+        let Some((kind, rest)) = group_kind::<G>(rest) else {
+            let (_name, rest) = <&'a str as Readable<'a, A, G>>::read(rest, alloc)?;
+            let (_type, rest) = <EntityType as Readable<'a, A, G>>::read(rest, alloc)?;
             return Ok(rest);
         };
         match kind {
             0x7F => {
-                let (_count, rest) = skip_many::<'a, Dropped<ImportCompact<'a>>, A>(rest, alloc)?;
+                let (_count, rest) = skip_many::<'a, Dropped<ImportCompact<'a>>, A, G>(
+                    rest, alloc,
+                )?;
                 Ok(rest)
             }
             0x7E => {
-                let (_type, rest) = <EntityType as Readable<'a, A>>::read(rest, alloc)?;
-                let (_count, rest) = skip_many::<'a, Dropped<&'a str>, A>(rest, alloc)?;
+                let (_type, rest) = <EntityType as Readable<'a, A, G>>::read(rest, alloc)?;
+                let (_count, rest) = skip_many::<'a, Dropped<&'a str>, A, G>(rest, alloc)?;
                 Ok(rest)
             }
-            _ => Err(ReadFault::UnknownTag),
+            _ => Err(ReadFault::UnknownTag.just_before(rest)),
         }
     }
 }

@@ -101,8 +101,8 @@ pub fn calls() {}
 /// ```
 pub fn padded_calls() {}
 
-/// A call of an element section appends `given_encoding`. It equals the `element_encoding` of each record
-/// that has the segment's mode and elements, with the same bytes of expressions.
+/// A call of an element section appends `given_encoding`. It equals the `element_encoding` of each
+/// record that has the segment's mode and elements, with the same bytes of expressions.
 ///
 /// # Proved
 ///

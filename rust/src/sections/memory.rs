@@ -5,7 +5,7 @@ use crate::vec::Sink;
 use crate::sections::counted_section::{CountedSection, ItemKind, RecordOf};
 use crate::sections::flags::where_set;
 use crate::alloc::{Allocator, Global};
-use crate::base::{Encode, Kind, Layout, Optional, ReadFault, Readable, Result, SectionId, read_optional};
+use crate::base::{DecodeError, Encode, Grammar, Kind, Layout, Optional, ReadFault, Readable, Result, SectionId, read_optional};
 
 /// The memory section: the memories that a module defines.
 ///
@@ -162,11 +162,11 @@ impl Layout for Flags {
     fn laws() {}
 }
 
-impl<'a, A: Allocator + Copy> Readable<'a, A> for Flags {
-    fn read(bytes: &'a [u8], alloc: A) -> Result<(Flags, &'a [u8]), ReadFault> {
-        let (byte, rest) = <u8 as Readable<'a, A>>::read(bytes, alloc)?;
+impl<'a, A: Allocator + Copy, G: Grammar> Readable<'a, A, G> for Flags {
+    fn read(bytes: &'a [u8], alloc: A) -> Result<(Flags, &'a [u8]), DecodeError> {
+        let (byte, rest) = <u8 as Readable<'a, A, G>>::read(bytes, alloc)?;
         if byte >= 0x10 {
-            return Err(ReadFault::UnknownTag);
+            return Err(ReadFault::UnknownTag.just_before(rest));
         }
         let flags = Flags {
             has_maximum: byte % 2 == 1,
@@ -189,12 +189,16 @@ impl Layout for MemoryType {
     fn laws() {}
 }
 
-impl<'a, A: Allocator + Copy> Readable<'a, A> for MemoryType {
-    fn read(bytes: &'a [u8], alloc: A) -> Result<(MemoryType, &'a [u8]), ReadFault> {
-        let (flags, rest) = <Flags as Readable<'a, A>>::read(bytes, alloc)?;
-        let (minimum, rest) = <u64 as Readable<'a, A>>::read(rest, alloc)?;
-        let (maximum, rest) = read_optional::<'a, u64, A>(flags.has_maximum, rest, alloc)?;
-        let (page_size_log2, rest) = read_optional::<'a, u32, A>(flags.has_page_size, rest, alloc)?;
+impl<'a, A: Allocator + Copy, G: Grammar> Readable<'a, A, G> for MemoryType {
+    fn read(bytes: &'a [u8], alloc: A) -> Result<(MemoryType, &'a [u8]), DecodeError> {
+        let (flags, rest) = <Flags as Readable<'a, A, G>>::read(bytes, alloc)?;
+        let (minimum, rest) = <u64 as Readable<'a, A, G>>::read(rest, alloc)?;
+        let (maximum, rest) = read_optional::<'a, u64, A, G>(flags.has_maximum, rest, alloc)?;
+        let (page_size_log2, rest) = read_optional::<'a, u32, A, G>(
+            flags.has_page_size,
+            rest,
+            alloc,
+        )?;
         let memory = MemoryType {
             minimum,
             maximum,

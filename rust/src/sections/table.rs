@@ -6,7 +6,7 @@ use crate::sections::counted_section::{CountedSection, ItemKind, RecordOf};
 use crate::sections::flags::where_set;
 use crate::sections::memory::Flags;
 use crate::alloc::{Allocator, Global};
-use crate::base::{Dropped, Encode, Kind, Layout, Lent, Optional, ReadFault, Readable, RefType, Result, SectionId, Shorten, Skip, ValType, read_optional};
+use crate::base::{DecodeError, Dropped, Encode, Grammar, Kind, Layout, Lent, Optional, ReadFault, Readable, RefType, Result, SectionId, Shorten, Skip, ValType, read_optional};
 use crate::code::{ConstExpr, Expression};
 
 /// The table section: the tables that a module defines.
@@ -162,14 +162,14 @@ impl Layout for Limits {
     fn laws() {}
 }
 
-impl<'a, A: Allocator + Copy> Readable<'a, A> for Limits {
-    fn read(bytes: &'a [u8], alloc: A) -> Result<(Limits, &'a [u8]), ReadFault> {
-        let (flags, rest) = <Flags as Readable<'a, A>>::read(bytes, alloc)?;
+impl<'a, A: Allocator + Copy, G: Grammar> Readable<'a, A, G> for Limits {
+    fn read(bytes: &'a [u8], alloc: A) -> Result<(Limits, &'a [u8]), DecodeError> {
+        let (flags, rest) = <Flags as Readable<'a, A, G>>::read(bytes, alloc)?;
         if flags.has_page_size {
-            return Err(ReadFault::UnknownTag);
+            return Err(ReadFault::UnknownTag.just_before(rest));
         }
-        let (minimum, rest) = <u64 as Readable<'a, A>>::read(rest, alloc)?;
-        let (maximum, rest) = read_optional::<'a, u64, A>(flags.has_maximum, rest, alloc)?;
+        let (minimum, rest) = <u64 as Readable<'a, A, G>>::read(rest, alloc)?;
+        let (maximum, rest) = read_optional::<'a, u64, A, G>(flags.has_maximum, rest, alloc)?;
         let limits = Limits {
             table64: flags.is_64,
             shared: flags.shared,
@@ -191,9 +191,9 @@ impl Layout for TableType {
     fn laws() {}
 }
 
-impl<'a, A: Allocator + Copy> Readable<'a, A> for TableType {
-    fn read(bytes: &'a [u8], alloc: A) -> Result<(TableType, &'a [u8]), ReadFault> {
-        let ((element_type, limits), rest) = <(RefType, Limits) as Readable<'a, A>>::read(
+impl<'a, A: Allocator + Copy, G: Grammar> Readable<'a, A, G> for TableType {
+    fn read(bytes: &'a [u8], alloc: A) -> Result<(TableType, &'a [u8]), DecodeError> {
+        let ((element_type, limits), rest) = <(RefType, Limits) as Readable<'a, A, G>>::read(
             bytes, alloc,
         )?;
         let table = TableType {
@@ -228,19 +228,19 @@ impl<A: Allocator> Layout for TableItem<A> {
     fn laws() {}
 }
 
-impl<'a, A: Allocator + Copy> Readable<'a, A> for TableItem<A> {
-    fn read(bytes: &'a [u8], alloc: A) -> Result<(TableItem<A>, &'a [u8]), ReadFault> {
-        let (first, rest) = <u8 as Readable<'a, A>>::read(bytes, alloc)?;
+impl<'a, A: Allocator + Copy, G: Grammar> Readable<'a, A, G> for TableItem<A> {
+    fn read(bytes: &'a [u8], alloc: A) -> Result<(TableItem<A>, &'a [u8]), DecodeError> {
+        let (first, rest) = <u8 as Readable<'a, A, G>>::read(bytes, alloc)?;
         if first != 0x40 {
-            let (table_type, rest) = <TableType as Readable<'a, A>>::read(bytes, alloc)?;
+            let (table_type, rest) = <TableType as Readable<'a, A, G>>::read(bytes, alloc)?;
             let init = None;
             return Ok((TableItem { table_type, init }, rest));
         }
-        let (second, rest) = <u8 as Readable<'a, A>>::read(rest, alloc)?;
+        let (second, rest) = <u8 as Readable<'a, A, G>>::read(rest, alloc)?;
         if second != 0x00 {
-            return Err(ReadFault::UnknownTag);
+            return Err(ReadFault::UnknownTag.just_before(rest));
         }
-        let ((table_type, init), rest) = <(TableType, Expression<A>) as Readable<'a, A>>::read(
+        let ((table_type, init), rest) = <(TableType, Expression<A>) as Readable<'a, A, G>>::read(
             rest, alloc,
         )?;
         let init = Some(init);
@@ -259,18 +259,18 @@ impl<A: Allocator> Shorten for TableItem<A> {
     }
 }
 
-impl<'a, A: Allocator + Copy> Skip<'a, A> for TableItem<A> {
-    fn skip(bytes: &'a [u8], alloc: A) -> Result<&'a [u8], ReadFault> {
-        let (first, rest) = <u8 as Readable<'a, A>>::read(bytes, alloc)?;
+impl<'a, A: Allocator + Copy, G: Grammar> Skip<'a, A, G> for TableItem<A> {
+    fn skip(bytes: &'a [u8], alloc: A) -> Result<&'a [u8], DecodeError> {
+        let (first, rest) = <u8 as Readable<'a, A, G>>::read(bytes, alloc)?;
         if first != 0x40 {
-            let (_type, rest) = <TableType as Readable<'a, A>>::read(bytes, alloc)?;
+            let (_type, rest) = <TableType as Readable<'a, A, G>>::read(bytes, alloc)?;
             return Ok(rest);
         }
-        let (second, rest) = <u8 as Readable<'a, A>>::read(rest, alloc)?;
+        let (second, rest) = <u8 as Readable<'a, A, G>>::read(rest, alloc)?;
         if second != 0x00 {
-            return Err(ReadFault::UnknownTag);
+            return Err(ReadFault::UnknownTag.just_before(rest));
         }
-        let rest = <(Dropped<TableType>, Expression<A>) as Skip<'a, A>>::skip(rest, alloc)?;
+        let rest = <(Dropped<TableType>, Expression<A>) as Skip<'a, A, G>>::skip(rest, alloc)?;
         Ok(rest)
     }
 }

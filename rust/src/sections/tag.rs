@@ -4,7 +4,7 @@
 use crate::vec::Sink;
 use crate::sections::counted_section::{CountedSection, ItemKind, RecordOf};
 use crate::alloc::{Allocator, Global};
-use crate::base::{Encode, Kind, Layout, ReadFault, Readable, Result, SectionId};
+use crate::base::{DecodeError, Encode, Grammar, Kind, Layout, ReadFault, Readable, Result, SectionId};
 
 /// The tag section: the tags that a module defines.
 ///
@@ -118,13 +118,13 @@ impl Layout for TagKind {
     fn laws() {}
 }
 
-impl<'a, A: Allocator + Copy> Readable<'a, A> for TagKind {
-    fn read(bytes: &'a [u8], alloc: A) -> Result<(TagKind, &'a [u8]), ReadFault> {
-        let (code, rest) = <u8 as Readable<'a, A>>::read(bytes, alloc)?;
+impl<'a, A: Allocator + Copy, G: Grammar> Readable<'a, A, G> for TagKind {
+    fn read(bytes: &'a [u8], alloc: A) -> Result<(TagKind, &'a [u8]), DecodeError> {
+        let (code, rest) = <u8 as Readable<'a, A, G>>::read(bytes, alloc)?;
         if code == 0x00 {
             Ok((TagKind::Exception, rest))
         } else {
-            Err(ReadFault::UnknownTag)
+            Err(ReadFault::UnknownTag.just_before(rest))
         }
     }
 }
@@ -140,9 +140,9 @@ impl Layout for TagType {
     fn laws() {}
 }
 
-impl<'a, A: Allocator + Copy> Readable<'a, A> for TagType {
-    fn read(bytes: &'a [u8], alloc: A) -> Result<(TagType, &'a [u8]), ReadFault> {
-        let ((kind, func_type_idx), rest) = <(TagKind, u32) as Readable<'a, A>>::read(
+impl<'a, A: Allocator + Copy, G: Grammar> Readable<'a, A, G> for TagType {
+    fn read(bytes: &'a [u8], alloc: A) -> Result<(TagType, &'a [u8]), DecodeError> {
+        let ((kind, func_type_idx), rest) = <(TagKind, u32) as Readable<'a, A, G>>::read(
             bytes, alloc,
         )?;
         let tag = TagType {

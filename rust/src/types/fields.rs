@@ -3,27 +3,7 @@
 
 use crate::types::types::{FieldType, StorageType};
 use crate::alloc::Allocator;
-use crate::base::{Layout, ReadFault, Readable, ValType, read_groups};
-
-/// Decodes an index, encoded as a signed number of 33 bits.
-///
-/// # Proved
-///
-/// ```text
-/// ensures found { IfOk result (λ x. Decodes s33 padded bytes.now x.0 x.1.now) }
-/// ensures none { IfErr result (λ e. e ≢ Memory → Rejects s33 padded bytes.now) }
-/// ```
-pub(crate) fn read_index(bytes: &[u8]) -> Result<(u32, &[u8]), ReadFault> {
-    let (groups, rest) = read_groups(bytes, 5)?;
-    if groups.last >= 0x40 {
-        return Err(ReadFault::UnknownTag);
-    }
-    if groups.sum < 1 << 32 {
-        Ok((groups.sum as u32, rest))
-    } else {
-        Err(ReadFault::TooLarge)
-    }
-}
+use crate::base::{DecodeError, Grammar, Layout, ReadFault, Readable, ValType};
 
 /// The mutability of a field.
 #[derive(Clone, Copy)]
@@ -40,13 +20,13 @@ impl Layout for Mutable {
     fn laws() {}
 }
 
-impl<'a, A: Allocator + Copy> Readable<'a, A> for Mutable {
-    fn read(bytes: &'a [u8], alloc: A) -> Result<(Mutable, &'a [u8]), ReadFault> {
-        let (code, rest) = <u8 as Readable<'a, A>>::read(bytes, alloc)?;
+impl<'a, A: Allocator + Copy, G: Grammar> Readable<'a, A, G> for Mutable {
+    fn read(bytes: &'a [u8], alloc: A) -> Result<(Mutable, &'a [u8]), DecodeError> {
+        let (code, rest) = <u8 as Readable<'a, A, G>>::read(bytes, alloc)?;
         match code {
             0x00 => Ok((Mutable(false), rest)),
             0x01 => Ok((Mutable(true), rest)),
-            _ => Err(ReadFault::UnknownTag),
+            _ => Err(ReadFault::UnknownTag.at(bytes)),
         }
     }
 }
@@ -62,14 +42,14 @@ impl Layout for StorageType {
     fn laws() {}
 }
 
-impl<'a, A: Allocator + Copy> Readable<'a, A> for StorageType {
-    fn read(bytes: &'a [u8], alloc: A) -> Result<(StorageType, &'a [u8]), ReadFault> {
-        let (tag, rest) = <u8 as Readable<'a, A>>::read(bytes, alloc)?;
+impl<'a, A: Allocator + Copy, G: Grammar> Readable<'a, A, G> for StorageType {
+    fn read(bytes: &'a [u8], alloc: A) -> Result<(StorageType, &'a [u8]), DecodeError> {
+        let (tag, rest) = <u8 as Readable<'a, A, G>>::read(bytes, alloc)?;
         match tag {
             0x78 => Ok((StorageType::I8, rest)),
             0x77 => Ok((StorageType::I16, rest)),
             _ => {
-                let (ty, rest) = <ValType as Readable<'a, A>>::read(bytes, alloc)?;
+                let (ty, rest) = <ValType as Readable<'a, A, G>>::read(bytes, alloc)?;
                 Ok((StorageType::Val(ty), rest))
             }
         }
@@ -87,11 +67,12 @@ impl Layout for FieldType {
     fn laws() {}
 }
 
-impl<'a, A: Allocator + Copy> Readable<'a, A> for FieldType {
-    fn read(bytes: &'a [u8], alloc: A) -> Result<(FieldType, &'a [u8]), ReadFault> {
+impl<'a, A: Allocator + Copy, G: Grammar> Readable<'a, A, G> for FieldType {
+    fn read(bytes: &'a [u8], alloc: A) -> Result<(FieldType, &'a [u8]), DecodeError> {
         let ((element_type, Mutable(mutable)), rest) = <(StorageType, Mutable) as Readable<
             'a,
             A,
+            G,
         >>::read(bytes, alloc)?;
         let field = FieldType {
             element_type,

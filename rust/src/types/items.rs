@@ -2,10 +2,10 @@
 // The decoded entries of a type section: subtypes and recursion groups.
 
 use crate::vec::{Sink, Vec};
-use crate::types::shapes::read_composite_after;
+use crate::types::shapes::{read_composite, read_composite_after};
 use crate::types::types::CompositeType;
 use crate::alloc::{Allocator, Global};
-use crate::base::{Encode, Layout, Lent, ReadFault, Readable, Result};
+use crate::base::{DecodeError, Encode, Grammar, Layout, Lent, ReadFault, Readable, Result};
 
 /// A decoded subtype: its supertypes, and whether it is final, so that it can have no subtypes.
 #[derive(Debug)]
@@ -29,15 +29,36 @@ pub enum TypeEntry<A: Allocator = Global> {
 /// # Proved
 ///
 /// ```text
-/// ensures found { IfOk result (λ x. Decodes supertypes_and padded bytes.now (x.0.items, composite_in x.1) x.2.now) }
-/// ensures none { IfErr result (λ e. e ≢ Memory → Rejects supertypes_and padded bytes.now) }
+/// ensures found { IfOk result (λ x. Decodes supertypes_and (padded_of G.grammar) bytes.now (x.0.items, composite_in x.1) x.2.now) }
+/// ensures none { IfErr result (λ e. e.cause ≢ Memory → Rejects supertypes_and (padded_of G.grammar) bytes.now) }
 /// ```
-fn read_supertypes_and<'a, A: Allocator + Copy>(
+fn read_supertypes_and<'a, A: Allocator + Copy, G: Grammar>(
     bytes: &'a [u8],
     alloc: A,
-) -> Result<(Vec<u32, A>, CompositeType<A>, &'a [u8]), ReadFault> {
-    let ((supertypes, tag), rest) = <(Vec<u32, A>, u8) as Readable<'a, A>>::read(bytes, alloc)?;
-    let (composite_type, rest) = read_composite_after(tag, rest, alloc)?;
+) -> Result<(Vec<u32, A>, CompositeType<A>, &'a [u8]), DecodeError> {
+    let (supertypes, rest) = <Vec<u32, A> as Readable<'a, A, G>>::read(bytes, alloc)?;
+    let (composite_type, rest) = read_composite::<A, G>(rest, alloc)?;
+    Ok((supertypes, composite_type, rest))
+}
+
+/// Decodes the supertypes of a final type, and its composite type. Only the standard's grammar has
+/// an empty vector of supertypes here.
+///
+/// # Proved
+///
+/// ```text
+/// ensures found { IfOk result (λ x. Decodes (such (HasFinalPrefix G.grammar) supertypes_and) (padded_of G.grammar) bytes.now (x.0.items, composite_in x.1) x.2.now) }
+/// ensures none { IfErr result (λ e. e.cause ≢ Memory → Rejects (such (HasFinalPrefix G.grammar) supertypes_and) (padded_of G.grammar) bytes.now) }
+/// ```
+fn read_final_and<'a, A: Allocator + Copy, G: Grammar>(
+    bytes: &'a [u8],
+    alloc: A,
+) -> Result<(Vec<u32, A>, CompositeType<A>, &'a [u8]), DecodeError> {
+    let (supertypes, rest) = <Vec<u32, A> as Readable<'a, A, G>>::read(bytes, alloc)?;
+    if supertypes.is_empty() && !G::is_standard() {
+        return Err(ReadFault::UnknownTag.just_before(rest));
+    }
+    let (composite_type, rest) = read_composite::<A, G>(rest, alloc)?;
     Ok((supertypes, composite_type, rest))
 }
 
@@ -46,17 +67,17 @@ fn read_supertypes_and<'a, A: Allocator + Copy>(
 /// # Proved
 ///
 /// ```text
-/// ensures found { IfOk result (λ x. Decodes (after_sub tag) padded bytes.now (sub_view x.0) x.1.now) }
-/// ensures none { IfErr result (λ e. e ≢ Memory → Rejects (after_sub tag) padded bytes.now) }
+/// ensures found { IfOk result (λ x. Decodes (after_sub tag) (padded_of G.grammar) bytes.now (sub_view x.0) x.1.now) }
+/// ensures none { IfErr result (λ e. e.cause ≢ Memory → Rejects (after_sub tag) (padded_of G.grammar) bytes.now) }
 /// ```
-fn read_sub_after<'a, A: Allocator + Copy>(
+fn read_sub_after<'a, A: Allocator + Copy, G: Grammar>(
     tag: u8,
     bytes: &'a [u8],
     alloc: A,
-) -> Result<(SubItem<A>, &'a [u8]), ReadFault> {
+) -> Result<(SubItem<A>, &'a [u8]), DecodeError> {
     match tag {
         0x50 => {
-            let (supertypes, composite_type, rest) = read_supertypes_and(bytes, alloc)?;
+            let (supertypes, composite_type, rest) = read_supertypes_and::<A, G>(bytes, alloc)?;
             let sub = SubItem {
                 is_final: false,
                 supertypes,
@@ -65,10 +86,7 @@ fn read_sub_after<'a, A: Allocator + Copy>(
             Ok((sub, rest))
         }
         0x4F => {
-            let (supertypes, composite_type, rest) = read_supertypes_and(bytes, alloc)?;
-            if supertypes.is_empty() {
-                return Err(ReadFault::UnknownTag);
-            }
+            let (supertypes, composite_type, rest) = read_final_and::<A, G>(bytes, alloc)?;
             let sub = SubItem {
                 is_final: true,
                 supertypes,
@@ -77,7 +95,7 @@ fn read_sub_after<'a, A: Allocator + Copy>(
             Ok((sub, rest))
         }
         _ => {
-            let (composite_type, rest) = read_composite_after(tag, bytes, alloc)?;
+            let (composite_type, rest) = read_composite_after::<A, G>(tag, bytes, alloc)?;
             let sub = SubItem {
                 is_final: true,
                 supertypes: Vec::new(alloc),
@@ -99,10 +117,10 @@ impl<A: Allocator> Layout for SubItem<A> {
     fn laws() {}
 }
 
-impl<'a, A: Allocator + Copy> Readable<'a, A> for SubItem<A> {
-    fn read(bytes: &'a [u8], alloc: A) -> Result<(SubItem<A>, &'a [u8]), ReadFault> {
-        let (tag, rest) = <u8 as Readable<'a, A>>::read(bytes, alloc)?;
-        read_sub_after(tag, rest, alloc)
+impl<'a, A: Allocator + Copy, G: Grammar> Readable<'a, A, G> for SubItem<A> {
+    fn read(bytes: &'a [u8], alloc: A) -> Result<(SubItem<A>, &'a [u8]), DecodeError> {
+        let (tag, rest) = <u8 as Readable<'a, A, G>>::read(bytes, alloc)?;
+        read_sub_after::<A, G>(tag, rest, alloc)
     }
 }
 
@@ -117,14 +135,14 @@ impl<A: Allocator> Layout for TypeEntry<A> {
     fn laws() {}
 }
 
-impl<'a, A: Allocator + Copy> Readable<'a, A> for TypeEntry<A> {
-    fn read(bytes: &'a [u8], alloc: A) -> Result<(TypeEntry<A>, &'a [u8]), ReadFault> {
-        let (tag, rest) = <u8 as Readable<'a, A>>::read(bytes, alloc)?;
+impl<'a, A: Allocator + Copy, G: Grammar> Readable<'a, A, G> for TypeEntry<A> {
+    fn read(bytes: &'a [u8], alloc: A) -> Result<(TypeEntry<A>, &'a [u8]), DecodeError> {
+        let (tag, rest) = <u8 as Readable<'a, A, G>>::read(bytes, alloc)?;
         if tag == 0x4E {
-            let (types, rest) = <Vec<SubItem<A>, A> as Readable<'a, A>>::read(rest, alloc)?;
+            let (types, rest) = <Vec<SubItem<A>, A> as Readable<'a, A, G>>::read(rest, alloc)?;
             Ok((TypeEntry::Group(types), rest))
         } else {
-            let (sub, rest) = read_sub_after(tag, rest, alloc)?;
+            let (sub, rest) = read_sub_after::<A, G>(tag, rest, alloc)?;
             Ok((TypeEntry::Single(sub), rest))
         }
     }

@@ -18,6 +18,16 @@
 /// ```
 pub fn types() {}
 
+/// The standard's grammar also has a final type with an empty list of supertypes before its
+/// composite type. It is the same subtype as the composite type alone.
+///
+/// # Proved
+///
+/// ```text
+/// ensures { (bytes : List ℕ) (composite : Composite) → composite_type standard bytes composite → sub_type standard (0x4F ∷ 0x00 ∷ bytes) (alone_of composite) }
+/// ```
+pub fn standard() {}
+
 /// With padded numbers the formats of type sections and types are unambiguous too. A minimal
 /// encoding is also an encoding in this mode.
 ///
@@ -67,9 +77,9 @@ pub fn payloads() {}
 /// ```
 pub fn padded_payloads() {}
 
-/// These three byte sequences encode no type section, with padded numbers neither. In the first a
-/// structure has a field of mutability 2. In the second the byte of a group is padded. In the third
-/// a final type has an empty list of supertypes.
+/// These three byte sequences encode no type section in the builders' grammar, with padded numbers
+/// neither. In the first a structure has a field of mutability 2. In the second the byte of a group
+/// is padded. In the third a final type has an empty list of supertypes, which the standard admits.
 ///
 /// # Proved
 ///

@@ -5,7 +5,7 @@ use crate::vec::{Sink, Vec};
 use crate::types::items::TypeEntry;
 use crate::types::types::{ARRAY, ContType, FUNC, FieldType, FuncType, STRUCT, StorageType, SubType};
 use crate::alloc::{Allocator, Global};
-use crate::base::{Counted, Encode, Kind, Pieces, ReadFault, Result, Section, SectionId, ValType, read_whole, vec_of};
+use crate::base::{Counted, DecodeError, Encode, Grammar, Kind, Pieces, Result, Section, SectionId, ValType, read_whole, vec_of};
 
 /// The type section: the types that a module defines, modelled as the bytes of each entry.
 ///
@@ -79,8 +79,8 @@ impl<A: Allocator> TypeSection<A> {
         self.pieces.get(index)
     }
 
-    /// Adds an entry that is already encoded. The call does not check that it is a type or a recursion
-    /// group.
+    /// Adds an entry that is already encoded. The call does not check that it is a type or a
+    /// recursion group.
     ///
     /// # Proved
     ///
@@ -323,8 +323,8 @@ impl<'a, A: Allocator> CoreTypeEncoder<'a, A> {
 /// The byte before a recursion group.
 pub(crate) const REC: u8 = 0x4E;
 
-/// Decodes the payload of a type section: a count and that many types, padded numbers included.
-/// They must occupy all of the bytes.
+/// Decodes the payload of a type section, in the grammar `G`: a count and that many types. They
+/// must occupy all of the bytes.
 ///
 /// # Errors
 ///
@@ -333,14 +333,14 @@ pub(crate) const REC: u8 = 0x4E;
 /// # Proved
 ///
 /// ```text
-/// ensures found { IfOk result (λ x. vec type_item padded bytes.now (map entry_view x.items)) }
-/// ensures none { IfErr result (λ e. e ≢ Memory → RejectsWhole (vec type_item) bytes.now) }
+/// ensures found { IfOk result (λ x. vec type_item (padded_of G.grammar) bytes.now (map entry_view x.items)) }
+/// ensures none { IfErr result (λ e. e.cause ≢ Memory → RejectsWhole (vec type_item) (padded_of G.grammar) bytes.now) }
 /// ```
-pub fn read_types<'a, A: Allocator + Copy>(
+pub fn read_types<'a, A: Allocator + Copy, G: Grammar>(
     bytes: &'a [u8],
     alloc: A,
-) -> Result<Vec<TypeEntry<A>, A>, ReadFault> {
-    read_whole::<'a, Vec<TypeEntry<A>, A>, A>(bytes, alloc)
+) -> Result<Vec<TypeEntry<A>, A>, DecodeError> {
+    read_whole::<'a, Vec<TypeEntry<A>, A>, A, G>(bytes, alloc)
 }
 
 /// Appends the minimal encoding of a type section's payload: the number of types, and the types. On

@@ -49,6 +49,13 @@ fn offsets_stand_behind_sizes_however_these_are_padded() {
     check(&SHORT, &short);
 }
 
+/// `exnref` is one byte, 69, as clang writes it.
+#[test]
+fn types_in_the_grammar_of_the_standard() {
+    check(&["01 05 01 60 00 01 69"], &[line(1, 10, 5, Some(1))]);
+    check(&["01 05 01 60 00 01 60"], &[line(1, 10, 5, None)]);
+}
+
 /// Two types in one recursion group.
 #[test]
 fn a_recursion_group_is_one_entry() {

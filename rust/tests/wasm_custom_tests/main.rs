@@ -27,6 +27,12 @@ mod lengths;
 mod names;
 #[cfg(test)]
 #[rustfmt::skip]
+mod objects;
+#[cfg(test)]
+#[rustfmt::skip]
+mod places;
+#[cfg(test)]
+#[rustfmt::skip]
 mod refusals;
 #[cfg(test)]
 #[rustfmt::skip]

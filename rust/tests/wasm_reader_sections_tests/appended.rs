@@ -6,7 +6,7 @@ use dolzhytik::fallible::Vec;
 use dolzhytik::fallible::Global;
 use crate::host::Abort;
 use crate::test_support::{MOST, Refusing};
-use dolzhytik::reader::{ReadFault, Shorten, SizePrefixed, append_all};
+use dolzhytik::reader::{Padded, ReadFault, Shorten, SizePrefixed, append_all};
 use dolzhytik::fallible::{Refused, Result};
 use dolzhytik::reader::shorten_body;
 use dolzhytik::fallible::{append_hints, append_instances, append_links, append_modules, append_names, append_process, append_producers, append_stack, read_hints, read_instances, read_links, read_modules, read_names, read_process, read_producers, read_stack};
@@ -57,7 +57,7 @@ fn names() {
     let rt = crate::host::HostRuntime;
     let heap = Refusing::new(rt.alloc());
     let bytes = b"\x04name\0\x02\x01m\x01\x25\x01\0\x22the_function_with_a_very_long_name";
-    let items = read_names(bytes, &heap).expect("read");
+    let items = read_names::<&Refusing<Global>, Padded>(bytes, &heap).expect("read");
     check(&rt, &heap, bytes, |sink: &mut Vec<u8, _>| {
         append_names(&items, sink)
     });
@@ -68,7 +68,7 @@ fn imports() {
     let rt = crate::host::HostRuntime;
     let heap = Refusing::new(rt.alloc());
     let bytes = b"\x01\x03env\x22the_function_with_a_very_long_name\0\0";
-    let items = read_imports(bytes, &heap).expect("read");
+    let items = read_imports::<&Refusing<Global>, Padded>(bytes, &heap).expect("read");
     check(&rt, &heap, bytes, |sink: &mut Vec<u8, _>| {
         append_imports(&items, sink)
     });
@@ -80,7 +80,7 @@ fn types() {
     let heap = Refusing::new(rt.alloc());
     let bytes = b"\x02\x60\x10\x7F\x7F\x7F\x7F\x7F\x7F\x7F\x7F\x7F\x7F\x7F\x7F\x7F\x7F\x7F\x7F\0\
         \x60\x10\x7E\x7E\x7E\x7E\x7E\x7E\x7E\x7E\x7E\x7E\x7E\x7E\x7E\x7E\x7E\x7E\0";
-    let items = read_types(bytes, &heap).expect("read");
+    let items = read_types::<&Refusing<Global>, Padded>(bytes, &heap).expect("read");
     check(&rt, &heap, bytes, |sink: &mut Vec<u8, _>| {
         append_types(&items, sink)
     });
@@ -91,7 +91,7 @@ fn producers() {
     let rt = crate::host::HostRuntime;
     let heap = Refusing::new(rt.alloc());
     let bytes = b"\x09producers\x01\x08language\x01\x22the_language_with_a_very_long_name\x041.80";
-    let items = read_producers(bytes, &heap).expect("read");
+    let items = read_producers::<&Refusing<Global>, Padded>(bytes, &heap).expect("read");
     check(&rt, &heap, bytes, |sink: &mut Vec<u8, _>| {
         append_producers(&items, sink)
     });
@@ -102,7 +102,7 @@ fn hints() {
     let rt = crate::host::HostRuntime;
     let heap = Refusing::new(rt.alloc());
     let bytes = b"\x19metadata.code.branch_hint\x01\x05\x02\x03\x01\x01\x09\x01\0";
-    let items = read_hints(bytes, &heap).expect("read");
+    let items = read_hints::<&Refusing<Global>, Padded>(bytes, &heap).expect("read");
     check(&rt, &heap, bytes, |sink: &mut Vec<u8, _>| {
         append_hints(&items, sink)
     });
@@ -113,7 +113,7 @@ fn links() {
     let rt = crate::host::HostRuntime;
     let heap = Refusing::new(rt.alloc());
     let bytes = b"\x07linking\x02\x08\x29\x01\x01\0\x22the_variable_with_a_very_long_name\0\0\x04";
-    let items = read_links(bytes, &heap).expect("read");
+    let items = read_links::<&Refusing<Global>, Padded>(bytes, &heap).expect("read");
     check(&rt, &heap, bytes, |sink: &mut Vec<u8, _>| {
         append_links(&items, sink)
     });
@@ -124,22 +124,24 @@ fn core_dumps() {
     let rt = crate::host::HostRuntime;
     let heap = Refusing::new(rt.alloc());
     let bytes = b"\x04core\0\x23the_programme_with_a_long_long_name";
-    let name = read_process(bytes, &heap).expect("read");
+    let name = read_process::<&Refusing<Global>, Padded>(bytes, &heap).expect("read");
     check(&rt, &heap, bytes, |sink: &mut Vec<u8, _>| {
         append_process(name, sink)
     });
     let bytes = b"\x0Bcoremodules\x01\0\x23the_programme_with_a_long_long_name";
-    let modules = read_modules(bytes, &heap).expect("read");
+    let modules = read_modules::<&Refusing<Global>, Padded>(bytes, &heap).expect("read");
     check(&rt, &heap, bytes, |sink: &mut Vec<u8, _>| {
         append_modules(&modules, sink)
     });
     let bytes = b"\x0Dcoreinstances\x01\0\x05\x02\x01\x02\x14aaaaaaaaaaaaaaaaaaaa";
-    let instances = read_instances(bytes, &heap).expect("read");
+    let instances = read_instances::<&Refusing<Global>, Padded>(bytes, &heap).expect("read");
     check(&rt, &heap, bytes, |sink: &mut Vec<u8, _>| {
         append_instances(&instances, sink)
     });
     let bytes = b"\x09corestack\0\x06thread\x01\0\x01\x02\x03\x01\x7F\x05\x01\x7F\x06";
-    let (thread, frames) = read_stack(bytes, &heap).expect("read");
+    let (thread, frames) = read_stack::<&Refusing<Global>, Padded>(bytes, &heap).expect(
+        "read",
+    );
     check(&rt, &heap, bytes, |sink: &mut Vec<u8, _>| {
         append_stack(thread, &frames, sink)
     });
@@ -156,7 +158,7 @@ fn body() {
     check(&rt, &heap, bytes, |sink: &mut Vec<u8, _>| {
         match shorten_body(body, &heap, sink) {
             Ok(()) => Ok(()),
-            Err(ReadFault::Memory) => Err(Refused::Memory),
+            Err(error) if error.cause == ReadFault::Memory => Err(Refused::Memory),
             Err(_) => Err(Refused::TooLong),
         }
     });

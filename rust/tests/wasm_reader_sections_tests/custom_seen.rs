@@ -94,6 +94,7 @@ fn symbol_told<'a>(symbol: Symbol<'a>) -> Told<'a> {
             name,
             definition,
         } => Told::Data(flags, name, definition_told(definition)),
+        _ => Told::Others,
     }
 }
 
@@ -104,6 +105,7 @@ fn link_told<'a>(item: &LinkItem<'a>) -> Told<'a> {
             [symbol] => symbol_told(*symbol),
             symbols => Told::Symbols(symbols.len()),
         },
+        _ => Told::Others,
     }
 }
 

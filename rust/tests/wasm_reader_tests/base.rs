@@ -3,7 +3,7 @@
 
 use crate::checks::{check_fault, check_read, check_text};
 use crate::host::Abort;
-use dolzhytik::fallible::{AbstractHeapType, HeapType, NoGroups, RefType, ValType, read_groups};
+use dolzhytik::fallible::{AbstractHeapType, HeapType, RefType, ValType, read_groups};
 use dolzhytik::reader::ReadFault;
 use dolzhytik::fallible::{BlockType, Catch, Handle, Ieee32, Ieee64, MemArg, MemArgOrdering, Ordering};
 
@@ -19,10 +19,10 @@ fn check_groups(rt: &impl Abort, expected: (u128, u128, u8), left: usize, bytes:
 }
 
 /// Checks that decoding groups fails with this cause.
-fn check_no_groups(rt: &impl Abort, cause: NoGroups, bytes: &[u8]) {
+fn check_no_groups(rt: &impl Abort, cause: ReadFault, bytes: &[u8]) {
     match read_groups(bytes, 2) {
         Ok(_) => panic!(rt; "groups"),
-        Err(none) => assert_eq!(rt; none, cause),
+        Err(error) => assert_eq!(rt; error.cause, cause),
     }
 }
 
@@ -31,8 +31,8 @@ fn groups() {
     let rt = crate::host::HostRuntime;
     check_groups(&rt, (5, 128, 5), 1, &[5, 9]);
     check_groups(&rt, (624485, 2097152, 0x26), 0, &[0xE5, 0x8E, 0x26]);
-    check_no_groups(&rt, NoGroups::Ended, &[0xE5]);
-    check_no_groups(&rt, NoGroups::TooMany, &[0xE5, 0x8E, 0x26]);
+    check_no_groups(&rt, ReadFault::Ended, &[0xE5]);
+    check_no_groups(&rt, ReadFault::TooLarge, &[0xE5, 0x8E, 0x26]);
 }
 
 #[test]

@@ -5,7 +5,7 @@ use dolzhytik::fallible::Vec;
 use dolzhytik::fallible::Global;
 use crate::host::Abort;
 use dolzhytik::fallible::Encode;
-use dolzhytik::reader::{ReadFault, Readable};
+use dolzhytik::reader::{Padded, ReadFault, Readable};
 
 /// Checks the bytes.
 pub(crate) fn check_bytes(rt: &impl Abort, bytes: &[u8], expected: &[u8]) {
@@ -28,15 +28,18 @@ pub(crate) fn check_left(rt: &impl Abort, given: &[u8], expected: usize) {
 }
 
 /// Returns the error of decoding a `T`.
-fn fault_of<'a, T: Readable<'a, Global>>(alloc: Global, bytes: &'a [u8]) -> Option<ReadFault> {
+fn fault_of<'a, T: Readable<'a, Global, Padded>>(
+    alloc: Global,
+    bytes: &'a [u8],
+) -> Option<ReadFault> {
     match T::read(bytes, alloc) {
         Ok(_) => None,
-        Err(fault) => Some(fault),
+        Err(error) => Some(error.cause),
     }
 }
 
 /// Checks that decoding a `T` fails with this error.
-pub(crate) fn check_fault<'a, T: Readable<'a, Global>>(
+pub(crate) fn check_fault<'a, T: Readable<'a, Global, Padded>>(
     rt: &impl Abort,
     alloc: Global,
     bytes: &'a [u8],
@@ -46,7 +49,7 @@ pub(crate) fn check_fault<'a, T: Readable<'a, Global>>(
 }
 
 /// Checks the decoded `T`, and the number of remaining bytes.
-pub(crate) fn check_read<'a, T: Readable<'a, Global> + Copy + PartialEq>(
+pub(crate) fn check_read<'a, T: Readable<'a, Global, Padded> + Copy + PartialEq>(
     rt: &impl Abort,
     alloc: Global,
     bytes: &'a [u8],
@@ -59,7 +62,7 @@ pub(crate) fn check_read<'a, T: Readable<'a, Global> + Copy + PartialEq>(
 }
 
 /// Checks the minimal encoding of the decoded `T`, and the number of remaining bytes.
-pub(crate) fn check_text<'a, T: Readable<'a, Global> + Encode>(
+pub(crate) fn check_text<'a, T: Readable<'a, Global, Padded> + Encode>(
     rt: &impl Abort,
     alloc: Global,
     bytes: &'a [u8],

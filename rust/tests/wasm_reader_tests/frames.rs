@@ -6,14 +6,16 @@ use dolzhytik::fallible::Vec;
 use crate::checks::{check_fault, check_left, check_numbers};
 use dolzhytik::fallible::Global;
 use crate::host::Abort;
-use dolzhytik::reader::{ReadFault, Readable, SizePrefixed, read_optional};
+use dolzhytik::reader::{Padded, ReadFault, Readable, SizePrefixed, read_optional};
 
 /// A section of indices.
 type Numbers = SizePrefixed<Vec<u32>>;
 
 /// Checks the indices of a decoded section, and the number of remaining bytes.
 fn check_section(rt: &impl Abort, alloc: Global, bytes: &[u8], expected: &[u32], left: usize) {
-    let (SizePrefixed(numbers), rest) = Numbers::read(bytes, alloc).expect("accepted");
+    let (SizePrefixed(numbers), rest) = <Numbers as Readable<'_, Global, Padded>>::read(
+        bytes, alloc,
+    ).expect("accepted");
     check_numbers(rt, &numbers, expected);
     check_left(rt, rest, left);
 }
@@ -74,14 +76,16 @@ fn check_optional(rt: &impl Abort, given: Option<u64>, expected: Option<u64>) {
 #[test]
 fn optional_values() {
     let rt = crate::host::HostRuntime;
-    let (some, rest) = read_optional::<u64, Global>(true, &[0x85, 0, 9], rt.alloc()).expect(
+    let (some, rest) = read_optional::<u64, Global, Padded>(true, &[0x85, 0, 9], rt.alloc()).expect(
         "accepted",
     );
     check_optional(&rt, some, Some(5));
     check_left(&rt, rest, 1);
-    let (none, rest) = read_optional::<u64, Global>(false, &[0x85, 0, 9], rt.alloc()).expect(
-        "accepted",
-    );
+    let (none, rest) = read_optional::<u64, Global, Padded>(
+        false,
+        &[0x85, 0, 9],
+        rt.alloc(),
+    ).expect("accepted");
     check_optional(&rt, none, None);
     check_left(&rt, rest, 3);
 }

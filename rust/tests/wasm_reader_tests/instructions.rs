@@ -5,7 +5,7 @@ use dolzhytik::fallible::Vec;
 use crate::checks::{check_fault, check_left};
 use dolzhytik::fallible::Global;
 use crate::host::Abort;
-use dolzhytik::reader::{ReadFault, Readable, SizePrefixed};
+use dolzhytik::reader::{Padded, ReadFault, Readable, SizePrefixed};
 use dolzhytik::fallible::ValType;
 use dolzhytik::reader::{Body, Expression, read_body, read_code};
 use dolzhytik::reader::{Arg, Plain};
@@ -57,7 +57,9 @@ fn check_len(rt: &impl Abort, given: usize, expected: usize) {
 
 /// Checks that all of the bytes are an instruction of this opcode and these arguments.
 fn check(rt: &impl Abort, alloc: Global, bytes: &[u8], op: Op, expected: &[(&str, i128)]) {
-    let (plain, rest) = Plain::read(bytes, alloc).expect("accepted");
+    let (plain, rest) = <Plain as Readable<'_, Global, Padded>>::read(bytes, alloc).expect(
+        "accepted",
+    );
     check_left(rt, rest, 0);
     check_op(rt, plain.op, op);
     check_len(rt, plain.args.len(), expected.len());
@@ -258,7 +260,10 @@ fn check_first(rt: &impl Abort, code: &[Plain], op: Op, expected: (&str, i128)) 
 fn expressions() {
     let rt = crate::host::HostRuntime;
     let bytes = [0x41, 0xFF, 0xFF, 0xFF, 0xFF, 0x7F, 0x0B, 9];
-    let (Expression(code), rest) = Expression::read(&bytes, rt.alloc()).expect("accepted");
+    let (Expression(code), rest) = <Expression as Readable<'_, Global, Padded>>::read(
+        &bytes,
+        rt.alloc(),
+    ).expect("accepted");
     check_left(&rt, rest, 1);
     check_len(&rt, code.len(), 1);
     check_first(&rt, &code, Op::Byte(0x41), ("s32", -1));
@@ -267,7 +272,9 @@ fn expressions() {
 #[test]
 fn codes() {
     let rt = crate::host::HostRuntime;
-    let code = read_code(&[0x20, 3, 0x1A, 0x0B], rt.alloc()).expect("accepted");
+    let code = read_code::<Global, Padded>(&[0x20, 3, 0x1A, 0x0B], rt.alloc()).expect(
+        "accepted",
+    );
     check_len(&rt, code.len(), 3);
     check_first(&rt, &code, Op::Byte(0x20), ("u32", 3));
 }
@@ -275,9 +282,10 @@ fn codes() {
 #[test]
 fn bodies_without_their_sizes() {
     let rt = crate::host::HostRuntime;
-    let body = read_body(&[1, 2, 0x7F, 0x20, 0x81, 0x00, 0x1A, 0x0B], rt.alloc()).expect(
-        "accepted",
-    );
+    let body = read_body::<Global, Padded>(
+        &[1, 2, 0x7F, 0x20, 0x81, 0x00, 0x1A, 0x0B],
+        rt.alloc(),
+    ).expect("accepted");
     check_len(&rt, body.runs.len(), 1);
     check_len(&rt, body.code.len(), 3);
     check_first(&rt, &body.code, Op::Byte(0x20), ("u32", 1));
@@ -286,7 +294,7 @@ fn bodies_without_their_sizes() {
 #[test]
 fn bodies() {
     let rt = crate::host::HostRuntime;
-    let (body, rest) = Body::read(
+    let (body, rest) = <Body as Readable<'_, Global, Padded>>::read(
         &[8, 1, 2, 0x7F, 0x20, 0x81, 0x00, 0x1A, 0x0B, 9],
         rt.alloc(),
     )
@@ -300,10 +308,11 @@ fn bodies() {
 #[test]
 fn padded_bodies() {
     let rt = crate::host::HostRuntime;
-    let (SizePrefixed(bodies), rest) = <SizePrefixed<Vec<Body>>>::read(
-        &[5, 1, 3, 0x80, 0, 11],
-        rt.alloc(),
-    ).expect("accepted");
+    let (SizePrefixed(bodies), rest) = <SizePrefixed<Vec<Body>> as Readable<
+        '_,
+        Global,
+        Padded,
+    >>::read(&[5, 1, 3, 0x80, 0, 11], rt.alloc()).expect("accepted");
     check_left(&rt, rest, 0);
     check_len(&rt, bodies.len(), 1);
 }

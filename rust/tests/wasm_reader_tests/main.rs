@@ -25,6 +25,9 @@ mod checks;
 mod frames;
 #[cfg(test)]
 #[rustfmt::skip]
+mod grammars;
+#[cfg(test)]
+#[rustfmt::skip]
 mod instructions;
 #[cfg(test)]
 #[rustfmt::skip]

@@ -7,7 +7,7 @@ use crate::checks::check_cause;
 use dolzhytik::fallible::Global;
 use crate::host::Abort;
 use crate::test_support::{MOST, Refusing};
-use dolzhytik::reader::{ReadFault, Readable, SizePrefixed};
+use dolzhytik::reader::{DecodeError, Padded, ReadFault, Readable, SizePrefixed};
 use dolzhytik::reader::{Body, Expression, Instructions, Step};
 use dolzhytik::fallible::Op;
 use dolzhytik::reader::Plain;
@@ -19,7 +19,7 @@ fn check_read(rt: &impl Abort, given: Option<ReadFault>) {
 
 /// Checks that a `T` decodes, or fails with `Memory` if a request fails; and the number of
 /// requests.
-fn check_refusals<'a, T: Readable<'a, &'a Refusing<Global>>>(
+fn check_refusals<'a, T: Readable<'a, &'a Refusing<Global>, Padded>>(
     rt: &impl Abort,
     heap: &'a Refusing<Global>,
     bytes: &'a [u8],
@@ -29,7 +29,7 @@ fn check_refusals<'a, T: Readable<'a, &'a Refusing<Global>>>(
         heap.refuse(nth);
         let fault = match T::read(bytes, heap) {
             Ok(_) => None,
-            Err(fault) => Some(fault),
+            Err(error) => Some(error.cause),
         };
         if heap.is_waiting() {
             check_read(rt, fault);
@@ -73,7 +73,7 @@ fn walks_of_bodies() {
     heap.refuse(1);
     let refused = match Instructions::of_body(&[1, 1, 0x7F, 0x0B], &heap) {
         Ok(_) => None,
-        Err(fault) => Some(fault),
+        Err(error) => Some(error.cause),
     };
     check_cause(&rt, refused, ReadFault::Memory);
 }
@@ -81,12 +81,12 @@ fn walks_of_bodies() {
 /// Checks the result of a visitor, and its offset.
 fn check_walk(
     rt: &impl Abort,
-    given: Result<Option<Step>, ReadFault>,
+    given: Result<Option<Step>, DecodeError>,
     expected: Result<Option<Step>, ReadFault>,
     offset: usize,
     expected_offset: usize,
 ) {
-    assert_eq!(rt; given, expected);
+    assert_eq!(rt; given.map_err(|error| error.cause), expected);
     assert_eq!(rt; offset, expected_offset);
 }
 

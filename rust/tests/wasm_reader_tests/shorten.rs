@@ -6,7 +6,7 @@ use crate::checks::{check_bytes, check_cause};
 use dolzhytik::fallible::Global;
 use crate::host::Abort;
 use crate::test_support::{MOST, Refusing};
-use dolzhytik::reader::{ReadFault, Readable, Shorten, SizePrefixed};
+use dolzhytik::reader::{Padded, ReadFault, Readable, Shorten, SizePrefixed};
 use dolzhytik::fallible::{Refused, ValType};
 use dolzhytik::reader::{Body, Expression, shorten_body};
 use dolzhytik::reader::Plain;
@@ -34,7 +34,7 @@ fn check_value<T: Shorten>(rt: &impl Abort, alloc: Global, value: &T, text: &[u8
 }
 
 /// Checks that the decoded `T` encodes to these bytes.
-fn check<'a, T: Readable<'a, Global> + Shorten>(
+fn check<'a, T: Readable<'a, Global, Padded> + Shorten>(
     rt: &impl Abort,
     alloc: Global,
     bytes: &'a [u8],
@@ -99,7 +99,9 @@ fn check_body(rt: &impl Abort, alloc: Global, bytes: &[u8], text: &[u8]) {
     for nth in 1..MOST {
         heap.refuse(nth);
         let mut out = Vec::new(&heap);
-        let fault = shorten_body(bytes, &heap, &mut out).err();
+        let fault = shorten_body(bytes, &heap, &mut out)
+            .err()
+            .map(|error| error.cause);
         if heap.is_waiting() {
             check_written(rt, fault);
             check_bytes(rt, &out, text);
@@ -124,6 +126,8 @@ fn bodies() {
         &[10, 1, 2, 0x7F, 0x20, 1, 0x0E, 1, 0, 1, 0x0B],
     );
     let mut out = Vec::new(alloc);
-    let fault = shorten_body(&[0, 0x20], alloc, &mut out).err();
+    let fault = shorten_body(&[0, 0x20], alloc, &mut out)
+        .err()
+        .map(|error| error.cause);
     check_cause(&rt, fault, ReadFault::Ended)
 }

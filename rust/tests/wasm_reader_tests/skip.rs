@@ -5,12 +5,17 @@
 use crate::checks::{check_cause, check_left};
 use crate::host::Abort;
 use crate::test_support::{Heap, Refusing};
-use dolzhytik::reader::{Dropped, ReadFault, Skip, skip_many};
+use dolzhytik::reader::{Dropped, Padded, ReadFault, Skip, skip_many};
 use dolzhytik::fallible::ValType;
 use dolzhytik::reader::{Body, Expression};
 
 /// Checks that a value of the kind is skipped, and the number of remaining bytes.
-fn check<'a, P: Skip<'a, Heap<'a>>>(rt: &impl Abort, heap: Heap<'a>, bytes: &'a [u8], left: usize) {
+fn check<'a, P: Skip<'a, Heap<'a>, Padded>>(
+    rt: &impl Abort,
+    heap: Heap<'a>,
+    bytes: &'a [u8],
+    left: usize,
+) {
     heap.refuse_all();
     match P::skip(bytes, heap) {
         Ok(rest) => check_left(rt, rest, left),
@@ -19,7 +24,7 @@ fn check<'a, P: Skip<'a, Heap<'a>>>(rt: &impl Abort, heap: Heap<'a>, bytes: &'a 
 }
 
 /// Checks that skipping fails with this cause.
-fn check_none<'a, P: Skip<'a, Heap<'a>>>(
+fn check_none<'a, P: Skip<'a, Heap<'a>, Padded>>(
     rt: &impl Abort,
     heap: Heap<'a>,
     bytes: &'a [u8],
@@ -28,7 +33,7 @@ fn check_none<'a, P: Skip<'a, Heap<'a>>>(
     heap.refuse_all();
     let fault = match P::skip(bytes, heap) {
         Ok(_) => None,
-        Err(fault) => Some(fault),
+        Err(error) => Some(error.cause),
     };
     check_cause(rt, fault, expected);
 }
@@ -53,18 +58,20 @@ fn many() {
     let rt = crate::host::HostRuntime;
     let heap = Refusing::new(rt.alloc());
     heap.refuse_all();
-    let (count, rest) = skip_many::<Dropped<ValType>, Heap>(
+    let (count, rest) = skip_many::<Dropped<ValType>, Heap, Padded>(
         &[0x82, 0x00, 0x7F, 0x64, 0x05, 9],
         &heap,
     ).expect("accepted");
     check_count(&rt, count, 2);
     check_left(&rt, rest, 1);
-    let (count, rest) = skip_many::<Dropped<ValType>, Heap>(&[0, 9], &heap).expect("accepted");
+    let (count, rest) = skip_many::<Dropped<ValType>, Heap, Padded>(&[0, 9], &heap).expect(
+        "accepted",
+    );
     check_count(&rt, count, 0);
     check_left(&rt, rest, 1);
-    let short = match skip_many::<Dropped<ValType>, Heap>(&[2, 0x7F], &heap) {
+    let short = match skip_many::<Dropped<ValType>, Heap, Padded>(&[2, 0x7F], &heap) {
         Ok(_) => None,
-        Err(fault) => Some(fault),
+        Err(error) => Some(error.cause),
     };
     check_cause(&rt, short, ReadFault::Ended);
 }

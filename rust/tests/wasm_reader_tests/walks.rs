@@ -5,7 +5,7 @@ use dolzhytik::fallible::Vec;
 use crate::examples::calls::walks::{count_instructions, offset_after};
 use dolzhytik::fallible::Global;
 use crate::host::Abort;
-use dolzhytik::reader::ReadFault;
+use dolzhytik::reader::{DecodeError, ReadFault};
 use dolzhytik::fallible::{Result, ValType};
 use dolzhytik::fallible::Function;
 use dolzhytik::reader::{Instructions, Step};
@@ -28,8 +28,8 @@ fn check_count(rt: &impl Abort, given: usize, expected: usize) {
 }
 
 /// Checks the error of the visitor.
-fn check_stop(rt: &impl Abort, given: Result<Option<Step>, ReadFault>, expected: ReadFault) {
-    assert_eq!(rt; given, Err(expected));
+fn check_stop(rt: &impl Abort, given: Result<Option<Step>, DecodeError>, expected: ReadFault) {
+    assert_eq!(rt; given.map_err(|error| error.cause), Err(expected));
 }
 
 #[test]

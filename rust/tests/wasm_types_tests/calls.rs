@@ -3,7 +3,9 @@
 
 use crate::checks::{check, check_bytes, check_len, check_piece, check_that};
 use crate::samples::{BYTE, FLOAT, bytes, continuation, described, function, sub};
+use dolzhytik::fallible::Global;
 use dolzhytik::fallible::{Encode, HeapType, Module, RefType, ValType, add_all};
+use dolzhytik::reader::Padded;
 use dolzhytik::fallible::{ContType, FuncType, StorageType, SubType, TypeSection, read_types};
 use dolzhytik::fallible::laws::types as laws;
 
@@ -42,7 +44,7 @@ fn raw_and_decoded() {
     let rt = crate::host::HostRuntime;
     let mut section = TypeSection::new(rt.alloc());
     section.raw(&[0x60, 0, 0]).expect("accepted");
-    let types = read_types(
+    let types = read_types::<Global, Padded>(
         &[2, 0x60, 0, 1, 0x7F, 0x4E, 0x81, 0, 0x5E, 0x78, 1],
         rt.alloc(),
     )

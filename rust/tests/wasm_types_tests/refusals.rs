@@ -9,6 +9,7 @@ use dolzhytik::fallible::Global;
 use crate::host::Abort;
 use crate::test_support::{Heap, MOST, Refusing};
 use dolzhytik::fallible::{Counted, Encode, Result, Section, ValType};
+use dolzhytik::reader::Padded;
 use dolzhytik::fallible::{ContType, FuncType, StorageType, SubType, TypeEntry, TypeSection, read_types};
 
 /// A type section with an allocator that fails requests.
@@ -100,7 +101,9 @@ fn calls() {
     let heap = Refusing::new(rt.alloc());
     let func = function(rt.alloc()).expect("accepted");
     let ty = described(rt.alloc()).expect("accepted");
-    let types = read_types(&[1, 0x60, 1, 0x7C, 0], rt.alloc()).expect("read");
+    let types = read_types::<Global, Padded>(&[1, 0x60, 1, 0x7C, 0], rt.alloc()).expect(
+        "read",
+    );
     let given = Given {
         func: &func,
         ty: &ty,

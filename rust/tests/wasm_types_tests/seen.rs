@@ -2,6 +2,7 @@
 // Decoded types as plain data: an assertion over values that own memory takes far longer to prove.
 
 use dolzhytik::fallible::Global;
+use dolzhytik::reader::Padded;
 use dolzhytik::fallible::ValType;
 use dolzhytik::fallible::{CompositeInnerType, FieldType, SubItem, TypeEntry, read_types};
 
@@ -91,7 +92,7 @@ fn entry_seen(entry: &TypeEntry) -> Section {
 
 /// Decodes a type section.
 pub(crate) fn read(alloc: Global, bytes: &[u8]) -> Option<Section> {
-    match read_types(bytes, alloc) {
+    match read_types::<Global, Padded>(bytes, alloc) {
         Ok(types) => Some(match types.as_slice() {
             [] => Section::Empty,
             [entry] => entry_seen(entry),

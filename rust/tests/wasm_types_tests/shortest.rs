@@ -4,7 +4,7 @@
 use dolzhytik::fallible::Vec;
 use crate::host::Abort;
 use crate::test_support::{Heap, MOST, Refusing};
-use dolzhytik::reader::ReadFault;
+use dolzhytik::reader::{Padded, ReadFault};
 use dolzhytik::fallible::Refused;
 use dolzhytik::fallible::{TypeEntry, append_types, read_types};
 
@@ -88,12 +88,12 @@ fn check_types(rt: &impl Abort, heap: Heap<'_>, types: &[TypeEntry<Heap<'_>>], t
 fn check_row(rt: &impl Abort, heap: Heap<'_>, bytes: &[u8], text: &[u8]) {
     for nth in 1..MOST {
         heap.refuse(nth);
-        match read_types(bytes, heap) {
+        match read_types::<Heap<'_>, Padded>(bytes, heap) {
             Ok(types) => {
                 check_read(rt, None, heap.is_waiting());
                 return check_types(rt, heap, &types, text);
             }
-            Err(fault) => check_read(rt, Some(fault), heap.is_waiting()),
+            Err(error) => check_read(rt, Some(error.cause), heap.is_waiting()),
         }
     }
     panic!(rt; "no call was granted")

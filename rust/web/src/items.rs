@@ -12,8 +12,8 @@ use dolzhytik::fallible::{
     AllocError, BranchHint, Export, Global, Imports, MemoryType, TagType, Vec,
 };
 use dolzhytik::reader::{
-    ElementItem, GlobalItem, Instructions, LinkItem, ReadFault, Readable, Segment, TableItem,
-    TypeEntry,
+    ElementItem, GlobalItem, Instructions, LinkItem, ReadFault, Readable, Segment, Standard,
+    TableItem, TypeEntry,
 };
 
 /// The items of a section under way.
@@ -61,7 +61,7 @@ impl List {
 
 impl<'a> Part<'a> {
     /// Decodes the value at the front, and returns it with the part behind it.
-    fn read<T: Readable<'a, Global>>(self) -> Result<(T, Part<'a>), ReadFault> {
+    fn read<T: Readable<'a, Global, Standard>>(self) -> Result<(T, Part<'a>), ReadFault> {
         let (value, bytes) = read(self.bytes)?;
         Ok((value, Part { bytes, ..self }))
     }
@@ -82,7 +82,7 @@ impl<'a> Part<'a> {
 }
 
 /// Appends the item at the front, and returns the part behind it.
-fn one<'a, T: Readable<'a, Global> + Show>(
+fn one<'a, T: Readable<'a, Global, Standard> + Show>(
     part: Part<'a>,
     list: &mut List,
 ) -> Result<Part<'a>, ReadFault> {
@@ -104,7 +104,7 @@ fn counted<'a>(
     rest.at_end()
 }
 
-fn all<'a, T: Readable<'a, Global> + Show>(
+fn all<'a, T: Readable<'a, Global, Standard> + Show>(
     part: Part<'a>,
     list: &mut List,
 ) -> Result<(), ReadFault> {

@@ -536,6 +536,11 @@ impl Show for (u32, Vec<BranchHint>) {
 impl Show for LinkItem<'_> {
     fn show(&self, f: &mut Formatter<'_>) -> fmt::Result {
         match self {
+            LinkItem::Segments(segments) => Count(segments.len() as u64, "segment").fmt(f),
+            LinkItem::InitFunctions(functions) => {
+                Count(functions.len() as u64, "init function").fmt(f)
+            }
+            LinkItem::Comdats(comdats) => Count(comdats.len() as u64, "COMDAT group").fmt(f),
             LinkItem::Symbols(symbols) => Count(symbols.len() as u64, "symbol").fmt(f),
             LinkItem::Arch(name) => write!(f, "target {name:?}"),
         }

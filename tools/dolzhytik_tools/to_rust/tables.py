@@ -47,8 +47,8 @@ PUBLIC_LAWS = {'wasm_reader': 'reader::laws'}
 # library's module has them in a module of its own, which `reader` exports.
 READERS = {
     'wasm_base': {
-        'Dropped', 'Layout', 'ReadFault', 'Readable', 'Shorten', 'SizePrefixed', 'Skip', 'append_all', 'prefix_size_since',
-        'read_optional', 'read_to_end', 'read_whole', 'skip_many',
+        'DecodeError', 'Dropped', 'Grammar', 'Layout', 'Padded', 'ReadFault', 'Readable', 'Shorten', 'SizePrefixed', 'Skip',
+        'Standard', 'append_all', 'prefix_size_since', 'read_before', 'read_optional', 'read_to_end', 'read_whole', 'skip_many',
     },
     'wasm_insn': {'Arg', 'Plain'},
     'wasm_code': {'Body', 'Expression', 'Instructions', 'Step', 'read_body', 'read_code', 'shorten_body'},

@@ -5,6 +5,7 @@ mod code;
 mod custom;
 mod insn;
 mod laws;
+mod objects;
 mod reader;
 mod sections;
 mod types;

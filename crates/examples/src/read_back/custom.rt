@@ -15,7 +15,7 @@ ghost use Rattle.wasm_reader.specs.Kinds.{Names, Linking, Producers, Hints, Cust
 
 use crate::read_back::read_and_shorten;
 use std::alloc::Allocator;
-use wasm_base::{CowSlice, CowStr, Encode, ReadFault, Result};
+use wasm_base::{CowSlice, CowStr, Encode, Padded, ReadFault, Result};
 use wasm_custom::{
     BranchHint, BranchHints, CustomSection, DataSymbolDefinition, LinkingSection, NameItem,
     NameSection, ProducersField, ProducersSection, SymbolTable, append_names, read_names,
@@ -77,7 +77,7 @@ pub fn rewritten_names<A: Allocator + Copy>(bytes: &[u8], sink: &mut Vec<u8, A>)
     ensures too_long { result ≢ Err TooLong }
     ensures err { OnErr result (sink.new.items ≡ sink.old.items) }
 {
-    match read_names(bytes, *sink.allocator()) {
+    match read_names::<A, Padded>(bytes, *sink.allocator()) {
         Ok(names) => {
             append_names(&names, sink)?;
             Ok(true)

@@ -3,7 +3,7 @@
 
 use crate::calls::answers::NO_ANSWER;
 use dolzhytik::fallible::Global;
-use dolzhytik::reader::ReadFault;
+use dolzhytik::reader::DecodeError;
 use dolzhytik::reader::{Body, Instructions};
 use dolzhytik::reader::{Items, SectionKind, read_section};
 
@@ -44,7 +44,7 @@ pub fn wb_read(alloc: Global, section: &[u8]) -> u64 {
 /// ```text
 /// ensures { IfOk result (λ n. HasWalked body.now n) }
 /// ```
-fn walked(alloc: Global, body: &[u8]) -> Result<u64, ReadFault> {
+fn walked(alloc: Global, body: &[u8]) -> Result<u64, DecodeError> {
     let (_runs, mut walk) = Instructions::of_body(body, alloc)?;
     let mut count = 0;
     while let Some(_step) = walk.next()? {

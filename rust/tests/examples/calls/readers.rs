@@ -2,7 +2,7 @@
 //! Readers of instructions: where a visitor begins, the bytes before it, and a body as a whole.
 
 use dolzhytik::fallible::Allocator;
-use dolzhytik::reader::ReadFault;
+use dolzhytik::reader::{DecodeError, Grammar};
 use dolzhytik::reader::{Body, Instructions, read_body};
 
 /// Returns a visitor that begins at the first byte.
@@ -27,14 +27,17 @@ pub fn bytes_ahead<'a, A: Allocator + Copy>(walk: &Instructions<'a, A>) -> &'a [
     walk.rest()
 }
 
-/// Decodes a body from these bytes, which are without its size prefix.
+/// Decodes a body from these bytes, which are without its size prefix, in the grammar `G`.
 ///
 /// # Proved
 ///
 /// ```text
-/// ensures found { IfOk result (λ x. body padded bytes.now (body_view x)) }
-/// ensures none { IfErr result (λ e. e ≢ Memory → RejectsWhole body bytes.now) }
+/// ensures found { IfOk result (λ x. body (padded_of G.grammar) bytes.now (body_view x)) }
+/// ensures none { IfErr result (λ e. e.cause ≢ Memory → RejectsWhole body (padded_of G.grammar) bytes.now) }
 /// ```
-pub fn body_of<A: Allocator + Copy>(bytes: &[u8], alloc: A) -> Result<Body<A>, ReadFault> {
-    read_body(bytes, alloc)
+pub fn body_of<A: Allocator + Copy, G: Grammar>(
+    bytes: &[u8],
+    alloc: A,
+) -> Result<Body<A>, DecodeError> {
+    read_body::<A, G>(bytes, alloc)
 }

@@ -2,7 +2,7 @@
 //! Callers of the instruction visitor, which prove their results.
 
 use dolzhytik::fallible::Allocator;
-use dolzhytik::reader::ReadFault;
+use dolzhytik::reader::{DecodeError, ReadFault};
 use dolzhytik::reader::Instructions;
 use dolzhytik::fallible::laws::code as laws;
 
@@ -13,9 +13,9 @@ use dolzhytik::fallible::laws::code as laws;
 ///
 /// ```text
 /// ensures found { IfOk result (λ n. (x : Body) × body padded bytes.now x × (length x.code ≡ n)) }
-/// ensures none { IfErr result (λ e. e ≢ Memory → RejectsWhole body bytes.now) }
+/// ensures none { IfErr result (λ e. e.cause ≢ Memory → RejectsWhole body padded bytes.now) }
 /// ```
-pub fn count_instructions<A: Allocator + Copy>(bytes: &[u8], alloc: A) -> Result<usize, ReadFault> {
+pub fn count_instructions<A: Allocator + Copy>(bytes: &[u8], alloc: A) -> Result<usize, DecodeError> {
     let (_runs, mut instructions) = Instructions::of_body(bytes, alloc)?;
     let mut count = 0;
     while let Some(_step) = instructions.next()? {
@@ -37,12 +37,12 @@ pub fn offset_after<A: Allocator + Copy>(
     bytes: &[u8],
     count: usize,
     alloc: A,
-) -> Result<usize, ReadFault> {
+) -> Result<usize, DecodeError> {
     let (_runs, mut instructions) = Instructions::of_body(bytes, alloc)?;
     laws::offsets();
     for _taken in 0..count {
         let Some(_step) = instructions.next()? else {
-            return Err(ReadFault::Ended);
+            return Err(ReadFault::Ended.at(instructions.rest()));
         };
     }
     Ok(instructions.offset())

@@ -5,7 +5,7 @@ use dolzhytik::fallible::{Sink, Vec};
 use crate::examples::read_back::read_and_shorten;
 use dolzhytik::fallible::Allocator;
 use dolzhytik::fallible::{CowSlice, CowStr, Encode, Result};
-use dolzhytik::reader::ReadFault;
+use dolzhytik::reader::{Padded, ReadFault};
 use dolzhytik::fallible::{BranchHint, BranchHints, CustomSection, DataSymbolDefinition, LinkingSection, NameItem, NameSection, ProducersField, ProducersSection, SymbolTable, append_names, read_names};
 use dolzhytik::reader::{Items, SectionKind};
 
@@ -85,7 +85,7 @@ pub fn titled_names<A: Allocator>(
 /// ensures err { OnErr result (sink.new.items ≡ sink.old.items) }
 /// ```
 pub fn rewritten_names<A: Allocator + Copy>(bytes: &[u8], sink: &mut Vec<u8, A>) -> Result<bool> {
-    match read_names(bytes, *sink.allocator()) {
+    match read_names::<A, Padded>(bytes, *sink.allocator()) {
         Ok(names) => {
             append_names(&names, sink)?;
             Ok(true)

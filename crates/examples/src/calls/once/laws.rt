@@ -49,6 +49,7 @@ pub fn sections() {
 
 pub fn type_sections() {
     wasm_types::laws::types();
+    wasm_types::laws::standard();
     wasm_types::laws::padded();
     wasm_types::laws::calls();
     wasm_types::laws::padded_calls();
@@ -59,6 +60,7 @@ pub fn type_sections() {
 
 pub fn custom_sections() {
     wasm_custom::laws::sections();
+    wasm_custom::laws::object_linking();
     wasm_custom::laws::padded();
     wasm_custom::laws::calls();
     wasm_custom::laws::padded_calls();

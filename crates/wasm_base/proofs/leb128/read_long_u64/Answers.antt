@@ -4,7 +4,7 @@ use Rattle.wasm_base.proofs.Faults.{fault_stays}
 use Rattle.wasm_base.proofs.leb128.read_long_u64.Goals as goal
 
 pub returns-in_err-groups-clause-none : goal.returns-in_err-groups-clause-none
-returns-in_err-groups-clause-none c = fault_stays c.from_residual.result _ c.from_residual.ensures.1 λ n. u64_none c.args.bytes.now c.in_err-groups.ensures.none
+returns-in_err-groups-clause-none g c = fault_stays c.from_residual.result _ c.from_residual.ensures.1 λ n. u64_none _ c.args.bytes.now c.in_err-groups.ensures.none
 
 pub returns-else-groups-clause-none : goal.returns-else-groups-clause-none
-returns-else-groups-clause-none c = λ e. u64_large c.args.bytes.now _ _ _ _ c.in_ok-groups.ensures.found (omega (arith, c.if-groups.false))
+returns-else-groups-clause-none g c = λ e. u64_large _ c.args.bytes.now _ _ _ _ c.in_ok-groups.ensures.found (omega (arith, c.if-groups.false))

@@ -1,3 +1,4 @@
+use Rattle.wasm_base.specs.{padded_of}
 use Rattle.wasm_base.proofs.Std.{◌≡◌, subst, arith}
 use Rattle.wasm_base.proofs.Faults.{fault_stays}
 use Rattle.wasm_base.proofs.SkipLaws.{HasSkipped, skipped_step, skipped_decodes, skipped_rejects}
@@ -19,4 +20,4 @@ loop-taken-preserved g c =
 pub returns-clause-found : goal.returns-clause-found
 returns-clause-found g c =
     let all : c.loop-taken._taken ≡ c.in_ok-count.count = omega (arith, c.loop-taken-test.false, c.loop-taken.auto._taken-end) in
-    skipped_decodes g.P.Layout.format c.args.bytes.now _ c.loop-taken.rest.now _ c.in_ok-count.ensures.found (subst (λ z. HasSkipped g.P.Layout.format c.in_ok-count.rest.now z c.loop-taken.rest.now) all c.loop-taken.invariant)
+    skipped_decodes g.P.Layout.format c.args.bytes.now _ c.loop-taken.rest.now _ c.in_ok-count.ensures.found (subst (λ z. HasSkipped g.P.Layout.format (padded_of g.G.Grammar.grammar) c.in_ok-count.rest.now z c.loop-taken.rest.now) all c.loop-taken.invariant)

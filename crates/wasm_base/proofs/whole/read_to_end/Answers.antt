@@ -1,3 +1,4 @@
+use Rattle.wasm_base.specs.{padded_of}
 use Rattle.wasm_base.proofs.Std.{◌∙◌, subst, sym, eqb-true, eqb-false}
 use Rattle.wasm_base.proofs.DecodeSizePrefixed.{none_left}
 use Rattle.wasm_base.proofs.DecodeWhole.{HasMembers, member_shorter, members_continued, members_fail, members_done, empty_not}
@@ -13,7 +14,7 @@ returns-in_err-item-clause-none g c = fault_stays c.from_residual.result _ c.fro
 
 pub loop-rest-preserved : goal.loop-rest-preserved
 loop-rest-preserved g c =
-    subst (λ z. HasMembers g.T.Layout.format g.T.Layout.view c.args.bytes.now z c.in_ok-item.after.now) (sym c.in_ok-push.ensures.items)
+    subst (λ z. HasMembers g.T.Layout.format (padded_of g.G.Grammar.grammar) g.T.Layout.view c.args.bytes.now z c.in_ok-item.after.now) (sym c.in_ok-push.ensures.items)
     (members_continued g.T.Layout.format g.T.Layout.view c.args.bytes.now c.laws.ensures c.loop-rest.rest.now c.in_ok-item.after.now c.loop-rest.items.items c.in_ok-item.item c.loop-rest.invariant (empty_not c.loop-rest.rest.now (eqb-false _ _ (sym c.is_empty.ensures ∙ c.if-is_empty.false))) c.in_ok-item.ensures.found)
 
 pub returns-in_err-push-clause-none : goal.returns-in_err-push-clause-none

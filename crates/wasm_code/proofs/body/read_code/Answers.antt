@@ -1,4 +1,4 @@
-use Rattle.wasm_base.proofs.Words.{◌∙◌, subst, sym, eqb-true, eqb-false, fault_stays, memory_stays, none_left, HasMembers, members_continued, members_fail, members_done, empty_not}
+use Rattle.wasm_base.proofs.Words.{padded_of, ◌∙◌, subst, sym, eqb-true, eqb-false, fault_stays, memory_stays, none_left, HasMembers, members_continued, members_fail, members_done, empty_not}
 use Rattle.wasm_insn.proofs.Words.{instruction, table, unique, plain_view}
 use Rattle.wasm_code.proofs.body.read_code.Goals as goal
 
@@ -11,7 +11,7 @@ returns-in_err-item-clause-none g c = fault_stays c.from_residual-in_err-item.re
 
 pub loop-rest-preserved : goal.loop-rest-preserved
 loop-rest-preserved g c =
-    subst (λ z. HasMembers (instruction table) plain_view c.args.bytes.now z c.in_ok-item.after.now) (sym c.in_ok-push.ensures.items)
+    subst (λ z. HasMembers (instruction table) (padded_of g.G.Grammar.grammar) plain_view c.args.bytes.now z c.in_ok-item.after.now) (sym c.in_ok-push.ensures.items)
     (members_continued (instruction table) plain_view c.args.bytes.now unique c.loop-rest.rest.now c.in_ok-item.after.now c.loop-rest.items.items c.in_ok-item.item c.loop-rest.invariant (empty_not c.loop-rest.rest.now (eqb-false _ _ (sym c.is_empty.ensures ∙ c.if-is_empty.false))) c.in_ok-item.ensures.found)
 
 pub returns-in_err-items-clause-none : goal.returns-in_err-items-clause-none

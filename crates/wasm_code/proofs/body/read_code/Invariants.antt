@@ -1,9 +1,9 @@
-use Rattle.wasm_base.proofs.Words.{length, HasMembers}
+use Rattle.wasm_base.proofs.Words.{padded_of, length, HasMembers}
 use Rattle.wasm_insn.proofs.Words.{instruction, table, plain_view}
 use Rattle.wasm_code.proofs.body.read_code.Given as goal
 
 abbrev pub invariant-loop-rest : goal.invariant-loop-rest
-invariant-loop-rest g l = HasMembers (instruction table) plain_view l.bytes l.items.items l.rest
+invariant-loop-rest g l = HasMembers (instruction table) (padded_of g.G.Grammar.grammar) plain_view l.bytes l.items.items l.rest
 
 abbrev pub decreases-loop-rest : goal.decreases-loop-rest
 decreases-loop-rest g l = length l.rest

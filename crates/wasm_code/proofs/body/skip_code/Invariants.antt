@@ -1,10 +1,10 @@
-use Rattle.wasm_base.proofs.Words.{List, length}
+use Rattle.wasm_base.proofs.Words.{padded_of, List, length}
 use Rattle.wasm_insn.proofs.Words.{Plain}
 use Rattle.wasm_code.proofs.WalkCalls.{HasWalked}
 use Rattle.wasm_code.proofs.body.skip_code.Given as goal
 
 abbrev pub invariant-loop-rest : goal.invariant-loop-rest
-invariant-loop-rest g l = (seen : List Plain) × HasWalked l.bytes seen l.rest
+invariant-loop-rest g l = (seen : List Plain) × HasWalked (padded_of g.G.Grammar.grammar) l.bytes seen l.rest
 
 abbrev pub decreases-loop-rest : goal.decreases-loop-rest
 decreases-loop-rest g l = length l.rest

@@ -1,5 +1,5 @@
-use Rattle.wasm_base.proofs.Words.{refl, tagged_begins, fault_stays}
-use Rattle.wasm_custom.proofs.LinkLaws.{links_none, links_fill, links_no_version, no_links}
+use Rattle.wasm_base.proofs.Words.{refl, fault_stays}
+use Rattle.wasm_custom.proofs.LinkLaws.{link_begins, links_none, links_fill, links_no_version, no_links}
 use Rattle.wasm_custom.proofs.linking.read_links.Goals as goal
 
 pub returns-in_err-rest-clause-none : goal.returns-in_err-rest-clause-none
@@ -15,4 +15,4 @@ pub returns-in_err-items-clause-none : goal.returns-in_err-items-clause-none
 returns-in_err-items-clause-none g c = fault_stays c.from_residual-in_err-items.result _ c.from_residual-in_err-items.ensures.1 λ n. no_links c.args.bytes.now _ _ c.in_ok-rest.ensures.found c.in_ok-rest-2.ensures.found (c.in_err-items.ensures.none n)
 
 pub read_to_end-requires : goal.read_to_end-requires
-read_to_end-requires g c = λ l. ((refl, tt), λ mode s x h. tagged_begins mode s x h)
+read_to_end-requires g c = λ l. ((refl, tt), λ mode s x h. link_begins mode s x h)

@@ -1,4 +1,4 @@
-use Rattle.wasm_base.proofs.Words.{◌+◌, ◌∷◌, [], ◌∙◌, ap, map, sym, subst, map-append, fault_stays, memory_stays}
+use Rattle.wasm_base.proofs.Words.{padded_of, ◌+◌, ◌∷◌, [], ◌∙◌, ap, map, sym, subst, map-append, fault_stays, memory_stays}
 use Rattle.wasm_insn.specs.{argument_view}
 use Rattle.wasm_insn.proofs.DecodeArguments.{HasArguments, arguments_start, arguments_step, arguments_fail, arguments_done}
 use Rattle.wasm_insn.proofs.arguments.read_parts.Goals as goal
@@ -13,7 +13,7 @@ returns-in_err-push-clause-none g c = memory_stays _ c.from_residual-in_err-push
 pub loop-part-preserved : goal.loop-part-preserved
 loop-part-preserved g c =
     let items = c.loop-part.args.items in
-    subst (λ z. HasArguments c.args.wanted.now (c.loop-part.part-index + 1) c.args.bytes.now z c.in_ok-arg.after.now) (sym (ap (map argument_view) c.in_ok-push.ensures.items ∙ map-append argument_view items (c.in_ok-arg.arg ∷ [])))
+    subst (λ z. HasArguments c.args.wanted.now (padded_of g.G.Grammar.grammar) (c.loop-part.part-index + 1) c.args.bytes.now z c.in_ok-arg.after.now) (sym (ap (map argument_view) c.in_ok-push.ensures.items ∙ map-append argument_view items (c.in_ok-arg.arg ∷ [])))
     (arguments_step c.args.wanted.now c.args.bytes.now c.loop-part.part-index _ c.loop-part.rest.now c.in_ok-arg.after.now (map argument_view items) (argument_view c.in_ok-arg.arg) c.loop-part-test.true c.loop-part.invariant c.in_ok-arg.ensures.found)
 
 pub returns-clause-found : goal.returns-clause-found

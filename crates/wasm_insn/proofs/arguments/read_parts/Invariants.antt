@@ -1,7 +1,7 @@
-use Rattle.wasm_base.proofs.Words.{map}
+use Rattle.wasm_base.proofs.Words.{padded_of, map}
 use Rattle.wasm_insn.specs.{argument_view}
 use Rattle.wasm_insn.proofs.DecodeArguments.{HasArguments}
 use Rattle.wasm_insn.proofs.arguments.read_parts.Given as goal
 
 abbrev pub invariant-loop-part : goal.invariant-loop-part
-invariant-loop-part g l = HasArguments l.wanted l.part-index l.bytes (map argument_view l.args.items) l.rest
+invariant-loop-part g l = HasArguments l.wanted (padded_of g.G.Grammar.grammar) l.part-index l.bytes (map argument_view l.args.items) l.rest

@@ -1,4 +1,4 @@
-use Rattle.wasm_base.proofs.Words.{◌≡◌, sym, subst, ◌∙◌, arith, eqb-true, eqb-false, size_prefixed, fault_stays, memory_stays, filled_decodes, filled_none, filled_rejects, HasSkipped}
+use Rattle.wasm_base.proofs.Words.{padded, ◌≡◌, sym, subst, ◌∙◌, arith, eqb-true, eqb-false, size_prefixed, fault_stays, memory_stays, filled_decodes, filled_none, filled_rejects, HasSkipped}
 use Rattle.wasm_code.proofs.Words.{body, size_prefixed_body_unambiguous}
 use Rattle.wasm_reader.proofs.Counting.{no_count, skipped_none, skipped_more}
 use Rattle.wasm_reader.proofs.MinimalBodies.{skip, shortened_start, shortened_step, shortened_all}
@@ -30,7 +30,7 @@ loop-taken-preserved g c =
 pub returns-else-is_empty-clause-none : goal.returns-else-is_empty-clause-none
 returns-else-is_empty-clause-none g c = λ n.
     let all : c.loop-taken._taken ≡ c.in_ok-count.count = omega (arith, c.loop-taken-test.false, c.loop-taken.auto._taken-end) in
-    skipped_more (size_prefixed body) c.args.bytes.now _ c.loop-taken.rest.now _ size_prefixed_body_unambiguous c.in_ok-count.ensures.found (subst (λ z. HasSkipped (size_prefixed body) c.in_ok-count.rest.now z c.loop-taken.rest.now) all (skip (size_prefixed body) c.loop-taken.invariant))
+    skipped_more (size_prefixed body) c.args.bytes.now _ c.loop-taken.rest.now _ size_prefixed_body_unambiguous c.in_ok-count.ensures.found (subst (λ z. HasSkipped (size_prefixed body) padded c.in_ok-count.rest.now z c.loop-taken.rest.now) all (skip (size_prefixed body) c.loop-taken.invariant))
     (eqb-false _ _ (sym c.is_empty.ensures ∙ c.if-is_empty.false))
 
 pub returns-then-is_empty-clause-found : goal.returns-then-is_empty-clause-found

@@ -1,13 +1,14 @@
-use Rattle.wasm_base.proofs.Words.{length, ap, subst, padded, fault_stays}
+use Rattle.wasm_base.proofs.Words.{length, ap, subst, padded}
+use Rattle.wasm_reader.proofs.Causes.{cause_stays}
 use Rattle.wasm_reader.specs.{content}
 use Rattle.wasm_reader.proofs.DecodeModules.{line_decodes, line_none, line_not_size_prefixed}
 use Rattle.wasm_reader.proofs.modules.read_line.Goals as goal
 
 pub returns-in_err-id-clause-none : goal.returns-in_err-id-clause-none
-returns-in_err-id-clause-none g c = fault_stays c.from_residual.result _ c.from_residual.ensures.1 λ n. line_none c.args.bytes.now (c.in_err-id.ensures.none n)
+returns-in_err-id-clause-none g c = cause_stays c.from_residual.result _ c.from_residual.ensures.1 λ n. line_none c.args.bytes.now (c.in_err-id.ensures.none n)
 
 pub returns-in_err-sized-clause-none : goal.returns-in_err-sized-clause-none
-returns-in_err-sized-clause-none g c = fault_stays c.from_residual-in_err-sized.result _ c.from_residual-in_err-sized.ensures.1 λ n. line_not_size_prefixed c.args.bytes.now _ _ c.in_ok-id.ensures.found (c.in_err-sized.ensures.none n)
+returns-in_err-sized-clause-none g c = cause_stays c.from_residual-in_err-sized.result _ c.from_residual-in_err-sized.ensures.1 λ n. line_not_size_prefixed c.args.bytes.now _ _ c.in_ok-id.ensures.found (c.in_err-sized.ensures.none n)
 
 pub returns-clause-found : goal.returns-clause-found
 returns-clause-found g c =

@@ -51,6 +51,7 @@ pub fn sections() {
 
 pub fn type_sections() {
     dolzhytik::fallible::laws::types::types();
+    dolzhytik::fallible::laws::types::standard();
     dolzhytik::fallible::laws::types::padded();
     dolzhytik::fallible::laws::types::calls();
     dolzhytik::fallible::laws::types::padded_calls();
@@ -61,6 +62,7 @@ pub fn type_sections() {
 
 pub fn custom_sections() {
     dolzhytik::fallible::laws::custom::sections();
+    dolzhytik::fallible::laws::custom::object_linking();
     dolzhytik::fallible::laws::custom::padded();
     dolzhytik::fallible::laws::custom::calls();
     dolzhytik::fallible::laws::custom::padded_calls();

@@ -1,11 +1,11 @@
-use Rattle.wasm_base.proofs.Words.{◌≡◌, ◌≤◌, ◌-◌, List, length}
+use Rattle.wasm_base.proofs.Words.{padded, ◌≡◌, ◌≤◌, ◌-◌, List, length}
 use Rattle.wasm_insn.proofs.Words.{Plain}
 use Rattle.wasm_code.proofs.Words.{ahead, HasWalked}
 use Rattle.examples.proofs.calls.walks.count_instructions.Given as goal
 
 abbrev pub invariant-loop-instructions : goal.invariant-loop-instructions
 invariant-loop-instructions g l =
-    (seen : List Plain) × HasWalked (ahead l.initial.instructions) seen (ahead l.instructions) × (length seen ≡ l.count) × (l.count ≤ l.instructions.offset) × (l.instructions.bytes ≡ l.bytes)
+    (seen : List Plain) × HasWalked padded (ahead l.initial.instructions) seen (ahead l.instructions) × (length seen ≡ l.count) × (l.count ≤ l.instructions.offset) × (l.instructions.bytes ≡ l.bytes)
 
 abbrev pub decreases-loop-instructions : goal.decreases-loop-instructions
 decreases-loop-instructions g l = length l.bytes - l.instructions.offset

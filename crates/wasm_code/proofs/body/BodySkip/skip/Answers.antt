@@ -1,14 +1,14 @@
 use Rattle.wasm_code.specs.{body}
-use Rattle.wasm_base.proofs.Words.{fault_stays, filled_decodes, filled_none, filled_rejects}
+use Rattle.wasm_base.proofs.Words.{◌∙◌, fault_stays, filled_decodes, filled_none, filled_rejects}
 use Rattle.wasm_code.proofs.body.BodySkip.skip.Goals as goal
 
 pub returns-in_err-sized-clause-none : goal.returns-in_err-sized-clause-none
 returns-in_err-sized-clause-none g c = fault_stays c.from_residual.result _ c.from_residual.ensures.1 λ n. filled_none body c.args.bytes.now (c.in_err-sized.ensures.none n)
 
-pub returns-in_err-skip_body-clause-none : goal.returns-in_err-skip_body-clause-none
-returns-in_err-skip_body-clause-none g c = fault_stays c.from_residual-in_err-skip_body.result _ c.from_residual-in_err-skip_body.ensures.1 λ n. filled_rejects body c.args.bytes.now _ _ c.in_ok-sized.ensures.found (c.in_err-skip_body.ensures.none n)
+pub returns-in-Err-clause-none : goal.returns-in-Err-clause-none
+returns-in-Err-clause-none g c = λ n. filled_rejects body c.args.bytes.now _ _ c.in_ok-sized.ensures.found (c.in-Err.ensures.none (λ k. n (c.before-in-Err.ensures ∙ k)))
 
-pub returns-clause-found : goal.returns-clause-found
-returns-clause-found g c =
-    let x = c.in_ok-skip_body.ensures.found in
+pub returns-in-Ok-clause-found : goal.returns-in-Ok-clause-found
+returns-in-Ok-clause-found g c =
+    let x = c.in-Ok.ensures.found in
     (x.0, filled_decodes body c.args.bytes.now _ _ x.0 c.in_ok-sized.ensures.found x.1)

@@ -1,4 +1,4 @@
-use Rattle.wasm_base.proofs.Words.{subst, sym, arith, such, such_unambiguous, begins_such, fault_stays, memory_stays, none_left, such_none, front_and_rest, member_shorter}
+use Rattle.wasm_base.proofs.Words.{padded_of, subst, sym, arith, such, such_unambiguous, begins_such, fault_stays, memory_stays, none_left, such_none, front_and_rest, member_shorter}
 use Rattle.wasm_insn.proofs.Words.{instruction, table, unique, any_begins, plain_view}
 use Rattle.wasm_code.specs.{IsNoEnd}
 use Rattle.wasm_code.proofs.DecodeLists.{HasEnded, ended_step, ended_fail, ended_done, ended_short, front_is, not_end}
@@ -20,7 +20,7 @@ returns-in_err-push-clause-none g c = memory_stays _ c.from_residual-in_err-push
 pub loop-rest-preserved : goal.loop-rest-preserved
 loop-rest-preserved g c =
     let split = front_and_rest c.loop-rest.rest.now c.in-len1-up.len_at_least in
-    subst (λ z. HasEnded 11 (such IsNoEnd (instruction table)) plain_view c.args.bytes.now z c.in_ok-item.after.now) (sym c.in_ok-push.ensures.items)
+    subst (λ z. HasEnded 11 (such IsNoEnd (instruction table)) (padded_of g.G.Grammar.grammar) plain_view c.args.bytes.now z c.in_ok-item.after.now) (sym c.in_ok-push.ensures.items)
     (ended_step 11 (such IsNoEnd (instruction table)) plain_view c.args.bytes.now (such_unambiguous IsNoEnd unique) _ c.loop-rest.rest.now _ c.in_ok-item.after.now c.loop-rest.items.items c.in_ok-item.item c.loop-rest.invariant split c.if-first-eq-END.false
     (not_end c.loop-rest.rest.now _ c.in_ok-item.after.now _ (plain_view c.in_ok-item.item) split c.if-first-eq-END.false c.in_ok-item.ensures.found))
 

@@ -1,4 +1,4 @@
-use Rattle.wasm_base.proofs.Words.{rules, sym, subst, to_z-of_z, padded, Decodes, fault_stays}
+use Rattle.wasm_base.proofs.Words.{rules, sym, subst, to_z-of_z, padded_of, Decodes, fault_stays}
 use Rattle.std.proofs.Common.{w32, w64}
 use Rattle.wasm_custom.specs.{value}
 use Rattle.wasm_custom.proofs.CoreStackLaws.{i32_decodes, i64_decodes, value_none, i32_none, i64_none, f32_decodes, f32_none, f64_decodes, f64_none}
@@ -8,13 +8,13 @@ use Rattle.wasm_custom.proofs.core_values.CoreDumpValueReadable.read.Goals as go
 pub returns-in_ok-value-in-127-clause-found : goal.returns-in_ok-value-in-127-clause-found
 returns-in_ok-value-in-127-clause-found g c =
     let rest = c.in_ok-value-in-127.rest.now in
-    subst (λ z. Decodes value padded c.args.bytes.now (values.I32 z) rest) (sym (to_z-of_z {w = w32} (search rules)))
+    subst (λ z. Decodes value (padded_of g.G.Grammar.grammar) c.args.bytes.now (values.I32 z) rest) (sym (to_z-of_z {w = w32} (search rules)))
     (i32_decodes c.args.bytes.now _ rest _ _ c.in_ok-tag.ensures.found c.in-127.is c.in_ok-value-in-127.ensures.found)
 
 pub returns-in_ok-value-in-126-clause-found : goal.returns-in_ok-value-in-126-clause-found
 returns-in_ok-value-in-126-clause-found g c =
     let rest = c.in_ok-value-in-126.rest.now in
-    subst (λ z. Decodes value padded c.args.bytes.now (values.I64 z) rest) (sym (to_z-of_z {w = w64} (search rules)))
+    subst (λ z. Decodes value (padded_of g.G.Grammar.grammar) c.args.bytes.now (values.I64 z) rest) (sym (to_z-of_z {w = w64} (search rules)))
     (i64_decodes c.args.bytes.now _ rest _ _ c.in_ok-tag.ensures.found c.in-126.is c.in_ok-value-in-126.ensures.found)
 
 pub returns-in_err-tag-clause-none : goal.returns-in_err-tag-clause-none

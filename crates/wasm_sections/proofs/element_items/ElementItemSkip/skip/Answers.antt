@@ -1,4 +1,4 @@
-use Rattle.wasm_base.proofs.Words.{fault_stays, subst, padded, Rejects}
+use Rattle.wasm_base.proofs.Words.{fault_stays, subst, padded_of, Rejects}
 use Rattle.wasm_sections.specs.{elements_as, element_flag_view}
 use Rattle.wasm_sections.proofs.ElementLaws.{element_none, element_no_segment_mode, element_no_list, element_decodes}
 use Rattle.wasm_sections.proofs.element_items.ElementItemSkip.skip.Goals as goal
@@ -14,7 +14,7 @@ returns-in_err-rest-2-clause-none g c =
     let flag = c.in_ok-flag.flag in
     let p = c.in_ok-rest.ensures.found in
     fault_stays c.from_residual-in_err-rest-2.result _ c.from_residual-in_err-rest-2.ensures.1 λ n.
-    element_no_list c.args.bytes.now _ _ (element_flag_view flag) p.0 c.in_ok-flag.ensures.found p.1 (subst (λ t. Rejects (elements_as t flag.expressions) padded c.in_ok-rest.rest.now) c.has_kind.ensures (c.in_err-rest-2.ensures.none n))
+    element_no_list c.args.bytes.now _ _ (element_flag_view flag) p.0 c.in_ok-flag.ensures.found p.1 (subst (λ t. Rejects (elements_as t flag.expressions) (padded_of g.G.Grammar.grammar) c.in_ok-rest.rest.now) c.has_kind.ensures (c.in_err-rest-2.ensures.none n))
 
 pub returns-clause-found : goal.returns-clause-found
 returns-clause-found g c =

@@ -15,4 +15,4 @@ pub returns-in_ok-types-clause-found : goal.returns-in_ok-types-clause-found
 returns-in_ok-types-clause-found g c = group_decodes c.in_ok-tag.ensures.found c.if-tag-eq78.true c.in_ok-types.ensures.found
 
 pub returns-in_ok-sub-clause-found : goal.returns-in_ok-sub-clause-found
-returns-in_ok-sub-clause-found g c = single_decodes c.in_ok-tag.ensures.found c.if-tag-eq78.false c.in_ok-sub.ensures.found
+returns-in_ok-sub-clause-found g c = single_decodes c.in_ok-tag.ensures.found c.in_ok-sub.ensures.found

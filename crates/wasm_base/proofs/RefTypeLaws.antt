@@ -1,16 +1,16 @@
--- This file proves that reference types in the standard's grammar are unambiguous.
-use Rattle.wasm_base.proofs.Std.{◌≡◌, ◌⊎◌, ℕ, ◌<◌, ◌≤◌, List, [], ◌∷◌, ◌++◌, length, Bool, true, false, cond, eqb, refl, sym, ap, ap₂, subst, ◌∙◌, le_refl, arith, inl, inr, eqb-true}
-use Rattle.wasm_base.specs.{Mode, padded, standard_minimal, standard, admitted, Format, byte, impossible, fixed, mapped, such, choice, tagged, when, Unambiguous, BeginsWith, IsIncludedIn, ShrinksTo}
-use Rattle.wasm_base.specs.{DeterminesPrefix, abstract_code, abstract_type, unshared, heap_type, FUNCREF, EXTERNREF, nullable_to, to, HasNoByte, ref_tags, ref_type, nullable_abstract, HasNoCode}
-use Rattle.wasm_base.specs.{tight_tags, admitted_tags, tight_ref, admitted_ref, ref_type_in}
+-- This file proves that reference types are unambiguous in both grammars.
+use Rattle.wasm_base.proofs.Std.{◌≡◌, ◌≢◌, ◌⊎◌, ℕ, ◌<◌, ◌≤◌, List, [], ◌∷◌, ◌++◌, length, Bool, true, false, cond, eqb, refl, sym, ap, ap₂, subst, ◌∙◌, le_refl, arith, inl, inr, eqb-true}
+use Rattle.wasm_base.specs.{Mode, minimal, padded, standard_minimal, standard, admitted, Format, byte, impossible, fixed, mapped, such, choice, tagged, when, Unambiguous, BeginsWith, Rejects}
+use Rattle.wasm_base.specs.{IsIncludedIn, ShrinksTo, DeterminesPrefix, abstract_code, abstract_type, unshared, heap_type, FUNCREF, EXTERNREF, nullable_to, to, HasNoByte, ref_tags, built_ref}
+use Rattle.wasm_base.specs.{nullable_abstract, HasNoCode, tight_tags, admitted_tags, tight_ref, admitted_ref, ref_type, by_mode}
 use Rattle.wasm_base.specs.declared.types.AbstractHeapType.{AbstractHeapType}
 use Rattle.wasm_base.specs.declared.types.HeapType.{HeapType}
 use Rattle.wasm_base.specs.declared.types.RefType.{RefType}
 use Rattle.wasm_base.specs.declared.types.HeapType.TheVariants.{Abstract, Concrete, Exact}
-use Rattle.wasm_base.proofs.FormatLaws.{AreApart, mapped_unambiguous, such_unambiguous, byte_unambiguous, begins_mapped, begins_coded, choice_of, choice_begins, AllValues, values_mapped}
-use Rattle.wasm_base.proofs.FormatLaws.{values_tagged, none_in_common, AllDetermine, one_of_unambiguous, one_of_unique, begin_apart, by_mode_unambiguous}
+use Rattle.wasm_base.proofs.FormatLaws.{AreApart, mapped_unambiguous, such_unambiguous, byte_unambiguous, begins_mapped, begins_coded, begins_one_of, begins_weaker, choice_of, choice_begins}
+use Rattle.wasm_base.proofs.FormatLaws.{AllValues, values_mapped, values_tagged, none_in_common, AllDetermine, one_of_unambiguous, one_of_unique, begin_apart, by_mode_unambiguous}
 use Rattle.wasm_base.proofs.EncodingLaws.{tagged_encodes}
-use Rattle.wasm_base.proofs.TypeLaws.{abstract_unambiguous, abstract_bytes, heap_unambiguous, ref_unambiguous}
+use Rattle.wasm_base.proofs.TypeLaws.{abstract_unambiguous, abstract_bytes, heap_unambiguous, built_unambiguous}
 use Rattle.wasm_base.specs.declared.types.AbstractHeapType.TheVariants as kinds
 
 -- ---- elimination of choices
@@ -109,7 +109,7 @@ to_admitted b t x heap e q h = subst (λ z. admitted_ref standard (z ∷ t) x) (
 byte_admitted : (b : ℕ) (t : List ℕ) (x : RefType) (ty : AbstractHeapType) → b ≡ abstract_code ty → t ≡ [] → x ≡ nullable_abstract ty → admitted_ref standard (b ∷ t) x
 byte_admitted b t x ty e n q = inl (ty, sym q, ap₂ ◌∷◌ e n)
 
-ref_admitted : IsIncludedIn (ref_type padded) (admitted_ref standard)
+ref_admitted : IsIncludedIn (built_ref padded) (admitted_ref standard)
 ref_admitted s x h =
     let u = untag ref_tags padded s x h in
     subst (λ z. admitted_ref standard z x) (sym u.2) (first u.0 u.1 u.3)
@@ -194,5 +194,62 @@ ref_shrinks s x (inr k) =
 
 -- ---- both grammars
 
-pub ref_in_unambiguous : Unambiguous ref_type_in
-ref_in_unambiguous = by_mode_unambiguous ref_type tight_ref admitted_ref ref_unambiguous standard_minimal_unambiguous admitted_unique ref_admitted tight_admitted ref_shrinks
+pub ref_unambiguous : Unambiguous ref_type
+ref_unambiguous = by_mode_unambiguous built_ref tight_ref admitted_ref built_unambiguous standard_minimal_unambiguous admitted_unique ref_admitted tight_admitted ref_shrinks
+
+-- The first bytes of reference types.
+abbrev pub IsRefByte : ℕ → Type 0
+IsRefByte b = (0x62 < b) × (b < 0x76)
+
+begins_by_mode : {X : Type 0} (P : ℕ → Type 0) {F G H : Format X} → BeginsWith P F → BeginsWith P G → BeginsWith P H → BeginsWith P (by_mode F G H)
+begins_by_mode P f g h minimal = f minimal
+begins_by_mode P f g h padded = f padded
+begins_by_mode P f g h standard_minimal = g standard_minimal
+begins_by_mode P f g h standard = h standard
+
+short_ref_begins : BeginsWith IsRefByte short_ref
+short_ref_begins = begins_weaker IsAbstractByte IsRefByte (λ b p. (omega (arith, p.0), p.1)) short_begins
+
+long_ref : (b : ℕ) → IsLongTag b → IsRefByte b
+long_ref b p = (p.0, omega (arith, p.1))
+
+pub ref_begins : BeginsWith IsRefByte ref_type
+ref_begins =
+    begins_by_mode IsRefByte
+    (choice_begins IsRefByte ref_tags (λ b. impossible) ((omega arith, omega arith), ((omega arith, omega arith), ((omega arith, omega arith), ((omega arith, omega arith), tt)))) (λ b mode s x h. absurd h))
+    (begins_one_of IsRefByte short_ref_begins (begins_weaker IsLongTag IsRefByte long_ref tight_begins))
+    (begins_one_of IsRefByte short_ref_begins (begins_weaker IsLongTag IsRefByte long_ref admitted_begins))
+
+-- ---- one byte for nullable references to abstract types
+
+pub one_byte : (ty : AbstractHeapType) → ref_type standard_minimal (abstract_code ty ∷ []) (nullable_abstract ty)
+one_byte ty = inl (ty, refl, refl)
+
+pub two_parts : (heap : HeapType) (s : List ℕ) → heap_type standard s heap → ref_type standard (0x63 ∷ s) (nullable_to heap)
+two_parts heap s h = inr (tagged_encodes standard 0x63 s (nullable_to heap) (heap, refl, h))
+
+-- The first byte of a reference type that builders write.
+abbrev IsBuiltByte : ℕ → Type 0
+IsBuiltByte b = (b < 0x65) ⊎ (b ≡ 0x70) ⊎ (b ≡ 0x6F)
+
+built_begins : BeginsWith IsBuiltByte built_ref
+built_begins =
+    choice_begins IsBuiltByte ref_tags (λ b. impossible) (inr (inl refl), (inr (inr refl), (inl (omega arith), (inl (omega arith), tt)))) (λ b mode s x h. absurd h)
+
+same_code : (x y : AbstractHeapType) → abstract_code x ≡ abstract_code y → x ≡ y
+same_code x y e = (abstract_unambiguous.unique minimal (abstract_code x ∷ []) (abstract_code y ∷ []) [] [] x y refl refl (ap (λ b. b ∷ []) e)).0
+
+other_code : (ty : AbstractHeapType) → ty ≢ kinds.Func → ty ≢ kinds.Extern → IsBuiltByte (abstract_code ty) → ⊥
+other_code ty p q (inl l) = omega (arith, l, (abstract_bytes ty).0)
+other_code ty p q (inr e) = elim e [ inl f ↦ p (same_code ty kinds.Func f) | inr f ↦ q (same_code ty kinds.Extern f) ]
+
+pub other_byte : (ty : AbstractHeapType) (rest : List ℕ) → ty ≢ kinds.Func → ty ≢ kinds.Extern → Rejects ref_type padded (abstract_code ty ∷ rest)
+other_byte ty rest p q = record {
+  none = λ x last h.
+      let b = built_begins padded h.front x h.encodes in
+      let all : abstract_code ty ∷ rest ≡ b.0 ∷ (b.1 ++ last) = h.split ∙ ap (λ z. z ++ last) b.2 in
+      let same : abstract_code ty ≡ b.0 = cc all in
+      other_code ty p q (subst IsBuiltByte (sym same) b.3);
+}
+
+pub ruleset standard_types = (one_byte, two_parts, other_byte)

@@ -1,0 +1,56 @@
+// Written by tools/to-rust from crates/wasm_base/src/grammar.rt: change that.
+// Grammars: which encodings of a value a decoder accepts.
+
+/// The encodings that a decoder accepts. In each grammar a value has exactly one minimal encoding,
+/// and its numbers may be padded.
+///
+/// # Defined
+///
+/// ```text
+/// grammar: { GrammarOf }
+/// ```
+pub trait Grammar {
+    // The grammar, as formats take it.
+
+    /// Returns `true` if all encodings that the standard admits are accepted.
+    ///
+    /// # Proved
+    ///
+    /// ```text
+    /// ensures { result ≡ is_admitted grammar }
+    /// ```
+    fn is_standard() -> bool;
+}
+
+/// The encodings that builders write, with padded numbers too.
+#[derive(Clone, Copy, PartialEq, Eq, Debug)]
+pub struct Padded;
+
+/// # Defined
+///
+/// ```text
+/// grammar = { builders }
+/// ```
+impl Grammar for Padded {
+    #[inline]
+    fn is_standard() -> bool {
+        false
+    }
+}
+
+/// All encodings that the standard admits. A nullable reference to an abstract type may have one
+/// byte, for example.
+#[derive(Clone, Copy, PartialEq, Eq, Debug)]
+pub struct Standard;
+
+/// # Defined
+///
+/// ```text
+/// grammar = { admitted }
+/// ```
+impl Grammar for Standard {
+    #[inline]
+    fn is_standard() -> bool {
+        true
+    }
+}

@@ -1,0 +1,180 @@
+// Written by tools/to-rust from crates/wasm_custom/src/comdats.rt: change that.
+// The COMDAT groups of a linking section: their builders, their reader and their minimizer.
+
+use crate::vec::{Sink, Vec};
+use crate::custom::lists::{CountedList, ListKind};
+use crate::alloc::{Allocator, Global};
+use crate::base::{DecodeError, Encode, Grammar, Layout, Lent, Readable, Result, Shorten};
+
+/// The members of a COMDAT group, in the order in which they are added.
+pub type ComdatSymbols<A = Global> = CountedList<ComdatSymbolMembers, A>;
+
+/// The kind of the members of a list of a group's members.
+#[derive(Clone, Copy, Debug)]
+pub struct ComdatSymbolMembers;
+
+/// # Defined
+///
+/// ```text
+/// Member = { ComdatSymbolModel }
+/// member_encoding = { comdat_symbol_encoding }
+/// is_member = { IsComdatSymbol }
+/// subsection = { None }
+/// ```
+impl ListKind for ComdatSymbolMembers {
+    fn subsection() -> Option<u8> {
+        None
+    }
+}
+
+impl<A: Allocator> ComdatSymbols<A> {
+    /// Adds a member of this kind, with its index among those of the kind. The kind is 0 for a data
+    /// segment, 1 for a function, 2 for a global, 3 for a tag, 4 for a table, and 5 for a section.
+    ///
+    /// # Proved
+    ///
+    /// ```text
+    /// ensures { Adds (kind ∷ unsigned_encoding index) ⊤ self.old self.new result }
+    /// ```
+    pub fn symbol(&mut self, kind: u8, index: u32) -> Result<()> {
+        self.add_record(&(kind, index))
+    }
+}
+
+/// The COMDAT groups of a module, in the order in which they are added. They are encoded as
+/// subsection 7 of a linking section.
+///
+/// ```
+/// # use dolzhytik::{fallible::*, reader::*};
+/// # fn example(alloc: Global) -> Result<(), Box<dyn std::error::Error>> {
+/// let mut members = ComdatSymbols::new(alloc);
+/// members.symbol(1, 0)?;
+/// let mut comdats = Comdats::new(alloc);
+/// comdats.comdat("_Z1fIiET_S0_", 0, &members)?;
+/// # Ok(())
+/// # }
+/// # example(Global).unwrap();
+/// ```
+pub type Comdats<A = Global> = CountedList<ComdatMembers, A>;
+
+/// The kind of the members of a list of groups.
+#[derive(Clone, Copy, Debug)]
+pub struct ComdatMembers;
+
+/// # Defined
+///
+/// ```text
+/// Member = { ComdatModel }
+/// member_encoding = { comdat_encoding }
+/// is_member = { IsComdat }
+/// subsection = { Some 7 }
+/// ```
+impl ListKind for ComdatMembers {
+    fn subsection() -> Option<u8> {
+        Some(7)
+    }
+}
+
+impl<A: Allocator> Comdats<A> {
+    /// Adds a group. In the tool conventions, `flags` are 0.
+    ///
+    /// # Proved
+    ///
+    /// ```text
+    /// ensures { Adds (size_prefixed_encoding name.now ++ (unsigned_encoding flags ++ list_encoding symbols.now)) (HasEncodableSize name.now) self.old self.new result }
+    /// ```
+    pub fn comdat<B: Allocator>(
+        &mut self,
+        name: &str,
+        flags: u32,
+        symbols: &ComdatSymbols<B>,
+    ) -> Result<()> {
+        symbols.members_law();
+        self.add_record(&(name, flags, Lent(symbols)))
+    }
+}
+
+/// A member of a COMDAT group.
+#[derive(Clone, Copy, Debug)]
+pub struct ComdatSymbol {
+    /// The kind of the member: 0 is a data segment, 1 a function, 2 a global, 3 a tag, 4 a table,
+    /// 5 a section.
+    pub kind: u8,
+    /// The index of the member among those of its kind.
+    pub index: u32,
+}
+
+/// # Defined
+///
+/// ```text
+/// Value = { ComdatSymbolModel }
+/// format = { comdat_symbol }
+/// view = { λ symbol. symbol }
+/// ```
+impl Layout for ComdatSymbol {
+    fn laws() {}
+}
+
+impl<'a, A: Allocator + Copy, G: Grammar> Readable<'a, A, G> for ComdatSymbol {
+    fn read(bytes: &'a [u8], alloc: A) -> Result<(ComdatSymbol, &'a [u8]), DecodeError> {
+        let ((kind, index), rest) = <(u8, u32) as Readable<'a, A, G>>::read(bytes, alloc)?;
+        Ok((ComdatSymbol { kind, index }, rest))
+    }
+}
+
+impl Shorten for ComdatSymbol {
+    fn write_minimal<B: Sink>(&self, sink: &mut B) -> Result<()> {
+        self.kind.encode(sink)?;
+        self.index.write_minimal(sink)
+    }
+}
+
+/// A decoded COMDAT group: a linker keeps the members of one group of this name, and discards those
+/// of the others.
+#[derive(Debug)]
+pub struct Comdat<'a, A: Allocator = Global> {
+    pub name: &'a str,
+    /// 0 in the tool conventions.
+    pub flags: u32,
+    pub symbols: Vec<ComdatSymbol, A>,
+}
+
+/// # Defined
+///
+/// ```text
+/// Value = { ComdatModel }
+/// format = { comdat }
+/// view = { comdat_view }
+/// ```
+impl<'a, A: Allocator> Layout for Comdat<'a, A> {
+    /// # Proved
+    ///
+    /// ```text
+    /// ensures { Unambiguous comdat }
+    /// ```
+    fn laws() {}
+}
+
+impl<'a, A: Allocator + Copy + 'a, G: Grammar> Readable<'a, A, G> for Comdat<'a, A> {
+    fn read(bytes: &'a [u8], alloc: A) -> Result<(Comdat<'a, A>, &'a [u8]), DecodeError> {
+        let ((name, (flags, symbols)), rest) = <(&'a str, (u32, Vec<ComdatSymbol, A>)) as Readable<
+            'a,
+            A,
+            G,
+        >>::read(bytes, alloc)?;
+        let comdat = Comdat {
+            name,
+            flags,
+            symbols,
+        };
+        Ok((comdat, rest))
+    }
+}
+
+impl<'a, A: Allocator> Shorten for Comdat<'a, A> {
+    fn write_minimal<B: Sink>(&self, sink: &mut B) -> Result<()> {
+        self.name.write_minimal(sink)?;
+        self.flags.write_minimal(sink)?;
+        self.symbols.write_minimal(sink)
+    }
+}

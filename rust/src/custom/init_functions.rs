@@ -1,0 +1,86 @@
+// Written by tools/to-rust from crates/wasm_custom/src/init_functions.rt: change that.
+// The init functions of a linking section: their builder, their reader and their minimizer.
+
+use crate::vec::Sink;
+use crate::custom::lists::{CountedList, ListKind};
+use crate::alloc::{Allocator, Global};
+use crate::base::{DecodeError, Grammar, Layout, Readable, Result, Shorten};
+
+/// The init functions of a module, in the order in which they are added. They are encoded as
+/// subsection 6 of a linking section.
+///
+/// ```
+/// # use dolzhytik::{fallible::*, reader::*};
+/// # fn example(alloc: Global) -> Result<(), Box<dyn std::error::Error>> {
+/// let mut functions = InitFunctions::new(alloc);
+/// functions.function(65535, 0)?;
+/// # Ok(())
+/// # }
+/// # example(Global).unwrap();
+/// ```
+pub type InitFunctions<A = Global> = CountedList<InitMembers, A>;
+
+/// The kind of the members of a list of init functions.
+#[derive(Clone, Copy, Debug)]
+pub struct InitMembers;
+
+/// # Defined
+///
+/// ```text
+/// Member = { InitModel }
+/// member_encoding = { init_encoding }
+/// is_member = { IsInit }
+/// subsection = { Some 6 }
+/// ```
+impl ListKind for InitMembers {
+    fn subsection() -> Option<u8> {
+        Some(6)
+    }
+}
+
+impl<A: Allocator> InitFunctions<A> {
+    /// Adds the function of this symbol. Functions of a lower priority are called first.
+    ///
+    /// # Proved
+    ///
+    /// ```text
+    /// ensures { Adds (unsigned_encoding priority ++ unsigned_encoding symbol) ⊤ self.old self.new result }
+    /// ```
+    pub fn function(&mut self, priority: u32, symbol: u32) -> Result<()> {
+        self.add_record(&(priority, symbol))
+    }
+}
+
+/// A function that the linked module calls when it starts.
+#[derive(Clone, Copy, Debug)]
+pub struct InitFunction {
+    /// Functions of a lower priority are called first.
+    pub priority: u32,
+    /// The index of the function's symbol in the symbol table.
+    pub symbol: u32,
+}
+
+/// # Defined
+///
+/// ```text
+/// Value = { InitModel }
+/// format = { init_function }
+/// view = { λ function. function }
+/// ```
+impl Layout for InitFunction {
+    fn laws() {}
+}
+
+impl<'a, A: Allocator + Copy, G: Grammar> Readable<'a, A, G> for InitFunction {
+    fn read(bytes: &'a [u8], alloc: A) -> Result<(InitFunction, &'a [u8]), DecodeError> {
+        let ((priority, symbol), rest) = <(u32, u32) as Readable<'a, A, G>>::read(bytes, alloc)?;
+        Ok((InitFunction { priority, symbol }, rest))
+    }
+}
+
+impl Shorten for InitFunction {
+    fn write_minimal<B: Sink>(&self, sink: &mut B) -> Result<()> {
+        self.priority.write_minimal(sink)?;
+        self.symbol.write_minimal(sink)
+    }
+}

@@ -1,0 +1,135 @@
+// Written by tools/to-rust from crates/wasm_custom/src/object_linking.rt: change that.
+// The linking section of an object file, which has subsections of all kinds: its builder.
+
+use crate::custom::comdats::Comdats;
+use crate::custom::entries::{CustomEntries, CustomKind};
+use crate::custom::init_functions::InitFunctions;
+use crate::custom::object_symbols::ObjectSymbols;
+use crate::custom::segments::SegmentInfos;
+use crate::custom::subsections::Subsection;
+use crate::alloc::{Allocator, Global};
+use crate::base::{Kind, Result};
+
+/// The linking section of an object file, in version 2 of the format: symbols of all kinds,
+/// segments, init functions, COMDAT groups and the target. Each call adds a subsection, and `new`
+/// allocates nothing.
+///
+/// The bytes decode in the format of the tool conventions, which is that of linking sections in the
+/// grammar `Standard`. Those of a `LinkingSection` decode in the builders' grammar too.
+///
+/// ```
+/// # use dolzhytik::{fallible::*, reader::*};
+/// # fn example(alloc: Global) -> Result<(), Box<dyn std::error::Error>> {
+/// # let mut module = Module::new(alloc)?;
+/// let mut symbols = ObjectSymbols::new(alloc);
+/// symbols.section(SymbolTable::WASM_SYM_BINDING_LOCAL, 8)?;
+/// let mut segments = SegmentInfos::new(alloc);
+/// segments.segment(".rodata.greeting", 0, 0)?;
+/// let mut linking = ObjectLinking::new(alloc);
+/// linking.symbol_table(&symbols)?;
+/// linking.segments(&segments)?;
+/// module.section(&linking)?;
+/// # Ok(())
+/// # }
+/// # example(Global).unwrap();
+/// ```
+pub type ObjectLinking<A = Global> = CustomEntries<ObjectLinkingItems, A>;
+
+/// The kind of the items of an object file's linking section: subsections.
+#[derive(Clone, Copy, Debug)]
+pub struct ObjectLinkingItems;
+
+/// # Defined
+///
+/// ```text
+/// Record = { LinkModel }
+/// Item = { LinkModel }
+/// kind = { object_items }
+/// ```
+impl Kind for ObjectLinkingItems {
+    fn laws() {}
+}
+
+/// # Defined
+///
+/// ```text
+/// name = { linking_name }
+/// front = { version ∷ [] }
+/// front_format = { just version u32_format }
+/// counted = { false }
+/// ```
+impl CustomKind for ObjectLinkingItems {
+    fn name() -> &'static str {
+        "linking"
+    }
+
+    fn front() -> &'static [u8] {
+        &[2]
+    }
+
+    fn counted() -> bool {
+        false
+    }
+
+    fn layout_laws() {}
+}
+
+impl<A: Allocator> ObjectLinking<A> {
+    /// Adds the segments.
+    ///
+    /// # Proved
+    ///
+    /// ```text
+    /// ensures { Adds (subsection_encoding 5 (list_encoding segments.now)) (HasEncodableSize (list_encoding segments.now) × ⊤) self.old self.new result }
+    /// ```
+    pub fn segments<B: Allocator>(&mut self, segments: &SegmentInfos<B>) -> Result<()> {
+        self.add_record(segments)
+    }
+
+    /// Adds the init functions.
+    ///
+    /// # Proved
+    ///
+    /// ```text
+    /// ensures { Adds (subsection_encoding 6 (list_encoding functions.now)) (HasEncodableSize (list_encoding functions.now) × ⊤) self.old self.new result }
+    /// ```
+    pub fn init_functions<B: Allocator>(&mut self, functions: &InitFunctions<B>) -> Result<()> {
+        self.add_record(functions)
+    }
+
+    /// Adds the COMDAT groups.
+    ///
+    /// # Proved
+    ///
+    /// ```text
+    /// ensures { Adds (subsection_encoding 7 (list_encoding comdats.now)) (HasEncodableSize (list_encoding comdats.now) × ⊤) self.old self.new result }
+    /// ```
+    pub fn comdats<B: Allocator>(&mut self, comdats: &Comdats<B>) -> Result<()> {
+        self.add_record(comdats)
+    }
+
+    /// Adds the symbols.
+    ///
+    /// # Proved
+    ///
+    /// ```text
+    /// ensures { Adds (subsection_encoding 8 (list_encoding symbols.now)) (HasEncodableSize (list_encoding symbols.now) × ⊤) self.old self.new result }
+    /// ```
+    pub fn symbol_table<B: Allocator>(&mut self, symbols: &ObjectSymbols<B>) -> Result<()> {
+        self.add_record(symbols)
+    }
+
+    /// Adds the architecture of the target, which is not in the tool conventions.
+    ///
+    /// # Proved
+    ///
+    /// ```text
+    /// ensures { Adds (subsection_encoding 9 (size_prefixed_encoding name.now)) (HasEncodableSize (size_prefixed_encoding name.now) × HasEncodableSize name.now) self.old self.new result }
+    /// ```
+    pub fn target_arch(&mut self, name: &str) -> Result<()> {
+        self.add_record(&Subsection {
+            id: 9,
+            content: &name,
+        })
+    }
+}

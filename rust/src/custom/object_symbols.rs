@@ -1,0 +1,135 @@
+// Written by tools/to-rust from crates/wasm_custom/src/object_symbols.rt: change that.
+// The symbol table of an object file, which has symbols of all kinds: its builder.
+
+use crate::custom::lists::{CountedList, ListKind};
+use crate::custom::symbols::{DataSymbolDefinition, SymbolKind, given_definition, given_name};
+use crate::alloc::{Allocator, Global};
+use crate::base::{Optional, Result};
+
+/// The symbol table of an object file: symbols of all kinds of the tool conventions, in the order
+/// in which they are added. It is encoded as subsection 8 of a linking section. `SymbolTable` names
+/// the flags.
+///
+/// ```
+/// # use dolzhytik::{fallible::*, reader::*};
+/// # fn example(alloc: Global) -> Result<(), Box<dyn std::error::Error>> {
+/// let mut symbols = ObjectSymbols::new(alloc);
+/// symbols.function(SymbolTable::WASM_SYM_EXPORTED, 0, Some("f"))?;
+/// symbols.section(SymbolTable::WASM_SYM_BINDING_LOCAL, 8)?;
+/// # Ok(())
+/// # }
+/// # example(Global).unwrap();
+/// ```
+pub type ObjectSymbols<A = Global> = CountedList<ObjectSymbolMembers, A>;
+
+/// The kind of the members of an object file's symbol table.
+#[derive(Clone, Copy, Debug)]
+pub struct ObjectSymbolMembers;
+
+/// # Defined
+///
+/// ```text
+/// Member = { SymbolModel }
+/// member_encoding = { symbol_encoding }
+/// is_member = { IsFullSymbol }
+/// subsection = { Some 8 }
+/// ```
+impl ListKind for ObjectSymbolMembers {
+    fn subsection() -> Option<u8> {
+        Some(8)
+    }
+}
+
+impl<A: Allocator> ObjectSymbols<A> {
+    /// Adds a symbol with an index.
+    ///
+    /// # Proved
+    ///
+    /// ```text
+    /// ensures { Adds (indexed_encoding kind flags index (optional_encoding (λ n. size_prefixed_encoding n.now) name.entry)) (IfSome name.entry (λ n. HasEncodableSize n.now)) self.old self.new result }
+    /// ```
+    fn indexed(
+        &mut self,
+        kind: SymbolKind,
+        flags: u32,
+        index: u32,
+        name: Option<&str>,
+    ) -> Result<()> {
+        given_name(name);
+        self.add_record(&((kind, flags), index, Optional(name)))
+    }
+
+    /// Adds a function. A function has a name if it is defined here, or if `flags` say that its
+    /// name is explicit. The call does not check that `name` agrees.
+    ///
+    /// # Proved
+    ///
+    /// ```text
+    /// ensures { Adds (indexed_encoding kinds.Function flags index (optional_encoding (λ n. size_prefixed_encoding n.now) name.entry)) (IfSome name.entry (λ n. HasEncodableSize n.now)) self.old self.new result }
+    /// ```
+    pub fn function(&mut self, flags: u32, index: u32, name: Option<&str>) -> Result<()> {
+        self.indexed(SymbolKind::Function, flags, index, name)
+    }
+
+    /// Adds a global. It has a name in the same cases as in `function`.
+    ///
+    /// # Proved
+    ///
+    /// ```text
+    /// ensures { Adds (indexed_encoding kinds.Global flags index (optional_encoding (λ n. size_prefixed_encoding n.now) name.entry)) (IfSome name.entry (λ n. HasEncodableSize n.now)) self.old self.new result }
+    /// ```
+    pub fn global(&mut self, flags: u32, index: u32, name: Option<&str>) -> Result<()> {
+        self.indexed(SymbolKind::Global, flags, index, name)
+    }
+
+    /// Adds a tag. It has a name in the same cases as in `function`.
+    ///
+    /// # Proved
+    ///
+    /// ```text
+    /// ensures { Adds (indexed_encoding kinds.Tag flags index (optional_encoding (λ n. size_prefixed_encoding n.now) name.entry)) (IfSome name.entry (λ n. HasEncodableSize n.now)) self.old self.new result }
+    /// ```
+    pub fn tag(&mut self, flags: u32, index: u32, name: Option<&str>) -> Result<()> {
+        self.indexed(SymbolKind::Tag, flags, index, name)
+    }
+
+    /// Adds a table. It has a name in the same cases as in `function`.
+    ///
+    /// # Proved
+    ///
+    /// ```text
+    /// ensures { Adds (indexed_encoding kinds.Table flags index (optional_encoding (λ n. size_prefixed_encoding n.now) name.entry)) (IfSome name.entry (λ n. HasEncodableSize n.now)) self.old self.new result }
+    /// ```
+    pub fn table(&mut self, flags: u32, index: u32, name: Option<&str>) -> Result<()> {
+        self.indexed(SymbolKind::Table, flags, index, name)
+    }
+
+    /// Adds data. Data have a definition unless `flags` say that they are undefined. The call does
+    /// not check that `definition` agrees.
+    ///
+    /// # Proved
+    ///
+    /// ```text
+    /// ensures { Adds (of_data_encoding flags name.now (optional_encoding definition_encoding definition)) (HasEncodableSize name.now) self.old self.new result }
+    /// ```
+    pub fn data(
+        &mut self,
+        flags: u32,
+        name: &str,
+        definition: Option<DataSymbolDefinition>,
+    ) -> Result<()> {
+        given_definition(definition);
+        self.add_record(&((0x01u8, flags), name, Optional(definition)))
+    }
+
+    /// Adds the section of this index in the module.
+    ///
+    /// # Proved
+    ///
+    /// ```text
+    /// ensures { Adds (of_section_encoding flags section) ⊤ self.old self.new result }
+    /// ```
+    pub fn section(&mut self, flags: u32, section: u32) -> Result<()> {
+        self.add_record(&(0x03u8, flags, section))
+    }
+}

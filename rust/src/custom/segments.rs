@@ -1,0 +1,102 @@
+// Written by tools/to-rust from crates/wasm_custom/src/segments.rt: change that.
+// The segment information of a linking section: its builder, its reader and its minimizer.
+
+use crate::vec::Sink;
+use crate::custom::lists::{CountedList, ListKind};
+use crate::alloc::{Allocator, Global};
+use crate::base::{DecodeError, Grammar, Layout, Readable, Result, Shorten};
+
+/// The segments of a module, in the order in which they are added, which is that of the data
+/// section. They are encoded as subsection 5 of a linking section.
+///
+/// ```
+/// # use dolzhytik::{fallible::*, reader::*};
+/// # fn example(alloc: Global) -> Result<(), Box<dyn std::error::Error>> {
+/// let mut segments = SegmentInfos::new(alloc);
+/// segments.segment(".rodata.greeting", 0, 0)?;
+/// # Ok(())
+/// # }
+/// # example(Global).unwrap();
+/// ```
+pub type SegmentInfos<A = Global> = CountedList<SegmentMembers, A>;
+
+/// The kind of the members of a list of segments.
+#[derive(Clone, Copy, Debug)]
+pub struct SegmentMembers;
+
+/// # Defined
+///
+/// ```text
+/// Member = { SegmentModel }
+/// member_encoding = { segment_encoding }
+/// is_member = { IsSegment }
+/// subsection = { Some 5 }
+/// ```
+impl ListKind for SegmentMembers {
+    fn subsection() -> Option<u8> {
+        Some(5)
+    }
+}
+
+impl<A: Allocator> SegmentInfos<A> {
+    /// Adds a segment. Its alignment is 2 to the power `alignment`, in bytes.
+    ///
+    /// # Proved
+    ///
+    /// ```text
+    /// ensures { Adds (size_prefixed_encoding name.now ++ (unsigned_encoding alignment ++ unsigned_encoding flags)) (HasEncodableSize name.now) self.old self.new result }
+    /// ```
+    pub fn segment(&mut self, name: &str, alignment: u32, flags: u32) -> Result<()> {
+        self.add_record(&(name, alignment, flags))
+    }
+}
+
+/// The name, the alignment and the flags of a data segment, for a linker. The segments of a module
+/// are listed in the order of its data section.
+#[derive(Clone, Copy, Debug)]
+pub struct SegmentInfo<'a> {
+    pub name: &'a str,
+    /// The exponent of the alignment: 2 to this power is the alignment in bytes.
+    pub alignment: u32,
+    pub flags: u32,
+}
+
+/// # Defined
+///
+/// ```text
+/// Value = { SegmentModel }
+/// format = { segment }
+/// view = { segment_view }
+/// ```
+impl<'a> Layout for SegmentInfo<'a> {
+    /// # Proved
+    ///
+    /// ```text
+    /// ensures { Unambiguous segment }
+    /// ```
+    fn laws() {}
+}
+
+impl<'a, A: Allocator + Copy, G: Grammar> Readable<'a, A, G> for SegmentInfo<'a> {
+    fn read(bytes: &'a [u8], alloc: A) -> Result<(SegmentInfo<'a>, &'a [u8]), DecodeError> {
+        let ((name, (alignment, flags)), rest) = <(&'a str, (u32, u32)) as Readable<
+            'a,
+            A,
+            G,
+        >>::read(bytes, alloc)?;
+        let segment = SegmentInfo {
+            name,
+            alignment,
+            flags,
+        };
+        Ok((segment, rest))
+    }
+}
+
+impl<'a> Shorten for SegmentInfo<'a> {
+    fn write_minimal<B: Sink>(&self, sink: &mut B) -> Result<()> {
+        self.name.write_minimal(sink)?;
+        self.alignment.write_minimal(sink)?;
+        self.flags.write_minimal(sink)
+    }
+}

@@ -1,0 +1,21 @@
+// Written by tools/to-rust from crates/wasm_custom/src/standard.rt: change that.
+// Cases that only the standard's grammar has.
+
+use crate::base::{DecodeError, Grammar, ReadFault};
+
+/// Returns an error unless the grammar is the standard's. The place of the error is the byte just
+/// before `rest`, which selects the case.
+///
+/// # Proved
+///
+/// ```text
+/// ensures found { IfOk result (λ _. is_admitted G.grammar ≡ true) }
+/// ensures none { IfErr result (λ _. is_admitted G.grammar ≡ false) }
+/// ```
+pub(crate) fn require_standard<G: Grammar>(rest: &[u8]) -> Result<(), DecodeError> {
+    if G::is_standard() {
+        Ok(())
+    } else {
+        Err(ReadFault::UnknownTag.just_before(rest))
+    }
+}
