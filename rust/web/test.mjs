@@ -397,8 +397,16 @@ test('as many items as an outline counts, without gaps', async () => {
 // Errors.
 
 test('what is no module', () => {
-  const cause = "no module: it doesn't begin with 00 61 73 6d 01 00 00 00";
-  for (const bytes of [hex(''), hex('00'), hex('0061736d 0d000100'), ADD.subarray(1)]) {
+  const none = 'no module: it does not begin with 00 61 73 6d 01 00 00 00';
+  const causes = [
+    [hex(''), none],
+    [hex('00'), none],
+    [ADD.subarray(1), none],
+    [hex('0061736d 0d000100'), 'a component, and no module'],
+    [hex('0061736d 02000000'), 'a module of version 2, and not 1'],
+    [new TextEncoder().encode('(module)'), 'text, and no binary module'],
+  ];
+  for (const [bytes, cause] of causes) {
     for (const call of [outline, list, minimize, (module) => items(module, 0)]) {
       checkError(() => call(bytes), cause, cause, { offset: 0 });
     }

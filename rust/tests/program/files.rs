@@ -2,6 +2,7 @@
 use crate::program::{Answer, Folder};
 use crate::samples::{PADDED, SHORT, module};
 use std::fs;
+use std::process::Command;
 
 /// The system's error for a file that does not exist. Windows has another error if the folder of
 /// the file does not exist either.
@@ -141,4 +142,19 @@ fn a_full_device_is_told() {
     let fault = folder.call(&["shorten", "a.wasm", "-o", "/dev/full"], b"");
     let error = fs::write("/dev/full", b"a").unwrap_err();
     assert_eq!(fault, Answer::fault(&format!("/dev/full: {error}")));
+}
+
+#[test]
+fn outputs_that_nobody_reads() {
+    let folder = Folder::new("closed");
+    folder.write("a.wasm", module(&PADDED));
+    let (reader, writer) = std::io::pipe().unwrap();
+    drop(reader);
+    let mut command = Command::new(env!("CARGO_BIN_EXE_dolzhytik"));
+    command
+        .args(["outline", "a.wasm"])
+        .current_dir(folder.path(""));
+    let output = command.stdout(writer).output().unwrap();
+    assert!(output.status.success());
+    assert_eq!(output.stderr, b"");
 }

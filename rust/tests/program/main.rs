@@ -6,4 +6,6 @@ mod program;
 #[path = "../modules/samples.rs"]
 mod samples;
 mod shorten;
+mod size;
+mod strip;
 mod usage;

@@ -78,13 +78,37 @@ fn faults() {
         let fault = folder.call(&["outline", "-"], bytes);
         assert_eq!(fault, Answer::fault(&format!("standard input: {why}")));
     };
-    let no_header = "no module: it doesn't begin with 00 61 73 6d 01 00 00 00";
+    let no_header = "no module: it does not begin with 00 61 73 6d 01 00 00 00";
     check(b"", no_header);
-    check(b"(module)", no_header);
-    check(&bytes_of("0061736d0d000100"), no_header);
+    check(b"\0asm\x01\0\0", no_header);
+    check(b"\x7fELF", no_header);
+    check(&bytes_of("0061736d0d000100"), "a component, and no module");
+    check(
+        &bytes_of("0061736d02000000"),
+        "a module of version 2, and not 1",
+    );
+    check(b" \n(module)", "text, and no binary module");
+    check(b";; a module", "text, and no binary module");
     let ended = "section 2: the bytes end before it does";
     check(&module(&[PADDED[0], "03 03 01 00"]), ended);
     let too_large = "section 1: its size takes more than 32 bits, or five bytes";
     check(&module(&["03 808080808000"]), too_large);
     check(&module(&["03 ffffffff1f"]), too_large);
+}
+
+#[test]
+fn json() {
+    let folder = Folder::new("outline_json");
+    let check = |sections: &[&str], text: &str| {
+        folder.write("a.wasm", module(sections));
+        let answer = folder.call(&["outline", "--json", "a.wasm"], b"");
+        assert_eq!(answer, Answer::of(text));
+    };
+    check(&[], "[]\n");
+    let lines = r#"[
+  {"section": 1, "id": 1, "kind": "type", "name": null, "offset": 14, "size": 7, "items": 1},
+  {"section": 2, "id": 0, "kind": "custom", "name": "a\"\\\u000a\u007fé", "offset": 23, "size": 8, "items": null}
+]
+"#;
+    check(&[PADDED[0], &custom("a\"\\\n\u{7f}\u{e9}", "")], lines);
 }

@@ -4,6 +4,7 @@ use std::fs;
 use std::io::Write;
 use std::path::PathBuf;
 use std::process::{self, Command, Stdio};
+use std::sync::atomic::{AtomicUsize, Ordering};
 
 /// What the program wrote, and its status.
 #[derive(PartialEq, Eq, Debug)]
@@ -52,7 +53,9 @@ impl Drop for Folder {
 
 impl Folder {
     pub fn new(name: &str) -> Self {
-        let own = format!("dolzhytik-{}-{name}", process::id());
+        static FOLDERS: AtomicUsize = AtomicUsize::new(0);
+        let number = FOLDERS.fetch_add(1, Ordering::Relaxed);
+        let own = format!("dolzhytik-{}-{number}-{name}", process::id());
         let folder = env::temp_dir().join(own);
         fs::create_dir(&folder).unwrap();
         Folder(folder)

@@ -103,7 +103,7 @@ fn faults() {
     };
     check(
         b"\0asm",
-        "no module: it doesn't begin with 00 61 73 6d 01 00 00 00",
+        "no module: it does not begin with 00 61 73 6d 01 00 00 00",
     );
     let ended = module(&[PADDED[0], "03 03 01 00"]);
     check(&ended, "section 2: the bytes end before it does");

@@ -2,7 +2,9 @@
 use crate::program::{Answer, Folder};
 
 const USAGE: &str = "\
-usage: dolzhytik outline FILE
+usage: dolzhytik outline FILE [--json]
+       dolzhytik size FILE [--functions N] [--json]
+       dolzhytik strip FILE [--all | --debug | NAME..] [--keep NAME].. -o FILE
        dolzhytik shorten FILE -o FILE [--drop-offsets]
        dolzhytik build RECIPE -o FILE
        dolzhytik --help | --version
@@ -27,26 +29,56 @@ fn errors() {
     check(&["shortn", "a"], "no such command: shortn");
     check(&["-"], "no such command: -");
     check(&["outline", "--hex", "a"], "no such option: --hex");
-    check(&["shorten", "a", "-ob"], "no such option: -ob");
-    check(&["shorten", "a", "-o"], "no file behind -o");
-    check(&["build", "a", "--output"], "no file behind -o");
+    check(&["outline", "a", "--help=b"], "no such option: --help=b");
+    check(&["strip", "a", "--all=b"], "no such option: --all=b");
+    check(&["shorten", "a", "-o"], "-o needs a value");
+    check(&["build", "a", "--output"], "-o needs a value");
+    check(&["strip", "a", "-ob", "--keep"], "--keep needs a value");
     let twice = ["shorten", "a", "-o", "b", "--output=c"];
-    check(&twice, "-o more than once");
-    check(&["outline"], "outline wants a file");
-    check(&["shorten", "-o", "b"], "shorten wants a file");
-    check(&["build", "-o", "b"], "build wants a file");
-    check(&["shorten", "a"], "shorten wants -o FILE");
-    check(&["build", "a"], "build wants -o FILE");
-    check(&["outline", "a", "b"], "a word too many: b");
-    check(&["shorten", "a", "b", "-o", "c"], "a word too many: b");
-    check(&["build", "a", "b", "-o", "c"], "a word too many: b");
+    check(&twice, "-o is given twice");
+    let twice = ["size", "a", "--functions", "1", "--functions", "2"];
+    check(&twice, "--functions is given twice");
+    check(&["size", "a", "--functions", "x"], "not a number: x");
+    check(&["size", "a", "--functions=-1"], "not a number: -1");
+}
+
+#[test]
+fn missing_and_unexpected_arguments() {
+    for command in ["outline", "size"] {
+        check(&[command], &format!("{command} needs a file"));
+    }
+    for command in ["strip", "shorten", "build"] {
+        check(&[command, "-ob"], &format!("{command} needs a file"));
+        check(&[command, "a"], &format!("{command} needs -o FILE"));
+    }
+    check(&["outline", "a", "b"], "unexpected argument: b");
+    check(&["size", "a", "b"], "unexpected argument: b");
+    check(&["shorten", "a", "b", "-o", "c"], "unexpected argument: b");
+    check(&["build", "a", "b", "-o", "c"], "unexpected argument: b");
+    // After `--` there are no options.
+    check(&["outline", "--", "a", "-h"], "unexpected argument: -h");
+}
+
+#[test]
+fn options_of_other_commands() {
     check(&["outline", "a", "-o", "b"], "outline takes no -o");
+    check(&["size", "a", "-ob"], "size takes no -o");
+    let json = ["strip", "a", "-ob", "--json"];
+    check(&json, "strip takes no --json");
     let dropped = ["outline", "a", "--drop-offsets"];
     check(&dropped, "outline takes no --drop-offsets");
     let dropped = ["build", "a", "-o", "b", "--drop-offsets"];
     check(&dropped, "build takes no --drop-offsets");
-    // Behind `--` stand no options.
-    check(&["outline", "--", "a", "-h"], "a word too many: -h");
+    let kept = ["shorten", "a", "-o", "b", "--keep", "c"];
+    check(&kept, "shorten takes no --keep");
+    check(&["size", "a", "--all"], "size takes no --all");
+    check(&["outline", "a", "--debug"], "outline takes no --debug");
+    let functions = ["strip", "a", "-o", "b", "--functions=1"];
+    check(&functions, "strip takes no --functions");
+    let two = "strip takes only one of --all, --debug and names";
+    check(&["strip", "a", "-ob", "--all", "--debug"], two);
+    check(&["strip", "a", "-ob", "--all", "c"], two);
+    check(&["strip", "a", "c", "--debug", "-ob"], two);
 }
 
 #[test]
@@ -66,16 +98,21 @@ fn help() {
     assert!(text.starts_with(USAGE));
     for line in [
         "outline   ",
+        "size   ",
+        "strip   ",
         "shorten   ",
         "build   ",
         "-o FILE, --output FILE ",
+        "--functions N ",
+        "--keep NAME ",
+        "--json ",
         "--drop-offsets ",
     ] {
         assert!(text.contains(&format!("\n{line}")), "{line}");
     }
     assert!(text.ends_with("not proved on this machine.\n"));
     assert_eq!(help, Answer::of(text));
-    for words in [&["-h"][..], &["shorten", "--help"]] {
+    for words in [&["-h"][..], &["shorten", "--help"], &["help"]] {
         assert_eq!(folder.call(words, b""), help);
     }
 }

@@ -26,7 +26,7 @@ pub fn at<'a>(module: &[u8], number: usize, cause: Cause<'a>) -> Failure<'a> {
 
 pub fn no_module<'a>(module: &[u8], number: usize, fault: ReadFault) -> Failure<'a> {
     let cause = match number {
-        0 => Cause::header(fault),
+        0 => Cause::header(module, fault),
         _ => Cause::section(fault),
     };
     at(module, number, cause)
@@ -67,7 +67,7 @@ fn name_of(section: Section<'_>) -> Option<&str> {
 /// The sections of a module, each of which decodes.
 pub fn list(module: &[u8]) -> Answer<'_> {
     let listed = list_module(Global, module).map_err(|(number, fault)| match number {
-        0 => at(module, 0, Cause::header(fault)),
+        0 => at(module, 0, Cause::header(module, fault)),
         _ => at(module, number, Cause::items(fault)),
     })?;
     let mut block = Block::new(DONE)?;

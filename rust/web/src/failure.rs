@@ -2,6 +2,7 @@
 #![forbid(unsafe_code)]
 
 use crate::block::Block;
+use crate::found::Found;
 use core::fmt;
 use dolzhytik::fallible::recipe::{RecipeCause, RecipeFault};
 use dolzhytik::fallible::{AllocError, Vec};
@@ -14,7 +15,7 @@ const FAILED: u32 = 1;
 pub enum Cause<'a> {
     Memory,
     /// The bytes do not begin with the header.
-    NoHeader,
+    NoHeader(Found),
     /// The module ends in a section, or a section's size is no number.
     NoSection(ReadFault),
     /// The payload of a section does not decode.
@@ -26,10 +27,10 @@ pub enum Cause<'a> {
 }
 
 impl Cause<'_> {
-    pub fn header(fault: ReadFault) -> Self {
+    pub fn header(module: &[u8], fault: ReadFault) -> Self {
         match fault {
             ReadFault::Memory => Cause::Memory,
-            _ => Cause::NoHeader,
+            _ => Cause::NoHeader(Found::at_front(module)),
         }
     }
 
@@ -52,9 +53,7 @@ impl fmt::Display for Cause<'_> {
     fn fmt(&self, f: &mut fmt::Formatter<'_>) -> fmt::Result {
         match self {
             Cause::Memory => AllocError.fmt(f),
-            Cause::NoHeader => {
-                f.write_str("no module: it doesn't begin with 00 61 73 6d 01 00 00 00")
-            }
+            Cause::NoHeader(found) => found.fmt(f),
             Cause::NoSection(ReadFault::Ended) => f.write_str("the bytes end before it does"),
             Cause::NoSection(ReadFault::TooLarge) => {
                 f.write_str("its size takes more than 32 bits, or five bytes")

@@ -6,6 +6,8 @@
 mod answers;
 mod block;
 mod failure;
+#[path = "../../src/bin/dolzhytik/found.rs"]
+mod found;
 mod heap;
 mod items;
 mod read;

@@ -16,7 +16,6 @@ from .outlines import line_of, row_of, rows_of
 # How often each module is damaged, and how many recipes are assembled.
 DAMAGES = 40
 RECIPES = 200
-NO_HEADER = "no module: it doesn't begin with 00 61 73 6d 01 00 00 00"
 
 
 def same(call: object, path: pathlib.Path, first: object, second: object) -> bool:
@@ -76,7 +75,8 @@ class Both:
             return same('list', path, ''.join(line_of(section) for section in answer.get('result', [])), done.stdout.decode())
         message = done.stderr.decode().removesuffix('\n')
         if message.startswith('section 0: '):
-            return same('list', path, answer, {'message': NO_HEADER})
+            # `dolzhytik` has the message of the package.
+            message = self.of_program(path, 'outline', path)[1]
         return same('list', path, answer, {'message': message})
 
     def written(self, path: pathlib.Path, request: dict, words: tuple[str, ...]) -> bool:

@@ -1,22 +1,36 @@
 //! What the program does.
 use crate::failure::Failure;
 use crate::files::{Input, Output};
+use crate::json;
 use crate::progress::Progress;
-use crate::words::{Command, HELP, USAGE};
+use crate::sections::{Section, no_module, sections_of};
+use crate::sizes::Sizes;
+use crate::strip::{self, Choice, Stripped};
+use crate::words::{Command, Format, HELP, USAGE};
 use dolzhytik::fallible::recipe::assemble;
 use dolzhytik::fallible::{self, Global};
-use dolzhytik::reader::{ModuleFault, Offsets, Outlined, ReadFault, outline, shorten_module};
+use dolzhytik::reader::{ModuleFault, Offsets, shorten_module};
 use std::io::{self, Write};
 
 /// Does what was asked for.
 pub fn run(command: Command) -> Result<(), Failure> {
     match command {
-        Command::Outline { input } => show_outline(&input),
+        Command::Outline { input, format } => show_outline(&input, format),
         Command::Shorten {
             input,
             output,
             offsets,
         } => shorten(&input, &output, offsets),
+        Command::Size {
+            input,
+            functions,
+            format,
+        } => show_sizes(&input, functions, format),
+        Command::Strip {
+            input,
+            output,
+            choice,
+        } => write_stripped(&input, &output, &choice),
         Command::Build { recipe, output } => build(&recipe, &output),
         Command::Help => print(&format!("{USAGE}{HELP}")),
         Command::Version => print(concat!("dolzhytik ", env!("CARGO_PKG_VERSION"), "\n")),
@@ -29,64 +43,68 @@ fn print(text: &str) -> Result<(), Failure> {
 
 // ---- outlines
 
-/// The name of a section of the id, as the standard has it.
-fn section_name(id: u8) -> &'static str {
-    match id {
-        0 => "custom",
-        1 => "type",
-        2 => "import",
-        3 => "function",
-        4 => "table",
-        5 => "memory",
-        6 => "global",
-        7 => "export",
-        8 => "start",
-        9 => "element",
-        10 => "code",
-        11 => "data",
-        12 => "data count",
-        13 => "tag",
-        _ => "unknown",
-    }
-}
-
-/// The line of the section with the number.
-fn table_line((number, section): (usize, &Outlined<'_>)) -> String {
+/// The line of a section.
+fn table_line(section: &Section<'_>) -> String {
     let items = section.items.map_or("-".into(), |items| items.to_string());
-    let name = section
-        .name
-        .map_or(String::new(), |name| format!(" {name:?}"));
     format!(
-        "{number:>7} {:>3} {:>#10x} {:>10} {items:>10}  {}{name}\n",
+        "{:>7} {:>3} {:>#10x} {:>10} {items:>10}  {section}\n",
+        section.number,
         section.id,
         section.offset,
-        section.size,
-        section_name(section.id),
+        section.payload.len(),
     )
 }
 
 /// Prints a line for each section.
-fn show_outline(input: &Input) -> Result<(), Failure> {
+fn show_outline(input: &Input, format: Format) -> Result<(), Failure> {
     let bytes = input.read()?;
     let progress = Progress::of(bytes.len());
     progress.begin("reading");
-    let sections = outlined(input, &bytes)?;
+    let sections = sections_of(input, &bytes)?;
     drop(progress);
-    let head = "section  id     offset       size      items  name\n";
-    let lines: String = (1..).zip(sections.iter()).map(table_line).collect();
-    print(&format!("{head}{lines}"))
-}
-
-fn outlined<'a>(input: &Input, bytes: &'a [u8]) -> Result<fallible::Vec<Outlined<'a>>, Failure> {
-    outline(Global, bytes).map_err(|(number, fault)| no_module(input, number, fault))
-}
-
-fn no_module(input: &Input, number: usize, fault: ReadFault) -> Failure {
-    Failure::NoModule {
-        input: input.clone(),
-        number,
-        fault,
+    match format {
+        Format::Json => print(&json::outline(&sections)),
+        Format::Table => {
+            let head = "section  id     offset       size      items  name\n";
+            let lines: String = sections.iter().map(table_line).collect();
+            print(&format!("{head}{lines}"))
+        }
     }
+}
+
+// ---- sizes
+
+/// Prints the sizes of the sections, and of so many functions.
+fn show_sizes(input: &Input, functions: usize, format: Format) -> Result<(), Failure> {
+    let bytes = input.read()?;
+    let progress = Progress::of(bytes.len());
+    progress.begin("reading");
+    let sizes = Sizes::of(input, &bytes, functions)?;
+    drop(progress);
+    match format {
+        Format::Json => print(&json::sizes(&sizes)),
+        Format::Table => print(&sizes.to_string()),
+    }
+}
+
+// ---- custom sections
+
+/// Writes the module without the sections of the choice, and prints how many these were.
+fn write_stripped(input: &Input, output: &Output, choice: &Choice) -> Result<(), Failure> {
+    let bytes = input.read()?;
+    let progress = Progress::of(bytes.len());
+    progress.begin("reading");
+    let Stripped { module, removed } = strip::strip(input, &bytes, choice)?;
+    progress.begin("writing");
+    output.write(&module)?;
+    drop(progress);
+    let (before, after) = (bytes.len(), module.len());
+    // The module is written, whether or not this can be.
+    let _ = writeln!(
+        io::stderr(),
+        "dolzhytik: {input}: {before} bytes before, {after} after; sections removed: {removed}"
+    );
+    Ok(())
 }
 
 // ---- shortening
@@ -94,8 +112,8 @@ fn no_module(input: &Input, number: usize, fault: ReadFault) -> Failure {
 /// Why the module is not shortened: a section that holds offsets is named as an outline has it.
 fn why_not(input: &Input, bytes: &[u8], fault: ModuleFault) -> Failure {
     match fault {
-        ModuleFault::Section { number, fault } => no_module(input, number, fault),
-        ModuleFault::Offsets { number } => match outlined(input, bytes) {
+        ModuleFault::Section { number, fault } => no_module(input, bytes, number, fault),
+        ModuleFault::Offsets { number } => match sections_of(input, bytes) {
             Ok(sections) => Failure::Offsets {
                 input: input.clone(),
                 number,
@@ -108,7 +126,7 @@ fn why_not(input: &Input, bytes: &[u8], fault: ModuleFault) -> Failure {
 
 /// How many sections of the module are not in the one that was made of it.
 fn count_left_out(input: &Input, bytes: &[u8], shortened: &[u8]) -> Result<usize, Failure> {
-    Ok(outlined(input, bytes)?.len() - outlined(input, shortened)?.len())
+    Ok(sections_of(input, bytes)?.len() - sections_of(input, shortened)?.len())
 }
 
 /// Writes the module in its fewest bytes, and tells what that came to.

@@ -1,5 +1,6 @@
 //! Why there is no answer, and how that is told.
 use crate::files::{Input, Output};
+use crate::found::Found;
 use crate::words::{USAGE, Usage};
 use dolzhytik::fallible::AllocError;
 use dolzhytik::fallible::recipe::RecipeFault;
@@ -18,7 +19,12 @@ pub enum Failure {
         output: Output,
         error: io::Error,
     },
-    /// A section of the module is none, with this number, or the header for 0.
+    /// The file does not begin with the header of a module.
+    NoHeader {
+        input: Input,
+        found: Found,
+    },
+    /// The section of this number is none.
     NoModule {
         input: Input,
         number: usize,
@@ -29,6 +35,22 @@ pub enum Failure {
         input: Input,
         number: usize,
         name: String,
+    },
+    /// A section holds indices or offsets that would no longer be right.
+    References {
+        input: Input,
+        number: usize,
+        name: String,
+    },
+    /// A section does not decode.
+    Section {
+        input: Input,
+        number: usize,
+        /// What an outline calls it.
+        section: String,
+        /// Where in the module, in bytes.
+        offset: usize,
+        fault: ReadFault,
     },
     /// A line of the recipe is no text.
     NotText {
@@ -42,6 +64,14 @@ pub enum Failure {
 }
 
 impl Failure {
+    /// Whether nobody reads what was to be printed.
+    pub fn is_closed_pipe(&self) -> bool {
+        matches!(
+            self,
+            Failure::Unwritten { output: Output::Standard, error } if error.kind() == io::ErrorKind::BrokenPipe
+        )
+    }
+
     /// The exit status.
     pub fn status(&self) -> u8 {
         match self {
@@ -61,25 +91,18 @@ fn section_fault(fault: ReadFault) -> String {
     }
 }
 
-/// Why the bytes begin with no header, or why that is not known.
-fn header_fault(fault: ReadFault) -> String {
-    match fault {
-        ReadFault::Memory => AllocError.to_string(),
-        _ => "no module: it doesn't begin with 00 61 73 6d 01 00 00 00".into(),
-    }
-}
-
 impl fmt::Display for Failure {
     fn fmt(&self, f: &mut fmt::Formatter<'_>) -> fmt::Result {
         match self {
             Failure::Usage(usage) => write!(f, "{usage}\n{}", USAGE.trim_end()),
             Failure::Unread { input, error } => write!(f, "{input}: {error}"),
             Failure::Unwritten { output, error } => write!(f, "{output}: {error}"),
+            Failure::NoHeader { input, found } => write!(f, "{input}: {found}"),
             Failure::NoModule {
                 input,
                 number: 0,
                 fault,
-            } => write!(f, "{input}: {}", header_fault(*fault)),
+            } => write!(f, "{input}: {}", section_fault(*fault)),
             Failure::NoModule {
                 input,
                 number,
@@ -93,6 +116,26 @@ impl fmt::Display for Failure {
                 f,
                 "{input}: section {number}, {name:?}, holds offsets that would no longer lead where they do; \
                  --drop-offsets leaves such sections out"
+            ),
+            Failure::References {
+                input,
+                number,
+                name,
+            } => write!(
+                f,
+                "{input}: section {number}, {name:?}, holds section indices or offsets that would no longer be right; \
+                 strip it too"
+            ),
+            Failure::Section {
+                input,
+                number,
+                section,
+                offset,
+                fault,
+            } => write!(
+                f,
+                "{input}: section {number} ({section}) at offset {offset:#x}: {}",
+                section_fault(*fault)
             ),
             Failure::NotText { recipe, line } => write!(f, "{recipe}: line {line}: not UTF-8"),
             Failure::Recipe {

@@ -1,51 +1,76 @@
 //! The words after the program's name, and what they ask for.
 use crate::files::{Input, Output};
+use crate::strip::{Choice, Selection};
 use dolzhytik::reader::Offsets;
 use std::ffi::OsString;
 use std::fmt;
 
 /// How the program is called, in short.
 pub const USAGE: &str = "\
-usage: dolzhytik outline FILE
+usage: dolzhytik outline FILE [--json]
+       dolzhytik size FILE [--functions N] [--json]
+       dolzhytik strip FILE [--all | --debug | NAME..] [--keep NAME].. -o FILE
        dolzhytik shorten FILE -o FILE [--drop-offsets]
        dolzhytik build RECIPE -o FILE
        dolzhytik --help | --version
 ";
 
-/// What `--help` says behind that.
+/// What `--help` prints after that.
 pub const HELP: &str = "
-outline   prints a line for each section of a module: its number, id, offset, size and number of items, and what
-          it is called. The offset, in hexadecimal, is the place in the file of what the section's frame holds, and
-          the size, in decimal, how many bytes that has. Items are - where the section is not read as its kind, in
-          custom sections and in those of ids past 13. Of a type section they are its entries: a recursion group
-          is one.
-shorten   writes the module with each section in its fewest bytes. A section that is not read as its kind is kept,
-          byte for byte.
+outline   prints a line for each section of a module: its number, id, offset, size, number of items, and name. The
+          offset is that of the payload in the file, in hexadecimal, and the size is that of the payload in bytes.
+          There is a - for items if the section does not decode, in custom sections, and in those of ids past 13.
+          Those of a type section are its entries: a recursion group is one.
+size      prints the size of each section in bytes and in percent, the largest first, and of the largest functions.
+strip     writes the module without its custom sections: all, or with --debug those of DWARF, or those of the names.
+          It fails if a section that stays refers to sections that would be gone or elsewhere.
+shorten   writes the module with each section in its minimal encoding. A section that does not decode is copied.
 build     writes the module of a recipe, a text.
 
--o FILE, --output FILE   where the module goes. The file is replaced as a whole, or not at all; it may be the input.
---drop-offsets           leaves out the custom sections that hold offsets: linking, reloc.*, .debug_*,
-                         metadata.code.*, external_debug_info, build_id, sourceMappingURL. Without it a module is
-                         refused where offsets in one of them would no longer lead where they do.
+-o FILE, --output FILE   the module that is written. The file is replaced as a whole, or not at all; it may be the input.
+--functions N            how many functions size prints, by default none.
+--keep NAME              a custom section that stays. There may be several.
+--json                   prints JSON, for other programs, with offsets and sizes in decimal.
+--drop-offsets           drops the custom sections that hold offsets: linking, reloc.*, .debug_*, metadata.code.*,
+                         external_debug_info, build_id, sourceMappingURL. Without it, shorten fails if offsets in
+                         one of them would no longer be right.
 -h, --help               prints this.
 -V, --version            prints the version.
 
-In place of a file, - is standard input or standard output. The status is 0, 1 where there is no answer, and 2 for
-other words than these.
+A file - is standard input or standard output. The status is 0 for success, 1 for an error, and 2 for wrong arguments.
 
 Compiled by rustc from the proved source, and not proved on this machine.
 ";
+
+/// How answers are printed.
+#[derive(Clone, Copy, PartialEq, Eq, Debug)]
+pub enum Format {
+    Table,
+    Json,
+}
 
 /// What the program is asked for.
 #[derive(PartialEq, Eq, Debug)]
 pub enum Command {
     Outline {
         input: Input,
+        format: Format,
     },
     Shorten {
         input: Input,
         output: Output,
         offsets: Offsets,
+    },
+    Size {
+        input: Input,
+        /// How many functions to list.
+        functions: usize,
+        format: Format,
+    },
+    Strip {
+        input: Input,
+        output: Output,
+        choice: Choice,
     },
     Build {
         recipe: Input,
@@ -61,9 +86,14 @@ pub enum Usage {
     NoCommand,
     UnknownCommand(OsString),
     UnknownOption(OsString),
-    /// Behind `-o` stands no file.
-    NoFileBehind,
-    OutputTwice,
+    /// No word follows this option, which needs one.
+    NoValueOf(&'static str),
+    /// The option is given twice.
+    Twice(&'static str),
+    NotANumber(OsString),
+    NotUtf8(OsString),
+    /// Two of `--all`, `--debug` and names are given.
+    TwoSelections,
     NoInput(&'static str),
     NoOutput(&'static str),
     WordTooMany(OsString),
@@ -79,114 +109,256 @@ impl fmt::Display for Usage {
             Usage::NoCommand => write!(f, "no command"),
             Usage::UnknownCommand(word) => write!(f, "no such command: {}", word.display()),
             Usage::UnknownOption(word) => write!(f, "no such option: {}", word.display()),
-            Usage::NoFileBehind => write!(f, "no file behind -o"),
-            Usage::OutputTwice => write!(f, "-o more than once"),
-            Usage::NoInput(command) => write!(f, "{command} wants a file"),
-            Usage::NoOutput(command) => write!(f, "{command} wants -o FILE"),
-            Usage::WordTooMany(word) => write!(f, "a word too many: {}", word.display()),
+            Usage::NoValueOf(option) => write!(f, "{option} needs a value"),
+            Usage::Twice(option) => write!(f, "{option} is given twice"),
+            Usage::NotANumber(word) => write!(f, "not a number: {}", word.display()),
+            Usage::NotUtf8(word) => write!(f, "not UTF-8: {}", word.display()),
+            Usage::TwoSelections => write!(f, "strip takes only one of --all, --debug and names"),
+            Usage::NoInput(command) => write!(f, "{command} needs a file"),
+            Usage::NoOutput(command) => write!(f, "{command} needs -o FILE"),
+            Usage::WordTooMany(word) => write!(f, "unexpected argument: {}", word.display()),
             Usage::NoOptionOf { command, option } => write!(f, "{command} takes no {option}"),
         }
     }
 }
 
-/// The words, apart from the options.
+/// The options, with the words that follow them.
 #[derive(Default)]
-struct Given {
-    words: Vec<OsString>,
+struct Options {
     output: Option<OsString>,
-    drops_offsets: bool,
+    functions: Option<OsString>,
+    keep: Vec<OsString>,
+    all: bool,
+    debug: bool,
+    drop_offsets: bool,
+    json: bool,
 }
 
-impl Given {
-    fn set_output(&mut self, word: OsString) -> Result<(), Usage> {
-        match self.output.replace(word) {
-            None => Ok(()),
-            Some(_) => Err(Usage::OutputTwice),
-        }
-    }
-
-    /// The input of the command, which is all that is left.
-    fn input(&mut self, command: &'static str) -> Result<Input, Usage> {
-        let mut words = self.words.drain(..);
-        let input = words.next().ok_or(Usage::NoInput(command))?;
-        match words.next() {
-            None => Ok(Input::from(input)),
-            Some(word) => Err(Usage::WordTooMany(word)),
-        }
-    }
-
-    fn output(self, command: &'static str) -> Result<Output, Usage> {
-        self.output
-            .map(Output::from)
-            .ok_or(Usage::NoOutput(command))
+impl Options {
+    /// The first option that is given and not in the list.
+    fn other_than(&self, taken: &[&str]) -> Option<&'static str> {
+        let given = [
+            ("-o", self.output.is_some()),
+            ("--functions", self.functions.is_some()),
+            ("--keep", !self.keep.is_empty()),
+            ("--all", self.all),
+            ("--debug", self.debug),
+            ("--drop-offsets", self.drop_offsets),
+            ("--json", self.json),
+        ];
+        let mut others = given
+            .into_iter()
+            .filter(|(option, is_given)| *is_given && !taken.contains(option));
+        others.next().map(|(option, _)| option)
     }
 
     fn offsets(&self) -> Offsets {
-        if self.drops_offsets {
+        if self.drop_offsets {
             Offsets::LeaveOut
         } else {
             Offsets::Refuse
         }
     }
 
-    /// Refuses options that the command doesn't take.
-    fn without(&self, command: &'static str, takes_output: bool) -> Result<(), Usage> {
-        let option = match self.output {
-            _ if self.drops_offsets => "--drop-offsets",
-            Some(_) if !takes_output => "-o",
-            _ => return Ok(()),
-        };
-        Err(Usage::NoOptionOf { command, option })
+    fn format(&self) -> Format {
+        if self.json {
+            Format::Json
+        } else {
+            Format::Table
+        }
     }
 
-    /// What is asked for by the first word.
-    fn command(mut self) -> Result<Command, Usage> {
-        if self.words.is_empty() {
-            return Err(Usage::NoCommand);
-        }
-        let word = self.words.remove(0);
-        match word.to_str() {
-            Some("outline") => {
-                self.without("outline", false)?;
-                let input = self.input("outline")?;
-                Ok(Command::Outline { input })
-            }
-            Some("shorten") => Ok(Command::Shorten {
-                input: self.input("shorten")?,
-                offsets: self.offsets(),
-                output: self.output("shorten")?,
-            }),
-            Some("build") => {
-                self.without("build", true)?;
-                Ok(Command::Build {
-                    recipe: self.input("build")?,
-                    output: self.output("build")?,
-                })
-            }
-            _ => Err(Usage::UnknownCommand(word)),
-        }
+    fn functions(&self) -> Result<usize, Usage> {
+        let Some(word) = &self.functions else {
+            return Ok(0);
+        };
+        let number = word.to_str().and_then(|word| word.parse().ok());
+        number.ok_or_else(|| Usage::NotANumber(word.clone()))
     }
 }
 
-/// What the words ask for. Options may stand anywhere, but behind `--`.
-pub fn read(mut words: impl Iterator<Item = OsString>) -> Result<Command, Usage> {
-    let mut given = Given::default();
-    while let Some(word) = words.next() {
-        match word.to_str() {
-            Some("-h" | "--help") => return Ok(Command::Help),
-            Some("-V" | "--version") => return Ok(Command::Version),
-            Some("--drop-offsets") => given.drops_offsets = true,
-            Some("-o" | "--output") => {
-                given.set_output(words.next().ok_or(Usage::NoFileBehind)?)?;
-            }
-            Some("--") => given.words.extend(words.by_ref()),
-            Some("-") | None => given.words.push(word),
-            Some(text) => match text.strip_prefix("--output=") {
-                Some(file) => given.set_output(file.into())?,
-                None if text.starts_with('-') => return Err(Usage::UnknownOption(word)),
-                None => given.words.push(word),
-            },
+/// Sets an option that is given once.
+fn set(option: &mut Option<OsString>, name: &'static str, word: OsString) -> Result<(), Usage> {
+    match option.replace(word) {
+        None => Ok(()),
+        Some(_) => Err(Usage::Twice(name)),
+    }
+}
+
+fn names(words: impl IntoIterator<Item = OsString>) -> Result<Vec<String>, Usage> {
+    let name = |word: OsString| word.into_string().map_err(Usage::NotUtf8);
+    words.into_iter().map(name).collect()
+}
+
+/// The words of a command, apart from the options.
+struct Words {
+    command: &'static str,
+    words: std::vec::IntoIter<OsString>,
+    options: Options,
+}
+
+impl Words {
+    /// Returns them, unless there is an option that the command does not take.
+    fn of(
+        command: &'static str,
+        words: Vec<OsString>,
+        options: Options,
+        taken: &[&str],
+    ) -> Result<Self, Usage> {
+        if let Some(option) = options.other_than(taken) {
+            return Err(Usage::NoOptionOf { command, option });
+        }
+        let words = words.into_iter();
+        Ok(Words {
+            command,
+            words,
+            options,
+        })
+    }
+
+    fn input(&mut self) -> Result<Input, Usage> {
+        let word = self.words.next().ok_or(Usage::NoInput(self.command))?;
+        Ok(Input::from(word))
+    }
+
+    /// Checks that there is no further word.
+    fn end(&mut self) -> Result<(), Usage> {
+        match self.words.next() {
+            None => Ok(()),
+            Some(word) => Err(Usage::WordTooMany(word)),
         }
     }
-    given.command()
+
+    fn output(&mut self) -> Result<Output, Usage> {
+        let output = self.options.output.take();
+        output
+            .map(Output::from)
+            .ok_or(Usage::NoOutput(self.command))
+    }
+
+    /// Which custom sections to remove and to keep.
+    fn choice(&mut self) -> Result<Choice, Usage> {
+        let named = names(self.words.by_ref())?;
+        let removed = match (self.options.all, self.options.debug, named.is_empty()) {
+            (_, false, true) => Selection::All,
+            (false, true, true) => Selection::Debug,
+            (false, false, false) => Selection::Named(named),
+            _ => return Err(Usage::TwoSelections),
+        };
+        let kept = names(self.options.keep.drain(..))?;
+        Ok(Choice { removed, kept })
+    }
+}
+
+fn outline(words: Vec<OsString>, options: Options) -> Result<Command, Usage> {
+    let mut words = Words::of("outline", words, options, &["--json"])?;
+    let input = words.input()?;
+    words.end()?;
+    let format = words.options.format();
+    Ok(Command::Outline { input, format })
+}
+
+fn size(words: Vec<OsString>, options: Options) -> Result<Command, Usage> {
+    let mut words = Words::of("size", words, options, &["--functions", "--json"])?;
+    let input = words.input()?;
+    words.end()?;
+    Ok(Command::Size {
+        input,
+        functions: words.options.functions()?,
+        format: words.options.format(),
+    })
+}
+
+fn strip(words: Vec<OsString>, options: Options) -> Result<Command, Usage> {
+    let taken = ["-o", "--keep", "--all", "--debug"];
+    let mut words = Words::of("strip", words, options, &taken)?;
+    Ok(Command::Strip {
+        input: words.input()?,
+        choice: words.choice()?,
+        output: words.output()?,
+    })
+}
+
+fn shorten(words: Vec<OsString>, options: Options) -> Result<Command, Usage> {
+    let mut words = Words::of("shorten", words, options, &["-o", "--drop-offsets"])?;
+    let input = words.input()?;
+    words.end()?;
+    let output = words.output()?;
+    let offsets = words.options.offsets();
+    Ok(Command::Shorten {
+        input,
+        output,
+        offsets,
+    })
+}
+
+fn build(words: Vec<OsString>, options: Options) -> Result<Command, Usage> {
+    let mut words = Words::of("build", words, options, &["-o"])?;
+    let recipe = words.input()?;
+    words.end()?;
+    let output = words.output()?;
+    Ok(Command::Build { recipe, output })
+}
+
+/// The command of the first word.
+fn command(mut words: Vec<OsString>, options: Options) -> Result<Command, Usage> {
+    if words.is_empty() {
+        return Err(Usage::NoCommand);
+    }
+    let word = words.remove(0);
+    match word.to_str() {
+        Some("outline") => outline(words, options),
+        Some("size") => size(words, options),
+        Some("strip") => strip(words, options),
+        Some("shorten") => shorten(words, options),
+        Some("build") => build(words, options),
+        Some("help") => Ok(Command::Help),
+        _ => Err(Usage::UnknownCommand(word)),
+    }
+}
+
+/// Splits an option from its value: `-oFILE`, `--output=FILE`.
+fn split(word: &str) -> (&str, Option<OsString>) {
+    match word.strip_prefix("-o") {
+        Some(value) if !value.is_empty() => ("-o", Some(value.into())),
+        _ => match word.split_once('=') {
+            Some((option, value)) => (option, Some(value.into())),
+            None => (word, None),
+        },
+    }
+}
+
+/// Reads what the words ask for. Options may be anywhere before `--`.
+pub fn read(mut words: impl Iterator<Item = OsString>) -> Result<Command, Usage> {
+    let (mut others, mut options) = (Vec::new(), Options::default());
+    while let Some(word) = words.next() {
+        let text = match word.to_str() {
+            Some("--") => {
+                others.extend(words.by_ref());
+                break;
+            }
+            Some(text) if text.starts_with('-') && text != "-" => text,
+            _ => {
+                others.push(word);
+                continue;
+            }
+        };
+        let (option, value) = split(text);
+        let value = |name| value.or_else(|| words.next()).ok_or(Usage::NoValueOf(name));
+        match (option, text == option) {
+            ("-o" | "--output", _) => set(&mut options.output, "-o", value("-o")?)?,
+            ("--functions", _) => {
+                set(&mut options.functions, "--functions", value("--functions")?)?
+            }
+            ("--keep", _) => options.keep.push(value("--keep")?),
+            ("--all", true) => options.all = true,
+            ("--debug", true) => options.debug = true,
+            ("--drop-offsets", true) => options.drop_offsets = true,
+            ("--json", true) => options.json = true,
+            ("-h" | "--help", true) => return Ok(Command::Help),
+            ("-V" | "--version", true) => return Ok(Command::Version),
+            _ => return Err(Usage::UnknownOption(word)),
+        }
+    }
+    command(others, options)
 }

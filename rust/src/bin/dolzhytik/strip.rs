@@ -1,0 +1,124 @@
+//! Removes custom sections.
+use crate::failure::Failure;
+use crate::files::Input;
+use crate::sections::{HEADER, Section, sections_of};
+use dolzhytik::fallible::Global;
+use dolzhytik::reader::{DecodeError, LinkItem, Readable, Standard, Symbol};
+
+/// Which custom sections to remove.
+#[derive(PartialEq, Eq, Debug)]
+pub enum Selection {
+    All,
+    /// DWARF, with its relocations.
+    Debug,
+    Named(Vec<String>),
+}
+
+/// What to remove, and what to keep in spite of that.
+#[derive(PartialEq, Eq, Debug)]
+pub struct Choice {
+    pub removed: Selection,
+    pub kept: Vec<String>,
+}
+
+impl Choice {
+    fn removes(&self, section: &Section<'_>) -> bool {
+        let name = section.name.unwrap_or_default();
+        section.id == 0
+            && !self.kept.iter().any(|kept| kept == name)
+            && match &self.removed {
+                Selection::All => true,
+                Selection::Debug => {
+                    name.starts_with(".debug_") || name.starts_with("reloc..debug_")
+                }
+                Selection::Named(names) => names.iter().any(|removed| removed == name),
+            }
+    }
+}
+
+/// A module without some sections.
+pub struct Stripped {
+    pub module: Vec<u8>,
+    /// How many sections are removed.
+    pub removed: usize,
+}
+
+/// Returns the module without the sections of the choice, unless sections that stay would no longer fit.
+pub fn strip(input: &Input, module: &[u8], choice: &Choice) -> Result<Stripped, Failure> {
+    let sections = sections_of(input, module)?;
+    let removed: Vec<bool> = sections
+        .iter()
+        .map(|section| choice.removes(section))
+        .collect();
+    let stay = || {
+        sections
+            .iter()
+            .zip(&removed)
+            .filter(|(_, removed)| !**removed)
+    };
+    if let Some((section, _)) = stay().find(|(section, _)| breaks(section, &sections, &removed)) {
+        return Err(Failure::References {
+            input: input.clone(),
+            number: section.number,
+            name: section.name.unwrap_or_default().into(),
+        });
+    }
+    let mut stripped = module[..HEADER].to_vec();
+    stay().for_each(|(section, _)| stripped.extend(section.bytes));
+    Ok(Stripped {
+        module: stripped,
+        removed: removed.iter().filter(|removed| **removed).count(),
+    })
+}
+
+/// Whether what the section refers to would be gone or elsewhere. The offsets of source maps count from the first byte of the module, those of DWARF and of relocations do not.
+fn breaks(section: &Section<'_>, sections: &[Section<'_>], removed: &[bool]) -> bool {
+    let first = removed.iter().position(|removed| *removed);
+    let Some(first) = first else {
+        return false;
+    };
+    match section.name {
+        Some("sourceMappingURL") => sections[first..].iter().any(|it| it.id == 10),
+        Some("linking") => refers_past(section_symbols(section.payload), first),
+        Some(name) if name.starts_with("reloc.") => refers_past(target(section.payload), first),
+        _ => false,
+    }
+}
+
+/// Whether one of the indices is of the first removed section or past it. That is so if the indices are not known.
+fn refers_past(indices: Result<Vec<u32>, DecodeError>, first: usize) -> bool {
+    indices.map_or(true, |indices| {
+        indices.iter().any(|index| *index as usize >= first)
+    })
+}
+
+fn read<'a, T: Readable<'a, Global, Standard>>(
+    bytes: &'a [u8],
+) -> Result<(T, &'a [u8]), DecodeError> {
+    T::read(bytes, Global)
+}
+
+/// The index of the section that relocations are of.
+fn target(payload: &[u8]) -> Result<Vec<u32>, DecodeError> {
+    let (_name, rest) = read::<&str>(payload)?;
+    let (index, _) = read::<u32>(rest)?;
+    Ok(vec![index])
+}
+
+/// The indices of the sections that are symbols.
+fn section_symbols(payload: &[u8]) -> Result<Vec<u32>, DecodeError> {
+    let (_name, rest) = read::<&str>(payload)?;
+    let (_version, mut rest) = read::<u32>(rest)?;
+    let mut indices = Vec::new();
+    while !rest.is_empty() {
+        let (item, behind) = read::<LinkItem<'_>>(rest)?;
+        if let LinkItem::Symbols(symbols) = item {
+            indices.extend(symbols.iter().filter_map(|symbol| match symbol {
+                Symbol::Section { section, .. } => Some(*section),
+                _ => None,
+            }));
+        }
+        rest = behind;
+    }
+    Ok(indices)
+}

@@ -1,0 +1,112 @@
+//! `dolzhytik size`.
+use crate::program::{Answer, Folder};
+use crate::samples::{custom, module};
+
+const HEAD: &str = "     bytes     %  name\n";
+
+/// A type, an import of a function, two functions, their bodies, and the name of the second.
+const NAMED: [&str; 5] = [
+    "01 04 01 60 00 00",
+    "02 07 01 01 61 01 62 00 00",
+    "03 03 02 00 00",
+    "0a 08 02 02 00 0b 03 00 01 0b",
+    "00 0d 04 6e616d65 01 06 01 02 03 616263",
+];
+
+#[track_caller]
+fn check(sections: &[&str], words: &[&str], lines: &str) {
+    let folder = Folder::new("size");
+    folder.write("a.wasm", module(sections));
+    let expected = Answer::of(format!("{HEAD}{lines}"));
+    let words = [&["size", "a.wasm"], words].concat();
+    assert_eq!(folder.call(&words, b""), expected);
+}
+
+const SECTIONS: &str = "        15  28.3  custom \"name\"
+        10  18.9  code
+         9  17.0  import
+         6  11.3  type
+         5   9.4  function
+         8  15.1  header
+        53 100.0  all
+";
+
+#[test]
+fn sections() {
+    check(
+        &[],
+        &[],
+        "         8 100.0  header\n         8 100.0  all\n",
+    );
+    check(&NAMED, &[], SECTIONS);
+    check(&NAMED, &["--functions", "0"], SECTIONS);
+}
+
+#[test]
+fn functions() {
+    let second = "         4   7.5  function 2 \"abc\"\n";
+    let first = "         3   5.7  function 1\n";
+    check(
+        &NAMED,
+        &["--functions", "1"],
+        &format!("{SECTIONS}{second}"),
+    );
+    let all = format!("{SECTIONS}{second}{first}");
+    check(&NAMED, &["--functions=9"], &all);
+}
+
+#[test]
+fn groups_of_imports() {
+    // Two functions and a memory of module `a`, and then three functions of it.
+    let imports =
+        "02 1c 02 01 61 00 7f 03 01 62 00 00 01 63 02 00 01 01 64 20 00 01 61 00 7e 00 00 00";
+    let sections = [
+        "01 04 01 60 00 00",
+        imports,
+        "03 02 01 00",
+        "0a 04 01 02 00 0b",
+    ];
+    let folder = Folder::new("size_groups");
+    let answer = folder.call(&["size", "-", "--functions", "1"], &module(&sections));
+    let text = String::from_utf8(answer.out).unwrap();
+    assert!(text.ends_with("  function 2\n"), "{text}{}", answer.err);
+}
+
+#[test]
+fn faults() {
+    let folder = Folder::new("size_faults");
+    let check = |sections: &[&str], why: &str| {
+        let fault = folder.call(&["size", "-", "--functions", "1"], &module(sections));
+        assert_eq!(fault, Answer::fault(&format!("standard input: {why}")));
+    };
+    let ended = "section 1 (code) at offset 0xe: the bytes end before it does";
+    check(&["0a 04 02 02 00 0b"], ended);
+    let unknown = "section 1 (import) at offset 0xf: UnknownTag";
+    check(&["02 07 01 01 61 01 62 09 00"], unknown);
+    // Names that do not decode are none.
+    let answer = folder.call(
+        &["size", "-", "--functions=1"],
+        &module(&[NAMED[3], &custom("name", "01 09")]),
+    );
+    assert!(answer.out.ends_with(b"function 1\n"));
+}
+
+#[test]
+fn json() {
+    let folder = Folder::new("size_json");
+    let words = ["size", "-", "--json", "--functions=1"];
+    let answer = folder.call(&words, &module(&NAMED[3..]));
+    let text = r#"{"bytes": 33, "sections": [
+  {"section": 2, "kind": "custom", "name": "name", "bytes": 15},
+  {"section": 1, "kind": "code", "name": null, "bytes": 10}
+], "functions": [
+  {"function": 1, "name": null, "bytes": 4}
+]}
+"#;
+    assert_eq!(answer, Answer::of(text));
+    let text = "{\"bytes\": 8, \"sections\": [], \"functions\": []}\n";
+    assert_eq!(
+        folder.call(&["size", "-", "--json"], &module(&[])),
+        Answer::of(text)
+    );
+}
