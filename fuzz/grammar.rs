@@ -3,8 +3,26 @@
 
 use std::sync::OnceLock;
 
+/// Which encodings of values are in the grammar.
+#[derive(Clone, Copy, PartialEq, Eq, Debug)]
+pub enum Grammar {
+    /// Those that builders write.
+    Builders,
+    /// All that the standard and the tool conventions have.
+    Standard,
+}
+
 /// Goes along a text of the grammar. `None` says that there is none.
 pub trait Along: Sized {
+    fn grammar(&self) -> Grammar;
+
+    /// Goes along `item`, whose value has other bytes by builders where `other` has some.
+    fn rewritten(
+        &mut self,
+        item: fn(&mut Self) -> Option<()>,
+        other: fn(&[u8]) -> Option<Vec<u8>>,
+    ) -> Option<()>;
+
     /// A byte that is one of these.
     fn tag(&mut self, tags: &[u8]) -> Option<u8>;
 
@@ -126,34 +144,58 @@ fn heap<G: Along>(g: &mut G) -> Option<()> {
 
 /// What follows the first byte of a reference type.
 fn reference_after<G: Along>(g: &mut G, tag: u8) -> Option<()> {
-    match tag {
-        0x63 => heap_but(g, &[0x70, 0x6F]),
-        0x64 => heap(g),
+    match (tag, g.grammar()) {
+        (0x63, Grammar::Builders) => heap_but(g, &[0x70, 0x6F]),
+        (0x63 | 0x64, _) => heap(g),
         _ => Some(()),
     }
 }
 
-const REFERENCES: [u8; 4] = [0x70, 0x6F, 0x63, 0x64];
-const VALUES: [u8; 9] = [0x7F, 0x7E, 0x7D, 0x7C, 0x7B, 0x70, 0x6F, 0x63, 0x64];
+const NUMBERS: [u8; 5] = [0x7F, 0x7E, 0x7D, 0x7C, 0x7B];
+const REFERENCES: [u8; 2] = [0x63, 0x64];
+
+/// The types that a nullable reference has by one byte.
+fn short(grammar: Grammar) -> &'static [u8] {
+    match grammar {
+        Grammar::Builders => &ABSTRACT[..2],
+        Grammar::Standard => &ABSTRACT,
+    }
+}
+
+/// A nullable reference to an abstract type, as builders write it.
+fn by_builders(bytes: &[u8]) -> Option<Vec<u8>> {
+    match *bytes {
+        [0x63, tag @ (0x70 | 0x6F)] => Some(vec![tag]),
+        [tag] if ABSTRACT[2..].contains(&tag) => Some(vec![0x63, tag]),
+        _ => None,
+    }
+}
 
 fn reference<G: Along>(g: &mut G) -> Option<()> {
-    let tag = g.tag(&REFERENCES)?;
-    reference_after(g, tag)
+    let any_reference = |g: &mut G| {
+        let tag = g.tag(&[short(g.grammar()), &REFERENCES].concat())?;
+        reference_after(g, tag)
+    };
+    g.rewritten(any_reference, by_builders)
 }
 
 fn value<G: Along>(g: &mut G) -> Option<()> {
-    let tag = g.tag(&VALUES)?;
-    reference_after(g, tag)
+    let any_value = |g: &mut G| {
+        let tag = g.tag(&[&NUMBERS, short(g.grammar()), &REFERENCES].concat())?;
+        reference_after(g, tag)
+    };
+    g.rewritten(any_value, by_builders)
 }
 
 fn block<G: Along>(g: &mut G) -> Option<()> {
-    match g.tag_or_else(
-        &[0x40, 0x7F, 0x7E, 0x7D, 0x7C, 0x7B, 0x70, 0x6F, 0x63, 0x64],
-        3,
-    )? {
-        Some(tag) => reference_after(g, tag),
-        None => g.index(),
-    }
+    let any_block = |g: &mut G| {
+        let tags = [&[0x40], &NUMBERS[..], short(g.grammar()), &REFERENCES].concat();
+        match g.tag_or_else(&tags, 3)? {
+            Some(tag) => reference_after(g, tag),
+            None => g.index(),
+        }
+    };
+    g.rewritten(any_block, by_builders)
 }
 
 // ---- immediates
@@ -400,11 +442,12 @@ fn composite<G: Along>(g: &mut G) -> Option<()> {
 }
 
 fn subtype<G: Along>(g: &mut G) -> Option<()> {
-    match g.tag_or_else(&[0x50, 0x4F], 3)? {
-        Some(0x50) => g.vector(u32_any)?,
-        Some(_) => g.vector_of_some(u32_any)?,
-        None => {}
-    }
+    let supertypes = |g: &mut G| match (g.tag_or_else(&[0x50, 0x4F], 3)?, g.grammar()) {
+        (None, _) => Some(()),
+        (Some(0x4F), Grammar::Builders) => g.vector_of_some(u32_any),
+        _ => g.vector(u32_any),
+    };
+    g.rewritten(supertypes, |bytes| (bytes == [0x4F, 0x00]).then(Vec::new))?;
     composite(g)
 }
 
@@ -439,7 +482,11 @@ fn subsection<G: Along>(g: &mut G) -> Option<()> {
 }
 
 fn symbol<G: Along>(g: &mut G) -> Option<()> {
-    let kind = g.tag(&[0, 1, 2, 5])?;
+    let kinds: &[u8] = match g.grammar() {
+        Grammar::Builders => &[0, 1, 2, 5],
+        Grammar::Standard => &[0, 1, 2, 3, 4, 5],
+    };
+    let kind = g.tag(kinds)?;
     let flags = g.number(32, any)?;
     let is_defined = flags & 0x10 == 0;
     if kind == 1 {
@@ -452,15 +499,43 @@ fn symbol<G: Along>(g: &mut G) -> Option<()> {
         return Some(());
     }
     u32_any(g)?;
-    if is_defined || flags & 0x40 != 0 {
+    // A section's symbol has no name.
+    if kind != 3 && (is_defined || flags & 0x40 != 0) {
         g.name()
     } else {
         Some(())
     }
 }
 
+fn segment_info<G: Along>(g: &mut G) -> Option<()> {
+    g.name()?;
+    u32_any(g)?;
+    u32_any(g)
+}
+
+fn init_function<G: Along>(g: &mut G) -> Option<()> {
+    u32_any(g)?;
+    u32_any(g)
+}
+
+fn comdat<G: Along>(g: &mut G) -> Option<()> {
+    g.name()?;
+    u32_any(g)?;
+    g.vector(|g| {
+        g.raw(1)?;
+        u32_any(g)
+    })
+}
+
 fn link<G: Along>(g: &mut G) -> Option<()> {
-    match g.tag(&[8, 9])? {
+    let kinds: &[u8] = match g.grammar() {
+        Grammar::Builders => &[8, 9],
+        Grammar::Standard => &[5, 6, 7, 8, 9],
+    };
+    match g.tag(kinds)? {
+        5 => g.frame(&|g: &mut G| g.vector(segment_info)),
+        6 => g.frame(&|g: &mut G| g.vector(init_function)),
+        7 => g.frame(&|g: &mut G| g.vector(comdat)),
         8 => g.frame(&|g: &mut G| g.vector(symbol)),
         _ => g.frame(&|g: &mut G| g.name()),
     }

@@ -4,7 +4,7 @@ mod grammar;
 mod maker;
 mod plain;
 
-use grammar::KINDS;
+use grammar::{Grammar, KINDS};
 use maker::{Random, input};
 use plain::shortened;
 use std::env;
@@ -18,6 +18,14 @@ unsafe extern "C" {
 }
 
 const NO_ANSWER: u64 = u64::MAX;
+
+/// What inputs are made in: most of those in the builders' grammar are sections.
+const GRAMMARS: [Grammar; 4] = [
+    Grammar::Builders,
+    Grammar::Builders,
+    Grammar::Builders,
+    Grammar::Standard,
+];
 
 /// What stands in the room that an answer leaves free.
 const BLANK: u8 = 0xA5;
@@ -51,7 +59,10 @@ fn by_library(kind: u32, bytes: &[u8], room: &mut [u8]) -> Result<(usize, u64), 
 fn agree(kind: u32, bytes: &[u8]) -> (bool, bool) {
     let mut room = vec![BLANK; bytes.len()];
     let library = by_library(kind, bytes, &mut room);
-    match (shortened(bytes, KINDS[kind as usize]), library) {
+    match (
+        shortened(bytes, KINDS[kind as usize], Grammar::Builders),
+        library,
+    ) {
         (Some((text, taken)), Ok((length, by))) => (
             taken as u64 == by
                 && length == text.len()
@@ -83,7 +94,8 @@ fn main() -> ExitCode {
     let (mut texts, mut differences, mut bytes) = ([0u64; KINDS.len()], 0, 0);
     for number in 0..count {
         let kind = (number % KINDS.len() as u64) as u32;
-        let input = input(&mut random, KINDS[kind as usize]);
+        let grammar = random.one_of(&GRAMMARS);
+        let input = input(&mut random, KINDS[kind as usize], grammar);
         let (is_same, is_text) = agree(kind, &input);
         texts[kind as usize] += u64::from(is_text);
         bytes += input.len();

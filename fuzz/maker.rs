@@ -1,6 +1,6 @@
 //! Makes random texts of the grammar, some numbers padded, and changes them.
 
-use crate::grammar::{Along, table};
+use crate::grammar::{Along, Grammar, table};
 use crate::plain::{put_signed, put_unsigned};
 
 pub struct Random(u64);
@@ -39,7 +39,8 @@ pub struct Maker<'r> {
     pub random: &'r mut Random,
     pub text: Vec<u8>,
     /// How many more members, instructions and items may be made.
-    pub left: usize,
+    left: usize,
+    grammar: Grammar,
 }
 
 /// Names: some of several bytes a character, and some that are the start or the end of another.
@@ -54,7 +55,16 @@ const NAMES: [&str; 8] = [
     "\u{1F980}",
 ];
 
-impl Maker<'_> {
+impl<'r> Maker<'r> {
+    pub fn new(random: &'r mut Random, left: usize, grammar: Grammar) -> Self {
+        Maker {
+            random,
+            text: Vec::new(),
+            left,
+            grammar,
+        }
+    }
+
     /// Spreads a shortest number over more bytes: zeros, or copies of the sign.
     fn pad(&mut self, begun: usize, most: usize, filling: u8) {
         if !self.random.one_in(6) {
@@ -98,6 +108,18 @@ impl Maker<'_> {
 }
 
 impl Along for Maker<'_> {
+    fn grammar(&self) -> Grammar {
+        self.grammar
+    }
+
+    fn rewritten(
+        &mut self,
+        item: fn(&mut Self) -> Option<()>,
+        _other: fn(&[u8]) -> Option<Vec<u8>>,
+    ) -> Option<()> {
+        item(self)
+    }
+
     fn tag(&mut self, tags: &[u8]) -> Option<u8> {
         let tag = self.random.one_of(tags);
         self.text.push(tag);
@@ -270,14 +292,10 @@ fn change(random: &mut Random, text: &mut Vec<u8>) {
     }
 }
 
-/// A text of the kind, changed at times, with bytes behind it at times; or, at times, any bytes.
-pub fn input(random: &mut Random, kind: &str) -> Vec<u8> {
+/// A text of the kind in the grammar, changed at times, with bytes behind it at times; or, at times, any bytes.
+pub fn input(random: &mut Random, kind: &str, grammar: Grammar) -> Vec<u8> {
     let left = 1 + random.below(8);
-    let mut maker = Maker {
-        random,
-        text: Vec::new(),
-        left,
-    };
+    let mut maker = Maker::new(random, left, grammar);
     if maker.random.one_in(16) {
         let count = maker.random.below(12);
         let _ = maker.raw(count);

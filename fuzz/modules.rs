@@ -1,22 +1,15 @@
 //! Holds `shorten_module` and `outline` against a plain reader: random modules, of random and changed sections. See README.md.
 
-mod grammar;
-mod maker;
-mod plain;
-mod whole;
-
-use dolzhytik::fallible::Global;
-use dolzhytik::reader::{ModuleFault, Offsets, Outlined, ReadFault, outline, shorten_module};
-use grammar::KINDS;
-use maker::{Maker, Random, input};
-use plain::Plain;
-use std::env;
-use std::process::ExitCode;
-use std::time::Instant;
-use whole::{
+use crate::grammar::{Grammar, KINDS};
+use crate::maker::{Maker, Random, input};
+use crate::plain::Plain;
+use crate::whole::{
     Answer, CARES, HOLDERS, Section, first_broken, sections, shortened_module, shortest_module,
     why_refused,
 };
+use dolzhytik::fallible::Global;
+use dolzhytik::reader::{ModuleFault, Offsets, Outlined, ReadFault, outline, shorten_module};
+use std::time::Instant;
 
 // ---- modules
 
@@ -71,10 +64,7 @@ fn id_of(random: &mut Random, kind: &str) -> u8 {
 
 /// What a frame at the front holds, or all bytes where there is none. Of a frame that is cut off it is what is left.
 fn unframed(bytes: &[u8]) -> &[u8] {
-    let mut along = Plain {
-        rest: bytes,
-        text: Vec::new(),
-    };
+    let mut along = Plain::new(bytes, Grammar::Builders);
     match along.unsigned(32) {
         Some(size) => &along.rest[..along.rest.len().min(size as usize)],
         None => bytes,
@@ -84,11 +74,7 @@ fn unframed(bytes: &[u8]) -> &[u8] {
 /// Relocations: the index of a section, and entries of a type, an offset, an index, and an addend for most types.
 fn relocations(random: &mut Random) -> Vec<u8> {
     let (section, count) = (random.below(6) as u64, random.below(3));
-    let mut maker = Maker {
-        random,
-        text: Vec::new(),
-        left: 0,
-    };
+    let mut maker = Maker::new(random, 0, Grammar::Builders);
     maker.unsigned(section, 32);
     maker.unsigned(count as u64, 32);
     for _ in 0..count {
@@ -118,11 +104,7 @@ fn custom(random: &mut Random) -> Vec<u8> {
             (0..random.below(4)).map(|place| 0x80 >> place).collect(),
         ),
     };
-    let mut maker = Maker {
-        random,
-        text: Vec::new(),
-        left: 0,
-    };
+    let mut maker = Maker::new(random, 0, Grammar::Builders);
     maker.unsigned(name.len() as u64, 32);
     let mut text = maker.text;
     text.extend(name.bytes());
@@ -132,11 +114,7 @@ fn custom(random: &mut Random) -> Vec<u8> {
 
 /// Puts a frame around what it holds. Its size is padded at times.
 fn framed(random: &mut Random, payload: &[u8]) -> Vec<u8> {
-    let mut maker = Maker {
-        random,
-        text: Vec::new(),
-        left: 0,
-    };
+    let mut maker = Maker::new(random, 0, Grammar::Builders);
     maker.unsigned(payload.len() as u64, 32);
     maker.text.extend(payload);
     maker.text
@@ -160,7 +138,8 @@ fn add_section(random: &mut Random, module: &mut Vec<u8>) {
     } else {
         id_of(random, kind)
     };
-    let text = input(random, kind);
+    let grammar = random.one_of(&[Grammar::Builders, Grammar::Standard]);
+    let text = input(random, kind, grammar);
     module.push(id);
     if random.one_in(64) {
         module.extend(text);
@@ -350,15 +329,8 @@ fn show(bytes: &[u8]) -> String {
     bytes.iter().map(|byte| format!("{byte:02x}")).collect()
 }
 
-fn main() -> ExitCode {
-    let args: Vec<u64> = env::args()
-        .skip(1)
-        .map(|arg| arg.parse().expect("numbers: a seed, and how many inputs"))
-        .collect();
-    let [seed, count] = args[..] else {
-        eprintln!("usage: modules SEED INPUTS");
-        return ExitCode::from(2);
-    };
+/// Compares so many modules of the seed. Returns whether all answers are the same.
+pub fn run(seed: u64, count: u64) -> bool {
     let begun = Instant::now();
     let mut random = Random::new(seed);
     let (mut counts, mut differences, mut bytes) = (Counts::default(), 0, 0);
@@ -401,9 +373,5 @@ fn main() -> ExitCode {
         "seed {seed}: {count} modules of {bytes} bytes, {differences} differences, {} s",
         begun.elapsed().as_secs()
     );
-    if differences == 0 {
-        ExitCode::SUCCESS
-    } else {
-        ExitCode::FAILURE
-    }
+    differences == 0
 }

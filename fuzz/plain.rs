@@ -1,12 +1,13 @@
-//! A plain reader: it goes along a text and writes the shortest one of the same items.
+//! A plain reader: it goes along a text and writes the shortest one of the same items, in the builders' encodings.
 
-use crate::grammar::{Along, table};
+use crate::grammar::{Along, Grammar, table};
 use std::collections::HashMap;
 use std::sync::OnceLock;
 
 pub struct Plain<'a> {
     pub rest: &'a [u8],
     pub text: Vec<u8>,
+    grammar: Grammar,
 }
 
 pub fn put_unsigned(text: &mut Vec<u8>, mut n: u64) {
@@ -37,6 +38,15 @@ fn shapes() -> &'static HashMap<(u8, u32), &'static str> {
 }
 
 impl<'a> Plain<'a> {
+    /// Reads from the first of the bytes on.
+    pub fn new(rest: &'a [u8], grammar: Grammar) -> Self {
+        Plain {
+            rest,
+            text: Vec::new(),
+            grammar,
+        }
+    }
+
     pub fn byte(&mut self) -> Option<u8> {
         let (&byte, rest) = self.rest.split_first()?;
         self.rest = rest;
@@ -82,6 +92,24 @@ impl<'a> Plain<'a> {
 }
 
 impl Along for Plain<'_> {
+    fn grammar(&self) -> Grammar {
+        self.grammar
+    }
+
+    fn rewritten(
+        &mut self,
+        item: fn(&mut Self) -> Option<()>,
+        other: fn(&[u8]) -> Option<Vec<u8>>,
+    ) -> Option<()> {
+        let begun = self.text.len();
+        item(self)?;
+        if let Some(bytes) = other(&self.text[begun..]) {
+            self.text.truncate(begun);
+            self.text.extend(bytes);
+        }
+        Some(())
+    }
+
     fn tag(&mut self, tags: &[u8]) -> Option<u8> {
         let byte = self.byte()?;
         self.text.push(byte);
@@ -189,10 +217,7 @@ impl Along for Plain<'_> {
 
     fn frame(&mut self, content: &dyn Fn(&mut Self) -> Option<()>) -> Option<()> {
         let size = self.unsigned(32)?;
-        let mut inner = Plain {
-            rest: self.take(size as usize)?,
-            text: Vec::new(),
-        };
+        let mut inner = Plain::new(self.take(size as usize)?, self.grammar);
         content(&mut inner)?;
         if !inner.rest.is_empty() {
             return None;
@@ -215,12 +240,9 @@ impl Along for Plain<'_> {
     }
 }
 
-/// The shortest text of the section of the kind that stands at the front, and how many bytes it takes there.
-pub fn shortened(bytes: &[u8], kind: &str) -> Option<(Vec<u8>, usize)> {
-    let mut along = Plain {
-        rest: bytes,
-        text: Vec::new(),
-    };
+/// The shortest text, by builders, of the section of the kind that stands at the front in the grammar, and how many bytes it takes there.
+pub fn shortened(bytes: &[u8], kind: &str, grammar: Grammar) -> Option<(Vec<u8>, usize)> {
+    let mut along = Plain::new(bytes, grammar);
     crate::grammar::section(&mut along, kind)?;
     let taken = bytes.len() - along.rest.len();
     Some((along.text, taken))

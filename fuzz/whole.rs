@@ -1,6 +1,6 @@
 //! A plain reader of modules: their sections, whatever these hold, an outline of them, and the module in its fewest bytes.
 
-use crate::grammar::Along;
+use crate::grammar::{Along, Grammar};
 use crate::plain::{Plain, shortened};
 
 const HEADER: &[u8] = b"\0asm\x01\0\0\0";
@@ -17,19 +17,13 @@ pub struct Section<'a> {
 }
 
 fn name(payload: &[u8]) -> Option<&str> {
-    let mut along = Plain {
-        rest: payload,
-        text: Vec::new(),
-    };
+    let mut along = Plain::new(payload, Grammar::Builders);
     let length = along.unsigned(32)?;
     std::str::from_utf8(along.take(length as usize)?).ok()
 }
 
 fn section(bytes: &[u8], at: usize) -> Option<Section<'_>> {
-    let mut along = Plain {
-        rest: &bytes[at..],
-        text: Vec::new(),
-    };
+    let mut along = Plain::new(&bytes[at..], Grammar::Builders);
     let id = along.byte()?;
     let size = along.unsigned(32)? as usize;
     let offset = bytes.len() - along.rest.len();
@@ -61,7 +55,7 @@ pub fn sections(bytes: &[u8]) -> Result<Vec<Section<'_>>, usize> {
 
 impl Section<'_> {
     /// What it is read as.
-    fn kind(&self) -> &'static str {
+    pub fn kind(&self) -> &'static str {
         match (self.id, self.name) {
             (0, Some("name")) => "Names",
             (0, Some("linking")) => "Linking",
@@ -89,24 +83,21 @@ impl Section<'_> {
         }
     }
 
-    /// The shortest text in place of the frame, where it is read as its kind.
-    fn shortest(&self) -> Option<Vec<u8>> {
-        let (text, taken) = shortened(self.framed, self.kind())?;
+    /// The shortest text in place of the frame, where it is read as its kind in the grammar.
+    fn shortest(&self, grammar: Grammar) -> Option<Vec<u8>> {
+        let (text, taken) = shortened(self.framed, self.kind(), grammar)?;
         (taken == self.framed.len()).then_some(text)
     }
 
     /// How many items an outline has.
     pub fn items(&self) -> Option<u32> {
-        self.shortest()?;
+        self.shortest(Grammar::Standard)?;
         match self.id {
             0 | 14.. => None,
             8 | 12 => Some(1),
-            _ => Plain {
-                rest: self.payload,
-                text: Vec::new(),
-            }
-            .unsigned(32)
-            .map(|count| count as u32),
+            _ => Plain::new(self.payload, Grammar::Standard)
+                .unsigned(32)
+                .map(|count| count as u32),
         }
     }
 
@@ -163,10 +154,7 @@ struct Relocations {
 }
 
 fn relocations(section: &Section<'_>) -> Option<Relocations> {
-    let mut along = Plain {
-        rest: section.payload,
-        text: Vec::new(),
-    };
+    let mut along = Plain::new(section.payload, Grammar::Builders);
     let length = along.unsigned(32)?;
     along.take(length as usize)?;
     let mut found = Relocations {
@@ -254,7 +242,7 @@ where
     'a: 'b,
 {
     let one = |section: &'b Section<'a>| {
-        let shortest = section.shortest();
+        let shortest = section.shortest(Grammar::Builders);
         Rewritten {
             section,
             is_kept: shortest.is_none(),
