@@ -1,5 +1,5 @@
-//! The grammar of all kinds of sections, written from docs/FORMAT.md, once for whoever goes along it: a plain reader, which answers the shortest text of
-//! what it reads, and a maker of random texts.
+//! The grammar of all kinds of sections, written from docs/FORMAT.md once for both who follow it: the plain reader, which returns the minimal encoding of
+//! what it decodes, and the maker of random encodings.
 
 use std::sync::OnceLock;
 
@@ -12,11 +12,11 @@ pub enum Grammar {
     Standard,
 }
 
-/// Goes along a text of the grammar. `None` says that there is none.
-pub trait Along: Sized {
+/// Follows the grammar, byte by byte. `None` means that the bytes encode nothing of it.
+pub trait Follow: Sized {
     fn grammar(&self) -> Grammar;
 
-    /// Goes along `item`, whose value has other bytes by builders where `other` has some.
+    /// Follows `item`. Builders write `other` of its bytes, if that is some.
     fn rewritten(
         &mut self,
         item: fn(&mut Self) -> Option<()>,
@@ -114,7 +114,7 @@ fn any(_n: u64) -> bool {
     true
 }
 
-fn u32_any<G: Along>(g: &mut G) -> Option<()> {
+fn u32_any<G: Follow>(g: &mut G) -> Option<()> {
     g.number(32, any).map(|_| ())
 }
 
@@ -123,7 +123,7 @@ const ABSTRACT: [u8; 14] = [
 ];
 
 /// A heap type whose first byte is none of `left_out`.
-fn heap_but<G: Along>(g: &mut G, left_out: &[u8]) -> Option<()> {
+fn heap_but<G: Follow>(g: &mut G, left_out: &[u8]) -> Option<()> {
     let tags: Vec<u8> = ABSTRACT
         .iter()
         .copied()
@@ -138,12 +138,12 @@ fn heap_but<G: Along>(g: &mut G, left_out: &[u8]) -> Option<()> {
     }
 }
 
-fn heap<G: Along>(g: &mut G) -> Option<()> {
+fn heap<G: Follow>(g: &mut G) -> Option<()> {
     heap_but(g, &[])
 }
 
 /// What follows the first byte of a reference type.
-fn reference_after<G: Along>(g: &mut G, tag: u8) -> Option<()> {
+fn reference_after<G: Follow>(g: &mut G, tag: u8) -> Option<()> {
     match (tag, g.grammar()) {
         (0x63, Grammar::Builders) => heap_but(g, &[0x70, 0x6F]),
         (0x63 | 0x64, _) => heap(g),
@@ -171,7 +171,7 @@ fn by_builders(bytes: &[u8]) -> Option<Vec<u8>> {
     }
 }
 
-fn reference<G: Along>(g: &mut G) -> Option<()> {
+fn reference<G: Follow>(g: &mut G) -> Option<()> {
     let any_reference = |g: &mut G| {
         let tag = g.tag(&[short(g.grammar()), &REFERENCES].concat())?;
         reference_after(g, tag)
@@ -179,7 +179,7 @@ fn reference<G: Along>(g: &mut G) -> Option<()> {
     g.rewritten(any_reference, by_builders)
 }
 
-fn value<G: Along>(g: &mut G) -> Option<()> {
+fn value<G: Follow>(g: &mut G) -> Option<()> {
     let any_value = |g: &mut G| {
         let tag = g.tag(&[&NUMBERS, short(g.grammar()), &REFERENCES].concat())?;
         reference_after(g, tag)
@@ -187,7 +187,7 @@ fn value<G: Along>(g: &mut G) -> Option<()> {
     g.rewritten(any_value, by_builders)
 }
 
-fn block<G: Along>(g: &mut G) -> Option<()> {
+fn block<G: Follow>(g: &mut G) -> Option<()> {
     let any_block = |g: &mut G| {
         let tags = [&[0x40], &NUMBERS[..], short(g.grammar()), &REFERENCES].concat();
         match g.tag_or_else(&tags, 3)? {
@@ -208,7 +208,7 @@ fn is_not_zero(n: u64) -> bool {
     n != 0
 }
 
-fn memory_argument<G: Along>(g: &mut G) -> Option<()> {
+fn memory_argument<G: Follow>(g: &mut G) -> Option<()> {
     let flags = g.number(32, is_memory_flags)?;
     if flags & 0x40 != 0 {
         g.number(32, is_not_zero)?;
@@ -222,20 +222,20 @@ fn memory_argument<G: Along>(g: &mut G) -> Option<()> {
     g.number(64, any).map(|_| ())
 }
 
-fn catch<G: Along>(g: &mut G) -> Option<()> {
+fn catch<G: Follow>(g: &mut G) -> Option<()> {
     if g.tag(&[0, 1, 2, 3])? < 2 {
         u32_any(g)?;
     }
     u32_any(g)
 }
 
-fn handle<G: Along>(g: &mut G) -> Option<()> {
+fn handle<G: Follow>(g: &mut G) -> Option<()> {
     let tag = g.tag(&[0, 1])?;
     u32_any(g)?;
     if tag == 0 { u32_any(g) } else { Some(()) }
 }
 
-fn immediates<G: Along>(g: &mut G, shape: &str) -> Option<()> {
+fn immediates<G: Follow>(g: &mut G, shape: &str) -> Option<()> {
     match shape {
         "-" => Some(()),
         "u" => u32_any(g),
@@ -276,12 +276,12 @@ fn immediates<G: Along>(g: &mut G, shape: &str) -> Option<()> {
     }
 }
 
-fn instruction<G: Along>(g: &mut G, with_end: bool) -> Option<()> {
+fn instruction<G: Follow>(g: &mut G, with_end: bool) -> Option<()> {
     let shape = g.opcode(with_end)?;
     immediates(g, shape)
 }
 
-fn expression<G: Along>(g: &mut G) -> Option<()> {
+fn expression<G: Follow>(g: &mut G) -> Option<()> {
     while !g.ends()? {
         instruction(g, false)?;
     }
@@ -290,12 +290,12 @@ fn expression<G: Along>(g: &mut G) -> Option<()> {
 
 // ---- items of core sections
 
-fn run<G: Along>(g: &mut G) -> Option<()> {
+fn run<G: Follow>(g: &mut G) -> Option<()> {
     u32_any(g)?;
     value(g)
 }
 
-fn body<G: Along>(g: &mut G) -> Option<()> {
+fn body<G: Follow>(g: &mut G) -> Option<()> {
     g.frame(&|g: &mut G| {
         g.vector(run)?;
         while g.goes_on() {
@@ -305,7 +305,7 @@ fn body<G: Along>(g: &mut G) -> Option<()> {
     })
 }
 
-fn segment<G: Along>(g: &mut G) -> Option<()> {
+fn segment<G: Follow>(g: &mut G) -> Option<()> {
     let flag = g.number(32, |n| n < 3)?;
     if flag == 2 {
         g.number(32, is_not_zero)?;
@@ -316,7 +316,7 @@ fn segment<G: Along>(g: &mut G) -> Option<()> {
     g.bytes()
 }
 
-fn element<G: Along>(g: &mut G) -> Option<()> {
+fn element<G: Follow>(g: &mut G) -> Option<()> {
     let flag = g.number(32, |n| n < 8)?;
     if flag & 3 == 2 {
         u32_any(g)?;
@@ -336,23 +336,23 @@ fn element<G: Along>(g: &mut G) -> Option<()> {
     g.vector(expression)
 }
 
-fn export<G: Along>(g: &mut G) -> Option<()> {
+fn export<G: Follow>(g: &mut G) -> Option<()> {
     g.name()?;
     g.tag(&[0, 1, 2, 3, 4])?;
     u32_any(g)
 }
 
-fn global_type<G: Along>(g: &mut G) -> Option<()> {
+fn global_type<G: Follow>(g: &mut G) -> Option<()> {
     value(g)?;
     g.tag(&[0, 1, 2, 3]).map(|_| ())
 }
 
-fn global<G: Along>(g: &mut G) -> Option<()> {
+fn global<G: Follow>(g: &mut G) -> Option<()> {
     global_type(g)?;
     expression(g)
 }
 
-fn table_type<G: Along>(g: &mut G) -> Option<()> {
+fn table_type<G: Follow>(g: &mut G) -> Option<()> {
     reference(g)?;
     let flags = g.tag(&[0, 1, 2, 3, 4, 5, 6, 7])?;
     g.number(64, any)?;
@@ -363,7 +363,7 @@ fn table_type<G: Along>(g: &mut G) -> Option<()> {
     }
 }
 
-fn table_item<G: Along>(g: &mut G) -> Option<()> {
+fn table_item<G: Follow>(g: &mut G) -> Option<()> {
     if g.fixed_or_else(&[0x40])? {
         g.tag(&[0x00])?;
         table_type(g)?;
@@ -372,7 +372,7 @@ fn table_item<G: Along>(g: &mut G) -> Option<()> {
     table_type(g)
 }
 
-fn memory<G: Along>(g: &mut G) -> Option<()> {
+fn memory<G: Follow>(g: &mut G) -> Option<()> {
     let flags = g.tag(&[0, 1, 2, 3, 4, 5, 6, 7, 8, 9, 10, 11, 12, 13, 14, 15])?;
     g.number(64, any)?;
     if flags & 1 != 0 {
@@ -381,12 +381,12 @@ fn memory<G: Along>(g: &mut G) -> Option<()> {
     if flags & 8 != 0 { u32_any(g) } else { Some(()) }
 }
 
-fn tag_type<G: Along>(g: &mut G) -> Option<()> {
+fn tag_type<G: Follow>(g: &mut G) -> Option<()> {
     g.tag(&[0])?;
     u32_any(g)
 }
 
-fn entity<G: Along>(g: &mut G) -> Option<()> {
+fn entity<G: Follow>(g: &mut G) -> Option<()> {
     match g.tag(&[0x00, 0x01, 0x02, 0x03, 0x04, 0x20])? {
         0x01 => table_type(g),
         0x02 => memory(g),
@@ -396,12 +396,12 @@ fn entity<G: Along>(g: &mut G) -> Option<()> {
     }
 }
 
-fn named_entity<G: Along>(g: &mut G) -> Option<()> {
+fn named_entity<G: Follow>(g: &mut G) -> Option<()> {
     g.name()?;
     entity(g)
 }
 
-fn import<G: Along>(g: &mut G) -> Option<()> {
+fn import<G: Follow>(g: &mut G) -> Option<()> {
     g.name()?;
     if g.fixed_or_else(&[0x00, 0x7F])? {
         return g.vector(named_entity);
@@ -415,7 +415,7 @@ fn import<G: Along>(g: &mut G) -> Option<()> {
 
 // ---- types that a module defines
 
-fn field_type<G: Along>(g: &mut G) -> Option<()> {
+fn field_type<G: Follow>(g: &mut G) -> Option<()> {
     if g.tag_or_else(&[0x78, 0x77], 3)?.is_none() {
         value(g)?;
     }
@@ -423,7 +423,7 @@ fn field_type<G: Along>(g: &mut G) -> Option<()> {
 }
 
 /// A composite type: the byte of a shared one, and the indices of what it describes and of what describes it, where they are given, and a shape.
-fn composite<G: Along>(g: &mut G) -> Option<()> {
+fn composite<G: Follow>(g: &mut G) -> Option<()> {
     g.fixed_or_else(&[0x65])?;
     for tag in [0x4C, 0x4D] {
         if g.fixed_or_else(&[tag])? {
@@ -441,7 +441,7 @@ fn composite<G: Along>(g: &mut G) -> Option<()> {
     }
 }
 
-fn subtype<G: Along>(g: &mut G) -> Option<()> {
+fn subtype<G: Follow>(g: &mut G) -> Option<()> {
     let supertypes = |g: &mut G| match (g.tag_or_else(&[0x50, 0x4F], 3)?, g.grammar()) {
         (None, _) => Some(()),
         (Some(0x4F), Grammar::Builders) => g.vector_of_some(u32_any),
@@ -451,7 +451,7 @@ fn subtype<G: Along>(g: &mut G) -> Option<()> {
     composite(g)
 }
 
-fn type_item<G: Along>(g: &mut G) -> Option<()> {
+fn type_item<G: Follow>(g: &mut G) -> Option<()> {
     if g.fixed_or_else(&[0x4E])? {
         g.vector(subtype)
     } else {
@@ -461,17 +461,17 @@ fn type_item<G: Along>(g: &mut G) -> Option<()> {
 
 // ---- custom sections
 
-fn naming<G: Along>(g: &mut G) -> Option<()> {
+fn naming<G: Follow>(g: &mut G) -> Option<()> {
     u32_any(g)?;
     g.name()
 }
 
-fn indirect_naming<G: Along>(g: &mut G) -> Option<()> {
+fn indirect_naming<G: Follow>(g: &mut G) -> Option<()> {
     u32_any(g)?;
     g.vector(naming)
 }
 
-fn subsection<G: Along>(g: &mut G) -> Option<()> {
+fn subsection<G: Follow>(g: &mut G) -> Option<()> {
     let every: Vec<u8> = (0..=255).collect();
     match g.tag(&every)? {
         0 => g.frame(&|g: &mut G| g.name()),
@@ -481,7 +481,7 @@ fn subsection<G: Along>(g: &mut G) -> Option<()> {
     }
 }
 
-fn symbol<G: Along>(g: &mut G) -> Option<()> {
+fn symbol<G: Follow>(g: &mut G) -> Option<()> {
     let kinds: &[u8] = match g.grammar() {
         Grammar::Builders => &[0, 1, 2, 5],
         Grammar::Standard => &[0, 1, 2, 3, 4, 5],
@@ -507,18 +507,18 @@ fn symbol<G: Along>(g: &mut G) -> Option<()> {
     }
 }
 
-fn segment_info<G: Along>(g: &mut G) -> Option<()> {
+fn segment_info<G: Follow>(g: &mut G) -> Option<()> {
     g.name()?;
     u32_any(g)?;
     u32_any(g)
 }
 
-fn init_function<G: Along>(g: &mut G) -> Option<()> {
+fn init_function<G: Follow>(g: &mut G) -> Option<()> {
     u32_any(g)?;
     u32_any(g)
 }
 
-fn comdat<G: Along>(g: &mut G) -> Option<()> {
+fn comdat<G: Follow>(g: &mut G) -> Option<()> {
     g.name()?;
     u32_any(g)?;
     g.vector(|g| {
@@ -527,7 +527,7 @@ fn comdat<G: Along>(g: &mut G) -> Option<()> {
     })
 }
 
-fn link<G: Along>(g: &mut G) -> Option<()> {
+fn link<G: Follow>(g: &mut G) -> Option<()> {
     let kinds: &[u8] = match g.grammar() {
         Grammar::Builders => &[8, 9],
         Grammar::Standard => &[5, 6, 7, 8, 9],
@@ -541,7 +541,7 @@ fn link<G: Along>(g: &mut G) -> Option<()> {
     }
 }
 
-fn field<G: Along>(g: &mut G) -> Option<()> {
+fn field<G: Follow>(g: &mut G) -> Option<()> {
     g.name()?;
     g.vector(|g| {
         g.name()?;
@@ -549,7 +549,7 @@ fn field<G: Along>(g: &mut G) -> Option<()> {
     })
 }
 
-fn hints<G: Along>(g: &mut G) -> Option<()> {
+fn hints<G: Follow>(g: &mut G) -> Option<()> {
     u32_any(g)?;
     g.vector(|g| {
         u32_any(g)?;
@@ -559,19 +559,19 @@ fn hints<G: Along>(g: &mut G) -> Option<()> {
     })
 }
 
-fn core_module<G: Along>(g: &mut G) -> Option<()> {
+fn core_module<G: Follow>(g: &mut G) -> Option<()> {
     g.tag(&[0])?;
     g.name()
 }
 
-fn core_instance<G: Along>(g: &mut G) -> Option<()> {
+fn core_instance<G: Follow>(g: &mut G) -> Option<()> {
     g.tag(&[0])?;
     u32_any(g)?;
     g.vector(u32_any)?;
     g.vector(u32_any)
 }
 
-fn core_value<G: Along>(g: &mut G) -> Option<()> {
+fn core_value<G: Follow>(g: &mut G) -> Option<()> {
     match g.tag(&[0x01, 0x7F, 0x7E, 0x7D, 0x7C])? {
         0x7F => g.signed(32).map(|_| ()),
         0x7E => g.signed(64).map(|_| ()),
@@ -581,7 +581,7 @@ fn core_value<G: Along>(g: &mut G) -> Option<()> {
     }
 }
 
-fn core_frame<G: Along>(g: &mut G) -> Option<()> {
+fn core_frame<G: Follow>(g: &mut G) -> Option<()> {
     g.tag(&[0])?;
     u32_any(g)?;
     u32_any(g)?;
@@ -590,7 +590,7 @@ fn core_frame<G: Along>(g: &mut G) -> Option<()> {
     g.vector(core_value)
 }
 
-fn until_end<G: Along>(g: &mut G, item: fn(&mut G) -> Option<()>) -> Option<()> {
+fn until_end<G: Follow>(g: &mut G, item: fn(&mut G) -> Option<()>) -> Option<()> {
     while g.goes_on() {
         item(g)?;
     }
@@ -626,7 +626,7 @@ pub const KINDS: [&str; 23] = [
     "Types",
 ];
 
-fn content<G: Along>(g: &mut G, kind: &str) -> Option<()> {
+fn content<G: Follow>(g: &mut G, kind: &str) -> Option<()> {
     match kind {
         "Bodies" => g.vector(body),
         "Segments" => g.vector(segment),
@@ -667,6 +667,6 @@ fn content<G: Along>(g: &mut G, kind: &str) -> Option<()> {
 }
 
 /// A section of the kind: a frame.
-pub fn section<G: Along>(g: &mut G, kind: &str) -> Option<()> {
+pub fn section<G: Follow>(g: &mut G, kind: &str) -> Option<()> {
     g.frame(&|g: &mut G| content(g, kind))
 }

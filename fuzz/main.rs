@@ -1,4 +1,4 @@
-//! Holds the proved reader against a plain one: random and changed sections of every kind through `dz_shorten`. See README.md.
+//! Compares the proved reader with a plain one: random and changed sections of every kind through `dz_shorten`. See README.md.
 
 mod grammar;
 mod maker;
@@ -27,10 +27,10 @@ const GRAMMARS: [Grammar; 4] = [
     Grammar::Standard,
 ];
 
-/// What stands in the room that an answer leaves free.
+/// The bytes of the output that the library must not write.
 const BLANK: u8 = 0xA5;
 
-/// The shortest text by the library, and how many bytes were taken. `Err` is the number of a cause, or 0 where what it left is not what it says.
+/// The length of the minimal encoding that the library writes, and how many bytes it decodes. `Err` is the number of a cause, or 0 if the outputs contradict one another.
 fn by_library(kind: u32, bytes: &[u8], room: &mut [u8]) -> Result<(usize, u64), u32> {
     let (mut taken, mut cause) = (7, 7);
     let answer = unsafe {
@@ -55,7 +55,7 @@ fn by_library(kind: u32, bytes: &[u8], room: &mut [u8]) -> Result<(usize, u64), 
     }
 }
 
-/// Whether both readers answer the same; and whether there was a text.
+/// Whether both readers give the same; and whether there was a section.
 fn agree(kind: u32, bytes: &[u8]) -> (bool, bool) {
     let mut room = vec![BLANK; bytes.len()];
     let library = by_library(kind, bytes, &mut room);
@@ -63,10 +63,10 @@ fn agree(kind: u32, bytes: &[u8]) -> (bool, bool) {
         shortened(bytes, KINDS[kind as usize], Grammar::Builders),
         library,
     ) {
-        (Some((text, taken)), Ok((length, by))) => (
+        (Some((encoding, taken)), Ok((length, by))) => (
             taken as u64 == by
-                && length == text.len()
-                && room[..length] == text[..]
+                && length == encoding.len()
+                && room[..length] == encoding[..]
                 && room[length..].iter().all(|byte| *byte == BLANK),
             true,
         ),
@@ -91,21 +91,24 @@ fn main() -> ExitCode {
     };
     let begun = Instant::now();
     let mut random = Random::new(seed);
-    let (mut texts, mut differences, mut bytes) = ([0u64; KINDS.len()], 0, 0);
+    let (mut sections, mut differences, mut bytes) = ([0u64; KINDS.len()], 0, 0);
     for number in 0..count {
         let kind = (number % KINDS.len() as u64) as u32;
         let grammar = random.one_of(&GRAMMARS);
         let input = input(&mut random, KINDS[kind as usize], grammar);
-        let (is_same, is_text) = agree(kind, &input);
-        texts[kind as usize] += u64::from(is_text);
+        let (is_same, is_section) = agree(kind, &input);
+        sections[kind as usize] += u64::from(is_section);
         bytes += input.len();
         if !is_same {
             differences += 1;
             println!("{} {}", KINDS[kind as usize], show(&input));
         }
     }
-    for (kind, texts) in KINDS.iter().zip(texts) {
-        println!("{kind}: {texts} texts of {}", count / KINDS.len() as u64);
+    for (kind, sections) in KINDS.iter().zip(sections) {
+        println!(
+            "{kind}: {sections} sections of {}",
+            count / KINDS.len() as u64
+        );
     }
     println!(
         "seed {seed}: {count} inputs of {bytes} bytes, {differences} differences, {} s",

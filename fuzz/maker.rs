@@ -1,6 +1,6 @@
-//! Makes random texts of the grammar, some numbers padded, and changes them.
+//! Makes random encodings of the grammar, with some numbers padded, and changes them.
 
-use crate::grammar::{Along, Grammar, table};
+use crate::grammar::{Follow, Grammar, table};
 use crate::plain::{put_signed, put_unsigned};
 
 pub struct Random(u64);
@@ -37,7 +37,7 @@ impl Random {
 
 pub struct Maker<'r> {
     pub random: &'r mut Random,
-    pub text: Vec<u8>,
+    pub encoding: Vec<u8>,
     /// How many more members, instructions and items may be made.
     left: usize,
     grammar: Grammar,
@@ -59,33 +59,33 @@ impl<'r> Maker<'r> {
     pub fn new(random: &'r mut Random, left: usize, grammar: Grammar) -> Self {
         Maker {
             random,
-            text: Vec::new(),
+            encoding: Vec::new(),
             left,
             grammar,
         }
     }
 
-    /// Spreads a shortest number over more bytes: zeros, or copies of the sign.
+    /// Pads a minimal number with zeros, or copies of the sign.
     fn pad(&mut self, begun: usize, most: usize, filling: u8) {
         if !self.random.one_in(6) {
             return;
         }
-        let length = self.text.len() - begun;
+        let length = self.encoding.len() - begun;
         // A number too long at times.
         let more = self
             .random
             .below(most - length + 1 + usize::from(self.random.0 % 16 == 0));
         for _ in 0..more {
-            if let Some(last) = self.text.last_mut() {
+            if let Some(last) = self.encoding.last_mut() {
                 *last |= 0x80;
             }
-            self.text.push(filling);
+            self.encoding.push(filling);
         }
     }
 
     pub fn unsigned(&mut self, n: u64, bits: u32) {
-        let begun = self.text.len();
-        put_unsigned(&mut self.text, n);
+        let begun = self.encoding.len();
+        put_unsigned(&mut self.encoding, n);
         self.pad(begun, bits.div_ceil(7) as usize, 0x00);
     }
 
@@ -107,7 +107,7 @@ impl<'r> Maker<'r> {
     }
 }
 
-impl Along for Maker<'_> {
+impl Follow for Maker<'_> {
     fn grammar(&self) -> Grammar {
         self.grammar
     }
@@ -122,7 +122,7 @@ impl Along for Maker<'_> {
 
     fn tag(&mut self, tags: &[u8]) -> Option<u8> {
         let tag = self.random.one_of(tags);
-        self.text.push(tag);
+        self.encoding.push(tag);
         Some(tag)
     }
 
@@ -137,7 +137,7 @@ impl Along for Maker<'_> {
     fn fixed_or_else(&mut self, bytes: &[u8]) -> Option<bool> {
         let is = self.random.one_in(3);
         if is {
-            self.text.extend(bytes);
+            self.encoding.extend(bytes);
         }
         Some(is)
     }
@@ -145,7 +145,7 @@ impl Along for Maker<'_> {
     fn raw(&mut self, count: usize) -> Option<()> {
         for _ in 0..count {
             let byte = self.random.next() as u8;
-            self.text.push(byte);
+            self.encoding.push(byte);
         }
         Some(())
     }
@@ -167,8 +167,8 @@ impl Along for Maker<'_> {
     fn signed(&mut self, bits: u32) -> Option<i64> {
         let n = (self.some(bits) << (64 - bits)) as i64 >> (64 - bits);
         let n = if self.random.one_in(2) { n } else { !n };
-        let begun = self.text.len();
-        put_signed(&mut self.text, n);
+        let begun = self.encoding.len();
+        put_signed(&mut self.encoding, n);
         self.pad(
             begun,
             bits.div_ceil(7) as usize,
@@ -179,8 +179,8 @@ impl Along for Maker<'_> {
 
     fn index(&mut self) -> Option<()> {
         let n = self.some(32);
-        let begun = self.text.len();
-        put_signed(&mut self.text, n as i64);
+        let begun = self.encoding.len();
+        put_signed(&mut self.encoding, n as i64);
         self.pad(begun, 5, 0x00);
         Some(())
     }
@@ -192,7 +192,7 @@ impl Along for Maker<'_> {
 
     fn named(&mut self, name: &str) -> Option<()> {
         self.unsigned(name.len() as u64, 32);
-        self.text.extend(name.bytes());
+        self.encoding.extend(name.bytes());
         Some(())
     }
 
@@ -208,10 +208,10 @@ impl Along for Maker<'_> {
         }
         match row.prefix {
             Some(prefix) => {
-                self.text.push(prefix);
+                self.encoding.push(prefix);
                 self.unsigned(u64::from(row.number), 32);
             }
-            None => self.text.push(row.number as u8),
+            None => self.encoding.push(row.number as u8),
         }
         Some(row.shape)
     }
@@ -240,11 +240,11 @@ impl Along for Maker<'_> {
     }
 
     fn frame(&mut self, content: &dyn Fn(&mut Self) -> Option<()>) -> Option<()> {
-        let outer = std::mem::take(&mut self.text);
+        let outer = std::mem::take(&mut self.encoding);
         content(self)?;
-        let mut inner = std::mem::replace(&mut self.text, outer);
+        let mut inner = std::mem::replace(&mut self.encoding, outer);
         self.unsigned(inner.len() as u64, 32);
-        self.text.append(&mut inner);
+        self.encoding.append(&mut inner);
         Some(())
     }
 
@@ -258,7 +258,7 @@ impl Along for Maker<'_> {
     fn ends(&mut self) -> Option<bool> {
         let ends = !self.goes_on();
         if ends {
-            self.text.push(0x0B);
+            self.encoding.push(0x0B);
         }
         Some(ends)
     }
@@ -271,28 +271,28 @@ const BYTES: [u8; 24] = [
 ];
 
 /// One change: a byte is another, comes or goes, or what follows is cut off.
-fn change(random: &mut Random, text: &mut Vec<u8>) {
-    if text.is_empty() {
+fn change(random: &mut Random, encoding: &mut Vec<u8>) {
+    if encoding.is_empty() {
         return;
     }
-    let place = random.below(text.len());
+    let place = random.below(encoding.len());
     let byte = if random.one_in(2) {
         random.one_of(&BYTES)
     } else {
         random.next() as u8
     };
     match random.below(8) {
-        0 => text.insert(place, byte),
-        1 => drop(text.remove(place)),
-        2 => text.truncate(place),
-        3 => text[place] ^= 1 << random.below(8),
-        4 => text[place] = text[place].wrapping_add(1),
-        5 => text[place] = text[place].wrapping_sub(1),
-        _ => text[place] = byte,
+        0 => encoding.insert(place, byte),
+        1 => drop(encoding.remove(place)),
+        2 => encoding.truncate(place),
+        3 => encoding[place] ^= 1 << random.below(8),
+        4 => encoding[place] = encoding[place].wrapping_add(1),
+        5 => encoding[place] = encoding[place].wrapping_sub(1),
+        _ => encoding[place] = byte,
     }
 }
 
-/// A text of the kind in the grammar, changed at times, with bytes behind it at times; or, at times, any bytes.
+/// A section of the kind in the grammar, sometimes changed, and sometimes with bytes after it; or, sometimes, any bytes.
 pub fn input(random: &mut Random, kind: &str, grammar: Grammar) -> Vec<u8> {
     let left = 1 + random.below(8);
     let mut maker = Maker::new(random, left, grammar);
@@ -302,12 +302,12 @@ pub fn input(random: &mut Random, kind: &str, grammar: Grammar) -> Vec<u8> {
     } else {
         let _ = crate::grammar::section(&mut maker, kind);
     }
-    let mut text = maker.text;
+    let mut encoding = maker.encoding;
     for _ in 0..[0, 0, 1, 1, 1, 2, 3, 5][random.below(8)] {
-        change(random, &mut text);
+        change(random, &mut encoding);
     }
     if random.one_in(4) {
-        text.push(random.next() as u8);
+        encoding.push(random.next() as u8);
     }
-    text
+    encoding
 }

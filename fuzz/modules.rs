@@ -1,4 +1,4 @@
-//! Holds `shorten_module` and `outline` against a plain reader: random modules, of random and changed sections. See README.md.
+//! Compares `shorten_module` and `outline` with a plain reader: random modules of random and changed sections. See README.md.
 
 use crate::grammar::{Grammar, KINDS};
 use crate::maker::{Maker, Random, input};
@@ -62,7 +62,7 @@ fn id_of(random: &mut Random, kind: &str) -> u8 {
     }
 }
 
-/// What a frame at the front holds, or all bytes where there is none. Of a frame that is cut off it is what is left.
+/// The bytes after a size prefix, as many as it says or as there are; or all bytes, if there is no size prefix.
 fn unframed(bytes: &[u8]) -> &[u8] {
     let mut along = Plain::new(bytes, Grammar::Builders);
     match along.unsigned(32) {
@@ -79,13 +79,13 @@ fn relocations(random: &mut Random) -> Vec<u8> {
     maker.unsigned(count as u64, 32);
     for _ in 0..count {
         let kind = [0, 3, 7, 8, 9, 22][maker.random.below(6)];
-        maker.text.push(kind);
+        maker.encoding.push(kind);
         for _ in 0..if [0, 7].contains(&kind) { 2 } else { 3 } {
             let number = maker.random.below(60) as u64;
             maker.unsigned(number, 32);
         }
     }
-    maker.text
+    maker.encoding
 }
 
 /// A custom section of no kind: its name, whose length is padded at times, and relocations or any bytes.
@@ -106,21 +106,21 @@ fn custom(random: &mut Random) -> Vec<u8> {
     };
     let mut maker = Maker::new(random, 0, Grammar::Builders);
     maker.unsigned(name.len() as u64, 32);
-    let mut text = maker.text;
-    text.extend(name.bytes());
-    text.extend(data);
-    text
+    let mut encoding = maker.encoding;
+    encoding.extend(name.bytes());
+    encoding.extend(data);
+    encoding
 }
 
-/// Puts a frame around what it holds. Its size is padded at times.
+/// Prefixes a payload with its size, which is sometimes padded.
 fn framed(random: &mut Random, payload: &[u8]) -> Vec<u8> {
     let mut maker = Maker::new(random, 0, Grammar::Builders);
     maker.unsigned(payload.len() as u64, 32);
-    maker.text.extend(payload);
-    maker.text
+    maker.encoding.extend(payload);
+    maker.encoding
 }
 
-/// Appends a section: a text of its kind, changed at times, mostly in a frame that fits; at times with another id.
+/// Appends a section of a kind, sometimes changed, mostly with a size that fits, and sometimes with another id.
 fn add_section(random: &mut Random, module: &mut Vec<u8>) {
     if random.one_in(4) {
         let payload = custom(random);
@@ -139,12 +139,12 @@ fn add_section(random: &mut Random, module: &mut Vec<u8>) {
         id_of(random, kind)
     };
     let grammar = random.one_of(&[Grammar::Builders, Grammar::Standard]);
-    let text = input(random, kind, grammar);
+    let encoding = input(random, kind, grammar);
     module.push(id);
     if random.one_in(64) {
-        module.extend(text);
+        module.extend(encoding);
     } else {
-        module.extend(framed(random, unframed(&text)));
+        module.extend(framed(random, unframed(&encoding)));
     }
 }
 
@@ -165,22 +165,22 @@ fn module(random: &mut Random) -> Vec<u8> {
     module
 }
 
-// ---- what the library answers
+// ---- what the library gives
 
-/// What stands in the sink before.
+/// The bytes in the sink before.
 const BEFORE: [u8; 3] = [0x0A, 0x80, 0xA5];
 
-/// What the library answers, or `None` where the sink or the cause is not what it says.
+/// What the library gives, or `None` if the sink or the cause contradicts it.
 fn by_library(bytes: &[u8], offsets: Offsets) -> Option<Answer> {
     let mut sink = dolzhytik::fallible::Vec::from_slice(Global, &BEFORE).ok()?;
     let answer = shorten_module(bytes, offsets, &mut sink);
-    let text = sink.strip_prefix(&BEFORE)?;
+    let encoding = sink.strip_prefix(&BEFORE)?;
     match answer {
         Ok(kept) => Some(Answer::Shortened {
-            text: text.to_vec(),
+            encoding: encoding.to_vec(),
             kept,
         }),
-        Err(_) if !text.is_empty() => None,
+        Err(_) if !encoding.is_empty() => None,
         Err(ModuleFault::Section {
             fault: ReadFault::Memory | ReadFault::NotShortest,
             ..
@@ -190,19 +190,19 @@ fn by_library(bytes: &[u8], offsets: Offsets) -> Option<Answer> {
     }
 }
 
-/// Whether the text is a module of the same ids in the same order, but those that are left out, no longer, and shortened to itself.
-fn is_settled(bytes: &[u8], text: &[u8], kept: usize, offsets: Offsets) -> bool {
-    let (Ok(before), Ok(after)) = (sections(bytes), sections(text)) else {
+/// Whether the output is a module with the same ids in the same order, but those that are left out, is no longer, and is minimized to itself.
+fn is_settled(bytes: &[u8], encoding: &[u8], kept: usize, offsets: Offsets) -> bool {
+    let (Ok(before), Ok(after)) = (sections(bytes), sections(encoding)) else {
         return false;
     };
     let is_in = |section: &&Section<'_>| offsets == Offsets::Refuse || section.holder().is_none();
     let ids = before.iter().filter(is_in).map(|section| section.id);
-    let again = by_library(text, offsets);
+    let again = by_library(encoding, offsets);
     ids.eq(after.iter().map(|section| section.id))
-        && text.len() <= bytes.len()
+        && encoding.len() <= bytes.len()
         && again
             == Some(Answer::Shortened {
-                text: text.to_vec(),
+                encoding: encoding.to_vec(),
                 kept,
             })
 }
@@ -229,7 +229,7 @@ fn is_outlined(bytes: &[u8]) -> bool {
     }
 }
 
-/// How many answers were of each form.
+/// How many results there were of each form.
 #[derive(Default)]
 struct Counts {
     shortened: u64,
@@ -240,7 +240,7 @@ struct Counts {
     left_out: u64,
     /// Modules whose offsets lead elsewhere in what the library writes.
     broken: u64,
-    /// Modules with offsets that are shortened by bytes and lose none, by the first section that holds some.
+    /// Modules that get smaller and keep their offsets, by the first section that holds some.
     saved: [u64; HOLDERS.len()],
     /// Modules that are refused though no offset would lead elsewhere, by why.
     careful: [u64; CARES.len()],
@@ -250,7 +250,7 @@ impl Counts {
     /// Counts what becomes of offsets.
     fn count_offsets(&mut self, bytes: &[u8], answer: &Answer) {
         match answer {
-            Answer::Shortened { text, .. } if text.len() < bytes.len() => {
+            Answer::Shortened { encoding, .. } if encoding.len() < bytes.len() => {
                 let first = sections(bytes)
                     .ok()
                     .and_then(|all| all.iter().find_map(Section::holder));
@@ -260,7 +260,7 @@ impl Counts {
             }
             Answer::Offsets(number)
                 if shortest_module(bytes)
-                    .is_some_and(|text| first_broken(bytes, &text).is_none()) =>
+                    .is_some_and(|encoding| first_broken(bytes, &encoding).is_none()) =>
             {
                 let why = why_refused(bytes, *number);
                 if let Some(place) = CARES.iter().position(|care| Some(*care) == why) {
@@ -274,9 +274,9 @@ impl Counts {
     /// Counts the answer where offsets are refused.
     fn count(&mut self, bytes: &[u8], answer: &Answer) {
         match answer {
-            Answer::Shortened { text, kept } => {
+            Answer::Shortened { encoding, kept } => {
                 self.shortened += 1;
-                self.shorter += u64::from(text.len() < bytes.len());
+                self.shorter += u64::from(encoding.len() < bytes.len());
                 self.with_kept += u64::from(*kept > 0);
             }
             Answer::NoSection(_) => self.no_section += 1,
@@ -288,9 +288,9 @@ impl Counts {
 /// Whether the offsets that the library says are kept lead where they did, and the section that it names comes no later than the first whose offsets would not.
 fn keeps_offsets(bytes: &[u8], answer: &Answer) -> bool {
     match answer {
-        Answer::Shortened { text, .. } => first_broken(bytes, text).is_none(),
+        Answer::Shortened { encoding, .. } => first_broken(bytes, encoding).is_none(),
         Answer::Offsets(number) => {
-            let broken = shortest_module(bytes).and_then(|text| first_broken(bytes, &text));
+            let broken = shortest_module(bytes).and_then(|encoding| first_broken(bytes, &encoding));
             broken.is_none_or(|first| *number <= first)
         }
         Answer::NoSection(_) => true,
@@ -317,8 +317,9 @@ fn agree(bytes: &[u8], offsets: Offsets, counts: &mut Counts) -> bool {
         counts.left_out += 1;
     }
     match given {
-        Some(Answer::Shortened { text, kept }) => {
-            is_settled(bytes, &text, kept, offsets) && expected == Answer::Shortened { text, kept }
+        Some(Answer::Shortened { encoding, kept }) => {
+            is_settled(bytes, &encoding, kept, offsets)
+                && expected == Answer::Shortened { encoding, kept }
         }
         Some(answer) => answer == expected,
         None => false,

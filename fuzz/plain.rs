@@ -1,29 +1,29 @@
-//! A plain reader: it goes along a text and writes the shortest one of the same items, in the builders' encodings.
+//! A plain reader: it decodes bytes, and writes the minimal encoding of the same items as builders write it.
 
-use crate::grammar::{Along, Grammar, table};
+use crate::grammar::{Follow, Grammar, table};
 use std::collections::HashMap;
 use std::sync::OnceLock;
 
 pub struct Plain<'a> {
     pub rest: &'a [u8],
-    pub text: Vec<u8>,
+    pub encoding: Vec<u8>,
     grammar: Grammar,
 }
 
-pub fn put_unsigned(text: &mut Vec<u8>, mut n: u64) {
+pub fn put_unsigned(encoding: &mut Vec<u8>, mut n: u64) {
     while n > 0x7F {
-        text.push(n as u8 | 0x80);
+        encoding.push(n as u8 | 0x80);
         n >>= 7;
     }
-    text.push(n as u8);
+    encoding.push(n as u8);
 }
 
-pub fn put_signed(text: &mut Vec<u8>, mut n: i64) {
+pub fn put_signed(encoding: &mut Vec<u8>, mut n: i64) {
     while !(-0x40..0x40).contains(&n) {
-        text.push(n as u8 | 0x80);
+        encoding.push(n as u8 | 0x80);
         n >>= 7;
     }
-    text.push(n as u8 & 0x7F);
+    encoding.push(n as u8 & 0x7F);
 }
 
 /// The shape of each opcode, by its prefix, or 0, and its number.
@@ -42,7 +42,7 @@ impl<'a> Plain<'a> {
     pub fn new(rest: &'a [u8], grammar: Grammar) -> Self {
         Plain {
             rest,
-            text: Vec::new(),
+            encoding: Vec::new(),
             grammar,
         }
     }
@@ -86,12 +86,12 @@ impl<'a> Plain<'a> {
 
     fn counted(&mut self) -> Option<usize> {
         let count = self.unsigned(32)?;
-        put_unsigned(&mut self.text, count);
+        put_unsigned(&mut self.encoding, count);
         Some(count as usize)
     }
 }
 
-impl Along for Plain<'_> {
+impl Follow for Plain<'_> {
     fn grammar(&self) -> Grammar {
         self.grammar
     }
@@ -101,18 +101,18 @@ impl Along for Plain<'_> {
         item: fn(&mut Self) -> Option<()>,
         other: fn(&[u8]) -> Option<Vec<u8>>,
     ) -> Option<()> {
-        let begun = self.text.len();
+        let begun = self.encoding.len();
         item(self)?;
-        if let Some(bytes) = other(&self.text[begun..]) {
-            self.text.truncate(begun);
-            self.text.extend(bytes);
+        if let Some(bytes) = other(&self.encoding[begun..]) {
+            self.encoding.truncate(begun);
+            self.encoding.extend(bytes);
         }
         Some(())
     }
 
     fn tag(&mut self, tags: &[u8]) -> Option<u8> {
         let byte = self.byte()?;
-        self.text.push(byte);
+        self.encoding.push(byte);
         tags.contains(&byte).then_some(byte)
     }
 
@@ -133,7 +133,7 @@ impl Along for Plain<'_> {
 
     fn raw(&mut self, count: usize) -> Option<()> {
         let bytes = self.take(count)?;
-        self.text.extend(bytes);
+        self.encoding.extend(bytes);
         Some(())
     }
 
@@ -143,13 +143,13 @@ impl Along for Plain<'_> {
 
     fn number(&mut self, bits: u32, is_in: fn(u64) -> bool) -> Option<u64> {
         let n = self.unsigned(bits)?;
-        put_unsigned(&mut self.text, n);
+        put_unsigned(&mut self.encoding, n);
         is_in(n).then_some(n)
     }
 
     fn signed(&mut self, bits: u32) -> Option<i64> {
         let n = self.in_twos_complement(bits)?;
-        put_signed(&mut self.text, n);
+        put_signed(&mut self.encoding, n);
         Some(n)
     }
 
@@ -162,20 +162,20 @@ impl Along for Plain<'_> {
         let length = self.counted()?;
         let bytes = self.take(length)?;
         std::str::from_utf8(bytes).ok()?;
-        self.text.extend(bytes);
+        self.encoding.extend(bytes);
         Some(())
     }
 
     fn named(&mut self, name: &str) -> Option<()> {
         let length = self.counted()?;
         let bytes = self.take(length)?;
-        self.text.extend(bytes);
+        self.encoding.extend(bytes);
         (bytes == name.as_bytes()).then_some(())
     }
 
     fn opcode(&mut self, with_end: bool) -> Option<&'static str> {
         let byte = self.byte()?;
-        self.text.push(byte);
+        self.encoding.push(byte);
         let number = if (0xFB..=0xFE).contains(&byte) {
             self.number(32, |_| true)? as u32
         } else {
@@ -222,8 +222,8 @@ impl Along for Plain<'_> {
         if !inner.rest.is_empty() {
             return None;
         }
-        put_unsigned(&mut self.text, inner.text.len() as u64);
-        self.text.append(&mut inner.text);
+        put_unsigned(&mut self.encoding, inner.encoding.len() as u64);
+        self.encoding.append(&mut inner.encoding);
         Some(())
     }
 
@@ -240,10 +240,10 @@ impl Along for Plain<'_> {
     }
 }
 
-/// The shortest text, by builders, of the section of the kind that stands at the front in the grammar, and how many bytes it takes there.
+/// The minimal encoding, by builders, of the section of the kind at the front, and how many bytes that section has.
 pub fn shortened(bytes: &[u8], kind: &str, grammar: Grammar) -> Option<(Vec<u8>, usize)> {
     let mut along = Plain::new(bytes, grammar);
     crate::grammar::section(&mut along, kind)?;
     let taken = bytes.len() - along.rest.len();
-    Some((along.text, taken))
+    Some((along.encoding, taken))
 }

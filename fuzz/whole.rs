@@ -1,14 +1,14 @@
-//! A plain reader of modules: their sections, whatever these hold, an outline of them, and the module in its fewest bytes.
+//! A plain reader of modules: their sections, an outline of them, and the module with minimal sections.
 
-use crate::grammar::{Along, Grammar};
+use crate::grammar::{Follow, Grammar};
 use crate::plain::{Plain, shortened};
 
 const HEADER: &[u8] = b"\0asm\x01\0\0\0";
 
-/// A section as it stands.
+/// A section, with its bytes.
 pub struct Section<'a> {
     pub id: u8,
-    /// The place in the module of what the frame holds.
+    /// The offset of the payload in the module.
     pub offset: usize,
     /// The size and what it counts.
     pub framed: &'a [u8],
@@ -83,10 +83,10 @@ impl Section<'_> {
         }
     }
 
-    /// The shortest text in place of the frame, where it is read as its kind in the grammar.
+    /// The minimal encoding of the size and the payload, if the section decodes as its kind in the grammar.
     fn shortest(&self, grammar: Grammar) -> Option<Vec<u8>> {
-        let (text, taken) = shortened(self.framed, self.kind(), grammar)?;
-        (taken == self.framed.len()).then_some(text)
+        let (encoding, taken) = shortened(self.framed, self.kind(), grammar)?;
+        (taken == self.framed.len()).then_some(encoding)
     }
 
     /// How many items an outline has.
@@ -216,11 +216,11 @@ pub fn first_broken(before: &[u8], after: &[u8]) -> Option<usize> {
 
 // ---- modules
 
-/// What shortening a module comes to.
+/// What minimizing a module gives.
 #[derive(PartialEq, Eq, Debug)]
 pub enum Answer {
     Shortened {
-        text: Vec<u8>,
+        encoding: Vec<u8>,
         kept: usize,
     },
     /// The section of this number is none.
@@ -232,11 +232,11 @@ pub enum Answer {
 /// A section, and what is written for it.
 struct Rewritten<'a, 'b> {
     section: &'b Section<'a>,
-    text: Vec<u8>,
+    encoding: Vec<u8>,
     is_kept: bool,
 }
 
-/// Each section in its fewest bytes.
+/// Each section in its minimal encoding.
 fn rewritten<'a, 'b>(sections: impl Iterator<Item = &'b Section<'a>>) -> Vec<Rewritten<'a, 'b>>
 where
     'a: 'b,
@@ -246,7 +246,7 @@ where
         Rewritten {
             section,
             is_kept: shortest.is_none(),
-            text: shortest.unwrap_or_else(|| section.framed.to_vec()),
+            encoding: shortest.unwrap_or_else(|| section.framed.to_vec()),
         }
     };
     sections.map(one).collect()
@@ -256,7 +256,7 @@ fn joined(written: &[Rewritten<'_, '_>]) -> Vec<u8> {
     let mut module = HEADER.to_vec();
     for w in written {
         module.push(w.section.id);
-        module.extend(&w.text);
+        module.extend(&w.encoding);
     }
     module
 }
@@ -266,7 +266,7 @@ fn is_refused(holder: Holder, written: &[Rewritten<'_, '_>]) -> bool {
     let differs = |ids: &[u8]| {
         written
             .iter()
-            .any(|w| ids.contains(&w.section.id) && w.text != w.section.framed)
+            .any(|w| ids.contains(&w.section.id) && w.encoding != w.section.framed)
     };
     let moves = || {
         let last = written
@@ -275,7 +275,7 @@ fn is_refused(holder: Holder, written: &[Rewritten<'_, '_>]) -> bool {
             .unwrap_or(0);
         written[..last]
             .iter()
-            .any(|w| w.text.len() != w.section.framed.len())
+            .any(|w| w.encoding.len() != w.section.framed.len())
     };
     match holder {
         Holder::Relocations => differs(&[0, 10, 11]),
@@ -284,12 +284,12 @@ fn is_refused(holder: Holder, written: &[Rewritten<'_, '_>]) -> bool {
     }
 }
 
-/// The module in its fewest bytes, with sections that hold offsets, whether these are lost or not.
+/// The module with minimal sections, whether offsets in it are still right or not.
 pub fn shortest_module(bytes: &[u8]) -> Option<Vec<u8>> {
     Some(joined(&rewritten(sections(bytes).ok()?.iter())))
 }
 
-/// What shortening the module comes to, with sections that hold offsets or without them.
+/// What minimizing the module gives, with sections that hold offsets or without them.
 pub fn shortened_module(bytes: &[u8], leaves_out: bool) -> Answer {
     let sections = match sections(bytes) {
         Ok(sections) => sections,
@@ -308,7 +308,7 @@ pub fn shortened_module(bytes: &[u8], leaves_out: bool) -> Answer {
     match lost {
         Some(place) if !leaves_out => Answer::Offsets(place + 1),
         _ => Answer::Shortened {
-            text: joined(&written),
+            encoding: joined(&written),
             kept: written.iter().filter(|w| w.is_kept).count(),
         },
     }
@@ -340,8 +340,8 @@ pub fn why_refused(before: &[u8], number: usize) -> Option<Care> {
     let written = rewritten(all.iter());
     let holder = all.get(number - 1)?.holder()?;
     let payload_moves = |ids: &[u8]| {
-        let text = joined(&written);
-        let after = sections(&text).unwrap_or_default();
+        let encoding = joined(&written);
+        let after = sections(&encoding).unwrap_or_default();
         all.iter()
             .zip(&after)
             .any(|(b, a)| ids.contains(&b.id) && !has_same_payload(b, a))
