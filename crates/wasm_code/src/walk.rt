@@ -2,7 +2,7 @@
 ghost use Rattle.std.specs.Prelude.{◌≡◌, ◌≢◌, ◌≤◌, ◌<◌, ◌+◌, [], ◌∷◌, IfOk, IfErr, IfSome, None, drop, length, map};
 ghost use Rattle.wasm_base.specs.Formats.{u32, pair, such, vec};
 ghost use Rattle.wasm_base.specs.Continuing.{RejectsWhole};
-ghost use Rattle.wasm_base.specs.Numbers.{padded};
+ghost use Rattle.wasm_base.specs.Numbers.{padded, standard, padded_of};
 ghost use Rattle.wasm_base.specs.Decoding.{Decodes, Rejects};
 ghost use Rattle.wasm_base.specs.Types.{val_type};
 ghost use Rattle.wasm_insn.specs.Plain.{instruction};
@@ -15,8 +15,8 @@ ghost use Rattle.wasm_code.specs.Walks.{Walking, ahead};
 
 use crate::expression::END;
 use std::alloc::{Allocator, Global};
-use std::marker::Model;
-use wasm_base::{DecodeError, Padded, ReadFault, Readable, ValType};
+use std::marker::{Model, PhantomData};
+use wasm_base::{DecodeError, Grammar, Padded, ReadFault, Readable, Standard, ValType};
 use wasm_insn::{Arg, Op, read_instruction_into};
 
 /// Visits the instructions of a body or an expression, one after another. It keeps the arguments of
@@ -35,13 +35,14 @@ use wasm_insn::{Arg, Op, read_instruction_into};
 /// Any error but `Memory` means that the bytes at the offset encode no instruction, and for
 /// `next_before_end` no expression.
 #[derive(Debug, Drop)]
-pub struct Instructions<'a, A: Allocator = Global> {
+pub struct Instructions<'a, A: Allocator = Global, G: Grammar = Padded> {
     bytes: &'a [u8],
     offset: usize,
     args: Vec<Arg<A>, A>,
+    grammar: PhantomData<G>,
 }
 
-impl<'a, A: Allocator> Model for Instructions<'a, A> {
+impl<'a, A: Allocator, G: Grammar> Model for Instructions<'a, A, G> {
     ghost Value = { Walking };
 
     ghost view = { λ w. record { bytes = w.bytes.now; offset = w.offset; arguments = map argument_view w.args.items } };
@@ -57,21 +58,17 @@ pub struct Step {
 }
 
 impl<'a, A: Allocator + Copy> Instructions<'a, A> {
-    /// Returns a visitor that begins at the first byte, and allocates nothing.
+    /// Returns a visitor that begins at the first byte, and allocates nothing. It accepts padded
+    /// numbers.
     pub fn new(bytes: &'a [u8], alloc: A) -> Self
         ensures { result ≡ record { bytes = bytes.now; offset = 0; arguments = [] } }
     {
-        Instructions {
-            bytes,
-            offset: 0,
-            args: Vec::new(alloc),
-        }
+        Instructions::begin(bytes, alloc)
     }
 
     /// Decodes the runs of a body's locals, and returns them with a visitor of its instructions.
     /// The bytes are those of the body without its size prefix. Offsets count from the first byte,
-    /// before the runs.
-    #[tactic(auto, using(crate::proofs::WalkLaws::body_steps))]
+    /// before the runs. Padded numbers are accepted.
     pub fn of_body(bytes: &'a [u8], alloc: A) -> Result<(Vec<(u32, ValType), A>, Self), DecodeError>
         ensures found { IfOk result (λ x. Decodes (vec (pair u32 val_type)) padded bytes.now x.0.items (ahead x.1)) }
         ensures same { IfOk result (λ x. x.1.bytes ≡ bytes.now) }
@@ -79,11 +76,66 @@ impl<'a, A: Allocator + Copy> Instructions<'a, A> {
         ensures before { IfOk result (λ x. x.1.arguments ≡ []) }
         ensures none { IfErr result (λ e. e.cause ≢ Memory → RejectsWhole body padded bytes.now) }
     {
-        let (runs, rest) = <Vec<(u32, ValType), A> as Readable<'a, A, Padded>>::read(bytes, alloc)?;
+        Instructions::begin_body(bytes, alloc)
+    }
+}
+
+impl<'a, A: Allocator + Copy> Instructions<'a, A, Standard> {
+    /// Returns a visitor that begins at the first byte, and allocates nothing. It accepts all
+    /// encodings that the standard admits.
+    pub fn standard(bytes: &'a [u8], alloc: A) -> Self
+        ensures { result ≡ record { bytes = bytes.now; offset = 0; arguments = [] } }
+    {
+        Instructions::begin(bytes, alloc)
+    }
+
+    /// Decodes the runs of a body's locals, as [`of_body`](Instructions::of_body) does, and accepts
+    /// all encodings that the standard admits.
+    pub fn of_standard_body(
+        bytes: &'a [u8],
+        alloc: A,
+    ) -> Result<(Vec<(u32, ValType), A>, Self), DecodeError>
+        ensures found { IfOk result (λ x. Decodes (vec (pair u32 val_type)) standard bytes.now x.0.items (ahead x.1)) }
+        ensures same { IfOk result (λ x. x.1.bytes ≡ bytes.now) }
+        ensures within { IfOk result (λ x. x.1.offset ≤ length bytes.now) }
+        ensures before { IfOk result (λ x. x.1.arguments ≡ []) }
+        ensures none { IfErr result (λ e. e.cause ≢ Memory → RejectsWhole body standard bytes.now) }
+    {
+        Instructions::begin_body(bytes, alloc)
+    }
+}
+
+impl<'a, A: Allocator + Copy, G: Grammar> Instructions<'a, A, G> {
+    /// Returns a visitor that begins at the first byte.
+    fn begin(bytes: &'a [u8], alloc: A) -> Self
+        ensures { result ≡ record { bytes = bytes.now; offset = 0; arguments = [] } }
+    {
+        Instructions {
+            bytes,
+            offset: 0,
+            args: Vec::new(alloc),
+            grammar: PhantomData,
+        }
+    }
+
+    /// Decodes the runs of a body's locals, and returns them with a visitor of its instructions.
+    #[tactic(auto, using(crate::proofs::WalkLaws::body_steps))]
+    fn begin_body(
+        bytes: &'a [u8],
+        alloc: A,
+    ) -> Result<(Vec<(u32, ValType), A>, Self), DecodeError>
+        ensures found { IfOk result (λ x. Decodes (vec (pair u32 val_type)) (padded_of G.grammar) bytes.now x.0.items (ahead x.1)) }
+        ensures same { IfOk result (λ x. x.1.bytes ≡ bytes.now) }
+        ensures within { IfOk result (λ x. x.1.offset ≤ length bytes.now) }
+        ensures before { IfOk result (λ x. x.1.arguments ≡ []) }
+        ensures none { IfErr result (λ e. e.cause ≢ Memory → RejectsWhole body (padded_of G.grammar) bytes.now) }
+    {
+        let (runs, rest) = <Vec<(u32, ValType), A> as Readable<'a, A, G>>::read(bytes, alloc)?;
         let instructions = Instructions {
             bytes,
             offset: bytes.len() - rest.len(),
             args: Vec::new(alloc),
+            grammar: PhantomData,
         };
         Ok((runs, instructions))
     }
@@ -91,15 +143,15 @@ impl<'a, A: Allocator + Copy> Instructions<'a, A> {
     /// Visits the instruction at the offset of the visitor, and advances the offset past it.
     fn step(&mut self) -> Result<Step, DecodeError>
         ensures offset { IfOk result (λ step. step.offset ≡ self.old.offset) }
-        ensures found { IfOk result (λ step. Decodes (instruction table) padded (ahead self.old) (record { op = step.op; arguments = self.new.arguments }) (ahead self.new)) }
+        ensures found { IfOk result (λ step. Decodes (instruction table) (padded_of G.grammar) (ahead self.old) (record { op = step.op; arguments = self.new.arguments }) (ahead self.new)) }
         ensures further { IfOk result (λ _. (self.old.offset < self.new.offset) × (self.new.offset ≤ length self.new.bytes)) }
         ensures same { self.new.bytes ≡ self.old.bytes }
         ensures stays { IfErr result (λ _. self.new.offset ≡ self.old.offset) }
-        ensures none { IfErr result (λ e. e.cause ≢ Memory → Rejects (instruction table) padded (ahead self.old)) }
+        ensures none { IfErr result (λ e. e.cause ≢ Memory → Rejects (instruction table) (padded_of G.grammar) (ahead self.old)) }
     {
         let offset = self.offset;
         let alloc = *self.args.allocator();
-        let (op, rest) = read_instruction_into::<A, Padded>(
+        let (op, rest) = read_instruction_into::<A, G>(
             &self.bytes[offset..],
             alloc,
             &mut self.args,
@@ -112,13 +164,13 @@ impl<'a, A: Allocator + Copy> Instructions<'a, A> {
     /// offset is unchanged.
     pub fn next(&mut self) -> Result<Option<Step>, DecodeError>
         ensures offset { IfOk result (λ next. IfSome next (λ step. step.offset ≡ self.old.offset)) }
-        ensures found { IfOk result (λ next. IfSome next (λ step. Decodes (instruction table) padded (ahead self.old) (record { op = step.op; arguments = self.new.arguments }) (ahead self.new))) }
+        ensures found { IfOk result (λ next. IfSome next (λ step. Decodes (instruction table) (padded_of G.grammar) (ahead self.old) (record { op = step.op; arguments = self.new.arguments }) (ahead self.new))) }
         ensures further { IfOk result (λ next. IfSome next (λ _. (self.old.offset < self.new.offset) × (self.new.offset ≤ length self.new.bytes))) }
         ensures end { IfOk result (λ next. next ≡ None → ahead self.old ≡ []) }
         ensures ended { IfOk result (λ next. next ≡ None → self.new ≡ self.old) }
         ensures same { self.new.bytes ≡ self.old.bytes }
         ensures stays { IfErr result (λ _. self.new.offset ≡ self.old.offset) }
-        ensures none { IfErr result (λ e. e.cause ≢ Memory → Rejects (instruction table) padded (ahead self.old)) }
+        ensures none { IfErr result (λ e. e.cause ≢ Memory → Rejects (instruction table) (padded_of G.grammar) (ahead self.old)) }
         ensures left { IfErr result (λ _. ahead self.old ≢ []) }
     {
         if self.offset == self.bytes.len() {
@@ -132,13 +184,13 @@ impl<'a, A: Allocator + Copy> Instructions<'a, A> {
     /// the visitor does not pass. After an error the offset is unchanged.
     pub fn next_before_end(&mut self) -> Result<Option<Step>, DecodeError>
         ensures offset { IfOk result (λ next. IfSome next (λ step. step.offset ≡ self.old.offset)) }
-        ensures found { IfOk result (λ next. IfSome next (λ step. Decodes (such IsNoEnd (instruction table)) padded (ahead self.old) (record { op = step.op; arguments = self.new.arguments }) (ahead self.new))) }
+        ensures found { IfOk result (λ next. IfSome next (λ step. Decodes (such IsNoEnd (instruction table)) (padded_of G.grammar) (ahead self.old) (record { op = step.op; arguments = self.new.arguments }) (ahead self.new))) }
         ensures further { IfOk result (λ next. IfSome next (λ _. (self.old.offset < self.new.offset) × (self.new.offset ≤ length self.new.bytes))) }
         ensures end { IfOk result (λ next. next ≡ None → ahead self.old ≡ 0x0B ∷ drop (self.old.offset + 1) self.old.bytes) }
         ensures ended { IfOk result (λ next. next ≡ None → self.new ≡ self.old) }
         ensures same { self.new.bytes ≡ self.old.bytes }
         ensures stays { IfErr result (λ _. self.new.offset ≡ self.old.offset) }
-        ensures none { IfErr result (λ e. e.cause ≢ Memory → Rejects expression padded (ahead self.old)) }
+        ensures none { IfErr result (λ e. e.cause ≢ Memory → Rejects expression (padded_of G.grammar) (ahead self.old)) }
     {
         let [first, ..] = &self.bytes[self.offset..] else {
             return Err(ReadFault::Ended.at(b""));

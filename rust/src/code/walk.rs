@@ -4,7 +4,8 @@
 use crate::vec::Vec;
 use crate::code::expression::END;
 use crate::alloc::{Allocator, Global};
-use crate::base::{DecodeError, Padded, ReadFault, Readable, ValType};
+use core::marker::PhantomData;
+use crate::base::{DecodeError, Grammar, Padded, ReadFault, Readable, Standard, ValType};
 use crate::insn::{Arg, Op, read_instruction_into};
 
 /// Visits the instructions of a body or an expression, one after another. It keeps the arguments of
@@ -23,10 +24,11 @@ use crate::insn::{Arg, Op, read_instruction_into};
 /// Any error but `Memory` means that the bytes at the offset encode no instruction, and for
 /// `next_before_end` no expression.
 #[derive(Debug)]
-pub struct Instructions<'a, A: Allocator = Global> {
+pub struct Instructions<'a, A: Allocator = Global, G: Grammar = Padded> {
     bytes: &'a [u8],
     offset: usize,
     args: Vec<Arg<A>, A>,
+    grammar: PhantomData<G>,
 }
 
 /// A visited instruction: its offset in bytes, and its opcode.
@@ -37,7 +39,8 @@ pub struct Step {
 }
 
 impl<'a, A: Allocator + Copy> Instructions<'a, A> {
-    /// Returns a visitor that begins at the first byte, and allocates nothing.
+    /// Returns a visitor that begins at the first byte, and allocates nothing. It accepts padded
+    /// numbers.
     ///
     /// # Proved
     ///
@@ -45,16 +48,12 @@ impl<'a, A: Allocator + Copy> Instructions<'a, A> {
     /// ensures { result ≡ record { bytes = bytes.now; offset = 0; arguments = [] } }
     /// ```
     pub fn new(bytes: &'a [u8], alloc: A) -> Self {
-        Instructions {
-            bytes,
-            offset: 0,
-            args: Vec::new(alloc),
-        }
+        Instructions::begin(bytes, alloc)
     }
 
     /// Decodes the runs of a body's locals, and returns them with a visitor of its instructions.
     /// The bytes are those of the body without its size prefix. Offsets count from the first byte,
-    /// before the runs.
+    /// before the runs. Padded numbers are accepted.
     ///
     /// # Proved
     ///
@@ -66,11 +65,81 @@ impl<'a, A: Allocator + Copy> Instructions<'a, A> {
     /// ensures none { IfErr result (λ e. e.cause ≢ Memory → RejectsWhole body padded bytes.now) }
     /// ```
     pub fn of_body(bytes: &'a [u8], alloc: A) -> Result<(Vec<(u32, ValType), A>, Self), DecodeError> {
-        let (runs, rest) = <Vec<(u32, ValType), A> as Readable<'a, A, Padded>>::read(bytes, alloc)?;
+        Instructions::begin_body(bytes, alloc)
+    }
+}
+
+impl<'a, A: Allocator + Copy> Instructions<'a, A, Standard> {
+    /// Returns a visitor that begins at the first byte, and allocates nothing. It accepts all
+    /// encodings that the standard admits.
+    ///
+    /// # Proved
+    ///
+    /// ```text
+    /// ensures { result ≡ record { bytes = bytes.now; offset = 0; arguments = [] } }
+    /// ```
+    pub fn standard(bytes: &'a [u8], alloc: A) -> Self {
+        Instructions::begin(bytes, alloc)
+    }
+
+    /// Decodes the runs of a body's locals, as [`of_body`](Instructions::of_body) does, and accepts
+    /// all encodings that the standard admits.
+    ///
+    /// # Proved
+    ///
+    /// ```text
+    /// ensures found { IfOk result (λ x. Decodes (vec (pair u32 val_type)) standard bytes.now x.0.items (ahead x.1)) }
+    /// ensures same { IfOk result (λ x. x.1.bytes ≡ bytes.now) }
+    /// ensures within { IfOk result (λ x. x.1.offset ≤ length bytes.now) }
+    /// ensures before { IfOk result (λ x. x.1.arguments ≡ []) }
+    /// ensures none { IfErr result (λ e. e.cause ≢ Memory → RejectsWhole body standard bytes.now) }
+    /// ```
+    pub fn of_standard_body(
+        bytes: &'a [u8],
+        alloc: A,
+    ) -> Result<(Vec<(u32, ValType), A>, Self), DecodeError> {
+        Instructions::begin_body(bytes, alloc)
+    }
+}
+
+impl<'a, A: Allocator + Copy, G: Grammar> Instructions<'a, A, G> {
+    /// Returns a visitor that begins at the first byte.
+    ///
+    /// # Proved
+    ///
+    /// ```text
+    /// ensures { result ≡ record { bytes = bytes.now; offset = 0; arguments = [] } }
+    /// ```
+    fn begin(bytes: &'a [u8], alloc: A) -> Self {
+        Instructions {
+            bytes,
+            offset: 0,
+            args: Vec::new(alloc),
+            grammar: PhantomData,
+        }
+    }
+
+    /// Decodes the runs of a body's locals, and returns them with a visitor of its instructions.
+    ///
+    /// # Proved
+    ///
+    /// ```text
+    /// ensures found { IfOk result (λ x. Decodes (vec (pair u32 val_type)) (padded_of G.grammar) bytes.now x.0.items (ahead x.1)) }
+    /// ensures same { IfOk result (λ x. x.1.bytes ≡ bytes.now) }
+    /// ensures within { IfOk result (λ x. x.1.offset ≤ length bytes.now) }
+    /// ensures before { IfOk result (λ x. x.1.arguments ≡ []) }
+    /// ensures none { IfErr result (λ e. e.cause ≢ Memory → RejectsWhole body (padded_of G.grammar) bytes.now) }
+    /// ```
+    fn begin_body(
+        bytes: &'a [u8],
+        alloc: A,
+    ) -> Result<(Vec<(u32, ValType), A>, Self), DecodeError> {
+        let (runs, rest) = <Vec<(u32, ValType), A> as Readable<'a, A, G>>::read(bytes, alloc)?;
         let instructions = Instructions {
             bytes,
             offset: bytes.len() - rest.len(),
             args: Vec::new(alloc),
+            grammar: PhantomData,
         };
         Ok((runs, instructions))
     }
@@ -81,16 +150,16 @@ impl<'a, A: Allocator + Copy> Instructions<'a, A> {
     ///
     /// ```text
     /// ensures offset { IfOk result (λ step. step.offset ≡ self.old.offset) }
-    /// ensures found { IfOk result (λ step. Decodes (instruction table) padded (ahead self.old) (record { op = step.op; arguments = self.new.arguments }) (ahead self.new)) }
+    /// ensures found { IfOk result (λ step. Decodes (instruction table) (padded_of G.grammar) (ahead self.old) (record { op = step.op; arguments = self.new.arguments }) (ahead self.new)) }
     /// ensures further { IfOk result (λ _. (self.old.offset < self.new.offset) × (self.new.offset ≤ length self.new.bytes)) }
     /// ensures same { self.new.bytes ≡ self.old.bytes }
     /// ensures stays { IfErr result (λ _. self.new.offset ≡ self.old.offset) }
-    /// ensures none { IfErr result (λ e. e.cause ≢ Memory → Rejects (instruction table) padded (ahead self.old)) }
+    /// ensures none { IfErr result (λ e. e.cause ≢ Memory → Rejects (instruction table) (padded_of G.grammar) (ahead self.old)) }
     /// ```
     fn step(&mut self) -> Result<Step, DecodeError> {
         let offset = self.offset;
         let alloc = *self.args.allocator();
-        let (op, rest) = read_instruction_into::<A, Padded>(
+        let (op, rest) = read_instruction_into::<A, G>(
             &self.bytes[offset..],
             alloc,
             &mut self.args,
@@ -106,13 +175,13 @@ impl<'a, A: Allocator + Copy> Instructions<'a, A> {
     ///
     /// ```text
     /// ensures offset { IfOk result (λ next. IfSome next (λ step. step.offset ≡ self.old.offset)) }
-    /// ensures found { IfOk result (λ next. IfSome next (λ step. Decodes (instruction table) padded (ahead self.old) (record { op = step.op; arguments = self.new.arguments }) (ahead self.new))) }
+    /// ensures found { IfOk result (λ next. IfSome next (λ step. Decodes (instruction table) (padded_of G.grammar) (ahead self.old) (record { op = step.op; arguments = self.new.arguments }) (ahead self.new))) }
     /// ensures further { IfOk result (λ next. IfSome next (λ _. (self.old.offset < self.new.offset) × (self.new.offset ≤ length self.new.bytes))) }
     /// ensures end { IfOk result (λ next. next ≡ None → ahead self.old ≡ []) }
     /// ensures ended { IfOk result (λ next. next ≡ None → self.new ≡ self.old) }
     /// ensures same { self.new.bytes ≡ self.old.bytes }
     /// ensures stays { IfErr result (λ _. self.new.offset ≡ self.old.offset) }
-    /// ensures none { IfErr result (λ e. e.cause ≢ Memory → Rejects (instruction table) padded (ahead self.old)) }
+    /// ensures none { IfErr result (λ e. e.cause ≢ Memory → Rejects (instruction table) (padded_of G.grammar) (ahead self.old)) }
     /// ensures left { IfErr result (λ _. ahead self.old ≢ []) }
     /// ```
     pub fn next(&mut self) -> Result<Option<Step>, DecodeError> {
@@ -130,13 +199,13 @@ impl<'a, A: Allocator + Copy> Instructions<'a, A> {
     ///
     /// ```text
     /// ensures offset { IfOk result (λ next. IfSome next (λ step. step.offset ≡ self.old.offset)) }
-    /// ensures found { IfOk result (λ next. IfSome next (λ step. Decodes (such IsNoEnd (instruction table)) padded (ahead self.old) (record { op = step.op; arguments = self.new.arguments }) (ahead self.new))) }
+    /// ensures found { IfOk result (λ next. IfSome next (λ step. Decodes (such IsNoEnd (instruction table)) (padded_of G.grammar) (ahead self.old) (record { op = step.op; arguments = self.new.arguments }) (ahead self.new))) }
     /// ensures further { IfOk result (λ next. IfSome next (λ _. (self.old.offset < self.new.offset) × (self.new.offset ≤ length self.new.bytes))) }
     /// ensures end { IfOk result (λ next. next ≡ None → ahead self.old ≡ 0x0B ∷ drop (self.old.offset + 1) self.old.bytes) }
     /// ensures ended { IfOk result (λ next. next ≡ None → self.new ≡ self.old) }
     /// ensures same { self.new.bytes ≡ self.old.bytes }
     /// ensures stays { IfErr result (λ _. self.new.offset ≡ self.old.offset) }
-    /// ensures none { IfErr result (λ e. e.cause ≢ Memory → Rejects expression padded (ahead self.old)) }
+    /// ensures none { IfErr result (λ e. e.cause ≢ Memory → Rejects expression (padded_of G.grammar) (ahead self.old)) }
     /// ```
     pub fn next_before_end(&mut self) -> Result<Option<Step>, DecodeError> {
         let [first, ..] = &self.bytes[self.offset..] else {
