@@ -18,7 +18,7 @@ use Rattle.wasm_custom.proofs.Words.{core_name, modules_name, instances_name, co
 use Rattle.wasm_custom.proofs.Words.{linking_payload, name_name, name_payload, producers_name, producers_payload, core_whole, modules_section, instances_section, stack_whole, hints_section}
 use Rattle.wasm_custom.proofs.Words.{linking_section, names_section, producers_section, named_payload}
 use Rattle.wasm_reader.specs.{Contents, Bodies, Segments, DataCount, Elements, Exports, Functions, Globals, Imports, Memories, Start, Tables, Tags, Types, Names, Linking, Producers, Hints, Core}
-use Rattle.wasm_reader.specs.{CoreModules, CoreInstances, CoreStack, Custom, Raw, content, kind_in, number_in, kind_among, known_kinds, kind_of_id, kind_among_names, known_names, kind_named, count_in}
+use Rattle.wasm_reader.specs.{CoreModules, CoreInstances, CoreStack, Custom, Raw, content, kind_in, number_in, kind_among, known_kinds, kind_of_id, kind_among_names, known_names, kind_named}
 use Rattle.wasm_reader.specs.declared.kinds.SectionKind.{SectionKind}
 use Rattle.wasm_reader.specs.declared.kinds.SectionKind.TheVariants as kinds
 
@@ -355,30 +355,7 @@ tables_counted = count_as Tables tables_read (λ xs. refl)
 pub tags_counted : CountsAs Tags tag_type kinds.Tags
 tags_counted = count_as Tags tags_read (λ xs. refl)
 
-pub ruleset number_steps = (bodies_counted, segments_counted, elements_counted, exports_counted, functions_counted, globals_counted, imports_counted, memories_counted, tables_counted, tags_counted)
+pub types_counted : CountsAs Types type_item kinds.Types
+types_counted = count_as Types types_read (λ xs. refl)
 
--- Every kind but types has as many items in an outline as in a list.
-pub counted_alike : (m : Mode) (kind : SectionKind) (payload : List ℕ) (x : Contents) → kind ≢ kinds.Types → content kind m payload x → count_in x ≡ number_in x
-counted_alike m kinds.Types payload x other h = absurd (other refl)
-counted_alike m kinds.Bodies payload x other h = ap count_in (sym h.1) ∙ ap number_in h.1
-counted_alike m kinds.Segments payload x other h = ap count_in (sym h.1) ∙ ap number_in h.1
-counted_alike m kinds.DataCount payload x other h = ap count_in (sym h.1) ∙ ap number_in h.1
-counted_alike m kinds.Elements payload x other h = ap count_in (sym h.1) ∙ ap number_in h.1
-counted_alike m kinds.Exports payload x other h = ap count_in (sym h.1) ∙ ap number_in h.1
-counted_alike m kinds.Functions payload x other h = ap count_in (sym h.1) ∙ ap number_in h.1
-counted_alike m kinds.Globals payload x other h = ap count_in (sym h.1) ∙ ap number_in h.1
-counted_alike m kinds.Imports payload x other h = ap count_in (sym h.1) ∙ ap number_in h.1
-counted_alike m kinds.Memories payload x other h = ap count_in (sym h.1) ∙ ap number_in h.1
-counted_alike m kinds.Start payload x other h = ap count_in (sym h.1) ∙ ap number_in h.1
-counted_alike m kinds.Tables payload x other h = ap count_in (sym h.1) ∙ ap number_in h.1
-counted_alike m kinds.Tags payload x other h = ap count_in (sym h.1) ∙ ap number_in h.1
-counted_alike m kinds.Names payload x other h = ap count_in (sym h.1) ∙ ap number_in h.1
-counted_alike m kinds.Linking payload x other h = ap count_in (sym h.1) ∙ ap number_in h.1
-counted_alike m kinds.Producers payload x other h = ap count_in (sym h.1) ∙ ap number_in h.1
-counted_alike m kinds.Hints payload x other h = ap count_in (sym h.1) ∙ ap number_in h.1
-counted_alike m kinds.Core payload x other h = ap count_in (sym h.1) ∙ ap number_in h.1
-counted_alike m kinds.CoreModules payload x other h = ap count_in (sym h.1) ∙ ap number_in h.1
-counted_alike m kinds.CoreInstances payload x other h = ap count_in (sym h.1) ∙ ap number_in h.1
-counted_alike m kinds.CoreStack payload x other h = ap count_in (sym h.1) ∙ ap number_in h.1
-counted_alike m kinds.Custom payload x other h = ap count_in (sym h.1) ∙ ap number_in h.1
-counted_alike m kinds.Raw payload x other h = ap count_in (sym h.1) ∙ ap number_in h.1
+pub ruleset number_steps = (bodies_counted, segments_counted, elements_counted, exports_counted, functions_counted, globals_counted, imports_counted, memories_counted, tables_counted, tags_counted, types_counted)

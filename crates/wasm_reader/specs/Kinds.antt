@@ -174,7 +174,8 @@ known_names =
 abbrev pub kind_named : List ℕ → SectionKind
 kind_named n = kind_among_names known_names n
 
--- The number of items, if the list of a module reports it.
+-- The number of items, if they are counted. The items of a type section are its entries, and a
+-- recursion group is one entry.
 abbrev pub number_in : Contents → Option ℕ
 number_in (Bodies xs) = Some (length xs)
 number_in (Segments xs) = Some (length xs)
@@ -188,4 +189,5 @@ number_in (Memories xs) = Some (length xs)
 number_in (Start n) = Some 1
 number_in (Tables xs) = Some (length xs)
 number_in (Tags xs) = Some (length xs)
+number_in (Types xs) = Some (length xs)
 number_in x = None

@@ -3,7 +3,7 @@
 use Rattle.std.specs.Prelude.{◌≡◌, ◌≢◌, ℕ, zero, suc, ◌+◌, List, [], ◌∷◌, ◌++◌, length, Option, Some, None, option_map}
 use Rattle.std.specs.List.{AllByRecursion, flat_map}
 use Rattle.wasm_base.specs.Words.{padded, standard, any_bytes, any_section, fixed, size_prefixed, header, name, wasm_module, Decodes, Rejects, number_of}
-use Rattle.wasm_reader.specs.Kinds.{kind_among, known_kinds, kind_named, number_in, Contents, Types, content}
+use Rattle.wasm_reader.specs.Kinds.{kind_among, known_kinds, kind_named, number_in, Contents, content}
 use Rattle.wasm_reader.specs.declared.outlines.Outlined.{Outlined}
 use Rattle.wasm_reader.specs.declared.kinds.SectionKind.{SectionKind}
 use Rattle.wasm_reader.specs.declared.standing.Standing.{Standing}
@@ -57,17 +57,11 @@ section_kind_of s = kind_at s.id s.name
 
 -- ---- outlines
 
--- The number of items, if an outline reports it. The items of a type section are its entries, and a
--- recursion group is one entry.
-abbrev pub count_in : Contents → Option ℕ
-count_in (Types xs) = Some (length xs)
-count_in x = number_in x
-
 -- The payload decodes to this number of items of the kind. There is no number if it does not
 -- decode, or if its items are not counted.
 abbrev pub IsCount : SectionKind → List ℕ → Option ℕ → Type 0
-IsCount kind payload (Some n) = (x : Contents) × content kind standard payload x × (count_in x ≡ Some n)
-IsCount kind payload None = (x : Contents) → content kind standard payload x → count_in x ≡ None
+IsCount kind payload (Some n) = (x : Contents) × content kind standard payload x × (number_in x ≡ Some n)
+IsCount kind payload None = (x : Contents) → content kind standard payload x → number_in x ≡ None
 
 -- The line describes a section whose id is at this offset.
 pub record IsOutline (section_start : ℕ) (s : Section) (line : Outlined) : Type 0 where

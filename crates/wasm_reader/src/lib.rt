@@ -6,21 +6,27 @@
 //! selects, or, as any custom section does, to its name and data.
 #![tactic(auto)]
 
+mod code_bodies;
 mod counts;
 mod kinds;
 pub mod laws;
 mod minimal;
 mod modules;
 mod outlines;
+mod read_error;
 mod section;
+mod sections;
 mod standing;
 mod whole;
 
+pub use code_bodies::{Bodies, CodeBody};
 pub use kinds::{Items, SectionKind};
 pub use minimal::shorten;
 pub use modules::{Listed, list_module};
 pub use outlines::{Outlined, outline};
+pub use read_error::ReadError;
 pub use section::read_section;
+pub use sections::{Section, Sections};
 pub use wasm_base::ReadFault;
 pub use wasm_code::{Body, Expression};
 pub use wasm_custom::{CoreFrame, LinkItem, NameItem, Symbol};

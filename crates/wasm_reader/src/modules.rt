@@ -1,15 +1,17 @@
 // Lists the sections of a module.
-ghost use Rattle.std.specs.Prelude.{◌≡◌, ◌≢◌, ◌⊎◌, ◌++◌, ℕ, IfOk, IfErr};
+ghost use Rattle.std.specs.Prelude.{◌≡◌, ◌≢◌, ◌⊎◌, ◌++◌, length, IfOk, IfErr};
 ghost use Rattle.wasm_base.specs.Formats.{fixed, header};
 ghost use Rattle.wasm_base.specs.Numbers.{padded};
-ghost use Rattle.wasm_base.specs.Decoding.{Decodes, Rejects};
+ghost use Rattle.wasm_base.specs.Continuing.{RejectsWhole};
+ghost use Rattle.wasm_base.specs.Decoding.{Rejects};
 ghost use Rattle.wasm_base.specs.declared.fault.ReadFault.TheVariants.{Ended, UnknownTag, Memory};
-ghost use Rattle.wasm_reader.specs.Kinds.{Contents};
-ghost use Rattle.wasm_reader.specs.Modules.{sized_section, line_of, HasLines, StopsAt};
+ghost use Rattle.wasm_reader.specs.Kinds.{Contents, content, kind_of_id};
+ghost use Rattle.wasm_reader.specs.Modules.{line_of, HasLines, StopsAt};
 
 use crate::kinds::{kind_of_id, read_number};
+use crate::sections::{Section, Sections};
 use std::alloc::Allocator;
-use wasm_base::{Padded, ReadFault, Readable};
+use wasm_base::{Padded, ReadFault};
 
 /// The magic and the version of a module.
 pub(crate) const HEADER: [u8; 8] = [0x00, 0x61, 0x73, 0x6D, 0x01, 0x00, 0x00, 0x00];
@@ -44,20 +46,15 @@ pub(crate) fn read_header(bytes: &[u8]) -> Result<&[u8], ReadFault>
     }
 }
 
-/// Returns the listing of the section at the front, and the remaining bytes.
-#[tactic(auto, using(crate::proofs::DecodeModules::line_steps))]
-fn read_line<'a, A: Allocator + Copy>(
-    bytes: &'a [u8],
-    alloc: A,
-) -> Result<(Listed, &'a [u8]), ReadFault>
-    ensures found { IfOk result (λ x. (s : ℕ × (ℕ × Contents)) × Decodes sized_section padded bytes.now s x.1.now × (x.0 ≡ line_of s)) }
-    ensures none { IfErr result (λ e. e ≢ Memory → Rejects sized_section padded bytes.now) }
+/// Returns the line of a section.
+fn line_of<A: Allocator + Copy>(section: &Section<'_>, alloc: A) -> Result<Listed, ReadFault>
+    ensures found { IfOk result (λ line. (x : Contents) × content (kind_of_id section.now.section.id) padded section.now.section.payload x × (line ≡ line_of (section.now.section.id, (length section.now.section.payload, x)))) }
+    ensures none { IfErr result (λ e. e ≢ Memory → RejectsWhole (content (kind_of_id section.now.section.id)) padded section.now.section.payload) }
 {
-    let (id, rest) = <u8 as Readable<'a, A, Padded>>::read(bytes, alloc)?;
-    let (sized, rest) = <&'a [u8] as Readable<'a, A, Padded>>::read(rest, alloc)?;
-    let items = read_number::<A, Padded>(kind_of_id(id), sized, alloc)?;
-    let size = sized.len() as u32;
-    Ok((Listed { id, size, items }, rest))
+    let id = section.id();
+    let items = read_number::<A, Padded>(kind_of_id(id), section.payload(), alloc)?;
+    let size = section.payload().len() as u32;
+    Ok(Listed { id, size, items })
 }
 
 /// Lists the sections of a module. Each section is decoded as the kind of its id; type sections and
@@ -76,22 +73,24 @@ pub fn list_module<'a, A: Allocator + Copy>(
     ensures none { IfErr result (λ e. e.1 ≢ Memory → StopsAt bytes.now e.0) }
     ensures header { IfErr result (λ e. e.0 ≡ 0 → e.1 ≢ Memory → (e.1 ≡ Ended) ⊎ (e.1 ≡ UnknownTag)) }
 {
-    let mut rest = match read_header(bytes) {
-        Ok(rest) => rest,
-        Err(fault) => return Err((0, fault)),
+    let mut sections = match Sections::new(bytes) {
+        Ok(sections) => sections,
+        Err(error) => return Err((0, error.cause)),
     };
     let mut lines = Vec::new(alloc);
     loop {
-        if rest.is_empty() {
-            return Ok(lines);
-        }
         let number = lines.len() + 1;
-        let (line, after) = match read_line(rest, alloc) {
-            Ok(read) => read,
+        let section = match sections.next() {
+            None => return Ok(lines),
+            Some(Ok(section)) => section,
+            Some(Err(error)) => return Err((number, error.cause)),
+        };
+        let line = match line_of(&section, alloc) {
+            Ok(line) => line,
             Err(fault) => return Err((number, fault)),
         };
         match lines.push(line) {
-            Ok(()) => rest = after,
+            Ok(()) => {}
             Err(_) => return Err((number, ReadFault::Memory)),
         }
     }

@@ -1,19 +1,14 @@
 // Outlines a module: lists its sections, whether their payloads decode or not.
-ghost use Rattle.std.specs.Prelude.{◌≡◌, ◌≢◌, ◌++◌, ◌+◌, ◌<◌, ◌^◌, length, None, IfOk, IfErr};
-ghost use Rattle.wasm_base.specs.Formats.{any_section, wasm_module};
+ghost use Rattle.std.specs.Prelude.{◌≡◌, ◌≢◌, IfOk, IfErr};
+ghost use Rattle.wasm_base.specs.Formats.{wasm_module};
 ghost use Rattle.wasm_base.specs.Continuing.{RejectsWhole};
 ghost use Rattle.wasm_base.specs.Numbers.{padded};
-ghost use Rattle.wasm_base.specs.Decoding.{Rejects};
 ghost use Rattle.wasm_base.specs.declared.fault.ReadFault.TheVariants.{Memory};
-ghost use Rattle.wasm_reader.specs.Outlines.{Section, section_of, bytes_of, section_kind_of, IsCount, IsSection, IsOutline, HasOutline, EndsAt};
-ghost use Rattle.wasm_reader.specs.declared.kinds.SectionKind.TheVariants as kinds;
+ghost use Rattle.wasm_reader.specs.Outlines.{section_kind_of, IsCount, IsOutline, HasOutline, EndsAt};
 
-use crate::kinds::{SectionKind, read_number};
-use crate::modules::read_header;
-use crate::standing::{Standing, read_standing};
+use crate::sections::{Section, Sections};
 use std::alloc::Allocator;
-use wasm_base::{DecodeError, ReadFault, Standard};
-use wasm_types::read_types;
+use wasm_base::ReadFault;
 
 /// A section in the outline of a module.
 #[derive(Clone, Copy, PartialEq, Eq, Debug)]
@@ -31,58 +26,35 @@ pub struct Outlined<'a> {
     pub name: Option<&'a str>,
 }
 
-/// Returns the number of entries in the payload of a type section.
-#[tactic(auto, using(crate::proofs::DecodeOutlines::count_steps))]
-fn count_entries<A: Allocator + Copy>(bytes: &[u8], alloc: A) -> Result<Option<u32>, DecodeError>
-    ensures found { IfOk result (λ count. IsCount kinds.Types bytes.now count) }
-    ensures none { IfErr result (λ e. e.cause ≢ Memory → IsCount kinds.Types bytes.now None) }
-{
-    let entries = read_types::<A, Standard>(bytes, alloc)?;
-    Ok(Some(entries.len() as u32))
-}
-
 /// Returns the number of items of a section, if its payload decodes as its kind and the items are
 /// counted.
-#[tactic(auto, using(crate::proofs::DecodeOutlines::count_steps))]
-fn count<A: Allocator + Copy>(section: &Standing<'_>, alloc: A) -> Result<Option<u32>, DecodeError>
-    ensures found { IfOk result (λ count. IsCount (section_kind_of (section_of section.now)) section.now.payload.now count) }
-    ensures memory { IfErr result (λ e. e.cause ≡ Memory) }
+fn count<A: Allocator + Copy>(section: &Section<'_>, alloc: A) -> Result<Option<u32>, ReadFault>
+    ensures found { IfOk result (λ count. IsCount (section_kind_of section.now.section) section.now.section.payload count) }
+    ensures memory { IfErr result (λ e. e ≡ Memory) }
 {
-    let kind = section.kind();
-    let counted = match kind {
-        SectionKind::Types => count_entries(section.payload, alloc),
-        _ => read_number::<A, Standard>(kind, section.payload, alloc),
-    };
-    match counted {
-        Err(error) if error.cause == ReadFault::Memory => Err(error),
-        Err(_) => Ok(None),
+    match section.count(alloc) {
         Ok(count) => Ok(count),
+        Err(error) if error.cause == ReadFault::Memory => Err(ReadFault::Memory),
+        Err(_) => Ok(None),
     }
 }
 
-/// Returns the outline of the section at the front, which is at the offset `section_start`, and the
-/// remaining bytes.
-#[tactic(auto, using(crate::proofs::DecodeOutlines::line_steps))]
-fn read_line<'a, A: Allocator + Copy>(
-    section_start: usize,
-    bytes: &'a [u8],
+/// Returns the line of a section.
+fn line_of<'a, A: Allocator + Copy>(
+    section: &Section<'a>,
     alloc: A,
-) -> Result<(Outlined<'a>, &'a [u8]), DecodeError>
-    requires { section_start + length bytes.now < 2 ^ 64 }
-    ensures found { IfOk result (λ x. (s : Section) × IsSection s × (bytes.now ≡ bytes_of s ++ x.1.now) × IsOutline section_start s x.0) }
-    ensures none { IfErr result (λ e. e.cause ≢ Memory → Rejects any_section padded bytes.now) }
+) -> Result<Outlined<'a>, ReadFault>
+    ensures found { IfOk result (λ line. IsOutline section.now.offset section.now.section line) }
+    ensures memory { IfErr result (λ e. e ≡ Memory) }
 {
-    let (section, after) = read_standing(bytes, alloc)?;
-    let items = count(&section, alloc)?;
-    let taken = bytes.len() - after.len();
-    let line = Outlined {
-        id: section.id,
-        offset: section_start + (taken - section.payload.len()),
-        size: section.payload.len() as u32,
+    let items = count(section, alloc)?;
+    Ok(Outlined {
+        id: section.id(),
+        offset: section.range().start,
+        size: section.payload().len() as u32,
         items,
-        name: section.name,
-    };
-    Ok((line, after))
+        name: section.name(),
+    })
 }
 
 /// Lists the sections of a module, whatever their payloads are. A section whose payload does not
@@ -103,22 +75,24 @@ pub fn outline<'a, A: Allocator + Copy>(
     ensures none { IfErr result (λ e. e.1 ≢ Memory → EndsAt bytes.now e.0) }
     ensures no_module { IfErr result (λ e. e.1 ≢ Memory → RejectsWhole wasm_module padded bytes.now) }
 {
-    let mut rest = match read_header(bytes) {
-        Ok(rest) => rest,
-        Err(fault) => return Err((0, fault)),
+    let mut sections = match Sections::new(bytes) {
+        Ok(sections) => sections,
+        Err(error) => return Err((0, error.cause)),
     };
     let mut lines = Vec::new(alloc);
     loop {
-        if rest.is_empty() {
-            return Ok(lines);
-        }
         let number = lines.len() + 1;
-        let (line, after) = match read_line(bytes.len() - rest.len(), rest, alloc) {
-            Ok(read) => read,
-            Err(error) => return Err((number, error.cause)),
+        let section = match sections.next() {
+            None => return Ok(lines),
+            Some(Ok(section)) => section,
+            Some(Err(error)) => return Err((number, error.cause)),
+        };
+        let line = match line_of(&section, alloc) {
+            Ok(line) => line,
+            Err(fault) => return Err((number, fault)),
         };
         match lines.push(line) {
-            Ok(()) => rest = after,
+            Ok(()) => {}
             Err(_) => return Err((number, ReadFault::Memory)),
         }
     }

@@ -4,6 +4,7 @@ ghost use Rattle.std.specs.Bool.{Decides};
 ghost use Rattle.wasm_base.specs.Formats.{header};
 ghost use Rattle.wasm_base.specs.declared.fault.ReadFault.TheVariants.{Memory};
 ghost use Rattle.wasm_reader.specs.Outlines.{section_of, IsSection};
+ghost use Rattle.wasm_reader.specs.Iterating.{ahead};
 ghost use Rattle.wasm_reader.specs.Shortening.{
   names_code_offsets,
   target_named,
@@ -34,8 +35,9 @@ ghost use Rattle.wasm_reader.specs.Shortening.{
 };
 
 use crate::minimal::shorten;
-use crate::modules::{HEADER, read_header};
-use crate::standing::{Standing, read_standing};
+use crate::modules::HEADER;
+use crate::sections::Sections;
+use crate::standing::Standing;
 use std::alloc::{AllocError, Allocator};
 use wasm_base::ReadFault;
 
@@ -399,34 +401,34 @@ fn is_same(a: usize, b: usize) -> bool
 /// Appends the output for the sections, one after the other. An error has the number of its
 /// section, counted from 1. After an error, the old bytes are still the front of the sink.
 fn append_sections<A: Allocator + Copy>(
-    bytes: &[u8],
+    mut sections: Sections<'_>,
     offsets: Offsets,
     sink: &mut Vec<u8, A>,
 ) -> Result<Tally, (usize, ReadFault)>
-    requires { length bytes.now < 2 ^ 64 }
-    ensures ok { IfOk result (λ tally. Rewrites offsets bytes.now [] sink.old.items sink.new.items tally) }
+    requires { length (ahead sections.entry) < 2 ^ 64 }
+    ensures ok { IfOk result (λ tally. Rewrites offsets (ahead sections.entry) [] sink.old.items sink.new.items tally) }
     ensures front { IsFrontOf sink.old.items sink.new.items }
-    ensures none { IfErr result (λ e. e.1 ≢ Memory → StopsAfter bytes.now e.0) }
+    ensures none { IfErr result (λ e. e.1 ≢ Memory → StopsAfter (ahead sections.entry) e.0) }
 {
+    let first = sections.offset();
     let start = sink.len();
-    let mut rest = bytes;
     let mut tally = NOTHING;
     loop {
-        if rest.is_empty() {
-            return Ok(tally);
-        }
+        let next = match sections.next() {
+            None => return Ok(tally),
+            Some(next) => next,
+        };
         let number = tally.sections + 1;
-        let is_level = is_same(bytes.len() - rest.len(), sink.len() - start);
-        let (section, after) = match read_standing(rest, *sink.allocator()) {
-            Ok(read) => read,
+        let section = match next {
+            Ok(section) => section,
             Err(error) => return Err((number, error.cause)),
         };
-        let written = match append_section(&section, offsets, sink) {
+        let is_level = is_same(section.offset() - first, sink.len() - start);
+        let written = match append_section(section.standing(), offsets, sink) {
             Ok(written) => written,
             Err(fault) => return Err((number, fault)),
         };
-        tally = tally.and(&section, written, is_level);
-        rest = after;
+        tally = tally.and(section.standing(), written, is_level);
     }
 }
 
@@ -450,9 +452,14 @@ fn append_module<A: Allocator + Copy>(
     ensures front { IsFrontOf sink.old.items sink.new.items }
     ensures why { IfErr result (λ fault. Explains offsets bytes.now fault) }
 {
-    let rest = match read_header(bytes) {
-        Ok(rest) => rest,
-        Err(fault) => return Err(ModuleFault::Section { number: 0, fault }),
+    let sections = match Sections::new(bytes) {
+        Ok(sections) => sections,
+        Err(error) => {
+            return Err(ModuleFault::Section {
+                number: 0,
+                fault: error.cause,
+            });
+        }
     };
     match begin_module(bytes.len(), sink) {
         Ok(()) => {}
@@ -463,7 +470,7 @@ fn append_module<A: Allocator + Copy>(
             });
         }
     }
-    let tally = match append_sections(rest, offsets, sink) {
+    let tally = match append_sections(sections, offsets, sink) {
         Ok(tally) => tally,
         Err((number, fault)) => return Err(ModuleFault::Section { number, fault }),
     };

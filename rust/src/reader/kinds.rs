@@ -195,82 +195,43 @@ pub(crate) fn read_content<'a, A: Allocator + Copy + 'a, G: Grammar>(
     alloc: A,
 ) -> Result<Items<'a, A>, DecodeError> {
     match kind {
-        SectionKind::Bodies => {
-            let items = read_whole::<'a, Vec<Body<A>, A>, A, G>(bytes, alloc)?;
-            Ok(Items::Bodies(items))
-        }
-        SectionKind::Segments => {
-            let items = read_segments::<A, G>(bytes, alloc)?;
-            Ok(Items::Segments(items))
-        }
-        SectionKind::DataCount => {
-            let items = read_whole::<'a, u32, A, G>(bytes, alloc)?;
-            Ok(Items::DataCount(items))
-        }
-        SectionKind::Elements => {
-            let items = read_whole::<'a, Vec<ElementItem<A>, A>, A, G>(bytes, alloc)?;
-            Ok(Items::Elements(items))
-        }
-        SectionKind::Exports => {
-            let items = read_whole::<'a, Vec<Export<'a>, A>, A, G>(bytes, alloc)?;
-            Ok(Items::Exports(items))
-        }
-        SectionKind::Functions => {
-            let items = read_whole::<'a, Vec<u32, A>, A, G>(bytes, alloc)?;
-            Ok(Items::Functions(items))
-        }
-        SectionKind::Globals => {
-            let items = read_whole::<'a, Vec<GlobalItem<A>, A>, A, G>(bytes, alloc)?;
-            Ok(Items::Globals(items))
-        }
-        SectionKind::Imports => {
-            let items = read_imports::<A, G>(bytes, alloc)?;
-            Ok(Items::Imports(items))
-        }
-        SectionKind::Memories => {
-            let items = read_whole::<'a, Vec<MemoryType, A>, A, G>(bytes, alloc)?;
-            Ok(Items::Memories(items))
-        }
-        SectionKind::Start => {
-            let items = read_whole::<'a, u32, A, G>(bytes, alloc)?;
-            Ok(Items::Start(items))
-        }
-        SectionKind::Tables => {
-            let items = read_whole::<'a, Vec<TableItem<A>, A>, A, G>(bytes, alloc)?;
-            Ok(Items::Tables(items))
-        }
-        SectionKind::Tags => {
-            let items = read_whole::<'a, Vec<TagType, A>, A, G>(bytes, alloc)?;
-            Ok(Items::Tags(items))
-        }
-        SectionKind::Names => {
-            let items = read_names::<A, G>(bytes, alloc)?;
-            Ok(Items::Names(items))
-        }
-        SectionKind::Linking => {
-            let items = read_links::<A, G>(bytes, alloc)?;
-            Ok(Items::Linking(items))
-        }
-        SectionKind::Producers => {
-            let items = read_producers::<A, G>(bytes, alloc)?;
-            Ok(Items::Producers(items))
-        }
-        SectionKind::Hints => {
-            let items = read_hints::<A, G>(bytes, alloc)?;
-            Ok(Items::Hints(items))
-        }
-        SectionKind::Core => {
-            let items = read_process::<A, G>(bytes, alloc)?;
-            Ok(Items::Core(items))
-        }
-        SectionKind::CoreModules => {
-            let items = read_modules::<A, G>(bytes, alloc)?;
-            Ok(Items::CoreModules(items))
-        }
-        SectionKind::CoreInstances => {
-            let items = read_instances::<A, G>(bytes, alloc)?;
-            Ok(Items::CoreInstances(items))
-        }
+        SectionKind::Bodies => Ok(Items::Bodies(read_whole::<'a, Vec<Body<A>, A>, A, G>(
+            bytes, alloc,
+        )?)),
+        SectionKind::Segments => Ok(Items::Segments(read_segments::<A, G>(bytes, alloc)?)),
+        SectionKind::DataCount => Ok(Items::DataCount(read_whole::<'a, u32, A, G>(bytes, alloc)?)),
+        SectionKind::Elements => Ok(Items::Elements(read_whole::<'a, Vec<ElementItem<A>, A>, A, G>(
+            bytes, alloc,
+        )?)),
+        SectionKind::Exports => Ok(Items::Exports(read_whole::<'a, Vec<Export<'a>, A>, A, G>(
+            bytes, alloc,
+        )?)),
+        SectionKind::Functions => Ok(Items::Functions(read_whole::<'a, Vec<u32, A>, A, G>(
+            bytes, alloc,
+        )?)),
+        SectionKind::Globals => Ok(Items::Globals(read_whole::<'a, Vec<GlobalItem<A>, A>, A, G>(
+            bytes, alloc,
+        )?)),
+        SectionKind::Imports => Ok(Items::Imports(read_imports::<A, G>(bytes, alloc)?)),
+        SectionKind::Memories => Ok(Items::Memories(read_whole::<'a, Vec<MemoryType, A>, A, G>(
+            bytes, alloc,
+        )?)),
+        SectionKind::Start => Ok(Items::Start(read_whole::<'a, u32, A, G>(bytes, alloc)?)),
+        SectionKind::Tables => Ok(Items::Tables(read_whole::<'a, Vec<TableItem<A>, A>, A, G>(
+            bytes, alloc,
+        )?)),
+        SectionKind::Tags => Ok(Items::Tags(read_whole::<'a, Vec<TagType, A>, A, G>(
+            bytes, alloc,
+        )?)),
+        SectionKind::Names => Ok(Items::Names(read_names::<A, G>(bytes, alloc)?)),
+        SectionKind::Linking => Ok(Items::Linking(read_links::<A, G>(bytes, alloc)?)),
+        SectionKind::Producers => Ok(Items::Producers(read_producers::<A, G>(bytes, alloc)?)),
+        SectionKind::Hints => Ok(Items::Hints(read_hints::<A, G>(bytes, alloc)?)),
+        SectionKind::Core => Ok(Items::Core(read_process::<A, G>(bytes, alloc)?)),
+        SectionKind::CoreModules => Ok(Items::CoreModules(read_modules::<A, G>(bytes, alloc)?)),
+        SectionKind::CoreInstances => Ok(Items::CoreInstances(read_instances::<A, G>(
+            bytes, alloc,
+        )?)),
         SectionKind::CoreStack => {
             let (thread, frames) = read_stack::<A, G>(bytes, alloc)?;
             Ok(Items::CoreStack { thread, frames })
@@ -280,10 +241,7 @@ pub(crate) fn read_content<'a, A: Allocator + Copy + 'a, G: Grammar>(
             Ok(Items::Custom { name, bytes })
         }
         SectionKind::Raw => Ok(Items::Raw(bytes)),
-        SectionKind::Types => {
-            let items = read_types::<A, G>(bytes, alloc)?;
-            Ok(Items::Types(items))
-        }
+        SectionKind::Types => Ok(Items::Types(read_types::<A, G>(bytes, alloc)?)),
     }
 }
 
@@ -312,6 +270,7 @@ pub(crate) fn read_number<'a, A: Allocator + Copy, G: Grammar>(
         SectionKind::Memories => count_skipped::<'a, Dropped<MemoryType>, A, G>(bytes, alloc),
         SectionKind::Tables => count_skipped::<'a, TableItem<A>, A, G>(bytes, alloc),
         SectionKind::Tags => count_skipped::<'a, Dropped<TagType>, A, G>(bytes, alloc),
+        SectionKind::Types => count_skipped::<'a, Dropped<TypeEntry<A>>, A, G>(bytes, alloc),
         SectionKind::DataCount | SectionKind::Start => {
             drop(read_content::<A, G>(kind, bytes, alloc)?);
             Ok(Some(1))

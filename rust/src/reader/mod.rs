@@ -12,21 +12,27 @@ pub use crate::base::reading::*;
 pub use crate::insn::reading::*;
 pub use crate::code::reading::*;
 
+mod code_bodies;
 mod counts;
 mod kinds;
 pub mod laws;
 mod minimal;
 mod modules;
 mod outlines;
+mod read_error;
 mod section;
+mod sections;
 mod standing;
 mod whole;
 
+pub use code_bodies::{Bodies, CodeBody};
 pub use kinds::{Items, SectionKind};
 pub use minimal::shorten;
 pub use modules::{Listed, list_module};
 pub use outlines::{Outlined, outline};
+pub use read_error::ReadError;
 pub use section::read_section;
+pub use sections::{Section, Sections};
 pub use crate::base::reading::ReadFault;
 pub use crate::code::reading::{Body, Expression};
 pub use crate::custom::{CoreFrame, LinkItem, NameItem, Symbol};

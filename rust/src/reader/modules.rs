@@ -3,8 +3,9 @@
 
 use crate::vec::Vec;
 use crate::reader::kinds::{kind_of_id, read_number};
+use crate::reader::sections::{Section, Sections};
 use crate::alloc::Allocator;
-use crate::base::{Padded, ReadFault, Readable};
+use crate::base::{Padded, ReadFault};
 
 /// The magic and the version of a module.
 pub(crate) const HEADER: [u8; 8] = [0x00, 0x61, 0x73, 0x6D, 0x01, 0x00, 0x00, 0x00];
@@ -42,23 +43,19 @@ pub(crate) fn read_header(bytes: &[u8]) -> Result<&[u8], ReadFault> {
     }
 }
 
-/// Returns the listing of the section at the front, and the remaining bytes.
+/// Returns the line of a section.
 ///
 /// # Proved
 ///
 /// ```text
-/// ensures found { IfOk result (λ x. (s : ℕ × (ℕ × Contents)) × Decodes sized_section padded bytes.now s x.1.now × (x.0 ≡ line_of s)) }
-/// ensures none { IfErr result (λ e. e ≢ Memory → Rejects sized_section padded bytes.now) }
+/// ensures found { IfOk result (λ line. (x : Contents) × content (kind_of_id section.now.section.id) padded section.now.section.payload x × (line ≡ line_of (section.now.section.id, (length section.now.section.payload, x)))) }
+/// ensures none { IfErr result (λ e. e ≢ Memory → RejectsWhole (content (kind_of_id section.now.section.id)) padded section.now.section.payload) }
 /// ```
-fn read_line<'a, A: Allocator + Copy>(
-    bytes: &'a [u8],
-    alloc: A,
-) -> Result<(Listed, &'a [u8]), ReadFault> {
-    let (id, rest) = <u8 as Readable<'a, A, Padded>>::read(bytes, alloc)?;
-    let (sized, rest) = <&'a [u8] as Readable<'a, A, Padded>>::read(rest, alloc)?;
-    let items = read_number::<A, Padded>(kind_of_id(id), sized, alloc)?;
-    let size = sized.len() as u32;
-    Ok((Listed { id, size, items }, rest))
+fn line_of<A: Allocator + Copy>(section: &Section<'_>, alloc: A) -> Result<Listed, ReadFault> {
+    let id = section.id();
+    let items = read_number::<A, Padded>(kind_of_id(id), section.payload(), alloc)?;
+    let size = section.payload().len() as u32;
+    Ok(Listed { id, size, items })
 }
 
 /// Lists the sections of a module. Each section is decoded as the kind of its id; type sections and
@@ -81,22 +78,24 @@ pub fn list_module<'a, A: Allocator + Copy>(
     alloc: A,
     bytes: &'a [u8],
 ) -> Result<Vec<Listed, A>, (usize, ReadFault)> {
-    let mut rest = match read_header(bytes) {
-        Ok(rest) => rest,
-        Err(fault) => return Err((0, fault)),
+    let mut sections = match Sections::new(bytes) {
+        Ok(sections) => sections,
+        Err(error) => return Err((0, error.cause)),
     };
     let mut lines = Vec::new(alloc);
     loop {
-        if rest.is_empty() {
-            return Ok(lines);
-        }
         let number = lines.len() + 1;
-        let (line, after) = match read_line(rest, alloc) {
-            Ok(read) => read,
+        let section = match sections.next() {
+            None => return Ok(lines),
+            Some(Ok(section)) => section,
+            Some(Err(error)) => return Err((number, error.cause)),
+        };
+        let line = match line_of(&section, alloc) {
+            Ok(line) => line,
             Err(fault) => return Err((number, fault)),
         };
         match lines.push(line) {
-            Ok(()) => rest = after,
+            Ok(()) => {}
             Err(_) => return Err((number, ReadFault::Memory)),
         }
     }

@@ -2,12 +2,9 @@
 // Outlines a module: lists its sections, whether their payloads decode or not.
 
 use crate::vec::Vec;
-use crate::reader::kinds::{SectionKind, read_number};
-use crate::reader::modules::read_header;
-use crate::reader::standing::{Standing, read_standing};
+use crate::reader::sections::{Section, Sections};
 use crate::alloc::Allocator;
-use crate::base::{DecodeError, ReadFault, Standard};
-use crate::types::read_types;
+use crate::base::ReadFault;
 
 /// A section in the outline of a module.
 #[derive(Clone, Copy, PartialEq, Eq, Debug)]
@@ -25,72 +22,43 @@ pub struct Outlined<'a> {
     pub name: Option<&'a str>,
 }
 
-/// Returns the number of entries in the payload of a type section.
-///
-/// # Proved
-///
-/// ```text
-/// ensures found { IfOk result (λ count. IsCount kinds.Types bytes.now count) }
-/// ensures none { IfErr result (λ e. e.cause ≢ Memory → IsCount kinds.Types bytes.now None) }
-/// ```
-fn count_entries<A: Allocator + Copy>(bytes: &[u8], alloc: A) -> Result<Option<u32>, DecodeError> {
-    let entries = read_types::<A, Standard>(bytes, alloc)?;
-    Ok(Some(entries.len() as u32))
-}
-
 /// Returns the number of items of a section, if its payload decodes as its kind and the items are
 /// counted.
 ///
 /// # Proved
 ///
 /// ```text
-/// ensures found { IfOk result (λ count. IsCount (section_kind_of (section_of section.now)) section.now.payload.now count) }
-/// ensures memory { IfErr result (λ e. e.cause ≡ Memory) }
+/// ensures found { IfOk result (λ count. IsCount (section_kind_of section.now.section) section.now.section.payload count) }
+/// ensures memory { IfErr result (λ e. e ≡ Memory) }
 /// ```
-fn count<A: Allocator + Copy>(section: &Standing<'_>, alloc: A) -> Result<Option<u32>, DecodeError> {
-    let kind = section.kind();
-    let counted = match kind {
-        SectionKind::Types => count_entries(section.payload, alloc),
-        _ => read_number::<A, Standard>(kind, section.payload, alloc),
-    };
-    match counted {
-        Err(error) if error.cause == ReadFault::Memory => Err(error),
-        Err(_) => Ok(None),
+fn count<A: Allocator + Copy>(section: &Section<'_>, alloc: A) -> Result<Option<u32>, ReadFault> {
+    match section.count(alloc) {
         Ok(count) => Ok(count),
+        Err(error) if error.cause == ReadFault::Memory => Err(ReadFault::Memory),
+        Err(_) => Ok(None),
     }
 }
 
-/// Returns the outline of the section at the front, which is at the offset `section_start`, and the
-/// remaining bytes.
-///
-/// # Asks
-///
-/// ```text
-/// requires { section_start + length bytes.now < 2 ^ 64 }
-/// ```
+/// Returns the line of a section.
 ///
 /// # Proved
 ///
 /// ```text
-/// ensures found { IfOk result (λ x. (s : Section) × IsSection s × (bytes.now ≡ bytes_of s ++ x.1.now) × IsOutline section_start s x.0) }
-/// ensures none { IfErr result (λ e. e.cause ≢ Memory → Rejects any_section padded bytes.now) }
+/// ensures found { IfOk result (λ line. IsOutline section.now.offset section.now.section line) }
+/// ensures memory { IfErr result (λ e. e ≡ Memory) }
 /// ```
-fn read_line<'a, A: Allocator + Copy>(
-    section_start: usize,
-    bytes: &'a [u8],
+fn line_of<'a, A: Allocator + Copy>(
+    section: &Section<'a>,
     alloc: A,
-) -> Result<(Outlined<'a>, &'a [u8]), DecodeError> {
-    let (section, after) = read_standing(bytes, alloc)?;
-    let items = count(&section, alloc)?;
-    let taken = bytes.len() - after.len();
-    let line = Outlined {
-        id: section.id,
-        offset: section_start + (taken - section.payload.len()),
-        size: section.payload.len() as u32,
+) -> Result<Outlined<'a>, ReadFault> {
+    let items = count(section, alloc)?;
+    Ok(Outlined {
+        id: section.id(),
+        offset: section.range().start,
+        size: section.payload().len() as u32,
         items,
-        name: section.name,
-    };
-    Ok((line, after))
+        name: section.name(),
+    })
 }
 
 /// Lists the sections of a module, whatever their payloads are. A section whose payload does not
@@ -115,22 +83,24 @@ pub fn outline<'a, A: Allocator + Copy>(
     alloc: A,
     bytes: &'a [u8],
 ) -> Result<Vec<Outlined<'a>, A>, (usize, ReadFault)> {
-    let mut rest = match read_header(bytes) {
-        Ok(rest) => rest,
-        Err(fault) => return Err((0, fault)),
+    let mut sections = match Sections::new(bytes) {
+        Ok(sections) => sections,
+        Err(error) => return Err((0, error.cause)),
     };
     let mut lines = Vec::new(alloc);
     loop {
-        if rest.is_empty() {
-            return Ok(lines);
-        }
         let number = lines.len() + 1;
-        let (line, after) = match read_line(bytes.len() - rest.len(), rest, alloc) {
-            Ok(read) => read,
-            Err(error) => return Err((number, error.cause)),
+        let section = match sections.next() {
+            None => return Ok(lines),
+            Some(Ok(section)) => section,
+            Some(Err(error)) => return Err((number, error.cause)),
+        };
+        let line = match line_of(&section, alloc) {
+            Ok(line) => line,
+            Err(fault) => return Err((number, fault)),
         };
         match lines.push(line) {
-            Ok(()) => rest = after,
+            Ok(()) => {}
             Err(_) => return Err((number, ReadFault::Memory)),
         }
     }

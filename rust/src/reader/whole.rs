@@ -3,8 +3,9 @@
 
 use crate::vec::{Sink, Vec};
 use crate::reader::minimal::shorten;
-use crate::reader::modules::{HEADER, read_header};
-use crate::reader::standing::{Standing, read_standing};
+use crate::reader::modules::HEADER;
+use crate::reader::sections::Sections;
+use crate::reader::standing::Standing;
 use crate::alloc::{AllocError, Allocator};
 use crate::base::ReadFault;
 
@@ -462,40 +463,40 @@ fn is_same(a: usize, b: usize) -> bool {
 /// # Asks
 ///
 /// ```text
-/// requires { length bytes.now < 2 ^ 64 }
+/// requires { length (ahead sections.entry) < 2 ^ 64 }
 /// ```
 ///
 /// # Proved
 ///
 /// ```text
-/// ensures ok { IfOk result (λ tally. Rewrites offsets bytes.now [] sink.old.items sink.new.items tally) }
+/// ensures ok { IfOk result (λ tally. Rewrites offsets (ahead sections.entry) [] sink.old.items sink.new.items tally) }
 /// ensures front { IsFrontOf sink.old.items sink.new.items }
-/// ensures none { IfErr result (λ e. e.1 ≢ Memory → StopsAfter bytes.now e.0) }
+/// ensures none { IfErr result (λ e. e.1 ≢ Memory → StopsAfter (ahead sections.entry) e.0) }
 /// ```
 fn append_sections<A: Allocator + Copy>(
-    bytes: &[u8],
+    mut sections: Sections<'_>,
     offsets: Offsets,
     sink: &mut Vec<u8, A>,
 ) -> Result<Tally, (usize, ReadFault)> {
+    let first = sections.offset();
     let start = sink.len();
-    let mut rest = bytes;
     let mut tally = NOTHING;
     loop {
-        if rest.is_empty() {
-            return Ok(tally);
-        }
+        let next = match sections.next() {
+            None => return Ok(tally),
+            Some(next) => next,
+        };
         let number = tally.sections + 1;
-        let is_level = is_same(bytes.len() - rest.len(), sink.len() - start);
-        let (section, after) = match read_standing(rest, *sink.allocator()) {
-            Ok(read) => read,
+        let section = match next {
+            Ok(section) => section,
             Err(error) => return Err((number, error.cause)),
         };
-        let written = match append_section(&section, offsets, sink) {
+        let is_level = is_same(section.offset() - first, sink.len() - start);
+        let written = match append_section(section.standing(), offsets, sink) {
             Ok(written) => written,
             Err(fault) => return Err((number, fault)),
         };
-        tally = tally.and(&section, written, is_level);
-        rest = after;
+        tally = tally.and(section.standing(), written, is_level);
     }
 }
 
@@ -527,9 +528,14 @@ fn append_module<A: Allocator + Copy>(
     offsets: Offsets,
     sink: &mut Vec<u8, A>,
 ) -> Result<usize, ModuleFault> {
-    let rest = match read_header(bytes) {
-        Ok(rest) => rest,
-        Err(fault) => return Err(ModuleFault::Section { number: 0, fault }),
+    let sections = match Sections::new(bytes) {
+        Ok(sections) => sections,
+        Err(error) => {
+            return Err(ModuleFault::Section {
+                number: 0,
+                fault: error.cause,
+            });
+        }
     };
     match begin_module(bytes.len(), sink) {
         Ok(()) => {}
@@ -540,7 +546,7 @@ fn append_module<A: Allocator + Copy>(
             });
         }
     }
-    let tally = match append_sections(rest, offsets, sink) {
+    let tally = match append_sections(sections, offsets, sink) {
         Ok(tally) => tally,
         Err((number, fault)) => return Err(ModuleFault::Section { number, fault }),
     };

@@ -1,6 +1,7 @@
 """Implements Display for errors, by the texts of their `#[error]` attributes."""
 from __future__ import annotations
 
+import re
 from collections.abc import Iterator
 
 from .source import Source
@@ -29,12 +30,17 @@ def display(source: Source, place: int) -> str:
     end = source.closing(brace)
     if kind == 'struct':
         fields = fields_of(source, brace, end)
-        body = [f'        let Self {{ {", ".join(fields)} }} = self;', f'        write!(f, {text})']
+        body = [f'        let Self {{ {", ".join(fields)} }} = self;', f'        write!(f, {with_fields(text)})']
     else:
         arms = [f'            {arm}' for arm in variants(source, name, brace, end)]
         body = ['        match self {'] + arms + ['        }']
     head = f'impl ::core::fmt::Display for {name} {{\n    fn fmt(&self, f: &mut ::core::fmt::Formatter<\'_>) -> ::core::fmt::Result {{\n'
     return head + '\n'.join(body) + f'\n    }}\n}}\n\nimpl ::core::error::Error for {name} {{}}\n'
+
+
+def with_fields(text: str) -> str:
+    """Returns the message and its arguments, in which `.field` is the field's name."""
+    return re.sub(r'(?<=[(,= ])\.(?=[a-z_])', '', text)
 
 
 def fields_of(source: Source, brace: int, end: int) -> list[str]:

@@ -96,7 +96,9 @@ KEPT_STD = {
 CORE_STD = {
     'std::cell::Cell',
     'std::default::Default',
+    'std::iter::FusedIterator',
     'std::marker::PhantomData',
+    'std::ops::Range',
     'std::result',
     'std::slice',
 }

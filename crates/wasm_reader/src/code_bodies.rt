@@ -1,0 +1,188 @@
+// Iterates over the bodies of a code section, without decoding them.
+ghost use Rattle.std.specs.Prelude.{◌≡◌, ◌≢◌, ◌+◌, ◌<◌, ◌≤◌, ◌⊎◌, ◌^◌, [], length, IfOk, IfErr};
+ghost use Rattle.std.specs.Iterator.{at_most};
+ghost use Rattle.wasm_base.specs.Formats.{u32, pair, vec};
+ghost use Rattle.wasm_base.specs.Numbers.{padded, standard};
+ghost use Rattle.wasm_base.specs.Continuing.{RejectsWhole};
+ghost use Rattle.wasm_base.specs.Decoding.{Decodes, Rejects};
+ghost use Rattle.wasm_base.specs.Types.{val_type};
+ghost use Rattle.wasm_base.specs.declared.fault.ReadFault.TheVariants.{Memory};
+ghost use Rattle.wasm_code.specs.Bodies.{body};
+ghost use Rattle.wasm_code.specs.Walks.{ahead as ahead_in};
+ghost use Rattle.wasm_reader.specs.Iterating.{Visiting, LocatedBody, NextBody, end_of};
+
+use crate::read_error::ReadError;
+use crate::sections::Section;
+use std::alloc::{Allocator, Global};
+use std::iter::FusedIterator;
+use std::marker::Model;
+use wasm_base::{Padded, ReadFault, Readable, Standard, ValType};
+use wasm_code::Instructions;
+
+/// The bodies of a code section, one after another. It allocates nothing.
+///
+/// ```text
+/// for body in section.bodies()? {
+///     let (locals, mut instructions) = body?.instructions(alloc)?;
+///     while let Some(step) = instructions.next()? {
+///         // step.op, instructions.args()
+///     }
+/// }
+/// ```
+///
+/// # Errors
+///
+/// An error but `Memory` means that no size-prefixed body is next, or that bytes remain after the
+/// last one. It is the last item.
+#[derive(Clone, Debug, Drop)]
+pub struct Bodies<'a> {
+    left: u32,
+    rest: &'a [u8],
+    /// The offset of the end of `rest` in the module.
+    end: usize,
+}
+
+impl<'a> Model for Bodies<'a> {
+    ghost Value = { Visiting };
+
+    ghost view = { λ b. record { left = b.left; rest = b.rest.now; end = b.end } };
+
+    ghost invariant = { λ b. length b.rest.now ≤ b.end };
+}
+
+impl<'a> Section<'a> {
+    /// Decodes the number of bodies of a code section, and returns an iterator over them.
+    ///
+    /// # Errors
+    ///
+    /// An error but `Memory` means that this is no code section, or that its payload does not begin
+    /// with a number.
+    pub fn bodies(&self) -> Result<Bodies<'a>, ReadError>
+        ensures id { IfOk result (λ _. self.now.section.id ≡ 10) }
+        ensures found { IfOk result (λ it. Decodes u32 padded self.now.section.payload it.left it.rest) }
+        ensures end { IfOk result (λ it. it.end ≡ end_of self.now) }
+        ensures none { IfErr result (λ e. e.cause ≢ Memory → (self.now.section.id ≢ 10) ⊎ Rejects u32 padded self.now.section.payload) }
+        ensures from { IfErr result (λ e. self.now.offset ≤ e.offset) }
+        ensures within { IfErr result (λ e. e.offset ≤ end_of self.now) }
+    {
+        if self.id() != 10 {
+            return Err(ReadError {
+                cause: ReadFault::UnknownTag,
+                offset: self.offset(),
+            });
+        }
+        let payload = self.payload();
+        let end = self.range().end;
+        match <u32 as Readable<'a, Global, Padded>>::read(payload, Global) {
+            Ok((left, rest)) => Ok(Bodies { left, rest, end }),
+            Err(error) => Err(ReadError::located(error, payload.len(), end)),
+        }
+    }
+}
+
+impl<'a> Bodies<'a> {
+    /// Returns the number of bodies that are left, as the section states it.
+    pub fn left(&self) -> u32
+        ensures { result ≡ self.now.left }
+    {
+        self.left
+    }
+
+    /// Ends the iteration with this error.
+    fn fail(&mut self, error: ReadError) -> Option<Result<CodeBody<'a>, ReadError>>
+        ensures error { result ≡ Some (Err error) }
+        ensures ended { self.new ≡ record { left = 0; rest = []; end = self.old.end } }
+    {
+        self.left = 0;
+        self.rest = b"";
+        Some(Err(error))
+    }
+}
+
+impl<'a> Iterator for Bodies<'a> {
+    type Item = Result<CodeBody<'a>, ReadError>;
+
+    ghost next_gives = { NextBody };
+
+    ghost remaining = { λ it. at_most (it.left + length it.rest) };
+
+    fn next(&mut self) -> Option<Result<CodeBody<'a>, ReadError>> {
+        let (size, end) = (self.rest.len(), self.end);
+        if self.left == 0 {
+            if size == 0 {
+                return None;
+            }
+            let error = ReadFault::SizeMismatch.at(self.rest);
+            return self.fail(ReadError::located(error, size, end));
+        }
+        match <&'a [u8] as Readable<'a, Global, Padded>>::read(self.rest, Global) {
+            Ok((bytes, rest)) => {
+                self.left -= 1;
+                self.rest = rest;
+                let offset = end - rest.len() - bytes.len();
+                Some(Ok(CodeBody { offset, bytes }))
+            }
+            Err(error) => self.fail(ReadError::located(error, size, end)),
+        }
+    }
+}
+
+impl<'a> FusedIterator for Bodies<'a> {}
+
+/// A body of a code section, not yet decoded.
+#[derive(Clone, Copy, Debug)]
+pub struct CodeBody<'a> {
+    offset: usize,
+    bytes: &'a [u8],
+}
+
+impl<'a> Model for CodeBody<'a> {
+    ghost Value = { LocatedBody };
+
+    ghost view = { λ b. record { offset = b.offset; bytes = b.bytes.now } };
+
+    ghost invariant = { λ b. b.offset + length b.bytes.now < 2 ^ 64 };
+}
+
+impl<'a> CodeBody<'a> {
+    /// Returns the offset of its first byte, after its size prefix, in the module, in bytes.
+    pub fn offset(&self) -> usize
+        ensures { result ≡ self.now.offset }
+    {
+        self.offset
+    }
+
+    /// Returns its bytes: the locals and the instructions, without the size prefix.
+    pub fn bytes(&self) -> &'a [u8]
+        ensures { result.now ≡ self.now.bytes }
+    {
+        self.bytes
+    }
+
+    /// Decodes the runs of its locals, and returns them with a visitor of its instructions. The
+    /// visitor counts offsets from the first byte of the body. It accepts all encodings that the
+    /// standard admits.
+    ///
+    /// # Errors
+    ///
+    /// An error but `Memory` means that the bytes are no body.
+    pub fn instructions<A: Allocator + Copy>(
+        &self,
+        alloc: A,
+    ) -> Result<(Vec<(u32, ValType), A>, Instructions<'a, A, Standard>), ReadError>
+        ensures found { IfOk result (λ x. Decodes (vec (pair u32 val_type)) standard self.now.bytes x.0.items (ahead_in x.1)) }
+        ensures same { IfOk result (λ x. x.1.bytes ≡ self.now.bytes) }
+        ensures before { IfOk result (λ x. x.1.arguments ≡ []) }
+        ensures none { IfErr result (λ e. e.cause ≢ Memory → RejectsWhole body standard self.now.bytes) }
+        ensures from { IfErr result (λ e. self.now.offset ≤ e.offset) }
+        ensures within { IfErr result (λ e. e.offset ≤ self.now.offset + length self.now.bytes) }
+    {
+        match Instructions::of_standard_body(self.bytes, alloc) {
+            Ok(read) => Ok(read),
+            Err(error) => {
+                let size = self.bytes.len();
+                Err(ReadError::located(error, size, self.offset + size))
+            }
+        }
+    }
+}

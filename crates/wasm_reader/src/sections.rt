@@ -1,0 +1,230 @@
+// Iterates over the sections of a module.
+ghost use Rattle.std.specs.Prelude.{◌≡◌, ◌≢◌, ◌++◌, ◌+◌, ◌<◌, ◌≤◌, ◌×◌, ◌^◌, length, drop, option_map, IfOk, IfErr};
+ghost use Rattle.std.specs.Iterator.{at_most};
+ghost use Rattle.wasm_base.specs.Formats.{fixed, header};
+ghost use Rattle.wasm_base.specs.Numbers.{padded, standard};
+ghost use Rattle.wasm_base.specs.Continuing.{RejectsWhole};
+ghost use Rattle.wasm_base.specs.Decoding.{Rejects};
+ghost use Rattle.wasm_base.specs.declared.fault.ReadFault.TheVariants.{Memory};
+ghost use Rattle.wasm_reader.specs.Kinds.{Contents, content, contents_of, number_in};
+ghost use Rattle.wasm_reader.specs.Outlines.{section_of, section_kind_of, bytes_of, IsSection};
+ghost use Rattle.wasm_reader.specs.Iterating.{Iterating, Located, ahead, end_of, known_kind_of, IsInPayload, NextSection};
+
+use crate::kinds::{Items, SectionKind, read_content, read_number};
+use crate::modules::read_header;
+use crate::read_error::ReadError;
+use crate::standing::{Standing, read_standing};
+use std::alloc::{Allocator, Global};
+use std::iter::FusedIterator;
+use std::marker::Model;
+use std::ops::Range;
+use wasm_base::{ReadFault, Standard};
+
+/// The sections of a module, one after another. It allocates nothing.
+///
+/// ```text
+/// for section in Sections::new(module)? {
+///     let section = section?;
+///     // section.id(), section.name(), section.range(), section.items(alloc)?
+/// }
+/// ```
+///
+/// # Errors
+///
+/// An error but `Memory` means that the bytes at the offset of the next section are not an id and a
+/// size-prefixed payload. It is the last item.
+#[derive(Clone, Debug, Drop)]
+pub struct Sections<'a> {
+    module: &'a [u8],
+    offset: usize,
+}
+
+impl<'a> Model for Sections<'a> {
+    ghost Value = { Iterating };
+
+    ghost view = { λ s. record { bytes = s.module.now; offset = s.offset } };
+
+    ghost invariant = { λ s. s.offset ≤ length s.module.now };
+}
+
+impl<'a> Sections<'a> {
+    /// Checks the header of a module, and returns an iterator over its sections.
+    ///
+    /// # Errors
+    ///
+    /// An error means that the bytes do not begin with the header of a module: `Ended` if there
+    /// are fewer than 8.
+    pub fn new(module: &'a [u8]) -> Result<Self, ReadError>
+        ensures found { IfOk result (λ it. module.now ≡ header ++ ahead it) }
+        ensures offset { IfOk result (λ it. it.offset ≡ length header) }
+        ensures same { IfOk result (λ it. it.bytes ≡ module.now) }
+        ensures none { IfErr result (λ _. Rejects (fixed header (tt {0})) padded module.now) }
+        ensures within { IfErr result (λ e. e.offset ≤ length module.now) }
+    {
+        match read_header(module) {
+            Ok(rest) => Ok(Sections {
+                module,
+                offset: module.len() - rest.len(),
+            }),
+            Err(ReadFault::Ended) => Err(ReadError {
+                cause: ReadFault::Ended,
+                offset: module.len(),
+            }),
+            Err(cause) => Err(ReadError { cause, offset: 0 }),
+        }
+    }
+
+    /// Returns the offset of the next section in the module, in bytes. After an error, it is the
+    /// length of the module.
+    pub fn offset(&self) -> usize
+        ensures { result ≡ self.now.offset }
+    {
+        self.offset
+    }
+}
+
+impl<'a> Iterator for Sections<'a> {
+    type Item = Result<Section<'a>, ReadError>;
+
+    ghost next_gives = { NextSection };
+
+    ghost remaining = { λ it. at_most (length (ahead it)) };
+
+    fn next(&mut self) -> Option<Result<Section<'a>, ReadError>> {
+        let offset = self.offset;
+        let bytes = &self.module[offset..];
+        if bytes.is_empty() {
+            return None;
+        }
+        match read_standing(bytes, Global) {
+            Ok((standing, rest)) => {
+                self.offset = self.module.len() - rest.len();
+                Some(Ok(Section { offset, standing }))
+            }
+            Err(error) => {
+                self.offset = self.module.len();
+                Some(Err(ReadError::located(error, bytes.len(), self.module.len())))
+            }
+        }
+    }
+}
+
+impl<'a> FusedIterator for Sections<'a> {}
+
+/// A section of a module, whose payload is not yet decoded.
+///
+/// Calls that decode accept all encodings that the standard admits.
+#[derive(Clone, Copy, Debug)]
+pub struct Section<'a> {
+    offset: usize,
+    standing: Standing<'a>,
+}
+
+impl<'a> Model for Section<'a> {
+    ghost Value = { Located };
+
+    ghost view = { λ s. record { offset = s.offset; section = section_of s.standing } };
+
+    ghost invariant = { λ s. IsSection (section_of s.standing) × (s.offset + length (bytes_of (section_of s.standing)) < 2 ^ 64) };
+}
+
+impl<'a> Section<'a> {
+    /// Returns the section without its offset.
+    pub(crate) fn standing(&self) -> &Standing<'a>
+        ensures { section_of result.now ≡ self.now.section }
+    {
+        &self.standing
+    }
+
+    /// Returns the section's id.
+    pub fn id(&self) -> u8
+        ensures { result ≡ self.now.section.id }
+    {
+        self.standing.id
+    }
+
+    /// Returns the kind as which the payload is decoded: by the id, and for a custom section by its
+    /// name. It is `None` if the id is above 13.
+    pub fn kind(&self) -> Option<SectionKind>
+        ensures { result ≡ known_kind_of self.now.section }
+    {
+        if self.standing.id < 14 {
+            Some(self.standing.kind())
+        } else {
+            None
+        }
+    }
+
+    /// Returns the name of a custom section, if its payload begins with one.
+    pub fn name(&self) -> Option<&'a str>
+        ensures { option_map (λ n. n.now) result ≡ self.now.section.name }
+    {
+        self.standing.name
+    }
+
+    /// Returns the offset of the section's id in the module, in bytes.
+    pub fn offset(&self) -> usize
+        ensures { result ≡ self.now.offset }
+    {
+        self.offset
+    }
+
+    /// Returns the offsets of the payload in the module, in bytes.
+    pub fn range(&self) -> Range<usize>
+        ensures start { result.start + length self.now.section.payload ≡ end_of self.now }
+        ensures end { result.end ≡ end_of self.now }
+    {
+        let end = self.offset + 1 + self.standing.sized.len();
+        end - self.standing.payload.len()..end
+    }
+
+    /// Returns the payload: the bytes after the size prefix.
+    pub fn payload(&self) -> &'a [u8]
+        ensures { result.now ≡ self.now.section.payload }
+    {
+        self.standing.payload
+    }
+
+    /// Returns the number of items, or `None` if they are not counted: those of custom sections,
+    /// and of sections of ids above 13. The items of a type section are its entries, and a
+    /// recursion group is one entry.
+    ///
+    /// # Errors
+    ///
+    /// An error but `Memory` means that the payload does not decode as the section's kind.
+    pub fn count<A: Allocator + Copy>(&self, alloc: A) -> Result<Option<u32>, ReadError>
+        ensures found { IfOk result (λ number. (x : Contents) × content (section_kind_of self.now.section) standard self.now.section.payload x × (number ≡ number_in x)) }
+        ensures none { IfErr result (λ e. e.cause ≢ Memory → RejectsWhole (content (section_kind_of self.now.section)) standard self.now.section.payload) }
+        ensures within { IfErr result (λ e. IsInPayload self.now e.offset) }
+    {
+        match read_number::<A, Standard>(self.standing.kind(), self.standing.payload, alloc) {
+            Ok(number) => Ok(number),
+            Err(error) => Err(ReadError::located(
+                error,
+                self.standing.payload.len(),
+                self.range().end,
+            )),
+        }
+    }
+
+    /// Decodes the payload, and returns its items. Names, data and raw bytes are slices of the
+    /// module; lists are in memory of the allocator.
+    ///
+    /// # Errors
+    ///
+    /// An error but `Memory` means that the payload does not decode as the section's kind.
+    pub fn items<A: Allocator + Copy + 'a>(&self, alloc: A) -> Result<Items<'a, A>, ReadError>
+        ensures found { IfOk result (λ x. content (section_kind_of self.now.section) standard self.now.section.payload (contents_of x)) }
+        ensures none { IfErr result (λ e. e.cause ≢ Memory → RejectsWhole (content (section_kind_of self.now.section)) standard self.now.section.payload) }
+        ensures within { IfErr result (λ e. IsInPayload self.now e.offset) }
+    {
+        match read_content::<A, Standard>(self.standing.kind(), self.standing.payload, alloc) {
+            Ok(items) => Ok(items),
+            Err(error) => Err(ReadError::located(
+                error,
+                self.standing.payload.len(),
+                self.range().end,
+            )),
+        }
+    }
+}

@@ -1,0 +1,188 @@
+// Written by tools/to-rust from crates/wasm_reader/src/code_bodies.rt: change that.
+// Iterates over the bodies of a code section, without decoding them.
+
+use crate::vec::Vec;
+use crate::reader::read_error::ReadError;
+use crate::reader::sections::Section;
+use crate::alloc::{Allocator, Global};
+use core::iter::FusedIterator;
+use crate::base::{Padded, ReadFault, Readable, Standard, ValType};
+use crate::code::Instructions;
+
+/// The bodies of a code section, one after another. It allocates nothing.
+///
+/// ```text
+/// for body in section.bodies()? {
+///     let (locals, mut instructions) = body?.instructions(alloc)?;
+///     while let Some(step) = instructions.next()? {
+///         // step.op, instructions.args()
+///     }
+/// }
+/// ```
+///
+/// # Errors
+///
+/// An error but `Memory` means that no size-prefixed body is next, or that bytes remain after the
+/// last one. It is the last item.
+#[derive(Clone, Debug)]
+pub struct Bodies<'a> {
+    left: u32,
+    rest: &'a [u8],
+    /// The offset of the end of `rest` in the module.
+    end: usize,
+}
+
+impl<'a> Section<'a> {
+    /// Decodes the number of bodies of a code section, and returns an iterator over them.
+    ///
+    /// # Errors
+    ///
+    /// An error but `Memory` means that this is no code section, or that its payload does not begin
+    /// with a number.
+    ///
+    /// # Proved
+    ///
+    /// ```text
+    /// ensures id { IfOk result (λ _. self.now.section.id ≡ 10) }
+    /// ensures found { IfOk result (λ it. Decodes u32 padded self.now.section.payload it.left it.rest) }
+    /// ensures end { IfOk result (λ it. it.end ≡ end_of self.now) }
+    /// ensures none { IfErr result (λ e. e.cause ≢ Memory → (self.now.section.id ≢ 10) ⊎ Rejects u32 padded self.now.section.payload) }
+    /// ensures from { IfErr result (λ e. self.now.offset ≤ e.offset) }
+    /// ensures within { IfErr result (λ e. e.offset ≤ end_of self.now) }
+    /// ```
+    pub fn bodies(&self) -> Result<Bodies<'a>, ReadError> {
+        if self.id() != 10 {
+            return Err(ReadError {
+                cause: ReadFault::UnknownTag,
+                offset: self.offset(),
+            });
+        }
+        let payload = self.payload();
+        let end = self.range().end;
+        match <u32 as Readable<'a, Global, Padded>>::read(payload, Global) {
+            Ok((left, rest)) => Ok(Bodies { left, rest, end }),
+            Err(error) => Err(ReadError::located(error, payload.len(), end)),
+        }
+    }
+}
+
+impl<'a> Bodies<'a> {
+    /// Returns the number of bodies that are left, as the section states it.
+    ///
+    /// # Proved
+    ///
+    /// ```text
+    /// ensures { result ≡ self.now.left }
+    /// ```
+    pub fn left(&self) -> u32 {
+        self.left
+    }
+
+    /// Ends the iteration with this error.
+    ///
+    /// # Proved
+    ///
+    /// ```text
+    /// ensures error { result ≡ Some (Err error) }
+    /// ensures ended { self.new ≡ record { left = 0; rest = []; end = self.old.end } }
+    /// ```
+    fn fail(&mut self, error: ReadError) -> Option<Result<CodeBody<'a>, ReadError>> {
+        self.left = 0;
+        self.rest = b"";
+        Some(Err(error))
+    }
+}
+
+/// # Defined
+///
+/// ```text
+/// next_gives = { NextBody }
+/// remaining = { λ it. at_most (it.left + length it.rest) }
+/// ```
+impl<'a> Iterator for Bodies<'a> {
+    type Item = Result<CodeBody<'a>, ReadError>;
+
+    fn next(&mut self) -> Option<Result<CodeBody<'a>, ReadError>> {
+        let (size, end) = (self.rest.len(), self.end);
+        if self.left == 0 {
+            if size == 0 {
+                return None;
+            }
+            let error = ReadFault::SizeMismatch.at(self.rest);
+            return self.fail(ReadError::located(error, size, end));
+        }
+        match <&'a [u8] as Readable<'a, Global, Padded>>::read(self.rest, Global) {
+            Ok((bytes, rest)) => {
+                self.left -= 1;
+                self.rest = rest;
+                let offset = end - rest.len() - bytes.len();
+                Some(Ok(CodeBody { offset, bytes }))
+            }
+            Err(error) => self.fail(ReadError::located(error, size, end)),
+        }
+    }
+}
+
+impl<'a> FusedIterator for Bodies<'a> {}
+
+/// A body of a code section, not yet decoded.
+#[derive(Clone, Copy, Debug)]
+pub struct CodeBody<'a> {
+    offset: usize,
+    bytes: &'a [u8],
+}
+
+impl<'a> CodeBody<'a> {
+    /// Returns the offset of its first byte, after its size prefix, in the module, in bytes.
+    ///
+    /// # Proved
+    ///
+    /// ```text
+    /// ensures { result ≡ self.now.offset }
+    /// ```
+    pub fn offset(&self) -> usize {
+        self.offset
+    }
+
+    /// Returns its bytes: the locals and the instructions, without the size prefix.
+    ///
+    /// # Proved
+    ///
+    /// ```text
+    /// ensures { result.now ≡ self.now.bytes }
+    /// ```
+    pub fn bytes(&self) -> &'a [u8] {
+        self.bytes
+    }
+
+    /// Decodes the runs of its locals, and returns them with a visitor of its instructions. The
+    /// visitor counts offsets from the first byte of the body. It accepts all encodings that the
+    /// standard admits.
+    ///
+    /// # Errors
+    ///
+    /// An error but `Memory` means that the bytes are no body.
+    ///
+    /// # Proved
+    ///
+    /// ```text
+    /// ensures found { IfOk result (λ x. Decodes (vec (pair u32 val_type)) standard self.now.bytes x.0.items (ahead_in x.1)) }
+    /// ensures same { IfOk result (λ x. x.1.bytes ≡ self.now.bytes) }
+    /// ensures before { IfOk result (λ x. x.1.arguments ≡ []) }
+    /// ensures none { IfErr result (λ e. e.cause ≢ Memory → RejectsWhole body standard self.now.bytes) }
+    /// ensures from { IfErr result (λ e. self.now.offset ≤ e.offset) }
+    /// ensures within { IfErr result (λ e. e.offset ≤ self.now.offset + length self.now.bytes) }
+    /// ```
+    pub fn instructions<A: Allocator + Copy>(
+        &self,
+        alloc: A,
+    ) -> Result<(Vec<(u32, ValType), A>, Instructions<'a, A, Standard>), ReadError> {
+        match Instructions::of_standard_body(self.bytes, alloc) {
+            Ok(read) => Ok(read),
+            Err(error) => {
+                let size = self.bytes.len();
+                Err(ReadError::located(error, size, self.offset + size))
+            }
+        }
+    }
+}

@@ -1,0 +1,68 @@
+// Written by tools/to-rust from crates/wasm_reader/src/read_error.rt: change that.
+// The error of the iterators over a module.
+
+use crate::base::{DecodeError, ReadFault};
+
+/// The cause of a failed decoding, and its offset in the module.
+///
+/// ```text
+/// // unexpected end of input at offset 0x1a3
+/// println!("{error}");
+/// ```
+#[derive(Clone, Copy, PartialEq, Eq, Debug)]
+pub struct ReadError {
+    pub cause: ReadFault,
+    /// The offset of the first byte that cannot be part of an encoding, from the start of the
+    /// module, in bytes; the end of a payload that ends too soon. It means nothing for `Memory`.
+    /// Contracts say that it is in the section or the payload that was decoded, and tests the
+    /// rest.
+    pub offset: usize,
+}
+
+/// Returns the text of the cause.
+fn text_of(cause: &ReadFault) -> &'static str {
+    match cause {
+        ReadFault::Ended => "unexpected end of input",
+        ReadFault::NotShortest => "padded integer",
+        ReadFault::TooLarge => "integer too large",
+        ReadFault::UnknownTag => "unexpected byte or value",
+        ReadFault::UnknownOpcode => "unknown opcode",
+        ReadFault::NotUtf8 => "invalid UTF-8",
+        ReadFault::SizeMismatch => "bytes remain after the value",
+        ReadFault::Memory => "out of memory",
+    }
+}
+
+impl ReadError {
+    /// Returns the error of a decoder. Its input had this size, and ended at the offset `end`.
+    ///
+    /// # Asks
+    ///
+    /// ```text
+    /// requires { size ≤ end }
+    /// ```
+    ///
+    /// # Proved
+    ///
+    /// ```text
+    /// ensures cause { result.cause ≡ error.cause }
+    /// ensures from { end ≤ result.offset + size }
+    /// ensures within { result.offset ≤ end }
+    /// ```
+    pub(crate) fn located(error: DecodeError, size: usize, end: usize) -> ReadError {
+        let left = size.min(error.left as usize);
+        ReadError {
+            cause: error.cause,
+            offset: end - left,
+        }
+    }
+}
+
+impl ::core::fmt::Display for ReadError {
+    fn fmt(&self, f: &mut ::core::fmt::Formatter<'_>) -> ::core::fmt::Result {
+        let Self { cause, offset } = self;
+        write!(f, "{text} at offset {offset:#x}", text = text_of(cause))
+    }
+}
+
+impl ::core::error::Error for ReadError {}

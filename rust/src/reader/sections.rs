@@ -1,0 +1,250 @@
+// Written by tools/to-rust from crates/wasm_reader/src/sections.rt: change that.
+// Iterates over the sections of a module.
+
+use crate::reader::kinds::{Items, SectionKind, read_content, read_number};
+use crate::reader::modules::read_header;
+use crate::reader::read_error::ReadError;
+use crate::reader::standing::{Standing, read_standing};
+use crate::alloc::{Allocator, Global};
+use core::iter::FusedIterator;
+use core::ops::Range;
+use crate::base::{ReadFault, Standard};
+
+/// The sections of a module, one after another. It allocates nothing.
+///
+/// ```text
+/// for section in Sections::new(module)? {
+///     let section = section?;
+///     // section.id(), section.name(), section.range(), section.items(alloc)?
+/// }
+/// ```
+///
+/// # Errors
+///
+/// An error but `Memory` means that the bytes at the offset of the next section are not an id and a
+/// size-prefixed payload. It is the last item.
+#[derive(Clone, Debug)]
+pub struct Sections<'a> {
+    module: &'a [u8],
+    offset: usize,
+}
+
+impl<'a> Sections<'a> {
+    /// Checks the header of a module, and returns an iterator over its sections.
+    ///
+    /// # Errors
+    ///
+    /// An error means that the bytes do not begin with the header of a module: `Ended` if there
+    /// are fewer than 8.
+    ///
+    /// # Proved
+    ///
+    /// ```text
+    /// ensures found { IfOk result (λ it. module.now ≡ header ++ ahead it) }
+    /// ensures offset { IfOk result (λ it. it.offset ≡ length header) }
+    /// ensures same { IfOk result (λ it. it.bytes ≡ module.now) }
+    /// ensures none { IfErr result (λ _. Rejects (fixed header (tt {0})) padded module.now) }
+    /// ensures within { IfErr result (λ e. e.offset ≤ length module.now) }
+    /// ```
+    pub fn new(module: &'a [u8]) -> Result<Self, ReadError> {
+        match read_header(module) {
+            Ok(rest) => Ok(Sections {
+                module,
+                offset: module.len() - rest.len(),
+            }),
+            Err(ReadFault::Ended) => Err(ReadError {
+                cause: ReadFault::Ended,
+                offset: module.len(),
+            }),
+            Err(cause) => Err(ReadError { cause, offset: 0 }),
+        }
+    }
+
+    /// Returns the offset of the next section in the module, in bytes. After an error, it is the
+    /// length of the module.
+    ///
+    /// # Proved
+    ///
+    /// ```text
+    /// ensures { result ≡ self.now.offset }
+    /// ```
+    pub fn offset(&self) -> usize {
+        self.offset
+    }
+}
+
+/// # Defined
+///
+/// ```text
+/// next_gives = { NextSection }
+/// remaining = { λ it. at_most (length (ahead it)) }
+/// ```
+impl<'a> Iterator for Sections<'a> {
+    type Item = Result<Section<'a>, ReadError>;
+
+    fn next(&mut self) -> Option<Result<Section<'a>, ReadError>> {
+        let offset = self.offset;
+        let bytes = &self.module[offset..];
+        if bytes.is_empty() {
+            return None;
+        }
+        match read_standing(bytes, Global) {
+            Ok((standing, rest)) => {
+                self.offset = self.module.len() - rest.len();
+                Some(Ok(Section { offset, standing }))
+            }
+            Err(error) => {
+                self.offset = self.module.len();
+                Some(Err(ReadError::located(error, bytes.len(), self.module.len())))
+            }
+        }
+    }
+}
+
+impl<'a> FusedIterator for Sections<'a> {}
+
+/// A section of a module, whose payload is not yet decoded.
+///
+/// Calls that decode accept all encodings that the standard admits.
+#[derive(Clone, Copy, Debug)]
+pub struct Section<'a> {
+    offset: usize,
+    standing: Standing<'a>,
+}
+
+impl<'a> Section<'a> {
+    /// Returns the section without its offset.
+    ///
+    /// # Proved
+    ///
+    /// ```text
+    /// ensures { section_of result.now ≡ self.now.section }
+    /// ```
+    pub(crate) fn standing(&self) -> &Standing<'a> {
+        &self.standing
+    }
+
+    /// Returns the section's id.
+    ///
+    /// # Proved
+    ///
+    /// ```text
+    /// ensures { result ≡ self.now.section.id }
+    /// ```
+    pub fn id(&self) -> u8 {
+        self.standing.id
+    }
+
+    /// Returns the kind as which the payload is decoded: by the id, and for a custom section by its
+    /// name. It is `None` if the id is above 13.
+    ///
+    /// # Proved
+    ///
+    /// ```text
+    /// ensures { result ≡ known_kind_of self.now.section }
+    /// ```
+    pub fn kind(&self) -> Option<SectionKind> {
+        if self.standing.id < 14 {
+            Some(self.standing.kind())
+        } else {
+            None
+        }
+    }
+
+    /// Returns the name of a custom section, if its payload begins with one.
+    ///
+    /// # Proved
+    ///
+    /// ```text
+    /// ensures { option_map (λ n. n.now) result ≡ self.now.section.name }
+    /// ```
+    pub fn name(&self) -> Option<&'a str> {
+        self.standing.name
+    }
+
+    /// Returns the offset of the section's id in the module, in bytes.
+    ///
+    /// # Proved
+    ///
+    /// ```text
+    /// ensures { result ≡ self.now.offset }
+    /// ```
+    pub fn offset(&self) -> usize {
+        self.offset
+    }
+
+    /// Returns the offsets of the payload in the module, in bytes.
+    ///
+    /// # Proved
+    ///
+    /// ```text
+    /// ensures start { result.start + length self.now.section.payload ≡ end_of self.now }
+    /// ensures end { result.end ≡ end_of self.now }
+    /// ```
+    pub fn range(&self) -> Range<usize> {
+        let end = self.offset + 1 + self.standing.sized.len();
+        end - self.standing.payload.len()..end
+    }
+
+    /// Returns the payload: the bytes after the size prefix.
+    ///
+    /// # Proved
+    ///
+    /// ```text
+    /// ensures { result.now ≡ self.now.section.payload }
+    /// ```
+    pub fn payload(&self) -> &'a [u8] {
+        self.standing.payload
+    }
+
+    /// Returns the number of items, or `None` if they are not counted: those of custom sections,
+    /// and of sections of ids above 13. The items of a type section are its entries, and a
+    /// recursion group is one entry.
+    ///
+    /// # Errors
+    ///
+    /// An error but `Memory` means that the payload does not decode as the section's kind.
+    ///
+    /// # Proved
+    ///
+    /// ```text
+    /// ensures found { IfOk result (λ number. (x : Contents) × content (section_kind_of self.now.section) standard self.now.section.payload x × (number ≡ number_in x)) }
+    /// ensures none { IfErr result (λ e. e.cause ≢ Memory → RejectsWhole (content (section_kind_of self.now.section)) standard self.now.section.payload) }
+    /// ensures within { IfErr result (λ e. IsInPayload self.now e.offset) }
+    /// ```
+    pub fn count<A: Allocator + Copy>(&self, alloc: A) -> Result<Option<u32>, ReadError> {
+        match read_number::<A, Standard>(self.standing.kind(), self.standing.payload, alloc) {
+            Ok(number) => Ok(number),
+            Err(error) => Err(ReadError::located(
+                error,
+                self.standing.payload.len(),
+                self.range().end,
+            )),
+        }
+    }
+
+    /// Decodes the payload, and returns its items. Names, data and raw bytes are slices of the
+    /// module; lists are in memory of the allocator.
+    ///
+    /// # Errors
+    ///
+    /// An error but `Memory` means that the payload does not decode as the section's kind.
+    ///
+    /// # Proved
+    ///
+    /// ```text
+    /// ensures found { IfOk result (λ x. content (section_kind_of self.now.section) standard self.now.section.payload (contents_of x)) }
+    /// ensures none { IfErr result (λ e. e.cause ≢ Memory → RejectsWhole (content (section_kind_of self.now.section)) standard self.now.section.payload) }
+    /// ensures within { IfErr result (λ e. IsInPayload self.now e.offset) }
+    /// ```
+    pub fn items<A: Allocator + Copy + 'a>(&self, alloc: A) -> Result<Items<'a, A>, ReadError> {
+        match read_content::<A, Standard>(self.standing.kind(), self.standing.payload, alloc) {
+            Ok(items) => Ok(items),
+            Err(error) => Err(ReadError::located(
+                error,
+                self.standing.payload.len(),
+                self.range().end,
+            )),
+        }
+    }
+}
