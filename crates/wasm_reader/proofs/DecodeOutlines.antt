@@ -2,15 +2,13 @@
 use Rattle.wasm_base.proofs.Words.{standard, ◌≡◌, ◌≢◌, ℕ, ◌<◌, ◌^◌, ◌+◌, ◌-◌, suc, List, [], ◌∷◌, ◌++◌, length, map, take, Option, Some, None, refl, sym, ap, subst, ◌∙◌, append_assoc, append-nil}
 use Rattle.wasm_base.proofs.Words.{arith, AllByRecursion, flat_map, flat_map-append, length-map, take_at, RejectsWhole, padded, Format, any_bytes, any_section, byte, fixed, size_prefixed, header}
 use Rattle.wasm_base.proofs.Words.{members, vec, wasm_module, Decodes, Rejects, BeginsWith, byte_unambiguous, begins_then, section_unambiguous, then_rejects_first, then_rejects_second}
-use Rattle.wasm_reader.specs.{number_in, Contents, Types, content, Section, IsSection, bytes_of, count_in, IsCount, IsOutline, AreOutlines, HasOutline, EndsAt}
+use Rattle.wasm_reader.specs.{number_in, Contents, content, Section, IsSection, bytes_of, IsCount, IsOutline, AreOutlines, HasOutline, EndsAt}
 use Rattle.wasm_reader.specs.declared.outlines.Outlined.{Outlined}
 use Rattle.wasm_reader.specs.declared.kinds.SectionKind.{SectionKind}
-use Rattle.wasm_reader.proofs.KindLaws.{content_whole, counted_alike}
+use Rattle.wasm_reader.proofs.KindLaws.{content_whole}
 use Rattle.std.proofs.lemmas.List.{length-append}
-use Rattle.wasm_types.proofs.Words.{TypeItem, type_item}
 use Rattle.wasm_reader.proofs.ModuleLaws.{one_way}
 use Rattle.wasm_sections.proofs.Words.{prefixed_decodes}
-use Rattle.wasm_reader.specs.declared.kinds.SectionKind.TheVariants as kinds
 
 -- ---- a section with any payload
 
@@ -37,28 +35,13 @@ pub ruleset standing_steps = (sized_is, section_split)
 
 -- ---- the number of items
 
-same_count : (kind : SectionKind) (payload : List ℕ) (x : Contents) (number : Option ℕ) → content kind standard payload x → count_in x ≡ number → IsCount kind payload number
-same_count kind payload x (Some n) h e = (x, h, e)
-same_count kind payload x None h e = λ y g. ap count_in ((content_whole kind).whole standard payload y x g h) ∙ e
-
-pub types_counted : (payload : List ℕ) (types : List TypeItem) (n : ℕ) → vec type_item standard payload types → n ≡ length types → IsCount kinds.Types payload (Some n)
-types_counted payload types n h e = (Types types, (types, refl, h), ap Some (sym e))
-
-pub types_uncounted : (payload : List ℕ) → RejectsWhole (vec type_item) standard payload → IsCount kinds.Types payload None
-types_uncounted payload n = λ x h. absurd (n.none h.0 h.2)
-
-pub types_few : (payload : List ℕ) (types : List TypeItem) → vec type_item standard payload types → length types < 2 ^ 32
-types_few payload types h = h.first.range
-
--- The number of items in a list is that in an outline, for kinds other than types.
-pub listed_count : (kind : SectionKind) (payload : List ℕ) (x : Contents) (number : Option ℕ) → kind ≢ kinds.Types → content kind standard payload x → number ≡ number_in x → IsCount kind payload number
-listed_count kind payload x number other h e = same_count kind payload x number h (counted_alike standard kind payload x other h ∙ sym e)
+pub counted : (kind : SectionKind) (payload : List ℕ) (x : Contents) (number : Option ℕ) → content kind standard payload x → number ≡ number_in x → IsCount kind payload number
+counted kind payload x (Some n) h e = (x, h, sym e)
+counted kind payload x None h e = λ y g. ap number_in ((content_whole kind).whole standard payload y x g h) ∙ sym e
 
 -- There is no number of items if nothing decodes.
 pub not_counted : (kind : SectionKind) (payload : List ℕ) → RejectsWhole (content kind) standard payload → IsCount kind payload None
 not_counted kind payload n = λ x h. absurd (n.none x h)
-
-pub ruleset count_steps = (types_counted, types_few)
 
 -- ---- lists
 
@@ -147,9 +130,6 @@ outlined_step section_start at start rest after lines line s h i e o l = record 
   each = All-append IsSection h.sections (s ∷ []) h.each (i, tt);
   are_outlines = outlines_more section_start h.sections lines s line h.are_outlines (subst (λ z. IsOutline z s line) (omega (arith, l, ap length h.joined, length-append (flat_map bytes_of h.sections) rest)) o);
 }
-
-pub place_is : (bytes start rest : List ℕ) (lines : List Outlined) → bytes ≡ header ++ start → HasOutlined (length header) start lines rest → length bytes - length rest + length rest ≡ length header + length start
-place_is bytes start rest lines e h = omega (arith, ap length e, ap length h.joined, length-append header start, length-append (flat_map bytes_of h.sections) rest)
 
 outlines_length : (section_start : ℕ) (sections : List Section) (lines : List Outlined) → AreOutlines section_start sections lines → length sections ≡ length lines
 outlines_length section_start [] [] h = refl

@@ -9,6 +9,7 @@ pub mod ModuleLaws
 pub mod DecodeModules
 pub mod DecodeOutlines
 pub mod DecodeSections
+pub mod IteratingLaws
 pub mod MinimalAgain
 pub mod MinimalBodies
 pub mod MinimalModules

@@ -36,11 +36,13 @@ known_kind_of s = if nat_lt s.id 14 then Some (section_kind_of s) else None
 abbrev pub IsInPayload : Located → ℕ → Type 0
 IsInPayload s offset = (end_of s ≤ offset + length s.section.payload) × (offset ≤ end_of s)
 
--- The iterator gave this section: the next bytes are the section's, and the offset is after them.
+-- The iterator gave this section: the next bytes are the section's, and its offset moves to their
+-- end.
 pub record GivesSection (old : Iterating) (s : Located) (new : Iterating) : Type 0 where
   pub is_section : IsSection s.section
   pub offset : s.offset ≡ old.offset
   pub split : ahead old ≡ bytes_of s.section ++ ahead new
+  pub after : new.offset ≡ end_of s
   pub bytes : new.bytes ≡ old.bytes
 
 -- The iterator gave this error, and nothing more comes: no section is next, for any cause but

@@ -3,4 +3,5 @@ mod numbers;
 mod outlines;
 mod refusals;
 mod samples;
+mod sections;
 mod shortened;

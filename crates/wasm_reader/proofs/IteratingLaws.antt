@@ -1,0 +1,73 @@
+-- This file proves how the iterators over sections and over bodies advance.
+use Rattle.wasm_base.proofs.Words.{◌≡◌, ◌≢◌, ℕ, suc, ◌+◌, ◌-◌, ◌<◌, ◌≤◌, List, [], ◌∷◌, ◌++◌, length, drop, refl, sym, ap, subst, ◌∙◌, arith, drop_at, drop-drop, length-drop}
+use Rattle.wasm_base.proofs.Words.{padded, any_bytes, any_section, byte, fixed, size_prefixed, header, Decodes, Rejects}
+use Rattle.std.proofs.lemmas.List.{length-append}
+use Rattle.wasm_base.specs.declared.fault.ReadFault.TheVariants.{Memory}
+use Rattle.wasm_reader.specs.{Section, IsSection, bytes_of, Iterating, Located, ahead, end_of, IsInPayload, GivesSection, GivesError}
+use Rattle.wasm_reader.specs.declared.read_error.ReadError.{ReadError}
+use Rattle.wasm_reader.proofs.DecodeOutlines.{payload_within}
+
+-- ---- offsets
+
+-- The suffix after the front of the bytes at the offset begins at the offset that its length gives.
+pub follows : (bytes front rest : List ℕ) (offset : ℕ) → offset ≤ length bytes → drop offset bytes ≡ front ++ rest → drop (length bytes - length rest) bytes ≡ rest
+follows bytes front rest offset l e =
+    let long : length (drop offset bytes) ≡ length front + length rest = ap length e ∙ length-append front rest in
+    let at : length bytes - length rest ≡ offset + length front = omega (arith, l, long, length-drop offset bytes) in
+    ap (λ n. drop n bytes) at ∙ sym (drop-drop (length front) offset bytes) ∙ ap (drop (length front)) e ∙ drop_at front rest (length front) refl
+
+-- Nothing follows the last byte.
+pub all_dropped : (bytes : List ℕ) → drop (length bytes) bytes ≡ []
+all_dropped bytes = none_long (drop (length bytes) bytes) (omega (arith, length-drop (length bytes) bytes))
+  where
+    none_long : (xs : List ℕ) → length xs ≡ 0 → xs ≡ []
+    none_long [] e = refl
+    none_long (x ∷ xs) e = absurd (cc e)
+
+-- The sections begin after the header.
+pub begin_sections : (bytes rest : List ℕ) → bytes ≡ header ++ rest → drop (length bytes - length rest) bytes ≡ rest
+begin_sections bytes rest e = follows bytes header rest 0 (omega arith) e
+
+-- ---- steps
+
+module _ (bytes rest : List ℕ) (offset : ℕ) (s : Section) where
+  pub gives_section : offset ≤ length bytes → IsSection s → drop offset bytes ≡ bytes_of s ++ rest → GivesSection (record { bytes = bytes; offset = offset }) (record { offset = offset; section = s }) (record { bytes = bytes; offset = length bytes - length rest })
+  gives_section l i e = record {
+    is_section = i;
+    offset = refl;
+    split = e ∙ ap (λ z. bytes_of s ++ z) (sym (follows bytes (bytes_of s) rest offset l e));
+    after = omega (arith, l, length-drop offset bytes, ap length e, length-append (bytes_of s) rest);
+    bytes = refl;
+  }
+
+  -- The section ends within the module.
+  pub ends_within : offset ≤ length bytes → drop offset bytes ≡ bytes_of s ++ rest → offset + length (bytes_of s) ≤ length bytes
+  ends_within l e = omega (arith, l, length-drop offset bytes, ap length e, length-append (bytes_of s) rest)
+
+pub gives_error : (bytes : List ℕ) (offset : ℕ) (e : ReadError) → (e.cause ≢ Memory → Rejects any_section padded (drop offset bytes)) → drop offset bytes ≢ [] → offset ≤ e.offset → e.offset ≤ length bytes → GivesError (record { bytes = bytes; offset = offset }) e (record { bytes = bytes; offset = length bytes })
+gives_error bytes offset e none more from within = record { none = none; more = more; from = from; within = within; ended = all_dropped bytes; bytes = refl }
+
+-- Fewer bytes are ahead after a section.
+pub section_shrinks : {old new : Iterating} {s : Located} → GivesSection old s new → length (ahead new) < length (ahead old)
+section_shrinks {new = new} {s = s} g = omega (arith, ap length g.split, length-append (bytes_of s.section) (ahead new))
+
+pub error_shrinks : {old new : Iterating} {e : ReadError} → GivesError old e new → length (ahead new) < length (ahead old)
+error_shrinks {old = old} g = omega (arith, ap length g.ended, some_long (ahead old) g.more)
+  where
+    some_long : (xs : List ℕ) → xs ≢ [] → 0 < length xs
+    some_long [] p = absurd (p refl)
+    some_long (x ∷ xs) p = omega arith
+
+-- ---- a section at the front
+
+module _ {old new : Iterating} {s : Located} (g : GivesSection old s new) where
+  pub id_ahead : Decodes byte padded (ahead old) s.section.id (s.section.sized ++ ahead new)
+  id_ahead = record { front = s.section.id ∷ []; split = g.split; encodes = refl }
+
+  pub payload_ahead : Decodes (size_prefixed any_bytes) padded (s.section.sized ++ ahead new) s.section.payload (ahead new)
+  payload_ahead = record { front = s.section.sized; split = refl; encodes = g.is_section.contains }
+
+-- ---- places of errors
+
+pub in_payload : (s : Located) (offset : ℕ) → end_of s ≤ offset + length s.section.payload → offset ≤ end_of s → IsInPayload s offset
+in_payload s offset from within = (from, within)
