@@ -1,10 +1,11 @@
 // Kinds of sections: the reader and the minimizer of each.
-ghost use Rattle.std.specs.Prelude.{◌≡◌, ◌≢◌, IfOk, IfErr, OnOk};
+ghost use Rattle.std.specs.Prelude.{◌≡◌, ◌≢◌, IfOk, IfErr, OnOk, OnErr};
 ghost use Rattle.wasm_base.specs.Continuing.{RejectsWhole};
 ghost use Rattle.wasm_base.specs.Numbers.{padded_of};
 ghost use Rattle.wasm_base.specs.Minimal.{AppendsMinimal};
 ghost use Rattle.wasm_base.specs.declared.fault.ReadFault.TheVariants.{Memory};
-ghost use Rattle.wasm_reader.specs.Kinds.{Contents, content, contents_of, kind_in, kind_named, kind_numbered, kind_of_id as kind_among_ids, number_in};
+ghost use Rattle.wasm_reader.specs.Kinds.{Contents, Custom, content, contents_of, kind_in, kind_named, kind_numbered, kind_of_id as kind_among_ids, number_in};
+ghost use Rattle.wasm_reader.specs.declared.kinds.SectionKind.TheVariants as kinds;
 
 use crate::counts::count_skipped;
 use std::alloc::{Allocator, Global};
@@ -276,44 +277,77 @@ pub(crate) fn read_number<'a, A: Allocator + Copy, G: Grammar>(
     }
 }
 
-/// Appends the minimal encoding of a section's payload.
+/// Appends the minimal encoding of a custom section's payload: its name, and its data. On an error,
+/// the sink is unchanged.
+fn append_custom<B: Allocator>(name: &str, bytes: &[u8], sink: &mut Vec<u8, B>) -> Result<()>
+    ensures ok { OnOk result (AppendsMinimal (content kinds.Custom) (Custom (name.now, bytes.now)) sink.old.items sink.new.items) }
+    ensures err { OnErr result (sink.new.items ≡ sink.old.items) }
+{
+    let start = sink.len();
+    name.append_minimal(sink)?;
+    match sink.extend_from_slice(bytes) {
+        Ok(()) => Ok(()),
+        Err(error) => {
+            sink.truncate(start);
+            Err(error.into())
+        }
+    }
+}
+
+/// Appends the encoding of a section's payload that has these items: as builders write it, in its
+/// fewest bytes. On an error, the sink is unchanged.
+///
+/// It is the inverse of [`read_section`](crate::read_section) and
+/// [`Section::items`](crate::Section::items). The payload becomes a section with an id and a size
+/// prefix, as by [`RawSection`](wasm_base::RawSection).
+///
+/// Items that no bytes encode have no promise: an instruction whose arguments are not those of its
+/// opcode, say.
+///
+/// ```text
+/// let mut payload = Vec::new(alloc);
+/// encode_items(&Items::Functions(indices), &mut payload)?;
+/// module.section(&RawSection { id: 3, bytes: &payload })?;
+/// ```
+///
+/// # Errors
+///
+/// Returns `TooLong` if a count or a length is above 4294967295, and `Memory` if an allocation
+/// fails.
 #[tactic(auto, using(crate::proofs::KindLaws::contents))]
-pub(crate) fn append_content<A: Allocator, B: Allocator>(
-    items: Items<'_, A>,
+pub fn encode_items<A: Allocator, B: Allocator>(
+    items: &Items<'_, A>,
     sink: &mut Vec<u8, B>,
 ) -> Result<()>
-    ensures { OnOk result (AppendsMinimal (content (kind_in (contents_of items.entry))) (contents_of items.entry) sink.old.items sink.new.items) }
+    ensures ok { OnOk result (AppendsMinimal (content (kind_in (contents_of items.now))) (contents_of items.now) sink.old.items sink.new.items) }
+    ensures err { OnErr result (sink.new.items ≡ sink.old.items) }
 {
     match items {
-        Items::Bodies(items) => items.write_minimal(sink),
-        Items::Segments(items) => items.write_minimal(sink),
-        Items::DataCount(count) => count.write_minimal(sink),
-        Items::Elements(items) => items.write_minimal(sink),
+        Items::Bodies(items) => items.append_minimal(sink),
+        Items::Segments(items) => items.append_minimal(sink),
+        Items::DataCount(count) => count.append_minimal(sink),
+        Items::Elements(items) => items.append_minimal(sink),
         Items::Exports(items) => items.as_slice().encode(sink),
-        Items::Functions(items) => items.write_minimal(sink),
-        Items::Globals(items) => items.write_minimal(sink),
-        Items::Imports(items) => append_imports(&items, sink),
+        Items::Functions(items) => items.append_minimal(sink),
+        Items::Globals(items) => items.append_minimal(sink),
+        Items::Imports(items) => append_imports(items, sink),
         Items::Memories(items) => items.as_slice().encode(sink),
-        Items::Start(index) => index.write_minimal(sink),
-        Items::Tables(items) => items.write_minimal(sink),
+        Items::Start(index) => index.append_minimal(sink),
+        Items::Tables(items) => items.append_minimal(sink),
         Items::Tags(items) => items.as_slice().encode(sink),
-        Items::Names(items) => append_names(&items, sink),
-        Items::Linking(items) => append_links(&items, sink),
-        Items::Producers(items) => append_producers(&items, sink),
-        Items::Hints(items) => append_hints(&items, sink),
+        Items::Names(items) => append_names(items, sink),
+        Items::Linking(items) => append_links(items, sink),
+        Items::Producers(items) => append_producers(items, sink),
+        Items::Hints(items) => append_hints(items, sink),
         Items::Core(name) => append_process(name, sink),
-        Items::CoreModules(items) => append_modules(&items, sink),
-        Items::CoreInstances(items) => append_instances(&items, sink),
-        Items::CoreStack { thread, frames } => append_stack(thread, &frames, sink),
-        Items::Custom { name, bytes } => {
-            name.write_minimal(sink)?;
-            sink.extend_from_slice(bytes)?;
-            Ok(())
-        }
+        Items::CoreModules(items) => append_modules(items, sink),
+        Items::CoreInstances(items) => append_instances(items, sink),
+        Items::CoreStack { thread, frames } => append_stack(thread, frames, sink),
+        Items::Custom { name, bytes } => append_custom(name, bytes, sink),
         Items::Raw(bytes) => {
             sink.extend_from_slice(bytes)?;
             Ok(())
         }
-        Items::Types(items) => append_types(&items, sink),
+        Items::Types(items) => append_types(items, sink),
     }
 }

@@ -20,7 +20,7 @@ mod standing;
 mod whole;
 
 pub use code_bodies::{Bodies, CodeBody};
-pub use kinds::{Items, SectionKind};
+pub use kinds::{Items, SectionKind, encode_items};
 pub use minimal::shorten;
 pub use modules::{Listed, list_module};
 pub use outlines::{Outlined, outline};

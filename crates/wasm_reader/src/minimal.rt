@@ -10,11 +10,9 @@ ghost use Rattle.wasm_base.specs.declared.fault.ReadFault.TheVariants.{Memory};
 ghost use Rattle.wasm_reader.specs.Kinds.{Contents, content};
 ghost use Rattle.wasm_reader.specs.Sections.{section, Shortens};
 
-use crate::kinds::{Items, SectionKind, append_content, read_content};
+use crate::kinds::{SectionKind, encode_items, read_content};
 use std::alloc::Allocator;
-use wasm_base::{
-    DecodeError, Encode, Padded, ReadFault, Readable, Result, Shorten, encode_size_prefixed,
-};
+use wasm_base::{DecodeError, Padded, ReadFault, Readable, Shorten, encode_size_prefixed};
 use wasm_code::shorten_body;
 
 /// Appends the minimal encoding of a vector of bodies that occupies all of the bytes. It keeps none
@@ -55,7 +53,7 @@ fn shorten_content<A: Allocator + Copy>(
         SectionKind::Bodies => shorten_bodies(bytes, alloc, sink),
         _ => {
             let items = read_content::<A, Padded>(kind, bytes, alloc)?;
-            append_content(items, sink)?;
+            encode_items(&items, sink)?;
             Ok(())
         }
     }

@@ -282,47 +282,84 @@ pub(crate) fn read_number<'a, A: Allocator + Copy, G: Grammar>(
     }
 }
 
-/// Appends the minimal encoding of a section's payload.
+/// Appends the minimal encoding of a custom section's payload: its name, and its data. On an error,
+/// the sink is unchanged.
 ///
 /// # Proved
 ///
 /// ```text
-/// ensures { OnOk result (AppendsMinimal (content (kind_in (contents_of items.entry))) (contents_of items.entry) sink.old.items sink.new.items) }
+/// ensures ok { OnOk result (AppendsMinimal (content kinds.Custom) (Custom (name.now, bytes.now)) sink.old.items sink.new.items) }
+/// ensures err { OnErr result (sink.new.items ≡ sink.old.items) }
 /// ```
-pub(crate) fn append_content<A: Allocator, B: Sink>(
-    items: Items<'_, A>,
+fn append_custom<B: Sink>(name: &str, bytes: &[u8], sink: &mut B) -> Result<()> {
+    let start = sink.len();
+    name.append_minimal(sink)?;
+    match sink.extend_from_slice(bytes) {
+        Ok(()) => Ok(()),
+        Err(error) => {
+            sink.truncate(start);
+            Err(error.into())
+        }
+    }
+}
+
+/// Appends the encoding of a section's payload that has these items: as builders write it, in its
+/// fewest bytes. On an error, the sink is unchanged.
+///
+/// It is the inverse of [`read_section`](crate::reader::read_section) and
+/// [`Section::items`](crate::reader::Section::items). The payload becomes a section with an id and a size
+/// prefix, as by [`RawSection`](crate::base::RawSection).
+///
+/// Items that no bytes encode have no promise: an instruction whose arguments are not those of its
+/// opcode, say.
+///
+/// ```text
+/// let mut payload = Vec::new(alloc);
+/// encode_items(&Items::Functions(indices), &mut payload)?;
+/// module.section(&RawSection { id: 3, bytes: &payload })?;
+/// ```
+///
+/// # Errors
+///
+/// Returns `TooLong` if a count or a length is above 4294967295, and `Memory` if an allocation
+/// fails.
+///
+/// # Proved
+///
+/// ```text
+/// ensures ok { OnOk result (AppendsMinimal (content (kind_in (contents_of items.now))) (contents_of items.now) sink.old.items sink.new.items) }
+/// ensures err { OnErr result (sink.new.items ≡ sink.old.items) }
+/// ```
+pub fn encode_items<A: Allocator, B: Sink>(
+    items: &Items<'_, A>,
     sink: &mut B,
 ) -> Result<()> {
     match items {
-        Items::Bodies(items) => items.write_minimal(sink),
-        Items::Segments(items) => items.write_minimal(sink),
-        Items::DataCount(count) => count.write_minimal(sink),
-        Items::Elements(items) => items.write_minimal(sink),
+        Items::Bodies(items) => items.append_minimal(sink),
+        Items::Segments(items) => items.append_minimal(sink),
+        Items::DataCount(count) => count.append_minimal(sink),
+        Items::Elements(items) => items.append_minimal(sink),
         Items::Exports(items) => items.as_slice().encode(sink),
-        Items::Functions(items) => items.write_minimal(sink),
-        Items::Globals(items) => items.write_minimal(sink),
-        Items::Imports(items) => append_imports(&items, sink),
+        Items::Functions(items) => items.append_minimal(sink),
+        Items::Globals(items) => items.append_minimal(sink),
+        Items::Imports(items) => append_imports(items, sink),
         Items::Memories(items) => items.as_slice().encode(sink),
-        Items::Start(index) => index.write_minimal(sink),
-        Items::Tables(items) => items.write_minimal(sink),
+        Items::Start(index) => index.append_minimal(sink),
+        Items::Tables(items) => items.append_minimal(sink),
         Items::Tags(items) => items.as_slice().encode(sink),
-        Items::Names(items) => append_names(&items, sink),
-        Items::Linking(items) => append_links(&items, sink),
-        Items::Producers(items) => append_producers(&items, sink),
-        Items::Hints(items) => append_hints(&items, sink),
+        Items::Names(items) => append_names(items, sink),
+        Items::Linking(items) => append_links(items, sink),
+        Items::Producers(items) => append_producers(items, sink),
+        Items::Hints(items) => append_hints(items, sink),
         Items::Core(name) => append_process(name, sink),
-        Items::CoreModules(items) => append_modules(&items, sink),
-        Items::CoreInstances(items) => append_instances(&items, sink),
-        Items::CoreStack { thread, frames } => append_stack(thread, &frames, sink),
-        Items::Custom { name, bytes } => {
-            name.write_minimal(sink)?;
-            sink.extend_from_slice(bytes)?;
-            Ok(())
-        }
+        Items::CoreModules(items) => append_modules(items, sink),
+        Items::CoreInstances(items) => append_instances(items, sink),
+        Items::CoreStack { thread, frames } => append_stack(thread, frames, sink),
+        Items::Custom { name, bytes } => append_custom(name, bytes, sink),
         Items::Raw(bytes) => {
             sink.extend_from_slice(bytes)?;
             Ok(())
         }
-        Items::Types(items) => append_types(&items, sink),
+        Items::Types(items) => append_types(items, sink),
     }
 }

@@ -2,9 +2,9 @@
 // Minimizes sections.
 
 use crate::vec::Vec;
-use crate::reader::kinds::{SectionKind, append_content, read_content};
+use crate::reader::kinds::{SectionKind, encode_items, read_content};
 use crate::alloc::Allocator;
-use crate::base::{DecodeError, Encode, Padded, ReadFault, Readable, Result, Shorten, encode_size_prefixed};
+use crate::base::{DecodeError, Padded, ReadFault, Readable, Shorten, encode_size_prefixed};
 use crate::code::shorten_body;
 
 /// Appends the minimal encoding of a vector of bodies that occupies all of the bytes. It keeps none
@@ -53,7 +53,7 @@ fn shorten_content<A: Allocator + Copy>(
         SectionKind::Bodies => shorten_bodies(bytes, alloc, sink),
         _ => {
             let items = read_content::<A, Padded>(kind, bytes, alloc)?;
-            append_content(items, sink)?;
+            encode_items(&items, sink)?;
             Ok(())
         }
     }
