@@ -1,7 +1,9 @@
 //! Each request for memory refused in turn.
-use crate::samples::{PADDED, PADDED_NAME, SHORT, SHORT_NAME, UNREAD, module};
-use dolzhytik::fallible::{AllocError, Allocator, Vec};
-use dolzhytik::reader::{ModuleFault, Offsets, ReadFault, outline, shorten_module};
+use crate::samples::{PADDED, PADDED_NAME, SHORT, SHORT_NAME, UNREAD, bytes_of, module};
+use dolzhytik::fallible::{AllocError, Allocator, Global, Refused, Vec};
+use dolzhytik::reader::{
+    ModuleFault, Offsets, ReadError, ReadFault, Sections, encode_items, outline, shorten_module,
+};
 use std::cell::Cell;
 
 /// Grants so many requests.
@@ -68,4 +70,77 @@ fn of_modules() {
     });
     assert!(granted > 0);
     assert_eq!(kept, 1);
+}
+
+/// What a call gives, or nothing where its error is that of memory.
+fn unless_refused<T>(given: Result<T, ReadError>) -> Option<T> {
+    match given {
+        Ok(value) => Some(value),
+        Err(error) => {
+            assert_eq!(error.cause, ReadFault::Memory);
+            None
+        }
+    }
+}
+
+/// A section alone, counted and decoded.
+#[track_caller]
+fn check_section(section: &str, counting: usize, decoding: usize) {
+    let bytes = module(&[section]);
+    let section = Sections::new(&bytes).unwrap().next().unwrap().unwrap();
+    let (granted, _) = first_granted(|alloc| unless_refused(section.count(alloc)));
+    assert_eq!(granted, counting);
+    let (granted, _) = first_granted(|alloc| unless_refused(section.items(alloc)).map(drop));
+    assert_eq!(granted, decoding);
+}
+
+/// A type has a list of parameters and one of results.
+#[test]
+fn of_sections() {
+    check_section(PADDED[0], 2, 3);
+    check_section(PADDED[1], 0, 1);
+    check_section(PADDED[2], 0, 1);
+}
+
+#[test]
+fn of_bodies() {
+    let bytes = module(&[PADDED[3]]);
+    let code = Sections::new(&bytes).unwrap().next().unwrap().unwrap();
+    let body = code.bodies().unwrap().next().unwrap().unwrap();
+    let (granted, ()) = first_granted(|alloc| {
+        let (locals, _) = unless_refused(body.instructions(alloc))?;
+        assert!(locals.is_empty());
+        Some(())
+    });
+    assert_eq!(granted, 0);
+}
+
+#[test]
+fn of_encoded_items() {
+    let sections = [
+        (PADDED[0], "01 60 02 7f7f 01 7f"),
+        (PADDED[1], "01 00"),
+        (PADDED[2], "01 01 66 00 00"),
+        (PADDED[3], "01 07 00 2000 2001 6a 0b"),
+        (PADDED_NAME, "04 6e616d65 00 02 01 6d"),
+        ("00 03 01 61 ff", "01 61 ff"),
+        ("0e 01 aa", "aa"),
+    ];
+    for (section, payload) in sections {
+        let bytes = module(&[section]);
+        let section = Sections::new(&bytes).unwrap().next().unwrap().unwrap();
+        let items = section.items(Global).unwrap();
+        first_granted(|alloc| {
+            let mut sink = Vec::new(alloc);
+            match encode_items(&items, &mut sink) {
+                Ok(()) => assert_eq!(*sink, *bytes_of(payload)),
+                Err(refused) => {
+                    assert_eq!(refused, Refused::Memory);
+                    assert!(sink.is_empty());
+                    return None;
+                }
+            }
+            Some(())
+        });
+    }
 }
