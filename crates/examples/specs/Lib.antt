@@ -16,5 +16,7 @@ pub mod Decodings
 pub mod Dumps
 pub mod FirstValues
 pub mod Handed
+pub mod Iterated
 pub mod ReadPadded
 pub mod Stored
+pub mod Stripped

@@ -13,5 +13,6 @@ pub mod once;
 pub mod queries;
 pub mod raw_segments;
 pub mod readers;
+pub mod sections;
 pub mod segments;
 pub mod walks;

@@ -6,15 +6,16 @@ use crate::reader::read_error::ReadError;
 use crate::reader::sections::Section;
 use crate::alloc::{Allocator, Global};
 use core::iter::FusedIterator;
-use crate::base::{Padded, ReadFault, Readable, Standard, ValType};
+use crate::base::{DecodeError, Padded, ReadFault, Readable, Standard, ValType};
 use crate::code::Instructions;
 
 /// The bodies of a code section, one after another. It allocates nothing.
 ///
 /// ```text
 /// for body in section.bodies()? {
-///     let (locals, mut instructions) = body?.instructions(alloc)?;
-///     while let Some(step) = instructions.next()? {
+///     let body = body?;
+///     let (locals, mut instructions) = body.instructions(alloc)?;
+///     while let Some(step) = instructions.next().map_err(|error| body.locate(error))? {
 ///         // step.op, instructions.args()
 ///     }
 /// }
@@ -157,7 +158,7 @@ impl<'a> CodeBody<'a> {
 
     /// Decodes the runs of its locals, and returns them with a visitor of its instructions. The
     /// visitor counts offsets from the first byte of the body. It accepts all encodings that the
-    /// standard admits.
+    /// standard admits. [`locate`](CodeBody::locate) gives its errors their offsets in the module.
     ///
     /// # Errors
     ///
@@ -168,6 +169,7 @@ impl<'a> CodeBody<'a> {
     /// ```text
     /// ensures found { IfOk result (λ x. Decodes (vec (pair u32 val_type)) standard self.now.bytes x.0.items (ahead_in x.1)) }
     /// ensures same { IfOk result (λ x. x.1.bytes ≡ self.now.bytes) }
+    /// ensures inside { IfOk result (λ x. x.1.offset ≤ length self.now.bytes) }
     /// ensures before { IfOk result (λ x. x.1.arguments ≡ []) }
     /// ensures none { IfErr result (λ e. e.cause ≢ Memory → RejectsWhole body standard self.now.bytes) }
     /// ensures from { IfErr result (λ e. self.now.offset ≤ e.offset) }
@@ -179,10 +181,21 @@ impl<'a> CodeBody<'a> {
     ) -> Result<(Vec<(u32, ValType), A>, Instructions<'a, A, Standard>), ReadError> {
         match Instructions::of_standard_body(self.bytes, alloc) {
             Ok(read) => Ok(read),
-            Err(error) => {
-                let size = self.bytes.len();
-                Err(ReadError::located(error, size, self.offset + size))
-            }
+            Err(error) => Err(self.locate(error)),
         }
+    }
+
+    /// Returns an error of the visitor of its instructions with the offset in the module.
+    ///
+    /// # Proved
+    ///
+    /// ```text
+    /// ensures cause { result.cause ≡ error.cause }
+    /// ensures from { self.now.offset ≤ result.offset }
+    /// ensures within { result.offset ≤ self.now.offset + length self.now.bytes }
+    /// ```
+    pub fn locate(&self, error: DecodeError) -> ReadError {
+        let size = self.bytes.len();
+        ReadError::located(error, size, self.offset + size)
     }
 }

@@ -274,6 +274,6 @@ fn instructions_that_are_none() {
     assert_eq!(first.instructions(Global).unwrap_err(), ended_at(12));
     let second = bodies.next().unwrap().unwrap();
     let (_, mut instructions) = second.instructions(Global).unwrap();
-    let stopped = instructions.next().unwrap_err();
-    assert_eq!((stopped.cause, stopped.left), (ReadFault::UnknownOpcode, 2));
+    let stopped = second.locate(instructions.next().unwrap_err());
+    assert_eq!(stopped, error(ReadFault::UnknownOpcode, 14));
 }

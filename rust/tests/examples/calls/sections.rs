@@ -1,0 +1,140 @@
+// Written by tools/to-rust from crates/examples/src/calls/sections.rt: change that.
+//! Callers that iterate over the sections of a module and the bodies of its code, and prove their
+//! results.
+
+use dolzhytik::fallible::Vec;
+use dolzhytik::fallible::Allocator;
+use dolzhytik::reader::ReadFault;
+use dolzhytik::reader::{CodeBody, Items, ReadError, Section, SectionKind, Sections, encode_items};
+
+/// Returns the payload of the first section of a module: the bytes of its range.
+///
+/// # Proved
+///
+/// ```text
+/// ensures { IfOk result (λ payload. IfSome payload (λ p. BeginsWithPayload module.now p.now)) }
+/// ```
+pub fn first_payload(module: &[u8]) -> Result<Option<&[u8]>, ReadError> {
+    let mut sections = Sections::new(module)?;
+    match sections.next() {
+        None => Ok(None),
+        Some(section) => Ok(Some(&module[section?.range()])),
+    }
+}
+
+/// Skips the next section, and returns its length in bytes; 0 at the end.
+///
+/// # Proved
+///
+/// ```text
+/// ensures { IfOk result (λ n. n + length (ahead sections.new) ≡ length (ahead sections.old)) }
+/// ```
+pub fn skip_section(sections: &mut Sections<'_>) -> Result<usize, ReadError> {
+    match sections.next() {
+        None => Ok(0),
+        Some(section) => {
+            let start = section?.offset();
+            Ok(sections.offset() - start)
+        }
+    }
+}
+
+/// Returns the kind and the name of a section.
+///
+/// # Proved
+///
+/// ```text
+/// ensures kind { result.0 ≡ known_kind_of section.now.section }
+/// ensures name { option_map (λ n. n.now) result.1 ≡ section.now.section.name }
+/// ```
+pub fn kind_and_name<'a>(section: &Section<'a>) -> (Option<SectionKind>, Option<&'a str>) {
+    (section.kind(), section.name())
+}
+
+/// Decodes the items of a section, and counts them.
+///
+/// # Proved
+///
+/// ```text
+/// ensures { IfOk result (λ x. x.1 ≡ number_in (contents_of x.0)) }
+/// ```
+pub fn items_and_count<'a, A: Allocator + Copy + 'a>(
+    section: &Section<'a>,
+    alloc: A,
+) -> Result<(Items<'a, A>, Option<u32>), ReadError> {
+    let items = section.items(alloc)?;
+    let count = section.count(alloc)?;
+    Ok((items, count))
+}
+
+/// Decodes the items of a section, and encodes them again.
+///
+/// # Proved
+///
+/// ```text
+/// ensures { IfOk result (λ payload. IsEncodedAgain section.now.section payload.items) }
+/// ```
+pub fn encode_again<A: Allocator + Copy>(
+    section: &Section<'_>,
+    alloc: A,
+) -> Result<Vec<u8, A>, ReadError> {
+    let items = section.items(alloc)?;
+    let mut payload = Vec::new(alloc);
+    match encode_items(&items, &mut payload) {
+        Ok(()) => Ok(payload),
+        Err(_) => Err(ReadError {
+            cause: ReadFault::Memory,
+            offset: section.offset(),
+        }),
+    }
+}
+
+/// Returns the first body of a code section, or `None` if it has none.
+///
+/// # Proved
+///
+/// ```text
+/// ensures { IfOk result (λ body. IfSome body (IsFirstBody section.now.section)) }
+/// ```
+pub fn first_body<'a>(section: &Section<'a>) -> Result<Option<CodeBody<'a>>, ReadError> {
+    let mut bodies = section.bodies()?;
+    if bodies.left() == 0 {
+        return Ok(None);
+    }
+    match bodies.next() {
+        None => Ok(None),
+        Some(body) => Ok(Some(body?)),
+    }
+}
+
+/// Returns a body's offset in the module, and its length in bytes.
+///
+/// # Proved
+///
+/// ```text
+/// ensures offset { result.0 ≡ body.now.offset }
+/// ensures length { result.1 ≡ length body.now.bytes }
+/// ```
+pub fn place_of(body: &CodeBody<'_>) -> (usize, usize) {
+    (body.offset(), body.bytes().len())
+}
+
+/// Returns the number of instructions in a body.
+///
+/// # Proved
+///
+/// ```text
+/// ensures found { IfOk result (λ n. (x : Body) × body_format standard body.now.bytes x × (length x.code ≡ n)) }
+/// ensures none { IfErr result (λ e. e.cause ≢ Memory → RejectsWhole body_format standard body.now.bytes) }
+/// ```
+pub fn count_in_body<A: Allocator + Copy>(body: &CodeBody<'_>, alloc: A) -> Result<usize, ReadError> {
+    let (_runs, mut instructions) = body.instructions(alloc)?;
+    let mut count = 0;
+    loop {
+        match instructions.next() {
+            Ok(None) => return Ok(count),
+            Ok(Some(_)) => count += 1,
+            Err(error) => return Err(body.locate(error)),
+        }
+    }
+}
