@@ -179,7 +179,7 @@ impl<'a> CodeBody<'a> {
         ensures from { IfErr result (λ e. self.now.offset ≤ e.offset) }
         ensures within { IfErr result (λ e. e.offset ≤ self.now.offset + length self.now.bytes) }
     {
-        match Instructions::of_standard_body(self.bytes, alloc) {
+        match Instructions::<A, Standard>::of_standard_body(self.bytes, alloc) {
             Ok(read) => Ok(read),
             Err(error) => Err(self.locate(error)),
         }

@@ -179,7 +179,7 @@ impl<'a> CodeBody<'a> {
         &self,
         alloc: A,
     ) -> Result<(Vec<(u32, ValType), A>, Instructions<'a, A, Standard>), ReadError> {
-        match Instructions::of_standard_body(self.bytes, alloc) {
+        match Instructions::<A, Standard>::of_standard_body(self.bytes, alloc) {
             Ok(read) => Ok(read),
             Err(error) => Err(self.locate(error)),
         }

@@ -8,7 +8,7 @@ ghost use Rattle.wasm_code.specs.BodyViews.{body_view};
 ghost use Rattle.wasm_code.specs.Walks.{ahead};
 
 use std::alloc::Allocator;
-use wasm_base::{DecodeError, Grammar};
+use wasm_base::{DecodeError, Grammar, Standard};
 use wasm_code::{Body, Instructions, read_body};
 
 /// Returns a visitor that begins at the first byte.
@@ -16,6 +16,16 @@ pub fn walk_over<'a, A: Allocator + Copy>(bytes: &'a [u8], alloc: A) -> Instruct
     ensures { result ≡ record { bytes = bytes.now; offset = 0; arguments = [] } }
 {
     Instructions::new(bytes, alloc)
+}
+
+/// Returns a visitor in the standard's grammar that begins at the first byte.
+pub fn standard_walk_over<'a, A: Allocator + Copy>(
+    bytes: &'a [u8],
+    alloc: A,
+) -> Instructions<'a, A, Standard>
+    ensures { result ≡ record { bytes = bytes.now; offset = 0; arguments = [] } }
+{
+    Instructions::<A, Standard>::standard(bytes, alloc)
 }
 
 /// Returns the bytes that a visitor has not visited.

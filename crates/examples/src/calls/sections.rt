@@ -20,7 +20,10 @@ pub fn first_payload(module: &[u8]) -> Result<Option<&[u8]>, ReadError>
     let mut sections = Sections::new(module)?;
     match sections.next() {
         None => Ok(None),
-        Some(section) => Ok(Some(&module[section?.range()])),
+        Some(section) => {
+            let section = section?;
+            Ok(Some(&module[section.range()]))
+        }
     }
 }
 

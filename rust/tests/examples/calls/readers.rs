@@ -2,7 +2,7 @@
 //! Readers of instructions: where a visitor begins, the bytes before it, and a body as a whole.
 
 use dolzhytik::fallible::Allocator;
-use dolzhytik::reader::{DecodeError, Grammar};
+use dolzhytik::reader::{DecodeError, Grammar, Standard};
 use dolzhytik::reader::{Body, Instructions, read_body};
 
 /// Returns a visitor that begins at the first byte.
@@ -14,6 +14,20 @@ use dolzhytik::reader::{Body, Instructions, read_body};
 /// ```
 pub fn walk_over<'a, A: Allocator + Copy>(bytes: &'a [u8], alloc: A) -> Instructions<'a, A> {
     Instructions::new(bytes, alloc)
+}
+
+/// Returns a visitor in the standard's grammar that begins at the first byte.
+///
+/// # Proved
+///
+/// ```text
+/// ensures { result ≡ record { bytes = bytes.now; offset = 0; arguments = [] } }
+/// ```
+pub fn standard_walk_over<'a, A: Allocator + Copy>(
+    bytes: &'a [u8],
+    alloc: A,
+) -> Instructions<'a, A, Standard> {
+    Instructions::<A, Standard>::standard(bytes, alloc)
 }
 
 /// Returns the bytes that a visitor has not visited.
