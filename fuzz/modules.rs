@@ -1,4 +1,4 @@
-//! Compares `shorten_module` and `outline` with a plain reader: random modules of random and changed sections. See README.md.
+//! Compares `shorten_module`, `outline`, `Sections` and `encode_items` with a plain reader: random modules of random and changed sections. See README.md.
 
 use crate::grammar::{Grammar, KINDS};
 use crate::maker::{Maker, Random, input};
@@ -7,8 +7,11 @@ use crate::whole::{
     Answer, CARES, HOLDERS, Section, first_broken, sections, shortened_module, shortest_module,
     why_refused,
 };
-use dolzhytik::fallible::Global;
-use dolzhytik::reader::{ModuleFault, Offsets, Outlined, ReadFault, outline, shorten_module};
+use dolzhytik::fallible::{self, Global};
+use dolzhytik::reader::{
+    self, Items, ModuleFault, Offsets, Outlined, ReadError, ReadFault, SectionKind, Sections,
+    encode_items, outline, shorten_module,
+};
 use std::time::Instant;
 
 // ---- modules
@@ -229,6 +232,92 @@ fn is_outlined(bytes: &[u8]) -> bool {
     }
 }
 
+/// Whether items decode exactly if the plain reader decodes them, are as many, and are encoded as the plain reader does; an error is inside of the payload.
+fn has_items(given: &reader::Section<'_>, expected: &Section<'_>) -> bool {
+    match (given.items(Global), given.count(Global)) {
+        (Ok(items), Ok(count)) => {
+            let mut payload = fallible::Vec::new(Global);
+            count == expected.items()
+                && expected.shortest(Grammar::Standard).is_some()
+                && encode_items(&items, &mut payload).is_ok()
+                && expected.shortest(Grammar::Builders).is_none_or(|encoding| {
+                    let size = encoding.len() - payload.len();
+                    encoding[size..] == *payload && size <= 5
+                })
+        }
+        (Err(error), Err(same)) => {
+            let range = given.range();
+            error == same
+                && (range.start..=range.end).contains(&error.offset)
+                && ![ReadFault::Memory, ReadFault::NotShortest].contains(&error.cause)
+                && expected.shortest(Grammar::Standard).is_none()
+        }
+        _ => false,
+    }
+}
+
+/// Whether all bodies of a code section and their instructions decode exactly if its items do.
+fn has_bodies(given: &reader::Section<'_>) -> bool {
+    let walk = || -> Result<usize, ReadError> {
+        let mut count = 0;
+        for body in given.bodies()? {
+            let body = body?;
+            let (_, mut instructions) = body.instructions(Global)?;
+            while instructions
+                .next()
+                .map_err(|error| body.locate(error))?
+                .is_some()
+            {}
+            count += 1;
+        }
+        Ok(count)
+    };
+    match (walk(), given.items(Global)) {
+        (Ok(count), Ok(Items::Bodies(bodies))) => count == bodies.len(),
+        (Err(error), Err(other)) => error.cause == other.cause && error.offset == other.offset,
+        _ => false,
+    }
+}
+
+/// Whether the section of the iterator is that of the plain reader.
+fn is_same_section(given: &reader::Section<'_>, expected: &Section<'_>) -> bool {
+    let range = expected.offset..expected.offset + expected.payload.len();
+    given.id() == expected.id
+        && given.name() == expected.name
+        && given.offset() + 1 + expected.framed.len() == range.end
+        && given.range() == range
+        && given.payload() == expected.payload
+        && match given.kind() {
+            Some(kind) => format!("{kind:?}") == expected.kind(),
+            None => expected.id > 13,
+        }
+        && has_items(given, expected)
+        && (given.kind() != Some(SectionKind::Bodies) || has_bodies(given))
+}
+
+/// Whether the iterator gives the sections of the plain reader, or as many as come before the first that is none, and then an error there.
+fn is_iterated(bytes: &[u8]) -> bool {
+    let given: Result<Vec<_>, _> = match Sections::new(bytes) {
+        Ok(sections) => sections.collect(),
+        Err(error) => return sections(bytes) == Err(0) && error.offset <= bytes.len(),
+    };
+    match (given, sections(bytes)) {
+        (Ok(given), Ok(expected)) => {
+            given.len() == expected.len()
+                && given
+                    .iter()
+                    .zip(&expected)
+                    .all(|(given, expected)| is_same_section(given, expected))
+        }
+        (Err(error), Err(number)) => {
+            let mut before = Sections::new(bytes).into_iter().flatten();
+            let whole = before.by_ref().take_while(Result::is_ok).count();
+            whole + 1 == number && error.offset <= bytes.len() && before.next().is_none()
+        }
+        _ => false,
+    }
+}
+
 /// How many results there were of each form.
 #[derive(Default)]
 struct Counts {
@@ -340,7 +429,8 @@ pub fn run(seed: u64, count: u64) -> bool {
         bytes += module.len();
         let is_same = agree(&module, Offsets::Refuse, &mut counts)
             & agree(&module, Offsets::LeaveOut, &mut counts)
-            & is_outlined(&module);
+            & is_outlined(&module)
+            & is_iterated(&module);
         if !is_same {
             differences += 1;
             println!("module {}", show(&module));

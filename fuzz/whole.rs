@@ -6,6 +6,7 @@ use crate::plain::{Plain, shortened};
 const HEADER: &[u8] = b"\0asm\x01\0\0\0";
 
 /// A section, with its bytes.
+#[derive(PartialEq)]
 pub struct Section<'a> {
     pub id: u8,
     /// The offset of the payload in the module.
@@ -84,7 +85,7 @@ impl Section<'_> {
     }
 
     /// The minimal encoding of the size and the payload, if the section decodes as its kind in the grammar.
-    fn shortest(&self, grammar: Grammar) -> Option<Vec<u8>> {
+    pub fn shortest(&self, grammar: Grammar) -> Option<Vec<u8>> {
         let (encoding, taken) = shortened(self.framed, self.kind(), grammar)?;
         (taken == self.framed.len()).then_some(encoding)
     }

@@ -120,10 +120,7 @@ impl<'a, A: Allocator + Copy, G: Grammar> Instructions<'a, A, G> {
 
     /// Decodes the runs of a body's locals, and returns them with a visitor of its instructions.
     #[tactic(auto, using(crate::proofs::WalkLaws::body_steps))]
-    fn begin_body(
-        bytes: &'a [u8],
-        alloc: A,
-    ) -> Result<(Vec<(u32, ValType), A>, Self), DecodeError>
+    fn begin_body(bytes: &'a [u8], alloc: A) -> Result<(Vec<(u32, ValType), A>, Self), DecodeError>
         ensures found { IfOk result (λ x. Decodes (vec (pair u32 val_type)) (padded_of G.grammar) bytes.now x.0.items (ahead x.1)) }
         ensures same { IfOk result (λ x. x.1.bytes ≡ bytes.now) }
         ensures within { IfOk result (λ x. x.1.offset ≤ length bytes.now) }

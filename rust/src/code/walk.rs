@@ -130,10 +130,7 @@ impl<'a, A: Allocator + Copy, G: Grammar> Instructions<'a, A, G> {
     /// ensures before { IfOk result (λ x. x.1.arguments ≡ []) }
     /// ensures none { IfErr result (λ e. e.cause ≢ Memory → RejectsWhole body (padded_of G.grammar) bytes.now) }
     /// ```
-    fn begin_body(
-        bytes: &'a [u8],
-        alloc: A,
-    ) -> Result<(Vec<(u32, ValType), A>, Self), DecodeError> {
+    fn begin_body(bytes: &'a [u8], alloc: A) -> Result<(Vec<(u32, ValType), A>, Self), DecodeError> {
         let (runs, rest) = <Vec<(u32, ValType), A> as Readable<'a, A, G>>::read(bytes, alloc)?;
         let instructions = Instructions {
             bytes,

@@ -19,7 +19,7 @@ pub fn first_payload(module: &[u8]) -> Result<Option<&[u8]>, ReadError> {
     match sections.next() {
         None => Ok(None),
         Some(section) => {
-            let section = section?;
+            let section: Section<'_> = section?;
             Ok(Some(&module[section.range()]))
         }
     }
