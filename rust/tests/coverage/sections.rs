@@ -4,8 +4,8 @@ use crate::samples::{bodies, exports_of, global, module_of_builders, outline_of,
 use dolzhytik::fallible::{Global, Op, Vec as List};
 use dolzhytik::reader::{Body, Standard, read_body, read_whole};
 use dolzhytik::{
-    CustomSection, EntityType, FunctionSection, Import, ImportCompact, ImportSection, Imports,
-    Module, StartSection, TypeSection, ValType,
+    CustomSection, EntityType, Import, ImportCompact, ImportSection, Imports, Module, RawSection,
+    ValType,
 };
 
 /// Returns the ids of the sections, and the payloads of those without counters.
@@ -36,23 +36,41 @@ fn a_padded_size_is_kept() {
     assert_eq!(after[..22], padded[..22]);
 }
 
+/// Returns a module of a function, with sections of these ids, most without entries.
+fn module_of_sections(ids: &[u8]) -> Vec<u8> {
+    let mut module = Module::new();
+    for &id in ids {
+        let data: &[u8] = match id {
+            0 => b"\x04note",
+            1 => &[1, 0x60, 0, 0],
+            3 => &[1, 0],
+            10 => &[1, 2, 0, 0x0B],
+            _ => &[0],
+        };
+        module.section(&RawSection { id, data });
+    }
+    module.finish()
+}
+
 #[test]
 fn missing_sections_are_inserted_in_order() {
-    let mut types = TypeSection::new();
-    types.ty().function([], []);
-    let mut module = Module::new();
-    module.section(&types);
-    module.section(FunctionSection::new().function(0));
-    module.section(&StartSection { function_index: 0 });
-    let mut code = dolzhytik::CodeSection::new();
-    module.section(code.raw(&[0x00, 0x0B]));
-    let before = module.finish();
-    let after = covered(&before, false).expect("a module");
-    let (ids, others) = sections(&after);
-    assert_eq!(ids, [1, 3, 6, 7, 8, 10]);
-    assert_eq!(others, sections(&before).1);
-    let exports = exports_of(&after);
-    assert_eq!((exports[0].name, exports[0].index), ("coverage.0", 0));
+    for (ids, expected) in [
+        (&[1, 3, 10][..], &[1, 3, 6, 7, 10][..]),
+        (&[1, 3, 13, 0, 10], &[1, 3, 13, 0, 6, 7, 10]),
+        (&[1, 3, 6, 10], &[1, 3, 6, 7, 10]),
+        (&[1, 3, 7, 10], &[1, 3, 6, 7, 10]),
+        (&[1, 3, 6, 9, 10], &[1, 3, 6, 7, 9, 10]),
+        (&[1, 3, 8, 0, 10, 0], &[1, 3, 6, 7, 8, 0, 10, 0]),
+        (&[1, 3, 4, 12, 10, 11], &[1, 3, 4, 6, 7, 12, 10, 11]),
+    ] {
+        let before = module_of_sections(ids);
+        let after = covered(&before, false).expect("a module");
+        let (found, others) = sections(&after);
+        assert_eq!(found, expected, "{ids:?}");
+        assert_eq!(others, sections(&before).1, "{ids:?}");
+        let exports = exports_of(&after);
+        assert_eq!((exports[0].name, exports[0].index), ("coverage.0", 0));
+    }
 }
 
 #[test]
