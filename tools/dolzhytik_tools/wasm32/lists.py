@@ -16,7 +16,7 @@ PROGRAMS = [
 ]
 SHARED = ['examples', 'support', 'test_support']
 PROCESS = 'a process'
-NEED_PROCESSES = {'compiled', 'program'}
+NEED_PROCESSES = {'compiled', 'coverage', 'object', 'program'}
 # The items that are left out, by their files and their needs. A `usize` literal past 32 bits
 # doesn't compile.
 LONG = 'a length past 32 bits'
