@@ -12,7 +12,7 @@
 //! unless the option `--drop-offsets` drops these sections.
 use dolzhytik::fallible::{EntityType, Export, Global, Imports, Vec as List};
 use dolzhytik::reader::{
-    GlobalItem, Instructions, Outlined, Readable, Shorten, Standard, outline, read_whole,
+    GlobalItem, Instructions, Readable, Section as Part, Sections, Shorten, Standard, read_whole,
 };
 use dolzhytik::{
     CodeSection, ConstExpr, ExportKind, ExportSection, GlobalSection, GlobalType, InstructionSink,
@@ -22,43 +22,26 @@ use std::{env, error, fs};
 
 type Result<T> = std::result::Result<T, Box<dyn error::Error>>;
 
-/// A section, and its bytes from the id on.
-type Part<'a> = (Outlined<'a>, &'a [u8]);
-
-/// Returns the sections of a module.
-fn parts(module: &[u8]) -> Result<Vec<Part<'_>>> {
-    let sections = outline(Global, module)
-        .map_err(|(number, fault)| format!("section {number} (0 is the header): {fault}"))?;
-    let mut begin = Module::HEADER.len();
-    let parts = sections.into_iter().map(|section| {
-        let end = section.offset + section.size as usize;
-        let bytes = &module[begin..end];
-        begin = end;
-        (section, bytes)
-    });
-    Ok(parts.collect())
-}
-
 /// Returns the items of the section with this id, or none if it is missing.
-fn items<'a, T>(parts: &[Part<'a>], id: SectionId) -> Result<List<T>>
+fn items<'a, T>(sections: &[Part<'a>], id: SectionId) -> Result<List<T>>
 where
     T: Readable<'a, Global, Standard>,
 {
-    let part = parts.iter().find(|(section, _)| section.id == id as u8);
-    let payload = part.map(|(section, bytes)| &bytes[bytes.len() - section.size as usize..]);
-    let items = read_whole::<List<T>, Global, Standard>(payload.unwrap_or(&[0]), Global);
+    let section = sections.iter().find(|section| section.id() == id as u8);
+    let payload = section.map_or(&[0][..], |section| section.payload());
+    let items = read_whole::<List<T>, Global, Standard>(payload, Global);
     items.map_err(|error| format!("{id:?} section: {}", error.cause).into())
 }
 
 /// Returns the numbers of imported functions and globals.
-fn imported(parts: &[Part<'_>]) -> Result<(u32, u32)> {
+fn imported(sections: &[Part<'_>]) -> Result<(u32, u32)> {
     let (mut functions, mut globals) = (0, 0);
     let mut count = |ty| match ty {
         EntityType::Function(_) | EntityType::FunctionExact(_) => functions += 1,
         EntityType::Global(_) => globals += 1,
         _ => {}
     };
-    for imports in &items(parts, SectionId::Import)? {
+    for imports in &items(sections, SectionId::Import)? {
         match imports {
             Imports::Single(it) => count(it.ty),
             Imports::Compact1 { items, .. } => items.as_slice().iter().for_each(|it| count(it.ty)),
@@ -82,17 +65,17 @@ fn counted(body: &[u8], counter: u32) -> Result<Vec<u8>> {
 }
 
 /// Returns the sections of globals, exports and code, with the counters.
-fn with_counters(parts: &[Part<'_>]) -> Result<(GlobalSection, ExportSection, CodeSection)> {
+fn with_counters(sections: &[Part<'_>]) -> Result<(GlobalSection, ExportSection, CodeSection)> {
     let (mut globals, mut exports) = (GlobalSection::new(), ExportSection::new());
     let mut code = CodeSection::new();
-    let (mut function, mut counter) = imported(parts)?;
-    for global in &items::<GlobalItem>(parts, SectionId::Global)? {
+    let (mut function, mut counter) = imported(sections)?;
+    for global in &items::<GlobalItem>(sections, SectionId::Global)? {
         let mut bytes = Vec::new();
         global.write_minimal(&mut bytes)?;
         globals.raw(&bytes);
         counter += 1;
     }
-    for export in &items::<Export>(parts, SectionId::Export)? {
+    for export in &items::<Export>(sections, SectionId::Export)? {
         if export.name.starts_with("coverage.") {
             return Err(format!("the module already exports {}", export.name).into());
         }
@@ -103,7 +86,7 @@ fn with_counters(parts: &[Part<'_>]) -> Result<(GlobalSection, ExportSection, Co
         mutable: true,
         shared: false,
     };
-    for body in &items::<&[u8]>(parts, SectionId::Code)? {
+    for body in &items::<&[u8]>(sections, SectionId::Code)? {
         globals.global(ty, &ConstExpr::i32_const(0));
         exports.export(&format!("coverage.{function}"), ExportKind::Global, counter);
         code.raw(&counted(body, counter)?);
@@ -126,22 +109,24 @@ const ORDER: [u8; 13] = [1, 2, 3, 4, 5, 13, 6, 7, 8, 9, 12, 10, 11];
 
 /// Returns the module with a counter for each function.
 pub fn covered(module: &[u8], drop_offsets: bool) -> Result<Vec<u8>> {
-    let parts = parts(module)?;
-    let (globals, exports, code) = with_counters(&parts)?;
+    let sections: std::result::Result<Vec<_>, _> = Sections::new(module)?.collect();
+    let sections = sections?;
+    let (globals, exports, code) = with_counters(&sections)?;
     let new: [&dyn Section; 3] = [&globals, &exports, &code];
     let mut new = new.into_iter().peekable();
     let position = |id| ORDER.iter().position(|it| *it == id);
     let mut covered = Module::HEADER.to_vec();
-    for (section, bytes) in parts {
-        while let Some(new) = new.next_if(|new| position(new.id()) <= position(section.id)) {
+    for section in sections {
+        let bytes = &module[section.offset()..section.range().end];
+        while let Some(new) = new.next_if(|new| position(new.id()) <= position(section.id())) {
             new.append_to(&mut covered);
         }
-        match section.name.filter(|name| has_offsets(name)) {
+        match section.name().filter(|name| has_offsets(name)) {
             Some(name) if !drop_offsets => {
                 let error = format!("{name} holds offsets into the code: use --drop-offsets");
                 return Err(error.into());
             }
-            None if ![6, 7, 10].contains(&section.id) => covered.extend(bytes),
+            None if ![6, 7, 10].contains(&section.id()) => covered.extend(bytes),
             _ => {}
         }
     }

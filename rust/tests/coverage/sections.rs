@@ -190,10 +190,10 @@ fn a_module_with_counters() {
 #[test]
 fn bytes_that_do_not_decode() {
     let header = b"\0asm\x01\0\0\0";
-    check_error(&header[..7], "section 0 (0 is the header): Ended");
+    check_error(&header[..7], "unexpected end of input at offset 0x7");
     let module = module_of_builders();
     let cut = &module[..module.len() - 1];
-    check_error(cut, "section 12 (0 is the header): Ended");
+    check_error(cut, "unexpected end of input at offset 0xa5");
     // An export section of one export that ends within its name.
     let exports = [header, &[7, 2, 1, 1][..]].concat();
     check_error(&exports, "Export section: Ended");
