@@ -3,3 +3,4 @@ pub mod Rows
 pub mod Branch
 pub mod DecodeBodies
 pub mod OneByte
+pub mod StrippedLaws

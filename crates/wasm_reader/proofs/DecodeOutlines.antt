@@ -71,7 +71,7 @@ byte_begins mode s x e = (x, [], e, tt)
 pub any_begins : BeginsWith (λ b. Unit {0}) any_section
 any_begins = begins_then (λ b. Unit {0}) byte_begins
 
-one_section : (s : Section) → IsSection s → any_section padded (bytes_of s) (any_of s)
+pub one_section : (s : Section) → IsSection s → any_section padded (bytes_of s) (any_of s)
 one_section s h = record { front = s.id ∷ []; back = s.sized; joined = refl; first = refl; second = h.contains }
 
 pub sections_encodes : (sections : List Section) → AllByRecursion IsSection sections → members any_section padded (flat_map bytes_of sections) (map any_of sections)

@@ -5,7 +5,7 @@ use Rattle.std.proofs.lemmas.List.{length-append}
 use Rattle.wasm_base.specs.declared.fault.ReadFault.TheVariants.{Memory}
 use Rattle.wasm_reader.specs.{Section, IsSection, bytes_of, Iterating, Located, ahead, end_of, IsInPayload, GivesSection, GivesError}
 use Rattle.wasm_reader.specs.declared.read_error.ReadError.{ReadError}
-use Rattle.wasm_reader.proofs.DecodeOutlines.{payload_within}
+use Rattle.wasm_reader.proofs.DecodeOutlines.{one_section}
 
 -- ---- offsets
 
@@ -63,6 +63,10 @@ error_shrinks {old = old} g = omega (arith, ap length g.ended, some_long (ahead 
 module _ {old new : Iterating} {s : Located} (g : GivesSection old s new) where
   pub id_ahead : Decodes byte padded (ahead old) s.section.id (s.section.sized ++ ahead new)
   id_ahead = record { front = s.section.id ∷ []; split = g.split; encodes = refl }
+
+  -- The next section, as an id and any payload.
+  pub section_ahead : Decodes any_section padded (ahead old) (s.section.id, s.section.payload) (ahead new)
+  section_ahead = record { front = bytes_of s.section; split = g.split; encodes = one_section s.section g.is_section }
 
   pub payload_ahead : Decodes (size_prefixed any_bytes) padded (s.section.sized ++ ahead new) s.section.payload (ahead new)
   payload_ahead = record { front = s.section.sized; split = refl; encodes = g.is_section.contains }
