@@ -176,7 +176,7 @@ const BEFORE: [u8; 3] = [0x0A, 0x80, 0xA5];
 /// What the library gives, or `None` if the sink or the cause contradicts it.
 fn by_library(bytes: &[u8], offsets: Offsets) -> Option<Answer> {
     let mut sink = dolzhytik::fallible::Vec::from_slice(Global, &BEFORE).ok()?;
-    let answer = shorten_module(bytes, offsets, &mut sink);
+    let answer = shorten_module(Global, bytes, offsets, &mut sink);
     let encoding = sink.strip_prefix(&BEFORE)?;
     match answer {
         Ok(kept) => Some(Answer::Shortened {

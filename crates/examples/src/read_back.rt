@@ -171,9 +171,10 @@ pub fn written_names<'a, A: Allocator + Copy + 'a>(
 /// Minimizes a module into an empty buffer, which then holds the minimized module, no longer than
 /// the input. After an error the buffer is empty.
 #[tactic(auto, using(wasm_reader::proofs::Calls::module_comes, wasm_reader::proofs::Calls::module_no_longer))]
-pub fn smaller_module<A: Allocator + Copy>(
+pub fn smaller_module<A: Allocator + Copy, B: Allocator>(
+    alloc: A,
     bytes: &[u8],
-    sink: &mut Vec<u8, A>,
+    sink: &mut Vec<u8, B>,
 ) -> Result<usize, ModuleFault>
     requires { sink.old.items ≡ [] }
     ensures is_module { OnOk result ((sections : List (ℕ × List ℕ)) × wasm_module padded sink.new.items sections) }
@@ -181,13 +182,14 @@ pub fn smaller_module<A: Allocator + Copy>(
     ensures shortened { IfOk result (λ kept. ShortensModule Refuse bytes.now kept sink.old.items sink.new.items) }
     ensures err { OnErr result (sink.new.items ≡ []) }
 {
-    shorten_module(bytes, Offsets::Refuse, sink)
+    shorten_module(alloc, bytes, Offsets::Refuse, sink)
 }
 
 /// Minimizes a module, and then the output: both outputs are equal, and the second call fails only
 /// if an allocation fails.
 #[tactic(auto, using(wasm_reader::proofs::Calls::module_stays, wasm_reader::proofs::Calls::module_accepted))]
 pub fn shortened_twice<A: Allocator + Copy>(
+    alloc: A,
     bytes: &[u8],
     once: &mut Vec<u8, A>,
     twice: &mut Vec<u8, A>,
@@ -197,6 +199,6 @@ pub fn shortened_twice<A: Allocator + Copy>(
     ensures accepted { IfErr result (λ fault. IsMemory fault ⊎ Explains LeaveOut bytes.now fault) }
 {
     laws::shortened();
-    shorten_module(bytes, Offsets::LeaveOut, once)?;
-    shorten_module(once, Offsets::LeaveOut, twice)
+    shorten_module(alloc, bytes, Offsets::LeaveOut, once)?;
+    shorten_module(alloc, once, Offsets::LeaveOut, twice)
 }

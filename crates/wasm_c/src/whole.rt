@@ -44,7 +44,7 @@ pub extern "C" fn dz_shorten_module(
     *place = 0;
     *cause = 0;
     let mut text = Vec::new(alloc);
-    match shorten_module(bytes, offsets_of(drop_offsets), &mut text) {
+    match shorten_module(alloc, bytes, offsets_of(drop_offsets), &mut text) {
         Ok(count) => {
             *kept = count as u64;
             copied(&text, out)

@@ -17,10 +17,10 @@ use wasm_code::shorten_body;
 
 /// Appends the minimal encoding of a vector of bodies that occupies all of the bytes. It keeps none
 /// of them.
-fn shorten_bodies<A: Allocator + Copy>(
+fn shorten_bodies<A: Allocator + Copy, B: Allocator>(
     bytes: &[u8],
     alloc: A,
-    sink: &mut Vec<u8, A>,
+    sink: &mut Vec<u8, B>,
 ) -> Result<(), DecodeError>
     ensures found { OnOk result ((xs : List Body) × vec (size_prefixed body) padded bytes.now xs × AppendsMinimal (vec (size_prefixed body)) xs sink.old.items sink.new.items) }
     ensures none { IfErr result (λ e. e.cause ≢ Memory → RejectsWhole (vec (size_prefixed body)) padded bytes.now) }
@@ -40,11 +40,11 @@ fn shorten_bodies<A: Allocator + Copy>(
 }
 
 /// Appends the minimal encoding of the payload of a section of this kind.
-fn shorten_content<A: Allocator + Copy>(
+fn shorten_content<A: Allocator + Copy, B: Allocator>(
     kind: SectionKind,
     bytes: &[u8],
     alloc: A,
-    sink: &mut Vec<u8, A>,
+    sink: &mut Vec<u8, B>,
 ) -> Result<(), DecodeError>
     ensures found { OnOk result ((x : Contents) × content kind padded bytes.now x × AppendsMinimal (content kind) x sink.old.items sink.new.items) }
     ensures none { IfErr result (λ e. e.cause ≢ Memory → RejectsWhole (content kind) padded bytes.now) }
@@ -85,7 +85,20 @@ pub fn shorten<A: Allocator + Copy>(
     ensures err { OnErr result (sink.new.items ≡ sink.old.items) }
     ensures none { IfErr result (λ e. e ≢ Memory → Rejects (section kind) padded bytes.now) }
 {
-    let alloc = *sink.allocator();
+    shorten_in(*sink.allocator(), kind, bytes, sink)
+}
+
+/// The same with an allocator for decoded items.
+pub(crate) fn shorten_in<A: Allocator + Copy, B: Allocator>(
+    alloc: A,
+    kind: SectionKind,
+    bytes: &[u8],
+    sink: &mut Vec<u8, B>,
+) -> Result<usize, ReadFault>
+    ensures ok { IfOk result (λ n. Shortens kind bytes.now n sink.old.items sink.new.items) }
+    ensures err { OnErr result (sink.new.items ≡ sink.old.items) }
+    ensures none { IfErr result (λ e. e ≢ Memory → Rejects (section kind) padded bytes.now) }
+{
     let (sized, rest) = <&[u8] as Readable<'_, A, Padded>>::read(bytes, alloc)?;
     let mut content = Vec::with_capacity(alloc, sized.len())?;
     shorten_content(kind, sized, alloc, &mut content)?;

@@ -34,7 +34,7 @@ ghost use Rattle.wasm_reader.specs.Shortening.{
   Explains,
 };
 
-use crate::minimal::shorten;
+use crate::minimal::shorten_in;
 use crate::modules::HEADER;
 use crate::sections::Sections;
 use crate::standing::Standing;
@@ -178,16 +178,17 @@ impl Standing<'_> {
 
 /// Appends the output for the section's size prefix and payload, unless the section is left out. On
 /// an error, the sink is unchanged.
-fn append_size_prefixed<A: Allocator + Copy>(
+fn append_size_prefixed<A: Allocator + Copy, B: Allocator>(
+    alloc: A,
     section: &Standing<'_>,
-    sink: &mut Vec<u8, A>,
+    sink: &mut Vec<u8, B>,
 ) -> Result<How, ReadFault>
     requires { IsSection (section_of section.now) }
     ensures ok { IfOk result (λ how. (encoding : List ℕ) × IsEncodingFor how (section_of section.now) encoding × (sink.new.items ≡ sink.old.items ++ encoding)) }
     ensures err { OnErr result (sink.new.items ≡ sink.old.items) }
     ensures memory { IfErr result (λ e. e ≡ Memory) }
 {
-    match shorten(section.kind(), section.sized, sink) {
+    match shorten_in(alloc, section.kind(), section.sized, sink) {
         Ok(_) => Ok(How::Minimal),
         Err(ReadFault::Memory) => Err(ReadFault::Memory),
         Err(_) => match sink.extend_from_slice(section.sized) {
@@ -223,10 +224,11 @@ struct Written {
 
 /// Appends the output for the section: its id, a size prefix and a payload. On an error, the sink
 /// is unchanged.
-fn append_section<A: Allocator + Copy>(
+fn append_section<A: Allocator + Copy, B: Allocator>(
+    alloc: A,
     section: &Standing<'_>,
     offsets: Offsets,
-    sink: &mut Vec<u8, A>,
+    sink: &mut Vec<u8, B>,
 ) -> Result<Written, ReadFault>
     requires { IsSection (section_of section.now) }
     ensures ok { IfOk result (λ x. GainsSection offsets (section_of section.now) x.how x.is_changed sink.old.items sink.new.items) }
@@ -241,7 +243,7 @@ fn append_section<A: Allocator + Copy>(
     }
     let start = sink.len();
     sink.push(section.id)?;
-    match append_size_prefixed(section, sink) {
+    match append_size_prefixed(alloc, section, sink) {
         Ok(how) => {
             let is_changed = is_changed(section, &sink[start + 1..]);
             Ok(Written { how, is_changed })
@@ -400,10 +402,11 @@ fn is_same(a: usize, b: usize) -> bool
 
 /// Appends the output for the sections, one after the other. An error has the number of its
 /// section, counted from 1. After an error, the old bytes are still the front of the sink.
-fn append_sections<A: Allocator + Copy>(
+fn append_sections<A: Allocator + Copy, B: Allocator>(
+    alloc: A,
     mut sections: Sections<'_>,
     offsets: Offsets,
-    sink: &mut Vec<u8, A>,
+    sink: &mut Vec<u8, B>,
 ) -> Result<Tally, (usize, ReadFault)>
     requires { length (ahead sections.entry) < 2 ^ 64 }
     ensures ok { IfOk result (λ tally. Rewrites offsets (ahead sections.entry) [] sink.old.items sink.new.items tally) }
@@ -424,7 +427,7 @@ fn append_sections<A: Allocator + Copy>(
             Err(error) => return Err((number, error.cause)),
         };
         let is_level = is_same(section.offset() - first, sink.len() - start);
-        let written = match append_section(section.standing(), offsets, sink) {
+        let written = match append_section(alloc, section.standing(), offsets, sink) {
             Ok(written) => written,
             Err(fault) => return Err((number, fault)),
         };
@@ -443,10 +446,11 @@ fn begin_module<A: Allocator>(spare: usize, sink: &mut Vec<u8, A>) -> Result<(),
 
 /// Appends the module for [`shorten_module`]. After an error, the old bytes are still the front of
 /// the sink.
-fn append_module<A: Allocator + Copy>(
+fn append_module<A: Allocator + Copy, B: Allocator>(
+    alloc: A,
     bytes: &[u8],
     offsets: Offsets,
-    sink: &mut Vec<u8, A>,
+    sink: &mut Vec<u8, B>,
 ) -> Result<usize, ModuleFault>
     ensures ok { IfOk result (λ kept. ShortensModule offsets bytes.now kept sink.old.items sink.new.items) }
     ensures front { IsFrontOf sink.old.items sink.new.items }
@@ -470,7 +474,7 @@ fn append_module<A: Allocator + Copy>(
             });
         }
     }
-    let tally = match append_sections(sections, offsets, sink) {
+    let tally = match append_sections(alloc, sections, offsets, sink) {
         Ok(tally) => tally,
         Err((number, fault)) => return Err(ModuleFault::Section { number, fault }),
     };
@@ -487,26 +491,27 @@ fn append_module<A: Allocator + Copy>(
 /// When a section becomes shorter, its items and the sections after it move. `offsets` selects the
 /// treatment of custom sections that hold offsets. Either a module whose offsets might become wrong
 /// is an error ([`Offsets::Refuse`]), or these sections are left out. A minimized module can always
-/// be minimized again, unless an allocation fails.
+/// be minimized again, unless an allocation fails. Decoded items are in memory of the allocator.
 ///
 /// ```text
-/// let kept = shorten_module(bytes, Offsets::Refuse, &mut sink)?;
+/// let kept = shorten_module(alloc, bytes, Offsets::Refuse, &mut sink)?;
 /// ```
 ///
 /// # Errors
 ///
 /// Returns the number of the section that failed, and the cause: see [`ModuleFault`].
-pub fn shorten_module<A: Allocator + Copy>(
+pub fn shorten_module<A: Allocator + Copy, B: Allocator>(
+    alloc: A,
     bytes: &[u8],
     offsets: Offsets,
-    sink: &mut Vec<u8, A>,
+    sink: &mut Vec<u8, B>,
 ) -> Result<usize, ModuleFault>
     ensures ok { IfOk result (λ kept. ShortensModule offsets bytes.now kept sink.old.items sink.new.items) }
     ensures err { OnErr result (sink.new.items ≡ sink.old.items) }
     ensures why { IfErr result (λ fault. Explains offsets bytes.now fault) }
 {
     let start = sink.len();
-    let shortened = append_module(bytes, offsets, sink);
+    let shortened = append_module(alloc, bytes, offsets, sink);
     if shortened.is_err() {
         sink.truncate(start);
     }

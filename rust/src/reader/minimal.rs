@@ -1,7 +1,7 @@
 // Written by tools/to-rust from crates/wasm_reader/src/minimal.rt: change that.
 // Minimizes sections.
 
-use crate::vec::Vec;
+use crate::vec::{Sink, Vec};
 use crate::reader::kinds::{SectionKind, encode_items, read_content};
 use crate::alloc::Allocator;
 use crate::base::{DecodeError, Padded, ReadFault, Readable, Shorten, encode_size_prefixed};
@@ -16,10 +16,10 @@ use crate::code::shorten_body;
 /// ensures found { OnOk result ((xs : List Body) × vec (size_prefixed body) padded bytes.now xs × AppendsMinimal (vec (size_prefixed body)) xs sink.old.items sink.new.items) }
 /// ensures none { IfErr result (λ e. e.cause ≢ Memory → RejectsWhole (vec (size_prefixed body)) padded bytes.now) }
 /// ```
-fn shorten_bodies<A: Allocator + Copy>(
+fn shorten_bodies<A: Allocator + Copy, B: Sink>(
     bytes: &[u8],
     alloc: A,
-    sink: &mut Vec<u8, A>,
+    sink: &mut B,
 ) -> Result<(), DecodeError> {
     let (count, mut rest) = <u32 as Readable<'_, A, Padded>>::read(bytes, alloc)?;
     count.write_minimal(sink)?;
@@ -43,11 +43,11 @@ fn shorten_bodies<A: Allocator + Copy>(
 /// ensures found { OnOk result ((x : Contents) × content kind padded bytes.now x × AppendsMinimal (content kind) x sink.old.items sink.new.items) }
 /// ensures none { IfErr result (λ e. e.cause ≢ Memory → RejectsWhole (content kind) padded bytes.now) }
 /// ```
-fn shorten_content<A: Allocator + Copy>(
+fn shorten_content<A: Allocator + Copy, B: Sink>(
     kind: SectionKind,
     bytes: &[u8],
     alloc: A,
-    sink: &mut Vec<u8, A>,
+    sink: &mut B,
 ) -> Result<(), DecodeError> {
     match kind {
         SectionKind::Bodies => shorten_bodies(bytes, alloc, sink),
@@ -89,7 +89,24 @@ pub fn shorten<A: Allocator + Copy>(
     bytes: &[u8],
     sink: &mut Vec<u8, A>,
 ) -> Result<usize, ReadFault> {
-    let alloc = *sink.allocator();
+    shorten_in(*sink.allocator(), kind, bytes, sink)
+}
+
+/// The same with an allocator for decoded items.
+///
+/// # Proved
+///
+/// ```text
+/// ensures ok { IfOk result (λ n. Shortens kind bytes.now n sink.old.items sink.new.items) }
+/// ensures err { OnErr result (sink.new.items ≡ sink.old.items) }
+/// ensures none { IfErr result (λ e. e ≢ Memory → Rejects (section kind) padded bytes.now) }
+/// ```
+pub(crate) fn shorten_in<A: Allocator + Copy, B: Sink>(
+    alloc: A,
+    kind: SectionKind,
+    bytes: &[u8],
+    sink: &mut B,
+) -> Result<usize, ReadFault> {
     let (sized, rest) = <&[u8] as Readable<'_, A, Padded>>::read(bytes, alloc)?;
     let mut content = Vec::with_capacity(alloc, sized.len())?;
     shorten_content(kind, sized, alloc, &mut content)?;

@@ -1,8 +1,8 @@
 // Written by tools/to-rust from crates/wasm_reader/src/whole.rt: change that.
 // Minimizes modules.
 
-use crate::vec::{Sink, Vec};
-use crate::reader::minimal::shorten;
+use crate::vec::Sink;
+use crate::reader::minimal::shorten_in;
 use crate::reader::modules::HEADER;
 use crate::reader::sections::Sections;
 use crate::reader::standing::Standing;
@@ -188,11 +188,12 @@ impl Standing<'_> {
 /// ensures err { OnErr result (sink.new.items ≡ sink.old.items) }
 /// ensures memory { IfErr result (λ e. e ≡ Memory) }
 /// ```
-fn append_size_prefixed<A: Allocator + Copy>(
+fn append_size_prefixed<A: Allocator + Copy, B: Sink>(
+    alloc: A,
     section: &Standing<'_>,
-    sink: &mut Vec<u8, A>,
+    sink: &mut B,
 ) -> Result<How, ReadFault> {
-    match shorten(section.kind(), section.sized, sink) {
+    match shorten_in(alloc, section.kind(), section.sized, sink) {
         Ok(_) => Ok(How::Minimal),
         Err(ReadFault::Memory) => Err(ReadFault::Memory),
         Err(_) => match sink.extend_from_slice(section.sized) {
@@ -250,10 +251,11 @@ struct Written {
 /// ensures err { OnErr result (sink.new.items ≡ sink.old.items) }
 /// ensures memory { IfErr result (λ e. e ≡ Memory) }
 /// ```
-fn append_section<A: Allocator + Copy>(
+fn append_section<A: Allocator + Copy, B: Sink>(
+    alloc: A,
     section: &Standing<'_>,
     offsets: Offsets,
-    sink: &mut Vec<u8, A>,
+    sink: &mut B,
 ) -> Result<Written, ReadFault> {
     if is_left_out(section, offsets) {
         return Ok(Written {
@@ -263,7 +265,7 @@ fn append_section<A: Allocator + Copy>(
     }
     let start = sink.len();
     sink.push(section.id)?;
-    match append_size_prefixed(section, sink) {
+    match append_size_prefixed(alloc, section, sink) {
         Ok(how) => {
             let is_changed = is_changed(section, &sink[start + 1..]);
             Ok(Written { how, is_changed })
@@ -473,10 +475,11 @@ fn is_same(a: usize, b: usize) -> bool {
 /// ensures front { IsFrontOf sink.old.items sink.new.items }
 /// ensures none { IfErr result (λ e. e.1 ≢ Memory → StopsAfter (ahead sections.entry) e.0) }
 /// ```
-fn append_sections<A: Allocator + Copy>(
+fn append_sections<A: Allocator + Copy, B: Sink>(
+    alloc: A,
     mut sections: Sections<'_>,
     offsets: Offsets,
-    sink: &mut Vec<u8, A>,
+    sink: &mut B,
 ) -> Result<Tally, (usize, ReadFault)> {
     let first = sections.offset();
     let start = sink.len();
@@ -492,7 +495,7 @@ fn append_sections<A: Allocator + Copy>(
             Err(error) => return Err((number, error.cause)),
         };
         let is_level = is_same(section.offset() - first, sink.len() - start);
-        let written = match append_section(section.standing(), offsets, sink) {
+        let written = match append_section(alloc, section.standing(), offsets, sink) {
             Ok(written) => written,
             Err(fault) => return Err((number, fault)),
         };
@@ -523,10 +526,11 @@ fn begin_module<A: Sink>(spare: usize, sink: &mut A) -> Result<(), AllocError> {
 /// ensures front { IsFrontOf sink.old.items sink.new.items }
 /// ensures why { IfErr result (λ fault. Explains offsets bytes.now fault) }
 /// ```
-fn append_module<A: Allocator + Copy>(
+fn append_module<A: Allocator + Copy, B: Sink>(
+    alloc: A,
     bytes: &[u8],
     offsets: Offsets,
-    sink: &mut Vec<u8, A>,
+    sink: &mut B,
 ) -> Result<usize, ModuleFault> {
     let sections = match Sections::new(bytes) {
         Ok(sections) => sections,
@@ -546,7 +550,7 @@ fn append_module<A: Allocator + Copy>(
             });
         }
     }
-    let tally = match append_sections(sections, offsets, sink) {
+    let tally = match append_sections(alloc, sections, offsets, sink) {
         Ok(tally) => tally,
         Err((number, fault)) => return Err(ModuleFault::Section { number, fault }),
     };
@@ -563,10 +567,10 @@ fn append_module<A: Allocator + Copy>(
 /// When a section becomes shorter, its items and the sections after it move. `offsets` selects the
 /// treatment of custom sections that hold offsets. Either a module whose offsets might become wrong
 /// is an error ([`Offsets::Refuse`]), or these sections are left out. A minimized module can always
-/// be minimized again, unless an allocation fails.
+/// be minimized again, unless an allocation fails. Decoded items are in memory of the allocator.
 ///
 /// ```text
-/// let kept = shorten_module(bytes, Offsets::Refuse, &mut sink)?;
+/// let kept = shorten_module(alloc, bytes, Offsets::Refuse, &mut sink)?;
 /// ```
 ///
 /// # Errors
@@ -580,13 +584,14 @@ fn append_module<A: Allocator + Copy>(
 /// ensures err { OnErr result (sink.new.items ≡ sink.old.items) }
 /// ensures why { IfErr result (λ fault. Explains offsets bytes.now fault) }
 /// ```
-pub fn shorten_module<A: Allocator + Copy>(
+pub fn shorten_module<A: Allocator + Copy, B: Sink>(
+    alloc: A,
     bytes: &[u8],
     offsets: Offsets,
-    sink: &mut Vec<u8, A>,
+    sink: &mut B,
 ) -> Result<usize, ModuleFault> {
     let start = sink.len();
-    let shortened = append_module(bytes, offsets, sink);
+    let shortened = append_module(alloc, bytes, offsets, sink);
     if shortened.is_err() {
         sink.truncate(start);
     }

@@ -225,11 +225,12 @@ pub fn written_names<'a, A: Allocator + Copy + 'a>(
 /// ensures shortened { IfOk result (λ kept. ShortensModule Refuse bytes.now kept sink.old.items sink.new.items) }
 /// ensures err { OnErr result (sink.new.items ≡ []) }
 /// ```
-pub fn smaller_module<A: Allocator + Copy>(
+pub fn smaller_module<A: Allocator + Copy, B: Sink>(
+    alloc: A,
     bytes: &[u8],
-    sink: &mut Vec<u8, A>,
+    sink: &mut B,
 ) -> Result<usize, ModuleFault> {
-    shorten_module(bytes, Offsets::Refuse, sink)
+    shorten_module(alloc, bytes, Offsets::Refuse, sink)
 }
 
 /// Minimizes a module, and then the output: both outputs are equal, and the second call fails only
@@ -248,11 +249,12 @@ pub fn smaller_module<A: Allocator + Copy>(
 /// ensures accepted { IfErr result (λ fault. IsMemory fault ⊎ Explains LeaveOut bytes.now fault) }
 /// ```
 pub fn shortened_twice<A: Allocator + Copy>(
+    alloc: A,
     bytes: &[u8],
     once: &mut Vec<u8, A>,
     twice: &mut Vec<u8, A>,
 ) -> Result<usize, ModuleFault> {
     laws::shortened();
-    shorten_module(bytes, Offsets::LeaveOut, once)?;
-    shorten_module(once, Offsets::LeaveOut, twice)
+    shorten_module(alloc, bytes, Offsets::LeaveOut, once)?;
+    shorten_module(alloc, once, Offsets::LeaveOut, twice)
 }

@@ -86,7 +86,7 @@ fn check(bytes: &[u8]) {
         assert_ne!(fault, ReadFault::Memory);
     }
     let mut sink = Vec::new(Global);
-    match shorten_module(bytes, Offsets::LeaveOut, &mut sink) {
+    match shorten_module(Global, bytes, Offsets::LeaveOut, &mut sink) {
         Ok(_) => assert!(sink.len() <= bytes.len() && outline(Global, &sink).is_ok()),
         Err(ModuleFault::Section { fault, .. }) => assert_ne!(fault, ReadFault::Memory),
         Err(fault) => panic!("{fault:?}"),

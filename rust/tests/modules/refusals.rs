@@ -55,7 +55,7 @@ fn of_modules() {
     let expected = module(&[SHORT[0], SHORT[1], SHORT[2], SHORT[3], SHORT_NAME, UNREAD]);
     let (granted, kept) = first_granted(|alloc| {
         let mut sink = Vec::new(alloc);
-        match shorten_module(&bytes, Offsets::Refuse, &mut sink) {
+        match shorten_module(alloc, &bytes, Offsets::Refuse, &mut sink) {
             Ok(kept) => {
                 assert_eq!(*sink, *expected);
                 Some(kept)

@@ -9,7 +9,7 @@ const BEFORE: [u8; 2] = [0xAA, 0x03];
 /// What is appended to a sink, and how many sections are kept. Where the call is refused, the sink is as it was.
 fn appended(bytes: &[u8], offsets: Offsets) -> Result<(std::vec::Vec<u8>, usize), ModuleFault> {
     let mut sink = Vec::from_slice(Global, &BEFORE).unwrap();
-    let answer = shorten_module(bytes, offsets, &mut sink);
+    let answer = shorten_module(Global, bytes, offsets, &mut sink);
     let (before, new) = sink.split_at(BEFORE.len());
     assert_eq!(before, BEFORE);
     match answer {

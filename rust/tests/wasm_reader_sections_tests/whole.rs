@@ -113,7 +113,7 @@ fn outcome(
     let mut sink = Vec::new(heap);
     sink.push(BEFORE)?;
     heap.refuse(nth);
-    let answer = shorten_module(bytes, offsets, &mut sink);
+    let answer = shorten_module(heap, bytes, offsets, &mut sink);
     let (before, after) = sink.split_at(1);
     let gained = match answer {
         Ok(_) => text,
@@ -177,11 +177,11 @@ fn modules() {
 fn smaller_modules() {
     let rt = crate::host::HostRuntime;
     let mut once = Vec::new(rt.alloc());
-    assert_eq!(rt; smaller_module(PADDED, &mut once), Ok(1));
+    assert_eq!(rt; smaller_module(rt.alloc(), PADDED, &mut once), Ok(1));
     check_bytes(&rt, &once, SHORTEST);
     let mut first = Vec::new(rt.alloc());
     let mut second = Vec::new(rt.alloc());
-    assert_eq!(rt; shortened_twice(PADDED, &mut first, &mut second), Ok(1));
+    assert_eq!(rt; shortened_twice(rt.alloc(), PADDED, &mut first, &mut second), Ok(1));
     check_bytes(&rt, &second, SHORTEST);
 }
 

@@ -107,7 +107,8 @@ pub fn minimize(module: &[u8], drops_offsets: u32) -> Answer<'_> {
         _ => Offsets::LeaveOut,
     };
     let mut block = Block::new(DONE)?;
-    shorten_module(module, offsets, &mut block.bytes).map_err(|fault| why_not(module, fault))?;
+    shorten_module(Global, module, offsets, &mut block.bytes)
+        .map_err(|fault| why_not(module, fault))?;
     Ok(block.finish()?)
 }
 

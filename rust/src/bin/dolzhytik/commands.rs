@@ -135,7 +135,7 @@ fn shorten(input: &Input, output: &Output, offsets: Offsets) -> Result<(), Failu
     let progress = Progress::of(bytes.len());
     progress.begin("shortening");
     let mut shortened = fallible::Vec::new(Global);
-    let kept = shorten_module(&bytes, offsets, &mut shortened)
+    let kept = shorten_module(Global, &bytes, offsets, &mut shortened)
         .map_err(|fault| why_not(input, &bytes, fault))?;
     let left_out = match offsets {
         Offsets::Refuse => String::new(),
