@@ -1,11 +1,11 @@
-use Rattle.wasm_base.proofs.Words.{◌<◌, ap, subst, length, ◌-◌, arith, padded, Rejects, fault_stays}
+use Rattle.wasm_base.proofs.Words.{◌<◌, ap, subst, length, ◌-◌, arith, padded_of, Rejects, fault_stays}
 use Rattle.wasm_insn.proofs.Words.{instruction, table}
 use Rattle.wasm_code.specs.{ahead}
 use Rattle.wasm_code.proofs.WalkLaws.{decodes_there, from_place, step_decodes, step_further}
 use Rattle.wasm_code.proofs.walk.Instructions.step.Goals as goal
 
 pub returns-in_err-op-clause-none : goal.returns-in_err-op-clause-none
-returns-in_err-op-clause-none g c = fault_stays c.from_residual.result _ c.from_residual.ensures.1 λ n. subst (λ w. Rejects (instruction table) padded (ahead w)) c.self.view_is (subst (Rejects (instruction table) padded) (from_place c.self.inside.bytes.now c.self.inside.offset) (c.in_err-op.ensures.none n))
+returns-in_err-op-clause-none g c = fault_stays c.from_residual.result _ c.from_residual.ensures.1 λ n. subst (λ w. Rejects (instruction table) (padded_of g.G.Grammar.grammar) (ahead w)) c.self.view_is (subst (Rejects (instruction table) (padded_of g.G.Grammar.grammar)) (from_place c.self.inside.bytes.now c.self.inside.offset) (c.in_err-op.ensures.none n))
 
 pub returns-clause-found : goal.returns-clause-found
 returns-clause-found g c =
