@@ -36,6 +36,8 @@ static const shape SHAPES[] = {
     SHAPE("one group of imports", 2, 0, 1, "", "\1\1m\0\x7F", "\1f\0\0", ""),
     SHAPE("exports", 7, 0, 1, "", "", "\1e\0\0", ""),
     SHAPE("functions", 3, 0, 1, "", "", "\0", ""),
+    SHAPE("function types", 1, 0, 1, "", "", "\x60\0\0", ""),
+    SHAPE("empty structs", 1, 0, 1, "", "", "\x5F\0", ""),
     SHAPE("names", 0, 1, 1, "\4name", "", "\0\1f", ""),
     SHAPE("one custom section", 0, 0, 0, "\1c", "", "\0", ""),
     SHAPE("empty sections", -1, 0, 0, "", "", "\1\0", ""),

@@ -75,3 +75,7 @@ module _ {old new : Iterating} {s : Located} (g : GivesSection old s new) where
 
 pub in_payload : (s : Located) (offset : ℕ) → end_of s ≤ offset + length s.section.payload → offset ≤ end_of s → IsInPayload s offset
 in_payload s offset from within = (from, within)
+
+-- After a section, the offset and the bytes ahead end where they did.
+pub end_stays : {old new : Iterating} {s : Located} → GivesSection old s new → new.offset + length (ahead new) ≡ old.offset + length (ahead old)
+end_stays {new = new} {s = s} g = omega (arith, g.offset, g.after, ap length g.split, length-append (bytes_of s.section) (ahead new))

@@ -1,9 +1,10 @@
-use Rattle.wasm_base.proofs.Words.{length, header}
+use Rattle.wasm_base.proofs.Words.{◌≡◌, ◌+◌, length, header}
+use Rattle.wasm_reader.specs.{ahead}
 use Rattle.wasm_reader.proofs.DecodeOutlines.{HasOutlined}
 use Rattle.wasm_reader.proofs.outlines.outline.Given as goal
 
-abbrev pub invariant-loop-rest : goal.invariant-loop-rest
-invariant-loop-rest g l = HasOutlined (length header) l.initial.rest l.lines.items l.rest
+abbrev pub invariant-loop-sections : goal.invariant-loop-sections
+invariant-loop-sections g l = HasOutlined (length header) (ahead l.initial.sections) l.lines.items (ahead l.sections) × (l.sections.offset + length (ahead l.sections) ≡ length header + length (ahead l.initial.sections))
 
-abbrev pub decreases-loop-rest : goal.decreases-loop-rest
-decreases-loop-rest g l = length l.rest
+abbrev pub decreases-loop-sections : goal.decreases-loop-sections
+decreases-loop-sections g l = length (ahead l.sections)

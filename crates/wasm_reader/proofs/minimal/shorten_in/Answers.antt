@@ -2,7 +2,7 @@ use Rattle.wasm_base.proofs.Words.{◌++◌, ap, subst, ◌∙◌, arith, size_p
 use Rattle.wasm_reader.proofs.Causes.{cause_stays, cause_of_memory}
 use Rattle.wasm_reader.proofs.DecodeSections.{section_none, section_rejects, shorter}
 use Rattle.wasm_reader.proofs.MinimalSections.{shortened}
-use Rattle.wasm_reader.proofs.minimal.shorten.Goals as goal
+use Rattle.wasm_reader.proofs.minimal.shorten_in.Goals as goal
 
 pub returns-in_err-sized-clause-none : goal.returns-in_err-sized-clause-none
 returns-in_err-sized-clause-none g c = cause_stays c.from_residual.result _ c.from_residual.ensures.1 λ n. section_none c.args.kind c.args.bytes.now (c.in_err-sized.ensures.none n)
