@@ -1,5 +1,5 @@
 -- This file proves how the iterators over sections and over bodies advance.
-use Rattle.wasm_base.proofs.Words.{◌≡◌, ◌≢◌, ℕ, suc, ◌+◌, ◌-◌, ◌<◌, ◌≤◌, List, [], ◌∷◌, ◌++◌, length, drop, refl, sym, ap, subst, ◌∙◌, arith, drop_at, drop-drop, length-drop}
+use Rattle.wasm_base.proofs.Words.{◌≡◌, ◌≢◌, ℕ, suc, ◌+◌, ◌-◌, ◌<◌, ◌≤◌, List, [], ◌∷◌, ◌++◌, length, take, drop, refl, sym, ap, subst, ◌∙◌, arith, drop_at, drop-drop, drop_all, length-drop, length-take-le}
 use Rattle.wasm_base.proofs.Words.{padded, any_bytes, any_section, byte, fixed, size_prefixed, header, Decodes, Rejects}
 use Rattle.std.proofs.lemmas.List.{length-append}
 use Rattle.wasm_base.specs.declared.fault.ReadFault.TheVariants.{Memory}
@@ -16,13 +16,9 @@ follows bytes front rest offset l e =
     let at : length bytes - length rest ≡ offset + length front = omega (arith, l, long, length-drop offset bytes) in
     ap (λ n. drop n bytes) at ∙ sym (drop-drop (length front) offset bytes) ∙ ap (drop (length front)) e ∙ drop_at front rest (length front) refl
 
--- Nothing follows the last byte.
-pub all_dropped : (bytes : List ℕ) → drop (length bytes) bytes ≡ []
-all_dropped bytes = none_long (drop (length bytes) bytes) (omega (arith, length-drop (length bytes) bytes))
-  where
-    none_long : (xs : List ℕ) → length xs ≡ 0 → xs ≡ []
-    none_long [] e = refl
-    none_long (x ∷ xs) e = absurd (cc e)
+-- Nothing follows the offset in the bytes before it.
+pub none_after : (bytes : List ℕ) (offset : ℕ) → offset ≤ length bytes → drop offset (take offset bytes) ≡ []
+none_after bytes offset l = drop_all offset (take offset bytes) (omega (arith, length-take-le offset bytes l))
 
 -- The sections begin after the header.
 pub begin_sections : (bytes rest : List ℕ) → bytes ≡ header ++ rest → drop (length bytes - length rest) bytes ≡ rest
@@ -31,12 +27,12 @@ begin_sections bytes rest e = follows bytes header rest 0 (omega arith) e
 -- ---- steps
 
 module _ (bytes rest : List ℕ) (offset : ℕ) (s : Section) where
-  pub gives_section : offset ≤ length bytes → IsSection s → drop offset bytes ≡ bytes_of s ++ rest → GivesSection (record { bytes = bytes; offset = offset }) (record { offset = offset; section = s }) (record { bytes = bytes; offset = length bytes - length rest })
-  gives_section l i e = record {
+  pub gives_section : IsSection s → drop offset bytes ≡ bytes_of s ++ rest → GivesSection (record { bytes = bytes; offset = offset }) (record { offset = offset; section = s }) (record { bytes = bytes; offset = offset + length (bytes_of s) })
+  gives_section i e = record {
     is_section = i;
     offset = refl;
-    split = e ∙ ap (λ z. bytes_of s ++ z) (sym (follows bytes (bytes_of s) rest offset l e));
-    after = omega (arith, l, length-drop offset bytes, ap length e, length-append (bytes_of s) rest);
+    split = e ∙ ap (λ z. bytes_of s ++ z) (sym (sym (drop-drop (length (bytes_of s)) offset bytes) ∙ ap (drop (length (bytes_of s))) e ∙ drop_at (bytes_of s) rest (length (bytes_of s)) refl));
+    after = refl;
     bytes = refl;
   }
 
@@ -44,8 +40,8 @@ module _ (bytes rest : List ℕ) (offset : ℕ) (s : Section) where
   pub ends_within : offset ≤ length bytes → drop offset bytes ≡ bytes_of s ++ rest → offset + length (bytes_of s) ≤ length bytes
   ends_within l e = omega (arith, l, length-drop offset bytes, ap length e, length-append (bytes_of s) rest)
 
-pub gives_error : (bytes : List ℕ) (offset : ℕ) (e : ReadError) → (e.cause ≢ Memory → Rejects any_section padded (drop offset bytes)) → drop offset bytes ≢ [] → offset ≤ e.offset → e.offset ≤ length bytes → GivesError (record { bytes = bytes; offset = offset }) e (record { bytes = bytes; offset = length bytes })
-gives_error bytes offset e none more from within = record { none = none; more = more; from = from; within = within; ended = all_dropped bytes; bytes = refl }
+pub gives_error : (bytes : List ℕ) (offset : ℕ) (e : ReadError) → (e.cause ≢ Memory → Rejects any_section padded (drop offset bytes)) → drop offset bytes ≢ [] → offset ≤ e.offset → e.offset ≤ length bytes → GivesError (record { bytes = bytes; offset = offset }) e (record { bytes = take offset bytes; offset = offset })
+gives_error bytes offset e none more from within = record { none = none; more = more; from = from; within = within; ended = none_after bytes offset (omega (arith, from, within)); stays = refl }
 
 -- Fewer bytes are ahead after a section.
 pub section_shrinks : {old new : Iterating} {s : Located} → GivesSection old s new → length (ahead new) < length (ahead old)

@@ -53,7 +53,7 @@ pub record GivesError (old : Iterating) (e : ReadError) (new : Iterating) : Type
   pub from : old.offset ≤ e.offset
   pub within : e.offset ≤ length old.bytes
   pub ended : ahead new ≡ []
-  pub bytes : new.bytes ≡ old.bytes
+  pub stays : new.offset ≡ old.offset
 
 -- A call of `next`.
 abbrev pub NextSection : Iterating → Option (Result Located ReadError) → Iterating → Type 0

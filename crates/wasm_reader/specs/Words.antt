@@ -1,6 +1,6 @@
 -- This file passes on the definitions that those of the crates above use.
 pub use Rattle.wasm_reader.specs.Iterating.{Iterating, Located, LocatedBody, ahead, known_kind_of}
-pub use Rattle.wasm_reader.specs.Kinds.{Bodies, Contents, content, contents_of, kind_in, kind_numbered, number_in}
+pub use Rattle.wasm_reader.specs.Kinds.{Bodies, Contents, Functions, content, contents_of, kind_in, kind_numbered, number_in}
 pub use Rattle.wasm_reader.specs.Modules.{HasLines, StopsAt}
 pub use Rattle.wasm_reader.specs.Outlines.{EndsAt, HasOutline, IsSection, Section, bytes_of, section_kind_of}
 pub use Rattle.wasm_reader.specs.Sections.{Shortens, Takes, section}

@@ -19,7 +19,8 @@ use std::marker::Model;
 use wasm_base::{DecodeError, Padded, ReadFault, Readable, Standard, ValType};
 use wasm_code::Instructions;
 
-/// The bodies of a code section, one after another. It allocates nothing.
+/// The bodies of a code section, one after another. It allocates nothing, and does not compare their
+/// number with that of the functions.
 ///
 /// ```text
 /// for body in section.bodies()? {
@@ -130,7 +131,8 @@ impl<'a> Iterator for Bodies<'a> {
 
 impl<'a> FusedIterator for Bodies<'a> {}
 
-/// A body of a code section, not yet decoded.
+/// A body of a code section, not yet decoded. Blocks are not matched: a body decodes without its final
+/// `End` too, and with instructions after it.
 #[derive(Clone, Copy, Debug)]
 pub struct CodeBody<'a> {
     offset: usize,

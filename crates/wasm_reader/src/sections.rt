@@ -11,7 +11,7 @@ ghost use Rattle.wasm_reader.specs.Outlines.{section_of, section_kind_of, bytes_
 ghost use Rattle.wasm_reader.specs.Iterating.{Iterating, Located, ahead, end_of, known_kind_of, IsInPayload, NextSection};
 
 use crate::kinds::{Items, SectionKind, read_content, read_number};
-use crate::modules::read_header;
+use crate::modules::{HEADER, read_header};
 use crate::read_error::ReadError;
 use crate::standing::{Standing, read_standing};
 use std::alloc::{Allocator, Global};
@@ -19,6 +19,17 @@ use std::iter::FusedIterator;
 use std::marker::Model;
 use std::ops::Range;
 use wasm_base::{ReadFault, Standard};
+
+/// Returns the number of bytes at the front that are those of the other slice.
+fn common_length(bytes: &[u8], other: &[u8]) -> usize
+    ensures { result ≤ length bytes.now }
+{
+    let mut count = 0;
+    while count < bytes.len() && count < other.len() && bytes[count] == other[count] {
+        count += 1;
+    }
+    count
+}
 
 /// The sections of a module, one after another. It allocates nothing.
 ///
@@ -28,6 +39,8 @@ use wasm_base::{ReadFault, Standard};
 ///     // section.id(), section.name(), section.range(), section.items(alloc)?
 /// }
 /// ```
+///
+/// It splits a module, and does not validate it: sections may have any ids, in any order and number.
 ///
 /// # Errors
 ///
@@ -53,7 +66,8 @@ impl<'a> Sections<'a> {
     /// # Errors
     ///
     /// An error means that the bytes do not begin with the header of a module: `Ended` if there
-    /// are fewer than 8.
+    /// are fewer than 8, and otherwise `UnknownTag` at the first byte that differs. A component
+    /// differs in the version, at offset 4.
     pub fn new(module: &'a [u8]) -> Result<Self, ReadError>
         ensures found { IfOk result (λ it. module.now ≡ header ++ ahead it) }
         ensures offset { IfOk result (λ it. it.offset ≡ length header) }
@@ -70,12 +84,15 @@ impl<'a> Sections<'a> {
                 cause: ReadFault::Ended,
                 offset: module.len(),
             }),
-            Err(cause) => Err(ReadError { cause, offset: 0 }),
+            Err(cause) => Err(ReadError {
+                cause,
+                offset: common_length(module, &HEADER),
+            }),
         }
     }
 
-    /// Returns the offset of the next section in the module, in bytes. After an error, it is the
-    /// length of the module.
+    /// Returns the offset of the next section in the module, in bytes. After an error, it is that
+    /// of the section that failed.
     pub fn offset(&self) -> usize
         ensures { result ≡ self.now.offset }
     {
@@ -98,12 +115,18 @@ impl<'a> Iterator for Sections<'a> {
         }
         match read_standing(bytes, Global) {
             Ok((standing, rest)) => {
-                self.offset = self.module.len() - rest.len();
-                Some(Ok(Section { offset, standing }))
+                let size = bytes.len() - rest.len();
+                self.offset = offset + size;
+                Some(Ok(Section {
+                    offset,
+                    bytes: &bytes[..size],
+                    standing,
+                }))
             }
             Err(error) => {
-                self.offset = self.module.len();
-                Some(Err(ReadError::located(error, bytes.len(), self.module.len())))
+                let end = self.module.len();
+                self.module = &self.module[..offset];
+                Some(Err(ReadError::located(error, bytes.len(), end)))
             }
         }
     }
@@ -117,6 +140,7 @@ impl<'a> FusedIterator for Sections<'a> {}
 #[derive(Clone, Copy, Debug)]
 pub struct Section<'a> {
     offset: usize,
+    bytes: &'a [u8],
     standing: Standing<'a>,
 }
 
@@ -125,7 +149,7 @@ impl<'a> Model for Section<'a> {
 
     ghost view = { λ s. record { offset = s.offset; section = section_of s.standing } };
 
-    ghost invariant = { λ s. IsSection (section_of s.standing) × (s.offset + length (bytes_of (section_of s.standing)) < 2 ^ 64) };
+    ghost invariant = { λ s. IsSection (section_of s.standing) × (s.bytes.now ≡ bytes_of (section_of s.standing)) × (s.offset + length s.bytes.now < 2 ^ 64) };
 }
 
 impl<'a> Section<'a> {
@@ -144,7 +168,7 @@ impl<'a> Section<'a> {
     }
 
     /// Returns the kind as which the payload is decoded: by the id, and for a custom section by its
-    /// name. It is `None` if the id is above 13.
+    /// name. It is `None` if the id is above 13, whose items are `Items::Raw`.
     pub fn kind(&self) -> Option<SectionKind>
         ensures { result ≡ known_kind_of self.now.section }
     {
@@ -169,12 +193,19 @@ impl<'a> Section<'a> {
         self.offset
     }
 
+    /// Returns all bytes of the section: its id, its size prefix and its payload.
+    pub fn bytes(&self) -> &'a [u8]
+        ensures { result.now ≡ bytes_of self.now.section }
+    {
+        self.bytes
+    }
+
     /// Returns the offsets of the payload in the module, in bytes.
     pub fn range(&self) -> Range<usize>
         ensures start { result.start + length self.now.section.payload ≡ end_of self.now }
         ensures end { result.end ≡ end_of self.now }
     {
-        let end = self.offset + 1 + self.standing.sized.len();
+        let end = self.offset + self.bytes.len();
         end - self.standing.payload.len()..end
     }
 
@@ -208,7 +239,8 @@ impl<'a> Section<'a> {
     }
 
     /// Decodes the payload, and returns its items. Names, data and raw bytes are slices of the
-    /// module; lists are in memory of the allocator.
+    /// module; lists are in memory of the allocator. The payload of a custom section of a known
+    /// name must be of that kind.
     ///
     /// # Errors
     ///

@@ -36,9 +36,11 @@ ghost use Rattle.wasm_reader.specs.Shortening.{
 
 use crate::minimal::shorten_in;
 use crate::modules::HEADER;
+use crate::read_error::text_of;
 use crate::sections::Sections;
 use crate::standing::Standing;
 use std::alloc::{AllocError, Allocator};
+use thiserror::Error;
 use wasm_base::ReadFault;
 
 /// The treatment of custom sections that hold offsets.
@@ -61,14 +63,21 @@ pub enum Offsets {
 }
 
 /// The cause of a failed minimization.
-#[derive(Clone, Copy, PartialEq, Eq, Debug)]
+#[derive(Clone, Copy, PartialEq, Eq, Debug, Error)]
 pub enum ModuleFault {
     /// The bytes at the section of this number, counted from 1, are not an id and a size-prefixed
     /// payload; 0 is the header. Or an allocation failed there.
+    #[error("section {number}: {text}", text = words(.fault))]
     Section { number: usize, fault: ReadFault },
     /// The section of this number, counted from 1, is the first that holds offsets which would
     /// become wrong.
+    #[error("section {number}: its offsets would become wrong")]
     Offsets { number: usize },
+}
+
+/// Returns the text of a fault.
+fn words(fault: &ReadFault) -> &'static str {
+    text_of(fault)
 }
 
 /// The sections into which the offsets of a custom section point.

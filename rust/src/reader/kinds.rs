@@ -90,7 +90,7 @@ impl SectionKind {
 }
 
 /// The decoded items of a section. Names, data and raw bytes are slices of the input; lists are in
-/// memory of the allocator.
+/// memory of the allocator. They can be changed in place, and [`encode_items`] encodes them.
 #[derive(Debug)]
 pub enum Items<'a, A: Allocator = Global> {
     Bodies(Vec<Body<A>, A>),

@@ -4,9 +4,11 @@
 //! Decodes sections, exactly: `Ok` holds the items that the bytes encode, padded numbers included,
 //! and any error but [`ReadFault::Memory`] means that the bytes encode no such items.
 //!
-//! [`read_section`] decodes a section of a [`SectionKind`], without its id, into [`Items`], and
-//! [`shorten`] writes its minimal encoding. A custom section decodes by the kind that its name
-//! selects, or, as any custom section does, to its name and data.
+//! [`Sections`] iterates over the sections of a module, and [`Section::items`] decodes one, in the
+//! standard's grammar. [`read_section`] decodes a section of a [`SectionKind`], without its id, into
+//! [`Items`], and [`shorten`] writes its minimal encoding. A custom section decodes by the kind that
+//! its name selects; a payload that is not of that kind is an error. One of another name decodes to
+//! its name and data.
 
 pub use crate::base::reading::*;
 pub use crate::insn::reading::*;

@@ -13,14 +13,14 @@ use crate::base::{DecodeError, ReadFault};
 pub struct ReadError {
     pub cause: ReadFault,
     /// The offset of the first byte that cannot be part of an encoding, from the start of the
-    /// module, in bytes; the end of a payload that ends too soon. It means nothing for `Memory`.
-    /// Contracts say that it is in the section or the payload that was decoded, and tests the
-    /// rest.
+    /// module, in bytes; the end of a payload that ends too soon; the first byte of a name for
+    /// `NotUtf8`. It means nothing for `Memory`. Contracts say that it is in the section or the
+    /// payload that was decoded, and tests the rest.
     pub offset: usize,
 }
 
 /// Returns the text of the cause.
-fn text_of(cause: &ReadFault) -> &'static str {
+pub(crate) fn text_of(cause: &ReadFault) -> &'static str {
     match cause {
         ReadFault::Ended => "unexpected end of input",
         ReadFault::NotShortest => "padded integer",

@@ -2,13 +2,28 @@
 // Iterates over the sections of a module.
 
 use crate::reader::kinds::{Items, SectionKind, read_content, read_number};
-use crate::reader::modules::read_header;
+use crate::reader::modules::{HEADER, read_header};
 use crate::reader::read_error::ReadError;
 use crate::reader::standing::{Standing, read_standing};
 use crate::alloc::{Allocator, Global};
 use core::iter::FusedIterator;
 use core::ops::Range;
 use crate::base::{ReadFault, Standard};
+
+/// Returns the number of bytes at the front that are those of the other slice.
+///
+/// # Proved
+///
+/// ```text
+/// ensures { result ≤ length bytes.now }
+/// ```
+fn common_length(bytes: &[u8], other: &[u8]) -> usize {
+    let mut count = 0;
+    while count < bytes.len() && count < other.len() && bytes[count] == other[count] {
+        count += 1;
+    }
+    count
+}
 
 /// The sections of a module, one after another. It allocates nothing.
 ///
@@ -18,6 +33,8 @@ use crate::base::{ReadFault, Standard};
 ///     // section.id(), section.name(), section.range(), section.items(alloc)?
 /// }
 /// ```
+///
+/// It splits a module, and does not validate it: sections may have any ids, in any order and number.
 ///
 /// # Errors
 ///
@@ -35,7 +52,8 @@ impl<'a> Sections<'a> {
     /// # Errors
     ///
     /// An error means that the bytes do not begin with the header of a module: `Ended` if there
-    /// are fewer than 8.
+    /// are fewer than 8, and otherwise `UnknownTag` at the first byte that differs. A component
+    /// differs in the version, at offset 4.
     ///
     /// # Proved
     ///
@@ -56,12 +74,15 @@ impl<'a> Sections<'a> {
                 cause: ReadFault::Ended,
                 offset: module.len(),
             }),
-            Err(cause) => Err(ReadError { cause, offset: 0 }),
+            Err(cause) => Err(ReadError {
+                cause,
+                offset: common_length(module, &HEADER),
+            }),
         }
     }
 
-    /// Returns the offset of the next section in the module, in bytes. After an error, it is the
-    /// length of the module.
+    /// Returns the offset of the next section in the module, in bytes. After an error, it is that
+    /// of the section that failed.
     ///
     /// # Proved
     ///
@@ -90,12 +111,18 @@ impl<'a> Iterator for Sections<'a> {
         }
         match read_standing(bytes, Global) {
             Ok((standing, rest)) => {
-                self.offset = self.module.len() - rest.len();
-                Some(Ok(Section { offset, standing }))
+                let size = bytes.len() - rest.len();
+                self.offset = offset + size;
+                Some(Ok(Section {
+                    offset,
+                    bytes: &bytes[..size],
+                    standing,
+                }))
             }
             Err(error) => {
-                self.offset = self.module.len();
-                Some(Err(ReadError::located(error, bytes.len(), self.module.len())))
+                let end = self.module.len();
+                self.module = &self.module[..offset];
+                Some(Err(ReadError::located(error, bytes.len(), end)))
             }
         }
     }
@@ -109,6 +136,7 @@ impl<'a> FusedIterator for Sections<'a> {}
 #[derive(Clone, Copy, Debug)]
 pub struct Section<'a> {
     offset: usize,
+    bytes: &'a [u8],
     standing: Standing<'a>,
 }
 
@@ -136,7 +164,7 @@ impl<'a> Section<'a> {
     }
 
     /// Returns the kind as which the payload is decoded: by the id, and for a custom section by its
-    /// name. It is `None` if the id is above 13.
+    /// name. It is `None` if the id is above 13, whose items are `Items::Raw`.
     ///
     /// # Proved
     ///
@@ -173,6 +201,17 @@ impl<'a> Section<'a> {
         self.offset
     }
 
+    /// Returns all bytes of the section: its id, its size prefix and its payload.
+    ///
+    /// # Proved
+    ///
+    /// ```text
+    /// ensures { result.now ≡ bytes_of self.now.section }
+    /// ```
+    pub fn bytes(&self) -> &'a [u8] {
+        self.bytes
+    }
+
     /// Returns the offsets of the payload in the module, in bytes.
     ///
     /// # Proved
@@ -182,7 +221,7 @@ impl<'a> Section<'a> {
     /// ensures end { result.end ≡ end_of self.now }
     /// ```
     pub fn range(&self) -> Range<usize> {
-        let end = self.offset + 1 + self.standing.sized.len();
+        let end = self.offset + self.bytes.len();
         end - self.standing.payload.len()..end
     }
 
@@ -224,7 +263,8 @@ impl<'a> Section<'a> {
     }
 
     /// Decodes the payload, and returns its items. Names, data and raw bytes are slices of the
-    /// module; lists are in memory of the allocator.
+    /// module; lists are in memory of the allocator. The payload of a custom section of a known
+    /// name must be of that kind.
     ///
     /// # Errors
     ///

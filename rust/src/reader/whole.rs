@@ -4,6 +4,7 @@
 use crate::vec::Sink;
 use crate::reader::minimal::shorten_in;
 use crate::reader::modules::HEADER;
+use crate::reader::read_error::text_of;
 use crate::reader::sections::Sections;
 use crate::reader::standing::Standing;
 use crate::alloc::{AllocError, Allocator};
@@ -37,6 +38,11 @@ pub enum ModuleFault {
     /// The section of this number, counted from 1, is the first that holds offsets which would
     /// become wrong.
     Offsets { number: usize },
+}
+
+/// Returns the text of a fault.
+fn words(fault: &ReadFault) -> &'static str {
+    text_of(fault)
 }
 
 /// The sections into which the offsets of a custom section point.
@@ -597,3 +603,14 @@ pub fn shorten_module<A: Allocator + Copy, B: Sink>(
     }
     shortened
 }
+
+impl ::core::fmt::Display for ModuleFault {
+    fn fmt(&self, f: &mut ::core::fmt::Formatter<'_>) -> ::core::fmt::Result {
+        match self {
+            Self::Section { number, fault } => write!(f, "section {number}: {text}", text = words(fault)),
+            Self::Offsets { number } => write!(f, "section {number}: its offsets would become wrong"),
+        }
+    }
+}
+
+impl ::core::error::Error for ModuleFault {}

@@ -21,6 +21,7 @@ fn check(bytes: &[u8], expected: &[Told]) {
         assert_eq!(section.offset(), *offset);
         assert_eq!(section.range(), *range);
         assert_eq!(section.payload(), &bytes[range.clone()]);
+        assert_eq!(section.bytes(), &bytes[*offset..range.end]);
         assert_eq!(sections.offset(), range.end);
     }
     assert!(sections.next().is_none());
@@ -86,9 +87,10 @@ fn check_end(sections: &[&str], whole: usize, expected: ReadError, text: &str) {
         given.by_ref().take(whole).filter(Result::is_ok).count(),
         whole
     );
+    let offset = given.offset();
     assert_eq!(given.next().unwrap().unwrap_err(), expected);
     assert!(given.next().is_none());
-    assert_eq!(given.offset(), bytes.len());
+    assert_eq!(given.offset(), offset);
     assert_eq!(expected.to_string(), text);
 }
 
@@ -126,8 +128,11 @@ fn ended_at(offset: usize) -> ReadError {
 #[test]
 fn headers() {
     assert_eq!(Sections::new(b"\0asm").unwrap_err(), ended_at(4));
+    // A component, and a text.
+    let component = error(ReadFault::UnknownTag, 4);
+    assert_eq!(Sections::new(b"\0asm\x0d\0\x01\0").unwrap_err(), component);
     let other = error(ReadFault::UnknownTag, 0);
-    assert_eq!(Sections::new(b"\0asm\x0d\0\x01\0").unwrap_err(), other);
+    assert_eq!(Sections::new(b"(module)").unwrap_err(), other);
     assert_eq!(other.to_string(), "unexpected byte or value at offset 0x0");
 }
 

@@ -69,7 +69,7 @@ def variants(source: Source, name: str, brace: int, end: int) -> Iterator[str]:
         label = source.tokens[variant]
         if source.tokens[behind] == '{':
             stop = source.closing(behind)
-            yield f'Self::{label} {{ {", ".join(fields_of(source, behind, stop))} }} => write!(f, {text}),'
+            yield f'Self::{label} {{ {", ".join(fields_of(source, behind, stop))} }} => write!(f, {with_fields(text)}),'
         elif source.tokens[behind] == '(' and text == 'transparent':
             stop = source.closing(behind)
             yield f'Self::{label}(inner) => ::core::fmt::Display::fmt(inner, f),'
