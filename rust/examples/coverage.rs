@@ -117,7 +117,6 @@ pub fn covered(module: &[u8], drop_offsets: bool) -> Result<Vec<u8>> {
     let position = |id| ORDER.iter().position(|it| *it == id);
     let mut covered = Module::HEADER.to_vec();
     for section in sections {
-        let bytes = &module[section.offset()..section.range().end];
         while let Some(new) = new.next_if(|new| position(new.id()) <= position(section.id())) {
             new.append_to(&mut covered);
         }
@@ -126,7 +125,7 @@ pub fn covered(module: &[u8], drop_offsets: bool) -> Result<Vec<u8>> {
                 let error = format!("{name} holds offsets into the code: use --drop-offsets");
                 return Err(error.into());
             }
-            None if ![6, 7, 10].contains(&section.id()) => covered.extend(bytes),
+            None if ![6, 7, 10].contains(&section.id()) => covered.extend(section.bytes()),
             _ => {}
         }
     }

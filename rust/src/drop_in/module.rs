@@ -3,6 +3,7 @@ use super::entries::append;
 use super::{Encode, Section, default, done};
 use crate::alloc::Global;
 use crate::base;
+use crate::reader;
 use alloc_crate::vec::Vec;
 
 /// A module.
@@ -91,5 +92,18 @@ impl Encode for RawSection<'_> {
 impl Section for RawSection<'_> {
     fn id(&self) -> u8 {
         self.id
+    }
+}
+
+/// The bytes of the section as they are, a padded size too.
+impl Encode for reader::Section<'_> {
+    fn encode(&self, sink: &mut Vec<u8>) {
+        sink.extend_from_slice(&self.bytes()[1..])
+    }
+}
+
+impl Section for reader::Section<'_> {
+    fn id(&self) -> u8 {
+        reader::Section::id(self)
     }
 }

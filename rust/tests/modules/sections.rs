@@ -282,3 +282,14 @@ fn instructions_that_are_none() {
     let stopped = second.locate(instructions.next().unwrap_err());
     assert_eq!(stopped, error(ReadFault::UnknownOpcode, 14));
 }
+
+/// A section keeps its bytes in a module of the root's builder: its size stays padded.
+#[test]
+fn sections_are_copied() {
+    let bytes = module(&PADDED);
+    let mut copied = dolzhytik::Module::new();
+    for section in Sections::new(&bytes).unwrap() {
+        copied.section(&section.unwrap());
+    }
+    assert_eq!(copied.finish(), bytes);
+}
