@@ -89,9 +89,9 @@ fn faults() {
     );
     check(b" \n(module)", "text, and no binary module");
     check(b";; a module", "text, and no binary module");
-    let ended = "section 2: the bytes end before it does";
+    let ended = "section 2: unexpected end of input";
     check(&module(&[PADDED[0], "03 03 01 00"]), ended);
-    let too_large = "section 1: its size takes more than 32 bits, or five bytes";
+    let too_large = "section 1: integer too large";
     check(&module(&["03 808080808000"]), too_large);
     check(&module(&["03 ffffffff1f"]), too_large);
 }

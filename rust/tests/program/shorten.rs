@@ -106,5 +106,5 @@ fn faults() {
         "no module: it does not begin with 00 61 73 6d 01 00 00 00",
     );
     let ended = module(&[PADDED[0], "03 03 01 00"]);
-    check(&ended, "section 2: the bytes end before it does");
+    check(&ended, "section 2: unexpected end of input");
 }

@@ -3,6 +3,7 @@ use crate::program::{Answer, Folder};
 
 const USAGE: &str = "\
 usage: dolzhytik outline FILE [--json]
+       dolzhytik dump FILE [--section NAME|ID].. [--json]
        dolzhytik size FILE [--functions N] [--json]
        dolzhytik strip FILE [--all | --debug | NAME..] [--keep NAME].. -o FILE
        dolzhytik shorten FILE -o FILE [--drop-offsets]
@@ -98,6 +99,7 @@ fn help() {
     assert!(text.starts_with(USAGE));
     for line in [
         "outline   ",
+        "dump   ",
         "size   ",
         "strip   ",
         "shorten   ",
@@ -105,6 +107,7 @@ fn help() {
         "-o FILE, --output FILE ",
         "--functions N ",
         "--keep NAME ",
+        "--section NAME|ID ",
         "--json ",
         "--drop-offsets ",
     ] {

@@ -1,4 +1,5 @@
 //! What the program does.
+use crate::dump;
 use crate::failure::Failure;
 use crate::files::{Input, Output};
 use crate::json;
@@ -21,6 +22,11 @@ pub fn run(command: Command) -> Result<(), Failure> {
             output,
             offsets,
         } => shorten(&input, &output, offsets),
+        Command::Dump {
+            input,
+            sections,
+            format,
+        } => dump::dump(&input, &input.read()?, &sections, format),
         Command::Size {
             input,
             functions,

@@ -5,7 +5,8 @@ use crate::words::{USAGE, Usage};
 use dolzhytik::fallible::AllocError;
 use dolzhytik::fallible::recipe::RecipeFault;
 use dolzhytik::reader::ReadFault;
-use std::{fmt, io};
+use std::fmt;
+use std::io::{self, Write};
 
 /// Why there is no answer.
 #[derive(Debug)]
@@ -52,6 +53,11 @@ pub enum Failure {
         offset: usize,
         fault: ReadFault,
     },
+    /// No section of the module has this name or id.
+    NoSection {
+        input: Input,
+        section: String,
+    },
     /// A line of the recipe is no text.
     NotText {
         recipe: Input,
@@ -81,13 +87,22 @@ impl Failure {
     }
 }
 
-/// Why a section is none, or why it is not known.
+/// Prints a failure on standard error. Where nobody can be told, the exit status is left.
+pub fn report(failure: &Failure) {
+    let _ = writeln!(io::stderr(), "dolzhytik: {failure}");
+}
+
+/// Why bytes do not decode.
 fn section_fault(fault: ReadFault) -> String {
     match fault {
-        ReadFault::Ended => "the bytes end before it does".into(),
-        ReadFault::TooLarge => "its size takes more than 32 bits, or five bytes".into(),
+        ReadFault::Ended => "unexpected end of input".into(),
+        ReadFault::NotShortest => "padded integer".into(),
+        ReadFault::TooLarge => "integer too large".into(),
+        ReadFault::UnknownTag => "invalid byte or value".into(),
+        ReadFault::UnknownOpcode => "unknown opcode".into(),
+        ReadFault::NotUtf8 => "invalid UTF-8".into(),
+        ReadFault::SizeMismatch => "size mismatch: bytes remain after the value".into(),
         ReadFault::Memory => AllocError.to_string(),
-        other => other.to_string(),
     }
 }
 
@@ -126,6 +141,18 @@ impl fmt::Display for Failure {
                 "{input}: section {number}, {name:?}, holds section indices or offsets that would no longer be right; \
                  strip it too"
             ),
+            // Memory has no offset in the module.
+            Failure::Section {
+                input,
+                number,
+                section,
+                fault: fault @ ReadFault::Memory,
+                ..
+            } => write!(
+                f,
+                "{input}: section {number} ({section}): {}",
+                section_fault(*fault)
+            ),
             Failure::Section {
                 input,
                 number,
@@ -137,6 +164,7 @@ impl fmt::Display for Failure {
                 "{input}: section {number} ({section}) at offset {offset:#x}: {}",
                 section_fault(*fault)
             ),
+            Failure::NoSection { input, section } => write!(f, "{input}: no section {section}"),
             Failure::NotText { recipe, line } => write!(f, "{recipe}: line {line}: not UTF-8"),
             Failure::Recipe {
                 recipe,

@@ -4,7 +4,7 @@ use crate::sizes::{Function, Sizes};
 use std::fmt::Write;
 
 /// A string of JSON, or `null`.
-fn string(text: Option<&str>) -> String {
+pub fn string(text: Option<&str>) -> String {
     let Some(text) = text else {
         return "null".into();
     };

@@ -1,9 +1,10 @@
 //! The sections of a module, with all their bytes.
+use crate::cursor::Cursor;
 use crate::failure::Failure;
 use crate::files::Input;
 use crate::found::Found;
 use dolzhytik::fallible::Global;
-use dolzhytik::reader::{ReadFault, outline};
+use dolzhytik::reader::{DecodeError, ReadFault, outline};
 use std::fmt;
 
 /// The length of the header of a module.
@@ -85,10 +86,26 @@ fn kind_name(id: u8) -> &'static str {
     }
 }
 
-impl Section<'_> {
+impl<'a> Section<'a> {
     /// What sections of its id are called.
     pub fn kind_name(&self) -> &'static str {
         kind_name(self.id)
+    }
+
+    /// Returns a cursor at the front of the payload.
+    pub fn cursor(&self) -> Cursor<'a> {
+        Cursor::new(self.payload, self.offset)
+    }
+
+    /// The failure of a decoder of the payload.
+    pub fn failure(&self, input: &Input, error: DecodeError) -> Failure {
+        Failure::Section {
+            input: input.clone(),
+            number: self.number,
+            section: self.to_string(),
+            offset: self.offset + self.payload.len() - error.left as usize,
+            fault: error.cause,
+        }
     }
 }
 

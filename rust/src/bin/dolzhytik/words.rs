@@ -8,6 +8,7 @@ use std::fmt;
 /// How the program is called, in short.
 pub const USAGE: &str = "\
 usage: dolzhytik outline FILE [--json]
+       dolzhytik dump FILE [--section NAME|ID].. [--json]
        dolzhytik size FILE [--functions N] [--json]
        dolzhytik strip FILE [--all | --debug | NAME..] [--keep NAME].. -o FILE
        dolzhytik shorten FILE -o FILE [--drop-offsets]
@@ -21,6 +22,8 @@ outline   prints a line for each section of a module: its number, id, offset, si
           offset is that of the payload in the file, in hexadecimal, and the size is that of the payload in bytes.
           There is a - for items if the section does not decode, in custom sections, and in those of ids past 13.
           Those of a type section are its entries: a recursion group is one.
+dump      prints the items of each section, and the instructions of each function: their offset in the file, their bytes,
+          their names and operands in the text format. Offsets in lines are hexadecimal.
 size      prints the size of each section in bytes and in percent, the largest first, and of the largest functions.
 strip     writes the module without its custom sections: all, or with --debug those of DWARF, or those of the names.
           It fails if a section that stays refers to sections that would be gone or elsewhere.
@@ -30,6 +33,8 @@ build     writes the module of a recipe, a text.
 -o FILE, --output FILE   the module that is written. The file is replaced as a whole, or not at all; it may be the input.
 --functions N            how many functions size prints, by default none.
 --keep NAME              a custom section that stays. There may be several.
+--section NAME|ID        a section that dump prints: its id, its name as outline has it, or the name of a custom section.
+                         There may be several. Without it, dump prints all.
 --json                   prints JSON, for other programs, with offsets and sizes in decimal.
 --drop-offsets           drops the custom sections that hold offsets: linking, reloc.*, .debug_*, metadata.code.*,
                          external_debug_info, build_id, sourceMappingURL. Without it, shorten fails if offsets in
@@ -54,6 +59,12 @@ pub enum Format {
 pub enum Command {
     Outline {
         input: Input,
+        format: Format,
+    },
+    Dump {
+        input: Input,
+        /// The names or ids of the sections to list, or none for all.
+        sections: Vec<String>,
         format: Format,
     },
     Shorten {
@@ -128,6 +139,7 @@ struct Options {
     output: Option<OsString>,
     functions: Option<OsString>,
     keep: Vec<OsString>,
+    section: Vec<OsString>,
     all: bool,
     debug: bool,
     drop_offsets: bool,
@@ -141,6 +153,7 @@ impl Options {
             ("-o", self.output.is_some()),
             ("--functions", self.functions.is_some()),
             ("--keep", !self.keep.is_empty()),
+            ("--section", !self.section.is_empty()),
             ("--all", self.all),
             ("--debug", self.debug),
             ("--drop-offsets", self.drop_offsets),
@@ -258,6 +271,17 @@ fn outline(words: Vec<OsString>, options: Options) -> Result<Command, Usage> {
     Ok(Command::Outline { input, format })
 }
 
+fn dump(words: Vec<OsString>, options: Options) -> Result<Command, Usage> {
+    let mut words = Words::of("dump", words, options, &["--section", "--json"])?;
+    let input = words.input()?;
+    words.end()?;
+    Ok(Command::Dump {
+        input,
+        format: words.options.format(),
+        sections: names(words.options.section)?,
+    })
+}
+
 fn size(words: Vec<OsString>, options: Options) -> Result<Command, Usage> {
     let mut words = Words::of("size", words, options, &["--functions", "--json"])?;
     let input = words.input()?;
@@ -308,6 +332,7 @@ fn command(mut words: Vec<OsString>, options: Options) -> Result<Command, Usage>
     let word = words.remove(0);
     match word.to_str() {
         Some("outline") => outline(words, options),
+        Some("dump") => dump(words, options),
         Some("size") => size(words, options),
         Some("strip") => strip(words, options),
         Some("shorten") => shorten(words, options),
@@ -351,6 +376,7 @@ pub fn read(mut words: impl Iterator<Item = OsString>) -> Result<Command, Usage>
                 set(&mut options.functions, "--functions", value("--functions")?)?
             }
             ("--keep", _) => options.keep.push(value("--keep")?),
+            ("--section", _) => options.section.push(value("--section")?),
             ("--all", true) => options.all = true,
             ("--debug", true) => options.debug = true,
             ("--drop-offsets", true) => options.drop_offsets = true,
