@@ -2,7 +2,7 @@
 use crate::program::{Answer, Folder};
 
 const USAGE: &str = "\
-usage: dolzhytik outline FILE [--json]
+usage: dolzhytik outline FILE [--why] [--strict] [--json]
        dolzhytik dump FILE [--section NAME|ID].. [--json]
        dolzhytik size FILE [--functions N] [--json]
        dolzhytik strip FILE [--all | --debug | NAME..] [--keep NAME].. -o FILE
@@ -45,7 +45,7 @@ fn errors() {
 
 #[test]
 fn missing_and_unexpected_arguments() {
-    for command in ["outline", "size"] {
+    for command in ["outline", "dump", "size"] {
         check(&[command], &format!("{command} needs a file"));
     }
     for command in ["strip", "shorten", "build"] {
@@ -73,6 +73,10 @@ fn options_of_other_commands() {
     let kept = ["shorten", "a", "-o", "b", "--keep", "c"];
     check(&kept, "shorten takes no --keep");
     check(&["size", "a", "--all"], "size takes no --all");
+    check(&["size", "a", "--why"], "size takes no --why");
+    check(&["dump", "a", "--strict"], "dump takes no --strict");
+    let section = ["outline", "a", "--section=b"];
+    check(&section, "outline takes no --section");
     check(&["outline", "a", "--debug"], "outline takes no --debug");
     let functions = ["strip", "a", "-o", "b", "--functions=1"];
     check(&functions, "strip takes no --functions");
@@ -108,6 +112,8 @@ fn help() {
         "--functions N ",
         "--keep NAME ",
         "--section NAME|ID ",
+        "--why ",
+        "--strict ",
         "--json ",
         "--drop-offsets ",
     ] {

@@ -3,8 +3,9 @@ use crate::dump;
 use crate::failure::Failure;
 use crate::files::{Input, Output};
 use crate::json;
+use crate::outline;
 use crate::progress::Progress;
-use crate::sections::{Section, no_module, sections_of};
+use crate::sections::{no_module, sections_of};
 use crate::sizes::Sizes;
 use crate::strip::{self, Choice, Stripped};
 use crate::words::{Command, Format, HELP, USAGE};
@@ -16,7 +17,7 @@ use std::io::{self, Write};
 /// Does what was asked for.
 pub fn run(command: Command) -> Result<(), Failure> {
     match command {
-        Command::Outline { input, format } => show_outline(&input, format),
+        Command::Outline { input, choice } => outline::show(&input, choice),
         Command::Shorten {
             input,
             output,
@@ -45,37 +46,6 @@ pub fn run(command: Command) -> Result<(), Failure> {
 
 fn print(text: &str) -> Result<(), Failure> {
     Output::Standard.write(text.as_bytes())
-}
-
-// ---- outlines
-
-/// The line of a section.
-fn table_line(section: &Section<'_>) -> String {
-    let items = section.items.map_or("-".into(), |items| items.to_string());
-    format!(
-        "{:>7} {:>3} {:>#10x} {:>10} {items:>10}  {section}\n",
-        section.number,
-        section.id,
-        section.offset,
-        section.payload.len(),
-    )
-}
-
-/// Prints a line for each section.
-fn show_outline(input: &Input, format: Format) -> Result<(), Failure> {
-    let bytes = input.read()?;
-    let progress = Progress::of(bytes.len());
-    progress.begin("reading");
-    let sections = sections_of(input, &bytes)?;
-    drop(progress);
-    match format {
-        Format::Json => print(&json::outline(&sections)),
-        Format::Table => {
-            let head = "section  id     offset       size      items  name\n";
-            let lines: String = sections.iter().map(table_line).collect();
-            print(&format!("{head}{lines}"))
-        }
-    }
 }
 
 // ---- sizes

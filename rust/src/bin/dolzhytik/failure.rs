@@ -58,6 +58,11 @@ pub enum Failure {
         input: Input,
         section: String,
     },
+    /// So many sections of known kinds do not decode.
+    Undecoded {
+        input: Input,
+        count: usize,
+    },
     /// A line of the recipe is no text.
     NotText {
         recipe: Input,
@@ -93,7 +98,7 @@ pub fn report(failure: &Failure) {
 }
 
 /// Why bytes do not decode.
-fn section_fault(fault: ReadFault) -> String {
+pub fn section_fault(fault: ReadFault) -> String {
     match fault {
         ReadFault::Ended => "unexpected end of input".into(),
         ReadFault::NotShortest => "padded integer".into(),
@@ -165,6 +170,12 @@ impl fmt::Display for Failure {
                 section_fault(*fault)
             ),
             Failure::NoSection { input, section } => write!(f, "{input}: no section {section}"),
+            Failure::Undecoded { input, count: 1 } => {
+                write!(f, "{input}: 1 section does not decode")
+            }
+            Failure::Undecoded { input, count } => {
+                write!(f, "{input}: {count} sections do not decode")
+            }
             Failure::NotText { recipe, line } => write!(f, "{recipe}: line {line}: not UTF-8"),
             Failure::Recipe {
                 recipe,

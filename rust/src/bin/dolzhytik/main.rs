@@ -8,6 +8,7 @@ mod found;
 mod json;
 #[rustfmt::skip]
 mod names;
+mod outline;
 mod progress;
 mod sections;
 mod sizes;

@@ -1,5 +1,6 @@
 //! The words after the program's name, and what they ask for.
 use crate::files::{Input, Output};
+use crate::outline;
 use crate::strip::{Choice, Selection};
 use dolzhytik::reader::Offsets;
 use std::ffi::OsString;
@@ -7,7 +8,7 @@ use std::fmt;
 
 /// How the program is called, in short.
 pub const USAGE: &str = "\
-usage: dolzhytik outline FILE [--json]
+usage: dolzhytik outline FILE [--why] [--strict] [--json]
        dolzhytik dump FILE [--section NAME|ID].. [--json]
        dolzhytik size FILE [--functions N] [--json]
        dolzhytik strip FILE [--all | --debug | NAME..] [--keep NAME].. -o FILE
@@ -21,7 +22,8 @@ pub const HELP: &str = "
 outline   prints a line for each section of a module: its number, id, offset, size, number of items, and name. The
           offset is that of the payload in the file, in hexadecimal, and the size is that of the payload in bytes.
           There is a - for items if the section does not decode, in custom sections, and in those of ids past 13.
-          Those of a type section are its entries: a recursion group is one.
+          Those of a type section are its entries: a recursion group is one. Sections of ids 1 to 13 that do not decode
+          are reported on standard error.
 dump      prints the items of each section, and the instructions of each function: their offset in the file, their bytes,
           their names and operands in the text format. Offsets in lines are hexadecimal.
 size      prints the size of each section in bytes and in percent, the largest first, and of the largest functions.
@@ -35,6 +37,8 @@ build     writes the module of a recipe, a text.
 --keep NAME              a custom section that stays. There may be several.
 --section NAME|ID        a section that dump prints: its id, its name as outline has it, or the name of a custom section.
                          There may be several. Without it, dump prints all.
+--why                    prints whether each section decodes as its kind, and if not, the cause and the offset in the file.
+--strict                 reports custom sections of known kinds too, and the status is 1 if a section does not decode.
 --json                   prints JSON, for other programs, with offsets and sizes in decimal.
 --drop-offsets           drops the custom sections that hold offsets: linking, reloc.*, .debug_*, metadata.code.*,
                          external_debug_info, build_id, sourceMappingURL. Without it, shorten fails if offsets in
@@ -59,7 +63,7 @@ pub enum Format {
 pub enum Command {
     Outline {
         input: Input,
-        format: Format,
+        choice: outline::Choice,
     },
     Dump {
         input: Input,
@@ -144,6 +148,8 @@ struct Options {
     debug: bool,
     drop_offsets: bool,
     json: bool,
+    why: bool,
+    strict: bool,
 }
 
 impl Options {
@@ -158,6 +164,8 @@ impl Options {
             ("--debug", self.debug),
             ("--drop-offsets", self.drop_offsets),
             ("--json", self.json),
+            ("--why", self.why),
+            ("--strict", self.strict),
         ];
         let mut others = given
             .into_iter()
@@ -264,11 +272,16 @@ impl Words {
 }
 
 fn outline(words: Vec<OsString>, options: Options) -> Result<Command, Usage> {
-    let mut words = Words::of("outline", words, options, &["--json"])?;
+    let taken = ["--why", "--strict", "--json"];
+    let mut words = Words::of("outline", words, options, &taken)?;
     let input = words.input()?;
     words.end()?;
-    let format = words.options.format();
-    Ok(Command::Outline { input, format })
+    let choice = outline::Choice {
+        format: words.options.format(),
+        why: words.options.why,
+        strict: words.options.strict,
+    };
+    Ok(Command::Outline { input, choice })
 }
 
 fn dump(words: Vec<OsString>, options: Options) -> Result<Command, Usage> {
@@ -381,6 +394,8 @@ pub fn read(mut words: impl Iterator<Item = OsString>) -> Result<Command, Usage>
             ("--debug", true) => options.debug = true,
             ("--drop-offsets", true) => options.drop_offsets = true,
             ("--json", true) => options.json = true,
+            ("--why", true) => options.why = true,
+            ("--strict", true) => options.strict = true,
             ("-h" | "--help", true) => return Ok(Command::Help),
             ("-V" | "--version", true) => return Ok(Command::Version),
             _ => return Err(Usage::UnknownOption(word)),

@@ -62,11 +62,6 @@ impl Display for Hex<'_> {
     }
 }
 
-/// A number of JSON, or `null`.
-fn number<T: Display>(number: Option<T>) -> String {
-    number.map_or("null".into(), |number| number.to_string())
-}
-
 /// Prints a listing.
 pub struct Listing<W: Write> {
     out: W,
@@ -160,9 +155,9 @@ impl<W: Write> Listing<W> {
                 self.out,
                 "{{\"kind\": \"{}\", \"index\": {}, \"name\": {}, \"offset\": {}, \"text\": {}}}",
                 item.kind,
-                number(item.index),
+                json::optional(item.index),
                 json::string(item.name),
-                number(item.offset),
+                json::optional(item.offset),
                 json::string(Some(&item.text)),
             );
         }
@@ -205,7 +200,7 @@ impl<W: Write> Listing<W> {
         if self.format == Format::Json {
             self.close(2)?;
             self.member()?;
-            let (name, ty) = (json::string(function.name), number(function.ty));
+            let (name, ty) = (json::string(function.name), json::optional(function.ty));
             self.open.push(false);
             return write!(
                 self.out,
