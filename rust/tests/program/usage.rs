@@ -6,7 +6,7 @@ usage: dolzhytik outline FILE [--why] [--strict] [--json]
        dolzhytik dump FILE [--section NAME|ID].. [--json]
        dolzhytik size FILE [--functions N] [--json]
        dolzhytik strip FILE [--all | --debug | NAME..] [--keep NAME].. -o FILE
-       dolzhytik shorten FILE -o FILE [--drop-offsets]
+       dolzhytik shorten FILE (-o FILE | --dry-run) [--drop-offsets]
        dolzhytik build RECIPE -o FILE
        dolzhytik --help | --version
 ";
@@ -80,6 +80,8 @@ fn options_of_other_commands() {
     check(&["outline", "a", "--debug"], "outline takes no --debug");
     let functions = ["strip", "a", "-o", "b", "--functions=1"];
     check(&functions, "strip takes no --functions");
+    let dry = ["build", "a", "-ob", "--dry-run"];
+    check(&dry, "build takes no --dry-run");
     let two = "strip takes only one of --all, --debug and names";
     check(&["strip", "a", "-ob", "--all", "--debug"], two);
     check(&["strip", "a", "-ob", "--all", "c"], two);
@@ -114,6 +116,7 @@ fn help() {
         "--section NAME|ID ",
         "--why ",
         "--strict ",
+        "--dry-run ",
         "--json ",
         "--drop-offsets ",
     ] {

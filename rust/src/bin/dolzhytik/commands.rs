@@ -5,13 +5,12 @@ use crate::files::{Input, Output};
 use crate::json;
 use crate::outline;
 use crate::progress::Progress;
-use crate::sections::{no_module, sections_of};
+use crate::shorten;
 use crate::sizes::Sizes;
 use crate::strip::{self, Choice, Stripped};
 use crate::words::{Command, Format, HELP, USAGE};
+use dolzhytik::fallible::Global;
 use dolzhytik::fallible::recipe::assemble;
-use dolzhytik::fallible::{self, Global};
-use dolzhytik::reader::{ModuleFault, Offsets, shorten_module};
 use std::io::{self, Write};
 
 /// Does what was asked for.
@@ -22,7 +21,8 @@ pub fn run(command: Command) -> Result<(), Failure> {
             input,
             output,
             offsets,
-        } => shorten(&input, &output, offsets),
+        } => shorten::shorten(&input, &output, offsets),
+        Command::SavingsOf { input, offsets } => shorten::dry_run(&input, offsets),
         Command::Dump {
             input,
             sections,
@@ -79,55 +79,6 @@ fn write_stripped(input: &Input, output: &Output, choice: &Choice) -> Result<(),
     let _ = writeln!(
         io::stderr(),
         "dolzhytik: {input}: {before} bytes before, {after} after; sections removed: {removed}"
-    );
-    Ok(())
-}
-
-// ---- shortening
-
-/// Why the module is not shortened: a section that holds offsets is named as an outline has it.
-fn why_not(input: &Input, bytes: &[u8], fault: ModuleFault) -> Failure {
-    match fault {
-        ModuleFault::Section { number, fault } => no_module(input, bytes, number, fault),
-        ModuleFault::Offsets { number } => match sections_of(input, bytes) {
-            Ok(sections) => Failure::Offsets {
-                input: input.clone(),
-                number,
-                name: sections[number - 1].name.unwrap_or_default().into(),
-            },
-            Err(failure) => failure,
-        },
-    }
-}
-
-/// How many sections of the module are not in the one that was made of it.
-fn count_left_out(input: &Input, bytes: &[u8], shortened: &[u8]) -> Result<usize, Failure> {
-    Ok(sections_of(input, bytes)?.len() - sections_of(input, shortened)?.len())
-}
-
-/// Writes the module in its fewest bytes, and tells what that came to.
-fn shorten(input: &Input, output: &Output, offsets: Offsets) -> Result<(), Failure> {
-    let bytes = input.read()?;
-    let progress = Progress::of(bytes.len());
-    progress.begin("shortening");
-    let mut shortened = fallible::Vec::new(Global);
-    let kept = shorten_module(&bytes, offsets, &mut shortened)
-        .map_err(|fault| why_not(input, &bytes, fault))?;
-    let left_out = match offsets {
-        Offsets::Refuse => String::new(),
-        Offsets::LeaveOut => {
-            let count = count_left_out(input, &bytes, &shortened)?;
-            format!("; left out: {count}")
-        }
-    };
-    progress.begin("writing");
-    output.write(&shortened)?;
-    drop(progress);
-    let (before, after) = (bytes.len(), shortened.len());
-    // The module stands there, whoever hears of it.
-    let _ = writeln!(
-        io::stderr(),
-        "dolzhytik: {input}: {before} bytes before, {after} after; sections kept as they were: {kept}{left_out}"
     );
     Ok(())
 }

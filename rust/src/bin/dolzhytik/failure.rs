@@ -135,7 +135,7 @@ impl fmt::Display for Failure {
             } => write!(
                 f,
                 "{input}: section {number}, {name:?}, holds offsets that would no longer lead where they do; \
-                 --drop-offsets leaves such sections out"
+                 --drop-offsets leaves such sections out, and --dry-run prints what that saves"
             ),
             Failure::References {
                 input,

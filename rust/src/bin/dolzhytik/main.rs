@@ -11,6 +11,7 @@ mod names;
 mod outline;
 mod progress;
 mod sections;
+mod shorten;
 mod sizes;
 mod strip;
 mod words;

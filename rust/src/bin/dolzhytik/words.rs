@@ -12,7 +12,7 @@ usage: dolzhytik outline FILE [--why] [--strict] [--json]
        dolzhytik dump FILE [--section NAME|ID].. [--json]
        dolzhytik size FILE [--functions N] [--json]
        dolzhytik strip FILE [--all | --debug | NAME..] [--keep NAME].. -o FILE
-       dolzhytik shorten FILE -o FILE [--drop-offsets]
+       dolzhytik shorten FILE (-o FILE | --dry-run) [--drop-offsets]
        dolzhytik build RECIPE -o FILE
        dolzhytik --help | --version
 ";
@@ -43,6 +43,7 @@ build     writes the module of a recipe, a text.
 --drop-offsets           drops the custom sections that hold offsets: linking, reloc.*, .debug_*, metadata.code.*,
                          external_debug_info, build_id, sourceMappingURL. Without it, shorten fails if offsets in
                          one of them would no longer be right.
+--dry-run                prints the bytes that each section would save, and writes no module. The status is that of shorten.
 -h, --help               prints this.
 -V, --version            prints the version.
 
@@ -74,6 +75,11 @@ pub enum Command {
     Shorten {
         input: Input,
         output: Output,
+        offsets: Offsets,
+    },
+    /// `shorten --dry-run`.
+    SavingsOf {
+        input: Input,
         offsets: Offsets,
     },
     Size {
@@ -150,6 +156,7 @@ struct Options {
     json: bool,
     why: bool,
     strict: bool,
+    dry_run: bool,
 }
 
 impl Options {
@@ -166,6 +173,7 @@ impl Options {
             ("--json", self.json),
             ("--why", self.why),
             ("--strict", self.strict),
+            ("--dry-run", self.dry_run),
         ];
         let mut others = given
             .into_iter()
@@ -317,11 +325,15 @@ fn strip(words: Vec<OsString>, options: Options) -> Result<Command, Usage> {
 }
 
 fn shorten(words: Vec<OsString>, options: Options) -> Result<Command, Usage> {
-    let mut words = Words::of("shorten", words, options, &["-o", "--drop-offsets"])?;
+    let taken = ["-o", "--drop-offsets", "--dry-run"];
+    let mut words = Words::of("shorten", words, options, &taken)?;
     let input = words.input()?;
     words.end()?;
-    let output = words.output()?;
     let offsets = words.options.offsets();
+    if words.options.dry_run {
+        return Ok(Command::SavingsOf { input, offsets });
+    }
+    let output = words.output()?;
     Ok(Command::Shorten {
         input,
         output,
@@ -396,6 +408,7 @@ pub fn read(mut words: impl Iterator<Item = OsString>) -> Result<Command, Usage>
             ("--json", true) => options.json = true,
             ("--why", true) => options.why = true,
             ("--strict", true) => options.strict = true,
+            ("--dry-run", true) => options.dry_run = true,
             ("-h" | "--help", true) => return Ok(Command::Help),
             ("-V" | "--version", true) => return Ok(Command::Version),
             _ => return Err(Usage::UnknownOption(word)),
