@@ -2,13 +2,14 @@
 use crate::dump;
 use crate::failure::Failure;
 use crate::files::{Input, Output};
+use crate::help;
 use crate::json;
 use crate::outline;
 use crate::progress::Progress;
 use crate::shorten;
 use crate::sizes::Sizes;
 use crate::strip::{self, Choice, Stripped};
-use crate::words::{Command, Format, HELP, USAGE};
+use crate::words::{Command, Format};
 use dolzhytik::fallible::Global;
 use dolzhytik::fallible::recipe::assemble;
 use std::io::{self, Write};
@@ -39,7 +40,8 @@ pub fn run(command: Command) -> Result<(), Failure> {
             choice,
         } => write_stripped(&input, &output, &choice),
         Command::Build { recipe, output } => build(&recipe, &output),
-        Command::Help => print(&format!("{USAGE}{HELP}")),
+        Command::Help(None) => print(&help::help()),
+        Command::Help(Some(manual)) => print(&manual.help()),
         Command::Version => print(concat!("dolzhytik ", env!("CARGO_PKG_VERSION"), "\n")),
     }
 }
@@ -67,6 +69,7 @@ fn show_sizes(input: &Input, functions: usize, format: Format) -> Result<(), Fai
 
 /// Writes the module without the sections of the choice, and prints how many these were.
 fn write_stripped(input: &Input, output: &Output, choice: &Choice) -> Result<(), Failure> {
+    output.accept_module()?;
     let bytes = input.read()?;
     let progress = Progress::of(bytes.len());
     progress.begin("reading");
@@ -98,6 +101,7 @@ fn text_of<'a>(recipe: &Input, bytes: &'a [u8]) -> Result<&'a str, Failure> {
 
 /// Writes the module of a recipe.
 fn build(recipe: &Input, output: &Output) -> Result<(), Failure> {
+    output.accept_module()?;
     let bytes = recipe.read()?;
     let progress = Progress::of(bytes.len());
     progress.begin("building");

@@ -1,7 +1,8 @@
 //! Why there is no answer, and how that is told.
 use crate::files::{Input, Output};
 use crate::found::Found;
-use crate::words::{USAGE, Usage};
+use crate::help::usage;
+use crate::words::Usage;
 use dolzhytik::fallible::AllocError;
 use dolzhytik::fallible::recipe::RecipeFault;
 use dolzhytik::reader::ReadFault;
@@ -20,6 +21,8 @@ pub enum Failure {
         output: Output,
         error: io::Error,
     },
+    /// A module would be written to a terminal.
+    Terminal,
     /// The file does not begin with the header of a module.
     NoHeader {
         input: Input,
@@ -79,7 +82,7 @@ impl Failure {
     pub fn is_closed_pipe(&self) -> bool {
         matches!(
             self,
-            Failure::Unwritten { output: Output::Standard, error } if error.kind() == io::ErrorKind::BrokenPipe
+            Failure::Unwritten { output: Output::Standard | Output::Forced, error } if error.kind() == io::ErrorKind::BrokenPipe
         )
     }
 
@@ -114,9 +117,13 @@ pub fn section_fault(fault: ReadFault) -> String {
 impl fmt::Display for Failure {
     fn fmt(&self, f: &mut fmt::Formatter<'_>) -> fmt::Result {
         match self {
-            Failure::Usage(usage) => write!(f, "{usage}\n{}", USAGE.trim_end()),
+            Failure::Usage(why) => write!(f, "{why}\n{}", usage().trim_end()),
             Failure::Unread { input, error } => write!(f, "{input}: {error}"),
             Failure::Unwritten { output, error } => write!(f, "{output}: {error}"),
+            Failure::Terminal => write!(
+                f,
+                "standard output is a terminal: write the module to a file, or give --force"
+            ),
             Failure::NoHeader { input, found } => write!(f, "{input}: {found}"),
             Failure::NoModule {
                 input,

@@ -5,6 +5,7 @@ mod dump;
 mod failure;
 mod files;
 mod found;
+mod help;
 mod json;
 #[rustfmt::skip]
 mod names;

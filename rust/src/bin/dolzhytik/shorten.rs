@@ -58,6 +58,7 @@ fn left_out(savings: &Savings<'_>, offsets: Offsets) -> String {
 
 /// Writes the module in its minimal encoding, and prints its sizes on standard error.
 pub fn shorten(input: &Input, output: &Output, offsets: Offsets) -> Result<(), Failure> {
+    output.accept_module()?;
     let bytes = input.read()?;
     let progress = Progress::of(bytes.len());
     progress.begin("shortening");
