@@ -47,9 +47,7 @@ fn tables() {
     );
 }
 
-#[test]
-fn names_of_all_ids() {
-    let ids = "      1   0        0xa          0          -  custom
+const IDS: &str = "      1   0        0xa          0          -  custom
       2   1        0xc          0          -  type
       3   2        0xe          0          -  import
       4   3       0x10          0          -  function
@@ -66,6 +64,9 @@ fn names_of_all_ids() {
      15  14       0x26          0          -  unknown
      16 255       0x28          0          -  unknown
 ";
+
+#[test]
+fn names_of_all_ids() {
     let sections = (0..=14).chain([255]).map(|id| format!("{id:02x} 00"));
     let sections: Vec<_> = sections.collect();
     let sections: Vec<_> = sections.iter().map(String::as_str).collect();
@@ -93,7 +94,7 @@ fn names_of_all_ids() {
         .map(|(number, kind)| ended(number, kind))
         .collect();
     let reported: Vec<_> = reported.iter().map(String::as_str).collect();
-    check_reported("ids", &sections, ids, &reported);
+    check_reported("ids", &sections, IDS, &reported);
 }
 
 #[test]

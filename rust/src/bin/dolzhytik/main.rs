@@ -1,4 +1,5 @@
-//! Shows the sections of modules, their sizes and their code, removes custom sections, minimizes modules, and builds them from recipes.
+//! Shows the sections of modules, their sizes and their code, removes custom sections, minimizes
+//! modules, and builds them from recipes.
 mod commands;
 mod cursor;
 mod dump;

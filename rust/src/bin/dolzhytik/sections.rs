@@ -1,6 +1,6 @@
 //! The sections of a module, with all their bytes.
 use crate::cursor::Cursor;
-use crate::failure::Failure;
+use crate::failure::{BadSection, Failure};
 use crate::files::Input;
 use crate::found::Found;
 use dolzhytik::fallible::{
@@ -110,13 +110,13 @@ impl<'a> Section<'a> {
 
     /// The failure of a decoder of the payload.
     pub fn failure(&self, input: &Input, error: DecodeError) -> Failure {
-        Failure::Section {
+        Failure::Section(BadSection {
             input: input.clone(),
             number: self.number,
             section: self.to_string(),
             offset: self.offset_of(error),
             fault: error.cause,
-        }
+        })
     }
 }
 

@@ -1,5 +1,5 @@
 //! Writes modules in their minimal encoding, or prints what that would save.
-use crate::failure::Failure;
+use crate::failure::{Failure, NamedSection};
 use crate::files::{Input, Output};
 use crate::progress::Progress;
 use crate::sections::{HEADER, Section, no_module, sections_of};
@@ -20,11 +20,11 @@ fn why_not(input: &Input, bytes: &[u8], fault: ModuleFault) -> Failure {
     match fault {
         ModuleFault::Section { number, fault } => no_module(input, bytes, number, fault),
         ModuleFault::Offsets { number } => match sections_of(input, bytes) {
-            Ok(sections) => Failure::Offsets {
+            Ok(sections) => Failure::Offsets(NamedSection {
                 input: input.clone(),
                 number,
                 name: sections[number - 1].name.unwrap_or_default().into(),
-            },
+            }),
             Err(failure) => failure,
         },
     }
@@ -36,8 +36,8 @@ fn shortened(bytes: &[u8], offsets: Offsets) -> Result<Shortened, ModuleFault> {
     Ok(Shortened { module, kept })
 }
 
-/// The line on standard error. Where nobody can be told, the module is written all the same.
-fn tell(input: &Input, bytes: &[u8], shortened: &Shortened, more: &str) {
+/// Prints the sizes on standard error. It is no error if that fails: the module is written.
+fn report(input: &Input, bytes: &[u8], shortened: &Shortened, more: &str) {
     let (before, after, kept) = (bytes.len(), shortened.module.len(), shortened.kept);
     let _ = writeln!(
         io::stderr(),
@@ -67,7 +67,7 @@ pub fn shorten(input: &Input, output: &Output, offsets: Offsets) -> Result<(), F
     progress.begin("writing");
     output.write(&shortened.module)?;
     drop(progress);
-    tell(input, &bytes, &shortened, &left_out(&savings, offsets));
+    report(input, &bytes, &shortened, &left_out(&savings, offsets));
     Ok(())
 }
 
@@ -93,7 +93,7 @@ pub fn dry_run(input: &Input, offsets: Offsets) -> Result<(), Failure> {
         return Err(why_not(input, &bytes, fault));
     }
     let more = left_out(&savings, offsets) + "; not written";
-    tell(input, &bytes, &shortened, &more);
+    report(input, &bytes, &shortened, &more);
     Ok(())
 }
 

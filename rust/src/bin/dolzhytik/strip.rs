@@ -1,6 +1,6 @@
 //! Removes custom sections.
 use crate::cursor::Cursor;
-use crate::failure::Failure;
+use crate::failure::{Failure, NamedSection};
 use crate::files::Input;
 use crate::sections::{HEADER, Section, sections_of};
 use dolzhytik::reader::{DecodeError, LinkItem, Symbol};
@@ -57,11 +57,11 @@ pub fn strip(input: &Input, module: &[u8], choice: &Choice) -> Result<Stripped, 
             .filter(|(_, removed)| !**removed)
     };
     if let Some((section, _)) = stay().find(|(section, _)| breaks(section, &sections, &removed)) {
-        return Err(Failure::References {
+        return Err(Failure::References(NamedSection {
             input: input.clone(),
             number: section.number,
             name: section.name.unwrap_or_default().into(),
-        });
+        }));
     }
     let mut stripped = module[..HEADER].to_vec();
     stay().for_each(|(section, _)| stripped.extend(section.bytes));

@@ -180,10 +180,10 @@ impl<'a, W: Write> Items<'_, 'a, W> {
     fn members<T>(
         &mut self,
         members: &[T],
-        told: impl Fn(&T) -> (Option<&'a str>, String),
+        shown: impl Fn(&T) -> (Option<&'a str>, String),
     ) -> Result<(), Stop> {
         (0..).zip(members).try_for_each(|(index, member)| {
-            let (name, text) = told(member);
+            let (name, text) = shown(member);
             Ok(self.listing.item(&Item {
                 offset: None,
                 kind: "item",
