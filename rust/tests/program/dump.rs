@@ -224,7 +224,8 @@ fn operands_of_memory() {
         ("3f 00", "memory.size 0"),
         ("fc08 05 01", "memory.init 1 5"),
         ("fc0a 01 02", "memory.copy 1 2"),
-        ("fe03 00", "atomic.fence seq_cst"),
+        ("fe03 00", "atomic.fence"),
+        ("fe03 01", "atomic.fence acq_rel"),
     ]);
 }
 

@@ -40,6 +40,8 @@ impl Display for Operands<'_> {
                 reference(f, flags & 1 != 0, *from)?;
                 reference(f, flags & 2 != 0, *to)
             }
+            // `atomic.fence`: the text format has this ordering without a word.
+            (Op::Prefixed(0xFE, 3), [Arg::Order(Ordering::SeqCst)]) => Ok(()),
             (_, args) => args.iter().try_for_each(|arg| operand(f, arg)),
         }
     }
