@@ -45,17 +45,6 @@ fn report(input: &Input, bytes: &[u8], shortened: &Shortened, more: &str) {
     );
 }
 
-/// How many sections are left out, if that is asked for.
-fn left_out(savings: &Savings<'_>, offsets: Offsets) -> String {
-    match offsets {
-        Offsets::Refuse => String::new(),
-        Offsets::LeaveOut => {
-            let count = savings.0.iter().filter(|it| it.after.is_none()).count();
-            format!("; left out: {count}")
-        }
-    }
-}
-
 /// Writes the module in its minimal encoding, and prints its sizes on standard error.
 pub fn shorten(input: &Input, output: &Output, offsets: Offsets) -> Result<(), Failure> {
     output.accept_module()?;
@@ -63,11 +52,14 @@ pub fn shorten(input: &Input, output: &Output, offsets: Offsets) -> Result<(), F
     let progress = Progress::of(bytes.len());
     progress.begin("shortening");
     let shortened = shortened(&bytes, offsets).map_err(|fault| why_not(input, &bytes, fault))?;
-    let savings = Savings::of(input, &bytes, &shortened)?;
+    let left_out = match offsets {
+        Offsets::Refuse => String::new(),
+        Offsets::LeaveOut => Savings::of(input, &bytes, &shortened)?.left_out(),
+    };
     progress.begin("writing");
     output.write(&shortened.module)?;
     drop(progress);
-    report(input, &bytes, &shortened, &left_out(&savings, offsets));
+    report(input, &bytes, &shortened, &left_out);
     Ok(())
 }
 
@@ -92,7 +84,11 @@ pub fn dry_run(input: &Input, offsets: Offsets) -> Result<(), Failure> {
     if let Some(fault) = refused {
         return Err(why_not(input, &bytes, fault));
     }
-    let more = left_out(&savings, offsets) + "; not written";
+    let left_out = match offsets {
+        Offsets::Refuse => String::new(),
+        Offsets::LeaveOut => savings.left_out(),
+    };
+    let more = left_out + "; not written";
     report(input, &bytes, &shortened, &more);
     Ok(())
 }
@@ -122,6 +118,14 @@ impl<'a> Savings<'a> {
         };
         let before = sections_of(input, bytes)?;
         Ok(Savings(before.into_iter().map(saving).collect()))
+    }
+}
+
+impl Savings<'_> {
+    /// How many sections are left out.
+    fn left_out(&self) -> String {
+        let count = self.0.iter().filter(|it| it.after.is_none()).count();
+        format!("; left out: {count}")
     }
 }
 
