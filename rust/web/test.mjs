@@ -415,7 +415,7 @@ test('what is no module', () => {
 
 test('sizes that are none', () => {
   const large = moduleOf('0e 00', '0e ffffffff 1f');
-  const cause = 'its size takes more than 32 bits, or five bytes';
+  const cause = 'integer too large';
   for (const call of [outline, minimize, (module) => items(module, 0)]) {
     checkError(() => call(large), `section 2: ${cause}`, cause, { offset: 10 });
   }
@@ -431,7 +431,7 @@ test('a module that ends early', () => {
       assert.deepEqual(outline(module), ADD_OUTLINE.slice(0, number - 1));
       continue;
     }
-    const cause = 'the bytes end before it does';
+    const cause = 'unexpected end of input';
     for (const call of [outline, minimize, (module) => items(module, 0)]) {
       checkError(() => call(module), `section ${number}: ${cause}`, cause, { offset: start });
     }

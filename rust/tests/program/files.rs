@@ -144,6 +144,45 @@ fn a_full_device_is_told() {
     assert_eq!(fault, Answer::fault(&format!("/dev/full: {error}")));
 }
 
+/// The command of util-linux makes a terminal, on which lines end with `\r\n`.
+#[cfg(target_os = "linux")]
+#[test]
+fn no_module_is_written_to_a_terminal() {
+    let folder = Folder::new("terminal");
+    folder.write("a.wasm", module(&PADDED));
+    folder.write("a.txt", "func 0");
+    let program = env!("CARGO_BIN_EXE_dolzhytik");
+    let call = |words: &str| {
+        let mut command = Command::new("script");
+        command.args(["-qec", &format!("'{program}' {words}"), "/dev/null"]);
+        command
+            .current_dir(folder.path(""))
+            .stdin(std::process::Stdio::null());
+        let output = command.output().unwrap();
+        (
+            String::from_utf8_lossy(&output.stdout).into_owned(),
+            output.status.code(),
+        )
+    };
+    let refused =
+        "dolzhytik: standard output is a terminal: write the module to a file, or give --force\r\n";
+    for words in [
+        "shorten a.wasm -o -",
+        "strip a.wasm -o-",
+        "build a.txt --output=-",
+    ] {
+        assert_eq!(call(words), (refused.into(), Some(1)), "{words}");
+    }
+    let (forced, status) = call("build a.txt -o - --force");
+    assert_eq!(
+        (&*forced, status),
+        ("\0asm\u{1}\0\0\0\u{3}\u{2}\u{1}\0", Some(0))
+    );
+    let (outline, status) = call("outline a.wasm");
+    assert!(outline.starts_with("section  id "), "{outline}");
+    assert_eq!(status, Some(0));
+}
+
 #[test]
 fn outputs_that_nobody_reads() {
     let folder = Folder::new("closed");

@@ -1,5 +1,7 @@
 //! Tests of the program `dolzhytik`: each command, each error and each text.
 mod build;
+mod completions;
+mod dump;
 mod files;
 mod outline;
 mod program;

@@ -4,14 +4,26 @@ use crate::samples::{PADDED, PADDED_NAME, UNREAD, bytes_of, custom, module};
 
 const HEAD: &str = "section  id     offset       size      items  name\n";
 
+/// Checks the lines, and those on standard error, which are after the name of the module.
 #[track_caller]
-fn check(folder: &str, sections: &[&str], lines: &str) {
+fn check_reported(folder: &str, sections: &[&str], lines: &str, reported: &[&str]) {
     let folder = Folder::new(folder);
     folder.write("a.wasm", module(sections));
-    let expected = Answer::of(format!("{HEAD}{lines}"));
-    assert_eq!(folder.call(&["outline", "a.wasm"], b""), expected);
+    let expected = |name: &str| Answer {
+        err: reported
+            .iter()
+            .map(|line| format!("dolzhytik: {name}: {line}\n"))
+            .collect(),
+        ..Answer::of(format!("{HEAD}{lines}"))
+    };
+    assert_eq!(folder.call(&["outline", "a.wasm"], b""), expected("a.wasm"));
     let standard = folder.call(&["outline", "-"], &module(sections));
-    assert_eq!(standard, expected);
+    assert_eq!(standard, expected("standard input"));
+}
+
+#[track_caller]
+fn check(folder: &str, sections: &[&str], lines: &str) {
+    check_reported(folder, sections, lines, &[]);
 }
 
 #[test]
@@ -27,16 +39,15 @@ fn tables() {
       6   3       0x46          1          -  function
       7   0       0x49         13          -  custom \".debug_info\"
 ";
-    check(
+    check_reported(
         "table",
         &[types, functions, exports, code, PADDED_NAME, UNREAD, &debug],
         lines,
+        &["section 6 (function) at offset 0x47: unexpected end of input"],
     );
 }
 
-#[test]
-fn names_of_all_ids() {
-    let ids = "      1   0        0xa          0          -  custom
+const IDS: &str = "      1   0        0xa          0          -  custom
       2   1        0xc          0          -  type
       3   2        0xe          0          -  import
       4   3       0x10          0          -  function
@@ -53,10 +64,37 @@ fn names_of_all_ids() {
      15  14       0x26          0          -  unknown
      16 255       0x28          0          -  unknown
 ";
+
+#[test]
+fn names_of_all_ids() {
     let sections = (0..=14).chain([255]).map(|id| format!("{id:02x} 00"));
     let sections: Vec<_> = sections.collect();
     let sections: Vec<_> = sections.iter().map(String::as_str).collect();
-    check("ids", &sections, ids);
+    let ended = |number: usize, kind: &str| {
+        let offset = 8 + 2 * number;
+        format!("section {number} ({kind}) at offset {offset:#x}: unexpected end of input")
+    };
+    let kinds = [
+        "type",
+        "import",
+        "function",
+        "table",
+        "memory",
+        "global",
+        "export",
+        "start",
+        "element",
+        "code",
+        "data",
+        "data count",
+        "tag",
+    ];
+    let reported: Vec<_> = (2..)
+        .zip(kinds)
+        .map(|(number, kind)| ended(number, kind))
+        .collect();
+    let reported: Vec<_> = reported.iter().map(String::as_str).collect();
+    check_reported("ids", &sections, IDS, &reported);
 }
 
 #[test]
@@ -89,9 +127,9 @@ fn faults() {
     );
     check(b" \n(module)", "text, and no binary module");
     check(b";; a module", "text, and no binary module");
-    let ended = "section 2: the bytes end before it does";
+    let ended = "section 2: unexpected end of input";
     check(&module(&[PADDED[0], "03 03 01 00"]), ended);
-    let too_large = "section 1: its size takes more than 32 bits, or five bytes";
+    let too_large = "section 1: integer too large";
     check(&module(&["03 808080808000"]), too_large);
     check(&module(&["03 ffffffff1f"]), too_large);
 }
@@ -106,9 +144,103 @@ fn json() {
     };
     check(&[], "[]\n");
     let lines = r#"[
-  {"section": 1, "id": 1, "kind": "type", "name": null, "offset": 14, "size": 7, "items": 1},
-  {"section": 2, "id": 0, "kind": "custom", "name": "a\"\\\u000a\u007fé", "offset": 23, "size": 8, "items": null}
+  {"section": 1, "id": 1, "kind": "type", "name": null, "offset": 14, "size": 7, "items": 1, "decodes": true},
+  {"section": 2, "id": 0, "kind": "custom", "name": "a\"\\\u000a\u007fé", "offset": 23, "size": 8, "items": null, "decodes": null}
 ]
 "#;
     check(&[PADDED[0], &custom("a\"\\\n\u{7f}\u{e9}", "")], lines);
+}
+
+/// Sections that decode and that do not: of a number too large, of a byte that is no kind, of an
+/// unknown opcode, and custom ones.
+const BROKEN: [&str; 8] = [
+    "03 02 01 00",
+    "03 06 01 ffffffff1f",
+    "07 05 01 01 66 09 00",
+    "0a 05 01 03 00 ff 0b",
+    "00 08 04 6e616d65 01 05 01",
+    "00 0b 09 70726f647563657273 00",
+    "00 02 01 61",
+    "00 02 05 61",
+];
+
+const WHY: &str = r#"section  id     offset       size      items  decodes  name
+      1   3        0xa          2          1      yes  function
+      2   3        0xe          6          -       no  function: integer too large at 0x13
+      3   7       0x16          5          -       no  export: invalid byte or value at 0x19
+      4  10       0x1d          5          -       no  code: unknown opcode at 0x20
+      5   0       0x24          8          -       no  custom "name": unexpected end of input at 0x2c
+      6   0       0x2e         11          -      yes  custom "producers"
+      7   0       0x3b          2          -        -  custom "a"
+      8   0       0x3f          2          -       no  custom: unexpected end of input at 0x41
+"#;
+
+const REPORTED: [&str; 3] = [
+    "section 2 (function) at offset 0x13: integer too large",
+    "section 3 (export) at offset 0x19: invalid byte or value",
+    "section 4 (code) at offset 0x20: unknown opcode",
+];
+
+/// The lines on standard error.
+fn told(lines: &[&str]) -> String {
+    lines
+        .iter()
+        .map(|line| format!("dolzhytik: standard input: {line}\n"))
+        .collect()
+}
+
+#[test]
+fn why() {
+    let folder = Folder::new("outline_why");
+    let expected = Answer {
+        err: told(&REPORTED),
+        ..Answer::of(WHY)
+    };
+    assert_eq!(
+        folder.call(&["outline", "--why", "-"], &module(&BROKEN)),
+        expected
+    );
+    let text = r#"[
+  {"section": 1, "id": 3, "kind": "function", "name": null, "offset": 10, "size": 3, "items": null, "decodes": false, "error": {"cause": "size mismatch: bytes remain after the value", "offset": 12}},
+  {"section": 2, "id": 0, "kind": "custom", "name": "a", "offset": 15, "size": 2, "items": null, "decodes": null, "error": null}
+]
+"#;
+    let answer = folder.call(
+        &["outline", "--why", "--json", "-"],
+        &module(&["03 03 01 00 05", BROKEN[6]]),
+    );
+    let mismatch =
+        "section 1 (function) at offset 0xc: size mismatch: bytes remain after the value";
+    let expected = Answer {
+        err: told(&[mismatch]),
+        ..Answer::of(text)
+    };
+    assert_eq!(answer, expected);
+}
+
+#[test]
+fn strict() {
+    let folder = Folder::new("outline_strict");
+    let call =
+        |sections: &[&str]| folder.call(&["outline", "-", "--why", "--strict"], &module(sections));
+    let custom = [
+        "section 5 (custom \"name\") at offset 0x2c: unexpected end of input",
+        "section 8 (custom) at offset 0x41: unexpected end of input",
+    ];
+    let last = ["5 sections do not decode"];
+    let expected = Answer {
+        err: told(&[&REPORTED[..], &custom, &last].concat()),
+        status: 1,
+        ..Answer::of(WHY)
+    };
+    assert_eq!(call(&BROKEN), expected);
+    let one = call(&[BROKEN[4], BROKEN[6]]);
+    let lines = [
+        "section 1 (custom \"name\") at offset 0x12: unexpected end of input",
+        "1 section does not decode",
+    ];
+    assert_eq!((one.err, one.status), (told(&lines), 1));
+    // Those of unknown kinds may hold any bytes.
+    let fine = call(&[BROKEN[0], BROKEN[5], BROKEN[6], "0e 01 ff"]);
+    assert_eq!((&*fine.err, fine.status), ("", 0));
 }

@@ -2,7 +2,8 @@
 use crate::program::{Answer, Folder};
 use crate::samples::{PADDED, SHORT, UNREAD, custom, module};
 
-const REFUSED: &str = "holds offsets that would no longer lead where they do; --drop-offsets leaves such sections out";
+const REFUSED: &str = "holds offsets that would no longer lead where they do; \
+    --drop-offsets leaves such sections out, and --dry-run prints what that saves";
 
 #[test]
 fn padded_numbers_get_shorter() {
@@ -94,6 +95,7 @@ fn faults() {
             &["shorten", "a.wasm", "-o", "b.wasm"][..],
             &["shorten", "a.wasm", "-o", "b.wasm", "--drop-offsets"],
             &["shorten", "a.wasm", "-o", "-"],
+            &["shorten", "a.wasm", "--dry-run"],
         ] {
             let fault = folder.call(words, b"");
             assert_eq!(fault, Answer::fault(&format!("a.wasm: {why}")));
@@ -106,5 +108,75 @@ fn faults() {
         "no module: it does not begin with 00 61 73 6d 01 00 00 00",
     );
     let ended = module(&[PADDED[0], "03 03 01 00"]);
-    check(&ended, "section 2: the bytes end before it does");
+    check(&ended, "section 2: unexpected end of input");
+}
+
+const SAVINGS: &str = "    before      after      saved  name
+         8          8          0  header
+        13          9          4  type
+         7          4          3  function
+         7          7          0  export
+        17         11          6  code
+";
+
+#[test]
+fn dry_runs_write_nothing() {
+    let folder = Folder::new("dry");
+    folder.write("a.wasm", module(&PADDED));
+    let all = "        52         39         13  all\n";
+    let sizes = "52 bytes before, 39 after; sections kept as they were: 0; not written";
+    let told = |name: &str| Answer {
+        out: format!("{SAVINGS}{all}").into(),
+        ..Answer::told(&format!("{name}: {sizes}"))
+    };
+    let words = ["shorten", "a.wasm", "--dry-run"];
+    assert_eq!(folder.call(&words, b""), told("a.wasm"));
+    let words = ["shorten", "--dry-run", "-o", "b.wasm", "-"];
+    assert_eq!(
+        folder.call(&words, &module(&PADDED)),
+        told("standard input")
+    );
+    assert_eq!(folder.names(), ["a.wasm"]);
+}
+
+#[test]
+fn dry_runs_of_modules_with_offsets() {
+    let folder = Folder::new("dry_offsets");
+    let [types, functions, exports, code] = PADDED;
+    let (relocations, debug) = (custom("reloc.CODE", "03 00"), custom(".debug_info", "ff"));
+    // A custom section that stays between those that are dropped, and one that does not decode.
+    let other = custom("other", "");
+    let sections = [
+        types,
+        functions,
+        exports,
+        code,
+        &relocations,
+        &other,
+        &debug,
+        UNREAD,
+    ];
+    let lines = "        15          0         15  custom \"reloc.CODE\", dropped
+         8          8          0  custom \"other\"
+        15          0         15  custom \".debug_info\", dropped
+         4          4          0  function
+        94         51         43  all
+";
+    let words = ["shorten", "-", "--dry-run", "--drop-offsets"];
+    let sizes =
+        "94 bytes before, 51 after; sections kept as they were: 1; left out: 2; not written";
+    let told = Answer {
+        out: format!("{SAVINGS}{lines}").into(),
+        ..Answer::told(&format!("standard input: {sizes}"))
+    };
+    assert_eq!(folder.call(&words, &module(&sections)), told);
+    // Without the option the same is printed, and the status is that of the command.
+    let refused = Answer {
+        out: format!("{SAVINGS}{lines}").into(),
+        ..Answer::fault(&format!(
+            "standard input: section 5, \"reloc.CODE\", {REFUSED}"
+        ))
+    };
+    assert_eq!(folder.call(&words[..3], &module(&sections)), refused);
+    assert!(folder.names().is_empty());
 }

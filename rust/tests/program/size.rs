@@ -79,9 +79,9 @@ fn faults() {
         let fault = folder.call(&["size", "-", "--functions", "1"], &module(sections));
         assert_eq!(fault, Answer::fault(&format!("standard input: {why}")));
     };
-    let ended = "section 1 (code) at offset 0xe: the bytes end before it does";
+    let ended = "section 1 (code) at offset 0xe: unexpected end of input";
     check(&["0a 04 02 02 00 0b"], ended);
-    let unknown = "section 1 (import) at offset 0xf: UnknownTag";
+    let unknown = "section 1 (import) at offset 0xf: invalid byte or value";
     check(&["02 07 01 01 61 01 62 09 00"], unknown);
     // Names that do not decode are none.
     let answer = folder.call(

@@ -2,11 +2,13 @@
 use crate::program::{Answer, Folder};
 
 const USAGE: &str = "\
-usage: dolzhytik outline FILE [--json]
+usage: dolzhytik outline FILE [--why] [--strict] [--json]
+       dolzhytik dump FILE [--section NAME|ID].. [--json]
        dolzhytik size FILE [--functions N] [--json]
-       dolzhytik strip FILE [--all | --debug | NAME..] [--keep NAME].. -o FILE
-       dolzhytik shorten FILE -o FILE [--drop-offsets]
-       dolzhytik build RECIPE -o FILE
+       dolzhytik strip FILE [--all | --debug | NAME..] [--keep NAME].. -o FILE [--force]
+       dolzhytik shorten FILE (-o FILE | --dry-run) [--drop-offsets] [--force]
+       dolzhytik build RECIPE -o FILE [--force]
+       dolzhytik help [COMMAND]
        dolzhytik --help | --version
 ";
 
@@ -44,7 +46,7 @@ fn errors() {
 
 #[test]
 fn missing_and_unexpected_arguments() {
-    for command in ["outline", "size"] {
+    for command in ["outline", "dump", "size"] {
         check(&[command], &format!("{command} needs a file"));
     }
     for command in ["strip", "shorten", "build"] {
@@ -55,6 +57,9 @@ fn missing_and_unexpected_arguments() {
     check(&["size", "a", "b"], "unexpected argument: b");
     check(&["shorten", "a", "b", "-o", "c"], "unexpected argument: b");
     check(&["build", "a", "b", "-o", "c"], "unexpected argument: b");
+    check(&["help", "size", "b"], "unexpected argument: b");
+    check(&["help", "sizes"], "no such command: sizes");
+    check(&["help", "--json"], "help takes no --json");
     // After `--` there are no options.
     check(&["outline", "--", "a", "-h"], "unexpected argument: -h");
 }
@@ -72,9 +77,16 @@ fn options_of_other_commands() {
     let kept = ["shorten", "a", "-o", "b", "--keep", "c"];
     check(&kept, "shorten takes no --keep");
     check(&["size", "a", "--all"], "size takes no --all");
+    check(&["size", "a", "--why"], "size takes no --why");
+    check(&["dump", "a", "--strict"], "dump takes no --strict");
+    let section = ["outline", "a", "--section=b"];
+    check(&section, "outline takes no --section");
     check(&["outline", "a", "--debug"], "outline takes no --debug");
     let functions = ["strip", "a", "-o", "b", "--functions=1"];
     check(&functions, "strip takes no --functions");
+    check(&["dump", "a", "--force"], "dump takes no --force");
+    let dry = ["build", "a", "-ob", "--dry-run"];
+    check(&dry, "build takes no --dry-run");
     let two = "strip takes only one of --all, --debug and names";
     check(&["strip", "a", "-ob", "--all", "--debug"], two);
     check(&["strip", "a", "-ob", "--all", "c"], two);
@@ -98,13 +110,22 @@ fn help() {
     assert!(text.starts_with(USAGE));
     for line in [
         "outline   ",
+        "dump   ",
         "size   ",
         "strip   ",
         "shorten   ",
         "build   ",
+        "help   ",
         "-o FILE, --output FILE ",
+        "--force ",
         "--functions N ",
+        "--all ",
+        "--debug ",
         "--keep NAME ",
+        "--section NAME|ID ",
+        "--why ",
+        "--strict ",
+        "--dry-run ",
         "--json ",
         "--drop-offsets ",
     ] {
@@ -112,7 +133,47 @@ fn help() {
     }
     assert!(text.ends_with("not proved on this machine.\n"));
     assert_eq!(help, Answer::of(text));
-    for words in [&["-h"][..], &["shorten", "--help"], &["help"]] {
+    for words in [
+        &["-h"][..],
+        &["help"],
+        &["shortn", "-h"],
+        &["--help", "--hex"],
+    ] {
         assert_eq!(folder.call(words, b""), help);
+    }
+}
+
+#[test]
+fn help_of_commands() {
+    let folder = Folder::new("help_of");
+    let text = "usage: dolzhytik size FILE [--functions N] [--json]
+
+prints the size of each section in bytes and in percent, the largest first, and of the largest functions.
+
+--functions N            how many functions size prints, by default none.
+--json                   prints JSON, for other programs, with offsets and sizes in decimal.
+-h, --help               prints this.
+
+A file - is standard input or standard output. The status is 0 for success, 1 for an error, and 2 for wrong arguments.
+
+Compiled by rustc from the proved source, and not proved on this machine.
+";
+    for words in [
+        &["size", "--help"][..],
+        &["size", "a", "-h"],
+        &["size", "--json", "-h", "--hex"],
+        &["--help", "size"],
+        &["help", "size"],
+    ] {
+        assert_eq!(folder.call(words, b""), Answer::of(text), "{words:?}");
+    }
+    let usage = USAGE.replace("usage:", "      ");
+    for command in [
+        "outline", "dump", "size", "strip", "shorten", "build", "help",
+    ] {
+        let answer = folder.call(&[command, "-h"], b"");
+        let help = String::from_utf8(answer.out).unwrap();
+        let first = help.lines().next().unwrap().replace("usage:", "      ");
+        assert!(usage.lines().any(|line| line == first), "{first}");
     }
 }

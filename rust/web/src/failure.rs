@@ -54,10 +54,8 @@ impl fmt::Display for Cause<'_> {
         match self {
             Cause::Memory => AllocError.fmt(f),
             Cause::NoHeader(found) => found.fmt(f),
-            Cause::NoSection(ReadFault::Ended) => f.write_str("the bytes end before it does"),
-            Cause::NoSection(ReadFault::TooLarge) => {
-                f.write_str("its size takes more than 32 bits, or five bytes")
-            }
+            Cause::NoSection(ReadFault::Ended) => f.write_str("unexpected end of input"),
+            Cause::NoSection(ReadFault::TooLarge) => f.write_str("integer too large"),
             Cause::NoSection(fault) | Cause::NoItems(fault) => fault.fmt(f),
             Cause::Offsets(_) => f.write_str(
                 "holds offsets that would no longer lead where they do; \

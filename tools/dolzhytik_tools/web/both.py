@@ -57,7 +57,7 @@ class Both:
         if done.returncode == 0:
             return done.stdout.decode(), None
         message = done.stderr.decode().removeprefix(f'dolzhytik: {path}: ').removesuffix('\n')
-        return None, message.replace('--drop-offsets', 'dropOffsets')
+        return None, message.replace('--drop-offsets', 'dropOffsets').replace(', and --dry-run prints what that saves', '')
 
     def outline(self, path: pathlib.Path) -> bool:
         """Compares outlines of a module."""

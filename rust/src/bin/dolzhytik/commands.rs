@@ -1,26 +1,34 @@
 //! What the program does.
+use crate::dump;
 use crate::failure::Failure;
 use crate::files::{Input, Output};
+use crate::help;
 use crate::json;
+use crate::outline;
 use crate::progress::Progress;
-use crate::sections::{Section, no_module, sections_of};
+use crate::shorten;
 use crate::sizes::Sizes;
 use crate::strip::{self, Choice, Stripped};
-use crate::words::{Command, Format, HELP, USAGE};
+use crate::words::{Command, Format};
+use dolzhytik::fallible::Global;
 use dolzhytik::fallible::recipe::assemble;
-use dolzhytik::fallible::{self, Global};
-use dolzhytik::reader::{ModuleFault, Offsets, shorten_module};
 use std::io::{self, Write};
 
 /// Does what was asked for.
 pub fn run(command: Command) -> Result<(), Failure> {
     match command {
-        Command::Outline { input, format } => show_outline(&input, format),
+        Command::Outline { input, choice } => outline::show(&input, choice),
         Command::Shorten {
             input,
             output,
             offsets,
-        } => shorten(&input, &output, offsets),
+        } => shorten::shorten(&input, &output, offsets),
+        Command::SavingsOf { input, offsets } => shorten::dry_run(&input, offsets),
+        Command::Dump {
+            input,
+            sections,
+            format,
+        } => dump::dump(&input, &input.read()?, &sections, format),
         Command::Size {
             input,
             functions,
@@ -32,44 +40,14 @@ pub fn run(command: Command) -> Result<(), Failure> {
             choice,
         } => write_stripped(&input, &output, &choice),
         Command::Build { recipe, output } => build(&recipe, &output),
-        Command::Help => print(&format!("{USAGE}{HELP}")),
+        Command::Help(None) => print(&help::help()),
+        Command::Help(Some(manual)) => print(&manual.help()),
         Command::Version => print(concat!("dolzhytik ", env!("CARGO_PKG_VERSION"), "\n")),
     }
 }
 
 fn print(text: &str) -> Result<(), Failure> {
     Output::Standard.write(text.as_bytes())
-}
-
-// ---- outlines
-
-/// The line of a section.
-fn table_line(section: &Section<'_>) -> String {
-    let items = section.items.map_or("-".into(), |items| items.to_string());
-    format!(
-        "{:>7} {:>3} {:>#10x} {:>10} {items:>10}  {section}\n",
-        section.number,
-        section.id,
-        section.offset,
-        section.payload.len(),
-    )
-}
-
-/// Prints a line for each section.
-fn show_outline(input: &Input, format: Format) -> Result<(), Failure> {
-    let bytes = input.read()?;
-    let progress = Progress::of(bytes.len());
-    progress.begin("reading");
-    let sections = sections_of(input, &bytes)?;
-    drop(progress);
-    match format {
-        Format::Json => print(&json::outline(&sections)),
-        Format::Table => {
-            let head = "section  id     offset       size      items  name\n";
-            let lines: String = sections.iter().map(table_line).collect();
-            print(&format!("{head}{lines}"))
-        }
-    }
 }
 
 // ---- sizes
@@ -91,6 +69,7 @@ fn show_sizes(input: &Input, functions: usize, format: Format) -> Result<(), Fai
 
 /// Writes the module without the sections of the choice, and prints how many these were.
 fn write_stripped(input: &Input, output: &Output, choice: &Choice) -> Result<(), Failure> {
+    output.accept_module()?;
     let bytes = input.read()?;
     let progress = Progress::of(bytes.len());
     progress.begin("reading");
@@ -103,55 +82,6 @@ fn write_stripped(input: &Input, output: &Output, choice: &Choice) -> Result<(),
     let _ = writeln!(
         io::stderr(),
         "dolzhytik: {input}: {before} bytes before, {after} after; sections removed: {removed}"
-    );
-    Ok(())
-}
-
-// ---- shortening
-
-/// Why the module is not shortened: a section that holds offsets is named as an outline has it.
-fn why_not(input: &Input, bytes: &[u8], fault: ModuleFault) -> Failure {
-    match fault {
-        ModuleFault::Section { number, fault } => no_module(input, bytes, number, fault),
-        ModuleFault::Offsets { number } => match sections_of(input, bytes) {
-            Ok(sections) => Failure::Offsets {
-                input: input.clone(),
-                number,
-                name: sections[number - 1].name.unwrap_or_default().into(),
-            },
-            Err(failure) => failure,
-        },
-    }
-}
-
-/// How many sections of the module are not in the one that was made of it.
-fn count_left_out(input: &Input, bytes: &[u8], shortened: &[u8]) -> Result<usize, Failure> {
-    Ok(sections_of(input, bytes)?.len() - sections_of(input, shortened)?.len())
-}
-
-/// Writes the module in its fewest bytes, and tells what that came to.
-fn shorten(input: &Input, output: &Output, offsets: Offsets) -> Result<(), Failure> {
-    let bytes = input.read()?;
-    let progress = Progress::of(bytes.len());
-    progress.begin("shortening");
-    let mut shortened = fallible::Vec::new(Global);
-    let kept = shorten_module(Global, &bytes, offsets, &mut shortened)
-        .map_err(|fault| why_not(input, &bytes, fault))?;
-    let left_out = match offsets {
-        Offsets::Refuse => String::new(),
-        Offsets::LeaveOut => {
-            let count = count_left_out(input, &bytes, &shortened)?;
-            format!("; left out: {count}")
-        }
-    };
-    progress.begin("writing");
-    output.write(&shortened)?;
-    drop(progress);
-    let (before, after) = (bytes.len(), shortened.len());
-    // The module stands there, whoever hears of it.
-    let _ = writeln!(
-        io::stderr(),
-        "dolzhytik: {input}: {before} bytes before, {after} after; sections kept as they were: {kept}{left_out}"
     );
     Ok(())
 }
@@ -171,6 +101,7 @@ fn text_of<'a>(recipe: &Input, bytes: &'a [u8]) -> Result<&'a str, Failure> {
 
 /// Writes the module of a recipe.
 fn build(recipe: &Input, output: &Output) -> Result<(), Failure> {
+    output.accept_module()?;
     let bytes = recipe.read()?;
     let progress = Progress::of(bytes.len());
     progress.begin("building");

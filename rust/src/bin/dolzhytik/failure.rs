@@ -1,13 +1,15 @@
-//! Why there is no answer, and how that is told.
+//! Errors of the program, and their messages.
 use crate::files::{Input, Output};
 use crate::found::Found;
-use crate::words::{USAGE, Usage};
+use crate::help::usage;
+use crate::words::Usage;
 use dolzhytik::fallible::AllocError;
 use dolzhytik::fallible::recipe::RecipeFault;
 use dolzhytik::reader::ReadFault;
-use std::{fmt, io};
+use std::fmt;
+use std::io::{self, Write};
 
-/// Why there is no answer.
+/// An error of the program.
 #[derive(Debug)]
 pub enum Failure {
     Usage(Usage),
@@ -19,6 +21,8 @@ pub enum Failure {
         output: Output,
         error: io::Error,
     },
+    /// A module would be written to a terminal.
+    Terminal,
     /// The file does not begin with the header of a module.
     NoHeader {
         input: Input,
@@ -31,26 +35,20 @@ pub enum Failure {
         fault: ReadFault,
     },
     /// A section holds offsets that would no longer lead where they do.
-    Offsets {
-        input: Input,
-        number: usize,
-        name: String,
-    },
+    Offsets(NamedSection),
     /// A section holds indices or offsets that would no longer be right.
-    References {
-        input: Input,
-        number: usize,
-        name: String,
-    },
+    References(NamedSection),
     /// A section does not decode.
-    Section {
+    Section(BadSection),
+    /// No section of the module has this name or id.
+    NoSection {
         input: Input,
-        number: usize,
-        /// What an outline calls it.
         section: String,
-        /// Where in the module, in bytes.
-        offset: usize,
-        fault: ReadFault,
+    },
+    /// So many sections of known kinds do not decode.
+    Undecoded {
+        input: Input,
+        count: usize,
     },
     /// A line of the recipe is no text.
     NotText {
@@ -63,12 +61,55 @@ pub enum Failure {
     },
 }
 
+/// A custom section.
+#[derive(Debug)]
+pub struct NamedSection {
+    pub input: Input,
+    pub number: usize,
+    pub name: String,
+}
+
+impl fmt::Display for NamedSection {
+    fn fmt(&self, f: &mut fmt::Formatter<'_>) -> fmt::Result {
+        let NamedSection {
+            input,
+            number,
+            name,
+        } = self;
+        write!(f, "{input}: section {number}, {name:?},")
+    }
+}
+
+/// A section that does not decode.
+#[derive(Debug)]
+pub struct BadSection {
+    pub input: Input,
+    pub number: usize,
+    /// What an outline calls it.
+    pub section: String,
+    /// Where in the module, in bytes.
+    pub offset: usize,
+    pub fault: ReadFault,
+}
+
+impl fmt::Display for BadSection {
+    fn fmt(&self, f: &mut fmt::Formatter<'_>) -> fmt::Result {
+        let BadSection { input, section, .. } = self;
+        write!(f, "{input}: section {} ({section})", self.number)?;
+        // Memory has no offset in the module.
+        if self.fault != ReadFault::Memory {
+            write!(f, " at offset {:#x}", self.offset)?;
+        }
+        write!(f, ": {}", section_fault(self.fault))
+    }
+}
+
 impl Failure {
     /// Whether nobody reads what was to be printed.
     pub fn is_closed_pipe(&self) -> bool {
         matches!(
             self,
-            Failure::Unwritten { output: Output::Standard, error } if error.kind() == io::ErrorKind::BrokenPipe
+            Failure::Unwritten { output: Output::Standard | Output::Forced, error } if error.kind() == io::ErrorKind::BrokenPipe
         )
     }
 
@@ -81,62 +122,61 @@ impl Failure {
     }
 }
 
-/// Why a section is none, or why it is not known.
-fn section_fault(fault: ReadFault) -> String {
+/// Prints a failure on standard error. If that fails, the exit status still says it.
+pub fn report(failure: &Failure) {
+    let _ = writeln!(io::stderr(), "dolzhytik: {failure}");
+}
+
+/// Why bytes do not decode.
+pub fn section_fault(fault: ReadFault) -> String {
     match fault {
-        ReadFault::Ended => "the bytes end before it does".into(),
-        ReadFault::TooLarge => "its size takes more than 32 bits, or five bytes".into(),
+        ReadFault::Ended => "unexpected end of input".into(),
+        ReadFault::NotShortest => "padded integer".into(),
+        ReadFault::TooLarge => "integer too large".into(),
+        ReadFault::UnknownTag => "invalid byte or value".into(),
+        ReadFault::UnknownOpcode => "unknown opcode".into(),
+        ReadFault::NotUtf8 => "invalid UTF-8".into(),
+        ReadFault::SizeMismatch => "size mismatch: bytes remain after the value".into(),
         ReadFault::Memory => AllocError.to_string(),
-        other => other.to_string(),
     }
 }
 
 impl fmt::Display for Failure {
     fn fmt(&self, f: &mut fmt::Formatter<'_>) -> fmt::Result {
         match self {
-            Failure::Usage(usage) => write!(f, "{usage}\n{}", USAGE.trim_end()),
+            Failure::Usage(why) => write!(f, "{why}\n{}", usage().trim_end()),
             Failure::Unread { input, error } => write!(f, "{input}: {error}"),
             Failure::Unwritten { output, error } => write!(f, "{output}: {error}"),
+            Failure::Terminal => write!(
+                f,
+                "standard output is a terminal: write the module to a file, or give --force"
+            ),
             Failure::NoHeader { input, found } => write!(f, "{input}: {found}"),
             Failure::NoModule {
                 input,
-                number: 0,
-                fault,
-            } => write!(f, "{input}: {}", section_fault(*fault)),
-            Failure::NoModule {
-                input,
                 number,
                 fault,
-            } => write!(f, "{input}: section {number}: {}", section_fault(*fault)),
-            Failure::Offsets {
-                input,
-                number,
-                name,
-            } => write!(
+            } => {
+                let header = *number == 0;
+                let section = (!header).then(|| format!("section {number}: "));
+                let (section, cause) = (section.unwrap_or_default(), section_fault(*fault));
+                write!(f, "{input}: {section}{cause}")
+            }
+            Failure::Offsets(section) => write!(
                 f,
-                "{input}: section {number}, {name:?}, holds offsets that would no longer lead where they do; \
-                 --drop-offsets leaves such sections out"
+                "{section} holds offsets that would no longer lead where they do; \
+                 --drop-offsets leaves such sections out, and --dry-run prints what that saves"
             ),
-            Failure::References {
-                input,
-                number,
-                name,
-            } => write!(
+            Failure::References(section) => write!(
                 f,
-                "{input}: section {number}, {name:?}, holds section indices or offsets that would no longer be right; \
-                 strip it too"
+                "{section} holds section indices or offsets that would no longer be right; strip it too"
             ),
-            Failure::Section {
-                input,
-                number,
-                section,
-                offset,
-                fault,
-            } => write!(
-                f,
-                "{input}: section {number} ({section}) at offset {offset:#x}: {}",
-                section_fault(*fault)
-            ),
+            Failure::Section(section) => write!(f, "{section}"),
+            Failure::NoSection { input, section } => write!(f, "{input}: no section {section}"),
+            Failure::Undecoded { input, count } => {
+                let do_not = if *count == 1 { " does" } else { "s do" };
+                write!(f, "{input}: {count} section{do_not} not decode")
+            }
             Failure::NotText { recipe, line } => write!(f, "{recipe}: line {line}: not UTF-8"),
             Failure::Recipe {
                 recipe,
@@ -179,6 +219,15 @@ mod tests {
         check(header, "standard input: out of memory");
         let section = no_module(2, ReadFault::Memory);
         check(section, "standard input: section 2: out of memory");
+        let bad = BadSection {
+            input: Input::Standard,
+            number: 3,
+            section: "code".into(),
+            offset: 7,
+            fault: ReadFault::Memory,
+        };
+        let bad = Failure::Section(bad);
+        check(bad, "standard input: section 3 (code): out of memory");
         let line = recipe(3, RecipeCause::Memory);
         check(line, "a.txt: line 3: out of memory");
     }

@@ -3,7 +3,7 @@ use crate::failure::Failure;
 use std::ffi::OsString;
 use std::fmt;
 use std::fs::{self, File, OpenOptions, Permissions};
-use std::io::{self, ErrorKind, Read, Write};
+use std::io::{self, ErrorKind, IsTerminal, Read, Write};
 use std::path::{Path, PathBuf};
 use std::process;
 
@@ -18,6 +18,8 @@ pub enum Input {
 #[derive(Clone, PartialEq, Eq, Debug)]
 pub enum Output {
     Standard,
+    /// Standard output, even for a module on a terminal.
+    Forced,
     File(PathBuf),
 }
 
@@ -53,7 +55,7 @@ impl fmt::Display for Input {
 impl fmt::Display for Output {
     fn fmt(&self, f: &mut fmt::Formatter<'_>) -> fmt::Result {
         match self {
-            Output::Standard => f.write_str("standard output"),
+            Output::Standard | Output::Forced => f.write_str("standard output"),
             Output::File(path) => write!(f, "{}", path.display()),
         }
     }
@@ -80,10 +82,19 @@ fn read_standard() -> io::Result<Vec<u8>> {
 }
 
 impl Output {
+    /// Fails if a module would be written to a terminal, which nobody can read. Call it before the
+    /// module is made.
+    pub fn accept_module(&self) -> Result<(), Failure> {
+        if *self == Output::Standard && io::stdout().is_terminal() {
+            return Err(Failure::Terminal);
+        }
+        Ok(())
+    }
+
     /// Writes all bytes. A file has all of them then, or is as it was.
     pub fn write(&self, bytes: &[u8]) -> Result<(), Failure> {
         let written = match self {
-            Output::Standard => write_standard(bytes),
+            Output::Standard | Output::Forced => write_standard(bytes),
             Output::File(path) => write_file(path, bytes),
         };
         written.map_err(|error| Failure::Unwritten {

@@ -1,10 +1,12 @@
 //! Outlines and sizes as JSON.
-use crate::sections::Section;
+use crate::failure::section_fault;
+use crate::outline::Row;
+use crate::sections::{Decoded, Section};
 use crate::sizes::{Function, Sizes};
 use std::fmt::Write;
 
 /// A string of JSON, or `null`.
-fn string(text: Option<&str>) -> String {
+pub fn string(text: Option<&str>) -> String {
     let Some(text) = text else {
         return "null".into();
     };
@@ -24,7 +26,7 @@ fn string(text: Option<&str>) -> String {
 }
 
 /// A list, a line an item.
-fn list<T>(items: &[T], item: fn(&T) -> String) -> String {
+fn list<T>(items: &[T], item: impl Fn(&T) -> String) -> String {
     let items: Vec<String> = items.iter().map(item).collect();
     match items.len() {
         0 => "[]".into(),
@@ -32,24 +34,48 @@ fn list<T>(items: &[T], item: fn(&T) -> String) -> String {
     }
 }
 
-fn outlined(section: &Section<'_>) -> String {
-    let items = section
-        .items
-        .map_or("null".into(), |items| items.to_string());
+/// A number or a boolean of JSON, or `null`.
+pub fn optional<T: ToString>(value: Option<T>) -> String {
+    value.map_or("null".into(), |value| value.to_string())
+}
+
+/// Why a section does not decode, or `null`.
+fn error(row: &Row<'_>) -> String {
+    let error = row.error().map(|error| {
+        let (cause, offset) = (section_fault(error.cause), row.section.offset_of(error));
+        format!("{{\"cause\": \"{cause}\", \"offset\": {offset}}}")
+    });
+    optional(error)
+}
+
+fn outlined(row: &Row<'_>, why: bool) -> String {
+    let section = &row.section;
+    let decodes = match row.decoded {
+        Decoded::Yes => Some(true),
+        Decoded::No(_) => Some(false),
+        Decoded::UnknownKind => None,
+    };
+    let why = if why {
+        format!(", \"error\": {}", error(row))
+    } else {
+        String::new()
+    };
     format!(
-        "{{\"section\": {}, \"id\": {}, \"kind\": \"{}\", \"name\": {}, \"offset\": {}, \"size\": {}, \"items\": {items}}}",
+        "{{\"section\": {}, \"id\": {}, \"kind\": \"{}\", \"name\": {}, \"offset\": {}, \"size\": {}, \"items\": {}, \"decodes\": {}{why}}}",
         section.number,
         section.id,
         section.kind_name(),
         string(section.name),
         section.offset,
         section.payload.len(),
+        optional(section.items),
+        optional(decodes),
     )
 }
 
-/// The outline of a module.
-pub fn outline(sections: &[Section<'_>]) -> String {
-    list(sections, outlined) + "\n"
+/// The outline of a module, with the errors of sections if asked for.
+pub fn outline(rows: &[Row<'_>], why: bool) -> String {
+    list(rows, |row| outlined(row, why)) + "\n"
 }
 
 fn section(section: &Section<'_>) -> String {

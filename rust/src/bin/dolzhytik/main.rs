@@ -1,18 +1,25 @@
-//! Shows the sections of modules and their sizes, removes custom sections, minimizes modules, and builds them from recipes.
+//! Shows the sections of modules, their sizes and their code, removes custom sections, minimizes
+//! modules, and builds them from recipes.
 mod commands;
+mod cursor;
+mod dump;
 mod failure;
 mod files;
 mod found;
+mod help;
 mod json;
+#[rustfmt::skip]
+mod names;
+mod outline;
 mod progress;
 mod sections;
+mod shorten;
 mod sizes;
 mod strip;
 mod words;
 
 use failure::Failure;
 use std::env;
-use std::io::{self, Write};
 use std::process::ExitCode;
 
 fn main() -> ExitCode {
@@ -24,8 +31,7 @@ fn main() -> ExitCode {
         // Whoever reads what is printed needs no more of it.
         Err(failure) if failure.is_closed_pipe() => ExitCode::SUCCESS,
         Err(failure) => {
-            // Where nobody can be told, the status is left.
-            let _ = writeln!(io::stderr(), "dolzhytik: {failure}");
+            failure::report(&failure);
             ExitCode::from(failure.status())
         }
     }

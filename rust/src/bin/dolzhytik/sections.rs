@@ -1,9 +1,16 @@
 //! The sections of a module, with all their bytes.
-use crate::failure::Failure;
+use crate::cursor::Cursor;
+use crate::failure::{BadSection, Failure};
 use crate::files::Input;
 use crate::found::Found;
-use dolzhytik::fallible::Global;
-use dolzhytik::reader::{ReadFault, outline};
+use dolzhytik::fallible::{
+    Export, Global, Imports, MemoryType, TagType, read_hints, read_instances, read_links,
+    read_modules, read_names, read_process, read_producers, read_stack,
+};
+use dolzhytik::reader::{
+    Body, DecodeError, Dropped, ElementItem, GlobalItem, ReadFault, Segment, Skip, Standard,
+    TableItem, TypeEntry, outline, read_whole, skip_many,
+};
 use std::fmt;
 
 /// The length of the header of a module.
@@ -85,10 +92,103 @@ fn kind_name(id: u8) -> &'static str {
     }
 }
 
-impl Section<'_> {
+impl<'a> Section<'a> {
     /// What sections of its id are called.
     pub fn kind_name(&self) -> &'static str {
         kind_name(self.id)
+    }
+
+    /// Returns a cursor at the front of the payload.
+    pub fn cursor(&self) -> Cursor<'a> {
+        Cursor::new(self.payload, self.offset)
+    }
+
+    /// Returns the offset in the module of an error of a decoder of the payload.
+    pub fn offset_of(&self, error: DecodeError) -> usize {
+        self.offset + self.payload.len() - error.left as usize
+    }
+
+    /// The failure of a decoder of the payload.
+    pub fn failure(&self, input: &Input, error: DecodeError) -> Failure {
+        Failure::Section(BadSection {
+            input: input.clone(),
+            number: self.number,
+            section: self.to_string(),
+            offset: self.offset_of(error),
+            fault: error.cause,
+        })
+    }
+}
+
+/// Whether a payload decodes as the section's kind, in the standard's grammar.
+#[derive(Clone, Copy, PartialEq, Eq, Debug)]
+pub enum Decoded {
+    Yes,
+    No(DecodeError),
+    /// The id is past 13, or the name of the custom section selects no kind.
+    UnknownKind,
+}
+
+impl From<Result<(), DecodeError>> for Decoded {
+    fn from(decoded: Result<(), DecodeError>) -> Self {
+        decoded.map_or_else(Decoded::No, |()| Decoded::Yes)
+    }
+}
+
+/// Skips the members of a vector that is all of the bytes.
+fn skip<'a, T: Skip<'a, Global, Standard>>(bytes: &'a [u8]) -> Result<(), DecodeError> {
+    let (_count, rest) = skip_many::<T, Global, Standard>(bytes, Global)?;
+    Cursor::new(rest, 0).finish()
+}
+
+impl<'a> Section<'a> {
+    /// Decodes the payload, and keeps nothing.
+    pub fn decoded(&self) -> Decoded {
+        match (self.id, self.items) {
+            (1..=13, Some(_)) => Decoded::Yes,
+            (1..=13, None) => self.decode_items().into(),
+            (0, _) => self.decode_custom(),
+            _ => Decoded::UnknownKind,
+        }
+    }
+
+    fn decode_items(&self) -> Result<(), DecodeError> {
+        let bytes = self.payload;
+        match self.id {
+            1 => skip::<Dropped<TypeEntry>>(bytes),
+            2 => skip::<Imports<'a>>(bytes),
+            3 => skip::<Dropped<u32>>(bytes),
+            4 => skip::<TableItem>(bytes),
+            5 => skip::<Dropped<MemoryType>>(bytes),
+            6 => skip::<GlobalItem>(bytes),
+            7 => skip::<Dropped<Export<'a>>>(bytes),
+            9 => skip::<ElementItem>(bytes),
+            10 => skip::<Body>(bytes),
+            11 => skip::<Segment<'a>>(bytes),
+            13 => skip::<Dropped<TagType>>(bytes),
+            // The start and data count sections are a number.
+            _ => read_whole::<u32, Global, Standard>(bytes, Global).map(drop),
+        }
+    }
+
+    fn decode_custom(&self) -> Decoded {
+        let bytes = self.payload;
+        let decoded = match self.name {
+            Some("name") => read_names::<Global, Standard>(bytes, Global).map(drop),
+            Some("linking") => read_links::<Global, Standard>(bytes, Global).map(drop),
+            Some("producers") => read_producers::<Global, Standard>(bytes, Global).map(drop),
+            Some("metadata.code.branch_hint") => {
+                read_hints::<Global, Standard>(bytes, Global).map(drop)
+            }
+            Some("core") => read_process::<Global, Standard>(bytes, Global).map(drop),
+            Some("coremodules") => read_modules::<Global, Standard>(bytes, Global).map(drop),
+            Some("coreinstances") => read_instances::<Global, Standard>(bytes, Global).map(drop),
+            Some("corestack") => read_stack::<Global, Standard>(bytes, Global).map(drop),
+            Some(_) => return Decoded::UnknownKind,
+            // It begins with no name.
+            None => self.cursor().read::<&str>().map(drop),
+        };
+        decoded.into()
     }
 }
 

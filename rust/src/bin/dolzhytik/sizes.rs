@@ -1,9 +1,10 @@
 //! The sizes of sections and of function bodies.
+use crate::cursor::Cursor;
 use crate::failure::Failure;
 use crate::files::Input;
 use crate::sections::{HEADER, Section, sections_of};
-use dolzhytik::fallible::{EntityType, Global, Imports};
-use dolzhytik::reader::{DecodeError, NameItem, Readable, Standard};
+use dolzhytik::fallible::{EntityType, Imports};
+use dolzhytik::reader::{DecodeError, NameItem};
 use std::cmp::Reverse;
 use std::collections::HashMap;
 use std::fmt::{self, Display};
@@ -102,46 +103,20 @@ fn largest<'a>(
 fn decoded<'a, T>(
     input: &Input,
     section: Option<Section<'a>>,
-    decode: fn(&'a [u8]) -> Result<T, DecodeError>,
+    decode: fn(Cursor<'a>) -> Result<T, DecodeError>,
 ) -> Result<Option<T>, Failure> {
     let decode = |section: Section<'a>| {
-        decode(section.payload).map_err(|error| Failure::Section {
-            input: input.clone(),
-            number: section.number,
-            section: section.to_string(),
-            offset: section.offset + section.payload.len() - error.left as usize,
-            fault: error.cause,
-        })
+        decode(section.cursor()).map_err(|error| section.failure(input, error))
     };
     section.map(decode).transpose()
 }
 
-fn read<'a, T: Readable<'a, Global, Standard>>(
-    bytes: &'a [u8],
-) -> Result<(T, &'a [u8]), DecodeError> {
-    T::read(bytes, Global)
-}
-
-/// Decodes a vector, and passes each member on.
-fn each<'a, T: Readable<'a, Global, Standard>>(
-    bytes: &'a [u8],
-    mut pass: impl FnMut(T),
-) -> Result<(), DecodeError> {
-    let (count, mut rest) = read::<u32>(bytes)?;
-    for _ in 0..count {
-        let (member, behind) = read(rest)?;
-        pass(member);
-        rest = behind;
-    }
-    Ok(())
-}
-
 /// The number of imported functions.
-fn imported_functions(payload: &[u8]) -> Result<u32, DecodeError> {
+fn imported_functions(mut cursor: Cursor<'_>) -> Result<u32, DecodeError> {
     let is_function =
         |ty: &EntityType| matches!(ty, EntityType::Function(_) | EntityType::FunctionExact(_));
     let mut count = 0;
-    each(payload, |imports: Imports<'_>| {
+    cursor.each(|_, imports: Imports<'_>| {
         count += match &imports {
             Imports::Single(import) => usize::from(is_function(&import.ty)),
             Imports::Compact1 { items, .. } => items
@@ -152,36 +127,35 @@ fn imported_functions(payload: &[u8]) -> Result<u32, DecodeError> {
             Imports::Compact2 { ty, names, .. } if is_function(ty) => names.as_slice().len(),
             Imports::Compact2 { .. } => 0,
         };
+        Ok::<(), DecodeError>(())
     })?;
     Ok(count as u32)
 }
 
 /// The size of each body, with its size prefix.
-fn body_sizes(payload: &[u8]) -> Result<Vec<usize>, DecodeError> {
+fn body_sizes(mut cursor: Cursor<'_>) -> Result<Vec<usize>, DecodeError> {
     let mut sizes = Vec::new();
-    let (count, mut rest) = read::<u32>(payload)?;
+    let count: u32 = cursor.read()?;
     for _ in 0..count {
-        let (_body, behind) = read::<&[u8]>(rest)?;
-        sizes.push(rest.len() - behind.len());
-        rest = behind;
+        let begun = cursor.offset();
+        cursor.read::<&[u8]>()?;
+        sizes.push(cursor.offset() - begun);
     }
     Ok(sizes)
 }
 
 /// The names of functions, by their indices.
-fn function_names(payload: &[u8]) -> Result<HashMap<u32, &str>, DecodeError> {
-    let (_name, mut rest) = read::<&str>(payload)?;
+fn function_names(mut cursor: Cursor<'_>) -> Result<HashMap<u32, &str>, DecodeError> {
+    cursor.read::<&str>()?;
     let mut names = HashMap::new();
-    while !rest.is_empty() {
-        let (item, behind) = read::<NameItem<'_>>(rest)?;
+    while !cursor.rest().is_empty() {
         if let NameItem::Map {
             id: 1,
             names: found,
-        } = item
+        } = cursor.read()?
         {
             names.extend(found.iter().copied());
         }
-        rest = behind;
     }
     Ok(names)
 }

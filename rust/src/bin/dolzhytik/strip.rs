@@ -1,9 +1,9 @@
 //! Removes custom sections.
-use crate::failure::Failure;
+use crate::cursor::Cursor;
+use crate::failure::{Failure, NamedSection};
 use crate::files::Input;
 use crate::sections::{HEADER, Section, sections_of};
-use dolzhytik::fallible::Global;
-use dolzhytik::reader::{DecodeError, LinkItem, Readable, Standard, Symbol};
+use dolzhytik::reader::{DecodeError, LinkItem, Symbol};
 
 /// Which custom sections to remove.
 #[derive(PartialEq, Eq, Debug)]
@@ -57,11 +57,11 @@ pub fn strip(input: &Input, module: &[u8], choice: &Choice) -> Result<Stripped, 
             .filter(|(_, removed)| !**removed)
     };
     if let Some((section, _)) = stay().find(|(section, _)| breaks(section, &sections, &removed)) {
-        return Err(Failure::References {
+        return Err(Failure::References(NamedSection {
             input: input.clone(),
             number: section.number,
             name: section.name.unwrap_or_default().into(),
-        });
+        }));
     }
     let mut stripped = module[..HEADER].to_vec();
     stay().for_each(|(section, _)| stripped.extend(section.bytes));
@@ -79,8 +79,8 @@ fn breaks(section: &Section<'_>, sections: &[Section<'_>], removed: &[bool]) -> 
     };
     match section.name {
         Some("sourceMappingURL") => sections[first..].iter().any(|it| it.id == 10),
-        Some("linking") => refers_past(section_symbols(section.payload), first),
-        Some(name) if name.starts_with("reloc.") => refers_past(target(section.payload), first),
+        Some("linking") => refers_past(section_symbols(section.cursor()), first),
+        Some(name) if name.starts_with("reloc.") => refers_past(target(section.cursor()), first),
         _ => false,
     }
 }
@@ -92,33 +92,24 @@ fn refers_past(indices: Result<Vec<u32>, DecodeError>, first: usize) -> bool {
     })
 }
 
-fn read<'a, T: Readable<'a, Global, Standard>>(
-    bytes: &'a [u8],
-) -> Result<(T, &'a [u8]), DecodeError> {
-    T::read(bytes, Global)
-}
-
 /// The index of the section that relocations are of.
-fn target(payload: &[u8]) -> Result<Vec<u32>, DecodeError> {
-    let (_name, rest) = read::<&str>(payload)?;
-    let (index, _) = read::<u32>(rest)?;
-    Ok(vec![index])
+fn target(mut cursor: Cursor<'_>) -> Result<Vec<u32>, DecodeError> {
+    cursor.read::<&str>()?;
+    Ok(vec![cursor.read()?])
 }
 
 /// The indices of the sections that are symbols.
-fn section_symbols(payload: &[u8]) -> Result<Vec<u32>, DecodeError> {
-    let (_name, rest) = read::<&str>(payload)?;
-    let (_version, mut rest) = read::<u32>(rest)?;
+fn section_symbols(mut cursor: Cursor<'_>) -> Result<Vec<u32>, DecodeError> {
+    cursor.read::<&str>()?;
+    let _version: u32 = cursor.read()?;
     let mut indices = Vec::new();
-    while !rest.is_empty() {
-        let (item, behind) = read::<LinkItem<'_>>(rest)?;
-        if let LinkItem::Symbols(symbols) = item {
+    while !cursor.rest().is_empty() {
+        if let LinkItem::Symbols(symbols) = cursor.read()? {
             indices.extend(symbols.iter().filter_map(|symbol| match symbol {
                 Symbol::Section { section, .. } => Some(*section),
                 _ => None,
             }));
         }
-        rest = behind;
     }
     Ok(indices)
 }

@@ -1,46 +1,11 @@
 //! The words after the program's name, and what they ask for.
 use crate::files::{Input, Output};
+use crate::help::{Explained, Flag, Given, Manual, OPTIONS, Verb};
+use crate::outline;
 use crate::strip::{Choice, Selection};
 use dolzhytik::reader::Offsets;
 use std::ffi::OsString;
 use std::fmt;
-
-/// How the program is called, in short.
-pub const USAGE: &str = "\
-usage: dolzhytik outline FILE [--json]
-       dolzhytik size FILE [--functions N] [--json]
-       dolzhytik strip FILE [--all | --debug | NAME..] [--keep NAME].. -o FILE
-       dolzhytik shorten FILE -o FILE [--drop-offsets]
-       dolzhytik build RECIPE -o FILE
-       dolzhytik --help | --version
-";
-
-/// What `--help` prints after that.
-pub const HELP: &str = "
-outline   prints a line for each section of a module: its number, id, offset, size, number of items, and name. The
-          offset is that of the payload in the file, in hexadecimal, and the size is that of the payload in bytes.
-          There is a - for items if the section does not decode, in custom sections, and in those of ids past 13.
-          Those of a type section are its entries: a recursion group is one.
-size      prints the size of each section in bytes and in percent, the largest first, and of the largest functions.
-strip     writes the module without its custom sections: all, or with --debug those of DWARF, or those of the names.
-          It fails if a section that stays refers to sections that would be gone or elsewhere.
-shorten   writes the module with each section in its minimal encoding. A section that does not decode is copied.
-build     writes the module of a recipe, a text.
-
--o FILE, --output FILE   the module that is written. The file is replaced as a whole, or not at all; it may be the input.
---functions N            how many functions size prints, by default none.
---keep NAME              a custom section that stays. There may be several.
---json                   prints JSON, for other programs, with offsets and sizes in decimal.
---drop-offsets           drops the custom sections that hold offsets: linking, reloc.*, .debug_*, metadata.code.*,
-                         external_debug_info, build_id, sourceMappingURL. Without it, shorten fails if offsets in
-                         one of them would no longer be right.
--h, --help               prints this.
--V, --version            prints the version.
-
-A file - is standard input or standard output. The status is 0 for success, 1 for an error, and 2 for wrong arguments.
-
-Compiled by rustc from the proved source, and not proved on this machine.
-";
 
 /// How answers are printed.
 #[derive(Clone, Copy, PartialEq, Eq, Debug)]
@@ -54,11 +19,22 @@ pub enum Format {
 pub enum Command {
     Outline {
         input: Input,
+        choice: outline::Choice,
+    },
+    Dump {
+        input: Input,
+        /// The names or ids of the sections to list, or none for all.
+        sections: Vec<String>,
         format: Format,
     },
     Shorten {
         input: Input,
         output: Output,
+        offsets: Offsets,
+    },
+    /// `shorten --dry-run`.
+    SavingsOf {
+        input: Input,
         offsets: Offsets,
     },
     Size {
@@ -76,7 +52,8 @@ pub enum Command {
         recipe: Input,
         output: Output,
     },
-    Help,
+    /// The help of a command, or of the program.
+    Help(Option<&'static Manual>),
     Version,
 }
 
@@ -122,38 +99,38 @@ impl fmt::Display for Usage {
     }
 }
 
-/// The options, with the words that follow them.
+/// The options that are given, with their values.
 #[derive(Default)]
-struct Options {
-    output: Option<OsString>,
-    functions: Option<OsString>,
-    keep: Vec<OsString>,
-    all: bool,
-    debug: bool,
-    drop_offsets: bool,
-    json: bool,
-}
+struct Options(Vec<(&'static Explained, OsString)>);
 
 impl Options {
-    /// The first option that is given and not in the list.
-    fn other_than(&self, taken: &[&str]) -> Option<&'static str> {
-        let given = [
-            ("-o", self.output.is_some()),
-            ("--functions", self.functions.is_some()),
-            ("--keep", !self.keep.is_empty()),
-            ("--all", self.all),
-            ("--debug", self.debug),
-            ("--drop-offsets", self.drop_offsets),
-            ("--json", self.json),
-        ];
-        let mut others = given
-            .into_iter()
-            .filter(|(option, is_given)| *is_given && !taken.contains(option));
-        others.next().map(|(option, _)| option)
+    /// Adds an option.
+    fn add(&mut self, option: &'static Explained, value: OsString) -> Result<(), Usage> {
+        if matches!(option.given, Given::With(_)) && self.has(option.flag) {
+            return Err(Usage::Twice(option.name()));
+        }
+        self.0.push((option, value));
+        Ok(())
+    }
+
+    /// The first option that is given and not of the command.
+    fn other_than(&self, taken: &[Flag]) -> Option<&'static str> {
+        let mut given = self.0.iter().map(|(option, _)| option);
+        let other = given.find(|option| !taken.contains(&option.flag));
+        other.map(|option| option.name())
+    }
+
+    fn has(&self, flag: Flag) -> bool {
+        self.values(flag).next().is_some()
+    }
+
+    fn values(&self, flag: Flag) -> impl Iterator<Item = OsString> {
+        let values = self.0.iter().filter(move |(option, _)| option.flag == flag);
+        values.map(|(_, value)| value.clone())
     }
 
     fn offsets(&self) -> Offsets {
-        if self.drop_offsets {
+        if self.has(Flag::DropOffsets) {
             Offsets::LeaveOut
         } else {
             Offsets::Refuse
@@ -161,7 +138,7 @@ impl Options {
     }
 
     fn format(&self) -> Format {
-        if self.json {
+        if self.has(Flag::Json) {
             Format::Json
         } else {
             Format::Table
@@ -169,19 +146,11 @@ impl Options {
     }
 
     fn functions(&self) -> Result<usize, Usage> {
-        let Some(word) = &self.functions else {
+        let Some(word) = self.values(Flag::Functions).next() else {
             return Ok(0);
         };
         let number = word.to_str().and_then(|word| word.parse().ok());
-        number.ok_or_else(|| Usage::NotANumber(word.clone()))
-    }
-}
-
-/// Sets an option that is given once.
-fn set(option: &mut Option<OsString>, name: &'static str, word: OsString) -> Result<(), Usage> {
-    match option.replace(word) {
-        None => Ok(()),
-        Some(_) => Err(Usage::Twice(name)),
+        number.ok_or(Usage::NotANumber(word))
     }
 }
 
@@ -198,22 +167,63 @@ struct Words {
 }
 
 impl Words {
-    /// Returns them, unless there is an option that the command does not take.
-    fn of(
-        command: &'static str,
-        words: Vec<OsString>,
-        options: Options,
-        taken: &[&str],
-    ) -> Result<Self, Usage> {
-        if let Some(option) = options.other_than(taken) {
-            return Err(Usage::NoOptionOf { command, option });
+    /// Reads the words of a command, which takes its options alone.
+    fn read(mut self, verb: Verb) -> Result<Command, Usage> {
+        let command = match verb {
+            Verb::Outline => Command::Outline {
+                input: self.input()?,
+                choice: outline::Choice {
+                    format: self.options.format(),
+                    why: self.options.has(Flag::Why),
+                    strict: self.options.has(Flag::Strict),
+                },
+            },
+            Verb::Dump => Command::Dump {
+                input: self.input()?,
+                sections: names(self.options.values(Flag::Section))?,
+                format: self.options.format(),
+            },
+            Verb::Size => Command::Size {
+                input: self.input()?,
+                functions: self.options.functions()?,
+                format: self.options.format(),
+            },
+            Verb::Strip => Command::Strip {
+                input: self.input()?,
+                choice: self.choice()?,
+                output: self.output()?,
+            },
+            Verb::Shorten => self.shorten()?,
+            Verb::Build => Command::Build {
+                recipe: self.input()?,
+                output: self.output_at_end()?,
+            },
+            Verb::Help => self.help()?,
+        };
+        self.end()?;
+        Ok(command)
+    }
+
+    fn shorten(&mut self) -> Result<Command, Usage> {
+        let (input, offsets) = (self.input()?, self.options.offsets());
+        if self.options.has(Flag::DryRun) {
+            return Ok(Command::SavingsOf { input, offsets });
         }
-        let words = words.into_iter();
-        Ok(Words {
-            command,
-            words,
-            options,
+        Ok(Command::Shorten {
+            input,
+            offsets,
+            output: self.output_at_end()?,
         })
+    }
+
+    fn help(&mut self) -> Result<Command, Usage> {
+        let Some(word) = self.words.next() else {
+            return Ok(Command::Help(None));
+        };
+        match word.to_str().and_then(Manual::named) {
+            None => Err(Usage::UnknownCommand(word)),
+            manual => Ok(Command::Help(manual)),
+        }
     }
 
     fn input(&mut self) -> Result<Input, Usage> {
@@ -229,75 +239,34 @@ impl Words {
         }
     }
 
-    fn output(&mut self) -> Result<Output, Usage> {
-        let output = self.options.output.take();
-        output
-            .map(Output::from)
-            .ok_or(Usage::NoOutput(self.command))
+    fn output(&self) -> Result<Output, Usage> {
+        let word = self.options.values(Flag::Output).next();
+        match word.map(Output::from) {
+            None => Err(Usage::NoOutput(self.command)),
+            Some(Output::Standard) if self.options.has(Flag::Force) => Ok(Output::Forced),
+            Some(output) => Ok(output),
+        }
+    }
+
+    /// The output of a command that takes no word after the input, which is the first error.
+    fn output_at_end(&mut self) -> Result<Output, Usage> {
+        self.end()?;
+        self.output()
     }
 
     /// Which custom sections to remove and to keep.
     fn choice(&mut self) -> Result<Choice, Usage> {
         let named = names(self.words.by_ref())?;
-        let removed = match (self.options.all, self.options.debug, named.is_empty()) {
+        let (all, debug) = (self.options.has(Flag::All), self.options.has(Flag::Debug));
+        let removed = match (all, debug, named.is_empty()) {
             (_, false, true) => Selection::All,
             (false, true, true) => Selection::Debug,
             (false, false, false) => Selection::Named(named),
             _ => return Err(Usage::TwoSelections),
         };
-        let kept = names(self.options.keep.drain(..))?;
+        let kept = names(self.options.values(Flag::Keep))?;
         Ok(Choice { removed, kept })
     }
-}
-
-fn outline(words: Vec<OsString>, options: Options) -> Result<Command, Usage> {
-    let mut words = Words::of("outline", words, options, &["--json"])?;
-    let input = words.input()?;
-    words.end()?;
-    let format = words.options.format();
-    Ok(Command::Outline { input, format })
-}
-
-fn size(words: Vec<OsString>, options: Options) -> Result<Command, Usage> {
-    let mut words = Words::of("size", words, options, &["--functions", "--json"])?;
-    let input = words.input()?;
-    words.end()?;
-    Ok(Command::Size {
-        input,
-        functions: words.options.functions()?,
-        format: words.options.format(),
-    })
-}
-
-fn strip(words: Vec<OsString>, options: Options) -> Result<Command, Usage> {
-    let taken = ["-o", "--keep", "--all", "--debug"];
-    let mut words = Words::of("strip", words, options, &taken)?;
-    Ok(Command::Strip {
-        input: words.input()?,
-        choice: words.choice()?,
-        output: words.output()?,
-    })
-}
-
-fn shorten(words: Vec<OsString>, options: Options) -> Result<Command, Usage> {
-    let mut words = Words::of("shorten", words, options, &["-o", "--drop-offsets"])?;
-    let input = words.input()?;
-    words.end()?;
-    let output = words.output()?;
-    let offsets = words.options.offsets();
-    Ok(Command::Shorten {
-        input,
-        output,
-        offsets,
-    })
-}
-
-fn build(words: Vec<OsString>, options: Options) -> Result<Command, Usage> {
-    let mut words = Words::of("build", words, options, &["-o"])?;
-    let recipe = words.input()?;
-    words.end()?;
-    let output = words.output()?;
-    Ok(Command::Build { recipe, output })
 }
 
 /// The command of the first word.
@@ -306,15 +275,19 @@ fn command(mut words: Vec<OsString>, options: Options) -> Result<Command, Usage>
         return Err(Usage::NoCommand);
     }
     let word = words.remove(0);
-    match word.to_str() {
-        Some("outline") => outline(words, options),
-        Some("size") => size(words, options),
-        Some("strip") => strip(words, options),
-        Some("shorten") => shorten(words, options),
-        Some("build") => build(words, options),
-        Some("help") => Ok(Command::Help),
-        _ => Err(Usage::UnknownCommand(word)),
+    let Some(manual) = word.to_str().and_then(Manual::named) else {
+        return Err(Usage::UnknownCommand(word));
+    };
+    let command = manual.name;
+    if let Some(option) = options.other_than(manual.options) {
+        return Err(Usage::NoOptionOf { command, option });
     }
+    let words = Words {
+        command,
+        words: words.into_iter(),
+        options,
+    };
+    words.read(manual.verb)
 }
 
 /// Splits an option from its value: `-oFILE`, `--output=FILE`.
@@ -326,6 +299,23 @@ fn split(word: &str) -> (&str, Option<OsString>) {
             None => (word, None),
         },
     }
+}
+
+/// Returns the option of a word, and the value in the word.
+fn option(word: &str) -> Option<(&'static Explained, Option<OsString>)> {
+    let (name, value) = split(word);
+    let is_named = |it: &&Explained| it.long == name || it.short == Some(name);
+    let option = OPTIONS.iter().find(is_named)?;
+    match (option.given, &value) {
+        (Given::Alone, Some(_)) => None,
+        _ => Some((option, value)),
+    }
+}
+
+/// The help of the command that is the first word, or else of the program.
+fn help_of(first: Option<OsString>) -> Command {
+    let first = first.as_ref().and_then(|word| word.to_str());
+    Command::Help(first.and_then(Manual::named))
 }
 
 /// Reads what the words ask for. Options may be anywhere before `--`.
@@ -343,22 +333,21 @@ pub fn read(mut words: impl Iterator<Item = OsString>) -> Result<Command, Usage>
                 continue;
             }
         };
-        let (option, value) = split(text);
-        let value = |name| value.or_else(|| words.next()).ok_or(Usage::NoValueOf(name));
-        match (option, text == option) {
-            ("-o" | "--output", _) => set(&mut options.output, "-o", value("-o")?)?,
-            ("--functions", _) => {
-                set(&mut options.functions, "--functions", value("--functions")?)?
-            }
-            ("--keep", _) => options.keep.push(value("--keep")?),
-            ("--all", true) => options.all = true,
-            ("--debug", true) => options.debug = true,
-            ("--drop-offsets", true) => options.drop_offsets = true,
-            ("--json", true) => options.json = true,
-            ("-h" | "--help", true) => return Ok(Command::Help),
-            ("-V" | "--version", true) => return Ok(Command::Version),
-            _ => return Err(Usage::UnknownOption(word)),
+        let Some((option, value)) = option(text) else {
+            return Err(Usage::UnknownOption(word));
+        };
+        match option.flag {
+            Flag::Help => return Ok(help_of(others.into_iter().chain(words).next())),
+            Flag::Version => return Ok(Command::Version),
+            _ => {}
         }
+        let value = match option.given {
+            Given::Alone => OsString::new(),
+            Given::With(_) | Given::Often(_) => value
+                .or_else(|| words.next())
+                .ok_or(Usage::NoValueOf(option.name()))?,
+        };
+        options.add(option, value)?;
     }
     command(others, options)
 }

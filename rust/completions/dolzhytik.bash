@@ -1,0 +1,28 @@
+# Completion of dolzhytik for bash. Source this file, or copy it to the folder of bash-completion as `dolzhytik`.
+_dolzhytik() {
+    local word=${COMP_WORDS[COMP_CWORD]} before=${COMP_WORDS[COMP_CWORD - 1]} words=
+    local commands='outline dump size strip shorten build help'
+    local sections='custom type import function table memory global export start element code data tag name'
+    case ${COMP_WORDS[1]} in
+    outline) words='--why --strict --json -h --help' ;;
+    dump) words='--section --json -h --help' ;;
+    size) words='--functions --json -h --help' ;;
+    strip) words='--all --debug --keep -o --output --force -h --help' ;;
+    shorten) words='-o --output --dry-run --drop-offsets --force -h --help' ;;
+    build) words='-o --output --force -h --help' ;;
+    help) words='-h --help' ;;
+    esac
+    COMPREPLY=()
+    if [ "$COMP_CWORD" = 1 ]; then
+        words="$commands -h --help -V --version"
+    elif [ "$before" = help ] && [ "$COMP_CWORD" = 2 ]; then
+        words="$words $commands"
+    elif [ "$before" = --section ]; then
+        words=$sections
+    elif [ "$before" = -o ] || [ "$before" = --output ] || [[ $word != -* ]]; then
+        # Where there are no words, bash completes names of files.
+        return
+    fi
+    COMPREPLY=($(compgen -W "$words" -- "$word"))
+}
+complete -o bashdefault -o default -F _dolzhytik dolzhytik

@@ -1,0 +1,153 @@
+//! Lists the code section.
+use crate::cursor::Cursor;
+use crate::dump::Stop;
+use crate::dump::context::{Context, Space};
+use crate::dump::listing::{Function, Line, Listing};
+use crate::dump::operands::Operands;
+use crate::dump::text::Text;
+use crate::names::name_of;
+use dolzhytik::fallible::{Global, Op, ValType};
+use dolzhytik::reader::{Arg, Instructions, Standard};
+use std::io::Write;
+
+/// Lists each function: its locals and its instructions.
+pub fn list_code(
+    cursor: &mut Cursor<'_>,
+    context: &Context<'_>,
+    listing: &mut Listing<impl Write>,
+) -> Result<(), Stop> {
+    let imported = context.imported(Space::Function);
+    let count: u32 = cursor.read()?;
+    for number in 0..count {
+        let body: &[u8] = cursor.read()?;
+        let offset = cursor.offset() - body.len();
+        // The reader accepts up to 4294967295 imports and as many bodies.
+        let index = imported.saturating_add(number);
+        let function = Function {
+            index,
+            name: context.name(Space::Function, index),
+            ty: context.type_of(index),
+            offset,
+            size: body.len(),
+        };
+        listing.function(&function)?;
+        let mut body = Body {
+            cursor: Cursor::new(body, offset),
+            context,
+            depth: 0,
+        };
+        body.list(index, listing)
+            .map_err(|stop| stop.before(cursor.rest()))?;
+    }
+    Ok(())
+}
+
+/// The body of a function.
+struct Body<'a, 'c> {
+    cursor: Cursor<'a>,
+    context: &'c Context<'a>,
+    /// How many blocks the next instruction is in.
+    depth: usize,
+}
+
+impl Body<'_, '_> {
+    fn list(&mut self, function: u32, listing: &mut Listing<impl Write>) -> Result<(), Stop> {
+        self.list_locals(function, listing)?;
+        let (offset, bytes) = (self.cursor.offset(), self.cursor.rest());
+        let mut instructions = Instructions::<Global, Standard>::standard(bytes, Global);
+        while let Some(step) = instructions.next()? {
+            let (op, args) = (step.op, instructions.args());
+            listing.line(&Line {
+                offset: offset + step.offset,
+                bytes: &bytes[step.offset..instructions.offset()],
+                depth: self.depth_of(op),
+                name: name_of(op).unwrap_or_default(),
+                operands: Operands { op, args },
+                refers_to: self.name_in(op, args),
+            })?;
+        }
+        Ok(())
+    }
+
+    /// Lists the runs of locals with their indices, which are those after the parameters. Where the
+    /// number of parameters is not known, `+0` is the first local.
+    fn list_locals(
+        &mut self,
+        function: u32,
+        listing: &mut Listing<impl Write>,
+    ) -> Result<(), Stop> {
+        let parameters = self.context.parameters_of(function);
+        let plus = if parameters.is_some() { "" } else { "+" };
+        let mut next = u64::from(parameters.unwrap_or(0));
+        let runs: u32 = self.cursor.read()?;
+        for _ in 0..runs {
+            let before = self.cursor;
+            let (count, ty): (u32, ValType) = self.cursor.read()?;
+            let end = next + u64::from(count);
+            let indices = match count {
+                0 => String::new(),
+                1 => format!(" {plus}{next}"),
+                _ => format!(" {plus}{next}..{plus}{}", end - 1),
+            };
+            next = end;
+            let size = self.cursor.offset() - before.offset();
+            listing.line(&Line {
+                offset: before.offset(),
+                bytes: &before.rest()[..size],
+                depth: 0,
+                name: "local",
+                operands: format!("{indices} {}", Text(ty)),
+                refers_to: None,
+            })?;
+        }
+        Ok(())
+    }
+
+    /// Returns how many blocks the instruction is in, and notes whether it begins or ends one.
+    fn depth_of(&mut self, op: Op) -> usize {
+        let outer = self.depth.saturating_sub(1);
+        match op {
+            // `block`, `loop`, `if`, `try` and `try_table`.
+            Op::Byte(0x02 | 0x03 | 0x04 | 0x06 | 0x1F) => {
+                self.depth += 1;
+                self.depth - 1
+            }
+            // `else`, `catch` and `catch_all`.
+            Op::Byte(0x05 | 0x07 | 0x19) => outer,
+            // `end` and `delegate`.
+            Op::Byte(0x0B | 0x18) => {
+                self.depth = outer;
+                outer
+            }
+            _ => self.depth,
+        }
+    }
+
+    /// The name of the function or global whose index is the operand.
+    fn name_in(&self, op: Op, args: &[Arg]) -> Option<&str> {
+        let space = match op {
+            // `call`, `return_call` and `ref.func`.
+            Op::Byte(0x10 | 0x12 | 0xD2) => Space::Function,
+            // `global.get` and `global.set`.
+            Op::Byte(0x23 | 0x24) => Space::Global,
+            _ => return None,
+        };
+        match args {
+            [Arg::U32(index)] => self.context.name(space, *index),
+            _ => None,
+        }
+    }
+}
+
+#[cfg(test)]
+#[test]
+fn every_instruction_has_a_name_and_nothing_else_has() {
+    let bytes = (0..=255).map(Op::Byte);
+    let prefixed = (0xFB..=0xFE).flat_map(|byte| (0..1000).map(move |it| Op::Prefixed(byte, it)));
+    let ops: Vec<Op> = bytes.chain(prefixed).collect();
+    let named = ops.iter().filter(|op| name_of(**op).is_some()).count();
+    assert_eq!(named, 627);
+    for op in ops {
+        assert_eq!(name_of(op).is_some(), op.shape().is_some(), "{op:?}");
+    }
+}

@@ -1,0 +1,265 @@
+//! Lists custom sections of known kinds.
+use crate::dump::Stop;
+use crate::dump::context::Space;
+use crate::dump::listing::{Item, Listing};
+use crate::dump::operands::Float;
+use dolzhytik::fallible::{
+    BranchHint, Comdat, CoreDumpValue, Global, SegmentInfo, read_hints, read_instances, read_links,
+    read_modules, read_names, read_process, read_producers, read_stack,
+};
+use dolzhytik::reader::{CoreFrame, LinkItem, NameItem, Standard, Symbol};
+use std::fmt::Display;
+use std::io::{self, Write};
+
+/// Lists a custom section of this name. A section of another kind is listed as bytes.
+///
+/// # Errors
+///
+/// A section that does not decode as its kind is not listed.
+pub fn list_custom(
+    name: &str,
+    payload: &[u8],
+    lines: &mut Lines<'_, impl Write>,
+) -> Result<Known, Stop> {
+    match name {
+        "name" => {
+            let items = read_names::<Global, Standard>(payload, Global)?;
+            items.iter().try_for_each(|item| lines.names(item))
+        }
+        "linking" => {
+            let items = read_links::<Global, Standard>(payload, Global)?;
+            items.iter().try_for_each(|item| lines.linking(item))
+        }
+        "producers" => {
+            let fields = read_producers::<Global, Standard>(payload, Global)?;
+            fields.iter().try_for_each(|(field, values)| {
+                values.iter().try_for_each(|(name, version)| {
+                    let text = format!("(version {version:?}) (field {field:?})");
+                    lines.named("producer", name, text)
+                })
+            })
+        }
+        "metadata.code.branch_hint" => {
+            let functions = read_hints::<Global, Standard>(payload, Global)?;
+            functions.iter().try_for_each(|(function, hints)| {
+                hints
+                    .iter()
+                    .try_for_each(|hint| lines.hint(*function, hint))
+            })
+        }
+        _ => return list_core_dump(name, payload, lines),
+    }?;
+    Ok(Known::Listed)
+}
+
+/// Whether a custom section has a known kind.
+#[derive(Clone, Copy, PartialEq, Eq, Debug)]
+pub enum Known {
+    Listed,
+    /// It is listed as bytes, since its name selects no kind.
+    Other,
+}
+
+/// Lists a section of a core dump.
+fn list_core_dump(
+    name: &str,
+    payload: &[u8],
+    lines: &mut Lines<'_, impl Write>,
+) -> Result<Known, Stop> {
+    match name {
+        "core" => {
+            let process = read_process::<Global, Standard>(payload, Global)?;
+            lines.named("process", process, "")
+        }
+        "coremodules" => {
+            let modules = read_modules::<Global, Standard>(payload, Global)?;
+            let mut modules = (0..).zip(modules.iter());
+            modules.try_for_each(|(index, name)| lines.entry("module", index, Some(name), ""))
+        }
+        "coreinstances" => {
+            let instances = read_instances::<Global, Standard>(payload, Global)?;
+            let mut instances = (0..).zip(instances.iter());
+            instances.try_for_each(|(index, (module, memories, globals))| {
+                let text = format!(
+                    "(module {module}) (memories{}) (globals{})",
+                    spaced(memories),
+                    spaced(globals)
+                );
+                lines.entry("instance", index, None, text)
+            })
+        }
+        "corestack" => {
+            let (thread, frames) = read_stack::<Global, Standard>(payload, Global)?;
+            lines.named("thread", thread, "")?;
+            let mut frames = (0..).zip(frames.iter());
+            frames.try_for_each(|(index, frame)| lines.entry("frame", index, None, text_of(frame)))
+        }
+        _ => return Ok(Known::Other),
+    }?;
+    Ok(Known::Listed)
+}
+
+/// The values, with a space before each.
+fn spaced<T: Display>(values: &[T]) -> String {
+    values.iter().map(|value| format!(" {value}")).collect()
+}
+
+fn text_of(frame: &CoreFrame) -> String {
+    let values = |values: &[CoreDumpValue]| {
+        let values: Vec<String> = values.iter().map(value).collect();
+        spaced(&values)
+    };
+    format!(
+        "(instance {}) (func {}) (offset {}) (locals{}) (stack{})",
+        frame.instanceidx,
+        frame.funcidx,
+        frame.codeoffset,
+        values(&frame.locals),
+        values(&frame.stack)
+    )
+}
+
+/// A value of a core dump.
+fn value(value: &CoreDumpValue) -> String {
+    match value {
+        CoreDumpValue::Missing => "missing".into(),
+        CoreDumpValue::I32(value) => format!("(i32 {value})"),
+        CoreDumpValue::I64(value) => format!("(i64 {value})"),
+        CoreDumpValue::F32(value) => format!("(f32 {})", Float::from(*value)),
+        CoreDumpValue::F64(value) => format!("(f64 {})", Float::from(*value)),
+    }
+}
+
+/// Prints the items of custom sections, which have no offsets.
+pub struct Lines<'l, W: Write>(pub &'l mut Listing<W>);
+
+impl<W: Write> Lines<'_, W> {
+    fn entry(
+        &mut self,
+        kind: &'static str,
+        index: u32,
+        name: Option<&str>,
+        text: impl Into<String>,
+    ) -> io::Result<()> {
+        self.0.item(&Item {
+            offset: None,
+            kind,
+            index: Some(index),
+            name,
+            text: text.into(),
+        })
+    }
+
+    /// Prints an item that has no index.
+    fn named(&mut self, kind: &'static str, name: &str, text: impl Into<String>) -> io::Result<()> {
+        self.0.item(&Item {
+            kind,
+            name: Some(name),
+            text: text.into(),
+            ..Item::default()
+        })
+    }
+
+    fn names(&mut self, item: &NameItem<'_>) -> io::Result<()> {
+        match item {
+            NameItem::Module(name) => self.named("module", name, ""),
+            NameItem::Map { id, names } => {
+                let kind = Space::of_names(*id).map_or("entry", Space::word);
+                names
+                    .iter()
+                    .try_for_each(|(index, name)| self.entry(kind, *index, Some(name), ""))
+            }
+            NameItem::Indirect { id, maps } => {
+                let (outer, inner) = match id {
+                    2 => ("function", "local"),
+                    3 => ("function", "label"),
+                    10 => ("type", "field"),
+                    _ => ("entry", "name"),
+                };
+                maps.iter().try_for_each(|(of, names)| {
+                    let text = format!("of {outer} {of}");
+                    let mut names = names.iter();
+                    names.try_for_each(|(i, name)| self.entry(inner, *i, Some(name), &*text))
+                })
+            }
+            NameItem::Other { id, bytes } => {
+                let text = format!("of {} bytes", bytes.len());
+                self.entry("subsection", u32::from(*id), None, text)
+            }
+        }
+    }
+
+    fn hint(&mut self, function: u32, hint: &BranchHint) -> io::Result<()> {
+        let likely = match hint.branch_hint_value {
+            0 => "unlikely",
+            _ => "likely",
+        };
+        let text = format!("offset {:#x} {likely}", hint.branch_func_offset);
+        self.entry("function", function, None, text)
+    }
+
+    fn linking(&mut self, item: &LinkItem<'_>) -> io::Result<()> {
+        match item {
+            LinkItem::Segments(segments) => (0..)
+                .zip(segments.iter())
+                .try_for_each(|(index, it)| self.segment(index, it)),
+            LinkItem::InitFunctions(functions) => functions.iter().try_for_each(|function| {
+                let text = format!("priority {}", function.priority);
+                self.entry("init symbol", function.symbol, None, text)
+            }),
+            LinkItem::Comdats(comdats) => comdats.iter().try_for_each(|it| self.comdat(it)),
+            LinkItem::Symbols(symbols) => (0..)
+                .zip(symbols.iter())
+                .try_for_each(|(index, it)| self.symbol(index, it)),
+            LinkItem::Arch(name) => self.named("architecture", name, ""),
+        }
+    }
+
+    fn segment(&mut self, index: u32, segment: &SegmentInfo<'_>) -> io::Result<()> {
+        let (alignment, flags) = (segment.alignment, segment.flags);
+        let text = format!("align 2^{alignment} flags {flags:#x}");
+        self.entry("segment", index, Some(segment.name), text)
+    }
+
+    fn comdat(&mut self, comdat: &Comdat<'_>) -> io::Result<()> {
+        self.named("comdat", comdat.name, format!("flags {:#x}", comdat.flags))?;
+        comdat.symbols.iter().try_for_each(|symbol| {
+            let kind = match symbol.kind {
+                0 => "data",
+                1 => "function",
+                2 => "global",
+                3 => "tag",
+                4 => "table",
+                5 => "section",
+                _ => "entry",
+            };
+            self.entry(
+                kind,
+                symbol.index,
+                None,
+                format!("of comdat {:?}", comdat.name),
+            )
+        })
+    }
+
+    fn symbol(&mut self, index: u32, symbol: &Symbol<'_>) -> io::Result<()> {
+        let (flags, name, of) = match symbol {
+            Symbol::Function { flags, index, name } => (flags, *name, format!("function {index}")),
+            Symbol::Global { flags, index, name } => (flags, *name, format!("global {index}")),
+            Symbol::Table { flags, index, name } => (flags, *name, format!("table {index}")),
+            Symbol::Tag { flags, index, name } => (flags, *name, format!("tag {index}")),
+            Symbol::Section { flags, section } => (flags, None, format!("section {section}")),
+            Symbol::DataSymbol {
+                flags,
+                name,
+                definition,
+            } => {
+                let of = definition.map_or("data".into(), |it| {
+                    format!("data {} offset {} size {}", it.index, it.offset, it.size)
+                });
+                (flags, Some(*name), of)
+            }
+        };
+        self.entry("symbol", index, name, format!("{of} flags {flags:#x}"))
+    }
+}

@@ -1,0 +1,323 @@
+//! The commands and options of the program, and their help.
+use std::fmt::Write;
+
+/// What the program does.
+#[derive(Clone, Copy, PartialEq, Eq, Debug)]
+pub enum Verb {
+    Outline,
+    Dump,
+    Size,
+    Strip,
+    Shorten,
+    Build,
+    Help,
+}
+
+/// The help of a command.
+#[derive(PartialEq, Eq, Debug)]
+pub struct Manual {
+    pub verb: Verb,
+    pub name: &'static str,
+    /// The arguments after the name.
+    usage: &'static str,
+    says: &'static str,
+    pub options: &'static [Flag],
+}
+
+pub const MANUALS: [Manual; 7] = [
+    Manual {
+        verb: Verb::Outline,
+        name: "outline",
+        usage: "FILE [--why] [--strict] [--json]",
+        says: "\
+prints a line for each section of a module: its number, id, offset, size, number of items, and name. The
+offset is that of the payload in the file, in hexadecimal, and the size is that of the payload in bytes.
+There is a - for items if the section does not decode, in custom sections, and in those of ids past 13.
+Those of a type section are its entries: a recursion group is one. Sections of ids 1 to 13 that do not decode
+are reported on standard error.",
+        options: &[Flag::Why, Flag::Strict, Flag::Json],
+    },
+    Manual {
+        verb: Verb::Dump,
+        name: "dump",
+        usage: "FILE [--section NAME|ID].. [--json]",
+        says: "\
+prints the items of each section, and the locals and instructions of each function. A line of code has the
+offset in the file, in hexadecimal, the bytes, and the name and operands in the text format. Locals have their
+indices; where the type of the function is not known, +0 is the first one. A custom section is listed by the
+kind that its name selects, or as bytes.",
+        options: &[Flag::Section, Flag::Json],
+    },
+    Manual {
+        verb: Verb::Size,
+        name: "size",
+        usage: "FILE [--functions N] [--json]",
+        says: "prints the size of each section in bytes and in percent, the largest first, and of the largest functions.",
+        options: &[Flag::Functions, Flag::Json],
+    },
+    Manual {
+        verb: Verb::Strip,
+        name: "strip",
+        usage: "FILE [--all | --debug | NAME..] [--keep NAME].. -o FILE [--force]",
+        says: "\
+writes the module without its custom sections: all, or with --debug those of DWARF, or those of the names.
+It fails if a section that stays refers to sections that would be gone or elsewhere.",
+        options: &[Flag::All, Flag::Debug, Flag::Keep, Flag::Output, Flag::Force],
+    },
+    Manual {
+        verb: Verb::Shorten,
+        name: "shorten",
+        usage: "FILE (-o FILE | --dry-run) [--drop-offsets] [--force]",
+        says: "writes the module with each section in its minimal encoding. A section that does not decode is copied.",
+        options: &[
+            Flag::Output,
+            Flag::DryRun,
+            Flag::DropOffsets,
+            Flag::Force,
+        ],
+    },
+    Manual {
+        verb: Verb::Build,
+        name: "build",
+        usage: "RECIPE -o FILE [--force]",
+        says: "writes the module of a recipe, a text.",
+        options: &[Flag::Output, Flag::Force],
+    },
+    Manual {
+        verb: Verb::Help,
+        name: "help",
+        usage: "[COMMAND]",
+        says: "prints this, or the help of a command. So does COMMAND --help.",
+        options: &[],
+    },
+];
+
+/// An option.
+#[derive(Clone, Copy, PartialEq, Eq, Debug)]
+pub enum Flag {
+    Output,
+    Force,
+    Section,
+    Functions,
+    All,
+    Debug,
+    Keep,
+    Why,
+    Strict,
+    Json,
+    DropOffsets,
+    DryRun,
+    Help,
+    Version,
+}
+
+/// How an option is given.
+#[derive(Clone, Copy, PartialEq, Eq, Debug)]
+pub enum Given {
+    /// Without a value.
+    Alone,
+    /// Once, with a value of this name.
+    With(&'static str),
+    /// Any number of times, with a value of this name.
+    Often(&'static str),
+}
+
+/// The help of an option.
+pub struct Explained {
+    pub flag: Flag,
+    pub short: Option<&'static str>,
+    pub long: &'static str,
+    pub given: Given,
+    says: &'static str,
+}
+
+const fn explained(flag: Flag, long: &'static str, given: Given, says: &'static str) -> Explained {
+    Explained {
+        flag,
+        short: None,
+        long,
+        given,
+        says,
+    }
+}
+
+/// The options, in the order of the help.
+pub const OPTIONS: [Explained; 14] = [
+    Explained {
+        short: Some("-o"),
+        ..explained(
+            Flag::Output,
+            "--output",
+            Given::With("FILE"),
+            "the module that is written. The file is replaced as a whole, or not at all; it may be the input.",
+        )
+    },
+    explained(
+        Flag::Force,
+        "--force",
+        Given::Alone,
+        "writes a module to standard output even if that is a terminal.",
+    ),
+    explained(
+        Flag::Section,
+        "--section",
+        Given::Often("NAME|ID"),
+        "\
+a section that dump prints: its id, its name as outline has it, or the name of a custom section.
+There may be several. Without it, dump prints all.",
+    ),
+    explained(
+        Flag::Functions,
+        "--functions",
+        Given::With("N"),
+        "how many functions size prints, by default none.",
+    ),
+    explained(
+        Flag::All,
+        "--all",
+        Given::Alone,
+        "removes all custom sections, as strip does without this.",
+    ),
+    explained(
+        Flag::Debug,
+        "--debug",
+        Given::Alone,
+        "removes the custom sections of DWARF and their relocations.",
+    ),
+    explained(
+        Flag::Keep,
+        "--keep",
+        Given::Often("NAME"),
+        "a custom section that stays. There may be several.",
+    ),
+    explained(
+        Flag::Why,
+        "--why",
+        Given::Alone,
+        "prints whether each section decodes as its kind, and if not, the cause and the offset in the file.",
+    ),
+    explained(
+        Flag::Strict,
+        "--strict",
+        Given::Alone,
+        "reports custom sections of known kinds too, and the status is 1 if a section does not decode.",
+    ),
+    explained(
+        Flag::Json,
+        "--json",
+        Given::Alone,
+        "prints JSON, for other programs, with offsets and sizes in decimal.",
+    ),
+    explained(
+        Flag::DropOffsets,
+        "--drop-offsets",
+        Given::Alone,
+        "\
+drops the custom sections that hold offsets: linking, reloc.*, .debug_*, metadata.code.*,
+external_debug_info, build_id, sourceMappingURL. Without it, shorten fails if offsets in
+one of them would no longer be right.",
+    ),
+    explained(
+        Flag::DryRun,
+        "--dry-run",
+        Given::Alone,
+        "prints the bytes that each section would save, and writes no module. The status is that of shorten.",
+    ),
+    Explained {
+        short: Some("-h"),
+        ..explained(Flag::Help, "--help", Given::Alone, "prints this.")
+    },
+    Explained {
+        short: Some("-V"),
+        ..explained(
+            Flag::Version,
+            "--version",
+            Given::Alone,
+            "prints the version.",
+        )
+    },
+];
+
+const LAST: &str = "
+A file - is standard input or standard output. The status is 0 for success, 1 for an error, and 2 for wrong arguments.
+
+Compiled by rustc from the proved source, and not proved on this machine.
+";
+
+/// The columns of a command and of an option before what they do.
+const COMMAND: usize = 10;
+const OPTION: usize = 25;
+
+impl Manual {
+    /// Returns the manual of the command with this name.
+    pub fn named(name: &str) -> Option<&'static Manual> {
+        MANUALS.iter().find(|manual| manual.name == name)
+    }
+
+    /// The help of this command.
+    pub fn help(&self) -> String {
+        let (name, usage, says) = (self.name, self.usage, self.says);
+        let mut text = format!("usage: dolzhytik {name} {usage}\n\n{says}\n\n");
+        OPTIONS
+            .iter()
+            .filter(|it| self.options.contains(&it.flag) || it.flag == Flag::Help)
+            .for_each(|it| it.explain(&mut text));
+        text + LAST
+    }
+}
+
+impl Explained {
+    /// How the option is called in errors.
+    pub fn name(&self) -> &'static str {
+        self.short.unwrap_or(self.long)
+    }
+
+    /// How the option is given.
+    fn shown(&self) -> String {
+        let value = match self.given {
+            Given::Alone => String::new(),
+            Given::With(value) | Given::Often(value) => format!(" {value}"),
+        };
+        let long = format!("{}{value}", self.long);
+        match self.short {
+            None => long,
+            Some(short) => format!("{short}{value}, {long}"),
+        }
+    }
+
+    fn explain(&self, text: &mut String) {
+        append(text, OPTION, &self.shown(), self.says);
+    }
+}
+
+/// Appends a name, and what it stands for in lines beside it.
+fn append(text: &mut String, column: usize, name: &str, says: &str) {
+    let mut name = name;
+    for line in says.lines() {
+        // A `String` accepts all text.
+        let _ = writeln!(text, "{name:<column$}{line}");
+        name = "";
+    }
+}
+
+/// How the program is called, in short.
+pub fn usage() -> String {
+    let mut text = String::new();
+    let mut front = "usage:";
+    for Manual { name, usage, .. } in &MANUALS {
+        let _ = writeln!(text, "{front} dolzhytik {name} {usage}");
+        front = "      ";
+    }
+    text + "       dolzhytik --help | --version\n"
+}
+
+/// The help of the program.
+pub fn help() -> String {
+    let mut text = usage() + "\n";
+    for Manual { name, says, .. } in &MANUALS {
+        append(&mut text, COMMAND, name, says);
+    }
+    text.push('\n');
+    OPTIONS.iter().for_each(|it| it.explain(&mut text));
+    text + LAST
+}

@@ -1,0 +1,95 @@
+"""tools/text-names: writes the names of instructions in the text format."""
+from __future__ import annotations
+
+import pathlib
+import re
+import sys
+from collections.abc import Sequence
+
+from . import generated_files
+from .errors import Stop
+from .instructions.table import TABLE, Case, read
+from .repository import TOP, text_of
+
+FILE = "rust/src/bin/dolzhytik/names.rs"
+# The words before the first dot of a name.
+SPACES = (
+    "i32", "i64", "f32", "f64", "v128", "i8x16", "i16x8", "i32x4", "i64x2", "f32x4", "f64x2",
+    "local", "global", "table", "memory", "data", "elem", "ref", "i31", "struct", "array",
+    "any", "extern", "cont", "atomic",
+)
+# Calls for forms of one instruction. The text format has the form in the operands.
+FORMS = {
+    "typed_select": "select",
+    "typed_select_multi": "select",
+    "ref_test_non_null": "ref_test",
+    "ref_test_nullable": "ref_test",
+    "ref_cast_non_null": "ref_cast",
+    "ref_cast_nullable": "ref_cast",
+    "ref_cast_desc_eq_non_null": "ref_cast_desc_eq",
+    "ref_cast_desc_eq_nullable": "ref_cast_desc_eq",
+}
+
+
+def name_of(call: str) -> str:
+    """Returns the name in the text format: `i32.atomic.rmw8.add_u` for `i32_atomic_rmw8_add_u`.
+
+    A final underscore avoids a keyword of Rust. A dot is after the name space, after `atomic` that
+    follows one, and after `rmw`, `rmw8`, `rmw16` and `rmw32`."""
+    name = FORMS.get(call, call).removesuffix("_")
+    space, underscore, after = name.partition("_")
+    if not underscore or space not in SPACES:
+        return name
+    after = re.sub(r"^atomic_", "atomic.", after)
+    return space + "." + re.sub(r"^(atomic\.rmw(8|16|32)?)_", r"\1.", after)
+
+
+def pattern(case: Case) -> str:
+    """Returns the pattern of its opcode."""
+    if case.prefix is None:
+        return f"Op::Byte(0x{case.number:02X})"
+    return f"Op::Prefixed(0x{case.prefix:02X}, {case.number})"
+
+
+def named(cases: Sequence[Case]) -> dict[str, str]:
+    """Returns the name of each opcode, by its pattern."""
+    names: dict[str, str] = {}
+    for it in cases:
+        name = name_of(it.call)
+        if not re.fullmatch(r"[a-z][a-z0-9_]*(\.[a-z0-9_]+)*", name):
+            raise Stop(f"{TABLE}:{it.line}: not a name of the text format: {name}")
+        if name in names.values() and it.call not in FORMS:
+            raise Stop(f"{TABLE}:{it.line}: another instruction has the name {name}")
+        if names.setdefault(pattern(it), name) != name:
+            raise Stop(f"{TABLE}:{it.line}: its opcode has another name than {name}")
+    return names
+
+
+def names_file(cases: Sequence[Case]) -> str:
+    """Returns the text of the file."""
+    arms = "".join(f'        {op} => "{name}",\n' for op, name in named(cases).items())
+    return f"""// Written by tools/text-names from tools/instructions.tsv: change that.
+//! The names of instructions in the text format.
+use dolzhytik::fallible::Op;
+
+/// Returns the name of the instruction with this opcode, or `None` if there is no such instruction.
+pub fn name_of(op: Op) -> Option<&'static str> {{
+    let name = match op {{
+{arms}        _ => return None,
+    }};
+    Some(name)
+}}
+"""
+
+
+def main(words: Sequence[str], usage: str, top: pathlib.Path = TOP) -> int:
+    """Writes or compares the file. `usage` is the head of the command's script."""
+    if list(words) not in ([], ["--check"]):
+        print(usage.split("\n\n")[1], file=sys.stderr)
+        return 2
+    try:
+        files = {FILE: names_file(read(text_of(top / TABLE)))}
+    except Stop as stop:
+        print(f"text-names: {stop}", file=sys.stderr)
+        return 2
+    return generated_files.settle("text-names", files, top, is_check=bool(words))
