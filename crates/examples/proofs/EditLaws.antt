@@ -1,7 +1,6 @@
 -- This file proves that edited lists of indices have an encoding, and which.
-use Rattle.wasm_base.proofs.Words.{Mode, ◌≡◌, ℕ, ◌+◌, ◌<◌, ◌^◌, List, [], ◌∷◌, ◌++◌, length, refl, sym, ap, subst, ◌∙◌, arith, flat_map, AllByRecursion}
-use Rattle.wasm_base.proofs.Words.{minimal, padded, standard, u32, vec, members, unsigned_encoding, vec_unambiguous, u32_unambiguous}
-use Rattle.std.proofs.lemmas.List.{length-append}
+use Rattle.wasm_base.proofs.Words.{Mode, ℕ, ◌+◌, ◌<◌, ◌^◌, List, [], ◌∷◌, ◌++◌, refl, flat_map, AllByRecursion}
+use Rattle.wasm_base.proofs.Words.{minimal, u32, vec, members, unsigned_encoding}
 use Rattle.wasm_base.proofs.EncodingLaws.{u32_encodes}
 
 -- Each number is below 2^32.

@@ -3,8 +3,8 @@ use Rattle.wasm_reader.specs.{kind_of_id, Contents, content, Sized, sized_sectio
 use Rattle.wasm_reader.specs.declared.modules.Listed.{Listed}
 use Rattle.wasm_reader.specs.declared.kinds.SectionKind.{SectionKind}
 use Rattle.wasm_base.proofs.Words.{◌≡◌, ◌≢◌, ℕ, ◌<◌, ◌^◌, List, [], ◌∷◌, ◌++◌, length, map, take, drop, refl, sym, ap, subst, ◌∙◌, arith, map-append, take-append-drop, take_at, length-map}
-use Rattle.wasm_base.proofs.Words.{RejectsWhole, padded, Format, byte, any_bytes, fixed, size_prefixed, header, members, BeginsWith, Decodes, Rejects, size_prefixed_bytes_unambiguous}
-use Rattle.wasm_base.proofs.Words.{byte_unambiguous, begins_then, decodes_same, then_decodes, then_rejects_first, then_rejects_second, members_start, members_step, member_shorter, whole_decodes}
+use Rattle.wasm_base.proofs.Words.{RejectsWhole, padded, Format, byte, any_bytes, any_section, fixed, size_prefixed, header, members, Decodes, Rejects, size_prefixed_bytes_unambiguous}
+use Rattle.wasm_base.proofs.Words.{byte_unambiguous, decodes_same, then_decodes, then_rejects_second, members_start, members_step, whole_decodes}
 use Rattle.std.proofs.lemmas.List.{length-append}
 use Rattle.wasm_sections.proofs.Words.{prefixed_decodes}
 
@@ -24,8 +24,6 @@ header_other bytes front f other = record { none = λ u rest h. other (f ∙ ap 
 
 pub ruleset header_steps = (header_found, header_short, header_other)
 
--- ---- kinds
-
 -- ---- lines
 
 pub sized_small : (bytes rest sized : List ℕ) → Decodes (size_prefixed any_bytes) padded bytes sized rest → length sized < 2 ^ 32
@@ -36,14 +34,8 @@ line_decodes bytes rest sized after id x h g k =
     let of_size : Decodes (Sized (kind_of_id id)) padded rest (length sized, x) after = record { front = g.front; split = g.split; encodes = record { payload = sized; sized = g.encodes; size = refl; contains = k } } in
     then_decodes {G = λ i. Sized (kind_of_id i)} h of_size
 
-pub line_none : (bytes : List ℕ) → Rejects byte padded bytes → Rejects sized_section padded bytes
-line_none bytes n = then_rejects_first n
-
 as_size_prefixed : {kind : SectionKind} {bytes rest : List ℕ} {p : ℕ × Contents} → (h : Decodes (Sized kind) padded bytes p rest) → Decodes (size_prefixed any_bytes) padded bytes h.encodes.payload rest
 as_size_prefixed h = record { front = h.front; split = h.split; encodes = h.encodes.sized }
-
-pub line_not_size_prefixed : (bytes rest : List ℕ) (id : ℕ) → Decodes byte padded bytes id rest → Rejects (size_prefixed any_bytes) padded rest → Rejects sized_section padded bytes
-line_not_size_prefixed bytes rest id h n = then_rejects_second {G = λ i. Sized (kind_of_id i)} byte_unambiguous h (record { none = λ p last g. n.none g.encodes.payload last (as_size_prefixed g) })
 
 pub line_rejects : (bytes rest sized after : List ℕ) (id : ℕ) → Decodes byte padded bytes id rest → Decodes (size_prefixed any_bytes) padded rest sized after → RejectsWhole (content (kind_of_id id)) padded sized → Rejects sized_section padded bytes
 line_rejects bytes rest sized after id h g n =
@@ -51,7 +43,13 @@ line_rejects bytes rest sized after id h g n =
       none = λ p last k. n.none p.1 (subst (λ z. content (kind_of_id id) padded z p.1) (sym (decodes_same size_prefixed_bytes_unambiguous g (as_size_prefixed k)).0) k.encodes.contains);
     })
 
-pub ruleset line_steps = (line_rejects)
+-- Where no section decodes, whatever its payload, none of its kind does.
+pub sized_rejects : (bytes : List ℕ) → Rejects any_section padded bytes → Rejects sized_section padded bytes
+sized_rejects bytes n = record {
+  none = λ s rest h.
+      let t = h.encodes in
+      n.none (s.0, t.second.payload) rest (record { front = h.front; split = h.split; encodes = record { front = t.front; back = t.back; joined = t.joined; first = t.first; second = t.second.sized } });
+}
 
 -- ---- the loop
 
@@ -77,21 +75,12 @@ whole_of e h = prefixed_decodes header (members sized_section) e h.read
 pub listed_done : (bytes start rest : List ℕ) (lines : List Listed) → bytes ≡ header ++ start → HasListed start lines rest → length rest ≡ 0 → HasLines bytes lines
 listed_done bytes start rest lines e h l = record { sections = h.sections; read = whole_decodes sized_module bytes rest h.sections (whole_of e h) l; same = h.same }
 
-pub listed_stops : (bytes start rest : List ℕ) (lines : List Listed) → bytes ≡ header ++ start → HasListed start lines rest → length rest ≢ 0 → Rejects sized_section padded rest → StopsBehind bytes (length lines)
+pub listed_stops : (bytes start rest : List ℕ) (lines : List Listed) → bytes ≡ header ++ start → HasListed start lines rest → rest ≢ [] → Rejects sized_section padded rest → StopsBehind bytes (length lines)
 listed_stops bytes start rest lines e h more n = record {
   sections = h.sections;
   rest = rest;
   read = whole_of e h;
   counted = sym (ap length h.same ∙ length-map h.sections line_of);
-  more = λ z. more (ap length z);
+  more = more;
   none = n;
 }
-
-pub line_shorter : (bytes rest : List ℕ) (s : ℕ × (ℕ × Contents)) → Decodes sized_section padded bytes s rest → length rest < length bytes
-line_shorter bytes rest s h = member_shorter sized_section bytes rest s begins h
-  where
-    byte_begins : BeginsWith (λ b. Unit {0}) byte
-    byte_begins mode s x e = (x, [], e, tt)
-
-    begins : BeginsWith (λ b. Unit {0}) sized_section
-    begins = begins_then (λ b. Unit {0}) byte_begins

@@ -1,7 +1,7 @@
 -- This file proves how the reader outlines a module.
 use Rattle.wasm_base.proofs.Words.{standard, ◌≡◌, ◌≢◌, ℕ, ◌<◌, ◌^◌, ◌+◌, ◌-◌, suc, List, [], ◌∷◌, ◌++◌, length, map, take, Option, Some, None, refl, sym, ap, subst, ◌∙◌, append_assoc, append-nil}
 use Rattle.wasm_base.proofs.Words.{arith, AllByRecursion, flat_map, flat_map-append, length-map, take_at, RejectsWhole, padded, Format, any_bytes, any_section, byte, fixed, size_prefixed, header}
-use Rattle.wasm_base.proofs.Words.{members, vec, wasm_module, Decodes, Rejects, BeginsWith, byte_unambiguous, begins_then, section_unambiguous, then_rejects_first, then_rejects_second}
+use Rattle.wasm_base.proofs.Words.{members, wasm_module, Decodes, Rejects, BeginsWith, byte_unambiguous, begins_then, section_unambiguous, then_rejects_first, then_rejects_second}
 use Rattle.wasm_reader.specs.{number_in, Contents, content, Section, IsSection, bytes_of, IsCount, IsOutline, AreOutlines, HasOutline, EndsAt}
 use Rattle.wasm_reader.specs.declared.outlines.Outlined.{Outlined}
 use Rattle.wasm_reader.specs.declared.kinds.SectionKind.{SectionKind}

@@ -1,9 +1,10 @@
 -- This file proves how the iterators over sections and over bodies advance.
-use Rattle.wasm_base.proofs.Words.{◌≡◌, ◌≢◌, ℕ, suc, ◌+◌, ◌-◌, ◌<◌, ◌≤◌, List, [], ◌∷◌, ◌++◌, length, take, drop, refl, sym, ap, subst, ◌∙◌, arith, drop_at, drop-drop, drop_all, length-drop, length-take-le}
-use Rattle.wasm_base.proofs.Words.{padded, any_bytes, any_section, byte, fixed, size_prefixed, header, Decodes, Rejects}
+use Rattle.wasm_base.proofs.Words.{◌≡◌, ◌≢◌, ℕ, ◌+◌, ◌-◌, ◌<◌, ◌≤◌, List, [], ◌∷◌, ◌++◌, length, take, drop, Some, Result, Ok, Err, refl, sym, ap, subst, ◌∙◌, arith, drop_at, drop-drop, drop_all, length-drop, length-take-le}
+use Rattle.wasm_base.proofs.Words.{padded, any_bytes, any_section, byte, size_prefixed, header, Decodes, Rejects}
 use Rattle.std.proofs.lemmas.List.{length-append}
 use Rattle.wasm_base.specs.declared.fault.ReadFault.TheVariants.{Memory}
-use Rattle.wasm_reader.specs.{Section, IsSection, bytes_of, Iterating, Located, ahead, end_of, IsInPayload, GivesSection, GivesError}
+use Rattle.wasm_reader.specs.{Section, IsSection, bytes_of}
+use Rattle.wasm_reader.specs.Iterating.{Iterating, Located, ahead, GivesSection, GivesError, NextSection}
 use Rattle.wasm_reader.specs.declared.read_error.ReadError.{ReadError}
 use Rattle.wasm_reader.proofs.DecodeOutlines.{one_section}
 
@@ -43,6 +44,13 @@ module _ (bytes rest : List ℕ) (offset : ℕ) (s : Section) where
 pub gives_error : (bytes : List ℕ) (offset : ℕ) (e : ReadError) → (e.cause ≢ Memory → Rejects any_section padded (drop offset bytes)) → drop offset bytes ≢ [] → offset ≤ e.offset → e.offset ≤ length bytes → GivesError (record { bytes = bytes; offset = offset }) e (record { bytes = take offset bytes; offset = offset })
 gives_error bytes offset e none more from within = record { none = none; more = more; from = from; within = within; ended = none_after bytes offset (omega (arith, from, within)); stays = refl }
 
+-- A result of `next` that is a section, or an error.
+pub next_section : {old new : Iterating} {r : Result Located ReadError} {s : Located} → r ≡ Ok s → NextSection old (Some r) new → GivesSection old s new
+next_section {old = old} {new = new} e h = subst (λ z. NextSection old (Some z) new) e h
+
+pub next_error : {old new : Iterating} {r : Result Located ReadError} {e : ReadError} → r ≡ Err e → NextSection old (Some r) new → GivesError old e new
+next_error {old = old} {new = new} e h = subst (λ z. NextSection old (Some z) new) e h
+
 -- Fewer bytes are ahead after a section.
 pub section_shrinks : {old new : Iterating} {s : Located} → GivesSection old s new → length (ahead new) < length (ahead old)
 section_shrinks {new = new} {s = s} g = omega (arith, ap length g.split, length-append (bytes_of s.section) (ahead new))
@@ -67,10 +75,8 @@ module _ {old new : Iterating} {s : Located} (g : GivesSection old s new) where
   pub payload_ahead : Decodes (size_prefixed any_bytes) padded (s.section.sized ++ ahead new) s.section.payload (ahead new)
   payload_ahead = record { front = s.section.sized; split = refl; encodes = g.is_section.contains }
 
--- ---- places of errors
-
-pub in_payload : (s : Located) (offset : ℕ) → end_of s ≤ offset + length s.section.payload → offset ≤ end_of s → IsInPayload s offset
-in_payload s offset from within = (from, within)
+  pub more_ahead : ahead old ≢ []
+  more_ahead e = omega (arith, ap length (sym g.split ∙ e))
 
 -- After a section, the offset and the bytes ahead end where they did.
 pub end_stays : {old new : Iterating} {s : Located} → GivesSection old s new → new.offset + length (ahead new) ≡ old.offset + length (ahead old)

@@ -72,6 +72,10 @@ gains offsets s how is_changed encoding old new h n d e = record {
   appended = e ∙ append_assoc old (s.id ∷ []) encoding ∙ ap (λ z. old ++ z) (sym (behind_id how s encoding h));
 }
 
+-- An equal section.
+pub gains_same : {offsets : Offsets} {s t : Section} {how : How} {is_changed : Bool} {old new : List ℕ} → s ≡ t → GainsSection offsets s how is_changed old new → GainsSection offsets t how is_changed old new
+gains_same {offsets = offsets} {how = how} {is_changed = is_changed} {old = old} {new = new} e h = subst (λ z. GainsSection offsets z how is_changed old new) e h
+
 -- ---- sections one after another
 
 pub rewrites_start : (offsets : Offsets) (bytes old : List ℕ) → Rewrites offsets bytes bytes old old nothing

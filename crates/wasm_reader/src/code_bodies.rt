@@ -25,7 +25,7 @@ use wasm_code::Instructions;
 /// ```text
 /// for body in section.bodies()? {
 ///     let body = body?;
-///     let (locals, mut instructions) = body.instructions(alloc)?;
+///     let (locals, mut instructions) = body.instructions()?;
 ///     while let Some(step) = instructions.next().map_err(|error| body.locate(error))? {
 ///         // step.op, instructions.args()
 ///     }
@@ -37,14 +37,15 @@ use wasm_code::Instructions;
 /// An error but `Memory` means that no size-prefixed body is next, or that bytes remain after the
 /// last one. It is the last item.
 #[derive(Clone, Debug, Drop)]
-pub struct Bodies<'a> {
+pub struct Bodies<'a, A: Allocator = Global> {
+    alloc: A,
     left: u32,
     rest: &'a [u8],
     /// The offset of the end of `rest` in the module.
     end: usize,
 }
 
-impl<'a> Model for Bodies<'a> {
+impl<'a, A: Allocator> Model for Bodies<'a, A> {
     ghost Value = { Visiting };
 
     ghost view = { λ b. record { left = b.left; rest = b.rest.now; end = b.end } };
@@ -52,14 +53,14 @@ impl<'a> Model for Bodies<'a> {
     ghost invariant = { λ b. length b.rest.now ≤ b.end };
 }
 
-impl<'a> Section<'a> {
+impl<'a, A: Allocator + Copy> Section<'a, A> {
     /// Decodes the number of bodies of a code section, and returns an iterator over them.
     ///
     /// # Errors
     ///
     /// An error but `Memory` means that this is no code section, or that its payload does not begin
     /// with a number.
-    pub fn bodies(&self) -> Result<Bodies<'a>, ReadError>
+    pub fn bodies(&self) -> Result<Bodies<'a, A>, ReadError>
         ensures id { IfOk result (λ _. self.now.section.id ≡ 10) }
         ensures found { IfOk result (λ it. Decodes u32 padded self.now.section.payload it.left it.rest) }
         ensures end { IfOk result (λ it. it.end ≡ end_of self.now) }
@@ -75,14 +76,20 @@ impl<'a> Section<'a> {
         }
         let payload = self.payload();
         let end = self.range().end;
-        match <u32 as Readable<'a, Global, Padded>>::read(payload, Global) {
-            Ok((left, rest)) => Ok(Bodies { left, rest, end }),
+        let alloc = self.allocator();
+        match <u32 as Readable<'a, A, Padded>>::read(payload, alloc) {
+            Ok((left, rest)) => Ok(Bodies {
+                alloc,
+                left,
+                rest,
+                end,
+            }),
             Err(error) => Err(ReadError::located(error, payload.len(), end)),
         }
     }
 }
 
-impl<'a> Bodies<'a> {
+impl<'a, A: Allocator + Copy> Bodies<'a, A> {
     /// Returns the number of bodies that are left, as the section states it.
     pub fn left(&self) -> u32
         ensures { result ≡ self.now.left }
@@ -91,7 +98,7 @@ impl<'a> Bodies<'a> {
     }
 
     /// Ends the iteration with this error.
-    fn fail(&mut self, error: ReadError) -> Option<Result<CodeBody<'a>, ReadError>>
+    fn fail(&mut self, error: ReadError) -> Option<Result<CodeBody<'a, A>, ReadError>>
         ensures error { result ≡ Some (Err error) }
         ensures ended { self.new ≡ record { left = 0; rest = []; end = self.old.end } }
     {
@@ -101,14 +108,14 @@ impl<'a> Bodies<'a> {
     }
 }
 
-impl<'a> Iterator for Bodies<'a> {
-    type Item = Result<CodeBody<'a>, ReadError>;
+impl<'a, A: Allocator + Copy> Iterator for Bodies<'a, A> {
+    type Item = Result<CodeBody<'a, A>, ReadError>;
 
     ghost next_gives = { NextBody };
 
     ghost remaining = { λ it. at_most (it.left + length it.rest) };
 
-    fn next(&mut self) -> Option<Result<CodeBody<'a>, ReadError>> {
+    fn next(&mut self) -> Option<Result<CodeBody<'a, A>, ReadError>> {
         let (size, end) = (self.rest.len(), self.end);
         if self.left == 0 {
             if size == 0 {
@@ -117,29 +124,34 @@ impl<'a> Iterator for Bodies<'a> {
             let error = ReadFault::SizeMismatch.at(self.rest);
             return self.fail(ReadError::located(error, size, end));
         }
-        match <&'a [u8] as Readable<'a, Global, Padded>>::read(self.rest, Global) {
+        match <&'a [u8] as Readable<'a, A, Padded>>::read(self.rest, self.alloc) {
             Ok((bytes, rest)) => {
                 self.left -= 1;
                 self.rest = rest;
                 let offset = end - rest.len() - bytes.len();
-                Some(Ok(CodeBody { offset, bytes }))
+                Some(Ok(CodeBody {
+                    alloc: self.alloc,
+                    offset,
+                    bytes,
+                }))
             }
             Err(error) => self.fail(ReadError::located(error, size, end)),
         }
     }
 }
 
-impl<'a> FusedIterator for Bodies<'a> {}
+impl<'a, A: Allocator + Copy> FusedIterator for Bodies<'a, A> {}
 
 /// A body of a code section, not yet decoded. Blocks are not matched: a body decodes without its final
 /// `End` too, and with instructions after it.
-#[derive(Clone, Copy, Debug)]
-pub struct CodeBody<'a> {
+#[derive(Clone, Debug, Drop)]
+pub struct CodeBody<'a, A: Allocator = Global> {
+    alloc: A,
     offset: usize,
     bytes: &'a [u8],
 }
 
-impl<'a> Model for CodeBody<'a> {
+impl<'a, A: Allocator> Model for CodeBody<'a, A> {
     ghost Value = { LocatedBody };
 
     ghost view = { λ b. record { offset = b.offset; bytes = b.bytes.now } };
@@ -147,7 +159,7 @@ impl<'a> Model for CodeBody<'a> {
     ghost invariant = { λ b. b.offset + length b.bytes.now < 2 ^ 64 };
 }
 
-impl<'a> CodeBody<'a> {
+impl<'a, A: Allocator + Copy> CodeBody<'a, A> {
     /// Returns the offset of its first byte, after its size prefix, in the module, in bytes.
     pub fn offset(&self) -> usize
         ensures { result ≡ self.now.offset }
@@ -169,9 +181,8 @@ impl<'a> CodeBody<'a> {
     /// # Errors
     ///
     /// An error but `Memory` means that the bytes are no body.
-    pub fn instructions<A: Allocator + Copy>(
+    pub fn instructions(
         &self,
-        alloc: A,
     ) -> Result<(Vec<(u32, ValType), A>, Instructions<'a, A, Standard>), ReadError>
         ensures found { IfOk result (λ x. Decodes (vec (pair u32 val_type)) standard self.now.bytes x.0.items (ahead_in x.1)) }
         ensures same { IfOk result (λ x. x.1.bytes ≡ self.now.bytes) }
@@ -181,7 +192,7 @@ impl<'a> CodeBody<'a> {
         ensures from { IfErr result (λ e. self.now.offset ≤ e.offset) }
         ensures within { IfErr result (λ e. e.offset ≤ self.now.offset + length self.now.bytes) }
     {
-        match Instructions::<A, Standard>::of_standard_body(self.bytes, alloc) {
+        match Instructions::<A, Standard>::of_standard_body(self.bytes, self.alloc) {
             Ok(read) => Ok(read),
             Err(error) => Err(self.locate(error)),
         }

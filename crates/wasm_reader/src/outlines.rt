@@ -28,11 +28,11 @@ pub struct Outlined<'a> {
 
 /// Returns the number of items of a section, if its payload decodes as its kind and the items are
 /// counted.
-fn count<A: Allocator + Copy>(section: &Section<'_>, alloc: A) -> Result<Option<u32>, ReadFault>
+fn count<A: Allocator + Copy>(section: &Section<'_, A>) -> Result<Option<u32>, ReadFault>
     ensures found { IfOk result (λ count. IsCount (section_kind_of section.now.section) section.now.section.payload count) }
     ensures memory { IfErr result (λ e. e ≡ Memory) }
 {
-    match section.count(alloc) {
+    match section.count() {
         Ok(count) => Ok(count),
         Err(error) if error.cause == ReadFault::Memory => Err(ReadFault::Memory),
         Err(_) => Ok(None),
@@ -40,14 +40,11 @@ fn count<A: Allocator + Copy>(section: &Section<'_>, alloc: A) -> Result<Option<
 }
 
 /// Returns the line of a section.
-fn line_of<'a, A: Allocator + Copy>(
-    section: &Section<'a>,
-    alloc: A,
-) -> Result<Outlined<'a>, ReadFault>
+fn line_of<'a, A: Allocator + Copy>(section: &Section<'a, A>) -> Result<Outlined<'a>, ReadFault>
     ensures found { IfOk result (λ line. IsOutline section.now.offset section.now.section line) }
     ensures memory { IfErr result (λ e. e ≡ Memory) }
 {
-    let items = count(section, alloc)?;
+    let items = count(section)?;
     Ok(Outlined {
         id: section.id(),
         offset: section.range().start,
@@ -75,7 +72,7 @@ pub fn outline<'a, A: Allocator + Copy>(
     ensures none { IfErr result (λ e. e.1 ≢ Memory → EndsAt bytes.now e.0) }
     ensures no_module { IfErr result (λ e. e.1 ≢ Memory → RejectsWhole wasm_module padded bytes.now) }
 {
-    let mut sections = match Sections::new(bytes) {
+    let mut sections = match Sections::new(alloc, bytes) {
         Ok(sections) => sections,
         Err(error) => return Err((0, error.cause)),
     };
@@ -87,7 +84,7 @@ pub fn outline<'a, A: Allocator + Copy>(
             Some(Ok(section)) => section,
             Some(Err(error)) => return Err((number, error.cause)),
         };
-        let line = match line_of(&section, alloc) {
+        let line = match line_of(&section) {
             Ok(line) => line,
             Err(fault) => return Err((number, fault)),
         };

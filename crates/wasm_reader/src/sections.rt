@@ -1,11 +1,11 @@
 // Iterates over the sections of a module.
-ghost use Rattle.std.specs.Prelude.{◌≡◌, ◌≢◌, ◌++◌, ◌+◌, ◌<◌, ◌≤◌, ◌×◌, ◌^◌, length, drop, option_map, IfOk, IfErr};
+ghost use Rattle.std.specs.Prelude.{◌≡◌, ◌≢◌, ◌++◌, ◌+◌, ◌<◌, ◌≤◌, ◌^◌, ◌⊎◌, length, drop, option_map, IfOk, IfErr};
 ghost use Rattle.std.specs.Iterator.{at_most};
 ghost use Rattle.wasm_base.specs.Formats.{fixed, header};
 ghost use Rattle.wasm_base.specs.Numbers.{padded, standard};
 ghost use Rattle.wasm_base.specs.Continuing.{RejectsWhole};
 ghost use Rattle.wasm_base.specs.Decoding.{Rejects};
-ghost use Rattle.wasm_base.specs.declared.fault.ReadFault.TheVariants.{Memory};
+ghost use Rattle.wasm_base.specs.declared.fault.ReadFault.TheVariants.{Ended, UnknownTag, Memory};
 ghost use Rattle.wasm_reader.specs.Kinds.{Contents, content, contents_of, number_in};
 ghost use Rattle.wasm_reader.specs.Outlines.{section_of, section_kind_of, bytes_of, IsSection};
 ghost use Rattle.wasm_reader.specs.Iterating.{Iterating, Located, ahead, end_of, known_kind_of, IsInPayload, NextSection};
@@ -34,25 +34,27 @@ fn common_length(bytes: &[u8], other: &[u8]) -> usize
 /// The sections of a module, one after another. It allocates nothing.
 ///
 /// ```text
-/// for section in Sections::new(module)? {
+/// for section in Sections::new(alloc, module)? {
 ///     let section = section?;
-///     // section.id(), section.name(), section.range(), section.items(alloc)?
+///     // section.id(), section.name(), section.range(), section.items()?
 /// }
 /// ```
 ///
 /// It splits a module, and does not validate it: sections may have any ids, in any order and number.
+/// What is decoded of a section is in memory of the allocator.
 ///
 /// # Errors
 ///
 /// An error but `Memory` means that the bytes at the offset of the next section are not an id and a
 /// size-prefixed payload. It is the last item.
 #[derive(Clone, Debug, Drop)]
-pub struct Sections<'a> {
+pub struct Sections<'a, A: Allocator = Global> {
+    alloc: A,
     module: &'a [u8],
     offset: usize,
 }
 
-impl<'a> Model for Sections<'a> {
+impl<'a, A: Allocator> Model for Sections<'a, A> {
     ghost Value = { Iterating };
 
     ghost view = { λ s. record { bytes = s.module.now; offset = s.offset } };
@@ -60,7 +62,7 @@ impl<'a> Model for Sections<'a> {
     ghost invariant = { λ s. s.offset ≤ length s.module.now };
 }
 
-impl<'a> Sections<'a> {
+impl<'a, A: Allocator + Copy> Sections<'a, A> {
     /// Checks the header of a module, and returns an iterator over its sections.
     ///
     /// # Errors
@@ -68,15 +70,17 @@ impl<'a> Sections<'a> {
     /// An error means that the bytes do not begin with the header of a module: `Ended` if there
     /// are fewer than 8, and otherwise `UnknownTag` at the first byte that differs. A component
     /// differs in the version, at offset 4.
-    pub fn new(module: &'a [u8]) -> Result<Self, ReadError>
+    pub fn new(alloc: A, module: &'a [u8]) -> Result<Self, ReadError>
         ensures found { IfOk result (λ it. module.now ≡ header ++ ahead it) }
         ensures offset { IfOk result (λ it. it.offset ≡ length header) }
         ensures same { IfOk result (λ it. it.bytes ≡ module.now) }
         ensures none { IfErr result (λ _. Rejects (fixed header (tt {0})) padded module.now) }
+        ensures cause { IfErr result (λ e. (e.cause ≡ Ended) ⊎ (e.cause ≡ UnknownTag)) }
         ensures within { IfErr result (λ e. e.offset ≤ length module.now) }
     {
         match read_header(module) {
             Ok(rest) => Ok(Sections {
+                alloc,
                 module,
                 offset: module.len() - rest.len(),
             }),
@@ -100,24 +104,25 @@ impl<'a> Sections<'a> {
     }
 }
 
-impl<'a> Iterator for Sections<'a> {
-    type Item = Result<Section<'a>, ReadError>;
+impl<'a, A: Allocator + Copy> Iterator for Sections<'a, A> {
+    type Item = Result<Section<'a, A>, ReadError>;
 
     ghost next_gives = { NextSection };
 
     ghost remaining = { λ it. at_most (length (ahead it)) };
 
-    fn next(&mut self) -> Option<Result<Section<'a>, ReadError>> {
+    fn next(&mut self) -> Option<Result<Section<'a, A>, ReadError>> {
         let offset = self.offset;
         let bytes = &self.module[offset..];
         if bytes.is_empty() {
             return None;
         }
-        match read_standing(bytes, Global) {
+        match read_standing(bytes, self.alloc) {
             Ok((standing, rest)) => {
                 let size = bytes.len() - rest.len();
                 self.offset = offset + size;
                 Some(Ok(Section {
+                    alloc: self.alloc,
                     offset,
                     bytes: &bytes[..size],
                     standing,
@@ -132,19 +137,20 @@ impl<'a> Iterator for Sections<'a> {
     }
 }
 
-impl<'a> FusedIterator for Sections<'a> {}
+impl<'a, A: Allocator + Copy> FusedIterator for Sections<'a, A> {}
 
 /// A section of a module, whose payload is not yet decoded.
 ///
 /// Calls that decode accept all encodings that the standard admits.
-#[derive(Clone, Copy, Debug)]
-pub struct Section<'a> {
+#[derive(Clone, Debug, Drop)]
+pub struct Section<'a, A: Allocator = Global> {
+    alloc: A,
     offset: usize,
     bytes: &'a [u8],
     standing: Standing<'a>,
 }
 
-impl<'a> Model for Section<'a> {
+impl<'a, A: Allocator> Model for Section<'a, A> {
     ghost Value = { Located };
 
     ghost view = { λ s. record { offset = s.offset; section = section_of s.standing } };
@@ -152,7 +158,12 @@ impl<'a> Model for Section<'a> {
     ghost invariant = { λ s. IsSection (section_of s.standing) × (s.bytes.now ≡ bytes_of (section_of s.standing)) × (s.offset + length s.bytes.now < 2 ^ 64) };
 }
 
-impl<'a> Section<'a> {
+impl<'a, A: Allocator + Copy> Section<'a, A> {
+    /// Returns the allocator of what is decoded.
+    pub(crate) fn allocator(&self) -> A {
+        self.alloc
+    }
+
     /// Returns the section without its offset.
     pub(crate) fn standing(&self) -> &Standing<'a>
         ensures { section_of result.now ≡ self.now.section }
@@ -204,14 +215,17 @@ impl<'a> Section<'a> {
     pub fn range(&self) -> Range<usize>
         ensures start { result.start + length self.now.section.payload ≡ end_of self.now }
         ensures end { result.end ≡ end_of self.now }
+        ensures after { self.now.offset < result.start }
     {
         let end = self.offset + self.bytes.len();
         end - self.standing.payload.len()..end
     }
 
     /// Returns the payload: the bytes after the size prefix.
+    #[tactic(auto, using(crate::proofs::DecodeOutlines::payload_small))]
     pub fn payload(&self) -> &'a [u8]
-        ensures { result.now ≡ self.now.section.payload }
+        ensures value { result.now ≡ self.now.section.payload }
+        ensures size { length result.now < 2 ^ 32 }
     {
         self.standing.payload
     }
@@ -223,12 +237,12 @@ impl<'a> Section<'a> {
     /// # Errors
     ///
     /// An error but `Memory` means that the payload does not decode as the section's kind.
-    pub fn count<A: Allocator + Copy>(&self, alloc: A) -> Result<Option<u32>, ReadError>
+    pub fn count(&self) -> Result<Option<u32>, ReadError>
         ensures found { IfOk result (λ number. (x : Contents) × content (section_kind_of self.now.section) standard self.now.section.payload x × (number ≡ number_in x)) }
         ensures none { IfErr result (λ e. e.cause ≢ Memory → RejectsWhole (content (section_kind_of self.now.section)) standard self.now.section.payload) }
         ensures within { IfErr result (λ e. IsInPayload self.now e.offset) }
     {
-        match read_number::<A, Standard>(self.standing.kind(), self.standing.payload, alloc) {
+        match read_number::<A, Standard>(self.standing.kind(), self.standing.payload, self.alloc) {
             Ok(number) => Ok(number),
             Err(error) => Err(ReadError::located(
                 error,
@@ -245,12 +259,14 @@ impl<'a> Section<'a> {
     /// # Errors
     ///
     /// An error but `Memory` means that the payload does not decode as the section's kind.
-    pub fn items<A: Allocator + Copy + 'a>(&self, alloc: A) -> Result<Items<'a, A>, ReadError>
+    pub fn items(&self) -> Result<Items<'a, A>, ReadError>
+    where
+        A: 'a,
         ensures found { IfOk result (λ x. content (section_kind_of self.now.section) standard self.now.section.payload (contents_of x)) }
         ensures none { IfErr result (λ e. e.cause ≢ Memory → RejectsWhole (content (section_kind_of self.now.section)) standard self.now.section.payload) }
         ensures within { IfErr result (λ e. IsInPayload self.now e.offset) }
     {
-        match read_content::<A, Standard>(self.standing.kind(), self.standing.payload, alloc) {
+        match read_content::<A, Standard>(self.standing.kind(), self.standing.payload, self.alloc) {
             Ok(items) => Ok(items),
             Err(error) => Err(ReadError::located(
                 error,

@@ -413,11 +413,11 @@ fn is_same(a: usize, b: usize) -> bool
 /// section, counted from 1. After an error, the old bytes are still the front of the sink.
 fn append_sections<A: Allocator + Copy, B: Allocator>(
     alloc: A,
-    mut sections: Sections<'_>,
+    mut sections: Sections<'_, A>,
     offsets: Offsets,
     sink: &mut Vec<u8, B>,
 ) -> Result<Tally, (usize, ReadFault)>
-    requires { length (ahead sections.entry) < 2 ^ 64 }
+    requires { length (ahead sections) < 2 ^ 64 }
     ensures ok { IfOk result (λ tally. Rewrites offsets (ahead sections.entry) [] sink.old.items sink.new.items tally) }
     ensures front { IsFrontOf sink.old.items sink.new.items }
     ensures none { IfErr result (λ e. e.1 ≢ Memory → StopsAfter (ahead sections.entry) e.0) }
@@ -426,15 +426,12 @@ fn append_sections<A: Allocator + Copy, B: Allocator>(
     let start = sink.len();
     let mut tally = NOTHING;
     loop {
-        let next = match sections.next() {
+        let section = match sections.next() {
             None => return Ok(tally),
-            Some(next) => next,
+            Some(Ok(section)) => section,
+            Some(Err(error)) => return Err((tally.sections + 1, error.cause)),
         };
         let number = tally.sections + 1;
-        let section = match next {
-            Ok(section) => section,
-            Err(error) => return Err((number, error.cause)),
-        };
         let is_level = is_same(section.offset() - first, sink.len() - start);
         let written = match append_section(alloc, section.standing(), offsets, sink) {
             Ok(written) => written,
@@ -465,7 +462,7 @@ fn append_module<A: Allocator + Copy, B: Allocator>(
     ensures front { IsFrontOf sink.old.items sink.new.items }
     ensures why { IfErr result (λ fault. Explains offsets bytes.now fault) }
 {
-    let sections = match Sections::new(bytes) {
+    let sections = match Sections::new(alloc, bytes) {
         Ok(sections) => sections,
         Err(error) => {
             return Err(ModuleFault::Section {

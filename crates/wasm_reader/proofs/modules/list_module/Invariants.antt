@@ -3,8 +3,8 @@ use Rattle.wasm_reader.specs.{ahead}
 use Rattle.wasm_reader.proofs.DecodeModules.{HasListed}
 use Rattle.wasm_reader.proofs.modules.list_module.Given as goal
 
-abbrev pub invariant-loop-sections : goal.invariant-loop-sections
-invariant-loop-sections g l = HasListed (ahead l.initial.sections) l.lines.items (ahead l.sections)
+abbrev pub invariant-loop-lines : goal.invariant-loop-lines
+invariant-loop-lines g l = HasListed (ahead l.initial.sections) l.lines.items (ahead l.sections)
 
-abbrev pub decreases-loop-sections : goal.decreases-loop-sections
-decreases-loop-sections g l = length (ahead l.sections)
+abbrev pub decreases-loop-lines : goal.decreases-loop-lines
+decreases-loop-lines g l = length (ahead l.sections)

@@ -1,28 +1,44 @@
-use Rattle.wasm_base.proofs.Words.{◌≡◌, sym, ◌∙◌, length, arith, eqb-false, empty_not}
-use Rattle.wasm_reader.proofs.MinimalModules.{rewrites_below, rewrites_longer, rewrites_rest, rewrites_stop, rewrites_step}
+use Rattle.wasm_base.proofs.Words.{◌≡◌, length, refl, ◌∙◌, arith, none_left}
+use Rattle.wasm_reader.specs.{ahead}
+use Rattle.wasm_reader.proofs.IteratingLaws.{end_stays, more_ahead, next_error, next_section}
+use Rattle.wasm_reader.proofs.MinimalModules.{gains_same, rewrites_below, rewrites_longer, rewrites_rest, rewrites_start, rewrites_stop, rewrites_step}
 use Rattle.wasm_reader.proofs.whole.append_sections.Goals as goal
+
+pub loop-section-init : goal.loop-section-init
+loop-section-init g c = (rewrites_start c.args.offsets (ahead c.args.sections) c.args.sink.now.items, omega arith, refl)
+
+pub overflow_add-result : goal.overflow_add-result
+overflow_add-result g c =
+    let e = next_error c.in-Some-Err.field-0-is c.in-Some-Err.ensures.steps in
+    let below = rewrites_below _ _ _ _ _ _ c.loop-section.invariant.0 c.requires (λ z. e.more (none_left _ z)) in
+    omega (arith, below)
+
+pub returns-in-Some-Err-clause-none : goal.returns-in-Some-Err-clause-none
+returns-in-Some-Err-clause-none g c = λ n.
+    let e = next_error c.in-Some-Err.field-0-is c.in-Some-Err.ensures.steps in
+    rewrites_stop _ _ _ _ _ _ c.loop-section.invariant.0 e.more (e.none n)
 
 pub overflow_add-number : goal.overflow_add-number
 overflow_add-number g c =
-    let below = rewrites_below c.args.offsets c.args.bytes.now c.loop-rest.rest.now c.args.sink.now.items c.loop-rest.sink.items c.loop-rest.tally c.loop-rest.invariant.0 c.requires (eqb-false _ _ (sym c.is_empty.ensures ∙ c.if-is_empty.false)) in
+    let s = next_section c.in-Some-Ok.field-0-is c.in-Some-Ok.ensures.steps in
+    let below = rewrites_below _ _ _ _ _ _ c.loop-section.invariant.0 c.requires (λ z. more_ahead s (none_left _ z)) in
     omega (arith, below)
 
-pub returns-in-Err-clause-none : goal.returns-in-Err-clause-none
-returns-in-Err-clause-none g c = λ n. rewrites_stop _ _ _ _ _ _ c.loop-rest.invariant.0 (empty_not _ (eqb-false _ _ (sym c.is_empty.ensures ∙ c.if-is_empty.false))) (c.in-Err.ensures.none n)
-
 pub and-tally-requires : goal.and-tally-requires
-and-tally-requires g c = (
-  rewrites_below c.args.offsets c.args.bytes.now c.loop-rest.rest.now c.args.sink.now.items c.loop-rest.sink.items c.loop-rest.tally c.loop-rest.invariant.0 c.requires (eqb-false _ _ (sym c.is_empty.ensures ∙ c.if-is_empty.false)),
-  c.loop-rest.invariant.1,
-)
+and-tally-requires g c =
+    let s = next_section c.in-Some-Ok.field-0-is c.in-Some-Ok.ensures.steps in
+    (rewrites_below _ _ _ _ _ _ c.loop-section.invariant.0 c.requires (λ z. more_ahead s (none_left _ z)), c.loop-section.invariant.1)
 
-pub loop-rest-preserved : goal.loop-rest-preserved
-loop-rest-preserved g c =
+pub loop-section-preserved : goal.loop-section-preserved
+loop-section-preserved g c =
+    let s = next_section c.in-Some-Ok.field-0-is c.in-Some-Ok.ensures.steps in
+    let before = c.loop-section.invariant in
     let at_start : c.len-start.result ≡ length c.args.sink.now.items = search (c.len-start.ensures, c.args.sink.now.ok) in
-    let at_end : c.len.result ≡ length c.loop-rest.sink.items = search (c.len.ensures, c.loop-rest.sink.ok) in
-    let rest = rewrites_rest _ _ _ _ _ _ c.loop-rest.invariant.0 in
-    let longer = rewrites_longer _ _ _ _ _ _ c.loop-rest.invariant.0 in (
-      rewrites_step _ _ _ _ _ _ _ _ _ _ _ _ _ _ _ c.loop-rest.invariant.0 c.in-Ok.ensures.found c.in-Ok.ensures.split c.in-Ok-append_section.ensures.ok c.is_same-is_level.ensures
-          (omega (arith, rest)) (omega (arith, at_start, at_end, longer)) c.and-tally.ensures.tallied,
+    let at_end : c.len.result ≡ length c.loop-section.sink.items = search (c.len.ensures, c.loop-section.sink.ok) in
+    let rest = rewrites_rest _ _ _ _ _ _ before.0 in
+    let longer = rewrites_longer _ _ _ _ _ _ before.0 in (
+      rewrites_step _ _ _ _ _ _ _ _ _ _ _ _ _ _ _ before.0 s.is_section s.split (gains_same c.standing.ensures c.in-Ok.ensures.ok) c.is_same-is_level.ensures
+          (omega (arith, rest, before.2, s.offset, c.offset.ensures, c.offset-first.ensures)) (omega (arith, at_start, at_end, longer)) (λ ws w t e. c.and-tally.ensures.tallied ws w t (c.standing-in-loop-section.ensures ∙ e)),
       c.and-tally.ensures.kept,
+      end_stays s ∙ before.2,
     )

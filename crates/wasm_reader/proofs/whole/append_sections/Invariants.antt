@@ -2,11 +2,11 @@ use Rattle.wasm_base.proofs.Words.{◌≡◌, ◌≤◌, ◌+◌, length}
 use Rattle.wasm_reader.specs.{Rewrites, ahead}
 use Rattle.wasm_reader.proofs.whole.append_sections.Given as goal
 
-abbrev pub invariant-loop-sections : goal.invariant-loop-sections
-invariant-loop-sections g l =
+abbrev pub invariant-loop-section : goal.invariant-loop-section
+invariant-loop-section g l =
     Rewrites l.initial.offsets (ahead l.initial.sections) (ahead l.sections) l.initial.sink.items l.sink.items l.tally
     × (l.tally.kept ≤ l.tally.sections)
     × (l.sections.offset + length (ahead l.sections) ≡ l.initial.sections.offset + length (ahead l.initial.sections))
 
-abbrev pub decreases-loop-sections : goal.decreases-loop-sections
-decreases-loop-sections g l = length (ahead l.sections)
+abbrev pub decreases-loop-section : goal.decreases-loop-section
+decreases-loop-section g l = length (ahead l.sections)

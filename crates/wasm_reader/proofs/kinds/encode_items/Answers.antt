@@ -1,0 +1,15 @@
+use Rattle.wasm_base.proofs.Words.{◌≡◌, ℕ, List, map, sym, ap, subst, ◌∙◌, on_ok, AppendsMinimal}
+use Rattle.wasm_custom.proofs.Words.{instance_view, hints_view}
+use Rattle.wasm_reader.specs.{Contents, Hints, CoreInstances, content, contents_of, kind_in}
+use Rattle.wasm_reader.proofs.KindLaws.{AppendsItems, items_appended}
+use Rattle.wasm_reader.proofs.kinds.encode_items.Goals as goal
+
+-- The items are those of a case of a match.
+of_items : (x y : Contents) (old new : List ℕ) → x ≡ y → AppendsItems y old new → AppendsMinimal (content (kind_in x)) x old new
+of_items x y old new e a = subst (λ z. AppendsMinimal (content (kind_in z)) z old new) (sym e) (items_appended y old new a)
+
+pub returns-in-Hints-clause-ok : goal.returns-in-Hints-clause-ok
+returns-in-Hints-clause-ok g c = on_ok c.append_hints.result _ _ c.append_hints.ensures.ok λ a. of_items _ _ _ _ (ap contents_of c.in-Hints.is ∙ ap (λ v. Hints (map hints_view v)) (sym c.deref-in-Hints.ensures.value)) a
+
+pub returns-in-CoreInstances-clause-ok : goal.returns-in-CoreInstances-clause-ok
+returns-in-CoreInstances-clause-ok g c = on_ok c.append_instances.result _ _ c.append_instances.ensures.ok λ a. of_items _ _ _ _ (ap contents_of c.in-CoreInstances.is ∙ ap (λ v. CoreInstances (map instance_view v)) (sym c.deref-in-CoreInstances.ensures.value)) a
