@@ -2,6 +2,7 @@
 from __future__ import annotations
 
 from .cases import HEAD, Case, item_of
+from .standard import alias, class_of, opcode, text_name
 
 
 def signature(case: Case) -> str:
@@ -20,9 +21,17 @@ def signature(case: Case) -> str:
 
 def documentation(case: Case, proved: dict[str, str]) -> str:
     """Returns the doc comment of a call."""
-    name = proved.get(case.call)
-    by = ", by the proved [`%s`](insn::InstructionSink::%s)" % (name, name) if name else ""
-    return "    /// Appends [`%s`](super::Instruction::%s)%s.\n" % (case.name, case.name, by)
+    lines = ["Appends `%s`, opcode `%s`, %s." % (text_name(case), opcode(case), class_of(case)), ""]
+    lines.append("As a value it is [`%s`](super::Instruction::%s)." % (case.name, case.name))
+    if case.call in proved:
+        name = proved[case.call]
+        lines.append("It is written by the proved [`%s`](insn::InstructionSink::%s) of `fallible`." % (name, name))
+    ordered, given = [name for name, _ in case.parts], [name for name, _ in case.parameters]
+    if ordered != given:
+        lines.append("Its bytes have %s." % " before ".join("`%s`" % name for name in ordered))
+    if any(map(item_of, case.types)) and not case.is_one:
+        lines += ["", "# Panics", "", "Panics if the list has more than 4294967295 items."]
+    return "".join("    /// %s\n" % line if line else "    ///\n" for line in lines)
 
 
 def body(case: Case, proved: dict[str, str]) -> str:
@@ -42,8 +51,8 @@ def body(case: Case, proved: dict[str, str]) -> str:
 
 def calls_file(cases: list[Case], proved: dict[str, str]) -> str:
     """Returns the file."""
-    calls = [documentation(case, proved) + "    #[inline]\n%s{\n        %s\n    }\n" % (signature(case), body(case, proved)) for case in cases]
-    return HEAD + """//! A named call for each instruction.
+    calls = [documentation(case, proved) + alias(case) + "    #[inline]\n%s{\n        %s\n    }\n" % (signature(case), body(case, proved)) for case in cases]
+    return HEAD + """//! The named calls of `InstructionSink`, one for each instruction.
 
 use super::InstructionSink;
 use crate::base::{HeapType, RefType, ValType};
