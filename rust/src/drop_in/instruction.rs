@@ -42,12 +42,12 @@ use core::slice;
 /// ```
 ///
 /// [Instructions]: https://webassembly.github.io/spec/core/binary/instructions.html
-#[derive(Clone, Debug)]
-#[non_exhaustive]
 #[doc(alias = "opcode")]
 #[doc(alias = "operator")]
 #[doc(alias = "mnemonic")]
 #[doc(alias = "wat")]
+#[derive(Clone, Debug)]
+#[non_exhaustive]
 pub enum Instruction<'a> {
     /// `unreachable`, opcode `00`, a control instruction.
     /// Its call is [`unreachable`](super::InstructionSink::unreachable).

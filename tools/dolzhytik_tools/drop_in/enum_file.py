@@ -105,12 +105,12 @@ use core::slice;
 /// ```
 ///
 /// [Instructions]: https://webassembly.github.io/spec/core/binary/instructions.html
-#[derive(Clone, Debug)]
-#[non_exhaustive]
 #[doc(alias = "opcode")]
 #[doc(alias = "operator")]
 #[doc(alias = "mnemonic")]
 #[doc(alias = "wat")]
+#[derive(Clone, Debug)]
+#[non_exhaustive]
 pub enum Instruction<'a> {
 %s}
 
