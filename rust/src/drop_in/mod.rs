@@ -1,17 +1,22 @@
 //! The names of the Rust crate `wasm-encoder`, over proved encoders.
 //!
-//! A core section is the bytes of its entries and their number (`entries`). Each entry is appended by the proved `encode` that the section of its name in
-//! [`fallible`](crate::fallible) calls too, and the section by the proved `encode_section`. There a section also keeps where each entry ends, which takes eight bytes an entry, and time.
-//! A list of a custom section is the proved one, whose calls are made.
+//! A core section holds the bytes of its entries and their number (`entries`). Entries and sections
+//! are appended by the proved `encode` and `encode_section` that the section of the same name in
+//! [`fallible`](crate::fallible) calls too. That section also keeps the end of each entry, which
+//! takes eight bytes an entry, and time. A list of a custom section is the proved list.
 //!
-//! An instruction is written by a proved named call, or else by the proved `encode` of its opcode and its immediates. A body and a module are bytes here, since the crate lends them
-//! before their end, and so [`Function::raw`] and [`Module::section`] append by themselves, as do the calls on values of which nothing is known here: [`encode_vec`], and `encode` of a
-//! list and of an option. Nothing of this is proved; it is tested.
+//! An instruction is appended by a proved named call, or by the proved `encode` of its opcode and
+//! its immediates. A body and a module are lists of bytes here, since the crate lends these before
+//! they are complete. So [`Function::raw`] and [`Module::section`] append by themselves. So do
+//! [`encode_vec`] and `encode` of lists and options, whose items may be of any type. Nothing of this
+//! is proved; it is tested.
 //!
-//! Values that the proved calls take are the same types here, but for `kinds` and `imports`, whose enums have the crate's cases and sizes, and `From` both ways.
+//! Values that the proved calls take are the same types here. The enums of `kinds` and `imports` are
+//! not: they have the crate's cases and sizes, and `From` both ways.
 //!
-//! What the proved calls return as an error ends as in the crate: a panic where a count, run or length would pass 4294967295, and [`handle_alloc_error`] where memory is
-//! refused. Sinks that refuse nothing (`entries`) leave the proved encoders no path for an error.
+//! An error of a proved call ends here as in the crate: a panic where a count, run or length would
+//! pass 4294967295, and [`handle_alloc_error`] where an allocation fails. Sinks whose calls never
+//! fail (`entries`) leave the proved encoders no path for an error.
 
 #[rustfmt::skip]
 mod calls;
@@ -30,16 +35,317 @@ mod sections;
 mod types;
 mod values;
 
-pub use crate::base::{
-    AbstractHeapType, CORE_FUNCTION_EXACT_SORT, CORE_FUNCTION_SORT, CORE_GLOBAL_SORT,
-    CORE_MEMORY_SORT, CORE_TABLE_SORT, CORE_TAG_SORT, HeapType, RefType, ValType, encoding_size,
-};
-pub use crate::custom::{BranchHint, CoreDumpValue, DataSymbolDefinition, RawCustomSection};
-pub use crate::immediates::{
-    BlockType, Catch, Handle, Ieee32, Ieee64, Lane, MemArg, MemArgOrdering, MemArgTarget, Ordering,
-};
-pub use crate::sections::{DataCountSection, GlobalType, MemoryType, StartSection, TableType};
-pub use crate::types::{ArrayType, ContType, FieldType, StorageType};
+/// The kind byte of functions in the encodings of imports and exports. Core specification, Modules,
+/// Export Section.
+///
+pub use crate::base::CORE_FUNCTION_SORT;
+
+/// The kind byte of functions of exactly one type in the encodings of imports and exports, by the
+/// custom descriptors proposal. [`EntityType::FunctionExact`] is encoded with it.
+///
+pub use crate::base::CORE_FUNCTION_EXACT_SORT;
+
+/// The kind byte of globals in the encodings of imports and exports. Core specification, Modules,
+/// Export Section.
+///
+pub use crate::base::CORE_GLOBAL_SORT;
+
+/// The kind byte of memories in the encodings of imports and exports. Core specification, Modules,
+/// Export Section.
+///
+pub use crate::base::CORE_MEMORY_SORT;
+
+/// The kind byte of tables in the encodings of imports and exports. Core specification, Modules,
+/// Export Section.
+///
+pub use crate::base::CORE_TABLE_SORT;
+
+/// The kind byte of tags in the encodings of imports and exports. Core specification, Modules,
+/// Export Section.
+///
+pub use crate::base::CORE_TAG_SORT;
+
+/// An abstract heap type, such as `func` or `any`, which a [`HeapType`] holds. Core specification,
+/// Types, Heap Types.
+///
+#[doc(alias = "gc")]
+#[doc(alias = "any")]
+#[doc(alias = "exnref")]
+pub use crate::base::AbstractHeapType;
+
+/// A heap type: what a [`RefType`] refers to, and the operand of `ref.null`, `ref.test` and
+/// `ref.cast`. Core specification, Types, Heap Types.
+///
+/// ```
+/// use dolzhytik::{Encode, HeapType, Instruction};
+///
+/// let mut bytes = Vec::new();
+/// Instruction::RefNull(HeapType::FUNC).encode(&mut bytes);
+/// Instruction::RefNull(HeapType::Concrete(64)).encode(&mut bytes);
+/// // ref.null func: D0 70. ref.null of type 64: D0, and 64 as signed LEB128, C0 00.
+/// assert_eq!(bytes, [0xD0, 0x70, 0xD0, 0xC0, 0x00]);
+/// ```
+///
+pub use crate::base::HeapType;
+
+/// A reference type: the element type of a [`TableType`] and of [`Elements::Expressions`], and a
+/// case of [`ValType`]. Core specification, Types, Reference Types.
+///
+/// ```
+/// use dolzhytik::{AbstractHeapType, Encode, RefType};
+///
+/// let mut bytes = Vec::new();
+/// RefType::FUNCREF.encode(&mut bytes);
+/// RefType::new_abstract(AbstractHeapType::Eq, false, false).encode(&mut bytes);
+/// // funcref: 70. A reference to eq (6D) that is not null: 64 6D.
+/// assert_eq!(bytes, [0x70, 0x64, 0x6D]);
+/// ```
+///
+#[doc(alias = "reference types")]
+pub use crate::base::RefType;
+
+/// A value type: the type of parameters, results, locals and globals.
+///
+/// [`Function::new`], [`CoreTypeEncoder::function`] and [`GlobalType`] take it. Core specification,
+/// Types, Value Types.
+///
+/// ```
+/// use dolzhytik::{Encode, ValType};
+///
+/// let mut bytes = Vec::new();
+/// [ValType::I32, ValType::F64, ValType::FUNCREF][..].encode(&mut bytes);
+/// // Three types: 7F, 7C, 70.
+/// assert_eq!(bytes, [3, 0x7F, 0x7C, 0x70]);
+/// ```
+///
+pub use crate::base::ValType;
+
+/// Returns the number of bytes of a number as minimal LEB128, such as a count or a size prefix.
+///
+/// ```
+/// use dolzhytik::encoding_size;
+///
+/// // Each byte has seven bits of the number.
+/// assert_eq!([encoding_size(127), encoding_size(128), encoding_size(u32::MAX)], [1, 2, 5]);
+/// ```
+///
+#[doc(alias = "leb128")]
+pub use crate::base::encoding_size;
+
+/// A branch hint, which [`BranchHints::function_hints`] takes: the offset of a branch and its likely
+/// direction. The branch hinting proposal defines it.
+///
+pub use crate::custom::BranchHint;
+
+/// A value in a core dump, which [`CoreDumpStackSection::frame`] takes. The tool conventions define
+/// it in [Coredump](https://github.com/WebAssembly/tool-conventions/blob/main/Coredump.md).
+///
+/// ```
+/// use dolzhytik::{CoreDumpValue, Encode};
+///
+/// let mut bytes = Vec::new();
+/// CoreDumpValue::Missing.encode(&mut bytes);
+/// CoreDumpValue::I32(-1).encode(&mut bytes);
+/// // A missing value: 01. An i32, 7F, of value -1 as signed LEB128, 7F.
+/// assert_eq!(bytes, [0x01, 0x7F, 0x7F]);
+/// ```
+///
+#[doc(alias = "coredump")]
+pub use crate::custom::CoreDumpValue;
+
+/// The bytes of a data symbol, which [`SymbolTable::data`] takes. The tool conventions define it in
+/// [Linking](https://github.com/WebAssembly/tool-conventions/blob/main/Linking.md).
+///
+pub use crate::custom::DataSymbolDefinition;
+
+/// A custom section as it is in a module, size prefix included, which [`Module::section`] copies.
+///
+/// To have the size prefix and the name written, use [`CustomSection`].
+///
+pub use crate::custom::RawCustomSection;
+
+/// The type of a block: an immediate of `block`, `loop`, `if` and `try_table`, as of
+/// [`InstructionSink::block`]. Core specification, Instructions, Control Instructions.
+///
+/// ```
+/// use dolzhytik::{BlockType, Encode, ValType};
+///
+/// let mut bytes = Vec::new();
+/// BlockType::Empty.encode(&mut bytes);
+/// BlockType::Result(ValType::I32).encode(&mut bytes);
+/// BlockType::FunctionType(64).encode(&mut bytes);
+/// // Empty: 40. The value type i32: 7F. An index is signed LEB128: 64 is C0 00.
+/// assert_eq!(bytes, [0x40, 0x7F, 0xC0, 0x00]);
+/// ```
+///
+pub use crate::immediates::BlockType;
+
+/// A catch clause, which [`InstructionSink::try_table`] takes. Core specification, Instructions,
+/// Control Instructions.
+///
+/// ```
+/// use dolzhytik::{BlockType, Catch, InstructionSink};
+///
+/// let mut bytes = Vec::new();
+/// let catches = [Catch::One { tag: 5, label: 1 }, Catch::All { label: 2 }];
+/// InstructionSink::new(&mut bytes).try_table(BlockType::Empty, catches);
+/// // try_table: 1F. The empty type: 40. Two clauses: 00, tag 5, label 1; and 02, label 2.
+/// assert_eq!(bytes, [0x1F, 0x40, 2, 0x00, 5, 1, 0x02, 2]);
+/// ```
+///
+#[doc(alias = "exception handling")]
+pub use crate::immediates::Catch;
+
+/// A handler of `resume`, `resume_throw` and `resume_throw_ref`, as in [`Instruction::Resume`]. The
+/// stack switching proposal defines it.
+///
+#[doc(alias = "continuation")]
+#[doc(alias = "stack switching")]
+pub use crate::immediates::Handle;
+
+/// A float of 32 bits, by its bits, which [`InstructionSink::f32_const`] takes. A NaN keeps its
+/// payload.
+///
+/// An `f32` converts to it: `1.5_f32.into()`. Core specification, Binary Format, Values, Floating-Point.
+///
+pub use crate::immediates::Ieee32;
+
+/// A float of 64 bits, by its bits, which [`InstructionSink::f64_const`] takes. A NaN keeps its
+/// payload.
+///
+/// An `f64` converts to it: `1.5_f64.into()`. Core specification, Binary Format, Values, Floating-Point.
+///
+pub use crate::immediates::Ieee64;
+
+/// The index of a lane of a vector, which calls such as [`InstructionSink::i8x16_replace_lane`] take.
+/// It is encoded as one byte.
+///
+#[doc(alias = "simd")]
+pub use crate::immediates::Lane;
+
+/// A memory argument: the memory, offset and alignment of a load or a store.
+///
+/// Calls such as [`InstructionSink::i32_load`] take it. `align` is the exponent: 2 for four bytes.
+/// Core specification, Instructions, Memory Instructions.
+///
+/// ```
+/// use dolzhytik::{InstructionSink, MemArg, MemArgTarget};
+///
+/// let in_memory = |index| MemArg {
+///     offset: 4,
+///     align: 2,
+///     target: MemArgTarget::Memory(index),
+///     ordering: None,
+/// };
+/// let mut bytes = Vec::new();
+/// InstructionSink::new(&mut bytes).i32_load(in_memory(0)).i32_load(in_memory(1));
+/// // i32.load: 28. Memory 0: the alignment, 2, and the offset, 4. Another memory: bit 6 of the
+/// // alignment, 42, and its index, 1, before the offset.
+/// assert_eq!(bytes, [0x28, 2, 4, 0x28, 0x42, 1, 4]);
+/// ```
+///
+#[doc(alias = "memarg")]
+#[doc(alias = "memory64")]
+#[doc(alias = "multi-memory")]
+pub use crate::immediates::MemArg;
+
+/// The ordering of an atomic access: a field of [`MemArg`]. The shared-everything threads proposal
+/// defines it.
+///
+#[doc(alias = "atomic")]
+pub use crate::immediates::MemArgOrdering;
+
+/// The memory or the array type of an access: a field of [`MemArg`].
+///
+pub use crate::immediates::MemArgTarget;
+
+/// The ordering of an atomic instruction, which calls such as [`InstructionSink::atomic_fence`] take.
+///
+/// It is not [`core::cmp::Ordering`]. The shared-everything threads proposal defines it.
+///
+#[doc(alias = "atomic")]
+pub use crate::immediates::Ordering;
+
+/// The data count section, which [`Module::section`] takes before the code section.
+///
+/// Core specification, Modules, Data Count Section.
+///
+/// ```
+/// use dolzhytik::{DataCountSection, Section};
+///
+/// let mut bytes = Vec::new();
+/// DataCountSection { count: 128 }.append_to(&mut bytes);
+/// // Id 12, size 2, 128 as LEB128.
+/// assert_eq!(bytes, [12, 2, 0x80, 0x01]);
+/// ```
+///
+#[doc(alias = "bulk memory")]
+pub use crate::sections::DataCountSection;
+
+/// The type of a global, which [`GlobalSection::global`] takes, and [`EntityType::Global`] for an
+/// imported one. Core specification, Types, Global Types.
+///
+pub use crate::sections::GlobalType;
+
+/// The type of a memory, which [`MemorySection::memory`] takes, and [`EntityType::Memory`] for an
+/// imported one. Core specification, Types, Memory Types.
+///
+/// `shared` is of the threads proposal, and `page_size_log2` of the custom page sizes proposal.
+///
+#[doc(alias = "memory64")]
+#[doc(alias = "custom page sizes")]
+#[doc(alias = "limits")]
+pub use crate::sections::MemoryType;
+
+/// The start section, which [`Module::section`] takes. Core specification, Modules, Start Section.
+///
+/// ```
+/// use dolzhytik::{Section, StartSection};
+///
+/// let mut bytes = Vec::new();
+/// StartSection { function_index: 300 }.append_to(&mut bytes);
+/// // Id 8, size 2, 300 as LEB128: 300 = 2 * 128 + 44.
+/// assert_eq!(bytes, [8, 2, 0xAC, 0x02]);
+/// ```
+///
+pub use crate::sections::StartSection;
+
+/// The type of a table, which [`TableSection::table`] takes, and [`EntityType::Table`] for an
+/// imported one. Core specification, Types, Table Types.
+///
+/// `shared` is of the shared-everything threads proposal.
+///
+#[doc(alias = "table64")]
+#[doc(alias = "limits")]
+pub use crate::sections::TableType;
+
+/// An array type: a case of [`CompositeInnerType`]. To add one without a value, see
+/// [`CoreTypeEncoder::array`]. Core specification, Types, Composite Types.
+///
+#[doc(alias = "gc")]
+pub use crate::types::ArrayType;
+
+/// A continuation type, which [`CoreTypeEncoder::cont`] takes. The stack switching proposal defines
+/// it.
+///
+#[doc(alias = "stack switching")]
+pub use crate::types::ContType;
+
+/// A field of a structure, which [`CoreTypeEncoder::struct_`] takes. Core specification, Types,
+/// Composite Types.
+///
+#[doc(alias = "gc")]
+pub use crate::types::FieldType;
+
+/// A storage type, which [`CoreTypeEncoder::array`] and [`FieldType`] take. Core specification,
+/// Types, Composite Types.
+///
+/// A [`ValType`] converts to it.
+///
+#[doc(alias = "gc")]
+#[doc(alias = "packed")]
+pub use crate::types::StorageType;
+
 pub use code::{CodeSection, Function, InstructionSink};
 pub use const_expr::ConstExpr;
 pub use custom::{
@@ -65,7 +371,8 @@ use crate::base::{CowSlice, Refused, Result};
 use alloc_crate::alloc::{Layout, handle_alloc_error};
 use alloc_crate::borrow::Cow;
 
-/// What a refusal is here. How much memory was asked for isn't known any more.
+/// Ends a call that the proved one returned an error for. The size of a failed allocation is not
+/// known here.
 #[cold]
 #[inline(never)]
 fn refuse(refused: Refused) -> ! {
@@ -75,7 +382,7 @@ fn refuse(refused: Refused) -> ! {
     }
 }
 
-/// What a proved call answers where it isn't refused.
+/// Returns the value of a proved call that did not fail.
 #[inline]
 fn done<T>(answer: Result<T>) -> T {
     match answer {
@@ -84,7 +391,7 @@ fn done<T>(answer: Result<T>) -> T {
     }
 }
 
-/// The items for a proved call. None is copied.
+/// Converts items for a proved call. None is copied.
 fn handed<T: Clone>(items: Cow<'_, [T]>) -> CowSlice<'_, T> {
     match items {
         Cow::Borrowed(items) => CowSlice::Borrowed(items),
@@ -92,7 +399,7 @@ fn handed<T: Clone>(items: Cow<'_, [T]>) -> CowSlice<'_, T> {
     }
 }
 
-/// Writes `Default` by `new`.
+/// Implements `Default` by `new`.
 macro_rules! default {
     ($($name:ident),*) => {
         $(
@@ -105,11 +412,11 @@ macro_rules! default {
     };
 }
 
-/// Writes that something may be built by the proved calls, which refuse, and then taken here.
+/// Implements the conversion from the proved builder, whose calls return errors.
 macro_rules! taken {
     ($($name:ident of $module:ident),*) => {
         $(
-            #[doc = concat!("What the calls of [`fallible::", stringify!($name), "`](crate::fallible::", stringify!($name), ") have built.")]
+            #[doc = concat!("Converts a value built by the calls of [`fallible::", stringify!($name), "`](crate::fallible::", stringify!($name), ").")]
             impl From<$crate::$module::$name> for $name {
                 fn from(built: $crate::$module::$name) -> Self {
                     $name(built)
@@ -119,7 +426,7 @@ macro_rules! taken {
     };
 }
 
-/// Writes the copies of what stands over something proved.
+/// Implements `Clone` over a proved builder.
 macro_rules! copied {
     ($($name:ident),*) => {
         $(
@@ -132,7 +439,7 @@ macro_rules! copied {
     };
 }
 
-/// Writes the bytes of what stands over something proved.
+/// Implements `Encode` over a proved builder.
 macro_rules! encoded {
     ($($name:ident),*) => {
         $(
@@ -146,7 +453,7 @@ macro_rules! encoded {
     };
 }
 
-/// Writes the bytes of a type as those of the proved one, which is made of a copy.
+/// Implements `Encode` by the proved type, to which a copy is converted.
 macro_rules! by_proved {
     ($module:ident: $($name:ident)*) => {
         $(
@@ -161,7 +468,7 @@ macro_rules! by_proved {
     };
 }
 
-/// Writes the id of a section, and its bytes.
+/// Implements `Section` and `Encode` over a proved section.
 macro_rules! section {
     ($($name:ident of $id:ident),*) => {
         $(
@@ -177,23 +484,23 @@ macro_rules! section {
     };
 }
 
-/// Writes what a section of entries has in common with others: no entries at first, their number,
-/// its bytes, and that it can be made of the proved section of its name.
+/// Implements what all sections of counted entries have: `new`, `len`, `is_empty`, `Encode`,
+/// `Section`, `Debug`, and the conversion from the proved section of the same name.
 macro_rules! listed {
     ($name:ident of $module:ident $id:ident) => {
         impl $name {
-            /// No entries.
+            /// Creates a section without entries.
             pub const fn new() -> Self {
                 $name($crate::drop_in::entries::Entries::new())
             }
 
-            /// How many entries there are.
+            /// Returns the number of entries.
             #[inline]
             pub fn len(&self) -> u32 {
                 self.0.count
             }
 
-            /// There are no entries.
+            /// Returns `true` if there are no entries.
             #[inline]
             pub fn is_empty(&self) -> bool {
                 self.0.count == 0
@@ -206,7 +513,7 @@ macro_rules! listed {
             }
         }
 
-        #[doc = concat!("What the calls of [`", stringify!($module), "::", stringify!($name), "`](crate::", stringify!($module), "::", stringify!($name), ") have built. The entries are copied.")]
+        #[doc = concat!("Converts a section built by the calls of [`fallible::", stringify!($name), "`](crate::fallible::", stringify!($name), "). The entries are copied.")]
         impl From<$crate::$module::$name> for $name {
             fn from(built: $crate::$module::$name) -> Self {
                 $name($crate::drop_in::entries::Entries::taken(built.len(), |i| built.piece(i)))
@@ -238,17 +545,17 @@ macro_rules! listed {
     };
 }
 
-/// Writes the number of entries of what stands over something proved.
+/// Defines `len` and `is_empty` over a proved builder.
 macro_rules! counted {
     ($($name:ident),*) => {
         $(
             impl $name {
-                /// How many entries there are.
+                /// Returns the number of entries.
                 pub fn len(&self) -> u32 {
                     self.0.len()
                 }
 
-                /// There are no entries.
+                /// Returns `true` if there are no entries.
                 pub fn is_empty(&self) -> bool {
                     self.0.is_empty()
                 }
