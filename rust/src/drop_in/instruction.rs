@@ -21,8 +21,8 @@ use core::slice;
 /// hexadecimal, and its class. Instructions whose line names no proposal are defined in the core
 /// specification, Binary Format, [Instructions].
 ///
-/// The enum is `non_exhaustive`: a `match` outside this package needs a wildcard. For a proved
-/// reader of instructions, see [`reader`](crate::reader).
+/// The enum is `non_exhaustive`: a `match` outside this package needs a wildcard. To decode
+/// instructions, see [`reader::CodeBody::instructions`](crate::reader::CodeBody::instructions).
 ///
 /// ```
 /// use dolzhytik::{BlockType, Encode, Instruction};
@@ -46,6 +46,10 @@ use core::slice;
 #[doc(alias = "operator")]
 #[doc(alias = "mnemonic")]
 #[doc(alias = "wat")]
+#[doc(alias = "simd")]
+#[doc(alias = "threads")]
+#[doc(alias = "tail call")]
+#[doc(alias = "bulk memory")]
 #[derive(Clone, Debug)]
 #[non_exhaustive]
 pub enum Instruction<'a> {

@@ -38,35 +38,49 @@ mod values;
 /// The kind byte of functions in the encodings of imports and exports. Core specification, Modules,
 /// Export Section.
 ///
+/// The same constant is in [`fallible`](crate::fallible), whose page says:
+///
 pub use crate::base::CORE_FUNCTION_SORT;
 
 /// The kind byte of functions of exactly one type in the encodings of imports and exports, by the
 /// custom descriptors proposal. [`EntityType::FunctionExact`] is encoded with it.
+///
+/// The same constant is in [`fallible`](crate::fallible), whose page says:
 ///
 pub use crate::base::CORE_FUNCTION_EXACT_SORT;
 
 /// The kind byte of globals in the encodings of imports and exports. Core specification, Modules,
 /// Export Section.
 ///
+/// The same constant is in [`fallible`](crate::fallible), whose page says:
+///
 pub use crate::base::CORE_GLOBAL_SORT;
 
 /// The kind byte of memories in the encodings of imports and exports. Core specification, Modules,
 /// Export Section.
+///
+/// The same constant is in [`fallible`](crate::fallible), whose page says:
 ///
 pub use crate::base::CORE_MEMORY_SORT;
 
 /// The kind byte of tables in the encodings of imports and exports. Core specification, Modules,
 /// Export Section.
 ///
+/// The same constant is in [`fallible`](crate::fallible), whose page says:
+///
 pub use crate::base::CORE_TABLE_SORT;
 
 /// The kind byte of tags in the encodings of imports and exports. Core specification, Modules,
 /// Export Section.
 ///
+/// The same constant is in [`fallible`](crate::fallible), whose page says:
+///
 pub use crate::base::CORE_TAG_SORT;
 
 /// An abstract heap type, such as `func` or `any`, which a [`HeapType`] holds. Core specification,
 /// Types, Heap Types.
+///
+/// The same type is in [`fallible`](crate::fallible), whose page says:
 ///
 #[doc(alias = "gc")]
 #[doc(alias = "any")]
@@ -86,6 +100,8 @@ pub use crate::base::AbstractHeapType;
 /// assert_eq!(bytes, [0xD0, 0x70, 0xD0, 0xC0, 0x00]);
 /// ```
 ///
+/// The same type is in [`fallible`](crate::fallible), whose page says:
+///
 pub use crate::base::HeapType;
 
 /// A reference type: the element type of a [`TableType`] and of [`Elements::Expressions`], and a
@@ -100,6 +116,8 @@ pub use crate::base::HeapType;
 /// // funcref: 70. A reference to eq (6D) that is not null: 64 6D.
 /// assert_eq!(bytes, [0x70, 0x64, 0x6D]);
 /// ```
+///
+/// The same type is in [`fallible`](crate::fallible), whose page says:
 ///
 #[doc(alias = "reference types")]
 pub use crate::base::RefType;
@@ -118,6 +136,8 @@ pub use crate::base::RefType;
 /// assert_eq!(bytes, [3, 0x7F, 0x7C, 0x70]);
 /// ```
 ///
+/// The same type is in [`fallible`](crate::fallible), whose page says:
+///
 pub use crate::base::ValType;
 
 /// Returns the number of bytes of a number as minimal LEB128, such as a count or a size prefix.
@@ -129,11 +149,15 @@ pub use crate::base::ValType;
 /// assert_eq!([encoding_size(127), encoding_size(128), encoding_size(u32::MAX)], [1, 2, 5]);
 /// ```
 ///
+/// The same function is in [`fallible`](crate::fallible), whose page says:
+///
 #[doc(alias = "leb128")]
 pub use crate::base::encoding_size;
 
 /// A branch hint, which [`BranchHints::function_hints`] takes: the offset of a branch and its likely
 /// direction. The branch hinting proposal defines it.
+///
+/// The same type is in [`fallible`](crate::fallible), whose page says:
 ///
 pub use crate::custom::BranchHint;
 
@@ -150,17 +174,23 @@ pub use crate::custom::BranchHint;
 /// assert_eq!(bytes, [0x01, 0x7F, 0x7F]);
 /// ```
 ///
+/// The same type is in [`fallible`](crate::fallible), whose page says:
+///
 #[doc(alias = "coredump")]
 pub use crate::custom::CoreDumpValue;
 
 /// The bytes of a data symbol, which [`SymbolTable::data`] takes. The tool conventions define it in
 /// [Linking](https://github.com/WebAssembly/tool-conventions/blob/main/Linking.md).
 ///
+/// The same type is in [`fallible`](crate::fallible), whose page says:
+///
 pub use crate::custom::DataSymbolDefinition;
 
 /// A custom section as it is in a module, size prefix included, which [`Module::section`] copies.
 ///
 /// To have the size prefix and the name written, use [`CustomSection`].
+///
+/// The same type is in [`fallible`](crate::fallible), whose page says:
 ///
 pub use crate::custom::RawCustomSection;
 
@@ -178,6 +208,8 @@ pub use crate::custom::RawCustomSection;
 /// assert_eq!(bytes, [0x40, 0x7F, 0xC0, 0x00]);
 /// ```
 ///
+/// The same type is in [`fallible`](crate::fallible), whose page says:
+///
 pub use crate::immediates::BlockType;
 
 /// A catch clause, which [`InstructionSink::try_table`] takes. Core specification, Instructions,
@@ -193,11 +225,15 @@ pub use crate::immediates::BlockType;
 /// assert_eq!(bytes, [0x1F, 0x40, 2, 0x00, 5, 1, 0x02, 2]);
 /// ```
 ///
+/// The same type is in [`fallible`](crate::fallible), whose page says:
+///
 #[doc(alias = "exception handling")]
 pub use crate::immediates::Catch;
 
 /// A handler of `resume`, `resume_throw` and `resume_throw_ref`, as in [`Instruction::Resume`]. The
 /// stack switching proposal defines it.
+///
+/// The same type is in [`fallible`](crate::fallible), whose page says:
 ///
 #[doc(alias = "continuation")]
 #[doc(alias = "stack switching")]
@@ -208,6 +244,8 @@ pub use crate::immediates::Handle;
 ///
 /// An `f32` converts to it: `1.5_f32.into()`. Core specification, Binary Format, Values, Floating-Point.
 ///
+/// The same type is in [`fallible`](crate::fallible), whose page says:
+///
 pub use crate::immediates::Ieee32;
 
 /// A float of 64 bits, by its bits, which [`InstructionSink::f64_const`] takes. A NaN keeps its
@@ -215,10 +253,14 @@ pub use crate::immediates::Ieee32;
 ///
 /// An `f64` converts to it: `1.5_f64.into()`. Core specification, Binary Format, Values, Floating-Point.
 ///
+/// The same type is in [`fallible`](crate::fallible), whose page says:
+///
 pub use crate::immediates::Ieee64;
 
 /// The index of a lane of a vector, which calls such as [`InstructionSink::i8x16_replace_lane`] take.
 /// It is encoded as one byte.
+///
+/// The same type is in [`fallible`](crate::fallible), whose page says:
 ///
 #[doc(alias = "simd")]
 pub use crate::immediates::Lane;
@@ -244,6 +286,8 @@ pub use crate::immediates::Lane;
 /// assert_eq!(bytes, [0x28, 2, 4, 0x28, 0x42, 1, 4]);
 /// ```
 ///
+/// The same type is in [`fallible`](crate::fallible), whose page says:
+///
 #[doc(alias = "memarg")]
 #[doc(alias = "memory64")]
 #[doc(alias = "multi-memory")]
@@ -252,16 +296,22 @@ pub use crate::immediates::MemArg;
 /// The ordering of an atomic access: a field of [`MemArg`]. The shared-everything threads proposal
 /// defines it.
 ///
+/// The same type is in [`fallible`](crate::fallible), whose page says:
+///
 #[doc(alias = "atomic")]
 pub use crate::immediates::MemArgOrdering;
 
 /// The memory or the array type of an access: a field of [`MemArg`].
+///
+/// The same type is in [`fallible`](crate::fallible), whose page says:
 ///
 pub use crate::immediates::MemArgTarget;
 
 /// The ordering of an atomic instruction, which calls such as [`InstructionSink::atomic_fence`] take.
 ///
 /// It is not [`core::cmp::Ordering`]. The shared-everything threads proposal defines it.
+///
+/// The same type is in [`fallible`](crate::fallible), whose page says:
 ///
 #[doc(alias = "atomic")]
 pub use crate::immediates::Ordering;
@@ -279,11 +329,15 @@ pub use crate::immediates::Ordering;
 /// assert_eq!(bytes, [12, 2, 0x80, 0x01]);
 /// ```
 ///
+/// The same type is in [`fallible`](crate::fallible), whose page says:
+///
 #[doc(alias = "bulk memory")]
 pub use crate::sections::DataCountSection;
 
 /// The type of a global, which [`GlobalSection::global`] takes, and [`EntityType::Global`] for an
 /// imported one. Core specification, Types, Global Types.
+///
+/// The same type is in [`fallible`](crate::fallible), whose page says:
 ///
 pub use crate::sections::GlobalType;
 
@@ -291,6 +345,8 @@ pub use crate::sections::GlobalType;
 /// imported one. Core specification, Types, Memory Types.
 ///
 /// `shared` is of the threads proposal, and `page_size_log2` of the custom page sizes proposal.
+///
+/// The same type is in [`fallible`](crate::fallible), whose page says:
 ///
 #[doc(alias = "memory64")]
 #[doc(alias = "custom page sizes")]
@@ -308,12 +364,16 @@ pub use crate::sections::MemoryType;
 /// assert_eq!(bytes, [8, 2, 0xAC, 0x02]);
 /// ```
 ///
+/// The same type is in [`fallible`](crate::fallible), whose page says:
+///
 pub use crate::sections::StartSection;
 
 /// The type of a table, which [`TableSection::table`] takes, and [`EntityType::Table`] for an
 /// imported one. Core specification, Types, Table Types.
 ///
 /// `shared` is of the shared-everything threads proposal.
+///
+/// The same type is in [`fallible`](crate::fallible), whose page says:
 ///
 #[doc(alias = "table64")]
 #[doc(alias = "limits")]
@@ -322,17 +382,23 @@ pub use crate::sections::TableType;
 /// An array type: a case of [`CompositeInnerType`]. To add one without a value, see
 /// [`CoreTypeEncoder::array`]. Core specification, Types, Composite Types.
 ///
+/// The same type is in [`fallible`](crate::fallible), whose page says:
+///
 #[doc(alias = "gc")]
 pub use crate::types::ArrayType;
 
 /// A continuation type, which [`CoreTypeEncoder::cont`] takes. The stack switching proposal defines
 /// it.
 ///
+/// The same type is in [`fallible`](crate::fallible), whose page says:
+///
 #[doc(alias = "stack switching")]
 pub use crate::types::ContType;
 
 /// A field of a structure, which [`CoreTypeEncoder::struct_`] takes. Core specification, Types,
 /// Composite Types.
+///
+/// The same type is in [`fallible`](crate::fallible), whose page says:
 ///
 #[doc(alias = "gc")]
 pub use crate::types::FieldType;
@@ -341,6 +407,8 @@ pub use crate::types::FieldType;
 /// Types, Composite Types.
 ///
 /// A [`ValType`] converts to it.
+///
+/// The same type is in [`fallible`](crate::fallible), whose page says:
 ///
 #[doc(alias = "gc")]
 #[doc(alias = "packed")]
