@@ -23,7 +23,8 @@ use core::fmt;
 /// specification defines it in Instructions, Expressions, and which instructions are constant in
 /// Validation, Constant Expressions. That is not checked.
 ///
-/// Up to 30 bytes of instructions take no allocation. The proved builder of the same bytes is
+/// Up to 30 bytes of instructions take no allocation, unless [`extended`](ConstExpr::extended)
+/// collects them. The proved builder of the same bytes is
 /// [`fallible::ConstExpr`](crate::fallible::ConstExpr), which converts to this type.
 ///
 /// ```

@@ -106,13 +106,23 @@ pub enum Instruction<'a> {
     Call(u32),
     /// `call_indirect`, opcode `11`, a control instruction.
     /// Its call is [`call_indirect`](super::InstructionSink::call_indirect).
-    CallIndirect { type_index: u32, table_index: u32 },
+    CallIndirect {
+        /// The index of the function type.
+        type_index: u32,
+        /// The index of the table.
+        table_index: u32,
+    },
     /// `return_call`, opcode `12`, a control instruction.
     /// Its call is [`return_call`](super::InstructionSink::return_call).
     ReturnCall(u32),
     /// `return_call_indirect`, opcode `13`, a control instruction.
     /// Its call is [`return_call_indirect`](super::InstructionSink::return_call_indirect).
-    ReturnCallIndirect { type_index: u32, table_index: u32 },
+    ReturnCallIndirect {
+        /// The index of the function type.
+        type_index: u32,
+        /// The index of the table.
+        table_index: u32,
+    },
     /// `call_ref`, opcode `14`, a control instruction.
     /// Its call is [`call_ref`](super::InstructionSink::call_ref).
     CallRef(u32),
@@ -829,22 +839,49 @@ pub enum Instruction<'a> {
     /// `cont.bind`, opcode `E1`, a control instruction of the stack switching proposal.
     /// Its call is [`cont_bind`](super::InstructionSink::cont_bind).
     #[doc(alias = "cont.bind")]
-    ContBind { argument_index: u32, result_index: u32 },
+    ContBind {
+        /// The index of the type of the bound continuation.
+        argument_index: u32,
+        /// The index of the type of the resulting continuation.
+        result_index: u32,
+    },
     /// `suspend`, opcode `E2`, a control instruction of the stack switching proposal.
     /// Its call is [`suspend`](super::InstructionSink::suspend).
     Suspend(u32),
     /// `resume`, opcode `E3`, a control instruction of the stack switching proposal.
     /// Its call is [`resume`](super::InstructionSink::resume).
-    Resume { cont_type_index: u32, resume_table: Cow<'a, [Handle]> },
+    Resume {
+        /// The index of the continuation type.
+        cont_type_index: u32,
+        /// The handlers.
+        resume_table: Cow<'a, [Handle]>,
+    },
     /// `resume_throw`, opcode `E4`, a control instruction of the stack switching proposal.
     /// Its call is [`resume_throw`](super::InstructionSink::resume_throw).
-    ResumeThrow { cont_type_index: u32, tag_index: u32, resume_table: Cow<'a, [Handle]> },
+    ResumeThrow {
+        /// The index of the continuation type.
+        cont_type_index: u32,
+        /// The index of the tag.
+        tag_index: u32,
+        /// The handlers.
+        resume_table: Cow<'a, [Handle]>,
+    },
     /// `resume_throw_ref`, opcode `E5`, a control instruction of the stack switching proposal.
     /// Its call is [`resume_throw_ref`](super::InstructionSink::resume_throw_ref).
-    ResumeThrowRef { cont_type_index: u32, resume_table: Cow<'a, [Handle]> },
+    ResumeThrowRef {
+        /// The index of the continuation type.
+        cont_type_index: u32,
+        /// The handlers.
+        resume_table: Cow<'a, [Handle]>,
+    },
     /// `switch`, opcode `E6`, a control instruction of the stack switching proposal.
     /// Its call is [`switch`](super::InstructionSink::switch).
-    Switch { cont_type_index: u32, tag_index: u32 },
+    Switch {
+        /// The index of the continuation type.
+        cont_type_index: u32,
+        /// The index of the tag.
+        tag_index: u32,
+    },
     /// `struct.new`, opcode `FB 00`, an aggregate instruction.
     /// Its call is [`struct_new`](super::InstructionSink::struct_new).
     #[doc(alias = "struct.new")]
@@ -856,19 +893,39 @@ pub enum Instruction<'a> {
     /// `struct.get`, opcode `FB 02`, an aggregate instruction.
     /// Its call is [`struct_get`](super::InstructionSink::struct_get).
     #[doc(alias = "struct.get")]
-    StructGet { struct_type_index: u32, field_index: u32 },
+    StructGet {
+        /// The index of the structure type.
+        struct_type_index: u32,
+        /// The index of the field.
+        field_index: u32,
+    },
     /// `struct.get_s`, opcode `FB 03`, an aggregate instruction.
     /// Its call is [`struct_get_s`](super::InstructionSink::struct_get_s).
     #[doc(alias = "struct.get_s")]
-    StructGetS { struct_type_index: u32, field_index: u32 },
+    StructGetS {
+        /// The index of the structure type.
+        struct_type_index: u32,
+        /// The index of the field.
+        field_index: u32,
+    },
     /// `struct.get_u`, opcode `FB 04`, an aggregate instruction.
     /// Its call is [`struct_get_u`](super::InstructionSink::struct_get_u).
     #[doc(alias = "struct.get_u")]
-    StructGetU { struct_type_index: u32, field_index: u32 },
+    StructGetU {
+        /// The index of the structure type.
+        struct_type_index: u32,
+        /// The index of the field.
+        field_index: u32,
+    },
     /// `struct.set`, opcode `FB 05`, an aggregate instruction.
     /// Its call is [`struct_set`](super::InstructionSink::struct_set).
     #[doc(alias = "struct.set")]
-    StructSet { struct_type_index: u32, field_index: u32 },
+    StructSet {
+        /// The index of the structure type.
+        struct_type_index: u32,
+        /// The index of the field.
+        field_index: u32,
+    },
     /// `array.new`, opcode `FB 06`, an aggregate instruction.
     /// Its call is [`array_new`](super::InstructionSink::array_new).
     #[doc(alias = "array.new")]
@@ -880,15 +937,30 @@ pub enum Instruction<'a> {
     /// `array.new_fixed`, opcode `FB 08`, an aggregate instruction.
     /// Its call is [`array_new_fixed`](super::InstructionSink::array_new_fixed).
     #[doc(alias = "array.new_fixed")]
-    ArrayNewFixed { array_type_index: u32, array_size: u32 },
+    ArrayNewFixed {
+        /// The index of the array type.
+        array_type_index: u32,
+        /// The number of elements.
+        array_size: u32,
+    },
     /// `array.new_data`, opcode `FB 09`, an aggregate instruction.
     /// Its call is [`array_new_data`](super::InstructionSink::array_new_data).
     #[doc(alias = "array.new_data")]
-    ArrayNewData { array_type_index: u32, array_data_index: u32 },
+    ArrayNewData {
+        /// The index of the array type.
+        array_type_index: u32,
+        /// The index of the data segment.
+        array_data_index: u32,
+    },
     /// `array.new_elem`, opcode `FB 0A`, an aggregate instruction.
     /// Its call is [`array_new_elem`](super::InstructionSink::array_new_elem).
     #[doc(alias = "array.new_elem")]
-    ArrayNewElem { array_type_index: u32, array_elem_index: u32 },
+    ArrayNewElem {
+        /// The index of the array type.
+        array_type_index: u32,
+        /// The index of the element segment.
+        array_elem_index: u32,
+    },
     /// `array.get`, opcode `FB 0B`, an aggregate instruction.
     /// Its call is [`array_get`](super::InstructionSink::array_get).
     #[doc(alias = "array.get")]
@@ -916,15 +988,30 @@ pub enum Instruction<'a> {
     /// `array.copy`, opcode `FB 11`, an aggregate instruction.
     /// Its call is [`array_copy`](super::InstructionSink::array_copy).
     #[doc(alias = "array.copy")]
-    ArrayCopy { array_type_index_dst: u32, array_type_index_src: u32 },
+    ArrayCopy {
+        /// The index of the type of the destination.
+        array_type_index_dst: u32,
+        /// The index of the type of the source.
+        array_type_index_src: u32,
+    },
     /// `array.init_data`, opcode `FB 12`, an aggregate instruction.
     /// Its call is [`array_init_data`](super::InstructionSink::array_init_data).
     #[doc(alias = "array.init_data")]
-    ArrayInitData { array_type_index: u32, array_data_index: u32 },
+    ArrayInitData {
+        /// The index of the array type.
+        array_type_index: u32,
+        /// The index of the data segment.
+        array_data_index: u32,
+    },
     /// `array.init_elem`, opcode `FB 13`, an aggregate instruction.
     /// Its call is [`array_init_elem`](super::InstructionSink::array_init_elem).
     #[doc(alias = "array.init_elem")]
-    ArrayInitElem { array_type_index: u32, array_elem_index: u32 },
+    ArrayInitElem {
+        /// The index of the array type.
+        array_type_index: u32,
+        /// The index of the element segment.
+        array_elem_index: u32,
+    },
     /// `ref.test (ref ht)`, opcode `FB 14`, a reference instruction.
     /// Its call is [`ref_test_non_null`](super::InstructionSink::ref_test_non_null).
     #[doc(alias = "ref.test")]
@@ -943,10 +1030,24 @@ pub enum Instruction<'a> {
     RefCastNullable(HeapType),
     /// `br_on_cast`, opcode `FB 18`, a control instruction.
     /// Its call is [`br_on_cast`](super::InstructionSink::br_on_cast).
-    BrOnCast { relative_depth: u32, from_ref_type: RefType, to_ref_type: RefType },
+    BrOnCast {
+        /// The label of the branch.
+        relative_depth: u32,
+        /// The type of the operand.
+        from_ref_type: RefType,
+        /// The type that the operand is cast to.
+        to_ref_type: RefType,
+    },
     /// `br_on_cast_fail`, opcode `FB 19`, a control instruction.
     /// Its call is [`br_on_cast_fail`](super::InstructionSink::br_on_cast_fail).
-    BrOnCastFail { relative_depth: u32, from_ref_type: RefType, to_ref_type: RefType },
+    BrOnCastFail {
+        /// The label of the branch.
+        relative_depth: u32,
+        /// The type of the operand.
+        from_ref_type: RefType,
+        /// The type that the operand is cast to.
+        to_ref_type: RefType,
+    },
     /// `any.convert_extern`, opcode `FB 1A`, an aggregate instruction.
     /// Its call is [`any_convert_extern`](super::InstructionSink::any_convert_extern).
     #[doc(alias = "any.convert_extern")]
@@ -989,10 +1090,24 @@ pub enum Instruction<'a> {
     RefCastDescEqNullable(HeapType),
     /// `br_on_cast_desc_eq`, opcode `FB 25`, an instruction of the custom descriptors proposal.
     /// Its call is [`br_on_cast_desc_eq`](super::InstructionSink::br_on_cast_desc_eq).
-    BrOnCastDescEq { relative_depth: u32, from_ref_type: RefType, to_ref_type: RefType },
+    BrOnCastDescEq {
+        /// The label of the branch.
+        relative_depth: u32,
+        /// The type of the operand.
+        from_ref_type: RefType,
+        /// The type that the operand is cast to.
+        to_ref_type: RefType,
+    },
     /// `br_on_cast_desc_eq_fail`, opcode `FB 26`, an instruction of the custom descriptors proposal.
     /// Its call is [`br_on_cast_desc_eq_fail`](super::InstructionSink::br_on_cast_desc_eq_fail).
-    BrOnCastDescEqFail { relative_depth: u32, from_ref_type: RefType, to_ref_type: RefType },
+    BrOnCastDescEqFail {
+        /// The label of the branch.
+        relative_depth: u32,
+        /// The type of the operand.
+        from_ref_type: RefType,
+        /// The type that the operand is cast to.
+        to_ref_type: RefType,
+    },
     /// `i32.trunc_sat_f32_s`, opcode `FC 00`, a numeric instruction.
     /// Its call is [`i32_trunc_sat_f32_s`](super::InstructionSink::i32_trunc_sat_f32_s).
     #[doc(alias = "i32.trunc_sat_f32_s")]
@@ -1028,7 +1143,12 @@ pub enum Instruction<'a> {
     /// `memory.init`, opcode `FC 08`, a memory instruction.
     /// Its call is [`memory_init`](super::InstructionSink::memory_init).
     #[doc(alias = "memory.init")]
-    MemoryInit { mem: u32, data_index: u32 },
+    MemoryInit {
+        /// The index of the memory.
+        mem: u32,
+        /// The index of the data segment.
+        data_index: u32,
+    },
     /// `data.drop`, opcode `FC 09`, a memory instruction.
     /// Its call is [`data_drop`](super::InstructionSink::data_drop).
     #[doc(alias = "data.drop")]
@@ -1036,7 +1156,12 @@ pub enum Instruction<'a> {
     /// `memory.copy`, opcode `FC 0A`, a memory instruction.
     /// Its call is [`memory_copy`](super::InstructionSink::memory_copy).
     #[doc(alias = "memory.copy")]
-    MemoryCopy { src_mem: u32, dst_mem: u32 },
+    MemoryCopy {
+        /// The index of the source memory.
+        src_mem: u32,
+        /// The index of the destination memory.
+        dst_mem: u32,
+    },
     /// `memory.fill`, opcode `FC 0B`, a memory instruction.
     /// Its call is [`memory_fill`](super::InstructionSink::memory_fill).
     #[doc(alias = "memory.fill")]
@@ -1044,7 +1169,12 @@ pub enum Instruction<'a> {
     /// `table.init`, opcode `FC 0C`, a table instruction.
     /// Its call is [`table_init`](super::InstructionSink::table_init).
     #[doc(alias = "table.init")]
-    TableInit { elem_index: u32, table: u32 },
+    TableInit {
+        /// The index of the element segment.
+        elem_index: u32,
+        /// The index of the table.
+        table: u32,
+    },
     /// `elem.drop`, opcode `FC 0D`, a table instruction.
     /// Its call is [`elem_drop`](super::InstructionSink::elem_drop).
     #[doc(alias = "elem.drop")]
@@ -1052,7 +1182,12 @@ pub enum Instruction<'a> {
     /// `table.copy`, opcode `FC 0E`, a table instruction.
     /// Its call is [`table_copy`](super::InstructionSink::table_copy).
     #[doc(alias = "table.copy")]
-    TableCopy { src_table: u32, dst_table: u32 },
+    TableCopy {
+        /// The index of the source table.
+        src_table: u32,
+        /// The index of the destination table.
+        dst_table: u32,
+    },
     /// `table.grow`, opcode `FC 0F`, a table instruction.
     /// Its call is [`table_grow`](super::InstructionSink::table_grow).
     #[doc(alias = "table.grow")]
@@ -1424,35 +1559,75 @@ pub enum Instruction<'a> {
     /// `v128.load8_lane`, opcode `FD 54`, a vector instruction.
     /// Its call is [`v128_load8_lane`](super::InstructionSink::v128_load8_lane).
     #[doc(alias = "v128.load8_lane")]
-    V128Load8Lane { memarg: MemArg, lane: Lane },
+    V128Load8Lane {
+        /// The memory, the offset and the alignment.
+        memarg: MemArg,
+        /// The index of the lane.
+        lane: Lane,
+    },
     /// `v128.load16_lane`, opcode `FD 55`, a vector instruction.
     /// Its call is [`v128_load16_lane`](super::InstructionSink::v128_load16_lane).
     #[doc(alias = "v128.load16_lane")]
-    V128Load16Lane { memarg: MemArg, lane: Lane },
+    V128Load16Lane {
+        /// The memory, the offset and the alignment.
+        memarg: MemArg,
+        /// The index of the lane.
+        lane: Lane,
+    },
     /// `v128.load32_lane`, opcode `FD 56`, a vector instruction.
     /// Its call is [`v128_load32_lane`](super::InstructionSink::v128_load32_lane).
     #[doc(alias = "v128.load32_lane")]
-    V128Load32Lane { memarg: MemArg, lane: Lane },
+    V128Load32Lane {
+        /// The memory, the offset and the alignment.
+        memarg: MemArg,
+        /// The index of the lane.
+        lane: Lane,
+    },
     /// `v128.load64_lane`, opcode `FD 57`, a vector instruction.
     /// Its call is [`v128_load64_lane`](super::InstructionSink::v128_load64_lane).
     #[doc(alias = "v128.load64_lane")]
-    V128Load64Lane { memarg: MemArg, lane: Lane },
+    V128Load64Lane {
+        /// The memory, the offset and the alignment.
+        memarg: MemArg,
+        /// The index of the lane.
+        lane: Lane,
+    },
     /// `v128.store8_lane`, opcode `FD 58`, a vector instruction.
     /// Its call is [`v128_store8_lane`](super::InstructionSink::v128_store8_lane).
     #[doc(alias = "v128.store8_lane")]
-    V128Store8Lane { memarg: MemArg, lane: Lane },
+    V128Store8Lane {
+        /// The memory, the offset and the alignment.
+        memarg: MemArg,
+        /// The index of the lane.
+        lane: Lane,
+    },
     /// `v128.store16_lane`, opcode `FD 59`, a vector instruction.
     /// Its call is [`v128_store16_lane`](super::InstructionSink::v128_store16_lane).
     #[doc(alias = "v128.store16_lane")]
-    V128Store16Lane { memarg: MemArg, lane: Lane },
+    V128Store16Lane {
+        /// The memory, the offset and the alignment.
+        memarg: MemArg,
+        /// The index of the lane.
+        lane: Lane,
+    },
     /// `v128.store32_lane`, opcode `FD 5A`, a vector instruction.
     /// Its call is [`v128_store32_lane`](super::InstructionSink::v128_store32_lane).
     #[doc(alias = "v128.store32_lane")]
-    V128Store32Lane { memarg: MemArg, lane: Lane },
+    V128Store32Lane {
+        /// The memory, the offset and the alignment.
+        memarg: MemArg,
+        /// The index of the lane.
+        lane: Lane,
+    },
     /// `v128.store64_lane`, opcode `FD 5B`, a vector instruction.
     /// Its call is [`v128_store64_lane`](super::InstructionSink::v128_store64_lane).
     #[doc(alias = "v128.store64_lane")]
-    V128Store64Lane { memarg: MemArg, lane: Lane },
+    V128Store64Lane {
+        /// The memory, the offset and the alignment.
+        memarg: MemArg,
+        /// The index of the lane.
+        lane: Lane,
+    },
     /// `v128.load32_zero`, opcode `FD 5C`, a vector instruction.
     /// Its call is [`v128_load32_zero`](super::InstructionSink::v128_load32_zero).
     #[doc(alias = "v128.load32_zero")]
@@ -2383,143 +2558,340 @@ pub enum Instruction<'a> {
     /// `global.atomic.get`, opcode `FE 4F`, an instruction of the shared-everything threads proposal.
     /// Its call is [`global_atomic_get`](super::InstructionSink::global_atomic_get).
     #[doc(alias = "global.atomic.get")]
-    GlobalAtomicGet { ordering: Ordering, global_index: u32 },
+    GlobalAtomicGet {
+        /// The ordering of the access.
+        ordering: Ordering,
+        /// The index of the global.
+        global_index: u32,
+    },
     /// `global.atomic.set`, opcode `FE 50`, an instruction of the shared-everything threads proposal.
     /// Its call is [`global_atomic_set`](super::InstructionSink::global_atomic_set).
     #[doc(alias = "global.atomic.set")]
-    GlobalAtomicSet { ordering: Ordering, global_index: u32 },
+    GlobalAtomicSet {
+        /// The ordering of the access.
+        ordering: Ordering,
+        /// The index of the global.
+        global_index: u32,
+    },
     /// `global.atomic.rmw.add`, opcode `FE 51`, an instruction of the shared-everything threads proposal.
     /// Its call is [`global_atomic_rmw_add`](super::InstructionSink::global_atomic_rmw_add).
     #[doc(alias = "global.atomic.rmw.add")]
-    GlobalAtomicRmwAdd { ordering: Ordering, global_index: u32 },
+    GlobalAtomicRmwAdd {
+        /// The ordering of the access.
+        ordering: Ordering,
+        /// The index of the global.
+        global_index: u32,
+    },
     /// `global.atomic.rmw.sub`, opcode `FE 52`, an instruction of the shared-everything threads proposal.
     /// Its call is [`global_atomic_rmw_sub`](super::InstructionSink::global_atomic_rmw_sub).
     #[doc(alias = "global.atomic.rmw.sub")]
-    GlobalAtomicRmwSub { ordering: Ordering, global_index: u32 },
+    GlobalAtomicRmwSub {
+        /// The ordering of the access.
+        ordering: Ordering,
+        /// The index of the global.
+        global_index: u32,
+    },
     /// `global.atomic.rmw.and`, opcode `FE 53`, an instruction of the shared-everything threads proposal.
     /// Its call is [`global_atomic_rmw_and`](super::InstructionSink::global_atomic_rmw_and).
     #[doc(alias = "global.atomic.rmw.and")]
-    GlobalAtomicRmwAnd { ordering: Ordering, global_index: u32 },
+    GlobalAtomicRmwAnd {
+        /// The ordering of the access.
+        ordering: Ordering,
+        /// The index of the global.
+        global_index: u32,
+    },
     /// `global.atomic.rmw.or`, opcode `FE 54`, an instruction of the shared-everything threads proposal.
     /// Its call is [`global_atomic_rmw_or`](super::InstructionSink::global_atomic_rmw_or).
     #[doc(alias = "global.atomic.rmw.or")]
-    GlobalAtomicRmwOr { ordering: Ordering, global_index: u32 },
+    GlobalAtomicRmwOr {
+        /// The ordering of the access.
+        ordering: Ordering,
+        /// The index of the global.
+        global_index: u32,
+    },
     /// `global.atomic.rmw.xor`, opcode `FE 55`, an instruction of the shared-everything threads proposal.
     /// Its call is [`global_atomic_rmw_xor`](super::InstructionSink::global_atomic_rmw_xor).
     #[doc(alias = "global.atomic.rmw.xor")]
-    GlobalAtomicRmwXor { ordering: Ordering, global_index: u32 },
+    GlobalAtomicRmwXor {
+        /// The ordering of the access.
+        ordering: Ordering,
+        /// The index of the global.
+        global_index: u32,
+    },
     /// `global.atomic.rmw.xchg`, opcode `FE 56`, an instruction of the shared-everything threads proposal.
     /// Its call is [`global_atomic_rmw_xchg`](super::InstructionSink::global_atomic_rmw_xchg).
     #[doc(alias = "global.atomic.rmw.xchg")]
-    GlobalAtomicRmwXchg { ordering: Ordering, global_index: u32 },
+    GlobalAtomicRmwXchg {
+        /// The ordering of the access.
+        ordering: Ordering,
+        /// The index of the global.
+        global_index: u32,
+    },
     /// `global.atomic.rmw.cmpxchg`, opcode `FE 57`, an instruction of the shared-everything threads proposal.
     /// Its call is [`global_atomic_rmw_cmpxchg`](super::InstructionSink::global_atomic_rmw_cmpxchg).
     #[doc(alias = "global.atomic.rmw.cmpxchg")]
-    GlobalAtomicRmwCmpxchg { ordering: Ordering, global_index: u32 },
+    GlobalAtomicRmwCmpxchg {
+        /// The ordering of the access.
+        ordering: Ordering,
+        /// The index of the global.
+        global_index: u32,
+    },
     /// `table.atomic.get`, opcode `FE 58`, an instruction of the shared-everything threads proposal.
     /// Its call is [`table_atomic_get`](super::InstructionSink::table_atomic_get).
     #[doc(alias = "table.atomic.get")]
-    TableAtomicGet { ordering: Ordering, table_index: u32 },
+    TableAtomicGet {
+        /// The ordering of the access.
+        ordering: Ordering,
+        /// The index of the table.
+        table_index: u32,
+    },
     /// `table.atomic.set`, opcode `FE 59`, an instruction of the shared-everything threads proposal.
     /// Its call is [`table_atomic_set`](super::InstructionSink::table_atomic_set).
     #[doc(alias = "table.atomic.set")]
-    TableAtomicSet { ordering: Ordering, table_index: u32 },
+    TableAtomicSet {
+        /// The ordering of the access.
+        ordering: Ordering,
+        /// The index of the table.
+        table_index: u32,
+    },
     /// `table.atomic.rmw.xchg`, opcode `FE 5A`, an instruction of the shared-everything threads proposal.
     /// Its call is [`table_atomic_rmw_xchg`](super::InstructionSink::table_atomic_rmw_xchg).
     #[doc(alias = "table.atomic.rmw.xchg")]
-    TableAtomicRmwXchg { ordering: Ordering, table_index: u32 },
+    TableAtomicRmwXchg {
+        /// The ordering of the access.
+        ordering: Ordering,
+        /// The index of the table.
+        table_index: u32,
+    },
     /// `table.atomic.rmw.cmpxchg`, opcode `FE 5B`, an instruction of the shared-everything threads proposal.
     /// Its call is [`table_atomic_rmw_cmpxchg`](super::InstructionSink::table_atomic_rmw_cmpxchg).
     #[doc(alias = "table.atomic.rmw.cmpxchg")]
-    TableAtomicRmwCmpxchg { ordering: Ordering, table_index: u32 },
+    TableAtomicRmwCmpxchg {
+        /// The ordering of the access.
+        ordering: Ordering,
+        /// The index of the table.
+        table_index: u32,
+    },
     /// `struct.atomic.get`, opcode `FE 5C`, an instruction of the shared-everything threads proposal.
     /// Its call is [`struct_atomic_get`](super::InstructionSink::struct_atomic_get).
     #[doc(alias = "struct.atomic.get")]
-    StructAtomicGet { ordering: Ordering, struct_type_index: u32, field_index: u32 },
+    StructAtomicGet {
+        /// The ordering of the access.
+        ordering: Ordering,
+        /// The index of the structure type.
+        struct_type_index: u32,
+        /// The index of the field.
+        field_index: u32,
+    },
     /// `struct.atomic.get_s`, opcode `FE 5D`, an instruction of the shared-everything threads proposal.
     /// Its call is [`struct_atomic_get_s`](super::InstructionSink::struct_atomic_get_s).
     #[doc(alias = "struct.atomic.get_s")]
-    StructAtomicGetS { ordering: Ordering, struct_type_index: u32, field_index: u32 },
+    StructAtomicGetS {
+        /// The ordering of the access.
+        ordering: Ordering,
+        /// The index of the structure type.
+        struct_type_index: u32,
+        /// The index of the field.
+        field_index: u32,
+    },
     /// `struct.atomic.get_u`, opcode `FE 5E`, an instruction of the shared-everything threads proposal.
     /// Its call is [`struct_atomic_get_u`](super::InstructionSink::struct_atomic_get_u).
     #[doc(alias = "struct.atomic.get_u")]
-    StructAtomicGetU { ordering: Ordering, struct_type_index: u32, field_index: u32 },
+    StructAtomicGetU {
+        /// The ordering of the access.
+        ordering: Ordering,
+        /// The index of the structure type.
+        struct_type_index: u32,
+        /// The index of the field.
+        field_index: u32,
+    },
     /// `struct.atomic.set`, opcode `FE 5F`, an instruction of the shared-everything threads proposal.
     /// Its call is [`struct_atomic_set`](super::InstructionSink::struct_atomic_set).
     #[doc(alias = "struct.atomic.set")]
-    StructAtomicSet { ordering: Ordering, struct_type_index: u32, field_index: u32 },
+    StructAtomicSet {
+        /// The ordering of the access.
+        ordering: Ordering,
+        /// The index of the structure type.
+        struct_type_index: u32,
+        /// The index of the field.
+        field_index: u32,
+    },
     /// `struct.atomic.rmw.add`, opcode `FE 60`, an instruction of the shared-everything threads proposal.
     /// Its call is [`struct_atomic_rmw_add`](super::InstructionSink::struct_atomic_rmw_add).
     #[doc(alias = "struct.atomic.rmw.add")]
-    StructAtomicRmwAdd { ordering: Ordering, struct_type_index: u32, field_index: u32 },
+    StructAtomicRmwAdd {
+        /// The ordering of the access.
+        ordering: Ordering,
+        /// The index of the structure type.
+        struct_type_index: u32,
+        /// The index of the field.
+        field_index: u32,
+    },
     /// `struct.atomic.rmw.sub`, opcode `FE 61`, an instruction of the shared-everything threads proposal.
     /// Its call is [`struct_atomic_rmw_sub`](super::InstructionSink::struct_atomic_rmw_sub).
     #[doc(alias = "struct.atomic.rmw.sub")]
-    StructAtomicRmwSub { ordering: Ordering, struct_type_index: u32, field_index: u32 },
+    StructAtomicRmwSub {
+        /// The ordering of the access.
+        ordering: Ordering,
+        /// The index of the structure type.
+        struct_type_index: u32,
+        /// The index of the field.
+        field_index: u32,
+    },
     /// `struct.atomic.rmw.and`, opcode `FE 62`, an instruction of the shared-everything threads proposal.
     /// Its call is [`struct_atomic_rmw_and`](super::InstructionSink::struct_atomic_rmw_and).
     #[doc(alias = "struct.atomic.rmw.and")]
-    StructAtomicRmwAnd { ordering: Ordering, struct_type_index: u32, field_index: u32 },
+    StructAtomicRmwAnd {
+        /// The ordering of the access.
+        ordering: Ordering,
+        /// The index of the structure type.
+        struct_type_index: u32,
+        /// The index of the field.
+        field_index: u32,
+    },
     /// `struct.atomic.rmw.or`, opcode `FE 63`, an instruction of the shared-everything threads proposal.
     /// Its call is [`struct_atomic_rmw_or`](super::InstructionSink::struct_atomic_rmw_or).
     #[doc(alias = "struct.atomic.rmw.or")]
-    StructAtomicRmwOr { ordering: Ordering, struct_type_index: u32, field_index: u32 },
+    StructAtomicRmwOr {
+        /// The ordering of the access.
+        ordering: Ordering,
+        /// The index of the structure type.
+        struct_type_index: u32,
+        /// The index of the field.
+        field_index: u32,
+    },
     /// `struct.atomic.rmw.xor`, opcode `FE 64`, an instruction of the shared-everything threads proposal.
     /// Its call is [`struct_atomic_rmw_xor`](super::InstructionSink::struct_atomic_rmw_xor).
     #[doc(alias = "struct.atomic.rmw.xor")]
-    StructAtomicRmwXor { ordering: Ordering, struct_type_index: u32, field_index: u32 },
+    StructAtomicRmwXor {
+        /// The ordering of the access.
+        ordering: Ordering,
+        /// The index of the structure type.
+        struct_type_index: u32,
+        /// The index of the field.
+        field_index: u32,
+    },
     /// `struct.atomic.rmw.xchg`, opcode `FE 65`, an instruction of the shared-everything threads proposal.
     /// Its call is [`struct_atomic_rmw_xchg`](super::InstructionSink::struct_atomic_rmw_xchg).
     #[doc(alias = "struct.atomic.rmw.xchg")]
-    StructAtomicRmwXchg { ordering: Ordering, struct_type_index: u32, field_index: u32 },
+    StructAtomicRmwXchg {
+        /// The ordering of the access.
+        ordering: Ordering,
+        /// The index of the structure type.
+        struct_type_index: u32,
+        /// The index of the field.
+        field_index: u32,
+    },
     /// `struct.atomic.rmw.cmpxchg`, opcode `FE 66`, an instruction of the shared-everything threads proposal.
     /// Its call is [`struct_atomic_rmw_cmpxchg`](super::InstructionSink::struct_atomic_rmw_cmpxchg).
     #[doc(alias = "struct.atomic.rmw.cmpxchg")]
-    StructAtomicRmwCmpxchg { ordering: Ordering, struct_type_index: u32, field_index: u32 },
+    StructAtomicRmwCmpxchg {
+        /// The ordering of the access.
+        ordering: Ordering,
+        /// The index of the structure type.
+        struct_type_index: u32,
+        /// The index of the field.
+        field_index: u32,
+    },
     /// `array.atomic.get`, opcode `FE 67`, an instruction of the shared-everything threads proposal.
     /// Its call is [`array_atomic_get`](super::InstructionSink::array_atomic_get).
     #[doc(alias = "array.atomic.get")]
-    ArrayAtomicGet { ordering: Ordering, array_type_index: u32 },
+    ArrayAtomicGet {
+        /// The ordering of the access.
+        ordering: Ordering,
+        /// The index of the array type.
+        array_type_index: u32,
+    },
     /// `array.atomic.get_s`, opcode `FE 68`, an instruction of the shared-everything threads proposal.
     /// Its call is [`array_atomic_get_s`](super::InstructionSink::array_atomic_get_s).
     #[doc(alias = "array.atomic.get_s")]
-    ArrayAtomicGetS { ordering: Ordering, array_type_index: u32 },
+    ArrayAtomicGetS {
+        /// The ordering of the access.
+        ordering: Ordering,
+        /// The index of the array type.
+        array_type_index: u32,
+    },
     /// `array.atomic.get_u`, opcode `FE 69`, an instruction of the shared-everything threads proposal.
     /// Its call is [`array_atomic_get_u`](super::InstructionSink::array_atomic_get_u).
     #[doc(alias = "array.atomic.get_u")]
-    ArrayAtomicGetU { ordering: Ordering, array_type_index: u32 },
+    ArrayAtomicGetU {
+        /// The ordering of the access.
+        ordering: Ordering,
+        /// The index of the array type.
+        array_type_index: u32,
+    },
     /// `array.atomic.set`, opcode `FE 6A`, an instruction of the shared-everything threads proposal.
     /// Its call is [`array_atomic_set`](super::InstructionSink::array_atomic_set).
     #[doc(alias = "array.atomic.set")]
-    ArrayAtomicSet { ordering: Ordering, array_type_index: u32 },
+    ArrayAtomicSet {
+        /// The ordering of the access.
+        ordering: Ordering,
+        /// The index of the array type.
+        array_type_index: u32,
+    },
     /// `array.atomic.rmw.add`, opcode `FE 6B`, an instruction of the shared-everything threads proposal.
     /// Its call is [`array_atomic_rmw_add`](super::InstructionSink::array_atomic_rmw_add).
     #[doc(alias = "array.atomic.rmw.add")]
-    ArrayAtomicRmwAdd { ordering: Ordering, array_type_index: u32 },
+    ArrayAtomicRmwAdd {
+        /// The ordering of the access.
+        ordering: Ordering,
+        /// The index of the array type.
+        array_type_index: u32,
+    },
     /// `array.atomic.rmw.sub`, opcode `FE 6C`, an instruction of the shared-everything threads proposal.
     /// Its call is [`array_atomic_rmw_sub`](super::InstructionSink::array_atomic_rmw_sub).
     #[doc(alias = "array.atomic.rmw.sub")]
-    ArrayAtomicRmwSub { ordering: Ordering, array_type_index: u32 },
+    ArrayAtomicRmwSub {
+        /// The ordering of the access.
+        ordering: Ordering,
+        /// The index of the array type.
+        array_type_index: u32,
+    },
     /// `array.atomic.rmw.and`, opcode `FE 6D`, an instruction of the shared-everything threads proposal.
     /// Its call is [`array_atomic_rmw_and`](super::InstructionSink::array_atomic_rmw_and).
     #[doc(alias = "array.atomic.rmw.and")]
-    ArrayAtomicRmwAnd { ordering: Ordering, array_type_index: u32 },
+    ArrayAtomicRmwAnd {
+        /// The ordering of the access.
+        ordering: Ordering,
+        /// The index of the array type.
+        array_type_index: u32,
+    },
     /// `array.atomic.rmw.or`, opcode `FE 6E`, an instruction of the shared-everything threads proposal.
     /// Its call is [`array_atomic_rmw_or`](super::InstructionSink::array_atomic_rmw_or).
     #[doc(alias = "array.atomic.rmw.or")]
-    ArrayAtomicRmwOr { ordering: Ordering, array_type_index: u32 },
+    ArrayAtomicRmwOr {
+        /// The ordering of the access.
+        ordering: Ordering,
+        /// The index of the array type.
+        array_type_index: u32,
+    },
     /// `array.atomic.rmw.xor`, opcode `FE 6F`, an instruction of the shared-everything threads proposal.
     /// Its call is [`array_atomic_rmw_xor`](super::InstructionSink::array_atomic_rmw_xor).
     #[doc(alias = "array.atomic.rmw.xor")]
-    ArrayAtomicRmwXor { ordering: Ordering, array_type_index: u32 },
+    ArrayAtomicRmwXor {
+        /// The ordering of the access.
+        ordering: Ordering,
+        /// The index of the array type.
+        array_type_index: u32,
+    },
     /// `array.atomic.rmw.xchg`, opcode `FE 70`, an instruction of the shared-everything threads proposal.
     /// Its call is [`array_atomic_rmw_xchg`](super::InstructionSink::array_atomic_rmw_xchg).
     #[doc(alias = "array.atomic.rmw.xchg")]
-    ArrayAtomicRmwXchg { ordering: Ordering, array_type_index: u32 },
+    ArrayAtomicRmwXchg {
+        /// The ordering of the access.
+        ordering: Ordering,
+        /// The index of the array type.
+        array_type_index: u32,
+    },
     /// `array.atomic.rmw.cmpxchg`, opcode `FE 71`, an instruction of the shared-everything threads proposal.
     /// Its call is [`array_atomic_rmw_cmpxchg`](super::InstructionSink::array_atomic_rmw_cmpxchg).
     #[doc(alias = "array.atomic.rmw.cmpxchg")]
-    ArrayAtomicRmwCmpxchg { ordering: Ordering, array_type_index: u32 },
+    ArrayAtomicRmwCmpxchg {
+        /// The ordering of the access.
+        ordering: Ordering,
+        /// The index of the array type.
+        array_type_index: u32,
+    },
     /// `ref.i31_shared`, opcode `FE 72`, an instruction of the shared-everything threads proposal.
     /// Its call is [`ref_i31_shared`](super::InstructionSink::ref_i31_shared).
     #[doc(alias = "ref.i31_shared")]

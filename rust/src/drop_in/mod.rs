@@ -80,6 +80,9 @@ pub use crate::base::CORE_TAG_SORT;
 /// An abstract heap type, such as `func` or `any`, which a [`HeapType`] holds. Core specification,
 /// Types, Heap Types.
 ///
+/// A case has the name of the type in the text format, and the byte of its encoding as its number.
+/// `Cont` and `NoCont` are of the stack switching proposal.
+///
 /// The same type is in [`fallible`](crate::fallible), whose page says:
 ///
 #[doc(alias = "gc")]
@@ -89,6 +92,9 @@ pub use crate::base::AbstractHeapType;
 
 /// A heap type: what a [`RefType`] refers to, and the operand of `ref.null`, `ref.test` and
 /// `ref.cast`. Core specification, Types, Heap Types.
+///
+/// `Abstract` is a type with a name: `shared`, of the shared-everything threads proposal, says
+/// whether threads share its values. `Exact` is of the custom descriptors proposal.
 ///
 /// ```
 /// use dolzhytik::{Encode, HeapType, Instruction};
@@ -106,6 +112,8 @@ pub use crate::base::HeapType;
 
 /// A reference type: the element type of a [`TableType`] and of [`Elements::Expressions`], and a
 /// case of [`ValType`]. Core specification, Types, Reference Types.
+///
+/// `nullable` says whether null is a value of the type, and `heap_type` what references refer to.
 ///
 /// ```
 /// use dolzhytik::{AbstractHeapType, Encode, RefType};
@@ -126,6 +134,9 @@ pub use crate::base::RefType;
 ///
 /// [`Function::new`], [`CoreTypeEncoder::function`] and [`GlobalType`] take it. Core specification,
 /// Types, Value Types.
+///
+/// `I32` and `I64` are integers, `F32` and `F64` floats, `V128` vectors of 128 bits, and `Ref` is a
+/// reference type. Their encodings are 7F, 7E, 7D, 7C, 7B, and that of the [`RefType`].
 ///
 /// ```
 /// use dolzhytik::{Encode, ValType};
@@ -163,6 +174,8 @@ pub use crate::custom::BranchHint;
 
 /// A value in a core dump, which [`CoreDumpStackSection::frame`] takes. The tool conventions define
 /// it in [Coredump](https://github.com/WebAssembly/tool-conventions/blob/main/Coredump.md).
+///
+/// The cases are integers and floats of 32 and 64 bits, and `Missing` for a value that is not known.
 ///
 /// ```
 /// use dolzhytik::{CoreDumpValue, Encode};
@@ -215,6 +228,9 @@ pub use crate::immediates::BlockType;
 /// A catch clause, which [`InstructionSink::try_table`] takes. Core specification, Instructions,
 /// Control Instructions.
 ///
+/// `One` and `OneRef` catch exceptions of a tag, `All` and `AllRef` all of them. Those with `Ref`
+/// also pass a reference to the exception to the label.
+///
 /// ```
 /// use dolzhytik::{BlockType, Catch, InstructionSink};
 ///
@@ -232,6 +248,9 @@ pub use crate::immediates::Catch;
 
 /// A handler of `resume`, `resume_throw` and `resume_throw_ref`, as in [`Instruction::Resume`]. The
 /// stack switching proposal defines it.
+///
+/// `OnLabel` branches to a label when the tag is suspended on, and `OnSwitch` admits switches by the
+/// tag.
 ///
 /// The same type is in [`fallible`](crate::fallible), whose page says:
 ///
@@ -296,6 +315,8 @@ pub use crate::immediates::MemArg;
 /// The ordering of an atomic access: a field of [`MemArg`]. The shared-everything threads proposal
 /// defines it.
 ///
+/// `Op` is the ordering of a load or a store, and `Rmw` that of a read-modify-write instruction.
+///
 /// The same type is in [`fallible`](crate::fallible), whose page says:
 ///
 #[doc(alias = "atomic")]
@@ -309,7 +330,8 @@ pub use crate::immediates::MemArgTarget;
 
 /// The ordering of an atomic instruction, which calls such as [`InstructionSink::atomic_fence`] take.
 ///
-/// It is not [`core::cmp::Ordering`]. The shared-everything threads proposal defines it.
+/// It is not [`core::cmp::Ordering`]. The shared-everything threads proposal defines it: `SeqCst` is
+/// sequential consistency, byte 00, and `AcqRel` acquire and release, byte 01.
 ///
 /// The same type is in [`fallible`](crate::fallible), whose page says:
 ///
@@ -318,7 +340,7 @@ pub use crate::immediates::Ordering;
 
 /// The data count section, which [`Module::section`] takes before the code section.
 ///
-/// Core specification, Modules, Data Count Section.
+/// `count` is the number of data segments. Core specification, Modules, Data Count Section.
 ///
 /// ```
 /// use dolzhytik::{DataCountSection, Section};
@@ -337,6 +359,8 @@ pub use crate::sections::DataCountSection;
 /// The type of a global, which [`GlobalSection::global`] takes, and [`EntityType::Global`] for an
 /// imported one. Core specification, Types, Global Types.
 ///
+/// `val_type` is the type of its value. `shared` is of the shared-everything threads proposal.
+///
 /// The same type is in [`fallible`](crate::fallible), whose page says:
 ///
 pub use crate::sections::GlobalType;
@@ -344,6 +368,7 @@ pub use crate::sections::GlobalType;
 /// The type of a memory, which [`MemorySection::memory`] takes, and [`EntityType::Memory`] for an
 /// imported one. Core specification, Types, Memory Types.
 ///
+/// `minimum` and `maximum` are its size in pages: the initial one, and the limit for `memory.grow`.
 /// `shared` is of the threads proposal, and `page_size_log2` of the custom page sizes proposal.
 ///
 /// The same type is in [`fallible`](crate::fallible), whose page says:
@@ -354,6 +379,8 @@ pub use crate::sections::GlobalType;
 pub use crate::sections::MemoryType;
 
 /// The start section, which [`Module::section`] takes. Core specification, Modules, Start Section.
+///
+/// `function_index` is the index of the function that instantiation calls.
 ///
 /// ```
 /// use dolzhytik::{Section, StartSection};
@@ -371,6 +398,7 @@ pub use crate::sections::StartSection;
 /// The type of a table, which [`TableSection::table`] takes, and [`EntityType::Table`] for an
 /// imported one. Core specification, Types, Table Types.
 ///
+/// `minimum` and `maximum` are its size in elements: the initial one, and the limit for `table.grow`.
 /// `shared` is of the shared-everything threads proposal.
 ///
 /// The same type is in [`fallible`](crate::fallible), whose page says:
@@ -398,6 +426,8 @@ pub use crate::types::ContType;
 /// A field of a structure, which [`CoreTypeEncoder::struct_`] takes. Core specification, Types,
 /// Composite Types.
 ///
+/// `element_type` is the type of its content, and `mutable` says whether it can be set.
+///
 /// The same type is in [`fallible`](crate::fallible), whose page says:
 ///
 #[doc(alias = "gc")]
@@ -406,7 +436,7 @@ pub use crate::types::FieldType;
 /// A storage type, which [`CoreTypeEncoder::array`] and [`FieldType`] take. Core specification,
 /// Types, Composite Types.
 ///
-/// A [`ValType`] converts to it.
+/// `I8` and `I16` are packed integers, and `Val` is a value type. A [`ValType`] converts to it.
 ///
 /// The same type is in [`fallible`](crate::fallible), whose page says:
 ///

@@ -2,12 +2,13 @@
 from __future__ import annotations
 
 from .cases import HEAD, Case, item_of
-from .standard import alias, class_of, opcode, text_name
+from .standard import alias, class_of, field, opcode, text_name
 
 
 def declaration(case: Case) -> str:
     """Returns the variant of a case."""
-    fields = " { %s }" % ", ".join("%s: %s" % pair for pair in case.declared) if case.declared else "(%s)" % ", ".join(case.types) if case.types else ""
+    declared = "".join("        /// %s\n        %s: %s,\n" % (field(name), name, ty) for name, ty in case.declared)
+    fields = " {\n%s    }" % declared if declared else "(%s)" % ", ".join(case.types) if case.types else ""
     return "".join("    /// %s\n" % line for line in documentation(case)) + alias(case) + "    %s%s,\n" % (case.name, fields)
 
 

@@ -56,6 +56,40 @@ FORMS = {
     "ref_cast_desc_eq_nullable": "ref.cast_desc_eq (ref null ht)",
 }
 
+# What the fields of cases are, by their names.
+FIELDS = {
+    "argument_index": "The index of the type of the bound continuation.",
+    "array_data_index": "The index of the data segment.",
+    "array_elem_index": "The index of the element segment.",
+    "array_size": "The number of elements.",
+    "array_type_index": "The index of the array type.",
+    "array_type_index_dst": "The index of the type of the destination.",
+    "array_type_index_src": "The index of the type of the source.",
+    "cont_type_index": "The index of the continuation type.",
+    "data_index": "The index of the data segment.",
+    "dst_mem": "The index of the destination memory.",
+    "dst_table": "The index of the destination table.",
+    "elem_index": "The index of the element segment.",
+    "field_index": "The index of the field.",
+    "from_ref_type": "The type of the operand.",
+    "global_index": "The index of the global.",
+    "lane": "The index of the lane.",
+    "mem": "The index of the memory.",
+    "memarg": "The memory, the offset and the alignment.",
+    "ordering": "The ordering of the access.",
+    "relative_depth": "The label of the branch.",
+    "result_index": "The index of the type of the resulting continuation.",
+    "resume_table": "The handlers.",
+    "src_mem": "The index of the source memory.",
+    "src_table": "The index of the source table.",
+    "struct_type_index": "The index of the structure type.",
+    "table": "The index of the table.",
+    "table_index": "The index of the table.",
+    "tag_index": "The index of the tag.",
+    "to_ref_type": "The type that the operand is cast to.",
+    "type_index": "The index of the function type.",
+}
+
 
 def text_name(case: Case) -> str:
     """Returns the name in the text format, with the operands that tell forms apart."""
@@ -80,3 +114,10 @@ def class_of(case: Case) -> str:
         if prefix == case.prefix and first <= case.code <= last:
             return name
     raise Stop("%s: no class for %s" % (TABLE, case.name))
+
+
+def field(name: str) -> str:
+    """Returns what a field is."""
+    if name not in FIELDS:
+        raise Stop("%s: no doc comment for the field %s" % (TABLE, name))
+    return FIELDS[name]

@@ -11,7 +11,7 @@ from ..drop_in.cases import Case, proved_calls, read
 from ..drop_in.command import SINK
 from ..drop_in.command import main as main_of_tool
 from ..drop_in.enum_file import documentation, instruction_file
-from ..drop_in.standard import class_of
+from ..drop_in.standard import class_of, field
 from ..drop_in.test_file import test_file
 from ..errors import Stop
 from ..instructions.table import TABLE
@@ -61,7 +61,8 @@ SAID = {
 
 def said_trouble() -> str | None:
     """A doc comment has the name, the opcode and the class. A call that takes its arguments in
-    another order than its bytes says so, and an opcode without a class stops the tool."""
+    another order than its bytes says so. An opcode without a class stops the tool, and so does an
+    unknown field."""
     by_name = {it.name: it for it in cases()}
     wrong = [name for name, line in SAID.items() if documentation(by_name[name])[0] != line]
     if wrong:
@@ -72,11 +73,13 @@ def said_trouble() -> str | None:
         return "another call panics"
     unknown = by_name["I32Add"]
     unknown.code = 0xFF
-    try:
-        class_of(unknown)
-    except Stop:
-        return None
-    return "it was not stopped at"
+    for stops in (lambda: class_of(unknown), lambda: field("depth")):
+        try:
+            stops()
+        except Stop:
+            continue
+        return "it was not stopped at"
+    return None
 
 
 def check_trouble() -> str | None:
