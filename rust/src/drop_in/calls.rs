@@ -132,6 +132,15 @@ impl InstructionSink<'_> {
     /// As a value it is [`BrTable`](super::Instruction::BrTable).
     /// It is written by the proved [`br_table`](insn::InstructionSink::br_table) of `fallible`.
     ///
+    /// ```
+    /// use dolzhytik::InstructionSink;
+    ///
+    /// let mut bytes = Vec::new();
+    /// InstructionSink::new(&mut bytes).br_table([0, 1], 2);
+    /// // Two labels, 0 and 1, and the default label, 2.
+    /// assert_eq!(bytes, [0x0E, 2, 0, 1, 2]);
+    /// ```
+    ///
     /// # Panics
     ///
     /// Panics if the list has more than 4294967295 items.
@@ -166,6 +175,15 @@ impl InstructionSink<'_> {
     /// As a value it is [`CallIndirect`](super::Instruction::CallIndirect).
     /// It is written by the proved [`call_indirect`](insn::InstructionSink::call_indirect) of `fallible`.
     /// Its bytes have `type_index` before `table_index`.
+    ///
+    /// ```
+    /// use dolzhytik::InstructionSink;
+    ///
+    /// let mut bytes = Vec::new();
+    /// InstructionSink::new(&mut bytes).call_indirect(2, 1);
+    /// // Type 1, and then table 2.
+    /// assert_eq!(bytes, [0x11, 1, 2]);
+    /// ```
     #[inline]
     pub fn call_indirect(&mut self, table_index: u32, type_index: u32) -> &mut Self {
         self.made(|sink| sink.call_indirect(table_index, type_index))
@@ -242,6 +260,15 @@ impl InstructionSink<'_> {
     ///
     /// As a value it is [`TypedSelect`](super::Instruction::TypedSelect).
     /// It is written by the proved [`typed_select`](insn::InstructionSink::typed_select) of `fallible`.
+    ///
+    /// ```
+    /// use dolzhytik::{InstructionSink, ValType};
+    ///
+    /// let mut bytes = Vec::new();
+    /// InstructionSink::new(&mut bytes).typed_select(ValType::I32);
+    /// // One type, i32.
+    /// assert_eq!(bytes, [0x1C, 1, 0x7F]);
+    /// ```
     #[inline]
     pub fn typed_select(&mut self, ty: ValType) -> &mut Self {
         self.made(|sink| sink.typed_select(ty))
@@ -1865,6 +1892,16 @@ impl InstructionSink<'_> {
     ///
     /// As a value it is [`Resume`](super::Instruction::Resume).
     ///
+    /// ```
+    /// use dolzhytik::{InstructionSink, Handle};
+    ///
+    /// let mut bytes = Vec::new();
+    /// InstructionSink::new(&mut bytes)
+    ///     .resume(5, [Handle::OnLabel { tag: 3, label: 4 }]);
+    /// // Continuation type 5, and one handler: 00, tag 3, label 4.
+    /// assert_eq!(bytes, [0xE3, 5, 1, 0x00, 3, 4]);
+    /// ```
+    ///
     /// # Panics
     ///
     /// Panics if the list has more than 4294967295 items.
@@ -1935,6 +1972,15 @@ impl InstructionSink<'_> {
     /// Appends `struct.get`, opcode `FB 02`, an aggregate instruction.
     ///
     /// As a value it is [`StructGet`](super::Instruction::StructGet).
+    ///
+    /// ```
+    /// use dolzhytik::InstructionSink;
+    ///
+    /// let mut bytes = Vec::new();
+    /// InstructionSink::new(&mut bytes).struct_get(1, 2);
+    /// // Structure type 1, field 2.
+    /// assert_eq!(bytes, [0xFB, 2, 1, 2]);
+    /// ```
     #[doc(alias = "struct.get")]
     #[inline]
     pub fn struct_get(&mut self, struct_type_index: u32, field_index: u32) -> &mut Self {
@@ -1989,6 +2035,15 @@ impl InstructionSink<'_> {
     /// Appends `array.new_fixed`, opcode `FB 08`, an aggregate instruction.
     ///
     /// As a value it is [`ArrayNewFixed`](super::Instruction::ArrayNewFixed).
+    ///
+    /// ```
+    /// use dolzhytik::InstructionSink;
+    ///
+    /// let mut bytes = Vec::new();
+    /// InstructionSink::new(&mut bytes).array_new_fixed(1, 3);
+    /// // Array type 1, three elements.
+    /// assert_eq!(bytes, [0xFB, 8, 1, 3]);
+    /// ```
     #[doc(alias = "array.new_fixed")]
     #[inline]
     pub fn array_new_fixed(&mut self, array_type_index: u32, array_size: u32) -> &mut Self {
@@ -2133,6 +2188,16 @@ impl InstructionSink<'_> {
     /// Appends `br_on_cast`, opcode `FB 18`, a control instruction.
     ///
     /// As a value it is [`BrOnCast`](super::Instruction::BrOnCast).
+    ///
+    /// ```
+    /// use dolzhytik::{InstructionSink, AbstractHeapType, RefType};
+    ///
+    /// let mut bytes = Vec::new();
+    /// InstructionSink::new(&mut bytes)
+    ///     .br_on_cast(7, RefType::FUNCREF, RefType::new_abstract(AbstractHeapType::NoFunc, false, false));
+    /// // Flags 1, since the first type is nullable alone; label 7; func, and nofunc.
+    /// assert_eq!(bytes, [0xFB, 24, 1, 7, 0x70, 0x73]);
+    /// ```
     #[inline]
     pub fn br_on_cast(&mut self, relative_depth: u32, from_ref_type: RefType, to_ref_type: RefType) -> &mut Self {
         self.emit::<insn::Instruction>(&insn::Instruction::BrOnCast { relative_depth, from_ref_type, to_ref_type })
@@ -2328,6 +2393,15 @@ impl InstructionSink<'_> {
     ///
     /// As a value it is [`MemoryInit`](super::Instruction::MemoryInit).
     /// Its bytes have `data_index` before `mem`.
+    ///
+    /// ```
+    /// use dolzhytik::InstructionSink;
+    ///
+    /// let mut bytes = Vec::new();
+    /// InstructionSink::new(&mut bytes).memory_init(1, 2);
+    /// // Data segment 2, and then memory 1.
+    /// assert_eq!(bytes, [0xFC, 8, 2, 1]);
+    /// ```
     #[doc(alias = "memory.init")]
     #[inline]
     pub fn memory_init(&mut self, mem: u32, data_index: u32) -> &mut Self {
@@ -2346,6 +2420,15 @@ impl InstructionSink<'_> {
     /// Appends `memory.copy`, opcode `FC 0A`, a memory instruction.
     ///
     /// As a value it is [`MemoryCopy`](super::Instruction::MemoryCopy).
+    ///
+    /// ```
+    /// use dolzhytik::InstructionSink;
+    ///
+    /// let mut bytes = Vec::new();
+    /// InstructionSink::new(&mut bytes).memory_copy(2, 1);
+    /// // To memory 2, from memory 1.
+    /// assert_eq!(bytes, [0xFC, 10, 2, 1]);
+    /// ```
     #[doc(alias = "memory.copy")]
     #[inline]
     pub fn memory_copy(&mut self, dst_mem: u32, src_mem: u32) -> &mut Self {
@@ -2365,6 +2448,15 @@ impl InstructionSink<'_> {
     ///
     /// As a value it is [`TableInit`](super::Instruction::TableInit).
     /// Its bytes have `elem_index` before `table`.
+    ///
+    /// ```
+    /// use dolzhytik::InstructionSink;
+    ///
+    /// let mut bytes = Vec::new();
+    /// InstructionSink::new(&mut bytes).table_init(1, 2);
+    /// // Element segment 2, and then table 1.
+    /// assert_eq!(bytes, [0xFC, 12, 2, 1]);
+    /// ```
     #[doc(alias = "table.init")]
     #[inline]
     pub fn table_init(&mut self, table: u32, elem_index: u32) -> &mut Self {
@@ -2383,6 +2475,15 @@ impl InstructionSink<'_> {
     /// Appends `table.copy`, opcode `FC 0E`, a table instruction.
     ///
     /// As a value it is [`TableCopy`](super::Instruction::TableCopy).
+    ///
+    /// ```
+    /// use dolzhytik::InstructionSink;
+    ///
+    /// let mut bytes = Vec::new();
+    /// InstructionSink::new(&mut bytes).table_copy(2, 1);
+    /// // To table 2, from table 1.
+    /// assert_eq!(bytes, [0xFC, 14, 2, 1]);
+    /// ```
     #[doc(alias = "table.copy")]
     #[inline]
     pub fn table_copy(&mut self, dst_table: u32, src_table: u32) -> &mut Self {
@@ -2573,6 +2674,15 @@ impl InstructionSink<'_> {
     ///
     /// As a value it is [`V128Const`](super::Instruction::V128Const).
     /// It is written by the proved [`v128_const`](insn::InstructionSink::v128_const) of `fallible`.
+    ///
+    /// ```
+    /// use dolzhytik::InstructionSink;
+    ///
+    /// let mut bytes = Vec::new();
+    /// InstructionSink::new(&mut bytes).v128_const(0x0102);
+    /// // The 16 bytes of the number, the lowest first.
+    /// assert_eq!(bytes, [0xFD, 12, 2, 1, 0, 0, 0, 0, 0, 0, 0, 0, 0, 0, 0, 0, 0, 0]);
+    /// ```
     #[doc(alias = "v128.const")]
     #[inline]
     pub fn v128_const(&mut self, value: i128) -> &mut Self {
@@ -2582,6 +2692,16 @@ impl InstructionSink<'_> {
     /// Appends `i8x16.shuffle`, opcode `FD 0D`, a vector instruction.
     ///
     /// As a value it is [`I8x16Shuffle`](super::Instruction::I8x16Shuffle).
+    ///
+    /// ```
+    /// use dolzhytik::InstructionSink;
+    ///
+    /// let mut bytes = Vec::new();
+    /// InstructionSink::new(&mut bytes)
+    ///     .i8x16_shuffle([0, 16, 1, 17, 2, 18, 3, 19, 4, 20, 5, 21, 6, 22, 7, 23]);
+    /// // A byte for each lane: the low lanes of both operands, in turn.
+    /// assert_eq!(bytes, [0xFD, 13, 0, 16, 1, 17, 2, 18, 3, 19, 4, 20, 5, 21, 6, 22, 7, 23]);
+    /// ```
     #[doc(alias = "i8x16.shuffle")]
     #[inline]
     pub fn i8x16_shuffle(&mut self, lanes: [Lane; 16]) -> &mut Self {
@@ -4796,6 +4916,15 @@ impl InstructionSink<'_> {
     /// Appends `atomic.fence`, opcode `FE 03`, an atomic instruction of the threads proposal.
     ///
     /// As a value it is [`AtomicFence`](super::Instruction::AtomicFence).
+    ///
+    /// ```
+    /// use dolzhytik::{InstructionSink, Ordering};
+    ///
+    /// let mut bytes = Vec::new();
+    /// InstructionSink::new(&mut bytes).atomic_fence(Ordering::SeqCst);
+    /// // The ordering is one byte.
+    /// assert_eq!(bytes, [0xFE, 3, 0]);
+    /// ```
     #[doc(alias = "atomic.fence")]
     #[inline]
     pub fn atomic_fence(&mut self, ordering: Ordering) -> &mut Self {

@@ -220,6 +220,17 @@ over_proved! {
     /// The values of a field of the producers section: names and versions.
     ///
     /// [`ProducersSection::field`] takes it.
+    ///
+    /// ```
+    /// use dolzhytik::{Encode, ProducersField};
+    ///
+    /// let mut field = ProducersField::new();
+    /// field.value("ld", "1");
+    /// let mut bytes = Vec::new();
+    /// field.encode(&mut bytes);
+    /// // One value: "ld", "1".
+    /// assert_eq!(bytes, *b"\x01\x02ld\x011");
+    /// ```
     ProducersField
     /// The custom section `metadata.code.branch_hint`: which branches of functions are likely.
     ///

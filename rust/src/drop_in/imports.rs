@@ -41,6 +41,20 @@ pub enum EntityType {
 }
 
 /// An import: the names of a module and of an item, and the item's type. It is a case of [`Imports`].
+///
+/// [`ImportSection::import`] takes the fields instead.
+///
+/// ```
+/// use dolzhytik::{Encode, EntityType, Import, ImportSection, Imports};
+///
+/// let mut imports = ImportSection::new();
+/// let import = Import { module: "m", name: "f", ty: EntityType::Function(5) };
+/// imports.imports(Imports::Single(import));
+/// let mut bytes = Vec::new();
+/// imports.encode(&mut bytes);
+/// // Size 7, one import: "m", "f", a function (00) of type 5.
+/// assert_eq!(bytes, *b"\x07\x01\x01m\x01f\0\x05");
+/// ```
 #[derive(Clone, Debug)]
 pub struct Import<'a> {
     /// The name of the module.
@@ -52,6 +66,18 @@ pub struct Import<'a> {
 }
 
 /// An item of [`Imports::Compact1`]: its name, and its type.
+///
+/// ```
+/// use dolzhytik::{Encode, EntityType, ImportCompact, ImportSection, Imports};
+///
+/// let mut imports = ImportSection::new();
+/// let items = vec![ImportCompact { name: "f", ty: EntityType::Function(5) }];
+/// imports.imports(Imports::Compact1 { module: "m", items: items.into() });
+/// let mut bytes = Vec::new();
+/// imports.encode(&mut bytes);
+/// // Size 10, one entry: "m", an empty name and 7F, one item: "f", a function (00) of type 5.
+/// assert_eq!(bytes, *b"\x0A\x01\x01m\0\x7F\x01\x01f\0\x05");
+/// ```
 #[derive(Clone, Debug)]
 pub struct ImportCompact<'a> {
     /// The name of the item.

@@ -83,6 +83,15 @@ pub use crate::base::CORE_TAG_SORT;
 /// A case has the name of the type in the text format, and the byte of its encoding as its number.
 /// `Cont` and `NoCont` are of the stack switching proposal.
 ///
+/// ```
+/// use dolzhytik::{AbstractHeapType, Encode};
+///
+/// let mut bytes = Vec::new();
+/// AbstractHeapType::Any.encode(&mut bytes);
+/// // any: 6E.
+/// assert_eq!(bytes, [0x6E]);
+/// ```
+///
 /// The same type is in [`fallible`](crate::fallible), whose page says:
 ///
 #[doc(alias = "gc")]
@@ -168,6 +177,8 @@ pub use crate::base::encoding_size;
 /// A branch hint, which [`BranchHints::function_hints`] takes: the offset of a branch and its likely
 /// direction. The branch hinting proposal defines it.
 ///
+/// [`BranchHints`] has an example.
+///
 /// The same type is in [`fallible`](crate::fallible), whose page says:
 ///
 pub use crate::custom::BranchHint;
@@ -195,6 +206,8 @@ pub use crate::custom::CoreDumpValue;
 /// The bytes of a data symbol, which [`SymbolTable::data`] takes. The tool conventions define it in
 /// [Linking](https://github.com/WebAssembly/tool-conventions/blob/main/Linking.md).
 ///
+/// [`SymbolTable`] has an example.
+///
 /// The same type is in [`fallible`](crate::fallible), whose page says:
 ///
 pub use crate::custom::DataSymbolDefinition;
@@ -202,6 +215,15 @@ pub use crate::custom::DataSymbolDefinition;
 /// A custom section as it is in a module, size prefix included, which [`Module::section`] copies.
 ///
 /// To have the size prefix and the name written, use [`CustomSection`].
+///
+/// ```
+/// use dolzhytik::{RawCustomSection, Section};
+///
+/// let mut bytes = Vec::new();
+/// RawCustomSection(b"\x04\x01ahi").append_to(&mut bytes);
+/// // Id 0, and the bytes: size 4, a name of one byte, "a", and the data.
+/// assert_eq!(bytes, *b"\0\x04\x01ahi");
+/// ```
 ///
 /// The same type is in [`fallible`](crate::fallible), whose page says:
 ///
@@ -249,8 +271,18 @@ pub use crate::immediates::Catch;
 /// A handler of `resume`, `resume_throw` and `resume_throw_ref`, as in [`Instruction::Resume`]. The
 /// stack switching proposal defines it.
 ///
-/// `OnLabel` branches to a label when the tag is suspended on, and `OnSwitch` admits switches by the
-/// tag.
+/// `OnLabel` branches to a label when code suspends with the tag, and `OnSwitch` admits switches
+/// with the tag.
+///
+/// ```
+/// use dolzhytik::{Encode, Handle};
+///
+/// let mut bytes = Vec::new();
+/// Handle::OnLabel { tag: 3, label: 4 }.encode(&mut bytes);
+/// Handle::OnSwitch { tag: 5 }.encode(&mut bytes);
+/// // 00, tag 3, label 4; and 01, tag 5.
+/// assert_eq!(bytes, [0x00, 3, 4, 0x01, 5]);
+/// ```
 ///
 /// The same type is in [`fallible`](crate::fallible), whose page says:
 ///
@@ -263,6 +295,16 @@ pub use crate::immediates::Handle;
 ///
 /// An `f32` converts to it: `1.5_f32.into()`. Core specification, Binary Format, Values, Floating-Point.
 ///
+/// ```
+/// use dolzhytik::{Encode, Ieee32};
+///
+/// let mut bytes = Vec::new();
+/// Ieee32::from(1.0).encode(&mut bytes);
+/// Ieee32::new(0x7FA0_0000).encode(&mut bytes);
+/// // 1.0: the bits 3F800000, the lowest byte first. A signaling NaN, by its bits.
+/// assert_eq!(bytes, [0, 0, 0x80, 0x3F, 0, 0, 0xA0, 0x7F]);
+/// ```
+///
 /// The same type is in [`fallible`](crate::fallible), whose page says:
 ///
 pub use crate::immediates::Ieee32;
@@ -272,12 +314,30 @@ pub use crate::immediates::Ieee32;
 ///
 /// An `f64` converts to it: `1.5_f64.into()`. Core specification, Binary Format, Values, Floating-Point.
 ///
+/// ```
+/// use dolzhytik::{Encode, Ieee64};
+///
+/// let mut bytes = Vec::new();
+/// Ieee64::from(1.0).encode(&mut bytes);
+/// // The bits 3FF0000000000000, the lowest byte first.
+/// assert_eq!(bytes, [0, 0, 0, 0, 0, 0, 0xF0, 0x3F]);
+/// ```
+///
 /// The same type is in [`fallible`](crate::fallible), whose page says:
 ///
 pub use crate::immediates::Ieee64;
 
 /// The index of a lane of a vector, which calls such as [`InstructionSink::i8x16_replace_lane`] take.
 /// It is encoded as one byte.
+///
+/// ```
+/// use dolzhytik::InstructionSink;
+///
+/// let mut bytes = Vec::new();
+/// InstructionSink::new(&mut bytes).i32x4_extract_lane(3);
+/// // The opcode, FD 27, and the lane.
+/// assert_eq!(bytes, [0xFD, 27, 3]);
+/// ```
 ///
 /// The same type is in [`fallible`](crate::fallible), whose page says:
 ///
@@ -317,12 +377,24 @@ pub use crate::immediates::MemArg;
 ///
 /// `Op` is the ordering of a load or a store, and `Rmw` that of a read-modify-write instruction.
 ///
+/// ```
+/// use dolzhytik::{Encode, MemArgOrdering, Ordering};
+///
+/// let mut bytes = Vec::new();
+/// MemArgOrdering::Op(Ordering::AcqRel).encode(&mut bytes);
+/// MemArgOrdering::Rmw(Ordering::AcqRel).encode(&mut bytes);
+/// // A load or store: 01. A read-modify-write instruction: 11.
+/// assert_eq!(bytes, [0x01, 0x11]);
+/// ```
+///
 /// The same type is in [`fallible`](crate::fallible), whose page says:
 ///
 #[doc(alias = "atomic")]
 pub use crate::immediates::MemArgOrdering;
 
 /// The memory or the array type of an access: a field of [`MemArg`].
+///
+/// [`MemArg`] has an example.
 ///
 /// The same type is in [`fallible`](crate::fallible), whose page says:
 ///
@@ -332,6 +404,16 @@ pub use crate::immediates::MemArgTarget;
 ///
 /// It is not [`core::cmp::Ordering`]. The shared-everything threads proposal defines it: `SeqCst` is
 /// sequential consistency, byte 00, and `AcqRel` acquire and release, byte 01.
+///
+/// ```
+/// use dolzhytik::{Encode, Ordering};
+///
+/// let mut bytes = Vec::new();
+/// Ordering::SeqCst.encode(&mut bytes);
+/// Ordering::AcqRel.encode(&mut bytes);
+/// // 00 and 01.
+/// assert_eq!(bytes, [0x00, 0x01]);
+/// ```
 ///
 /// The same type is in [`fallible`](crate::fallible), whose page says:
 ///
@@ -361,6 +443,15 @@ pub use crate::sections::DataCountSection;
 ///
 /// `val_type` is the type of its value. `shared` is of the shared-everything threads proposal.
 ///
+/// ```
+/// use dolzhytik::{Encode, GlobalType, ValType};
+///
+/// let mut bytes = Vec::new();
+/// GlobalType { val_type: ValType::I64, mutable: true, shared: false }.encode(&mut bytes);
+/// // i64: 7E. Flags: 1 for mutable.
+/// assert_eq!(bytes, [0x7E, 1]);
+/// ```
+///
 /// The same type is in [`fallible`](crate::fallible), whose page says:
 ///
 pub use crate::sections::GlobalType;
@@ -370,6 +461,22 @@ pub use crate::sections::GlobalType;
 ///
 /// `minimum` and `maximum` are its size in pages: the initial one, and the limit for `memory.grow`.
 /// `shared` is of the threads proposal, and `page_size_log2` of the custom page sizes proposal.
+///
+/// ```
+/// use dolzhytik::{Encode, MemoryType};
+///
+/// let mut bytes = Vec::new();
+/// MemoryType {
+///     minimum: 1,
+///     maximum: Some(2),
+///     memory64: false,
+///     shared: false,
+///     page_size_log2: None,
+/// }
+/// .encode(&mut bytes);
+/// // Flags: 1 for a maximum. From 1 to 2 pages.
+/// assert_eq!(bytes, [1, 1, 2]);
+/// ```
 ///
 /// The same type is in [`fallible`](crate::fallible), whose page says:
 ///
@@ -401,6 +508,22 @@ pub use crate::sections::StartSection;
 /// `minimum` and `maximum` are its size in elements: the initial one, and the limit for `table.grow`.
 /// `shared` is of the shared-everything threads proposal.
 ///
+/// ```
+/// use dolzhytik::{Encode, RefType, TableType};
+///
+/// let mut bytes = Vec::new();
+/// TableType {
+///     element_type: RefType::FUNCREF,
+///     table64: true,
+///     minimum: 3,
+///     maximum: None,
+///     shared: false,
+/// }
+/// .encode(&mut bytes);
+/// // funcref: 70. Flags: 4 for indices of 64 bits. At least 3 elements.
+/// assert_eq!(bytes, [0x70, 4, 3]);
+/// ```
+///
 /// The same type is in [`fallible`](crate::fallible), whose page says:
 ///
 #[doc(alias = "table64")]
@@ -410,6 +533,15 @@ pub use crate::sections::TableType;
 /// An array type: a case of [`CompositeInnerType`]. To add one without a value, see
 /// [`CoreTypeEncoder::array`]. Core specification, Types, Composite Types.
 ///
+/// ```
+/// use dolzhytik::{ArrayType, Encode, FieldType, StorageType};
+///
+/// let mut bytes = Vec::new();
+/// ArrayType(FieldType { element_type: StorageType::I8, mutable: true }).encode(&mut bytes);
+/// // An array: 5E. i8: 78. Mutable: 01.
+/// assert_eq!(bytes, [0x5E, 0x78, 0x01]);
+/// ```
+///
 /// The same type is in [`fallible`](crate::fallible), whose page says:
 ///
 #[doc(alias = "gc")]
@@ -417,6 +549,15 @@ pub use crate::types::ArrayType;
 
 /// A continuation type, which [`CoreTypeEncoder::cont`] takes. The stack switching proposal defines
 /// it.
+///
+/// ```
+/// use dolzhytik::{ContType, Encode};
+///
+/// let mut bytes = Vec::new();
+/// ContType(64).encode(&mut bytes);
+/// // A continuation: 5D. The index is signed LEB128: 64 is C0 00.
+/// assert_eq!(bytes, [0x5D, 0xC0, 0x00]);
+/// ```
 ///
 /// The same type is in [`fallible`](crate::fallible), whose page says:
 ///
@@ -428,6 +569,15 @@ pub use crate::types::ContType;
 ///
 /// `element_type` is the type of its content, and `mutable` says whether it can be set.
 ///
+/// ```
+/// use dolzhytik::{Encode, FieldType, StorageType};
+///
+/// let mut bytes = Vec::new();
+/// FieldType { element_type: StorageType::I16, mutable: false }.encode(&mut bytes);
+/// // i16: 77. Immutable: 00.
+/// assert_eq!(bytes, [0x77, 0x00]);
+/// ```
+///
 /// The same type is in [`fallible`](crate::fallible), whose page says:
 ///
 #[doc(alias = "gc")]
@@ -437,6 +587,16 @@ pub use crate::types::FieldType;
 /// Types, Composite Types.
 ///
 /// `I8` and `I16` are packed integers, and `Val` is a value type. A [`ValType`] converts to it.
+///
+/// ```
+/// use dolzhytik::{Encode, StorageType, ValType};
+///
+/// let mut bytes = Vec::new();
+/// StorageType::I8.encode(&mut bytes);
+/// StorageType::from(ValType::I32).encode(&mut bytes);
+/// // i8: 78. i32: 7F.
+/// assert_eq!(bytes, [0x78, 0x7F]);
+/// ```
 ///
 /// The same type is in [`fallible`](crate::fallible), whose page says:
 ///

@@ -273,6 +273,18 @@ impl ExportSection {
 }
 
 /// The elements of a segment of the [`ElementSection`].
+///
+/// ```
+/// use dolzhytik::{ConstExpr, ElementSection, Elements, Encode, HeapType, RefType};
+///
+/// let expressions = vec![ConstExpr::ref_null(HeapType::EXTERN)];
+/// let mut section = ElementSection::new();
+/// section.passive(Elements::Expressions(RefType::EXTERNREF, expressions.into()));
+/// let mut bytes = Vec::new();
+/// section.encode(&mut bytes);
+/// // Size 7, one segment: form 5, externref (6F), one expression: ref.null extern (D0 6F), end (0B).
+/// assert_eq!(bytes, [7, 1, 5, 0x6F, 1, 0xD0, 0x6F, 0x0B]);
+/// ```
 #[derive(Clone, Debug)]
 pub enum Elements<'a> {
     /// References to the functions of these indices.
@@ -281,7 +293,8 @@ pub enum Elements<'a> {
     Expressions(RefType, Cow<'a, [ConstExpr]>),
 }
 
-/// The mode of an [`ElementSegment`]: whether instantiation copies the elements into a table.
+/// The mode of an [`ElementSegment`], whose page has an example: whether instantiation copies the
+/// elements into a table.
 #[derive(Clone, Debug)]
 pub enum ElementMode<'a> {
     /// Only `table.init` copies them.
@@ -420,7 +433,8 @@ impl ElementSection {
     }
 }
 
-/// The mode of a [`DataSegment`]: whether instantiation copies the bytes into a memory.
+/// The mode of a [`DataSegment`], whose page has an example: whether instantiation copies the bytes
+/// into a memory.
 #[derive(Clone, Debug)]
 pub enum DataSegmentMode<'a> {
     /// Instantiation copies them into a memory.

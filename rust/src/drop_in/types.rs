@@ -78,6 +78,16 @@ impl Hash for FuncType {
 
 /// The type of a structure: its fields. It is a case of [`CompositeInnerType`]; to add one without a
 /// value, see [`CoreTypeEncoder::struct_`]. Core specification, Types, Composite Types.
+///
+/// ```
+/// use dolzhytik::{Encode, FieldType, StorageType, StructType};
+///
+/// let mut bytes = Vec::new();
+/// let field = FieldType { element_type: StorageType::I8, mutable: true };
+/// StructType { fields: Box::new([field]) }.encode(&mut bytes);
+/// // A structure: 5F. One field: i8, 78, mutable, 01.
+/// assert_eq!(bytes, [0x5F, 1, 0x78, 0x01]);
+/// ```
 #[doc(alias = "gc")]
 #[derive(Clone, Debug, PartialEq, Eq, Hash)]
 pub struct StructType {
@@ -86,6 +96,15 @@ pub struct StructType {
 }
 
 /// A composite type without sharing and descriptors: a field of [`CompositeType`].
+///
+/// ```
+/// use dolzhytik::{CompositeInnerType, Encode, FuncType};
+///
+/// let mut bytes = Vec::new();
+/// CompositeInnerType::Func(FuncType::new([], [])).encode(&mut bytes);
+/// // A function: 60. No parameters and no results.
+/// assert_eq!(bytes, [0x60, 0, 0]);
+/// ```
 #[derive(Clone, Debug, PartialEq, Eq, Hash)]
 pub enum CompositeInnerType {
     /// A function type, byte 60.
@@ -99,6 +118,21 @@ pub enum CompositeInnerType {
 }
 
 /// A composite type: a field of [`SubType`]. Core specification, Types, Composite Types.
+///
+/// ```
+/// use dolzhytik::{CompositeInnerType, CompositeType, Encode, FuncType};
+///
+/// let mut bytes = Vec::new();
+/// CompositeType {
+///     inner: CompositeInnerType::Func(FuncType::new([], [])),
+///     shared: true,
+///     descriptor: None,
+///     describes: None,
+/// }
+/// .encode(&mut bytes);
+/// // Shared: 65. The function type: 60, no parameters, no results.
+/// assert_eq!(bytes, [0x65, 0x60, 0, 0]);
+/// ```
 #[derive(Clone, Debug, PartialEq, Eq, Hash)]
 pub struct CompositeType {
     /// The function, array, structure or continuation type.
@@ -113,8 +147,8 @@ pub struct CompositeType {
 
 /// A subtype: a composite type, its supertype, and whether it can have subtypes.
 ///
-/// [`CoreTypeEncoder::subtype`] and [`CoreTypeEncoder::rec`] take it. Core specification, Types,
-/// Recursive Types.
+/// [`CoreTypeEncoder::subtype`], whose page has an example, and [`CoreTypeEncoder::rec`] take it.
+/// Core specification, Types, Recursive Types.
 #[doc(alias = "gc")]
 #[doc(alias = "supertype")]
 #[derive(Clone, Debug, PartialEq, Eq, Hash)]

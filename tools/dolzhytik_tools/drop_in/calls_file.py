@@ -1,7 +1,9 @@
 """The file of the named calls."""
 from __future__ import annotations
 
+from ..errors import Stop
 from .cases import HEAD, Case, item_of
+from .examples import EXAMPLES, example
 from .standard import alias, class_of, opcode, text_name
 
 
@@ -29,6 +31,7 @@ def documentation(case: Case, proved: dict[str, str]) -> str:
     ordered, given = [name for name, _ in case.parts], [name for name, _ in case.parameters]
     if ordered != given:
         lines.append("Its bytes have %s." % " before ".join("`%s`" % name for name in ordered))
+    lines += example(case.call)
     if any(map(item_of, case.types)) and not case.is_one:
         lines += ["", "# Panics", "", "Panics if the list has more than 4294967295 items."]
     return "".join("    /// %s\n" % line if line else "    ///\n" for line in lines)
@@ -51,6 +54,8 @@ def body(case: Case, proved: dict[str, str]) -> str:
 
 def calls_file(cases: list[Case], proved: dict[str, str]) -> str:
     """Returns the file."""
+    for call in EXAMPLES.keys() - {case.call for case in cases}:
+        raise Stop("an example of the call %s, which the table does not have" % call)
     calls = [documentation(case, proved) + alias(case) + "    #[inline]\n%s{\n        %s\n    }\n" % (signature(case), body(case, proved)) for case in cases]
     return HEAD + """//! The named calls of `InstructionSink`, one for each instruction.
 
