@@ -25,8 +25,6 @@ use alloc_crate::vec::Vec;
 /// // local.get 0: 20 00. i32.const 64: 41, and 64 as signed LEB128, C0 00. i32.add: 6A. end: 0B.
 /// assert_eq!(bytes, [0x20, 0x00, 0x41, 0xC0, 0x00, 0x6A, 0x0B]);
 /// ```
-#[doc(alias = "assembler")]
-#[doc(alias = "emit")]
 #[derive(Debug)]
 pub struct InstructionSink<'a> {
     sink: &'a mut Vec<u8>,
@@ -86,9 +84,6 @@ impl<'a> InstructionSink<'a> {
 /// // One run of locals: 1 of i64, 7E. i32.const 7: 41 07. drop: 1A. nop: 01. end: 0B.
 /// assert_eq!(body.into_raw_body(), [1, 1, 0x7E, 0x41, 0x07, 0x1A, 0x01, 0x0B]);
 /// ```
-#[doc(alias = "body")]
-#[doc(alias = "func")]
-#[doc(alias = "locals")]
 #[derive(Clone, Debug, PartialEq, Eq)]
 pub struct Function {
     bytes: Vec<u8>,
@@ -226,7 +221,6 @@ impl Encode for Function {
 ///
 /// Its calls panic where the number of bodies, or the size of one, would pass 4294967295. A failed
 /// allocation ends the program.
-#[doc(alias = "bodies")]
 #[derive(Clone)]
 pub struct CodeSection(Entries);
 

@@ -35,10 +35,6 @@ use core::fmt;
 /// // global.get 0: 23 00. i32.const 8: 41 08. i32.add: 6A. end: 0B.
 /// assert_eq!(bytes, [0x23, 0x00, 0x41, 0x08, 0x6A, 0x0B]);
 /// ```
-#[doc(alias = "init")]
-#[doc(alias = "initializer")]
-#[doc(alias = "constant expression")]
-#[doc(alias = "extended const")]
 #[derive(Clone)]
 pub struct ConstExpr {
     first: Option<First>,

@@ -28,8 +28,6 @@ use core::fmt;
 /// // Size 7: a name of four bytes, and the data.
 /// assert_eq!(bytes, *b"\x07\x04notehi");
 /// ```
-#[doc(alias = "metadata")]
-#[doc(alias = "dwarf")]
 #[derive(Clone, Debug, PartialEq)]
 pub struct CustomSection<'a> {
     /// The name of the section.
@@ -152,7 +150,6 @@ over_proved! {
     /// // Size 15, "name"; subsection 0, size 2, "m"; subsection 1, size 4, one name, 0, "f".
     /// assert_eq!(bytes, *b"\x0F\x04name\0\x02\x01m\x01\x04\x01\0\x01f");
     /// ```
-    #[doc(alias = "debug names")]
     NameSection
     /// The custom section `linking`, version 2: what a linker needs of an object file.
     ///
@@ -174,8 +171,6 @@ over_proved! {
     /// // index 1, "f".
     /// assert_eq!(bytes, *b"\x11\x07linking\x02\x08\x06\x01\0\0\x01\x01f");
     /// ```
-    #[doc(alias = "object file")]
-    #[doc(alias = "linker")]
     LinkingSection
     /// A symbol table: the functions, globals, tables and data that a linker knows by name.
     ///
@@ -196,7 +191,6 @@ over_proved! {
     /// // flags 0, "d", segment 1, offset 2, size 3.
     /// assert_eq!(bytes, [8, 11, 2, 0, 0x10, 0, 1, 0, 1, b'd', 1, 2, 3]);
     /// ```
-    #[doc(alias = "symtab")]
     SymbolTable
     /// The custom section `producers`: the languages and tools that made the module.
     ///
@@ -251,7 +245,6 @@ over_proved! {
     /// // Size 32, the name; one function, 7, with one hint: offset 3, one byte, likely.
     /// assert_eq!(bytes, *b"\x20\x19metadata.code.branch_hint\x01\x07\x01\x03\x01\x01");
     /// ```
-    #[doc(alias = "likely")]
     BranchHints
     /// The custom section `coremodules` of a core dump: the names of modules.
     ///
@@ -266,7 +259,6 @@ over_proved! {
     /// // One module: 00, "m".
     /// assert_eq!(modules.as_custom().data, [1, 0, 1, b'm'].as_slice());
     /// ```
-    #[doc(alias = "coredump")]
     CoreDumpModulesSection
     /// The custom section `coreinstances` of a core dump: instances of its modules.
     ///
@@ -281,7 +273,6 @@ over_proved! {
     /// // One instance: 00, module 0, one memory, 42, one global, 17.
     /// assert_eq!(instances.as_custom().data, [1, 0, 0, 1, 42, 1, 17].as_slice());
     /// ```
-    #[doc(alias = "coredump")]
     CoreDumpInstancesSection
 }
 
@@ -533,7 +524,6 @@ const MARKED: &[Before] = &[Before::Number, Before::Name, Before::Number];
 /// // Size 11, "core", 00, "test".
 /// assert_eq!(bytes, *b"\x0B\x04core\0\x04test");
 /// ```
-#[doc(alias = "coredump")]
 pub struct CoreDumpSection(custom::CoreDumpSection);
 
 copied!(CoreDumpSection);
@@ -591,8 +581,6 @@ impl Default for CoreDumpSection {
 ///
 /// Its calls panic where a count or length would pass 4294967295. A failed allocation ends the
 /// program.
-#[doc(alias = "coredump")]
-#[doc(alias = "backtrace")]
 pub struct CoreDumpStackSection(custom::CoreDumpStackSection);
 
 copied!(CoreDumpStackSection);

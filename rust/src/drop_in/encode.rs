@@ -29,11 +29,6 @@ use alloc_crate::vec::Vec;
 /// "ab".encode(&mut bytes); // Two bytes, 61 62.
 /// assert_eq!(bytes, [0xAC, 0x02, 0x7F, 2, 0x61, 0x62]);
 /// ```
-#[doc(alias = "leb128")]
-#[doc(alias = "varint")]
-#[doc(alias = "uleb128")]
-#[doc(alias = "sleb128")]
-#[doc(alias = "serialize")]
 pub trait Encode {
     /// Appends the encoding of the value.
     ///

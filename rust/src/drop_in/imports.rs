@@ -22,8 +22,6 @@ use alloc_crate::vec::Vec;
 /// // Size 14, two imports: "m", "f", a function (00) of type 5; "m", "t", a tag (04 00) of type 6.
 /// assert_eq!(bytes, *b"\x0E\x02\x01m\x01f\0\x05\x01m\x01t\x04\0\x06");
 /// ```
-#[doc(alias = "externtype")]
-#[doc(alias = "extern type")]
 #[derive(Clone, Copy, Debug, PartialEq, Eq)]
 pub enum EntityType {
     /// A function whose type has this index.
@@ -105,7 +103,6 @@ pub struct ImportCompact<'a> {
 /// // Size 12, one entry: "m", an empty name and 7E, a function (00) of type 0, two names.
 /// assert_eq!(bytes, *b"\x0C\x01\x01m\0\x7E\0\0\x02\x01a\x01b");
 /// ```
-#[doc(alias = "compact imports")]
 #[derive(Clone, Debug)]
 pub enum Imports<'a> {
     /// One import.

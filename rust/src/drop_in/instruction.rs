@@ -42,14 +42,6 @@ use core::slice;
 /// ```
 ///
 /// [Instructions]: https://webassembly.github.io/spec/core/binary/instructions.html
-#[doc(alias = "opcode")]
-#[doc(alias = "operator")]
-#[doc(alias = "mnemonic")]
-#[doc(alias = "wat")]
-#[doc(alias = "simd")]
-#[doc(alias = "threads")]
-#[doc(alias = "tail call")]
-#[doc(alias = "bulk memory")]
 #[derive(Clone, Debug)]
 #[non_exhaustive]
 pub enum Instruction<'a> {

@@ -72,7 +72,6 @@ pub enum ExportKind {
 }
 
 /// The kind of a tag, a field of [`TagType`]. Exceptions are the only kind.
-#[doc(alias = "exception handling")]
 #[derive(Clone, Copy, Debug, PartialEq, Eq)]
 #[repr(u8)]
 pub enum TagKind {

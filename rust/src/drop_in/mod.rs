@@ -35,6 +35,8 @@ mod sections;
 mod types;
 mod values;
 
+// An alias for the search of rustdoc is at the re-export: rustdoc drops those of the definition.
+
 /// The kind byte of functions in the encodings of imports and exports. Core specification, Modules,
 /// Export Section.
 ///
@@ -604,26 +606,101 @@ pub use crate::types::FieldType;
 #[doc(alias = "packed")]
 pub use crate::types::StorageType;
 
-pub use code::{CodeSection, Function, InstructionSink};
+#[doc(alias = "bodies")]
+pub use code::CodeSection;
+#[doc(alias = "body")]
+#[doc(alias = "func")]
+#[doc(alias = "locals")]
+pub use code::Function;
+#[doc(alias = "assembler")]
+#[doc(alias = "emit")]
+pub use code::InstructionSink;
+#[doc(alias = "init")]
+#[doc(alias = "initializer")]
+#[doc(alias = "constant expression")]
+#[doc(alias = "extended const")]
 pub use const_expr::ConstExpr;
-pub use custom::{
-    BranchHints, CoreDumpInstancesSection, CoreDumpModulesSection, CoreDumpSection,
-    CoreDumpStackSection, CustomSection, IndirectNameMap, LinkingSection, NameMap, NameSection,
-    ProducersField, ProducersSection, SymbolTable,
-};
-pub use encode::{Encode, Section, encode_section, encode_vec};
-pub use imports::{EntityType, Import, ImportCompact, Imports};
+#[doc(alias = "likely")]
+pub use custom::BranchHints;
+#[doc(alias = "coredump")]
+pub use custom::CoreDumpInstancesSection;
+#[doc(alias = "coredump")]
+pub use custom::CoreDumpModulesSection;
+#[doc(alias = "coredump")]
+pub use custom::CoreDumpSection;
+#[doc(alias = "coredump")]
+#[doc(alias = "backtrace")]
+pub use custom::CoreDumpStackSection;
+#[doc(alias = "metadata")]
+#[doc(alias = "dwarf")]
+pub use custom::CustomSection;
+#[doc(alias = "object file")]
+#[doc(alias = "linker")]
+pub use custom::LinkingSection;
+#[doc(alias = "debug names")]
+pub use custom::NameSection;
+#[doc(alias = "symtab")]
+pub use custom::SymbolTable;
+pub use custom::{IndirectNameMap, NameMap, ProducersField, ProducersSection};
+#[doc(alias = "leb128")]
+#[doc(alias = "varint")]
+#[doc(alias = "uleb128")]
+#[doc(alias = "sleb128")]
+#[doc(alias = "serialize")]
+pub use encode::Encode;
+pub use encode::{Section, encode_section, encode_vec};
+#[doc(alias = "externtype")]
+#[doc(alias = "extern type")]
+pub use imports::EntityType;
+#[doc(alias = "compact imports")]
+pub use imports::Imports;
+pub use imports::{Import, ImportCompact};
+#[doc(alias = "opcode")]
+#[doc(alias = "operator")]
+#[doc(alias = "mnemonic")]
+#[doc(alias = "wat")]
+#[doc(alias = "simd")]
+#[doc(alias = "threads")]
+#[doc(alias = "tail call")]
+#[doc(alias = "bulk memory")]
 pub use instruction::Instruction;
-pub use kinds::{ExportKind, SectionId, TagKind, TagType};
-pub use module::{Module, RawSection};
+#[doc(alias = "exception handling")]
+pub use kinds::TagKind;
+pub use kinds::{ExportKind, SectionId, TagType};
+#[doc(alias = "wasm")]
+#[doc(alias = "encoder")]
+pub use module::Module;
+pub use module::RawSection;
+#[doc(alias = "elem")]
+pub use sections::ElementSection;
+#[doc(alias = "export")]
+pub use sections::ExportSection;
+#[doc(alias = "import")]
+pub use sections::ImportSection;
+#[doc(alias = "memory64")]
+#[doc(alias = "linear memory")]
+pub use sections::MemorySection;
+#[doc(alias = "table64")]
+pub use sections::TableSection;
+#[doc(alias = "exception handling")]
+#[doc(alias = "event")]
+pub use sections::TagSection;
 pub use sections::{
-    DataSection, DataSegment, DataSegmentMode, ElementMode, ElementSection, ElementSegment,
-    Elements, ExportSection, FunctionSection, GlobalSection, ImportSection, MemorySection,
-    TableSection, TagSection,
+    DataSection, DataSegment, DataSegmentMode, ElementMode, ElementSegment, Elements,
+    FunctionSection, GlobalSection,
 };
-pub use types::{
-    CompositeInnerType, CompositeType, CoreTypeEncoder, FuncType, StructType, SubType, TypeSection,
-};
+#[doc(alias = "signature")]
+#[doc(alias = "functype")]
+pub use types::FuncType;
+#[doc(alias = "gc")]
+pub use types::StructType;
+#[doc(alias = "gc")]
+#[doc(alias = "supertype")]
+pub use types::SubType;
+#[doc(alias = "gc")]
+#[doc(alias = "rectype")]
+pub use types::TypeSection;
+pub use types::{CompositeInnerType, CompositeType, CoreTypeEncoder};
 
 use crate::base::{CowSlice, Refused, Result};
 use alloc_crate::alloc::{Layout, handle_alloc_error};

@@ -24,8 +24,6 @@ use alloc_crate::vec::Vec;
 /// // The header; id 3, size 3, two functions, of types 0 and 1.
 /// assert_eq!(module.finish(), b"\0asm\x01\0\0\0\x03\x03\x02\x00\x01");
 /// ```
-#[doc(alias = "wasm")]
-#[doc(alias = "encoder")]
 #[derive(Clone, Debug)]
 pub struct Module {
     bytes: Vec<u8>,

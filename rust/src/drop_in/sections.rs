@@ -42,7 +42,6 @@ sections! {
     /// // Size 9, one import: "env", "f", a function (00) of type 5.
     /// assert_eq!(bytes, *b"\x09\x01\x03env\x01f\0\x05");
     /// ```
-    #[doc(alias = "import")]
     ImportSection of Import
     /// The function section: the type of each function that the module defines, by its index. Core
     /// specification, Modules, Function Section.
@@ -79,7 +78,6 @@ sections! {
     /// // Size 5, one table: funcref (70), flags 1 for a maximum, 1 to 2 elements.
     /// assert_eq!(bytes, [5, 1, 0x70, 1, 1, 2]);
     /// ```
-    #[doc(alias = "table64")]
     TableSection of Table
     /// The memory section: the memories that the module defines. Core specification, Modules, Memory
     /// Section.
@@ -100,8 +98,6 @@ sections! {
     /// // Size 3, one memory: flags 4 for addresses of 64 bits, at least 1 page.
     /// assert_eq!(bytes, [3, 1, 4, 1]);
     /// ```
-    #[doc(alias = "memory64")]
-    #[doc(alias = "linear memory")]
     MemorySection of Memory
     /// The tag section: the tags of exceptions that the module defines. Core specification, Modules,
     /// Tag Section.
@@ -116,8 +112,6 @@ sections! {
     /// // Size 3, one tag: an exception (00), of function type 3.
     /// assert_eq!(bytes, [3, 1, 0, 3]);
     /// ```
-    #[doc(alias = "exception handling")]
-    #[doc(alias = "event")]
     TagSection of Tag
     /// The global section: the globals that the module defines, with their initial values. Core
     /// specification, Modules, Global Section.
@@ -147,7 +141,6 @@ sections! {
     /// // Size 7, one export: "mem", kind 2, index 0.
     /// assert_eq!(bytes, *b"\x07\x01\x03mem\x02\0");
     /// ```
-    #[doc(alias = "export")]
     ExportSection of Export
     /// The element section: lists of references that initialize tables. Core specification, Modules,
     /// Element Section.
@@ -162,7 +155,6 @@ sections! {
     /// // Size 8, one segment: form 0, from offset i32.const 1 (41 01) end (0B), functions 3 and 4.
     /// assert_eq!(bytes, [8, 1, 0, 0x41, 0x01, 0x0B, 2, 3, 4]);
     /// ```
-    #[doc(alias = "elem")]
     ElementSection of Element
     /// The data section: lists of bytes that initialize memories. Core specification, Modules, Data
     /// Section.

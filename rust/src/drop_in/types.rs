@@ -23,8 +23,6 @@ use core::hash::{Hash, Hasher};
 /// assert_eq!((ty.params(), ty.results()), (&[ValType::I32][..], &[ValType::I64][..]));
 /// TypeSection::new().ty().func_type(&ty);
 /// ```
-#[doc(alias = "signature")]
-#[doc(alias = "functype")]
 pub struct FuncType(types::FuncType);
 
 copied!(FuncType);
@@ -88,7 +86,6 @@ impl Hash for FuncType {
 /// // A structure: 5F. One field: i8, 78, mutable, 01.
 /// assert_eq!(bytes, [0x5F, 1, 0x78, 0x01]);
 /// ```
-#[doc(alias = "gc")]
 #[derive(Clone, Debug, PartialEq, Eq, Hash)]
 pub struct StructType {
     /// The types of its fields.
@@ -149,8 +146,6 @@ pub struct CompositeType {
 ///
 /// [`CoreTypeEncoder::subtype`], whose page has an example, and [`CoreTypeEncoder::rec`] take it.
 /// Core specification, Types, Recursive Types.
-#[doc(alias = "gc")]
-#[doc(alias = "supertype")]
 #[derive(Clone, Debug, PartialEq, Eq, Hash)]
 pub struct SubType {
     /// Whether it is final, so that it can have no subtypes.
@@ -228,8 +223,6 @@ by_proved! { types: StructType CompositeInnerType CompositeType SubType }
 ///
 /// Its calls panic where the number of entries, or a count in one, would pass 4294967295. A failed
 /// allocation ends the program.
-#[doc(alias = "gc")]
-#[doc(alias = "rectype")]
 #[derive(Clone)]
 pub struct TypeSection(Entries);
 
