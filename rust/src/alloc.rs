@@ -1,8 +1,9 @@
 //! Allocators, which grant or refuse requests for memory.
 //!
 //! Every list of the package takes its memory from the global allocator of the program, and returns
-//! an error if that fails. Before each request it calls [`Allocator::grant`]: [`Global`] grants all,
-//! and one of your own can hold a builder to a budget, or refuse each request in turn in a test.
+//! an error if that fails. Before each request it calls [`Allocator::grant`]: [`Global`] grants
+//! all, and one of your own can hold a builder to a budget, or refuse each request in turn in a
+//! test.
 use alloc_crate::collections::TryReserveError;
 use core::fmt;
 
@@ -60,8 +61,8 @@ pub struct AllocFailed<T>(pub T);
 /// assert!(functions.len() > 0);
 /// ```
 pub trait Allocator {
-    /// Grants or refuses a buffer of this number of bytes. A list calls it once for each buffer, and
-    /// does not report when it frees one.
+    /// Grants or refuses a buffer of this number of bytes. A list calls it once for each buffer,
+    /// and does not report when it frees one.
     ///
     /// # Errors
     ///

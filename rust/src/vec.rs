@@ -1,4 +1,5 @@
-//! Vectors whose calls return an error if an allocation fails, and the sinks that bytes are appended to.
+//! Vectors whose calls return an error if an allocation fails, and the sinks that bytes are
+//! appended to.
 use crate::alloc::{AllocError, AllocFailed, Allocator, Global};
 use alloc_crate::vec;
 use core::fmt;
@@ -279,8 +280,8 @@ impl<'a, T, A: Allocator> IntoIterator for &'a Vec<T, A> {
 
 /// A list that bytes are appended to: a [`Vec`] of the package, or a `std` vector.
 ///
-/// Calls such as [`Encode::encode`](crate::fallible::Encode::encode) take one. The trait is sealed. Its
-/// calls return [`AllocError`] if an allocation fails.
+/// Calls such as [`Encode::encode`](crate::fallible::Encode::encode) take one. The trait is sealed.
+/// Its calls return [`AllocError`] if an allocation fails.
 ///
 /// ```
 /// use dolzhytik::fallible::Encode;
@@ -309,7 +310,8 @@ pub trait Sink: DerefMut<Target = [u8]> + Sealed {
     /// Appends these bytes. On an error the sink is unchanged.
     fn extend_from_slice(&mut self, bytes: &[u8]) -> Result<(), AllocError>;
 
-    /// Appends the bytes of the iterator. On an error the sink keeps those that were appended before.
+    /// Appends the bytes of the iterator. On an error the sink keeps those that were appended
+    /// before.
     fn extend<I: IntoIterator<Item = u8>>(&mut self, bytes: I) -> Result<(), AllocError>;
 
     /// Removes the bytes from index `len` on.

@@ -9,9 +9,9 @@ use alloc_crate::vec::Vec;
 
 /// Appends instructions to a list of bytes, by a named call for each.
 ///
-/// [`Function::instructions`] returns one for a body, and [`InstructionSink::new`] makes one for any
-/// `Vec<u8>`. Each call returns the sink, so that calls form a chain. A call takes the immediates of
-/// its instruction as arguments. An [`Instruction`] is the same as a value.
+/// [`Function::instructions`] returns one for a body, and [`InstructionSink::new`] makes one for
+/// any `Vec<u8>`. Each call returns the sink, so that calls form a chain. A call takes the
+/// immediates of its instruction as arguments. An [`Instruction`] is the same as a value.
 ///
 /// Calls that [`fallible::InstructionSink`](crate::fallible::InstructionSink) also has are written
 /// by those. The others append an opcode and its immediates by the proved `encode` of each. Blocks
@@ -48,7 +48,8 @@ impl<'a> InstructionSink<'a> {
         self
     }
 
-    /// Appends an opcode and its immediates by their proved `encode`, where there is no proved call.
+    /// Appends an opcode and its immediates by their proved `encode`, where there is no proved
+    /// call.
     #[inline]
     pub(super) fn emit<T: base::Encode>(&mut self, parts: &T) -> &mut Self {
         append(parts, self.sink);
@@ -195,9 +196,9 @@ impl Encode for Function {
 
 /// The code section: the bodies of the functions that the module defines.
 ///
-/// Add one body for each entry of the [`FunctionSection`](super::FunctionSection), in the same order.
-/// [`Module::section`](super::Module::section) takes the section. The encoding is defined in the core
-/// specification, Modules, Code Section.
+/// Add one body for each entry of the [`FunctionSection`](super::FunctionSection), in the same
+/// order. [`Module::section`](super::Module::section) takes the section. The encoding is defined in
+/// the core specification, Modules, Code Section.
 ///
 /// Its bodies are encoded by the calls that the proved
 /// [`fallible::CodeSection`](crate::fallible::CodeSection) makes too. To decode a code section, see

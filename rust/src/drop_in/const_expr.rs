@@ -41,8 +41,8 @@ pub struct ConstExpr {
     rest: Bytes,
 }
 
-/// Converts an expression built by the calls of [`fallible::ConstExpr`](crate::fallible::ConstExpr).
-/// The bytes are copied.
+/// Converts an expression built by the calls of
+/// [`fallible::ConstExpr`](crate::fallible::ConstExpr). The bytes are copied.
 impl From<code::ConstExpr> for ConstExpr {
     fn from(built: code::ConstExpr) -> Self {
         let mut rest = Bytes::new();

@@ -15,8 +15,8 @@ use core::fmt;
 
 /// A custom section of any name and data.
 ///
-/// [`Module::section`](super::Module::section) takes it, anywhere in the module. Core specification,
-/// Modules, Custom Section. The proved section is
+/// [`Module::section`](super::Module::section) takes it, anywhere in the module. Core
+/// specification, Modules, Custom Section. The proved section is
 /// [`fallible::CustomSection`](crate::fallible::CustomSection), which converts to this type.
 ///
 /// ```
@@ -78,8 +78,8 @@ macro_rules! over_proved {
             ///
             /// # Panics
             ///
-            /// Its calls panic where a count or length would pass 4294967295. A failed allocation ends
-            /// the program.
+            /// Its calls panic where a count or length would pass 4294967295. A failed allocation
+            /// ends the program.
             pub struct $name(custom::$name);
 
             impl $name {
@@ -167,8 +167,8 @@ over_proved! {
     /// linking.symbol_table(&symbols);
     /// let mut bytes = Vec::new();
     /// linking.encode(&mut bytes);
-    /// // Size 17, "linking", version 2; subsection 8, size 6, one symbol: a function (00), flags 0,
-    /// // index 1, "f".
+    /// // Size 17, "linking", version 2; subsection 8, size 6, one symbol: a function (00),
+    /// // flags 0, index 1, "f".
     /// assert_eq!(bytes, *b"\x11\x07linking\x02\x08\x06\x01\0\0\x01\x01f");
     /// ```
     LinkingSection
@@ -304,8 +304,8 @@ debugged!(
 );
 
 impl NameMap {
-    /// Appends the name of the item with this index. Add them in the order of indices, each once: the
-    /// call does not check it.
+    /// Appends the name of the item with this index. Add them in the order of indices, each once:
+    /// the call does not check it.
     #[inline]
     pub fn append(&mut self, idx: u32, name: &str) {
         done(self.0.append(idx, name))
@@ -318,8 +318,8 @@ impl NameMap {
 }
 
 impl IndirectNameMap {
-    /// Appends the names of the items in the item with this index. Add them in the order of indices,
-    /// each once: the call does not check it.
+    /// Appends the names of the items in the item with this index. Add them in the order of
+    /// indices, each once: the call does not check it.
     pub fn append(&mut self, idx: u32, names: &NameMap) {
         done(self.0.append(idx, &names.0))
     }
@@ -406,21 +406,23 @@ impl SymbolTable {
     /// The linker keeps the symbol, also if nothing uses it.
     pub const WASM_SYM_NO_STRIP: u32 = custom::SymbolTable::WASM_SYM_NO_STRIP;
 
-    /// Appends the symbol of the function with this index. An undefined symbol takes its name from the
-    /// import, and `None` here, unless it has the flag
+    /// Appends the symbol of the function with this index. An undefined symbol takes its name from
+    /// the import, and `None` here, unless it has the flag
     /// [`WASM_SYM_EXPLICIT_NAME`](SymbolTable::WASM_SYM_EXPLICIT_NAME).
     pub fn function(&mut self, flags: u32, index: u32, name: Option<&str>) -> &mut Self {
         done(self.0.function(flags, index, name));
         self
     }
 
-    /// Appends the symbol of the global with this index, as [`function`](SymbolTable::function) does.
+    /// Appends the symbol of the global with this index, as [`function`](SymbolTable::function)
+    /// does.
     pub fn global(&mut self, flags: u32, index: u32, name: Option<&str>) -> &mut Self {
         done(self.0.global(flags, index, name));
         self
     }
 
-    /// Appends the symbol of the table with this index, as [`function`](SymbolTable::function) does.
+    /// Appends the symbol of the table with this index, as [`function`](SymbolTable::function)
+    /// does.
     pub fn table(&mut self, flags: u32, index: u32, name: Option<&str>) -> &mut Self {
         done(self.0.table(flags, index, name));
         self
@@ -513,8 +515,8 @@ const MARKED: &[Before] = &[Before::Number, Before::Name, Before::Number];
 /// The custom section `core` of a core dump: the name of the process.
 ///
 /// The tool conventions define it in
-/// [Coredump](https://github.com/WebAssembly/tool-conventions/blob/main/Coredump.md). It is built by
-/// the proved [`fallible::CoreDumpSection`](crate::fallible::CoreDumpSection).
+/// [Coredump](https://github.com/WebAssembly/tool-conventions/blob/main/Coredump.md). It is built
+/// by the proved [`fallible::CoreDumpSection`](crate::fallible::CoreDumpSection).
 ///
 /// ```
 /// use dolzhytik::{CoreDumpSection, Encode};
@@ -564,15 +566,17 @@ impl Default for CoreDumpSection {
 /// The custom section `corestack` of a core dump: the name and the stack frames of a thread.
 ///
 /// The tool conventions define it in
-/// [Coredump](https://github.com/WebAssembly/tool-conventions/blob/main/Coredump.md). It is built by
-/// the calls of the proved [`fallible::CoreDumpStackSection`](crate::fallible::CoreDumpStackSection).
+/// [Coredump](https://github.com/WebAssembly/tool-conventions/blob/main/Coredump.md). It is built
+/// by the calls of the proved
+/// [`fallible::CoreDumpStackSection`](crate::fallible::CoreDumpStackSection).
 ///
 /// ```
 /// use dolzhytik::{CoreDumpStackSection, CoreDumpValue};
 ///
 /// let mut stack = CoreDumpStackSection::new("t");
 /// stack.frame(0, 42, 51, [CoreDumpValue::I32(1)], [CoreDumpValue::I32(2)]);
-/// // 00, "t"; one frame: 00, instance 0, function 42, offset 51, one local and one value, both i32.
+/// // 00, "t"; one frame: 00, instance 0, function 42, offset 51, one local and one value, each of
+/// // type i32 (7F).
 /// let data = [0, 1, b't', 1, 0, 0, 42, 51, 1, 0x7F, 1, 1, 0x7F, 2];
 /// assert_eq!(stack.as_custom().data, data.as_slice());
 /// ```
@@ -594,8 +598,8 @@ impl CoreDumpStackSection {
         CoreDumpStackSection(done(custom::CoreDumpStackSection::new(Global, &name)))
     }
 
-    /// Appends a frame: the indices of the instance and the function, the offset in its code, and the
-    /// values of its locals and its operand stack.
+    /// Appends a frame: the indices of the instance and the function, the offset in its code, and
+    /// the values of its locals and its operand stack.
     ///
     /// # Panics
     ///

@@ -13,9 +13,9 @@ use alloc_crate::vec::Vec;
 
 /// A value that has an encoding in the WebAssembly binary format.
 ///
-/// Numbers are encoded as LEB128, except `u8`, which is one byte; `str` as a name; a list `[T]` as a
-/// vector, which is its length and its items. The core specification defines these in Binary Format,
-/// Values and Conventions. Implement the trait for values and sections of your own.
+/// Numbers are encoded as LEB128, except `u8`, which is one byte; `str` as a name; a list `[T]` as
+/// a vector, which is its length and its items. The core specification defines these in Binary
+/// Format, Values and Conventions. Implement the trait for values and sections of your own.
 ///
 /// The proved calls have a trait of their own, [`fallible::Encode`](crate::fallible::Encode). What
 /// decodes a value is [`reader::Readable`](crate::reader::Readable).

@@ -1,4 +1,5 @@
-//! The state of the sections at the root: bytes that the proved calls append to, and the number of entries.
+//! The state of the sections at the root: bytes that the proved calls append to, and the number of
+//! entries.
 use super::{done, refuse};
 use crate::alloc::AllocError;
 use crate::base::{Encode, EncodeOnce, Refused, encode_section};
@@ -13,8 +14,8 @@ const MANY: usize = 128;
 /// The largest capacity for which a new list is cheaper than growing the old one.
 const MOVED: usize = 1024;
 
-/// A borrowed `std` vector as a sink whose calls never fail: a failed allocation ends the program, as
-/// in the crate. So no call over it has a path for an error.
+/// A borrowed `std` vector as a sink whose calls never fail: a failed allocation ends the program,
+/// as in the crate. So no call over it has a path for an error.
 pub struct Growing<'a>(pub &'a mut Vec<u8>);
 
 /// The same of an owned vector, with one indirection less.

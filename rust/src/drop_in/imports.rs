@@ -38,7 +38,8 @@ pub enum EntityType {
     FunctionExact(u32),
 }
 
-/// An import: the names of a module and of an item, and the item's type. It is a case of [`Imports`].
+/// An import: the names of a module and of an item, and the item's type. It is a case of
+/// [`Imports`].
 ///
 /// [`ImportSection::import`] takes the fields instead.
 ///
@@ -84,8 +85,8 @@ pub struct ImportCompact<'a> {
     pub ty: EntityType,
 }
 
-/// An entry of the import section, which [`ImportSection::imports`] takes: one import, or several of
-/// one module.
+/// An entry of the import section, which [`ImportSection::imports`] takes: one import, or several
+/// of one module.
 ///
 /// Entries of several imports are a proposal, and not part of the core specification.
 ///
@@ -130,7 +131,8 @@ impl ImportSection {
     ///
     /// # Panics
     ///
-    /// Panics if the length of a name, the number of items or the number of entries would pass 4294967295.
+    /// Panics if the length of a name, the number of items or the number of entries would pass
+    /// 4294967295.
     pub fn imports<'a>(&mut self, imports: Imports<'a>) -> &mut Self {
         self.0.add(&imports.proved());
         self
@@ -150,7 +152,8 @@ impl ImportSection {
 }
 
 impl<'a> Imports<'a> {
-    /// Converts the entry for a proved call. A borrowed list of items is copied, since their types are converted.
+    /// Converts the entry for a proved call. A borrowed list of items is copied, since their types
+    /// are converted.
     fn proved(self) -> sections::Imports<'a> {
         match self {
             Imports::Single(import) => sections::Imports::Single(import.into()),
@@ -212,7 +215,8 @@ macro_rules! same_entities {
 same_entities!(EntityType => sections::EntityType);
 same_entities!(sections::EntityType => EntityType);
 
-/// Implements the conversions between a record and the proved one, which have the same fields and an entity type.
+/// Implements the conversions between a record and the proved one, which have the same fields and
+/// an entity type.
 macro_rules! same_fields {
     ($($name:ident { $($field:ident),* })*) => {
         $(

@@ -48,7 +48,9 @@ pub enum SectionId {
     Tag = 13,
 }
 
-/// The kind of an exported item, which [`ExportSection::export`](super::ExportSection::export) takes.
+/// The kind of an exported item, which [`ExportSection::export`](super::ExportSection::export)
+/// takes.
+///
 /// Core specification, Modules, Export Section.
 ///
 /// ```
@@ -80,8 +82,9 @@ pub enum TagKind {
 }
 
 /// The type of a tag, which [`TagSection::tag`](super::TagSection::tag) takes, and
-/// [`EntityType::Tag`](super::EntityType::Tag) for an imported one. Core specification, Types, Tag
-/// Types.
+/// [`EntityType::Tag`](super::EntityType::Tag) for an imported one.
+///
+/// Core specification, Types, Tag Types.
 ///
 /// ```
 /// use dolzhytik::{TagKind, TagSection, TagType};
@@ -115,7 +118,8 @@ impl Encode for SectionId {
 
 by_proved! { sections: ExportKind TagType }
 
-/// Implements the conversions between an enum and the proved one, by pairs of cases. Both have the same numbers, so that a conversion compiles to nothing.
+/// Implements the conversions between an enum and the proved one, by pairs of cases. Both have the
+/// same numbers, so that a conversion compiles to nothing.
 macro_rules! same_cases {
     ($($name:ident of $module:ident { $($case:ident = $proved:ident),* })*) => {
         $(

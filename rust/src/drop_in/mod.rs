@@ -8,11 +8,11 @@
 //! An instruction is appended by a proved named call, or by the proved `encode` of its opcode and
 //! its immediates. A body and a module are lists of bytes here, since the crate lends these before
 //! they are complete. So [`Function::raw`] and [`Module::section`] append by themselves. So do
-//! [`encode_vec`] and `encode` of lists and options, whose items may be of any type. Nothing of this
-//! is proved; it is tested.
+//! [`encode_vec`] and `encode` of lists and options, whose items may be of any type. Nothing of
+//! this is proved; it is tested.
 //!
-//! Values that the proved calls take are the same types here. The enums of `kinds` and `imports` are
-//! not: they have the crate's cases and sizes, and `From` both ways.
+//! Values that the proved calls take are the same types here. The enums of `kinds` and `imports`
+//! are not: they have the crate's cases and sizes, and `From` both ways.
 //!
 //! An error of a proved call ends here as in the crate: a panic where a count, run or length would
 //! pass 4294967295, and [`handle_alloc_error`] where an allocation fails. Sinks whose calls never
@@ -37,8 +37,9 @@ mod values;
 
 // An alias for the search of rustdoc is at the re-export: rustdoc drops those of the definition.
 
-/// The kind byte of functions in the encodings of imports and exports. Core specification, Modules,
-/// Export Section.
+/// The kind byte of functions in the encodings of imports and exports.
+///
+/// Core specification, Modules, Export Section.
 ///
 /// The same constant is in [`fallible`](crate::fallible), whose page says:
 ///
@@ -51,36 +52,41 @@ pub use crate::base::CORE_FUNCTION_SORT;
 ///
 pub use crate::base::CORE_FUNCTION_EXACT_SORT;
 
-/// The kind byte of globals in the encodings of imports and exports. Core specification, Modules,
-/// Export Section.
+/// The kind byte of globals in the encodings of imports and exports.
+///
+/// Core specification, Modules, Export Section.
 ///
 /// The same constant is in [`fallible`](crate::fallible), whose page says:
 ///
 pub use crate::base::CORE_GLOBAL_SORT;
 
-/// The kind byte of memories in the encodings of imports and exports. Core specification, Modules,
-/// Export Section.
+/// The kind byte of memories in the encodings of imports and exports.
+///
+/// Core specification, Modules, Export Section.
 ///
 /// The same constant is in [`fallible`](crate::fallible), whose page says:
 ///
 pub use crate::base::CORE_MEMORY_SORT;
 
-/// The kind byte of tables in the encodings of imports and exports. Core specification, Modules,
-/// Export Section.
+/// The kind byte of tables in the encodings of imports and exports.
+///
+/// Core specification, Modules, Export Section.
 ///
 /// The same constant is in [`fallible`](crate::fallible), whose page says:
 ///
 pub use crate::base::CORE_TABLE_SORT;
 
-/// The kind byte of tags in the encodings of imports and exports. Core specification, Modules,
-/// Export Section.
+/// The kind byte of tags in the encodings of imports and exports.
+///
+/// Core specification, Modules, Export Section.
 ///
 /// The same constant is in [`fallible`](crate::fallible), whose page says:
 ///
 pub use crate::base::CORE_TAG_SORT;
 
-/// An abstract heap type, such as `func` or `any`, which a [`HeapType`] holds. Core specification,
-/// Types, Heap Types.
+/// An abstract heap type, such as `func` or `any`, which a [`HeapType`] holds.
+///
+/// Core specification, Types, Heap Types.
 ///
 /// A case has the name of the type in the text format, and the byte of its encoding as its number.
 /// `Cont` and `NoCont` are of the stack switching proposal.
@@ -102,7 +108,9 @@ pub use crate::base::CORE_TAG_SORT;
 pub use crate::base::AbstractHeapType;
 
 /// A heap type: what a [`RefType`] refers to, and the operand of `ref.null`, `ref.test` and
-/// `ref.cast`. Core specification, Types, Heap Types.
+/// `ref.cast`.
+///
+/// Core specification, Types, Heap Types.
 ///
 /// `Abstract` is a type with a name: `shared`, of the shared-everything threads proposal, says
 /// whether threads share its values. `Exact` is of the custom descriptors proposal.
@@ -122,7 +130,9 @@ pub use crate::base::AbstractHeapType;
 pub use crate::base::HeapType;
 
 /// A reference type: the element type of a [`TableType`] and of [`Elements::Expressions`], and a
-/// case of [`ValType`]. Core specification, Types, Reference Types.
+/// case of [`ValType`].
+///
+/// Core specification, Types, Reference Types.
 ///
 /// `nullable` says whether null is a value of the type, and `heap_type` what references refer to.
 ///
@@ -176,8 +186,10 @@ pub use crate::base::ValType;
 #[doc(alias = "leb128")]
 pub use crate::base::encoding_size;
 
-/// A branch hint, which [`BranchHints::function_hints`] takes: the offset of a branch and its likely
-/// direction. The branch hinting proposal defines it.
+/// A branch hint, which [`BranchHints::function_hints`] takes: the offset of a branch and its
+/// likely direction.
+///
+/// The branch hinting proposal defines it.
 ///
 /// [`BranchHints`] has an example.
 ///
@@ -185,10 +197,13 @@ pub use crate::base::encoding_size;
 ///
 pub use crate::custom::BranchHint;
 
-/// A value in a core dump, which [`CoreDumpStackSection::frame`] takes. The tool conventions define
-/// it in [Coredump](https://github.com/WebAssembly/tool-conventions/blob/main/Coredump.md).
+/// A value in a core dump, which [`CoreDumpStackSection::frame`] takes.
 ///
-/// The cases are integers and floats of 32 and 64 bits, and `Missing` for a value that is not known.
+/// The tool conventions define it in
+/// [Coredump](https://github.com/WebAssembly/tool-conventions/blob/main/Coredump.md).
+///
+/// The cases are integers and floats of 32 and 64 bits, and `Missing` for a value that is not
+/// known.
 ///
 /// ```
 /// use dolzhytik::{CoreDumpValue, Encode};
@@ -205,7 +220,9 @@ pub use crate::custom::BranchHint;
 #[doc(alias = "coredump")]
 pub use crate::custom::CoreDumpValue;
 
-/// The bytes of a data symbol, which [`SymbolTable::data`] takes. The tool conventions define it in
+/// The bytes of a data symbol, which [`SymbolTable::data`] takes.
+///
+/// The tool conventions define it in
 /// [Linking](https://github.com/WebAssembly/tool-conventions/blob/main/Linking.md).
 ///
 /// [`SymbolTable`] has an example.
@@ -232,7 +249,9 @@ pub use crate::custom::DataSymbolDefinition;
 pub use crate::custom::RawCustomSection;
 
 /// The type of a block: an immediate of `block`, `loop`, `if` and `try_table`, as of
-/// [`InstructionSink::block`]. Core specification, Instructions, Control Instructions.
+/// [`InstructionSink::block`].
+///
+/// Core specification, Instructions, Control Instructions.
 ///
 /// ```
 /// use dolzhytik::{BlockType, Encode, ValType};
@@ -249,8 +268,9 @@ pub use crate::custom::RawCustomSection;
 ///
 pub use crate::immediates::BlockType;
 
-/// A catch clause, which [`InstructionSink::try_table`] takes. Core specification, Instructions,
-/// Control Instructions.
+/// A catch clause, which [`InstructionSink::try_table`] takes.
+///
+/// Core specification, Instructions, Control Instructions.
 ///
 /// `One` and `OneRef` catch exceptions of a tag, `All` and `AllRef` all of them. Those with `Ref`
 /// also pass a reference to the exception to the label.
@@ -270,8 +290,9 @@ pub use crate::immediates::BlockType;
 #[doc(alias = "exception handling")]
 pub use crate::immediates::Catch;
 
-/// A handler of `resume`, `resume_throw` and `resume_throw_ref`, as in [`Instruction::Resume`]. The
-/// stack switching proposal defines it.
+/// A handler of `resume`, `resume_throw` and `resume_throw_ref`, as in [`Instruction::Resume`].
+///
+/// The stack switching proposal defines it.
 ///
 /// `OnLabel` branches to a label when code suspends with the tag, and `OnSwitch` admits switches
 /// with the tag.
@@ -295,7 +316,8 @@ pub use crate::immediates::Handle;
 /// A float of 32 bits, by its bits, which [`InstructionSink::f32_const`] takes. A NaN keeps its
 /// payload.
 ///
-/// An `f32` converts to it: `1.5_f32.into()`. Core specification, Binary Format, Values, Floating-Point.
+/// An `f32` converts to it: `1.5_f32.into()`. Core specification, Binary Format, Values,
+/// Floating-Point.
 ///
 /// ```
 /// use dolzhytik::{Encode, Ieee32};
@@ -314,7 +336,8 @@ pub use crate::immediates::Ieee32;
 /// A float of 64 bits, by its bits, which [`InstructionSink::f64_const`] takes. A NaN keeps its
 /// payload.
 ///
-/// An `f64` converts to it: `1.5_f64.into()`. Core specification, Binary Format, Values, Floating-Point.
+/// An `f64` converts to it: `1.5_f64.into()`. Core specification, Binary Format, Values,
+/// Floating-Point.
 ///
 /// ```
 /// use dolzhytik::{Encode, Ieee64};
@@ -329,8 +352,8 @@ pub use crate::immediates::Ieee32;
 ///
 pub use crate::immediates::Ieee64;
 
-/// The index of a lane of a vector, which calls such as [`InstructionSink::i8x16_replace_lane`] take.
-/// It is encoded as one byte.
+/// The index of a lane of a vector, which calls such as [`InstructionSink::i8x16_replace_lane`]
+/// take. It is encoded as one byte.
 ///
 /// ```
 /// use dolzhytik::InstructionSink;
@@ -374,8 +397,9 @@ pub use crate::immediates::Lane;
 #[doc(alias = "multi-memory")]
 pub use crate::immediates::MemArg;
 
-/// The ordering of an atomic access: a field of [`MemArg`]. The shared-everything threads proposal
-/// defines it.
+/// The ordering of an atomic access: a field of [`MemArg`].
+///
+/// The shared-everything threads proposal defines it.
 ///
 /// `Op` is the ordering of a load or a store, and `Rmw` that of a read-modify-write instruction.
 ///
@@ -402,10 +426,11 @@ pub use crate::immediates::MemArgOrdering;
 ///
 pub use crate::immediates::MemArgTarget;
 
-/// The ordering of an atomic instruction, which calls such as [`InstructionSink::atomic_fence`] take.
+/// The ordering of an atomic instruction, which calls such as [`InstructionSink::atomic_fence`]
+/// take.
 ///
-/// It is not [`core::cmp::Ordering`]. The shared-everything threads proposal defines it: `SeqCst` is
-/// sequential consistency, byte 00, and `AcqRel` acquire and release, byte 01.
+/// It is not [`core::cmp::Ordering`]. The shared-everything threads proposal defines it: `SeqCst`
+/// is sequential consistency, byte 00, and `AcqRel` acquire and release, byte 01.
 ///
 /// ```
 /// use dolzhytik::{Encode, Ordering};
@@ -441,7 +466,9 @@ pub use crate::immediates::Ordering;
 pub use crate::sections::DataCountSection;
 
 /// The type of a global, which [`GlobalSection::global`] takes, and [`EntityType::Global`] for an
-/// imported one. Core specification, Types, Global Types.
+/// imported one.
+///
+/// Core specification, Types, Global Types.
 ///
 /// `val_type` is the type of its value. `shared` is of the shared-everything threads proposal.
 ///
@@ -459,7 +486,9 @@ pub use crate::sections::DataCountSection;
 pub use crate::sections::GlobalType;
 
 /// The type of a memory, which [`MemorySection::memory`] takes, and [`EntityType::Memory`] for an
-/// imported one. Core specification, Types, Memory Types.
+/// imported one.
+///
+/// Core specification, Types, Memory Types.
 ///
 /// `minimum` and `maximum` are its size in pages: the initial one, and the limit for `memory.grow`.
 /// `shared` is of the threads proposal, and `page_size_log2` of the custom page sizes proposal.
@@ -487,7 +516,9 @@ pub use crate::sections::GlobalType;
 #[doc(alias = "limits")]
 pub use crate::sections::MemoryType;
 
-/// The start section, which [`Module::section`] takes. Core specification, Modules, Start Section.
+/// The start section, which [`Module::section`] takes.
+///
+/// Core specification, Modules, Start Section.
 ///
 /// `function_index` is the index of the function that instantiation calls.
 ///
@@ -505,10 +536,12 @@ pub use crate::sections::MemoryType;
 pub use crate::sections::StartSection;
 
 /// The type of a table, which [`TableSection::table`] takes, and [`EntityType::Table`] for an
-/// imported one. Core specification, Types, Table Types.
+/// imported one.
 ///
-/// `minimum` and `maximum` are its size in elements: the initial one, and the limit for `table.grow`.
-/// `shared` is of the shared-everything threads proposal.
+/// Core specification, Types, Table Types.
+///
+/// `minimum` and `maximum` are its size in elements: the initial one, and the limit for
+/// `table.grow`. `shared` is of the shared-everything threads proposal.
 ///
 /// ```
 /// use dolzhytik::{Encode, RefType, TableType};
@@ -533,7 +566,9 @@ pub use crate::sections::StartSection;
 pub use crate::sections::TableType;
 
 /// An array type: a case of [`CompositeInnerType`]. To add one without a value, see
-/// [`CoreTypeEncoder::array`]. Core specification, Types, Composite Types.
+/// [`CoreTypeEncoder::array`].
+///
+/// Core specification, Types, Composite Types.
 ///
 /// ```
 /// use dolzhytik::{ArrayType, Encode, FieldType, StorageType};
@@ -549,8 +584,9 @@ pub use crate::sections::TableType;
 #[doc(alias = "gc")]
 pub use crate::types::ArrayType;
 
-/// A continuation type, which [`CoreTypeEncoder::cont`] takes. The stack switching proposal defines
-/// it.
+/// A continuation type, which [`CoreTypeEncoder::cont`] takes.
+///
+/// The stack switching proposal defines it.
 ///
 /// ```
 /// use dolzhytik::{ContType, Encode};
@@ -566,8 +602,9 @@ pub use crate::types::ArrayType;
 #[doc(alias = "stack switching")]
 pub use crate::types::ContType;
 
-/// A field of a structure, which [`CoreTypeEncoder::struct_`] takes. Core specification, Types,
-/// Composite Types.
+/// A field of a structure, which [`CoreTypeEncoder::struct_`] takes.
+///
+/// Core specification, Types, Composite Types.
 ///
 /// `element_type` is the type of its content, and `mutable` says whether it can be set.
 ///
@@ -585,8 +622,9 @@ pub use crate::types::ContType;
 #[doc(alias = "gc")]
 pub use crate::types::FieldType;
 
-/// A storage type, which [`CoreTypeEncoder::array`] and [`FieldType`] take. Core specification,
-/// Types, Composite Types.
+/// A storage type, which [`CoreTypeEncoder::array`] and [`FieldType`] take.
+///
+/// Core specification, Types, Composite Types.
 ///
 /// `I8` and `I16` are packed integers, and `Val` is a value type. A [`ValType`] converts to it.
 ///

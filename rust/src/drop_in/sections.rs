@@ -30,7 +30,9 @@ macro_rules! sections {
 
 sections! {
     /// The import section: the functions, tables, memories, globals and tags that a module takes
-    /// from its host. Core specification, Modules, Import Section.
+    /// from its host.
+    ///
+    /// Core specification, Modules, Import Section.
     ///
     /// ```
     /// use dolzhytik::{Encode, EntityType, ImportSection};
@@ -43,8 +45,9 @@ sections! {
     /// assert_eq!(bytes, *b"\x09\x01\x03env\x01f\0\x05");
     /// ```
     ImportSection of Import
-    /// The function section: the type of each function that the module defines, by its index. Core
-    /// specification, Modules, Function Section.
+    /// The function section: the type of each function that the module defines, by its index.
+    ///
+    /// Core specification, Modules, Function Section.
     ///
     /// The bodies are in the [`CodeSection`](super::CodeSection), in the same order.
     ///
@@ -59,8 +62,9 @@ sections! {
     /// assert_eq!(bytes, [4, 2, 1, 0x80, 0x01]);
     /// ```
     FunctionSection of Function
-    /// The table section: the tables that the module defines. Core specification, Modules, Table
-    /// Section.
+    /// The table section: the tables that the module defines.
+    ///
+    /// Core specification, Modules, Table Section.
     ///
     /// ```
     /// use dolzhytik::{Encode, RefType, TableSection, TableType};
@@ -79,8 +83,9 @@ sections! {
     /// assert_eq!(bytes, [5, 1, 0x70, 1, 1, 2]);
     /// ```
     TableSection of Table
-    /// The memory section: the memories that the module defines. Core specification, Modules, Memory
-    /// Section.
+    /// The memory section: the memories that the module defines.
+    ///
+    /// Core specification, Modules, Memory Section.
     ///
     /// ```
     /// use dolzhytik::{Encode, MemorySection, MemoryType};
@@ -99,8 +104,9 @@ sections! {
     /// assert_eq!(bytes, [3, 1, 4, 1]);
     /// ```
     MemorySection of Memory
-    /// The tag section: the tags of exceptions that the module defines. Core specification, Modules,
-    /// Tag Section.
+    /// The tag section: the tags of exceptions that the module defines.
+    ///
+    /// Core specification, Modules, Tag Section.
     ///
     /// ```
     /// use dolzhytik::{Encode, TagKind, TagSection, TagType};
@@ -113,8 +119,9 @@ sections! {
     /// assert_eq!(bytes, [3, 1, 0, 3]);
     /// ```
     TagSection of Tag
-    /// The global section: the globals that the module defines, with their initial values. Core
-    /// specification, Modules, Global Section.
+    /// The global section: the globals that the module defines, with their initial values.
+    ///
+    /// Core specification, Modules, Global Section.
     ///
     /// ```
     /// use dolzhytik::{ConstExpr, Encode, GlobalSection, GlobalType, ValType};
@@ -128,8 +135,9 @@ sections! {
     /// assert_eq!(bytes, [6, 1, 0x7F, 1, 0x41, 0x2A, 0x0B]);
     /// ```
     GlobalSection of Global
-    /// The export section: the items that a module gives to its host, by name. Core specification,
-    /// Modules, Export Section.
+    /// The export section: the items that a module gives to its host, by name.
+    ///
+    /// Core specification, Modules, Export Section.
     ///
     /// ```
     /// use dolzhytik::{Encode, ExportKind, ExportSection};
@@ -142,8 +150,9 @@ sections! {
     /// assert_eq!(bytes, *b"\x07\x01\x03mem\x02\0");
     /// ```
     ExportSection of Export
-    /// The element section: lists of references that initialize tables. Core specification, Modules,
-    /// Element Section.
+    /// The element section: lists of references that initialize tables.
+    ///
+    /// Core specification, Modules, Element Section.
     ///
     /// ```
     /// use dolzhytik::{ConstExpr, ElementSection, Elements, Encode};
@@ -156,8 +165,9 @@ sections! {
     /// assert_eq!(bytes, [8, 1, 0, 0x41, 0x01, 0x0B, 2, 3, 4]);
     /// ```
     ElementSection of Element
-    /// The data section: lists of bytes that initialize memories. Core specification, Modules, Data
-    /// Section.
+    /// The data section: lists of bytes that initialize memories.
+    ///
+    /// Core specification, Modules, Data Section.
     ///
     /// A module whose code has `memory.init` or `data.drop` also needs a
     /// [`DataCountSection`](super::DataCountSection) before the code.
@@ -208,7 +218,7 @@ impl TableSection {
     /// tables.table_with_init(ty, &ConstExpr::ref_null(HeapType::FUNC));
     /// let mut bytes = Vec::new();
     /// tables.encode(&mut bytes);
-    /// // Size 9, one table: 40 00, then funcref (70), no flags, 4 elements; ref.null func (D0 70), end.
+    /// // Size 9, one table: 40 00; funcref (70), no flags, 4 elements; ref.null func (D0 70), end.
     /// assert_eq!(bytes, [9, 1, 0x40, 0x00, 0x70, 0, 4, 0xD0, 0x70, 0x0B]);
     /// ```
     pub fn table_with_init(&mut self, table_type: TableType, init: &ConstExpr) -> &mut Self {
@@ -274,7 +284,7 @@ impl ExportSection {
 /// section.passive(Elements::Expressions(RefType::EXTERNREF, expressions.into()));
 /// let mut bytes = Vec::new();
 /// section.encode(&mut bytes);
-/// // Size 7, one segment: form 5, externref (6F), one expression: ref.null extern (D0 6F), end (0B).
+/// // Size 7, one segment: form 5, externref (6F), one expression: ref.null extern (D0 6F), end.
 /// assert_eq!(bytes, [7, 1, 5, 0x6F, 1, 0xD0, 0x6F, 0x0B]);
 /// ```
 #[derive(Clone, Debug)]
@@ -480,7 +490,8 @@ impl DataSection {
         }
     }
 
-    /// Appends an active segment: instantiation copies the bytes into the memory, from the offset on.
+    /// Appends an active segment: instantiation copies the bytes into the memory, from the offset
+    /// on.
     ///
     /// # Panics
     ///

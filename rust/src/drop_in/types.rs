@@ -74,8 +74,10 @@ impl Hash for FuncType {
     }
 }
 
-/// The type of a structure: its fields. It is a case of [`CompositeInnerType`]; to add one without a
-/// value, see [`CoreTypeEncoder::struct_`]. Core specification, Types, Composite Types.
+/// The type of a structure: its fields. It is a case of [`CompositeInnerType`]; to add one without
+/// a value, see [`CoreTypeEncoder::struct_`].
+///
+/// Core specification, Types, Composite Types.
 ///
 /// ```
 /// use dolzhytik::{Encode, FieldType, StorageType, StructType};
@@ -114,7 +116,9 @@ pub enum CompositeInnerType {
     Cont(ContType),
 }
 
-/// A composite type: a field of [`SubType`]. Core specification, Types, Composite Types.
+/// A composite type: a field of [`SubType`].
+///
+/// Core specification, Types, Composite Types.
 ///
 /// ```
 /// use dolzhytik::{CompositeInnerType, CompositeType, Encode, FuncType};
@@ -229,8 +233,8 @@ pub struct TypeSection(Entries);
 listed!(TypeSection of types Type);
 
 impl TypeSection {
-    /// Returns the calls that append an entry: a type, or a group of types. Each call uses the value
-    /// up. Nothing is appended or counted if none is made.
+    /// Returns the calls that append an entry: a type, or a group of types. Each call uses the
+    /// value up. Nothing is appended or counted if none is made.
     #[must_use = "an entry is appended by a call of the returned value"]
     pub fn ty(&mut self) -> CoreTypeEncoder<'_> {
         CoreTypeEncoder(&mut self.0)
@@ -244,7 +248,7 @@ impl TypeSection {
 ///
 /// let mut types = TypeSection::new();
 /// types.ty().array(&StorageType::I8, true);
-/// types.ty().struct_([FieldType { element_type: StorageType::Val(ValType::F32), mutable: false }]);
+/// types.ty().struct_([FieldType { element_type: ValType::F32.into(), mutable: false }]);
 /// let mut bytes = Vec::new();
 /// types.encode(&mut bytes);
 /// // Size 8, two types: an array (5E) of mutable (01) i8 (78), and a structure (5F) of one field,
