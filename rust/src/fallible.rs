@@ -51,7 +51,7 @@
 //!
 //! | | at the root | here |
 //! |---|---|---|
-//! | status | tested: proved encoders append each entry; `Function::raw`, `Module::section`, `encode_vec`, and `encode` of lists and options append by themselves | proved, by the clauses on each page |
+//! | status | tested: proved encoders append each entry; the root itself appends raw bytes, ids of sections, and lists and options of any type | proved, by the clauses on each page |
 //! | calls that add | return `&mut Self`, or nothing, as in `wasm-encoder` | return `Result<(), Refused>` |
 //! | a count, run or length past 4294967295 | a panic, before an item is taken from a list that is too long | `Err(Refused::TooLong)`, nothing changed |
 //! | an allocation fails | `handle_alloc_error` ends the program | `Err(Refused::Memory)`, nothing changed |

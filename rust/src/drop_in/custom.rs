@@ -1,4 +1,4 @@
-//! Custom sections, and what they hold.
+//! Custom sections, and the lists that they hold.
 use super::debug::{self, Before, debugged};
 use super::entries::append;
 use super::{
@@ -151,7 +151,7 @@ over_proved! {
     /// assert_eq!(bytes, *b"\x0F\x04name\0\x02\x01m\x01\x04\x01\0\x01f");
     /// ```
     NameSection
-    /// The custom section `linking`, version 2: what a linker needs of an object file.
+    /// The custom section `linking`, version 2: symbols and other data of an object file, for a linker.
     ///
     /// The tool conventions define it in
     /// [Linking](https://github.com/WebAssembly/tool-conventions/blob/main/Linking.md). For segment

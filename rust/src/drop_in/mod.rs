@@ -7,9 +7,9 @@
 //!
 //! An instruction is appended by a proved named call, or by the proved `encode` of its opcode and
 //! its immediates. A body and a module are lists of bytes here, since the crate lends these before
-//! they are complete. So [`Function::raw`] and [`Module::section`] append by themselves. So do
-//! [`encode_vec`] and `encode` of lists and options, whose items may be of any type. Nothing of
-//! this is proved; it is tested.
+//! they are complete. So [`Function::raw`] and [`Module::section`] append by themselves. So do the
+//! calls `raw` of sections, the ids of sections, and [`encode_vec`] and `encode` of lists and
+//! options, whose items may be of any type. Nothing of this is proved; it is tested.
 //!
 //! Values that the proved calls take are the same types here. The enums of `kinds` and `imports`
 //! are not: they have the crate's cases and sizes, and `From` both ways.
@@ -107,8 +107,8 @@ pub use crate::base::CORE_TAG_SORT;
 #[doc(alias = "exnref")]
 pub use crate::base::AbstractHeapType;
 
-/// A heap type: what a [`RefType`] refers to, and the operand of `ref.null`, `ref.test` and
-/// `ref.cast`.
+/// A heap type: the type of the values that a [`RefType`] refers to, and an operand of `ref.null`,
+/// `ref.test` and `ref.cast`.
 ///
 /// Core specification, Types, Heap Types.
 ///
@@ -134,7 +134,8 @@ pub use crate::base::HeapType;
 ///
 /// Core specification, Types, Reference Types.
 ///
-/// `nullable` says whether null is a value of the type, and `heap_type` what references refer to.
+/// `nullable` says whether null is a value of the type. `heap_type` is the type of the values that
+/// references refer to.
 ///
 /// ```
 /// use dolzhytik::{AbstractHeapType, Encode, RefType};
