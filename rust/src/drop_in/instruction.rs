@@ -52,28 +52,28 @@ pub enum Instruction<'a> {
     /// Its call is [`nop`](super::InstructionSink::nop).
     Nop,
     /// `block`, opcode `02`, a control instruction.
-    /// Its call is [`block`](super::InstructionSink::block).
+    /// Its call is [`block`](super::InstructionSink::block), with the immediate `block_type`.
     Block(BlockType),
     /// `loop`, opcode `03`, a control instruction.
-    /// Its call is [`loop_`](super::InstructionSink::loop_).
+    /// Its call is [`loop_`](super::InstructionSink::loop_), with the immediate `block_type`.
     Loop(BlockType),
     /// `if`, opcode `04`, a control instruction.
-    /// Its call is [`if_`](super::InstructionSink::if_).
+    /// Its call is [`if_`](super::InstructionSink::if_), with the immediate `block_type`.
     If(BlockType),
     /// `else`, opcode `05`, a delimiter of control instructions.
     /// Its call is [`else_`](super::InstructionSink::else_).
     Else,
     /// `try`, opcode `06`, a control instruction of the legacy exception handling proposal.
-    /// Its call is [`try_`](super::InstructionSink::try_).
+    /// Its call is [`try_`](super::InstructionSink::try_), with the immediate `block_type`.
     Try(BlockType),
     /// `catch`, opcode `07`, a control instruction of the legacy exception handling proposal.
-    /// Its call is [`catch`](super::InstructionSink::catch).
+    /// Its call is [`catch`](super::InstructionSink::catch), with the immediate `tag_index`.
     Catch(u32),
     /// `throw`, opcode `08`, a control instruction.
-    /// Its call is [`throw`](super::InstructionSink::throw).
+    /// Its call is [`throw`](super::InstructionSink::throw), with the immediate `tag_index`.
     Throw(u32),
     /// `rethrow`, opcode `09`, a control instruction of the legacy exception handling proposal.
-    /// Its call is [`rethrow`](super::InstructionSink::rethrow).
+    /// Its call is [`rethrow`](super::InstructionSink::rethrow), with the immediate `label`.
     Rethrow(u32),
     /// `throw_ref`, opcode `0A`, a control instruction.
     /// Its call is [`throw_ref`](super::InstructionSink::throw_ref).
@@ -82,19 +82,19 @@ pub enum Instruction<'a> {
     /// Its call is [`end`](super::InstructionSink::end).
     End,
     /// `br`, opcode `0C`, a control instruction.
-    /// Its call is [`br`](super::InstructionSink::br).
+    /// Its call is [`br`](super::InstructionSink::br), with the immediate `label`.
     Br(u32),
     /// `br_if`, opcode `0D`, a control instruction.
-    /// Its call is [`br_if`](super::InstructionSink::br_if).
+    /// Its call is [`br_if`](super::InstructionSink::br_if), with the immediate `label`.
     BrIf(u32),
     /// `br_table`, opcode `0E`, a control instruction.
-    /// Its call is [`br_table`](super::InstructionSink::br_table).
+    /// Its call is [`br_table`](super::InstructionSink::br_table), with the immediates `labels` and `default`.
     BrTable(Cow<'a, [u32]>, u32),
     /// `return`, opcode `0F`, a control instruction.
     /// Its call is [`return_`](super::InstructionSink::return_).
     Return,
     /// `call`, opcode `10`, a control instruction.
-    /// Its call is [`call`](super::InstructionSink::call).
+    /// Its call is [`call`](super::InstructionSink::call), with the immediate `function_index`.
     Call(u32),
     /// `call_indirect`, opcode `11`, a control instruction.
     /// Its call is [`call_indirect`](super::InstructionSink::call_indirect).
@@ -105,7 +105,7 @@ pub enum Instruction<'a> {
         table_index: u32,
     },
     /// `return_call`, opcode `12`, a control instruction.
-    /// Its call is [`return_call`](super::InstructionSink::return_call).
+    /// Its call is [`return_call`](super::InstructionSink::return_call), with the immediate `function_index`.
     ReturnCall(u32),
     /// `return_call_indirect`, opcode `13`, a control instruction.
     /// Its call is [`return_call_indirect`](super::InstructionSink::return_call_indirect).
@@ -116,13 +116,13 @@ pub enum Instruction<'a> {
         table_index: u32,
     },
     /// `call_ref`, opcode `14`, a control instruction.
-    /// Its call is [`call_ref`](super::InstructionSink::call_ref).
+    /// Its call is [`call_ref`](super::InstructionSink::call_ref), with the immediate `type_index`.
     CallRef(u32),
     /// `return_call_ref`, opcode `15`, a control instruction.
-    /// Its call is [`return_call_ref`](super::InstructionSink::return_call_ref).
+    /// Its call is [`return_call_ref`](super::InstructionSink::return_call_ref), with the immediate `type_index`.
     ReturnCallRef(u32),
     /// `delegate`, opcode `18`, a control instruction of the legacy exception handling proposal.
-    /// Its call is [`delegate`](super::InstructionSink::delegate).
+    /// Its call is [`delegate`](super::InstructionSink::delegate), with the immediate `label`.
     Delegate(u32),
     /// `catch_all`, opcode `19`, a control instruction of the legacy exception handling proposal.
     /// Its call is [`catch_all`](super::InstructionSink::catch_all).
@@ -134,156 +134,156 @@ pub enum Instruction<'a> {
     /// Its call is [`select`](super::InstructionSink::select).
     Select,
     /// `select (result t)`, opcode `1C`, a parametric instruction.
-    /// Its call is [`typed_select`](super::InstructionSink::typed_select).
+    /// Its call is [`typed_select`](super::InstructionSink::typed_select), with the immediate `ty`.
     TypedSelect(ValType),
     /// `select (result t*)`, opcode `1C`, a parametric instruction.
-    /// Its call is [`typed_select_multi`](super::InstructionSink::typed_select_multi).
+    /// Its call is [`typed_select_multi`](super::InstructionSink::typed_select_multi), with the immediate `types`.
     TypedSelectMulti(Cow<'a, [ValType]>),
     /// `try_table`, opcode `1F`, a control instruction.
-    /// Its call is [`try_table`](super::InstructionSink::try_table).
+    /// Its call is [`try_table`](super::InstructionSink::try_table), with the immediates `block_type` and `catches`.
     TryTable(BlockType, Cow<'a, [Catch]>),
     /// `local.get`, opcode `20`, a variable instruction.
-    /// Its call is [`local_get`](super::InstructionSink::local_get).
+    /// Its call is [`local_get`](super::InstructionSink::local_get), with the immediate `local_index`.
     #[doc(alias = "local.get")]
     LocalGet(u32),
     /// `local.set`, opcode `21`, a variable instruction.
-    /// Its call is [`local_set`](super::InstructionSink::local_set).
+    /// Its call is [`local_set`](super::InstructionSink::local_set), with the immediate `local_index`.
     #[doc(alias = "local.set")]
     LocalSet(u32),
     /// `local.tee`, opcode `22`, a variable instruction.
-    /// Its call is [`local_tee`](super::InstructionSink::local_tee).
+    /// Its call is [`local_tee`](super::InstructionSink::local_tee), with the immediate `local_index`.
     #[doc(alias = "local.tee")]
     LocalTee(u32),
     /// `global.get`, opcode `23`, a variable instruction.
-    /// Its call is [`global_get`](super::InstructionSink::global_get).
+    /// Its call is [`global_get`](super::InstructionSink::global_get), with the immediate `global_index`.
     #[doc(alias = "global.get")]
     GlobalGet(u32),
     /// `global.set`, opcode `24`, a variable instruction.
-    /// Its call is [`global_set`](super::InstructionSink::global_set).
+    /// Its call is [`global_set`](super::InstructionSink::global_set), with the immediate `global_index`.
     #[doc(alias = "global.set")]
     GlobalSet(u32),
     /// `table.get`, opcode `25`, a table instruction.
-    /// Its call is [`table_get`](super::InstructionSink::table_get).
+    /// Its call is [`table_get`](super::InstructionSink::table_get), with the immediate `table`.
     #[doc(alias = "table.get")]
     TableGet(u32),
     /// `table.set`, opcode `26`, a table instruction.
-    /// Its call is [`table_set`](super::InstructionSink::table_set).
+    /// Its call is [`table_set`](super::InstructionSink::table_set), with the immediate `table`.
     #[doc(alias = "table.set")]
     TableSet(u32),
     /// `i32.load`, opcode `28`, a memory instruction.
-    /// Its call is [`i32_load`](super::InstructionSink::i32_load).
+    /// Its call is [`i32_load`](super::InstructionSink::i32_load), with the immediate `memarg`.
     #[doc(alias = "i32.load")]
     I32Load(MemArg),
     /// `i64.load`, opcode `29`, a memory instruction.
-    /// Its call is [`i64_load`](super::InstructionSink::i64_load).
+    /// Its call is [`i64_load`](super::InstructionSink::i64_load), with the immediate `memarg`.
     #[doc(alias = "i64.load")]
     I64Load(MemArg),
     /// `f32.load`, opcode `2A`, a memory instruction.
-    /// Its call is [`f32_load`](super::InstructionSink::f32_load).
+    /// Its call is [`f32_load`](super::InstructionSink::f32_load), with the immediate `memarg`.
     #[doc(alias = "f32.load")]
     F32Load(MemArg),
     /// `f64.load`, opcode `2B`, a memory instruction.
-    /// Its call is [`f64_load`](super::InstructionSink::f64_load).
+    /// Its call is [`f64_load`](super::InstructionSink::f64_load), with the immediate `memarg`.
     #[doc(alias = "f64.load")]
     F64Load(MemArg),
     /// `i32.load8_s`, opcode `2C`, a memory instruction.
-    /// Its call is [`i32_load8_s`](super::InstructionSink::i32_load8_s).
+    /// Its call is [`i32_load8_s`](super::InstructionSink::i32_load8_s), with the immediate `memarg`.
     #[doc(alias = "i32.load8_s")]
     I32Load8S(MemArg),
     /// `i32.load8_u`, opcode `2D`, a memory instruction.
-    /// Its call is [`i32_load8_u`](super::InstructionSink::i32_load8_u).
+    /// Its call is [`i32_load8_u`](super::InstructionSink::i32_load8_u), with the immediate `memarg`.
     #[doc(alias = "i32.load8_u")]
     I32Load8U(MemArg),
     /// `i32.load16_s`, opcode `2E`, a memory instruction.
-    /// Its call is [`i32_load16_s`](super::InstructionSink::i32_load16_s).
+    /// Its call is [`i32_load16_s`](super::InstructionSink::i32_load16_s), with the immediate `memarg`.
     #[doc(alias = "i32.load16_s")]
     I32Load16S(MemArg),
     /// `i32.load16_u`, opcode `2F`, a memory instruction.
-    /// Its call is [`i32_load16_u`](super::InstructionSink::i32_load16_u).
+    /// Its call is [`i32_load16_u`](super::InstructionSink::i32_load16_u), with the immediate `memarg`.
     #[doc(alias = "i32.load16_u")]
     I32Load16U(MemArg),
     /// `i64.load8_s`, opcode `30`, a memory instruction.
-    /// Its call is [`i64_load8_s`](super::InstructionSink::i64_load8_s).
+    /// Its call is [`i64_load8_s`](super::InstructionSink::i64_load8_s), with the immediate `memarg`.
     #[doc(alias = "i64.load8_s")]
     I64Load8S(MemArg),
     /// `i64.load8_u`, opcode `31`, a memory instruction.
-    /// Its call is [`i64_load8_u`](super::InstructionSink::i64_load8_u).
+    /// Its call is [`i64_load8_u`](super::InstructionSink::i64_load8_u), with the immediate `memarg`.
     #[doc(alias = "i64.load8_u")]
     I64Load8U(MemArg),
     /// `i64.load16_s`, opcode `32`, a memory instruction.
-    /// Its call is [`i64_load16_s`](super::InstructionSink::i64_load16_s).
+    /// Its call is [`i64_load16_s`](super::InstructionSink::i64_load16_s), with the immediate `memarg`.
     #[doc(alias = "i64.load16_s")]
     I64Load16S(MemArg),
     /// `i64.load16_u`, opcode `33`, a memory instruction.
-    /// Its call is [`i64_load16_u`](super::InstructionSink::i64_load16_u).
+    /// Its call is [`i64_load16_u`](super::InstructionSink::i64_load16_u), with the immediate `memarg`.
     #[doc(alias = "i64.load16_u")]
     I64Load16U(MemArg),
     /// `i64.load32_s`, opcode `34`, a memory instruction.
-    /// Its call is [`i64_load32_s`](super::InstructionSink::i64_load32_s).
+    /// Its call is [`i64_load32_s`](super::InstructionSink::i64_load32_s), with the immediate `memarg`.
     #[doc(alias = "i64.load32_s")]
     I64Load32S(MemArg),
     /// `i64.load32_u`, opcode `35`, a memory instruction.
-    /// Its call is [`i64_load32_u`](super::InstructionSink::i64_load32_u).
+    /// Its call is [`i64_load32_u`](super::InstructionSink::i64_load32_u), with the immediate `memarg`.
     #[doc(alias = "i64.load32_u")]
     I64Load32U(MemArg),
     /// `i32.store`, opcode `36`, a memory instruction.
-    /// Its call is [`i32_store`](super::InstructionSink::i32_store).
+    /// Its call is [`i32_store`](super::InstructionSink::i32_store), with the immediate `memarg`.
     #[doc(alias = "i32.store")]
     I32Store(MemArg),
     /// `i64.store`, opcode `37`, a memory instruction.
-    /// Its call is [`i64_store`](super::InstructionSink::i64_store).
+    /// Its call is [`i64_store`](super::InstructionSink::i64_store), with the immediate `memarg`.
     #[doc(alias = "i64.store")]
     I64Store(MemArg),
     /// `f32.store`, opcode `38`, a memory instruction.
-    /// Its call is [`f32_store`](super::InstructionSink::f32_store).
+    /// Its call is [`f32_store`](super::InstructionSink::f32_store), with the immediate `memarg`.
     #[doc(alias = "f32.store")]
     F32Store(MemArg),
     /// `f64.store`, opcode `39`, a memory instruction.
-    /// Its call is [`f64_store`](super::InstructionSink::f64_store).
+    /// Its call is [`f64_store`](super::InstructionSink::f64_store), with the immediate `memarg`.
     #[doc(alias = "f64.store")]
     F64Store(MemArg),
     /// `i32.store8`, opcode `3A`, a memory instruction.
-    /// Its call is [`i32_store8`](super::InstructionSink::i32_store8).
+    /// Its call is [`i32_store8`](super::InstructionSink::i32_store8), with the immediate `memarg`.
     #[doc(alias = "i32.store8")]
     I32Store8(MemArg),
     /// `i32.store16`, opcode `3B`, a memory instruction.
-    /// Its call is [`i32_store16`](super::InstructionSink::i32_store16).
+    /// Its call is [`i32_store16`](super::InstructionSink::i32_store16), with the immediate `memarg`.
     #[doc(alias = "i32.store16")]
     I32Store16(MemArg),
     /// `i64.store8`, opcode `3C`, a memory instruction.
-    /// Its call is [`i64_store8`](super::InstructionSink::i64_store8).
+    /// Its call is [`i64_store8`](super::InstructionSink::i64_store8), with the immediate `memarg`.
     #[doc(alias = "i64.store8")]
     I64Store8(MemArg),
     /// `i64.store16`, opcode `3D`, a memory instruction.
-    /// Its call is [`i64_store16`](super::InstructionSink::i64_store16).
+    /// Its call is [`i64_store16`](super::InstructionSink::i64_store16), with the immediate `memarg`.
     #[doc(alias = "i64.store16")]
     I64Store16(MemArg),
     /// `i64.store32`, opcode `3E`, a memory instruction.
-    /// Its call is [`i64_store32`](super::InstructionSink::i64_store32).
+    /// Its call is [`i64_store32`](super::InstructionSink::i64_store32), with the immediate `memarg`.
     #[doc(alias = "i64.store32")]
     I64Store32(MemArg),
     /// `memory.size`, opcode `3F`, a memory instruction.
-    /// Its call is [`memory_size`](super::InstructionSink::memory_size).
+    /// Its call is [`memory_size`](super::InstructionSink::memory_size), with the immediate `mem`.
     #[doc(alias = "memory.size")]
     MemorySize(u32),
     /// `memory.grow`, opcode `40`, a memory instruction.
-    /// Its call is [`memory_grow`](super::InstructionSink::memory_grow).
+    /// Its call is [`memory_grow`](super::InstructionSink::memory_grow), with the immediate `mem`.
     #[doc(alias = "memory.grow")]
     MemoryGrow(u32),
     /// `i32.const`, opcode `41`, a numeric instruction.
-    /// Its call is [`i32_const`](super::InstructionSink::i32_const).
+    /// Its call is [`i32_const`](super::InstructionSink::i32_const), with the immediate `value`.
     #[doc(alias = "i32.const")]
     I32Const(i32),
     /// `i64.const`, opcode `42`, a numeric instruction.
-    /// Its call is [`i64_const`](super::InstructionSink::i64_const).
+    /// Its call is [`i64_const`](super::InstructionSink::i64_const), with the immediate `value`.
     #[doc(alias = "i64.const")]
     I64Const(i64),
     /// `f32.const`, opcode `43`, a numeric instruction.
-    /// Its call is [`f32_const`](super::InstructionSink::f32_const).
+    /// Its call is [`f32_const`](super::InstructionSink::f32_const), with the immediate `value`.
     #[doc(alias = "f32.const")]
     F32Const(Ieee32),
     /// `f64.const`, opcode `44`, a numeric instruction.
-    /// Its call is [`f64_const`](super::InstructionSink::f64_const).
+    /// Its call is [`f64_const`](super::InstructionSink::f64_const), with the immediate `value`.
     #[doc(alias = "f64.const")]
     F64Const(Ieee64),
     /// `i32.eqz`, opcode `45`, a numeric instruction.
@@ -799,7 +799,7 @@ pub enum Instruction<'a> {
     #[doc(alias = "i64.extend32_s")]
     I64Extend32S,
     /// `ref.null`, opcode `D0`, a reference instruction.
-    /// Its call is [`ref_null`](super::InstructionSink::ref_null).
+    /// Its call is [`ref_null`](super::InstructionSink::ref_null), with the immediate `heap_type`.
     #[doc(alias = "ref.null")]
     RefNull(HeapType),
     /// `ref.is_null`, opcode `D1`, a reference instruction.
@@ -807,7 +807,7 @@ pub enum Instruction<'a> {
     #[doc(alias = "ref.is_null")]
     RefIsNull,
     /// `ref.func`, opcode `D2`, a reference instruction.
-    /// Its call is [`ref_func`](super::InstructionSink::ref_func).
+    /// Its call is [`ref_func`](super::InstructionSink::ref_func), with the immediate `function_index`.
     #[doc(alias = "ref.func")]
     RefFunc(u32),
     /// `ref.eq`, opcode `D3`, a reference instruction.
@@ -819,13 +819,13 @@ pub enum Instruction<'a> {
     #[doc(alias = "ref.as_non_null")]
     RefAsNonNull,
     /// `br_on_null`, opcode `D5`, a control instruction.
-    /// Its call is [`br_on_null`](super::InstructionSink::br_on_null).
+    /// Its call is [`br_on_null`](super::InstructionSink::br_on_null), with the immediate `label`.
     BrOnNull(u32),
     /// `br_on_non_null`, opcode `D6`, a control instruction.
-    /// Its call is [`br_on_non_null`](super::InstructionSink::br_on_non_null).
+    /// Its call is [`br_on_non_null`](super::InstructionSink::br_on_non_null), with the immediate `label`.
     BrOnNonNull(u32),
     /// `cont.new`, opcode `E0`, a control instruction of the stack switching proposal.
-    /// Its call is [`cont_new`](super::InstructionSink::cont_new).
+    /// Its call is [`cont_new`](super::InstructionSink::cont_new), with the immediate `type_index`.
     #[doc(alias = "cont.new")]
     ContNew(u32),
     /// `cont.bind`, opcode `E1`, a control instruction of the stack switching proposal.
@@ -838,7 +838,7 @@ pub enum Instruction<'a> {
         result_index: u32,
     },
     /// `suspend`, opcode `E2`, a control instruction of the stack switching proposal.
-    /// Its call is [`suspend`](super::InstructionSink::suspend).
+    /// Its call is [`suspend`](super::InstructionSink::suspend), with the immediate `tag_index`.
     Suspend(u32),
     /// `resume`, opcode `E3`, a control instruction of the stack switching proposal.
     /// Its call is [`resume`](super::InstructionSink::resume).
@@ -875,11 +875,11 @@ pub enum Instruction<'a> {
         tag_index: u32,
     },
     /// `struct.new`, opcode `FB 00`, an aggregate instruction.
-    /// Its call is [`struct_new`](super::InstructionSink::struct_new).
+    /// Its call is [`struct_new`](super::InstructionSink::struct_new), with the immediate `type_index`.
     #[doc(alias = "struct.new")]
     StructNew(u32),
     /// `struct.new_default`, opcode `FB 01`, an aggregate instruction.
-    /// Its call is [`struct_new_default`](super::InstructionSink::struct_new_default).
+    /// Its call is [`struct_new_default`](super::InstructionSink::struct_new_default), with the immediate `type_index`.
     #[doc(alias = "struct.new_default")]
     StructNewDefault(u32),
     /// `struct.get`, opcode `FB 02`, an aggregate instruction.
@@ -919,11 +919,11 @@ pub enum Instruction<'a> {
         field_index: u32,
     },
     /// `array.new`, opcode `FB 06`, an aggregate instruction.
-    /// Its call is [`array_new`](super::InstructionSink::array_new).
+    /// Its call is [`array_new`](super::InstructionSink::array_new), with the immediate `type_index`.
     #[doc(alias = "array.new")]
     ArrayNew(u32),
     /// `array.new_default`, opcode `FB 07`, an aggregate instruction.
-    /// Its call is [`array_new_default`](super::InstructionSink::array_new_default).
+    /// Its call is [`array_new_default`](super::InstructionSink::array_new_default), with the immediate `type_index`.
     #[doc(alias = "array.new_default")]
     ArrayNewDefault(u32),
     /// `array.new_fixed`, opcode `FB 08`, an aggregate instruction.
@@ -954,19 +954,19 @@ pub enum Instruction<'a> {
         array_elem_index: u32,
     },
     /// `array.get`, opcode `FB 0B`, an aggregate instruction.
-    /// Its call is [`array_get`](super::InstructionSink::array_get).
+    /// Its call is [`array_get`](super::InstructionSink::array_get), with the immediate `type_index`.
     #[doc(alias = "array.get")]
     ArrayGet(u32),
     /// `array.get_s`, opcode `FB 0C`, an aggregate instruction.
-    /// Its call is [`array_get_s`](super::InstructionSink::array_get_s).
+    /// Its call is [`array_get_s`](super::InstructionSink::array_get_s), with the immediate `type_index`.
     #[doc(alias = "array.get_s")]
     ArrayGetS(u32),
     /// `array.get_u`, opcode `FB 0D`, an aggregate instruction.
-    /// Its call is [`array_get_u`](super::InstructionSink::array_get_u).
+    /// Its call is [`array_get_u`](super::InstructionSink::array_get_u), with the immediate `type_index`.
     #[doc(alias = "array.get_u")]
     ArrayGetU(u32),
     /// `array.set`, opcode `FB 0E`, an aggregate instruction.
-    /// Its call is [`array_set`](super::InstructionSink::array_set).
+    /// Its call is [`array_set`](super::InstructionSink::array_set), with the immediate `type_index`.
     #[doc(alias = "array.set")]
     ArraySet(u32),
     /// `array.len`, opcode `FB 0F`, an aggregate instruction.
@@ -974,7 +974,7 @@ pub enum Instruction<'a> {
     #[doc(alias = "array.len")]
     ArrayLen,
     /// `array.fill`, opcode `FB 10`, an aggregate instruction.
-    /// Its call is [`array_fill`](super::InstructionSink::array_fill).
+    /// Its call is [`array_fill`](super::InstructionSink::array_fill), with the immediate `type_index`.
     #[doc(alias = "array.fill")]
     ArrayFill(u32),
     /// `array.copy`, opcode `FB 11`, an aggregate instruction.
@@ -1005,19 +1005,19 @@ pub enum Instruction<'a> {
         array_elem_index: u32,
     },
     /// `ref.test (ref ht)`, opcode `FB 14`, a reference instruction.
-    /// Its call is [`ref_test_non_null`](super::InstructionSink::ref_test_non_null).
+    /// Its call is [`ref_test_non_null`](super::InstructionSink::ref_test_non_null), with the immediate `heap_type`.
     #[doc(alias = "ref.test")]
     RefTestNonNull(HeapType),
     /// `ref.test (ref null ht)`, opcode `FB 15`, a reference instruction.
-    /// Its call is [`ref_test_nullable`](super::InstructionSink::ref_test_nullable).
+    /// Its call is [`ref_test_nullable`](super::InstructionSink::ref_test_nullable), with the immediate `heap_type`.
     #[doc(alias = "ref.test")]
     RefTestNullable(HeapType),
     /// `ref.cast (ref ht)`, opcode `FB 16`, a reference instruction.
-    /// Its call is [`ref_cast_non_null`](super::InstructionSink::ref_cast_non_null).
+    /// Its call is [`ref_cast_non_null`](super::InstructionSink::ref_cast_non_null), with the immediate `heap_type`.
     #[doc(alias = "ref.cast")]
     RefCastNonNull(HeapType),
     /// `ref.cast (ref null ht)`, opcode `FB 17`, a reference instruction.
-    /// Its call is [`ref_cast_nullable`](super::InstructionSink::ref_cast_nullable).
+    /// Its call is [`ref_cast_nullable`](super::InstructionSink::ref_cast_nullable), with the immediate `heap_type`.
     #[doc(alias = "ref.cast")]
     RefCastNullable(HeapType),
     /// `br_on_cast`, opcode `FB 18`, a control instruction.
@@ -1061,23 +1061,23 @@ pub enum Instruction<'a> {
     #[doc(alias = "i31.get_u")]
     I31GetU,
     /// `struct.new_desc`, opcode `FB 20`, an instruction of the custom descriptors proposal.
-    /// Its call is [`struct_new_desc`](super::InstructionSink::struct_new_desc).
+    /// Its call is [`struct_new_desc`](super::InstructionSink::struct_new_desc), with the immediate `type_index`.
     #[doc(alias = "struct.new_desc")]
     StructNewDesc(u32),
     /// `struct.new_default_desc`, opcode `FB 21`, an instruction of the custom descriptors proposal.
-    /// Its call is [`struct_new_default_desc`](super::InstructionSink::struct_new_default_desc).
+    /// Its call is [`struct_new_default_desc`](super::InstructionSink::struct_new_default_desc), with the immediate `type_index`.
     #[doc(alias = "struct.new_default_desc")]
     StructNewDefaultDesc(u32),
     /// `ref.get_desc`, opcode `FB 22`, an instruction of the custom descriptors proposal.
-    /// Its call is [`ref_get_desc`](super::InstructionSink::ref_get_desc).
+    /// Its call is [`ref_get_desc`](super::InstructionSink::ref_get_desc), with the immediate `type_index`.
     #[doc(alias = "ref.get_desc")]
     RefGetDesc(u32),
     /// `ref.cast_desc_eq (ref ht)`, opcode `FB 23`, an instruction of the custom descriptors proposal.
-    /// Its call is [`ref_cast_desc_eq_non_null`](super::InstructionSink::ref_cast_desc_eq_non_null).
+    /// Its call is [`ref_cast_desc_eq_non_null`](super::InstructionSink::ref_cast_desc_eq_non_null), with the immediate `heap_type`.
     #[doc(alias = "ref.cast_desc_eq")]
     RefCastDescEqNonNull(HeapType),
     /// `ref.cast_desc_eq (ref null ht)`, opcode `FB 24`, an instruction of the custom descriptors proposal.
-    /// Its call is [`ref_cast_desc_eq_nullable`](super::InstructionSink::ref_cast_desc_eq_nullable).
+    /// Its call is [`ref_cast_desc_eq_nullable`](super::InstructionSink::ref_cast_desc_eq_nullable), with the immediate `heap_type`.
     #[doc(alias = "ref.cast_desc_eq")]
     RefCastDescEqNullable(HeapType),
     /// `br_on_cast_desc_eq`, opcode `FB 25`, an instruction of the custom descriptors proposal.
@@ -1142,7 +1142,7 @@ pub enum Instruction<'a> {
         data_index: u32,
     },
     /// `data.drop`, opcode `FC 09`, a memory instruction.
-    /// Its call is [`data_drop`](super::InstructionSink::data_drop).
+    /// Its call is [`data_drop`](super::InstructionSink::data_drop), with the immediate `data_index`.
     #[doc(alias = "data.drop")]
     DataDrop(u32),
     /// `memory.copy`, opcode `FC 0A`, a memory instruction.
@@ -1155,7 +1155,7 @@ pub enum Instruction<'a> {
         dst_mem: u32,
     },
     /// `memory.fill`, opcode `FC 0B`, a memory instruction.
-    /// Its call is [`memory_fill`](super::InstructionSink::memory_fill).
+    /// Its call is [`memory_fill`](super::InstructionSink::memory_fill), with the immediate `mem`.
     #[doc(alias = "memory.fill")]
     MemoryFill(u32),
     /// `table.init`, opcode `FC 0C`, a table instruction.
@@ -1168,7 +1168,7 @@ pub enum Instruction<'a> {
         table: u32,
     },
     /// `elem.drop`, opcode `FC 0D`, a table instruction.
-    /// Its call is [`elem_drop`](super::InstructionSink::elem_drop).
+    /// Its call is [`elem_drop`](super::InstructionSink::elem_drop), with the immediate `elem_index`.
     #[doc(alias = "elem.drop")]
     ElemDrop(u32),
     /// `table.copy`, opcode `FC 0E`, a table instruction.
@@ -1181,19 +1181,19 @@ pub enum Instruction<'a> {
         dst_table: u32,
     },
     /// `table.grow`, opcode `FC 0F`, a table instruction.
-    /// Its call is [`table_grow`](super::InstructionSink::table_grow).
+    /// Its call is [`table_grow`](super::InstructionSink::table_grow), with the immediate `table`.
     #[doc(alias = "table.grow")]
     TableGrow(u32),
     /// `table.size`, opcode `FC 10`, a table instruction.
-    /// Its call is [`table_size`](super::InstructionSink::table_size).
+    /// Its call is [`table_size`](super::InstructionSink::table_size), with the immediate `table`.
     #[doc(alias = "table.size")]
     TableSize(u32),
     /// `table.fill`, opcode `FC 11`, a table instruction.
-    /// Its call is [`table_fill`](super::InstructionSink::table_fill).
+    /// Its call is [`table_fill`](super::InstructionSink::table_fill), with the immediate `table`.
     #[doc(alias = "table.fill")]
     TableFill(u32),
     /// `memory.discard`, opcode `FC 12`, a memory instruction of the memory control proposal.
-    /// Its call is [`memory_discard`](super::InstructionSink::memory_discard).
+    /// Its call is [`memory_discard`](super::InstructionSink::memory_discard), with the immediate `mem`.
     #[doc(alias = "memory.discard")]
     MemoryDiscard(u32),
     /// `i64.add128`, opcode `FC 13`, a numeric instruction of the wide arithmetic proposal.
@@ -1213,59 +1213,59 @@ pub enum Instruction<'a> {
     #[doc(alias = "i64.mul_wide_u")]
     I64MulWideU,
     /// `v128.load`, opcode `FD 00`, a vector instruction.
-    /// Its call is [`v128_load`](super::InstructionSink::v128_load).
+    /// Its call is [`v128_load`](super::InstructionSink::v128_load), with the immediate `memarg`.
     #[doc(alias = "v128.load")]
     V128Load(MemArg),
     /// `v128.load8x8_s`, opcode `FD 01`, a vector instruction.
-    /// Its call is [`v128_load8x8_s`](super::InstructionSink::v128_load8x8_s).
+    /// Its call is [`v128_load8x8_s`](super::InstructionSink::v128_load8x8_s), with the immediate `memarg`.
     #[doc(alias = "v128.load8x8_s")]
     V128Load8x8S(MemArg),
     /// `v128.load8x8_u`, opcode `FD 02`, a vector instruction.
-    /// Its call is [`v128_load8x8_u`](super::InstructionSink::v128_load8x8_u).
+    /// Its call is [`v128_load8x8_u`](super::InstructionSink::v128_load8x8_u), with the immediate `memarg`.
     #[doc(alias = "v128.load8x8_u")]
     V128Load8x8U(MemArg),
     /// `v128.load16x4_s`, opcode `FD 03`, a vector instruction.
-    /// Its call is [`v128_load16x4_s`](super::InstructionSink::v128_load16x4_s).
+    /// Its call is [`v128_load16x4_s`](super::InstructionSink::v128_load16x4_s), with the immediate `memarg`.
     #[doc(alias = "v128.load16x4_s")]
     V128Load16x4S(MemArg),
     /// `v128.load16x4_u`, opcode `FD 04`, a vector instruction.
-    /// Its call is [`v128_load16x4_u`](super::InstructionSink::v128_load16x4_u).
+    /// Its call is [`v128_load16x4_u`](super::InstructionSink::v128_load16x4_u), with the immediate `memarg`.
     #[doc(alias = "v128.load16x4_u")]
     V128Load16x4U(MemArg),
     /// `v128.load32x2_s`, opcode `FD 05`, a vector instruction.
-    /// Its call is [`v128_load32x2_s`](super::InstructionSink::v128_load32x2_s).
+    /// Its call is [`v128_load32x2_s`](super::InstructionSink::v128_load32x2_s), with the immediate `memarg`.
     #[doc(alias = "v128.load32x2_s")]
     V128Load32x2S(MemArg),
     /// `v128.load32x2_u`, opcode `FD 06`, a vector instruction.
-    /// Its call is [`v128_load32x2_u`](super::InstructionSink::v128_load32x2_u).
+    /// Its call is [`v128_load32x2_u`](super::InstructionSink::v128_load32x2_u), with the immediate `memarg`.
     #[doc(alias = "v128.load32x2_u")]
     V128Load32x2U(MemArg),
     /// `v128.load8_splat`, opcode `FD 07`, a vector instruction.
-    /// Its call is [`v128_load8_splat`](super::InstructionSink::v128_load8_splat).
+    /// Its call is [`v128_load8_splat`](super::InstructionSink::v128_load8_splat), with the immediate `memarg`.
     #[doc(alias = "v128.load8_splat")]
     V128Load8Splat(MemArg),
     /// `v128.load16_splat`, opcode `FD 08`, a vector instruction.
-    /// Its call is [`v128_load16_splat`](super::InstructionSink::v128_load16_splat).
+    /// Its call is [`v128_load16_splat`](super::InstructionSink::v128_load16_splat), with the immediate `memarg`.
     #[doc(alias = "v128.load16_splat")]
     V128Load16Splat(MemArg),
     /// `v128.load32_splat`, opcode `FD 09`, a vector instruction.
-    /// Its call is [`v128_load32_splat`](super::InstructionSink::v128_load32_splat).
+    /// Its call is [`v128_load32_splat`](super::InstructionSink::v128_load32_splat), with the immediate `memarg`.
     #[doc(alias = "v128.load32_splat")]
     V128Load32Splat(MemArg),
     /// `v128.load64_splat`, opcode `FD 0A`, a vector instruction.
-    /// Its call is [`v128_load64_splat`](super::InstructionSink::v128_load64_splat).
+    /// Its call is [`v128_load64_splat`](super::InstructionSink::v128_load64_splat), with the immediate `memarg`.
     #[doc(alias = "v128.load64_splat")]
     V128Load64Splat(MemArg),
     /// `v128.store`, opcode `FD 0B`, a vector instruction.
-    /// Its call is [`v128_store`](super::InstructionSink::v128_store).
+    /// Its call is [`v128_store`](super::InstructionSink::v128_store), with the immediate `memarg`.
     #[doc(alias = "v128.store")]
     V128Store(MemArg),
     /// `v128.const`, opcode `FD 0C`, a vector instruction.
-    /// Its call is [`v128_const`](super::InstructionSink::v128_const).
+    /// Its call is [`v128_const`](super::InstructionSink::v128_const), with the immediate `value`.
     #[doc(alias = "v128.const")]
     V128Const(i128),
     /// `i8x16.shuffle`, opcode `FD 0D`, a vector instruction.
-    /// Its call is [`i8x16_shuffle`](super::InstructionSink::i8x16_shuffle).
+    /// Its call is [`i8x16_shuffle`](super::InstructionSink::i8x16_shuffle), with the immediate `lanes`.
     #[doc(alias = "i8x16.shuffle")]
     I8x16Shuffle([Lane; 16]),
     /// `i8x16.swizzle`, opcode `FD 0E`, a vector instruction.
@@ -1297,59 +1297,59 @@ pub enum Instruction<'a> {
     #[doc(alias = "f64x2.splat")]
     F64x2Splat,
     /// `i8x16.extract_lane_s`, opcode `FD 15`, a vector instruction.
-    /// Its call is [`i8x16_extract_lane_s`](super::InstructionSink::i8x16_extract_lane_s).
+    /// Its call is [`i8x16_extract_lane_s`](super::InstructionSink::i8x16_extract_lane_s), with the immediate `lane`.
     #[doc(alias = "i8x16.extract_lane_s")]
     I8x16ExtractLaneS(Lane),
     /// `i8x16.extract_lane_u`, opcode `FD 16`, a vector instruction.
-    /// Its call is [`i8x16_extract_lane_u`](super::InstructionSink::i8x16_extract_lane_u).
+    /// Its call is [`i8x16_extract_lane_u`](super::InstructionSink::i8x16_extract_lane_u), with the immediate `lane`.
     #[doc(alias = "i8x16.extract_lane_u")]
     I8x16ExtractLaneU(Lane),
     /// `i8x16.replace_lane`, opcode `FD 17`, a vector instruction.
-    /// Its call is [`i8x16_replace_lane`](super::InstructionSink::i8x16_replace_lane).
+    /// Its call is [`i8x16_replace_lane`](super::InstructionSink::i8x16_replace_lane), with the immediate `lane`.
     #[doc(alias = "i8x16.replace_lane")]
     I8x16ReplaceLane(Lane),
     /// `i16x8.extract_lane_s`, opcode `FD 18`, a vector instruction.
-    /// Its call is [`i16x8_extract_lane_s`](super::InstructionSink::i16x8_extract_lane_s).
+    /// Its call is [`i16x8_extract_lane_s`](super::InstructionSink::i16x8_extract_lane_s), with the immediate `lane`.
     #[doc(alias = "i16x8.extract_lane_s")]
     I16x8ExtractLaneS(Lane),
     /// `i16x8.extract_lane_u`, opcode `FD 19`, a vector instruction.
-    /// Its call is [`i16x8_extract_lane_u`](super::InstructionSink::i16x8_extract_lane_u).
+    /// Its call is [`i16x8_extract_lane_u`](super::InstructionSink::i16x8_extract_lane_u), with the immediate `lane`.
     #[doc(alias = "i16x8.extract_lane_u")]
     I16x8ExtractLaneU(Lane),
     /// `i16x8.replace_lane`, opcode `FD 1A`, a vector instruction.
-    /// Its call is [`i16x8_replace_lane`](super::InstructionSink::i16x8_replace_lane).
+    /// Its call is [`i16x8_replace_lane`](super::InstructionSink::i16x8_replace_lane), with the immediate `lane`.
     #[doc(alias = "i16x8.replace_lane")]
     I16x8ReplaceLane(Lane),
     /// `i32x4.extract_lane`, opcode `FD 1B`, a vector instruction.
-    /// Its call is [`i32x4_extract_lane`](super::InstructionSink::i32x4_extract_lane).
+    /// Its call is [`i32x4_extract_lane`](super::InstructionSink::i32x4_extract_lane), with the immediate `lane`.
     #[doc(alias = "i32x4.extract_lane")]
     I32x4ExtractLane(Lane),
     /// `i32x4.replace_lane`, opcode `FD 1C`, a vector instruction.
-    /// Its call is [`i32x4_replace_lane`](super::InstructionSink::i32x4_replace_lane).
+    /// Its call is [`i32x4_replace_lane`](super::InstructionSink::i32x4_replace_lane), with the immediate `lane`.
     #[doc(alias = "i32x4.replace_lane")]
     I32x4ReplaceLane(Lane),
     /// `i64x2.extract_lane`, opcode `FD 1D`, a vector instruction.
-    /// Its call is [`i64x2_extract_lane`](super::InstructionSink::i64x2_extract_lane).
+    /// Its call is [`i64x2_extract_lane`](super::InstructionSink::i64x2_extract_lane), with the immediate `lane`.
     #[doc(alias = "i64x2.extract_lane")]
     I64x2ExtractLane(Lane),
     /// `i64x2.replace_lane`, opcode `FD 1E`, a vector instruction.
-    /// Its call is [`i64x2_replace_lane`](super::InstructionSink::i64x2_replace_lane).
+    /// Its call is [`i64x2_replace_lane`](super::InstructionSink::i64x2_replace_lane), with the immediate `lane`.
     #[doc(alias = "i64x2.replace_lane")]
     I64x2ReplaceLane(Lane),
     /// `f32x4.extract_lane`, opcode `FD 1F`, a vector instruction.
-    /// Its call is [`f32x4_extract_lane`](super::InstructionSink::f32x4_extract_lane).
+    /// Its call is [`f32x4_extract_lane`](super::InstructionSink::f32x4_extract_lane), with the immediate `lane`.
     #[doc(alias = "f32x4.extract_lane")]
     F32x4ExtractLane(Lane),
     /// `f32x4.replace_lane`, opcode `FD 20`, a vector instruction.
-    /// Its call is [`f32x4_replace_lane`](super::InstructionSink::f32x4_replace_lane).
+    /// Its call is [`f32x4_replace_lane`](super::InstructionSink::f32x4_replace_lane), with the immediate `lane`.
     #[doc(alias = "f32x4.replace_lane")]
     F32x4ReplaceLane(Lane),
     /// `f64x2.extract_lane`, opcode `FD 21`, a vector instruction.
-    /// Its call is [`f64x2_extract_lane`](super::InstructionSink::f64x2_extract_lane).
+    /// Its call is [`f64x2_extract_lane`](super::InstructionSink::f64x2_extract_lane), with the immediate `lane`.
     #[doc(alias = "f64x2.extract_lane")]
     F64x2ExtractLane(Lane),
     /// `f64x2.replace_lane`, opcode `FD 22`, a vector instruction.
-    /// Its call is [`f64x2_replace_lane`](super::InstructionSink::f64x2_replace_lane).
+    /// Its call is [`f64x2_replace_lane`](super::InstructionSink::f64x2_replace_lane), with the immediate `lane`.
     #[doc(alias = "f64x2.replace_lane")]
     F64x2ReplaceLane(Lane),
     /// `i8x16.eq`, opcode `FD 23`, a vector instruction.
@@ -1621,11 +1621,11 @@ pub enum Instruction<'a> {
         lane: Lane,
     },
     /// `v128.load32_zero`, opcode `FD 5C`, a vector instruction.
-    /// Its call is [`v128_load32_zero`](super::InstructionSink::v128_load32_zero).
+    /// Its call is [`v128_load32_zero`](super::InstructionSink::v128_load32_zero), with the immediate `memarg`.
     #[doc(alias = "v128.load32_zero")]
     V128Load32Zero(MemArg),
     /// `v128.load64_zero`, opcode `FD 5D`, a vector instruction.
-    /// Its call is [`v128_load64_zero`](super::InstructionSink::v128_load64_zero).
+    /// Its call is [`v128_load64_zero`](super::InstructionSink::v128_load64_zero), with the immediate `memarg`.
     #[doc(alias = "v128.load64_zero")]
     V128Load64Zero(MemArg),
     /// `f32x4.demote_f64x2_zero`, opcode `FD 5E`, a vector instruction.
@@ -2277,274 +2277,274 @@ pub enum Instruction<'a> {
     #[doc(alias = "i32x4.relaxed_dot_i8x16_i7x16_add_s")]
     I32x4RelaxedDotI8x16I7x16AddS,
     /// `memory.atomic.notify`, opcode `FE 00`, an atomic instruction of the threads proposal.
-    /// Its call is [`memory_atomic_notify`](super::InstructionSink::memory_atomic_notify).
+    /// Its call is [`memory_atomic_notify`](super::InstructionSink::memory_atomic_notify), with the immediate `memarg`.
     #[doc(alias = "memory.atomic.notify")]
     MemoryAtomicNotify(MemArg),
     /// `memory.atomic.wait32`, opcode `FE 01`, an atomic instruction of the threads proposal.
-    /// Its call is [`memory_atomic_wait32`](super::InstructionSink::memory_atomic_wait32).
+    /// Its call is [`memory_atomic_wait32`](super::InstructionSink::memory_atomic_wait32), with the immediate `memarg`.
     #[doc(alias = "memory.atomic.wait32")]
     MemoryAtomicWait32(MemArg),
     /// `memory.atomic.wait64`, opcode `FE 02`, an atomic instruction of the threads proposal.
-    /// Its call is [`memory_atomic_wait64`](super::InstructionSink::memory_atomic_wait64).
+    /// Its call is [`memory_atomic_wait64`](super::InstructionSink::memory_atomic_wait64), with the immediate `memarg`.
     #[doc(alias = "memory.atomic.wait64")]
     MemoryAtomicWait64(MemArg),
     /// `atomic.fence`, opcode `FE 03`, an atomic instruction of the threads proposal.
-    /// Its call is [`atomic_fence`](super::InstructionSink::atomic_fence).
+    /// Its call is [`atomic_fence`](super::InstructionSink::atomic_fence), with the immediate `ordering`.
     #[doc(alias = "atomic.fence")]
     AtomicFence(Ordering),
     /// `pause`, opcode `FE 04`, an instruction of the shared-everything threads proposal.
     /// Its call is [`pause`](super::InstructionSink::pause).
     Pause,
     /// `i32.atomic.load`, opcode `FE 10`, an atomic instruction of the threads proposal.
-    /// Its call is [`i32_atomic_load`](super::InstructionSink::i32_atomic_load).
+    /// Its call is [`i32_atomic_load`](super::InstructionSink::i32_atomic_load), with the immediate `memarg`.
     #[doc(alias = "i32.atomic.load")]
     I32AtomicLoad(MemArg),
     /// `i64.atomic.load`, opcode `FE 11`, an atomic instruction of the threads proposal.
-    /// Its call is [`i64_atomic_load`](super::InstructionSink::i64_atomic_load).
+    /// Its call is [`i64_atomic_load`](super::InstructionSink::i64_atomic_load), with the immediate `memarg`.
     #[doc(alias = "i64.atomic.load")]
     I64AtomicLoad(MemArg),
     /// `i32.atomic.load8_u`, opcode `FE 12`, an atomic instruction of the threads proposal.
-    /// Its call is [`i32_atomic_load8_u`](super::InstructionSink::i32_atomic_load8_u).
+    /// Its call is [`i32_atomic_load8_u`](super::InstructionSink::i32_atomic_load8_u), with the immediate `memarg`.
     #[doc(alias = "i32.atomic.load8_u")]
     I32AtomicLoad8U(MemArg),
     /// `i32.atomic.load16_u`, opcode `FE 13`, an atomic instruction of the threads proposal.
-    /// Its call is [`i32_atomic_load16_u`](super::InstructionSink::i32_atomic_load16_u).
+    /// Its call is [`i32_atomic_load16_u`](super::InstructionSink::i32_atomic_load16_u), with the immediate `memarg`.
     #[doc(alias = "i32.atomic.load16_u")]
     I32AtomicLoad16U(MemArg),
     /// `i64.atomic.load8_u`, opcode `FE 14`, an atomic instruction of the threads proposal.
-    /// Its call is [`i64_atomic_load8_u`](super::InstructionSink::i64_atomic_load8_u).
+    /// Its call is [`i64_atomic_load8_u`](super::InstructionSink::i64_atomic_load8_u), with the immediate `memarg`.
     #[doc(alias = "i64.atomic.load8_u")]
     I64AtomicLoad8U(MemArg),
     /// `i64.atomic.load16_u`, opcode `FE 15`, an atomic instruction of the threads proposal.
-    /// Its call is [`i64_atomic_load16_u`](super::InstructionSink::i64_atomic_load16_u).
+    /// Its call is [`i64_atomic_load16_u`](super::InstructionSink::i64_atomic_load16_u), with the immediate `memarg`.
     #[doc(alias = "i64.atomic.load16_u")]
     I64AtomicLoad16U(MemArg),
     /// `i64.atomic.load32_u`, opcode `FE 16`, an atomic instruction of the threads proposal.
-    /// Its call is [`i64_atomic_load32_u`](super::InstructionSink::i64_atomic_load32_u).
+    /// Its call is [`i64_atomic_load32_u`](super::InstructionSink::i64_atomic_load32_u), with the immediate `memarg`.
     #[doc(alias = "i64.atomic.load32_u")]
     I64AtomicLoad32U(MemArg),
     /// `i32.atomic.store`, opcode `FE 17`, an atomic instruction of the threads proposal.
-    /// Its call is [`i32_atomic_store`](super::InstructionSink::i32_atomic_store).
+    /// Its call is [`i32_atomic_store`](super::InstructionSink::i32_atomic_store), with the immediate `memarg`.
     #[doc(alias = "i32.atomic.store")]
     I32AtomicStore(MemArg),
     /// `i64.atomic.store`, opcode `FE 18`, an atomic instruction of the threads proposal.
-    /// Its call is [`i64_atomic_store`](super::InstructionSink::i64_atomic_store).
+    /// Its call is [`i64_atomic_store`](super::InstructionSink::i64_atomic_store), with the immediate `memarg`.
     #[doc(alias = "i64.atomic.store")]
     I64AtomicStore(MemArg),
     /// `i32.atomic.store8`, opcode `FE 19`, an atomic instruction of the threads proposal.
-    /// Its call is [`i32_atomic_store8`](super::InstructionSink::i32_atomic_store8).
+    /// Its call is [`i32_atomic_store8`](super::InstructionSink::i32_atomic_store8), with the immediate `memarg`.
     #[doc(alias = "i32.atomic.store8")]
     I32AtomicStore8(MemArg),
     /// `i32.atomic.store16`, opcode `FE 1A`, an atomic instruction of the threads proposal.
-    /// Its call is [`i32_atomic_store16`](super::InstructionSink::i32_atomic_store16).
+    /// Its call is [`i32_atomic_store16`](super::InstructionSink::i32_atomic_store16), with the immediate `memarg`.
     #[doc(alias = "i32.atomic.store16")]
     I32AtomicStore16(MemArg),
     /// `i64.atomic.store8`, opcode `FE 1B`, an atomic instruction of the threads proposal.
-    /// Its call is [`i64_atomic_store8`](super::InstructionSink::i64_atomic_store8).
+    /// Its call is [`i64_atomic_store8`](super::InstructionSink::i64_atomic_store8), with the immediate `memarg`.
     #[doc(alias = "i64.atomic.store8")]
     I64AtomicStore8(MemArg),
     /// `i64.atomic.store16`, opcode `FE 1C`, an atomic instruction of the threads proposal.
-    /// Its call is [`i64_atomic_store16`](super::InstructionSink::i64_atomic_store16).
+    /// Its call is [`i64_atomic_store16`](super::InstructionSink::i64_atomic_store16), with the immediate `memarg`.
     #[doc(alias = "i64.atomic.store16")]
     I64AtomicStore16(MemArg),
     /// `i64.atomic.store32`, opcode `FE 1D`, an atomic instruction of the threads proposal.
-    /// Its call is [`i64_atomic_store32`](super::InstructionSink::i64_atomic_store32).
+    /// Its call is [`i64_atomic_store32`](super::InstructionSink::i64_atomic_store32), with the immediate `memarg`.
     #[doc(alias = "i64.atomic.store32")]
     I64AtomicStore32(MemArg),
     /// `i32.atomic.rmw.add`, opcode `FE 1E`, an atomic instruction of the threads proposal.
-    /// Its call is [`i32_atomic_rmw_add`](super::InstructionSink::i32_atomic_rmw_add).
+    /// Its call is [`i32_atomic_rmw_add`](super::InstructionSink::i32_atomic_rmw_add), with the immediate `memarg`.
     #[doc(alias = "i32.atomic.rmw.add")]
     I32AtomicRmwAdd(MemArg),
     /// `i64.atomic.rmw.add`, opcode `FE 1F`, an atomic instruction of the threads proposal.
-    /// Its call is [`i64_atomic_rmw_add`](super::InstructionSink::i64_atomic_rmw_add).
+    /// Its call is [`i64_atomic_rmw_add`](super::InstructionSink::i64_atomic_rmw_add), with the immediate `memarg`.
     #[doc(alias = "i64.atomic.rmw.add")]
     I64AtomicRmwAdd(MemArg),
     /// `i32.atomic.rmw8.add_u`, opcode `FE 20`, an atomic instruction of the threads proposal.
-    /// Its call is [`i32_atomic_rmw8_add_u`](super::InstructionSink::i32_atomic_rmw8_add_u).
+    /// Its call is [`i32_atomic_rmw8_add_u`](super::InstructionSink::i32_atomic_rmw8_add_u), with the immediate `memarg`.
     #[doc(alias = "i32.atomic.rmw8.add_u")]
     I32AtomicRmw8AddU(MemArg),
     /// `i32.atomic.rmw16.add_u`, opcode `FE 21`, an atomic instruction of the threads proposal.
-    /// Its call is [`i32_atomic_rmw16_add_u`](super::InstructionSink::i32_atomic_rmw16_add_u).
+    /// Its call is [`i32_atomic_rmw16_add_u`](super::InstructionSink::i32_atomic_rmw16_add_u), with the immediate `memarg`.
     #[doc(alias = "i32.atomic.rmw16.add_u")]
     I32AtomicRmw16AddU(MemArg),
     /// `i64.atomic.rmw8.add_u`, opcode `FE 22`, an atomic instruction of the threads proposal.
-    /// Its call is [`i64_atomic_rmw8_add_u`](super::InstructionSink::i64_atomic_rmw8_add_u).
+    /// Its call is [`i64_atomic_rmw8_add_u`](super::InstructionSink::i64_atomic_rmw8_add_u), with the immediate `memarg`.
     #[doc(alias = "i64.atomic.rmw8.add_u")]
     I64AtomicRmw8AddU(MemArg),
     /// `i64.atomic.rmw16.add_u`, opcode `FE 23`, an atomic instruction of the threads proposal.
-    /// Its call is [`i64_atomic_rmw16_add_u`](super::InstructionSink::i64_atomic_rmw16_add_u).
+    /// Its call is [`i64_atomic_rmw16_add_u`](super::InstructionSink::i64_atomic_rmw16_add_u), with the immediate `memarg`.
     #[doc(alias = "i64.atomic.rmw16.add_u")]
     I64AtomicRmw16AddU(MemArg),
     /// `i64.atomic.rmw32.add_u`, opcode `FE 24`, an atomic instruction of the threads proposal.
-    /// Its call is [`i64_atomic_rmw32_add_u`](super::InstructionSink::i64_atomic_rmw32_add_u).
+    /// Its call is [`i64_atomic_rmw32_add_u`](super::InstructionSink::i64_atomic_rmw32_add_u), with the immediate `memarg`.
     #[doc(alias = "i64.atomic.rmw32.add_u")]
     I64AtomicRmw32AddU(MemArg),
     /// `i32.atomic.rmw.sub`, opcode `FE 25`, an atomic instruction of the threads proposal.
-    /// Its call is [`i32_atomic_rmw_sub`](super::InstructionSink::i32_atomic_rmw_sub).
+    /// Its call is [`i32_atomic_rmw_sub`](super::InstructionSink::i32_atomic_rmw_sub), with the immediate `memarg`.
     #[doc(alias = "i32.atomic.rmw.sub")]
     I32AtomicRmwSub(MemArg),
     /// `i64.atomic.rmw.sub`, opcode `FE 26`, an atomic instruction of the threads proposal.
-    /// Its call is [`i64_atomic_rmw_sub`](super::InstructionSink::i64_atomic_rmw_sub).
+    /// Its call is [`i64_atomic_rmw_sub`](super::InstructionSink::i64_atomic_rmw_sub), with the immediate `memarg`.
     #[doc(alias = "i64.atomic.rmw.sub")]
     I64AtomicRmwSub(MemArg),
     /// `i32.atomic.rmw8.sub_u`, opcode `FE 27`, an atomic instruction of the threads proposal.
-    /// Its call is [`i32_atomic_rmw8_sub_u`](super::InstructionSink::i32_atomic_rmw8_sub_u).
+    /// Its call is [`i32_atomic_rmw8_sub_u`](super::InstructionSink::i32_atomic_rmw8_sub_u), with the immediate `memarg`.
     #[doc(alias = "i32.atomic.rmw8.sub_u")]
     I32AtomicRmw8SubU(MemArg),
     /// `i32.atomic.rmw16.sub_u`, opcode `FE 28`, an atomic instruction of the threads proposal.
-    /// Its call is [`i32_atomic_rmw16_sub_u`](super::InstructionSink::i32_atomic_rmw16_sub_u).
+    /// Its call is [`i32_atomic_rmw16_sub_u`](super::InstructionSink::i32_atomic_rmw16_sub_u), with the immediate `memarg`.
     #[doc(alias = "i32.atomic.rmw16.sub_u")]
     I32AtomicRmw16SubU(MemArg),
     /// `i64.atomic.rmw8.sub_u`, opcode `FE 29`, an atomic instruction of the threads proposal.
-    /// Its call is [`i64_atomic_rmw8_sub_u`](super::InstructionSink::i64_atomic_rmw8_sub_u).
+    /// Its call is [`i64_atomic_rmw8_sub_u`](super::InstructionSink::i64_atomic_rmw8_sub_u), with the immediate `memarg`.
     #[doc(alias = "i64.atomic.rmw8.sub_u")]
     I64AtomicRmw8SubU(MemArg),
     /// `i64.atomic.rmw16.sub_u`, opcode `FE 2A`, an atomic instruction of the threads proposal.
-    /// Its call is [`i64_atomic_rmw16_sub_u`](super::InstructionSink::i64_atomic_rmw16_sub_u).
+    /// Its call is [`i64_atomic_rmw16_sub_u`](super::InstructionSink::i64_atomic_rmw16_sub_u), with the immediate `memarg`.
     #[doc(alias = "i64.atomic.rmw16.sub_u")]
     I64AtomicRmw16SubU(MemArg),
     /// `i64.atomic.rmw32.sub_u`, opcode `FE 2B`, an atomic instruction of the threads proposal.
-    /// Its call is [`i64_atomic_rmw32_sub_u`](super::InstructionSink::i64_atomic_rmw32_sub_u).
+    /// Its call is [`i64_atomic_rmw32_sub_u`](super::InstructionSink::i64_atomic_rmw32_sub_u), with the immediate `memarg`.
     #[doc(alias = "i64.atomic.rmw32.sub_u")]
     I64AtomicRmw32SubU(MemArg),
     /// `i32.atomic.rmw.and`, opcode `FE 2C`, an atomic instruction of the threads proposal.
-    /// Its call is [`i32_atomic_rmw_and`](super::InstructionSink::i32_atomic_rmw_and).
+    /// Its call is [`i32_atomic_rmw_and`](super::InstructionSink::i32_atomic_rmw_and), with the immediate `memarg`.
     #[doc(alias = "i32.atomic.rmw.and")]
     I32AtomicRmwAnd(MemArg),
     /// `i64.atomic.rmw.and`, opcode `FE 2D`, an atomic instruction of the threads proposal.
-    /// Its call is [`i64_atomic_rmw_and`](super::InstructionSink::i64_atomic_rmw_and).
+    /// Its call is [`i64_atomic_rmw_and`](super::InstructionSink::i64_atomic_rmw_and), with the immediate `memarg`.
     #[doc(alias = "i64.atomic.rmw.and")]
     I64AtomicRmwAnd(MemArg),
     /// `i32.atomic.rmw8.and_u`, opcode `FE 2E`, an atomic instruction of the threads proposal.
-    /// Its call is [`i32_atomic_rmw8_and_u`](super::InstructionSink::i32_atomic_rmw8_and_u).
+    /// Its call is [`i32_atomic_rmw8_and_u`](super::InstructionSink::i32_atomic_rmw8_and_u), with the immediate `memarg`.
     #[doc(alias = "i32.atomic.rmw8.and_u")]
     I32AtomicRmw8AndU(MemArg),
     /// `i32.atomic.rmw16.and_u`, opcode `FE 2F`, an atomic instruction of the threads proposal.
-    /// Its call is [`i32_atomic_rmw16_and_u`](super::InstructionSink::i32_atomic_rmw16_and_u).
+    /// Its call is [`i32_atomic_rmw16_and_u`](super::InstructionSink::i32_atomic_rmw16_and_u), with the immediate `memarg`.
     #[doc(alias = "i32.atomic.rmw16.and_u")]
     I32AtomicRmw16AndU(MemArg),
     /// `i64.atomic.rmw8.and_u`, opcode `FE 30`, an atomic instruction of the threads proposal.
-    /// Its call is [`i64_atomic_rmw8_and_u`](super::InstructionSink::i64_atomic_rmw8_and_u).
+    /// Its call is [`i64_atomic_rmw8_and_u`](super::InstructionSink::i64_atomic_rmw8_and_u), with the immediate `memarg`.
     #[doc(alias = "i64.atomic.rmw8.and_u")]
     I64AtomicRmw8AndU(MemArg),
     /// `i64.atomic.rmw16.and_u`, opcode `FE 31`, an atomic instruction of the threads proposal.
-    /// Its call is [`i64_atomic_rmw16_and_u`](super::InstructionSink::i64_atomic_rmw16_and_u).
+    /// Its call is [`i64_atomic_rmw16_and_u`](super::InstructionSink::i64_atomic_rmw16_and_u), with the immediate `memarg`.
     #[doc(alias = "i64.atomic.rmw16.and_u")]
     I64AtomicRmw16AndU(MemArg),
     /// `i64.atomic.rmw32.and_u`, opcode `FE 32`, an atomic instruction of the threads proposal.
-    /// Its call is [`i64_atomic_rmw32_and_u`](super::InstructionSink::i64_atomic_rmw32_and_u).
+    /// Its call is [`i64_atomic_rmw32_and_u`](super::InstructionSink::i64_atomic_rmw32_and_u), with the immediate `memarg`.
     #[doc(alias = "i64.atomic.rmw32.and_u")]
     I64AtomicRmw32AndU(MemArg),
     /// `i32.atomic.rmw.or`, opcode `FE 33`, an atomic instruction of the threads proposal.
-    /// Its call is [`i32_atomic_rmw_or`](super::InstructionSink::i32_atomic_rmw_or).
+    /// Its call is [`i32_atomic_rmw_or`](super::InstructionSink::i32_atomic_rmw_or), with the immediate `memarg`.
     #[doc(alias = "i32.atomic.rmw.or")]
     I32AtomicRmwOr(MemArg),
     /// `i64.atomic.rmw.or`, opcode `FE 34`, an atomic instruction of the threads proposal.
-    /// Its call is [`i64_atomic_rmw_or`](super::InstructionSink::i64_atomic_rmw_or).
+    /// Its call is [`i64_atomic_rmw_or`](super::InstructionSink::i64_atomic_rmw_or), with the immediate `memarg`.
     #[doc(alias = "i64.atomic.rmw.or")]
     I64AtomicRmwOr(MemArg),
     /// `i32.atomic.rmw8.or_u`, opcode `FE 35`, an atomic instruction of the threads proposal.
-    /// Its call is [`i32_atomic_rmw8_or_u`](super::InstructionSink::i32_atomic_rmw8_or_u).
+    /// Its call is [`i32_atomic_rmw8_or_u`](super::InstructionSink::i32_atomic_rmw8_or_u), with the immediate `memarg`.
     #[doc(alias = "i32.atomic.rmw8.or_u")]
     I32AtomicRmw8OrU(MemArg),
     /// `i32.atomic.rmw16.or_u`, opcode `FE 36`, an atomic instruction of the threads proposal.
-    /// Its call is [`i32_atomic_rmw16_or_u`](super::InstructionSink::i32_atomic_rmw16_or_u).
+    /// Its call is [`i32_atomic_rmw16_or_u`](super::InstructionSink::i32_atomic_rmw16_or_u), with the immediate `memarg`.
     #[doc(alias = "i32.atomic.rmw16.or_u")]
     I32AtomicRmw16OrU(MemArg),
     /// `i64.atomic.rmw8.or_u`, opcode `FE 37`, an atomic instruction of the threads proposal.
-    /// Its call is [`i64_atomic_rmw8_or_u`](super::InstructionSink::i64_atomic_rmw8_or_u).
+    /// Its call is [`i64_atomic_rmw8_or_u`](super::InstructionSink::i64_atomic_rmw8_or_u), with the immediate `memarg`.
     #[doc(alias = "i64.atomic.rmw8.or_u")]
     I64AtomicRmw8OrU(MemArg),
     /// `i64.atomic.rmw16.or_u`, opcode `FE 38`, an atomic instruction of the threads proposal.
-    /// Its call is [`i64_atomic_rmw16_or_u`](super::InstructionSink::i64_atomic_rmw16_or_u).
+    /// Its call is [`i64_atomic_rmw16_or_u`](super::InstructionSink::i64_atomic_rmw16_or_u), with the immediate `memarg`.
     #[doc(alias = "i64.atomic.rmw16.or_u")]
     I64AtomicRmw16OrU(MemArg),
     /// `i64.atomic.rmw32.or_u`, opcode `FE 39`, an atomic instruction of the threads proposal.
-    /// Its call is [`i64_atomic_rmw32_or_u`](super::InstructionSink::i64_atomic_rmw32_or_u).
+    /// Its call is [`i64_atomic_rmw32_or_u`](super::InstructionSink::i64_atomic_rmw32_or_u), with the immediate `memarg`.
     #[doc(alias = "i64.atomic.rmw32.or_u")]
     I64AtomicRmw32OrU(MemArg),
     /// `i32.atomic.rmw.xor`, opcode `FE 3A`, an atomic instruction of the threads proposal.
-    /// Its call is [`i32_atomic_rmw_xor`](super::InstructionSink::i32_atomic_rmw_xor).
+    /// Its call is [`i32_atomic_rmw_xor`](super::InstructionSink::i32_atomic_rmw_xor), with the immediate `memarg`.
     #[doc(alias = "i32.atomic.rmw.xor")]
     I32AtomicRmwXor(MemArg),
     /// `i64.atomic.rmw.xor`, opcode `FE 3B`, an atomic instruction of the threads proposal.
-    /// Its call is [`i64_atomic_rmw_xor`](super::InstructionSink::i64_atomic_rmw_xor).
+    /// Its call is [`i64_atomic_rmw_xor`](super::InstructionSink::i64_atomic_rmw_xor), with the immediate `memarg`.
     #[doc(alias = "i64.atomic.rmw.xor")]
     I64AtomicRmwXor(MemArg),
     /// `i32.atomic.rmw8.xor_u`, opcode `FE 3C`, an atomic instruction of the threads proposal.
-    /// Its call is [`i32_atomic_rmw8_xor_u`](super::InstructionSink::i32_atomic_rmw8_xor_u).
+    /// Its call is [`i32_atomic_rmw8_xor_u`](super::InstructionSink::i32_atomic_rmw8_xor_u), with the immediate `memarg`.
     #[doc(alias = "i32.atomic.rmw8.xor_u")]
     I32AtomicRmw8XorU(MemArg),
     /// `i32.atomic.rmw16.xor_u`, opcode `FE 3D`, an atomic instruction of the threads proposal.
-    /// Its call is [`i32_atomic_rmw16_xor_u`](super::InstructionSink::i32_atomic_rmw16_xor_u).
+    /// Its call is [`i32_atomic_rmw16_xor_u`](super::InstructionSink::i32_atomic_rmw16_xor_u), with the immediate `memarg`.
     #[doc(alias = "i32.atomic.rmw16.xor_u")]
     I32AtomicRmw16XorU(MemArg),
     /// `i64.atomic.rmw8.xor_u`, opcode `FE 3E`, an atomic instruction of the threads proposal.
-    /// Its call is [`i64_atomic_rmw8_xor_u`](super::InstructionSink::i64_atomic_rmw8_xor_u).
+    /// Its call is [`i64_atomic_rmw8_xor_u`](super::InstructionSink::i64_atomic_rmw8_xor_u), with the immediate `memarg`.
     #[doc(alias = "i64.atomic.rmw8.xor_u")]
     I64AtomicRmw8XorU(MemArg),
     /// `i64.atomic.rmw16.xor_u`, opcode `FE 3F`, an atomic instruction of the threads proposal.
-    /// Its call is [`i64_atomic_rmw16_xor_u`](super::InstructionSink::i64_atomic_rmw16_xor_u).
+    /// Its call is [`i64_atomic_rmw16_xor_u`](super::InstructionSink::i64_atomic_rmw16_xor_u), with the immediate `memarg`.
     #[doc(alias = "i64.atomic.rmw16.xor_u")]
     I64AtomicRmw16XorU(MemArg),
     /// `i64.atomic.rmw32.xor_u`, opcode `FE 40`, an atomic instruction of the threads proposal.
-    /// Its call is [`i64_atomic_rmw32_xor_u`](super::InstructionSink::i64_atomic_rmw32_xor_u).
+    /// Its call is [`i64_atomic_rmw32_xor_u`](super::InstructionSink::i64_atomic_rmw32_xor_u), with the immediate `memarg`.
     #[doc(alias = "i64.atomic.rmw32.xor_u")]
     I64AtomicRmw32XorU(MemArg),
     /// `i32.atomic.rmw.xchg`, opcode `FE 41`, an atomic instruction of the threads proposal.
-    /// Its call is [`i32_atomic_rmw_xchg`](super::InstructionSink::i32_atomic_rmw_xchg).
+    /// Its call is [`i32_atomic_rmw_xchg`](super::InstructionSink::i32_atomic_rmw_xchg), with the immediate `memarg`.
     #[doc(alias = "i32.atomic.rmw.xchg")]
     I32AtomicRmwXchg(MemArg),
     /// `i64.atomic.rmw.xchg`, opcode `FE 42`, an atomic instruction of the threads proposal.
-    /// Its call is [`i64_atomic_rmw_xchg`](super::InstructionSink::i64_atomic_rmw_xchg).
+    /// Its call is [`i64_atomic_rmw_xchg`](super::InstructionSink::i64_atomic_rmw_xchg), with the immediate `memarg`.
     #[doc(alias = "i64.atomic.rmw.xchg")]
     I64AtomicRmwXchg(MemArg),
     /// `i32.atomic.rmw8.xchg_u`, opcode `FE 43`, an atomic instruction of the threads proposal.
-    /// Its call is [`i32_atomic_rmw8_xchg_u`](super::InstructionSink::i32_atomic_rmw8_xchg_u).
+    /// Its call is [`i32_atomic_rmw8_xchg_u`](super::InstructionSink::i32_atomic_rmw8_xchg_u), with the immediate `memarg`.
     #[doc(alias = "i32.atomic.rmw8.xchg_u")]
     I32AtomicRmw8XchgU(MemArg),
     /// `i32.atomic.rmw16.xchg_u`, opcode `FE 44`, an atomic instruction of the threads proposal.
-    /// Its call is [`i32_atomic_rmw16_xchg_u`](super::InstructionSink::i32_atomic_rmw16_xchg_u).
+    /// Its call is [`i32_atomic_rmw16_xchg_u`](super::InstructionSink::i32_atomic_rmw16_xchg_u), with the immediate `memarg`.
     #[doc(alias = "i32.atomic.rmw16.xchg_u")]
     I32AtomicRmw16XchgU(MemArg),
     /// `i64.atomic.rmw8.xchg_u`, opcode `FE 45`, an atomic instruction of the threads proposal.
-    /// Its call is [`i64_atomic_rmw8_xchg_u`](super::InstructionSink::i64_atomic_rmw8_xchg_u).
+    /// Its call is [`i64_atomic_rmw8_xchg_u`](super::InstructionSink::i64_atomic_rmw8_xchg_u), with the immediate `memarg`.
     #[doc(alias = "i64.atomic.rmw8.xchg_u")]
     I64AtomicRmw8XchgU(MemArg),
     /// `i64.atomic.rmw16.xchg_u`, opcode `FE 46`, an atomic instruction of the threads proposal.
-    /// Its call is [`i64_atomic_rmw16_xchg_u`](super::InstructionSink::i64_atomic_rmw16_xchg_u).
+    /// Its call is [`i64_atomic_rmw16_xchg_u`](super::InstructionSink::i64_atomic_rmw16_xchg_u), with the immediate `memarg`.
     #[doc(alias = "i64.atomic.rmw16.xchg_u")]
     I64AtomicRmw16XchgU(MemArg),
     /// `i64.atomic.rmw32.xchg_u`, opcode `FE 47`, an atomic instruction of the threads proposal.
-    /// Its call is [`i64_atomic_rmw32_xchg_u`](super::InstructionSink::i64_atomic_rmw32_xchg_u).
+    /// Its call is [`i64_atomic_rmw32_xchg_u`](super::InstructionSink::i64_atomic_rmw32_xchg_u), with the immediate `memarg`.
     #[doc(alias = "i64.atomic.rmw32.xchg_u")]
     I64AtomicRmw32XchgU(MemArg),
     /// `i32.atomic.rmw.cmpxchg`, opcode `FE 48`, an atomic instruction of the threads proposal.
-    /// Its call is [`i32_atomic_rmw_cmpxchg`](super::InstructionSink::i32_atomic_rmw_cmpxchg).
+    /// Its call is [`i32_atomic_rmw_cmpxchg`](super::InstructionSink::i32_atomic_rmw_cmpxchg), with the immediate `memarg`.
     #[doc(alias = "i32.atomic.rmw.cmpxchg")]
     I32AtomicRmwCmpxchg(MemArg),
     /// `i64.atomic.rmw.cmpxchg`, opcode `FE 49`, an atomic instruction of the threads proposal.
-    /// Its call is [`i64_atomic_rmw_cmpxchg`](super::InstructionSink::i64_atomic_rmw_cmpxchg).
+    /// Its call is [`i64_atomic_rmw_cmpxchg`](super::InstructionSink::i64_atomic_rmw_cmpxchg), with the immediate `memarg`.
     #[doc(alias = "i64.atomic.rmw.cmpxchg")]
     I64AtomicRmwCmpxchg(MemArg),
     /// `i32.atomic.rmw8.cmpxchg_u`, opcode `FE 4A`, an atomic instruction of the threads proposal.
-    /// Its call is [`i32_atomic_rmw8_cmpxchg_u`](super::InstructionSink::i32_atomic_rmw8_cmpxchg_u).
+    /// Its call is [`i32_atomic_rmw8_cmpxchg_u`](super::InstructionSink::i32_atomic_rmw8_cmpxchg_u), with the immediate `memarg`.
     #[doc(alias = "i32.atomic.rmw8.cmpxchg_u")]
     I32AtomicRmw8CmpxchgU(MemArg),
     /// `i32.atomic.rmw16.cmpxchg_u`, opcode `FE 4B`, an atomic instruction of the threads proposal.
-    /// Its call is [`i32_atomic_rmw16_cmpxchg_u`](super::InstructionSink::i32_atomic_rmw16_cmpxchg_u).
+    /// Its call is [`i32_atomic_rmw16_cmpxchg_u`](super::InstructionSink::i32_atomic_rmw16_cmpxchg_u), with the immediate `memarg`.
     #[doc(alias = "i32.atomic.rmw16.cmpxchg_u")]
     I32AtomicRmw16CmpxchgU(MemArg),
     /// `i64.atomic.rmw8.cmpxchg_u`, opcode `FE 4C`, an atomic instruction of the threads proposal.
-    /// Its call is [`i64_atomic_rmw8_cmpxchg_u`](super::InstructionSink::i64_atomic_rmw8_cmpxchg_u).
+    /// Its call is [`i64_atomic_rmw8_cmpxchg_u`](super::InstructionSink::i64_atomic_rmw8_cmpxchg_u), with the immediate `memarg`.
     #[doc(alias = "i64.atomic.rmw8.cmpxchg_u")]
     I64AtomicRmw8CmpxchgU(MemArg),
     /// `i64.atomic.rmw16.cmpxchg_u`, opcode `FE 4D`, an atomic instruction of the threads proposal.
-    /// Its call is [`i64_atomic_rmw16_cmpxchg_u`](super::InstructionSink::i64_atomic_rmw16_cmpxchg_u).
+    /// Its call is [`i64_atomic_rmw16_cmpxchg_u`](super::InstructionSink::i64_atomic_rmw16_cmpxchg_u), with the immediate `memarg`.
     #[doc(alias = "i64.atomic.rmw16.cmpxchg_u")]
     I64AtomicRmw16CmpxchgU(MemArg),
     /// `i64.atomic.rmw32.cmpxchg_u`, opcode `FE 4E`, an atomic instruction of the threads proposal.
-    /// Its call is [`i64_atomic_rmw32_cmpxchg_u`](super::InstructionSink::i64_atomic_rmw32_cmpxchg_u).
+    /// Its call is [`i64_atomic_rmw32_cmpxchg_u`](super::InstructionSink::i64_atomic_rmw32_cmpxchg_u), with the immediate `memarg`.
     #[doc(alias = "i64.atomic.rmw32.cmpxchg_u")]
     I64AtomicRmw32CmpxchgU(MemArg),
     /// `global.atomic.get`, opcode `FE 4F`, an instruction of the shared-everything threads proposal.

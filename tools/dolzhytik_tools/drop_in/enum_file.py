@@ -13,10 +13,13 @@ def declaration(case: Case) -> str:
 
 
 def documentation(case: Case) -> list[str]:
-    """Returns the lines of the doc comment of a case."""
+    """Returns the lines of the doc comment of a case. Fields without names have those of the
+    parameters of the call."""
+    unnamed = [] if case.fields else ["`%s`" % name for name, _ in case.parts]
+    held = ", with the immediate%s %s" % ("s" * (len(unnamed) > 1), " and ".join(unnamed)) if unnamed else ""
     return [
         "`%s`, opcode `%s`, %s." % (text_name(case), opcode(case), class_of(case)),
-        "Its call is [`%s`](super::InstructionSink::%s)." % (case.call, case.call),
+        "Its call is [`%s`](super::InstructionSink::%s)%s." % (case.call, case.call, held),
     ]
 
 

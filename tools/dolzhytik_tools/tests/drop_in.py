@@ -67,6 +67,8 @@ def said_trouble() -> str | None:
     wrong = [name for name, line in SAID.items() if documentation(by_name[name])[0] != line]
     if wrong:
         return "other lines: %s" % ", ".join(wrong)
+    if not documentation(by_name["BrTable"])[1].endswith(", with the immediates `labels` and `default`."):
+        return "the names of the immediates are missing"
     if "Its bytes have `type_index` before `table_index`." not in documentation_of_call(by_name["CallIndirect"], {}):
         return "the order of the bytes is missing"
     if "# Panics" not in documentation_of_call(by_name["BrTable"], {}) or "# Panics" in documentation_of_call(by_name["TypedSelect"], {}):
