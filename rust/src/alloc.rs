@@ -1,11 +1,13 @@
-//! Where memory comes from, and how it is refused.
+//! Allocators, which grant or refuse requests for memory.
 //!
-//! Every list of the package takes its memory from the global allocator of the program, and answers where that has none. Before each such request its allocator
-//! is asked: [`Global`] grants all, and one of your own can hold a builder to a budget, or refuse each request in turn in a test.
+//! Every list of the package takes its memory from the global allocator of the program, and returns
+//! an error if that fails. Before each request it calls [`Allocator::grant`]: [`Global`] grants
+//! all, and one of your own can hold a builder to a budget, or refuse each request in turn in a
+//! test.
 use alloc_crate::collections::TryReserveError;
 use core::fmt;
 
-/// A request for memory was refused.
+/// The error of a request for memory that was refused.
 #[derive(Clone, Copy, PartialEq, Eq, Debug)]
 pub struct AllocError;
 
@@ -31,16 +33,19 @@ impl From<AllocError> for std::io::Error {
     }
 }
 
-/// A request for memory was refused, and what was to be stored comes back.
+/// The error of a refused request for memory, with the item that was to be stored: see
+/// [`Vec::push`](crate::fallible::Vec::push).
 #[derive(Clone, Copy, PartialEq, Eq, Debug)]
 pub struct AllocFailed<T>(pub T);
 
-/// Grants or refuses memory.
+/// An allocator, which grants or refuses requests for memory.
+///
+/// Calls that make a list or a builder take one first. The memory itself is the program's.
 ///
 /// ```
 /// use dolzhytik::fallible::{AllocError, Allocator, FunctionSection, Refused};
 ///
-/// /// Refuses all requests of more than so many bytes.
+/// /// Refuses requests of more than this number of bytes.
 /// #[derive(Clone, Copy)]
 /// struct AtMost(usize);
 ///
@@ -56,11 +61,16 @@ pub struct AllocFailed<T>(pub T);
 /// assert!(functions.len() > 0);
 /// ```
 pub trait Allocator {
-    /// Grants a list that asks for a buffer of so many bytes, or refuses it. It is asked once for each buffer, and not told when one is given back.
+    /// Grants or refuses a buffer of this number of bytes. A list calls it once for each buffer,
+    /// and does not report when it frees one.
+    ///
+    /// # Errors
+    ///
+    /// An error refuses the request: the call that made it fails.
     fn grant(&self, bytes: usize) -> Result<(), AllocError>;
 }
 
-/// Grants all: what is refused then is what the program's own allocator refuses.
+/// The allocator that grants all requests: they fail only if the program's allocator fails.
 #[derive(Clone, Copy, PartialEq, Eq, Debug, Default)]
 pub struct Global;
 

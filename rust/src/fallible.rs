@@ -25,17 +25,52 @@
 //! # Ok::<(), Refused>(())
 //! ```
 //!
+//! A module can also be built here alone, and needs no `Vec` of `std`:
+//!
+//! ```
+//! use dolzhytik::fallible::{CodeSection, Function, Global, Instruction, Module, Refused};
+//!
+//! let mut body = Function::new(Global, [])?;
+//! body.instruction(&Instruction::End)?;
+//! let mut code = CodeSection::new(Global);
+//! code.function(&body)?;
+//! let mut module = Module::new(Global)?;
+//! module.section(&code)?;
+//! // The header; id 10, size 4, one body. The body: size 2, no locals, end (0B).
+//! assert_eq!(module.finish()[..], *b"\0asm\x01\0\0\0\x0A\x04\x01\x02\0\x0B");
+//! # Ok::<(), Refused>(())
+//! ```
+//!
 //! Types without a builder, such as [`ValType`], [`MemArg`] and [`MemoryType`], are the root's own. [`SectionId`],
 //! [`ExportKind`], [`TagKind`], [`TagType`], [`EntityType`], [`Import`] and [`ImportCompact`] convert both ways.
 //! `Instruction::from(&instruction)` converts an instruction of the root, and borrows its lists.
 //!
 //! A glob import of this module hides the [`Vec`](alloc_crate::vec::Vec) and [`String`](alloc_crate::string::String) of `std`.
 //!
-//! # Proved and asked
+//! # Beside the root
 //!
-//! Each page has under **Proved** what holds of a call, and under **Asks** what the caller owes: mostly that an iterator
-//! ends, or has the length that it reports. Otherwise a call may panic or return something wrong. Written by hand and not
-//! proved are [`Vec`], [`String`], [`Sink`], [`Allocator`], their impls and errors, and [`hex`].
+//! | | at the root | here |
+//! |---|---|---|
+//! | status | tested: proved encoders append each entry; the root itself appends raw bytes, ids of sections, and lists and options of any type | proved, by the clauses on each page |
+//! | calls that add | return `&mut Self`, or nothing, as in `wasm-encoder` | return `Result<(), Refused>` |
+//! | a count, run or length past 4294967295 | a panic, before an item is taken from a list that is too long | `Err(Refused::TooLong)`, nothing changed |
+//! | an allocation fails | `handle_alloc_error` ends the program | `Err(Refused::Memory)`, nothing changed |
+//! | `Instruction` | one enum of 628 cases, lists in `Cow` | nested enums, lists in `CowSlice`; made from the former by `From` |
+//! | `InstructionSink` | 628 named calls | the 41 that compilers use most |
+//! | `Encode`, `Section` | into a `Vec<u8>`, also as `dyn` | into any `Sink` |
+//!
+//! # What is proved
+//!
+//! This module and [`reader`](crate::reader) are the repository's libraries with the contracts erased. Written by hand
+//! are only [`Allocator`], [`Vec`], [`String`], [`Sink`], their impls and errors, and [`hex`]. Every other function is
+//! proved to be safe, to return, and to keep what its page has under **Proved**, word for word. Trusted are the prover,
+//! the [definitions](https://github.com/dolzhytik/dolzhytik/tree/main/crates) in `specs/` that clauses cite,
+//! `tools/to-rust`, which erases the contracts, the code written by hand, and rustc with its library.
+//!
+//! In a clause `self.old` and `self.new` are a value before and after the call, `x.now` is the value that a reference
+//! points to, `result` is the returned value, and `≡` is equality. `IfOk result (λ x. P)` says `P` of the value in `Ok`;
+//! `OnOk result P` says `P` if the result is `Ok`. **Defined** has the words of a trait's clauses, such as `encoding`,
+//! the encoding. The [glossary](https://github.com/dolzhytik/dolzhytik/blob/main/docs/GLOSSARY.md) has the other words.
 //!
 //! # Instructions
 //!
@@ -43,6 +78,13 @@
 //! after the prefixes FB and FC, are cases of [`Instruction`]. The others are in an enum for each group of opcodes:
 //! [`Numeric`] (45 to C4), [`Aggregate`] (FB), [`PrefixedNumeric`] (FC), [`Vector`] and [`VectorImmediate`] (FD, without
 //! and with fields), and [`Atomic`] (FE). Those without fields are constants too: `Instruction::I32Add` is an instruction.
+//!
+//! # What is asked
+//!
+//! **Asks** on a page is what the caller owes and types do not ensure: mostly that an iterator ends, or has the length
+//! that it reports. Otherwise a call may return something wrong or panic, but has no undefined behaviour. These calls ask:
+//!
+#![doc = include_str!("asks.md")]
 
 pub use crate::alloc::*;
 pub use crate::base::*;
@@ -60,7 +102,7 @@ pub mod hex {
     pub use crate::hex::*;
 }
 
-/// What is proved of all bytes rather than of a call, such as that a format is unambiguous.
+/// Clauses about all bytes rather than about a call, such as that a format is unambiguous.
 ///
 /// The functions do nothing: their pages have the clauses.
 pub mod laws {
@@ -81,6 +123,8 @@ pub mod laws {
     feature = "programs",
     doc = "With the feature `programs`, [`run`](recipe::run) is the program `wasmrow`."
 )]
+#[doc(alias = "assemble")]
+#[doc(alias = "text format")]
 #[cfg(feature = "recipe")]
 pub mod recipe {
     pub use crate::recipe::*;

@@ -1,14 +1,14 @@
-//! Hexadecimal text, as recipes have it.
+//! Hexadecimal text, as in recipes.
 use crate::alloc::{AllocError, Allocator};
 use crate::string::String;
 use crate::vec::Vec;
 
-/// Why a text tells no bytes.
+/// The error of text that does not decode.
 #[derive(Clone, Copy, PartialEq, Eq, Debug)]
 pub enum FromHexError {
-    /// It isn't an even number of hexadecimal digits.
+    /// The text is not an even number of hexadecimal digits.
     NoHex,
-    /// A request for memory was refused.
+    /// An allocation failed.
     OutOfMemory,
 }
 
@@ -18,7 +18,7 @@ impl From<AllocError> for FromHexError {
     }
 }
 
-/// The value of a digit, of lower or of upper case.
+/// Returns the value of a digit in lower or upper case.
 fn digit(byte: u8) -> Result<u8, FromHexError> {
     match (byte as char).to_digit(16) {
         Some(value) => Ok(value as u8),
@@ -26,7 +26,20 @@ fn digit(byte: u8) -> Result<u8, FromHexError> {
     }
 }
 
-/// The bytes that a text of hexadecimal digits tells.
+/// Decodes hexadecimal digits in lower or upper case.
+///
+/// ```
+/// use dolzhytik::fallible::{Global, hex};
+///
+/// assert_eq!(hex::decode(Global, "00fF")?[..], [0x00, 0xFF]);
+/// assert_eq!(hex::decode(Global, "0"), Err(hex::FromHexError::NoHex));
+/// # Ok::<(), hex::FromHexError>(())
+/// ```
+///
+/// # Errors
+///
+/// Returns [`FromHexError::NoHex`] if the text is not an even number of digits, and
+/// [`FromHexError::OutOfMemory`] if the allocation fails.
 pub fn decode<T: AsRef<[u8]>, A: Allocator>(alloc: A, text: T) -> Result<Vec<u8, A>, FromHexError> {
     let (pairs, []) = text.as_ref().as_chunks::<2>() else {
         return Err(FromHexError::NoHex);
@@ -38,7 +51,18 @@ pub fn decode<T: AsRef<[u8]>, A: Allocator>(alloc: A, text: T) -> Result<Vec<u8,
     Ok(bytes)
 }
 
-/// The digits of the bytes, of lower case.
+/// Encodes bytes as hexadecimal digits in lower case.
+///
+/// ```
+/// use dolzhytik::fallible::{Global, hex};
+///
+/// assert_eq!(hex::encode(Global, [0x00, 0xFF])?.as_str(), "00ff");
+/// # Ok::<(), dolzhytik::fallible::AllocError>(())
+/// ```
+///
+/// # Errors
+///
+/// Returns [`AllocError`] if the allocation fails.
 pub fn encode<T: AsRef<[u8]>, A: Allocator>(alloc: A, bytes: T) -> Result<String<A>, AllocError> {
     let bytes = bytes.as_ref();
     let mut text = String::new(alloc);

@@ -1,9 +1,13 @@
 #![doc = include_str!("../README.md")]
-//! ## What is asked
+//! ## Where to start
 //!
-//! These calls ask something of their caller that types don't keep: mostly that an iterator ends, or that one of known length tells it truly.
-//!
-#![doc = include_str!("asks.md")]
+//! - [`Module`] takes sections, such as [`TypeSection`], [`ImportSection`], [`CodeSection`],
+//!   [`DataSection`] and [`CustomSection`], and returns the bytes.
+//! - [`Function`] is a body. [`InstructionSink`] has a call for each instruction, and
+//!   [`Instruction`] is one as a value. [`ConstExpr`] is a constant expression.
+//! - [`Encode`] and [`Section`] are the traits of what can be encoded: implement them for your own.
+//! - [`fallible`] has the proved builders, and the list of what calls ask of their callers.
+//! - [`reader`] decodes modules: begin with [`reader::Sections`].
 #![no_std]
 #![forbid(unsafe_code)]
 
@@ -25,12 +29,16 @@ compile_error!("there are no components: keep `wasm-encoder` beside this package
 
 mod alloc;
 mod drop_in;
+#[doc(alias = "allocator")]
+#[doc(alias = "out of memory")]
+#[doc(alias = "no_std")]
 pub mod fallible;
 mod hex;
 mod string;
 mod vec;
 
-/// Declares the modules that `tools/to-rust` writes: they keep the names of their source, arguments of which clauses alone speak, and what is called in the proved build alone.
+/// Declares the modules that `tools/to-rust` writes. They keep the names of their source, arguments
+/// that only contracts use, and functions that only the proved build calls.
 macro_rules! written {
     ($($(#[$attribute:meta])* $visibility:vis mod $name:ident;)*) => {
         $(
@@ -49,6 +57,13 @@ written! {
     mod custom;
     mod immediates;
     mod insn;
+    #[doc(alias = "decode")]
+    #[doc(alias = "decoder")]
+    #[doc(alias = "disassemble")]
+    #[doc(alias = "parse")]
+    #[doc(alias = "parser")]
+    #[doc(alias = "reencode")]
+    #[doc(alias = "wasmparser")]
     pub mod reader;
     #[cfg(feature = "recipe")]
     mod recipe;

@@ -1,54 +1,84 @@
-//! Text whose requests for memory can be refused.
+//! Strings whose calls return an error if an allocation fails.
 use crate::alloc::{AllocError, Allocator, Global};
 use crate::vec::Vec;
 use core::fmt;
 use core::ops::Deref;
 
-/// Text that answers where memory is refused, and never aborts.
+/// A string whose calls return an error if an allocation fails.
+///
+/// ```
+/// use dolzhytik::fallible::{Global, String};
+///
+/// let mut text = String::from_str(Global, "a")?;
+/// text.push_str("bc")?;
+/// assert_eq!(text.as_str(), "abc");
+/// # Ok::<(), dolzhytik::fallible::AllocError>(())
+/// ```
 pub struct String<A: Allocator = Global> {
     bytes: Vec<u8, A>,
 }
 
 impl<A: Allocator> String<A> {
-    /// No text. It takes no memory.
+    /// Creates an empty string, without an allocation.
     pub const fn new(alloc: A) -> Self {
         let bytes = Vec::new(alloc);
         String { bytes }
     }
 
-    /// A copy of this text.
+    /// Creates a copy of this text.
+    ///
+    /// # Errors
+    ///
+    /// Returns [`AllocError`] if the allocation fails.
     pub fn from_str(alloc: A, text: &str) -> Result<Self, AllocError> {
         let bytes = Vec::from_slice(alloc, text.as_bytes())?;
         Ok(String { bytes })
     }
 
-    /// The text.
+    /// Returns the text.
     pub fn as_str(&self) -> &str {
         // What is appended is text, so this is the text.
         str::from_utf8(&self.bytes).unwrap_or_default()
     }
 
-    /// The allocator that is asked.
+    /// Returns the allocator.
     pub fn allocator(&self) -> &A {
         self.bytes.allocator()
     }
 
-    /// Makes room for so many bytes more.
+    /// Reserves spare capacity for `more` bytes.
+    ///
+    /// # Errors
+    ///
+    /// Returns [`AllocError`] if the allocation fails. The string is unchanged.
     pub fn reserve_exact(&mut self, more: usize) -> Result<(), AllocError> {
         self.bytes.reserve_exact(more)
     }
 
-    /// Appends text, or nothing.
+    /// Appends text.
+    ///
+    /// # Errors
+    ///
+    /// Returns [`AllocError`] if an allocation fails. The string is unchanged.
     pub fn push_str(&mut self, text: &str) -> Result<(), AllocError> {
         self.bytes.extend_from_slice(text.as_bytes())
     }
 
-    /// Appends a character, or nothing.
+    /// Appends a character.
+    ///
+    /// # Errors
+    ///
+    /// Returns [`AllocError`] if an allocation fails. The string is unchanged.
     pub fn push(&mut self, character: char) -> Result<(), AllocError> {
         self.push_str(character.encode_utf8(&mut [0; 4]))
     }
 
-    /// Appends what is formatted: [`write!`] and [`writeln!`] call this. Where memory is refused, what was appended before stays.
+    /// Appends formatted text: [`write!`] and [`writeln!`] call this.
+    ///
+    /// # Errors
+    ///
+    /// Returns [`AllocError`] if an allocation fails. The string keeps the text that was appended
+    /// before.
     pub fn write_fmt(&mut self, text: fmt::Arguments<'_>) -> Result<(), AllocError> {
         fmt::Write::write_fmt(self, text).map_err(|_| AllocError)
     }

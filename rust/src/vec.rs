@@ -1,12 +1,13 @@
-//! Vectors whose requests for memory can be refused, and what bytes are appended to.
+//! Vectors whose calls return an error if an allocation fails, and the sinks that bytes are
+//! appended to.
 use crate::alloc::{AllocError, AllocFailed, Allocator, Global};
 use alloc_crate::vec;
 use core::fmt;
 use core::ops::{Deref, DerefMut};
 
-/// A vector that answers where memory is refused, and never aborts.
+/// A vector whose calls return an error if an allocation fails.
 ///
-/// It is a `std` vector with an allocator beside it, and becomes one, and comes of one, without a copy:
+/// It is a `std` vector and an allocator. It converts to and from a `std` vector without a copy:
 ///
 /// ```
 /// use dolzhytik::fallible::{Global, Module};
@@ -22,45 +23,49 @@ pub struct Vec<T, A: Allocator = Global> {
 }
 
 impl<T, A: Allocator> Vec<T, A> {
-    /// No items. It takes no memory.
+    /// Creates an empty vector, without an allocation.
     #[inline]
     pub const fn new(alloc: A) -> Self {
         let items = vec::Vec::new();
         Vec { items, alloc }
     }
 
-    /// No items, and room for so many.
+    /// Creates an empty vector with this capacity.
+    ///
+    /// # Errors
+    ///
+    /// Returns [`AllocError`] if the allocation fails.
     pub fn with_capacity(alloc: A, capacity: usize) -> Result<Self, AllocError> {
         let mut vec = Vec::new(alloc);
         vec.reserve_exact(capacity)?;
         Ok(vec)
     }
 
-    /// The allocator that is asked.
+    /// Returns the allocator.
     #[inline]
     pub fn allocator(&self) -> &A {
         &self.alloc
     }
 
-    /// How many items there is room for, with those that stand there.
+    /// Returns the number of items that the vector can hold without an allocation.
     #[inline]
     pub fn capacity(&self) -> usize {
         self.items.capacity()
     }
 
-    /// The items.
+    /// Returns the items.
     #[inline]
     pub fn as_slice(&self) -> &[T] {
         &self.items
     }
 
-    /// The `std` vector of the items. Nothing is copied.
+    /// Returns the `std` vector of the items, without a copy.
     #[inline]
     pub fn into_std(self) -> vec::Vec<T> {
         self.items
     }
 
-    /// Asks for room for so many items more; `exact` where there is to be no more than that.
+    /// Allocates spare capacity for `more` items; if `exact`, for no others.
     #[cold]
     #[inline(never)]
     fn grow(&mut self, more: usize, exact: bool) -> Result<(), AllocError> {
@@ -74,7 +79,11 @@ impl<T, A: Allocator> Vec<T, A> {
         Ok(answer?)
     }
 
-    /// Makes room for so many items more, and for others if that is cheaper in the long run.
+    /// Reserves spare capacity for at least `more` items, as `std` does.
+    ///
+    /// # Errors
+    ///
+    /// Returns [`AllocError`] if the allocation fails. The vector is unchanged.
     #[inline]
     pub fn reserve(&mut self, more: usize) -> Result<(), AllocError> {
         if self.items.capacity() - self.items.len() < more {
@@ -83,7 +92,11 @@ impl<T, A: Allocator> Vec<T, A> {
         Ok(())
     }
 
-    /// Makes room for so many items more.
+    /// Reserves spare capacity for `more` items.
+    ///
+    /// # Errors
+    ///
+    /// Returns [`AllocError`] if the allocation fails. The vector is unchanged.
     #[inline]
     pub fn reserve_exact(&mut self, more: usize) -> Result<(), AllocError> {
         if self.items.capacity() - self.items.len() < more {
@@ -92,7 +105,11 @@ impl<T, A: Allocator> Vec<T, A> {
         Ok(())
     }
 
-    /// Appends an item. Where memory is refused it comes back, and the vector is as it was.
+    /// Appends an item.
+    ///
+    /// # Errors
+    ///
+    /// Returns the item in [`AllocFailed`] if an allocation fails. The vector is unchanged.
     #[inline]
     pub fn push(&mut self, item: T) -> Result<(), AllocFailed<T>> {
         if self.items.len() == self.items.capacity() && self.grow(1, false).is_err() {
@@ -102,31 +119,37 @@ impl<T, A: Allocator> Vec<T, A> {
         Ok(())
     }
 
-    /// Appends an item where the vector has room for it; else it grows as a `std` vector does.
+    /// Appends an item to spare capacity. Without spare capacity the vector grows as a `std` vector
+    /// does, which aborts if the allocation fails.
     #[inline]
     pub fn push_reserved(&mut self, item: T) {
         self.items.push(item);
     }
 
-    /// Takes the last item off.
+    /// Removes the last item and returns it.
     #[inline]
     pub fn pop(&mut self) -> Option<T> {
         self.items.pop()
     }
 
-    /// Keeps the first items, so many at most.
+    /// Removes the items from index `len` on.
     #[inline]
     pub fn truncate(&mut self, len: usize) {
         self.items.truncate(len);
     }
 
-    /// Takes all items off. The room stays.
+    /// Removes all items, and keeps the capacity.
     #[inline]
     pub fn clear(&mut self) {
         self.items.clear();
     }
 
-    /// Appends all items of the iterator, whatever its `size_hint` says. After an error the vector keeps the items appended before it.
+    /// Appends all items of the iterator, whatever its `size_hint` says.
+    ///
+    /// # Errors
+    ///
+    /// Returns [`AllocError`] if an allocation fails. The vector keeps the items that were appended
+    /// before.
     #[inline]
     pub fn extend<I: IntoIterator<Item = T>>(&mut self, items: I) -> Result<(), AllocError> {
         let mut items = items.into_iter();
@@ -149,14 +172,22 @@ impl<T, A: Allocator> Vec<T, A> {
 }
 
 impl<T: Copy, A: Allocator> Vec<T, A> {
-    /// A vector of these items.
+    /// Creates a vector of these items.
+    ///
+    /// # Errors
+    ///
+    /// Returns [`AllocError`] if the allocation fails.
     pub fn from_slice(alloc: A, items: &[T]) -> Result<Self, AllocError> {
         let mut vec = Vec::with_capacity(alloc, items.len())?;
         vec.items.extend_from_slice(items);
         Ok(vec)
     }
 
-    /// Appends these items, or nothing.
+    /// Appends these items.
+    ///
+    /// # Errors
+    ///
+    /// Returns [`AllocError`] if the allocation fails. The vector is unchanged.
     #[inline]
     pub fn extend_from_slice(&mut self, items: &[T]) -> Result<(), AllocError> {
         self.reserve(items.len())?;
@@ -247,7 +278,10 @@ impl<'a, T, A: Allocator> IntoIterator for &'a Vec<T, A> {
     }
 }
 
-/// What bytes are appended to: a [`Vec`] of the package, or a `std` vector of your own.
+/// A list that bytes are appended to: a [`Vec`] of the package, or a `std` vector.
+///
+/// Calls such as [`Encode::encode`](crate::fallible::Encode::encode) take one. The trait is sealed.
+/// Its calls return [`AllocError`] if an allocation fails.
 ///
 /// ```
 /// use dolzhytik::fallible::Encode;
@@ -258,33 +292,34 @@ impl<'a, T, A: Allocator> IntoIterator for &'a Vec<T, A> {
 /// # Ok::<(), dolzhytik::fallible::Refused>(())
 /// ```
 pub trait Sink: DerefMut<Target = [u8]> + Sealed {
-    /// How many bytes there is room for, with those that stand there.
+    /// Returns the number of bytes that the sink can hold without an allocation.
     fn capacity(&self) -> usize;
 
-    /// Makes room for so many bytes more, and for others if that is cheaper in the long run.
+    /// Reserves spare capacity for at least `more` bytes.
     fn reserve(&mut self, more: usize) -> Result<(), AllocError>;
 
-    /// Appends a byte, or nothing.
+    /// Appends a byte. On an error the sink is unchanged.
     fn push(&mut self, byte: u8) -> Result<(), AllocError>;
 
-    /// Appends a byte where there is room for it; else it grows as a `std` vector does.
+    /// Appends a byte to spare capacity. Without it the sink grows as a `std` vector does.
     fn push_reserved(&mut self, byte: u8);
 
-    /// Appends two bytes where there is room for them; else it grows as a `std` vector does.
+    /// Appends two bytes to spare capacity. Without it the sink grows as a `std` vector does.
     fn push_both_reserved(&mut self, bytes: [u8; 2]);
 
-    /// Appends these bytes, or nothing.
+    /// Appends these bytes. On an error the sink is unchanged.
     fn extend_from_slice(&mut self, bytes: &[u8]) -> Result<(), AllocError>;
 
-    /// Appends what the iterator gives. Where memory is refused, what was appended before stays.
+    /// Appends the bytes of the iterator. On an error the sink keeps those that were appended
+    /// before.
     fn extend<I: IntoIterator<Item = u8>>(&mut self, bytes: I) -> Result<(), AllocError>;
 
-    /// Keeps the first bytes, so many at most.
+    /// Removes the bytes from index `len` on.
     fn truncate(&mut self, len: usize);
 }
 
-/// The most bytes of an iterator that are collected on the stack. A loop over an array is unrolled, and one that
-/// grows a vector is not: it copies up to 64 bytes one by one.
+/// The most bytes of an iterator that are collected on the stack. A loop over an array is unrolled,
+/// and one that grows a vector is not: it copies up to 64 bytes one by one.
 const SHORT: usize = 256;
 
 impl<A: Allocator> Sink for Vec<u8, A> {
@@ -350,14 +385,14 @@ impl<A: Allocator> Sink for Vec<u8, A> {
     }
 }
 
-/// Makes room for so many bytes more in a vector of your own.
+/// Reserves spare capacity for `more` bytes in a `std` vector.
 #[cold]
 #[inline(never)]
 fn grow(bytes: &mut vec::Vec<u8>, more: usize) -> Result<(), AllocError> {
     Ok(bytes.try_reserve(more)?)
 }
 
-/// A vector of your own. It takes its memory from the program's allocator.
+/// A `std` vector, which takes its memory from the program's allocator.
 impl Sink for vec::Vec<u8> {
     #[inline]
     fn capacity(&self) -> usize {
@@ -412,7 +447,7 @@ impl Sink for vec::Vec<u8> {
     }
 }
 
-/// What keeps [`Sink`] for the types of this package.
+/// Seals [`Sink`].
 pub(crate) use sealed::Sealed;
 
 mod sealed {

@@ -1,4 +1,4 @@
-//! Functions, the code section, and what instructions are written with.
+//! Functions, the code section, and the named calls for instructions.
 use super::entries::{Entries, FEW, Growing, append, append_once};
 use super::{Encode, Instruction, done, listed};
 use crate::alloc::Global;
@@ -7,22 +7,37 @@ use crate::code::code_section::RawBody;
 use crate::{code, insn};
 use alloc_crate::vec::Vec;
 
-/// Writes instructions behind the bytes of a list, with a named call for each.
+/// Appends instructions to a list of bytes, by a named call for each.
 ///
-/// The calls that [`fallible::InstructionSink`](crate::fallible::InstructionSink) has too are made by those. The others append the op of the table and its parts, by the proved `encode` of these.
+/// [`Function::instructions`] returns one for a body, and [`InstructionSink::new`] makes one for
+/// any `Vec<u8>`. Each call returns the sink, so that calls form a chain. A call takes the
+/// immediates of its instruction as arguments. An [`Instruction`] is the same as a value.
+///
+/// Calls that [`fallible::InstructionSink`](crate::fallible::InstructionSink) also has are written
+/// by those. The others append an opcode and its immediates by the proved `encode` of each. Blocks
+/// and types are not checked.
+///
+/// ```
+/// use dolzhytik::InstructionSink;
+///
+/// let mut bytes = Vec::new();
+/// InstructionSink::new(&mut bytes).local_get(0).i32_const(64).i32_add().end();
+/// // local.get 0: 20 00. i32.const 64: 41, and 64 as signed LEB128, C0 00. i32.add: 6A. end: 0B.
+/// assert_eq!(bytes, [0x20, 0x00, 0x41, 0xC0, 0x00, 0x6A, 0x0B]);
+/// ```
 #[derive(Debug)]
 pub struct InstructionSink<'a> {
     sink: &'a mut Vec<u8>,
 }
 
 impl<'a> InstructionSink<'a> {
-    /// Writes behind what the list has.
+    /// Returns a sink that appends to these bytes.
     #[inline]
     pub fn new(sink: &'a mut Vec<u8>) -> Self {
         InstructionSink { sink }
     }
 
-    /// Makes a proved call.
+    /// Appends by a proved call.
     #[inline]
     pub(super) fn made(
         &mut self,
@@ -33,14 +48,15 @@ impl<'a> InstructionSink<'a> {
         self
     }
 
-    /// Appends a value by its proved `encode`: an op and its parts, where there is no proved call.
+    /// Appends an opcode and its immediates by their proved `encode`, where there is no proved
+    /// call.
     #[inline]
     pub(super) fn emit<T: base::Encode>(&mut self, parts: &T) -> &mut Self {
         append(parts, self.sink);
         self
     }
 
-    /// Appends an op, its parts, and the list that is the last of these.
+    /// Appends an opcode and its immediates, of which the last is a list.
     pub(super) fn listed<T, V>(&mut self, parts: T, list: V) -> &mut Self
     where
         T: base::Encode,
@@ -51,24 +67,30 @@ impl<'a> InstructionSink<'a> {
     }
 }
 
-/// The body of a function: runs of locals, and instructions. Its bytes are those of the proved [`fallible::Function`](crate::fallible::Function), from which it can be made.
+/// The body of a function: its locals and its instructions.
+///
+/// [`CodeSection::function`] takes it. End it with the instruction `end`, which no call adds.
+/// Parameters are locals too, with the first indices; they are part of the function's type, and not
+/// of its body. The encoding is defined in the core specification, Modules, Code Section.
+///
+/// The proved builder of the same bytes is [`fallible::Function`](crate::fallible::Function), which
+/// converts to this type.
 ///
 /// ```
-/// use dolzhytik::{CodeSection, Function, Instruction, ValType};
+/// use dolzhytik::{Function, Instruction, ValType};
 ///
 /// let mut body = Function::new([(1, ValType::I64)]);
 /// body.instruction(&Instruction::I32Const(7)).instruction(&Instruction::Drop);
 /// body.instructions().nop().end();
-/// let mut code = CodeSection::new();
-/// code.function(&body);
-/// assert_eq!(code.byte_len(), 9);
+/// // One run of locals: 1 of i64, 7E. i32.const 7: 41 07. drop: 1A. nop: 01. end: 0B.
+/// assert_eq!(body.into_raw_body(), [1, 1, 0x7E, 0x41, 0x07, 0x1A, 0x01, 0x0B]);
 /// ```
 #[derive(Clone, Debug, PartialEq, Eq)]
 pub struct Function {
     bytes: Vec<u8>,
 }
 
-/// What the calls of [`fallible::Function`](crate::fallible::Function) have built.
+/// Converts a body built by the calls of [`fallible::Function`](crate::fallible::Function).
 impl From<code::Function> for Function {
     fn from(built: code::Function) -> Self {
         Function {
@@ -78,7 +100,11 @@ impl From<code::Function> for Function {
 }
 
 impl Function {
-    /// A body of these locals, which are counts and types, and of no instructions.
+    /// Creates a body without instructions. Each pair is a run of locals: their number and type.
+    ///
+    /// # Panics
+    ///
+    /// Panics if there are more than 4294967295 runs.
     pub fn new<L>(locals: L) -> Self
     where
         L: IntoIterator<Item = (u32, ValType)>,
@@ -89,7 +115,20 @@ impl Function {
         Function { bytes }
     }
 
-    /// A body of one local for each type, in as few runs as there can be.
+    /// Creates a body without instructions, with one local for each type. Neighbours of the same
+    /// type form one run.
+    ///
+    /// ```
+    /// use dolzhytik::{Function, ValType};
+    ///
+    /// let body = Function::new_with_locals_types([ValType::I32, ValType::I32, ValType::F32]);
+    /// // Two runs: 2 of i32, 7F, and 1 of f32, 7D.
+    /// assert_eq!(body.into_raw_body(), [2, 2, 0x7F, 1, 0x7D]);
+    /// ```
+    ///
+    /// # Panics
+    ///
+    /// Panics if the number of runs, or of locals in one, would pass 4294967295.
     pub fn new_with_locals_types<L>(locals: L) -> Self
     where
         L: IntoIterator<Item = ValType>,
@@ -97,20 +136,24 @@ impl Function {
         done(code::Function::new_with_locals_types(Global, locals)).into()
     }
 
-    /// Named calls that write into this body.
+    /// Returns the named calls that append instructions to this body.
     #[inline]
     pub fn instructions(&mut self) -> InstructionSink<'_> {
         InstructionSink::new(&mut self.bytes)
     }
 
     /// Appends an instruction.
+    ///
+    /// # Panics
+    ///
+    /// Panics if a list of the instruction has more than 4294967295 items.
     #[inline]
     pub fn instruction(&mut self, instruction: &Instruction) -> &mut Self {
         instruction.encode(&mut self.bytes);
         self
     }
 
-    /// Appends bytes.
+    /// Appends bytes as they are, such as encoded instructions. They are not checked.
     pub fn raw<B>(&mut self, bytes: B) -> &mut Self
     where
         B: IntoIterator<Item = u8>,
@@ -119,43 +162,104 @@ impl Function {
         self
     }
 
-    /// How many bytes the body has, with its locals.
+    /// Returns the length of the body in bytes, locals included. It is the offset of the next
+    /// instruction in [`into_raw_body`](Function::into_raw_body), as a
+    /// [`BranchHint`](super::BranchHint) needs it.
+    ///
+    /// ```
+    /// use dolzhytik::Function;
+    ///
+    /// let mut body = Function::new([]);
+    /// // No runs of locals: the count 0 is one byte.
+    /// assert_eq!(body.byte_len(), 1);
+    /// body.instructions().i32_const(7);
+    /// // i32.const 7: 41 07.
+    /// assert_eq!(body.byte_len(), 3);
+    /// ```
+    #[doc(alias = "offset")]
     pub fn byte_len(&self) -> usize {
         self.bytes.len()
     }
 
-    /// The bytes of the body, without their size.
+    /// Returns the bytes of the body without its size prefix, as [`CodeSection::raw`] takes them.
     pub fn into_raw_body(self) -> Vec<u8> {
         self.bytes
     }
 }
 
-/// The frame of the body.
+/// Encodes the size prefix and the body.
 impl Encode for Function {
     fn encode(&self, sink: &mut Vec<u8>) {
         done(base::encode_size_prefixed(&mut Growing(sink), &self.bytes))
     }
 }
 
-/// The code section. Its entries are encoded as those of the proved [`fallible::CodeSection`](crate::fallible::CodeSection).
+/// The code section: the bodies of the functions that the module defines.
+///
+/// Add one body for each entry of the [`FunctionSection`](super::FunctionSection), in the same
+/// order. [`Module::section`](super::Module::section) takes the section. The encoding is defined in
+/// the core specification, Modules, Code Section.
+///
+/// Its bodies are encoded by the calls that the proved
+/// [`fallible::CodeSection`](crate::fallible::CodeSection) makes too. To decode a code section, see
+/// [`reader::Section::bodies`](crate::reader::Section::bodies).
+///
+/// ```
+/// use dolzhytik::{CodeSection, Function, Module};
+///
+/// let mut body = Function::new([]);
+/// body.instructions().local_get(0).end();
+/// let mut code = CodeSection::new();
+/// code.function(&body);
+///
+/// let mut module = Module::new();
+/// module.section(&code);
+/// // Id 10, size 6, one body. The body: size 4, no locals, local.get 0 (20 00), end (0B).
+/// assert_eq!(module.as_slice()[8..], [10, 6, 1, 4, 0, 0x20, 0x00, 0x0B]);
+/// ```
+///
+/// # Panics
+///
+/// Its calls panic where the number of bodies, or the size of one, would pass 4294967295. A failed
+/// allocation ends the program.
 #[derive(Clone)]
 pub struct CodeSection(Entries);
 
 listed!(CodeSection of code Code);
 
 impl CodeSection {
-    /// How many bytes all bodies have, with their sizes, and without the number of bodies.
+    /// Returns the length of all bodies in bytes, with their size prefixes. The number of bodies,
+    /// which is encoded before them, is not included.
     pub fn byte_len(&self) -> usize {
         self.0.bytes.len()
     }
 
     /// Appends a body.
+    ///
+    /// # Panics
+    ///
+    /// Panics if the body has more than 4294967295 bytes, or the section has 4294967295 bodies.
     #[inline]
     pub fn function(&mut self, func: &Function) -> &mut Self {
         self.raw(&func.bytes)
     }
 
-    /// Appends a body by its bytes, without their size.
+    /// Appends a body by its bytes, without the size prefix. They are not checked.
+    ///
+    /// ```
+    /// use dolzhytik::{CodeSection, Encode};
+    ///
+    /// let mut code = CodeSection::new();
+    /// code.raw(&[0x00, 0x0B]); // No locals; end.
+    /// let mut bytes = Vec::new();
+    /// code.encode(&mut bytes);
+    /// // Size 4, one body, of size 2.
+    /// assert_eq!(bytes, [4, 1, 2, 0x00, 0x0B]);
+    /// ```
+    ///
+    /// # Panics
+    ///
+    /// Panics if there are more than 4294967295 bytes, or the section has 4294967295 bodies.
     #[inline]
     pub fn raw(&mut self, data: &[u8]) -> &mut Self {
         self.0.add(&RawBody { bytes: data });

@@ -11,13 +11,28 @@ use crate::vec::Sink;
 use alloc_crate::vec::Vec;
 use core::fmt;
 
-/// An expression that gives a constant. A few instructions take no memory of their own.
+/// A constant expression: the initial value of a global or a table, the offset of a segment, or an
+/// element.
+///
+/// [`GlobalSection::global`](super::GlobalSection::global),
+/// [`TableSection::table_with_init`](super::TableSection::table_with_init),
+/// [`DataSection::active`](super::DataSection::active),
+/// [`ElementSection::active`](super::ElementSection::active) and
+/// [`Elements::Expressions`](super::Elements::Expressions) take it. Begin with the call of an
+/// instruction, and add others by the calls `with_..`. The encoding appends `end`. The core
+/// specification defines it in Instructions, Expressions, and which instructions are constant in
+/// Validation, Constant Expressions. That is not checked.
+///
+/// Up to 30 bytes of instructions take no allocation, unless [`extended`](ConstExpr::extended)
+/// collects them. The proved builder of the same bytes is
+/// [`fallible::ConstExpr`](crate::fallible::ConstExpr), which converts to this type.
 ///
 /// ```
 /// use dolzhytik::{ConstExpr, Encode};
 ///
 /// let mut bytes = Vec::new();
 /// ConstExpr::global_get(0).with_i32_const(8).with_i32_add().encode(&mut bytes);
+/// // global.get 0: 23 00. i32.const 8: 41 08. i32.add: 6A. end: 0B.
 /// assert_eq!(bytes, [0x23, 0x00, 0x41, 0x08, 0x6A, 0x0B]);
 /// ```
 #[derive(Clone)]
@@ -26,7 +41,8 @@ pub struct ConstExpr {
     rest: Bytes,
 }
 
-/// What the calls of [`fallible::ConstExpr`](crate::fallible::ConstExpr) have built. The bytes are copied.
+/// Converts an expression built by the calls of
+/// [`fallible::ConstExpr`](crate::fallible::ConstExpr). The bytes are copied.
 impl From<code::ConstExpr> for ConstExpr {
     fn from(built: code::ConstExpr) -> Self {
         let mut rest = Bytes::new();
@@ -36,7 +52,7 @@ impl From<code::ConstExpr> for ConstExpr {
     }
 }
 
-/// The instructions and `end`, by their proved `encode`.
+/// Encodes the instructions and `end`, by their proved `encode`.
 impl base::Encode for ConstExpr {
     #[inline]
     fn encode<A: Sink>(&self, sink: &mut A) -> Result<()> {
@@ -47,6 +63,7 @@ impl base::Encode for ConstExpr {
     }
 }
 
+/// Encodes the instructions and `end`.
 impl Encode for ConstExpr {
     fn encode(&self, sink: &mut Vec<u8>) {
         done(base::Encode::encode(self, &mut Growing(sink)))
@@ -62,11 +79,11 @@ impl fmt::Debug for ConstExpr {
     }
 }
 
-/// Writes the calls that begin with an instruction, and those that append it.
+/// Defines the calls that begin with an instruction, and those that append it.
 macro_rules! instructions {
     ($($new:ident $with:ident $case:ident($name:ident: $type:ty))*) => {
         $(
-            #[doc = concat!("The instruction `", stringify!($new), "`.")]
+            #[doc = concat!("Returns the expression of one instruction, [`Instruction::", stringify!($case), "`].")]
             #[inline]
             pub const fn $new($name: $type) -> Self {
                 ConstExpr {
@@ -75,7 +92,7 @@ macro_rules! instructions {
                 }
             }
 
-            #[doc = concat!("With the instruction `", stringify!($new), "` behind it.")]
+            #[doc = concat!("Appends [`Instruction::", stringify!($case), "`].")]
             #[inline]
             pub fn $with(self, $name: $type) -> Self {
                 self.with(|sink| sink.$new($name))
@@ -84,11 +101,11 @@ macro_rules! instructions {
     };
 }
 
-/// Writes the calls that append an operation.
+/// Defines the calls that append an instruction without immediates.
 macro_rules! operations {
-    ($($with:ident $call:ident)*) => {
+    ($($with:ident $call:ident $case:ident)*) => {
         $(
-            #[doc = concat!("With the instruction `", stringify!($call), "` behind it.")]
+            #[doc = concat!("Appends [`Instruction::", stringify!($case), "`].")]
             #[inline]
             pub fn $with(self) -> Self {
                 self.with(|sink| sink.$call())
@@ -98,7 +115,7 @@ macro_rules! operations {
 }
 
 impl ConstExpr {
-    /// No instructions.
+    /// Returns the expression without instructions, to which calls `with_..` append.
     pub const fn empty() -> Self {
         ConstExpr {
             first: None,
@@ -106,14 +123,36 @@ impl ConstExpr {
         }
     }
 
-    /// The instructions that these bytes encode, without an `end`.
+    /// Returns the expression of these encoded instructions, without an `end`, which the encoding
+    /// appends. The bytes are not checked.
+    ///
+    /// ```
+    /// use dolzhytik::{ConstExpr, Encode};
+    ///
+    /// let mut bytes = Vec::new();
+    /// ConstExpr::raw([0x41, 0x2A]).encode(&mut bytes); // i32.const 42
+    /// assert_eq!(bytes, [0x41, 0x2A, 0x0B]);
+    /// ```
     pub fn raw(bytes: impl IntoIterator<Item = u8>) -> Self {
         let mut rest = Bytes::new();
         rest.extend(bytes).ok();
         ConstExpr { first: None, rest }
     }
 
-    /// These instructions.
+    /// Returns the expression of these instructions, without an `end`, which the encoding appends.
+    ///
+    /// ```
+    /// use dolzhytik::{ConstExpr, Encode, Instruction};
+    ///
+    /// let mut bytes = Vec::new();
+    /// ConstExpr::extended([Instruction::I32Const(1), Instruction::RefI31]).encode(&mut bytes);
+    /// // i32.const 1: 41 01. ref.i31: FB 1C. end: 0B.
+    /// assert_eq!(bytes, [0x41, 0x01, 0xFB, 0x1C, 0x0B]);
+    /// ```
+    ///
+    /// # Panics
+    ///
+    /// Panics if a list of an instruction has more than 4294967295 items.
     pub fn extended<'a>(insns: impl IntoIterator<Item = Instruction<'a>>) -> Self {
         let mut bytes = Vec::with_capacity(FEW);
         for instruction in insns {
@@ -125,7 +164,7 @@ impl ConstExpr {
         }
     }
 
-    /// With what a proved call appends.
+    /// Appends by a proved call.
     #[inline]
     fn with(mut self, call: impl FnOnce(&mut InstructionSink<'_, Bytes>) -> Result<()>) -> Self {
         done(call(&mut InstructionSink::new(&mut self.rest)));
@@ -142,26 +181,33 @@ impl ConstExpr {
         f64_const with_f64_const F64Const(value: Ieee64)
     }
 
-    /// The instruction `v128_const`.
+    /// Returns the expression of one instruction, [`Instruction::V128Const`].
     pub fn v128_const(value: i128) -> Self {
         ConstExpr::empty().with_v128_const(value)
     }
 
-    /// With the instruction `v128_const` behind it.
+    /// Appends [`Instruction::V128Const`].
     pub fn with_v128_const(self, value: i128) -> Self {
         self.with(|sink| sink.v128_const(value))
     }
 
     operations! {
-        with_i32_add i32_add
-        with_i32_sub i32_sub
-        with_i32_mul i32_mul
-        with_i64_add i64_add
-        with_i64_sub i64_sub
-        with_i64_mul i64_mul
+        with_i32_add i32_add I32Add
+        with_i32_sub i32_sub I32Sub
+        with_i32_mul i32_mul I32Mul
+        with_i64_add i64_add I64Add
+        with_i64_sub i64_sub I64Sub
+        with_i64_mul i64_mul I64Mul
     }
 
-    /// The index of the function where the expression begins with `ref.func`.
+    /// Returns the index of the function if the expression begins with `ref.func`.
+    ///
+    /// ```
+    /// use dolzhytik::ConstExpr;
+    ///
+    /// assert_eq!(ConstExpr::ref_func(3).get_ref_func(), Some(3));
+    /// assert_eq!(ConstExpr::i32_const(3).get_ref_func(), None);
+    /// ```
     pub fn get_ref_func(&self) -> Option<u32> {
         match self.first {
             Some(first) => first.function_index(),
@@ -169,7 +215,7 @@ impl ConstExpr {
         }
     }
 
-    /// The same expression for the proved calls.
+    /// Converts the expression for the proved calls.
     #[inline]
     pub(super) fn proved(&self) -> code::ConstExpr {
         match self.first {

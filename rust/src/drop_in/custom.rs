@@ -1,4 +1,4 @@
-//! The custom sections.
+//! Custom sections, and the lists that they hold.
 use super::debug::{self, Before, debugged};
 use super::entries::append;
 use super::{
@@ -13,15 +13,30 @@ use alloc_crate::string::String;
 use alloc_crate::vec::Vec;
 use core::fmt;
 
-/// A custom section of these data.
+/// A custom section of any name and data.
+///
+/// [`Module::section`](super::Module::section) takes it, anywhere in the module. Core
+/// specification, Modules, Custom Section. The proved section is
+/// [`fallible::CustomSection`](crate::fallible::CustomSection), which converts to this type.
+///
+/// ```
+/// use dolzhytik::{CustomSection, Encode};
+///
+/// let section = CustomSection { name: "note".into(), data: b"hi"[..].into() };
+/// let mut bytes = Vec::new();
+/// section.encode(&mut bytes);
+/// // Size 7: a name of four bytes, and the data.
+/// assert_eq!(bytes, *b"\x07\x04notehi");
+/// ```
 #[derive(Clone, Debug, PartialEq)]
 pub struct CustomSection<'a> {
-    /// Its name.
+    /// The name of the section.
     pub name: Cow<'a, str>,
-    /// What stands behind the name.
+    /// The bytes after the name.
     pub data: Cow<'a, [u8]>,
 }
 
+/// Encodes the size prefix, the name and the data.
 impl Encode for CustomSection<'_> {
     fn encode(&self, sink: &mut Vec<u8>) {
         let section: custom::CustomSection = custom::CustomSection {
@@ -38,7 +53,7 @@ impl Section for CustomSection<'_> {
     }
 }
 
-/// Nothing is copied but a name that is owned.
+/// Converts a section of the proved calls. Only an owned name is copied.
 impl<'a> From<custom::CustomSection<'a>> for CustomSection<'a> {
     fn from(section: custom::CustomSection<'a>) -> Self {
         CustomSection {
@@ -54,16 +69,21 @@ impl<'a> From<custom::CustomSection<'a>> for CustomSection<'a> {
     }
 }
 
-/// Writes a list or a section over the proved one of its name.
+/// Defines a list or a section over the proved one of its name.
 macro_rules! over_proved {
     ($($(#[$doc:meta])* $name:ident)*) => {
         $(
             $(#[$doc])*
-            #[doc = concat!("\n\nOver the proved [`", stringify!($name), "`](crate::fallible::", stringify!($name), ").")]
+            #[doc = concat!("\n\nIt is built by the calls of the proved [`fallible::", stringify!($name), "`](crate::fallible::", stringify!($name), "), which converts to this type.")]
+            ///
+            /// # Panics
+            ///
+            /// Its calls panic where a count or length would pass 4294967295. A failed allocation
+            /// ends the program.
             pub struct $name(custom::$name);
 
             impl $name {
-                /// No entries.
+                /// Creates a value without entries.
                 pub fn new() -> Self {
                     $name(custom::$name::new(Global))
                 }
@@ -76,25 +96,183 @@ macro_rules! over_proved {
 }
 
 over_proved! {
-    /// Names by the indices of what has them.
+    /// A name map: indices of items, such as functions, and their names.
+    ///
+    /// Calls of [`NameSection`] take it, such as [`NameSection::functions`]. Core specification,
+    /// Appendix, Custom Sections, Name Section, Name Maps.
+    ///
+    /// ```
+    /// use dolzhytik::{Encode, NameMap};
+    ///
+    /// let mut names = NameMap::new();
+    /// names.append(5, "f");
+    /// let mut bytes = Vec::new();
+    /// names.encode(&mut bytes);
+    /// // One name: index 5, "f".
+    /// assert_eq!(bytes, [1, 5, 1, b'f']);
+    /// ```
     NameMap
-    /// Maps of names by the indices of what has them.
+    /// An indirect name map: indices of items, each with a [`NameMap`] of items in it, such as the
+    /// locals of a function.
+    ///
+    /// Calls of [`NameSection`] take it, such as [`NameSection::locals`]. Core specification,
+    /// Appendix, Custom Sections, Name Section, Name Maps.
+    ///
+    /// ```
+    /// use dolzhytik::{Encode, IndirectNameMap, NameMap};
+    ///
+    /// let mut locals = NameMap::new();
+    /// locals.append(1, "x");
+    /// let mut names = IndirectNameMap::new();
+    /// names.append(0, &locals);
+    /// let mut bytes = Vec::new();
+    /// names.encode(&mut bytes);
+    /// // One map: index 0, one name: index 1, "x".
+    /// assert_eq!(bytes, [1, 0, 1, 1, 1, b'x']);
+    /// ```
     IndirectNameMap
-    /// The section `name`.
+    /// The custom section `name`: names of the module and of its items, for debuggers and stack
+    /// traces.
+    ///
+    /// Each call appends a subsection. Add each once, in the order of their ids: the calls do not
+    /// check it. Core specification, Appendix, Custom Sections, Name Section.
+    ///
+    /// ```
+    /// use dolzhytik::{Encode, NameMap, NameSection};
+    ///
+    /// let mut functions = NameMap::new();
+    /// functions.append(0, "f");
+    /// let mut names = NameSection::new();
+    /// names.module("m");
+    /// names.functions(&functions);
+    /// let mut bytes = Vec::new();
+    /// names.encode(&mut bytes);
+    /// // Size 15, "name"; subsection 0, size 2, "m"; subsection 1, size 4, one name, 0, "f".
+    /// assert_eq!(bytes, *b"\x0F\x04name\0\x02\x01m\x01\x04\x01\0\x01f");
+    /// ```
     NameSection
-    /// The section `linking`, of version 2.
+    /// The custom section `linking`, version 2: symbols and other data of an object file, for a linker.
+    ///
+    /// The tool conventions define it in
+    /// [Linking](https://github.com/WebAssembly/tool-conventions/blob/main/Linking.md). For segment
+    /// names, init functions and COMDATs, see
+    /// [`fallible::ObjectLinking`](crate::fallible::ObjectLinking).
+    ///
+    /// ```
+    /// use dolzhytik::{Encode, LinkingSection, SymbolTable};
+    ///
+    /// let mut symbols = SymbolTable::new();
+    /// symbols.function(0, 1, Some("f"));
+    /// let mut linking = LinkingSection::new();
+    /// linking.symbol_table(&symbols);
+    /// let mut bytes = Vec::new();
+    /// linking.encode(&mut bytes);
+    /// // Size 17, "linking", version 2; subsection 8, size 6, one symbol: a function (00),
+    /// // flags 0, index 1, "f".
+    /// assert_eq!(bytes, *b"\x11\x07linking\x02\x08\x06\x01\0\0\x01\x01f");
+    /// ```
     LinkingSection
-    /// What a linker knows by name: a subsection of [`LinkingSection`].
+    /// A symbol table: the functions, globals, tables and data that a linker knows by name.
+    ///
+    /// [`LinkingSection::symbol_table`] takes it. The flags of a symbol are a sum of the constants
+    /// `WASM_SYM_..`. The tool conventions define it in
+    /// [Linking](https://github.com/WebAssembly/tool-conventions/blob/main/Linking.md).
+    ///
+    /// ```
+    /// use dolzhytik::{DataSymbolDefinition, Encode, SymbolTable};
+    ///
+    /// let mut symbols = SymbolTable::new();
+    /// symbols
+    ///     .function(SymbolTable::WASM_SYM_UNDEFINED, 0, None)
+    ///     .data(0, "d", Some(DataSymbolDefinition { index: 1, offset: 2, size: 3 }));
+    /// let mut bytes = Vec::new();
+    /// symbols.encode(&mut bytes);
+    /// // Subsection 8, size 11, two symbols: a function (00), flags 10, index 0; and data (01),
+    /// // flags 0, "d", segment 1, offset 2, size 3.
+    /// assert_eq!(bytes, [8, 11, 2, 0, 0x10, 0, 1, 0, 1, b'd', 1, 2, 3]);
+    /// ```
     SymbolTable
-    /// The section `producers`.
+    /// The custom section `producers`: the languages and tools that made the module.
+    ///
+    /// The tool conventions define it in
+    /// [ProducersSection](https://github.com/WebAssembly/tool-conventions/blob/main/ProducersSection.md),
+    /// with the names of its fields: `language`, `processed-by` and `sdk`.
+    ///
+    /// ```
+    /// use dolzhytik::{Encode, ProducersField, ProducersSection};
+    ///
+    /// let mut language = ProducersField::new();
+    /// language.value("Rust", "1.88");
+    /// let mut producers = ProducersSection::new();
+    /// producers.field("language", &language);
+    /// let mut bytes = Vec::new();
+    /// producers.encode(&mut bytes);
+    /// // Size 31, "producers", one field: "language", one value, "Rust", "1.88".
+    /// assert_eq!(bytes, *b"\x1F\x09producers\x01\x08language\x01\x04Rust\x041.88");
+    /// ```
     ProducersSection
-    /// Names and versions: the values of a field of [`ProducersSection`].
+    /// The values of a field of the producers section: names and versions.
+    ///
+    /// [`ProducersSection::field`] takes it.
+    ///
+    /// ```
+    /// use dolzhytik::{Encode, ProducersField};
+    ///
+    /// let mut field = ProducersField::new();
+    /// field.value("ld", "1");
+    /// let mut bytes = Vec::new();
+    /// field.encode(&mut bytes);
+    /// // One value: "ld", "1".
+    /// assert_eq!(bytes, *b"\x01\x02ld\x011");
+    /// ```
     ProducersField
-    /// The section `metadata.code.branch_hint`.
+    /// The custom section `metadata.code.branch_hint`: which branches of functions are likely.
+    ///
+    /// Add it before the code section. The branch hinting proposal defines it.
+    ///
+    /// ```
+    /// use dolzhytik::{BlockType, BranchHint, BranchHints, Encode, Function};
+    ///
+    /// let mut body = Function::new([]);
+    /// body.instructions().local_get(0);
+    /// let branch_func_offset = body.byte_len() as u32; // 3: no locals, local.get 0
+    /// body.instructions().if_(BlockType::Empty).end().end();
+    ///
+    /// let mut hints = BranchHints::new();
+    /// hints.function_hints(7, [BranchHint { branch_func_offset, branch_hint_value: 1 }]);
+    /// let mut bytes = Vec::new();
+    /// hints.encode(&mut bytes);
+    /// // Size 32, the name; one function, 7, with one hint: offset 3, one byte, likely.
+    /// assert_eq!(bytes, *b"\x20\x19metadata.code.branch_hint\x01\x07\x01\x03\x01\x01");
+    /// ```
     BranchHints
-    /// The section `coremodules`.
+    /// The custom section `coremodules` of a core dump: the names of modules.
+    ///
+    /// The tool conventions define it in
+    /// [Coredump](https://github.com/WebAssembly/tool-conventions/blob/main/Coredump.md).
+    ///
+    /// ```
+    /// use dolzhytik::CoreDumpModulesSection;
+    ///
+    /// let mut modules = CoreDumpModulesSection::new();
+    /// modules.module("m");
+    /// // One module: 00, "m".
+    /// assert_eq!(modules.as_custom().data, [1, 0, 1, b'm'].as_slice());
+    /// ```
     CoreDumpModulesSection
-    /// The section `coreinstances`.
+    /// The custom section `coreinstances` of a core dump: instances of its modules.
+    ///
+    /// The tool conventions define it in
+    /// [Coredump](https://github.com/WebAssembly/tool-conventions/blob/main/Coredump.md).
+    ///
+    /// ```
+    /// use dolzhytik::CoreDumpInstancesSection;
+    ///
+    /// let mut instances = CoreDumpInstancesSection::new();
+    /// instances.instance(0, [42], [17]);
+    /// // One instance: 00, module 0, one memory, 42, one global, 17.
+    /// assert_eq!(instances.as_custom().data, [1, 0, 0, 1, 42, 1, 17].as_slice());
+    /// ```
     CoreDumpInstancesSection
 }
 
@@ -110,7 +288,8 @@ section!(NameSection of Custom, LinkingSection of Custom, ProducersSection of Cu
 section!(BranchHints of Custom, CoreDumpModulesSection of Custom);
 section!(CoreDumpInstancesSection of Custom);
 
-// A custom section has a size and a name first; a list has its count, and a symbol table the id and the size of its subsection too.
+// A custom section begins with its size and name, a list with its count. A symbol table has the id
+// and the size of its subsection before the count.
 debugged!(
     NameMap after [Number] count,
     IndirectNameMap after [Number] count,
@@ -125,30 +304,32 @@ debugged!(
 );
 
 impl NameMap {
-    /// Appends a name. Neither order nor repeats are checked.
+    /// Appends the name of the item with this index. Add them in the order of indices, each once:
+    /// the call does not check it.
     #[inline]
     pub fn append(&mut self, idx: u32, name: &str) {
         done(self.0.append(idx, name))
     }
 
-    /// There are no names.
+    /// Returns `true` if there are no names.
     pub fn is_empty(&self) -> bool {
         self.0.is_empty()
     }
 }
 
 impl IndirectNameMap {
-    /// Appends the names of something. Neither order nor repeats are checked.
+    /// Appends the names of the items in the item with this index. Add them in the order of
+    /// indices, each once: the call does not check it.
     pub fn append(&mut self, idx: u32, names: &NameMap) {
         done(self.0.append(idx, &names.0))
     }
 }
 
-/// Writes the calls of `NameSection` that append a subsection of a map.
+/// Defines the calls of `NameSection` that append a subsection of a map.
 macro_rules! subsections {
-    ($map:ident: $($call:ident $what:literal)*) => {
+    ($map:ident: $($call:ident $id:literal $what:literal)*) => {
         $(
-            #[doc = concat!("Appends a subsection: the names of ", $what, ".")]
+            #[doc = concat!("Appends subsection ", $id, ": the names of ", $what, ".")]
             pub fn $call(&mut self, names: &$map) {
                 done(self.0.$call(&names.0))
             }
@@ -157,52 +338,52 @@ macro_rules! subsections {
 }
 
 impl NameSection {
-    /// Appends a subsection: the name of the module.
+    /// Appends subsection 0: the name of the module.
     pub fn module(&mut self, name: &str) {
         done(self.0.module(name))
     }
 
     subsections! {
         NameMap:
-        functions "functions"
-        types "types"
-        tables "tables"
-        memories "memories"
-        globals "globals"
-        elements "element segments"
-        data "data segments"
-        tag "tags, as `tags` does"
-        tags "tags"
+        functions 1 "functions"
+        types 4 "types"
+        tables 5 "tables"
+        memories 6 "memories"
+        globals 7 "globals"
+        elements 8 "element segments"
+        data 9 "data segments"
+        tag 11 "tags, as `tags` does"
+        tags 11 "tags"
     }
 
     subsections! {
         IndirectNameMap:
-        locals "the locals of functions"
-        labels "the labels of functions"
-        fields "the fields of types"
-        parameters "the parameters of types"
-        tag_parameters "the parameters of tags"
+        locals 2 "the locals of functions, parameters included"
+        labels 3 "the labels of functions"
+        fields 10 "the fields of types"
+        parameters 12 "the parameters of types"
+        tag_parameters 13 "the parameters of tags"
     }
 
-    /// Appends a subsection of this id by the bytes of its frame.
+    /// Appends a subsection of this id and raw content. The size prefix is added.
     pub fn raw(&mut self, id: u8, data: &[u8]) {
         done(self.0.raw(id, data))
     }
 
-    /// The section as a custom one. Its data is borrowed.
+    /// Returns the section as a custom section, whose data is borrowed.
     pub fn as_custom<'a>(&'a self) -> CustomSection<'a> {
         self.0.as_custom().into()
     }
 }
 
 impl LinkingSection {
-    /// Appends a subsection: a symbol table.
+    /// Appends subsection 8: a symbol table.
     pub fn symbol_table(&mut self, symbol_table: &SymbolTable) -> &mut Self {
         done(self.0.symbol_table(&symbol_table.0));
         self
     }
 
-    /// Appends a subsection: the architecture that the module is for.
+    /// Appends subsection 9: the architecture of the target.
     pub fn target_arch(&mut self, arch: &str) -> &mut Self {
         done(self.0.target_arch(arch));
         self
@@ -210,40 +391,44 @@ impl LinkingSection {
 }
 
 impl SymbolTable {
-    /// The symbol is weak: others of its name come before it.
+    /// The symbol is weak: another definition of its name replaces it.
     pub const WASM_SYM_BINDING_WEAK: u32 = custom::SymbolTable::WASM_SYM_BINDING_WEAK;
-    /// The symbol is known in its module alone.
+    /// The symbol is local: no other object file sees it.
     pub const WASM_SYM_BINDING_LOCAL: u32 = custom::SymbolTable::WASM_SYM_BINDING_LOCAL;
-    /// The symbol isn't exported from what is linked.
+    /// The symbol is hidden: the linked module does not export it.
     pub const WASM_SYM_VISIBILITY_HIDDEN: u32 = custom::SymbolTable::WASM_SYM_VISIBILITY_HIDDEN;
-    /// The symbol is used here and defined elsewhere.
+    /// The symbol is undefined: it is an import that another object file defines.
     pub const WASM_SYM_UNDEFINED: u32 = custom::SymbolTable::WASM_SYM_UNDEFINED;
-    /// The symbol is to be exported.
+    /// The linked module exports the symbol.
     pub const WASM_SYM_EXPORTED: u32 = custom::SymbolTable::WASM_SYM_EXPORTED;
-    /// The symbol has a name beside that of an import.
+    /// The symbol of an import has a name of its own.
     pub const WASM_SYM_EXPLICIT_NAME: u32 = custom::SymbolTable::WASM_SYM_EXPLICIT_NAME;
-    /// The symbol is kept, used or not.
+    /// The linker keeps the symbol, also if nothing uses it.
     pub const WASM_SYM_NO_STRIP: u32 = custom::SymbolTable::WASM_SYM_NO_STRIP;
 
-    /// Appends the symbol of a function.
+    /// Appends the symbol of the function with this index. An undefined symbol takes its name from
+    /// the import, and `None` here, unless it has the flag
+    /// [`WASM_SYM_EXPLICIT_NAME`](SymbolTable::WASM_SYM_EXPLICIT_NAME).
     pub fn function(&mut self, flags: u32, index: u32, name: Option<&str>) -> &mut Self {
         done(self.0.function(flags, index, name));
         self
     }
 
-    /// Appends the symbol of a global.
+    /// Appends the symbol of the global with this index, as [`function`](SymbolTable::function)
+    /// does.
     pub fn global(&mut self, flags: u32, index: u32, name: Option<&str>) -> &mut Self {
         done(self.0.global(flags, index, name));
         self
     }
 
-    /// Appends the symbol of a table.
+    /// Appends the symbol of the table with this index, as [`function`](SymbolTable::function)
+    /// does.
     pub fn table(&mut self, flags: u32, index: u32, name: Option<&str>) -> &mut Self {
         done(self.0.table(flags, index, name));
         self
     }
 
-    /// Appends the symbol of data.
+    /// Appends the symbol of bytes in a data segment, or an undefined one without a definition.
     pub fn data(
         &mut self,
         flags: u32,
@@ -256,7 +441,7 @@ impl SymbolTable {
 }
 
 impl ProducersSection {
-    /// Appends a field.
+    /// Appends the field of this name, such as `language`, with its values.
     pub fn field(&mut self, name: &str, values: &ProducersField) -> &mut Self {
         done(self.0.field(name, &values.0));
         self
@@ -264,7 +449,7 @@ impl ProducersSection {
 }
 
 impl ProducersField {
-    /// Appends a value.
+    /// Appends a value, such as the name of a tool, and its version.
     pub fn value(&mut self, name: &str, version: &str) -> &mut Self {
         done(self.0.value(name, version));
         self
@@ -272,7 +457,12 @@ impl ProducersField {
 }
 
 impl BranchHints {
-    /// Appends the hints of a function.
+    /// Appends the hints of the function with this index. Add them in the order of indices, and the
+    /// hints in the order of offsets: the call does not check it.
+    ///
+    /// # Panics
+    ///
+    /// Panics if the iterator reports more than 4294967295 hints.
     pub fn function_hints<I>(&mut self, func: u32, hints: I)
     where
         I: IntoIterator<Item = BranchHint>,
@@ -283,12 +473,12 @@ impl BranchHints {
 }
 
 impl CoreDumpModulesSection {
-    /// The section as a custom one. Its data is owned.
+    /// Returns the section as a custom section, whose data is owned.
     pub fn as_custom(&self) -> CustomSection<'_> {
         done(self.0.as_custom(Global)).into()
     }
 
-    /// Appends a module.
+    /// Appends a module of this name.
     pub fn module(&mut self, module_name: impl AsRef<str>) -> &mut Self {
         done(self.0.module(module_name.as_ref()));
         self
@@ -296,12 +486,17 @@ impl CoreDumpModulesSection {
 }
 
 impl CoreDumpInstancesSection {
-    /// The section as a custom one. Its data is owned.
+    /// Returns the section as a custom section, whose data is owned.
     pub fn as_custom(&self) -> CustomSection<'_> {
         done(self.0.as_custom(Global)).into()
     }
 
-    /// Appends an instance of a module, by the indices of its memories and globals in the dump.
+    /// Appends an instance: the index of its module, and the indices of its memories and globals in
+    /// the dump.
+    ///
+    /// # Panics
+    ///
+    /// Panics if an iterator reports more than 4294967295 indices.
     pub fn instance<M, G>(&mut self, module_index: u32, memories: M, globals: G) -> &mut Self
     where
         M: IntoIterator<Item = u32>,
@@ -317,7 +512,20 @@ impl CoreDumpInstancesSection {
 /// The parts before the name of a process or thread: the section's size and name, and the byte 00.
 const MARKED: &[Before] = &[Before::Number, Before::Name, Before::Number];
 
-/// The section `core`: the name of a process.
+/// The custom section `core` of a core dump: the name of the process.
+///
+/// The tool conventions define it in
+/// [Coredump](https://github.com/WebAssembly/tool-conventions/blob/main/Coredump.md). It is built
+/// by the proved [`fallible::CoreDumpSection`](crate::fallible::CoreDumpSection).
+///
+/// ```
+/// use dolzhytik::{CoreDumpSection, Encode};
+///
+/// let mut bytes = Vec::new();
+/// CoreDumpSection::new("test").encode(&mut bytes);
+/// // Size 11, "core", 00, "test".
+/// assert_eq!(bytes, *b"\x0B\x04core\0\x04test");
+/// ```
 pub struct CoreDumpSection(custom::CoreDumpSection);
 
 copied!(CoreDumpSection);
@@ -325,7 +533,11 @@ taken!(CoreDumpSection of custom);
 section!(CoreDumpSection of Custom);
 
 impl CoreDumpSection {
-    /// The dump of the process of this name.
+    /// Creates the section for the process of this name.
+    ///
+    /// # Panics
+    ///
+    /// Panics if the name has more than 4294967295 bytes.
     pub fn new(name: impl Into<String>) -> Self {
         CoreDumpSection(done(custom::CoreDumpSection::new(Global, &name.into())))
     }
@@ -344,14 +556,35 @@ impl fmt::Debug for CoreDumpSection {
     }
 }
 
-/// The process has no name.
+/// Creates the section for a process without a name.
 impl Default for CoreDumpSection {
     fn default() -> Self {
         CoreDumpSection::new("")
     }
 }
 
-/// The section `corestack`: the frames of a thread.
+/// The custom section `corestack` of a core dump: the name and the stack frames of a thread.
+///
+/// The tool conventions define it in
+/// [Coredump](https://github.com/WebAssembly/tool-conventions/blob/main/Coredump.md). It is built
+/// by the calls of the proved
+/// [`fallible::CoreDumpStackSection`](crate::fallible::CoreDumpStackSection).
+///
+/// ```
+/// use dolzhytik::{CoreDumpStackSection, CoreDumpValue};
+///
+/// let mut stack = CoreDumpStackSection::new("t");
+/// stack.frame(0, 42, 51, [CoreDumpValue::I32(1)], [CoreDumpValue::I32(2)]);
+/// // 00, "t"; one frame: 00, instance 0, function 42, offset 51, one local and one value, each of
+/// // type i32 (7F).
+/// let data = [0, 1, b't', 1, 0, 0, 42, 51, 1, 0x7F, 1, 1, 0x7F, 2];
+/// assert_eq!(stack.as_custom().data, data.as_slice());
+/// ```
+///
+/// # Panics
+///
+/// Its calls panic where a count or length would pass 4294967295. A failed allocation ends the
+/// program.
 pub struct CoreDumpStackSection(custom::CoreDumpStackSection);
 
 copied!(CoreDumpStackSection);
@@ -359,13 +592,18 @@ taken!(CoreDumpStackSection of custom);
 section!(CoreDumpStackSection of Custom);
 
 impl CoreDumpStackSection {
-    /// No frames, of the thread of this name.
+    /// Creates the section without frames, for the thread of this name.
     pub fn new(name: impl Into<String>) -> Self {
         let name = name.into();
         CoreDumpStackSection(done(custom::CoreDumpStackSection::new(Global, &name)))
     }
 
-    /// Appends a frame: the instance, the function, where in its code, and values.
+    /// Appends a frame: the indices of the instance and the function, the offset in its code, and
+    /// the values of its locals and its operand stack.
+    ///
+    /// # Panics
+    ///
+    /// Panics if an iterator reports more than 4294967295 values.
     pub fn frame<L, S>(
         &mut self,
         instanceidx: u32,
@@ -387,7 +625,7 @@ impl CoreDumpStackSection {
         self
     }
 
-    /// The section as a custom one. Its data is owned.
+    /// Returns the section as a custom section, whose data is owned.
     pub fn as_custom<'a>(&'a self) -> CustomSection<'a> {
         done(self.0.as_custom(Global)).into()
     }
@@ -410,7 +648,7 @@ impl fmt::Debug for CoreDumpStackSection {
     }
 }
 
-/// The thread has no name.
+/// Creates the section for a thread without a name.
 impl Default for CoreDumpStackSection {
     fn default() -> Self {
         CoreDumpStackSection::new("")

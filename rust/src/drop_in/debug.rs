@@ -1,4 +1,5 @@
-//! `Debug` of the builders: a struct of the builder's own name, with the bytes of its entries and mostly their number.
+//! `Debug` of the builders: a struct of the builder's own name, with the bytes of its entries and
+//! mostly their number.
 use crate::base::Encode;
 use alloc_crate::vec::Vec;
 use core::fmt;
@@ -31,7 +32,8 @@ pub fn number(bytes: &[u8]) -> (usize, &[u8]) {
     (groups.iter().rev().fold(0, add), rest)
 }
 
-/// Returns the encoding of a builder after the parts before its entries. There is none where it would be too long, or where memory is missing.
+/// Returns the encoding of a builder after the parts before its entries. There is none where it
+/// would be too long, or where memory is missing.
 pub fn after(builder: &impl Encode, before: &[Before]) -> Option<Vec<u8>> {
     let mut bytes = Vec::new();
     builder.encode(&mut bytes).ok()?;
@@ -53,7 +55,8 @@ impl fmt::Debug for Bytes {
     }
 }
 
-/// Writes `Debug` of builders over proved ones: the parts before the entries in an encoding, and the name of the number of entries, where it is printed.
+/// Writes `Debug` of builders over proved ones: the parts before the entries in an encoding, and
+/// the name of the number of entries, where it is printed.
 macro_rules! debugged {
     ($($name:ident after [$($before:ident)*] $($number:ident)?),*) => {
         $(

@@ -1,4 +1,5 @@
-//! What the sections at the root are made of: bytes that the proved calls append to, and the number of entries.
+//! The state of the sections at the root: bytes that the proved calls append to, and the number of
+//! entries.
 use super::{done, refuse};
 use crate::alloc::AllocError;
 use crate::base::{Encode, EncodeOnce, Refused, encode_section};
@@ -6,22 +7,23 @@ use crate::vec::{Sealed, Sink};
 use alloc_crate::vec::Vec;
 use core::ops::{Deref, DerefMut};
 
-/// The bytes that a list of a few has room for, and those of one that outgrows it.
+/// The first two capacities of a list of bytes.
 pub const FEW: usize = 16;
 const MANY: usize = 128;
 
-/// The most bytes for which a new list is had for less than an old one grows.
+/// The largest capacity for which a new list is cheaper than growing the old one.
 const MOVED: usize = 1024;
 
-/// A `std` vector of someone else as a sink that refuses nothing: where memory is refused, the
-/// program ends, as in the crate. So no call over it has a path for a refusal.
+/// A borrowed `std` vector as a sink whose calls never fail: a failed allocation ends the program,
+/// as in the crate. So no call over it has a path for an error.
 pub struct Growing<'a>(pub &'a mut Vec<u8>);
 
-/// The same of a vector that is owned, which is found with one step less.
+/// The same of an owned vector, with one indirection less.
 #[derive(Clone, Debug, Default, PartialEq, Eq)]
 pub struct List(pub Vec<u8>);
 
-/// Makes room for so many bytes: at least twice as many as before, and many where there were a few.
+/// Reserves spare capacity for `more` bytes. The new capacity is at least twice the old one, and
+/// [`MANY`] after [`FEW`].
 #[cold]
 #[inline(never)]
 fn grow(old: &mut Vec<u8>, more: usize) {
@@ -36,7 +38,7 @@ fn grow(old: &mut Vec<u8>, more: usize) {
     *old = new;
 }
 
-/// Writes a sink that refuses nothing over a `std` vector in a tuple.
+/// Implements a sink whose calls never fail over a `std` vector in a tuple.
 macro_rules! growing {
     ($ty:ty) => {
         impl Deref for $ty {
@@ -114,10 +116,11 @@ macro_rules! growing {
 growing!(Growing<'_>);
 growing!(List);
 
-/// The bytes of which so many take no memory of their own.
+/// The most bytes that [`Bytes`] holds without an allocation.
 const INLINE: usize = 30;
 
-/// Bytes of which a few take no memory of their own. They refuse nothing, as [`Growing`].
+/// A list of bytes that takes no allocation while it is short. Its calls never fail, as those of
+/// [`Growing`].
 #[derive(Clone)]
 pub enum Bytes {
     Inline(u8, [u8; INLINE]),
@@ -125,13 +128,13 @@ pub enum Bytes {
 }
 
 impl Bytes {
-    /// No bytes.
+    /// Returns no bytes.
     #[inline]
     pub const fn new() -> Self {
         Bytes::Inline(0, [0; INLINE])
     }
 
-    /// The bytes as a list, with room for so many more.
+    /// Returns the bytes as a vector, with spare capacity for `more`.
     #[cold]
     #[inline(never)]
     fn listed(&mut self, more: usize) -> &mut Vec<u8> {
@@ -243,7 +246,7 @@ pub fn append(value: &impl Encode, bytes: &mut Vec<u8>) {
     done(value.encode(&mut Growing(bytes)))
 }
 
-/// Appends the encoding of a value that is used up.
+/// Appends the encoding of a value by its proved `encode_once`, which consumes it.
 #[inline]
 pub fn append_once(value: impl EncodeOnce, bytes: &mut Vec<u8>) {
     done(value.encode_once(&mut Growing(bytes)))
@@ -257,7 +260,7 @@ pub struct Entries {
 }
 
 impl Entries {
-    /// No entries. They take no memory.
+    /// Returns no entries, without an allocation.
     pub const fn new() -> Self {
         Entries {
             bytes: List(Vec::new()),
@@ -265,7 +268,7 @@ impl Entries {
         }
     }
 
-    /// The number of entries with one more.
+    /// Returns the number of entries with one more.
     #[inline]
     fn counted(&self) -> u32 {
         match self.count.checked_add(1) {
@@ -298,7 +301,7 @@ impl Entries {
         self.count = count;
     }
 
-    /// Adds the entries that a proved section has: so many, and the bytes of each.
+    /// Copies the entries of a proved section: their number, and the bytes of each.
     pub fn taken<'a>(count: u32, piece: impl Fn(u32) -> Option<&'a [u8]>) -> Self {
         let mut entries = Entries::new();
         for entry in (0..count).filter_map(piece) {

@@ -6,19 +6,25 @@ use crate::sections::{GlobalType, MemoryType, TableType};
 use alloc_crate::borrow::Cow;
 use alloc_crate::vec::Vec;
 
-/// The type of an imported item.
+/// The type of an imported item, which [`ImportSection::import`] takes.
+///
+/// [`TableType`], [`MemoryType`], [`GlobalType`] and [`TagType`] convert to it, so that the call
+/// takes them too. The core specification defines it as `externtype`, in Types, External Types.
 ///
 /// ```
-/// use dolzhytik::{EntityType, ImportSection, TagKind, TagType};
+/// use dolzhytik::{Encode, EntityType, ImportSection, TagKind, TagType};
 ///
 /// let mut imports = ImportSection::new();
-/// imports.import("env", "f", EntityType::Function(0));
-/// imports.import("env", "t", TagType { kind: TagKind::Exception, func_type_idx: 0 });
-/// assert_eq!(imports.len(), 2);
+/// imports.import("m", "f", EntityType::Function(5));
+/// imports.import("m", "t", TagType { kind: TagKind::Exception, func_type_idx: 6 });
+/// let mut bytes = Vec::new();
+/// imports.encode(&mut bytes);
+/// // Size 14, two imports: "m", "f", a function (00) of type 5; "m", "t", a tag (04 00) of type 6.
+/// assert_eq!(bytes, *b"\x0E\x02\x01m\x01f\0\x05\x01m\x01t\x04\0\x06");
 /// ```
 #[derive(Clone, Copy, Debug, PartialEq, Eq)]
 pub enum EntityType {
-    /// A function of the type with this index.
+    /// A function whose type has this index.
     Function(u32),
     /// A table.
     Table(TableType),
@@ -28,11 +34,26 @@ pub enum EntityType {
     Global(GlobalType),
     /// A tag.
     Tag(TagType),
-    /// A function of exactly the type with this index.
+    /// A function of exactly the type with this index, by the custom descriptors proposal.
     FunctionExact(u32),
 }
 
-/// An import: the names of a module and of an item, and the item's type.
+/// An import: the names of a module and of an item, and the item's type. It is a case of
+/// [`Imports`].
+///
+/// [`ImportSection::import`] takes the fields instead.
+///
+/// ```
+/// use dolzhytik::{Encode, EntityType, Import, ImportSection, Imports};
+///
+/// let mut imports = ImportSection::new();
+/// let import = Import { module: "m", name: "f", ty: EntityType::Function(5) };
+/// imports.imports(Imports::Single(import));
+/// let mut bytes = Vec::new();
+/// imports.encode(&mut bytes);
+/// // Size 7, one import: "m", "f", a function (00) of type 5.
+/// assert_eq!(bytes, *b"\x07\x01\x01m\x01f\0\x05");
+/// ```
 #[derive(Clone, Debug)]
 pub struct Import<'a> {
     /// The name of the module.
@@ -43,7 +64,19 @@ pub struct Import<'a> {
     pub ty: EntityType,
 }
 
-/// An item of [`Imports::Compact1`].
+/// An item of [`Imports::Compact1`]: its name, and its type.
+///
+/// ```
+/// use dolzhytik::{Encode, EntityType, ImportCompact, ImportSection, Imports};
+///
+/// let mut imports = ImportSection::new();
+/// let items = vec![ImportCompact { name: "f", ty: EntityType::Function(5) }];
+/// imports.imports(Imports::Compact1 { module: "m", items: items.into() });
+/// let mut bytes = Vec::new();
+/// imports.encode(&mut bytes);
+/// // Size 10, one entry: "m", an empty name and 7F, one item: "f", a function (00) of type 5.
+/// assert_eq!(bytes, *b"\x0A\x01\x01m\0\x7F\x01\x01f\0\x05");
+/// ```
 #[derive(Clone, Debug)]
 pub struct ImportCompact<'a> {
     /// The name of the item.
@@ -52,18 +85,24 @@ pub struct ImportCompact<'a> {
     pub ty: EntityType,
 }
 
-/// An entry of the import section: one import, or several of one module.
+/// An entry of the import section, which [`ImportSection::imports`] takes: one import, or several
+/// of one module.
+///
+/// Entries of several imports are a proposal, and not part of the core specification.
 ///
 /// ```
-/// use dolzhytik::{EntityType, ImportSection, Imports};
+/// use dolzhytik::{Encode, EntityType, ImportSection, Imports};
 ///
 /// let mut imports = ImportSection::new();
 /// imports.imports(Imports::Compact2 {
-///     module: "env",
+///     module: "m",
 ///     ty: EntityType::Function(0),
-///     names: vec!["f", "g"].into(),
+///     names: vec!["a", "b"].into(),
 /// });
-/// assert_eq!(imports.len(), 1);
+/// let mut bytes = Vec::new();
+/// imports.encode(&mut bytes);
+/// // Size 12, one entry: "m", an empty name and 7E, a function (00) of type 0, two names.
+/// assert_eq!(bytes, *b"\x0C\x01\x01m\0\x7E\0\0\x02\x01a\x01b");
 /// ```
 #[derive(Clone, Debug)]
 pub enum Imports<'a> {
@@ -92,13 +131,14 @@ impl ImportSection {
     ///
     /// # Panics
     ///
-    /// Panics if the length of a name, the number of items or the number of entries would pass 4294967295.
+    /// Panics if the length of a name, the number of items or the number of entries would pass
+    /// 4294967295.
     pub fn imports<'a>(&mut self, imports: Imports<'a>) -> &mut Self {
         self.0.add(&imports.proved());
         self
     }
 
-    /// Appends an import.
+    /// Appends an import. The type is an [`EntityType`], or a type that converts to one.
     ///
     /// # Panics
     ///
@@ -112,7 +152,8 @@ impl ImportSection {
 }
 
 impl<'a> Imports<'a> {
-    /// The entry for a proved call. A borrowed list of items is copied, since their types are converted.
+    /// Converts the entry for a proved call. A borrowed list of items is copied, since their types
+    /// are converted.
     fn proved(self) -> sections::Imports<'a> {
         match self {
             Imports::Single(import) => sections::Imports::Single(import.into()),
@@ -174,7 +215,8 @@ macro_rules! same_entities {
 same_entities!(EntityType => sections::EntityType);
 same_entities!(sections::EntityType => EntityType);
 
-/// Implements the conversions between a record and the proved one, which have the same fields and an entity type.
+/// Implements the conversions between a record and the proved one, which have the same fields and
+/// an entity type.
 macro_rules! same_fields {
     ($($name:ident { $($field:ident),* })*) => {
         $(

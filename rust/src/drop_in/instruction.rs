@@ -1,5 +1,5 @@
 // Written by tools/drop-in from tools/instructions.tsv: change that.
-//! All instructions, as cases of one enum.
+//! The instructions, as cases of one enum.
 
 use super::Encode;
 use super::entries::append;
@@ -10,1273 +10,2889 @@ use alloc_crate::borrow::Cow;
 use alloc_crate::vec::Vec;
 use core::slice;
 
-/// An instruction.
+/// An instruction as a value, with its immediates.
 ///
-/// A `match` on it outside this package needs a wildcard, as in the crate.
+/// [`Function::instruction`](super::Function::instruction) appends one to a body,
+/// [`ConstExpr::extended`](super::ConstExpr::extended) makes a constant expression of some, and
+/// `encode` of [`Encode`] appends its bytes to a list. Each case also has a named call of
+/// [`InstructionSink`](super::InstructionSink), which takes its immediates as arguments.
+///
+/// The line of a case has the instruction's name in the text format, the bytes of its opcode in
+/// hexadecimal, and its class. Instructions whose line names no proposal are defined in the core
+/// specification, Binary Format, [Instructions].
+///
+/// The enum is `non_exhaustive`: a `match` outside this package needs a wildcard. To decode
+/// instructions, see [`reader::CodeBody::instructions`](crate::reader::CodeBody::instructions).
+///
+/// ```
+/// use dolzhytik::{BlockType, Encode, Instruction};
+///
+/// let mut bytes = Vec::new();
+/// for instruction in [
+///     Instruction::Block(BlockType::Empty),
+///     Instruction::I32Const(-1),
+///     Instruction::BrTable(vec![0, 0].into(), 0),
+///     Instruction::End,
+/// ] {
+///     instruction.encode(&mut bytes);
+/// }
+/// // block: 02 and the empty type 40. i32.const: 41 and -1 as signed LEB128. br_table: 0E, two
+/// // labels, and the default label. end: 0B.
+/// assert_eq!(bytes, [0x02, 0x40, 0x41, 0x7F, 0x0E, 2, 0, 0, 0, 0x0B]);
+/// ```
+///
+/// [Instructions]: https://webassembly.github.io/spec/core/binary/instructions.html
 #[derive(Clone, Debug)]
 #[non_exhaustive]
 pub enum Instruction<'a> {
-    /// Its op is `00`.
+    /// `unreachable`, opcode `00`, a control instruction.
+    /// Its call is [`unreachable`](super::InstructionSink::unreachable).
     Unreachable,
-    /// Its op is `01`.
+    /// `nop`, opcode `01`, a control instruction.
+    /// Its call is [`nop`](super::InstructionSink::nop).
     Nop,
-    /// Its op is `02`.
+    /// `block`, opcode `02`, a control instruction.
+    /// Its call is [`block`](super::InstructionSink::block), with the immediate `block_type`.
     Block(BlockType),
-    /// Its op is `03`.
+    /// `loop`, opcode `03`, a control instruction.
+    /// Its call is [`loop_`](super::InstructionSink::loop_), with the immediate `block_type`.
     Loop(BlockType),
-    /// Its op is `04`.
+    /// `if`, opcode `04`, a control instruction.
+    /// Its call is [`if_`](super::InstructionSink::if_), with the immediate `block_type`.
     If(BlockType),
-    /// Its op is `05`.
+    /// `else`, opcode `05`, a delimiter of control instructions.
+    /// Its call is [`else_`](super::InstructionSink::else_).
     Else,
-    /// Its op is `06`.
+    /// `try`, opcode `06`, a control instruction of the legacy exception handling proposal.
+    /// Its call is [`try_`](super::InstructionSink::try_), with the immediate `block_type`.
     Try(BlockType),
-    /// Its op is `07`.
+    /// `catch`, opcode `07`, a control instruction of the legacy exception handling proposal.
+    /// Its call is [`catch`](super::InstructionSink::catch), with the immediate `tag_index`.
     Catch(u32),
-    /// Its op is `08`.
+    /// `throw`, opcode `08`, a control instruction.
+    /// Its call is [`throw`](super::InstructionSink::throw), with the immediate `tag_index`.
     Throw(u32),
-    /// Its op is `09`.
+    /// `rethrow`, opcode `09`, a control instruction of the legacy exception handling proposal.
+    /// Its call is [`rethrow`](super::InstructionSink::rethrow), with the immediate `label`.
     Rethrow(u32),
-    /// Its op is `0A`.
+    /// `throw_ref`, opcode `0A`, a control instruction.
+    /// Its call is [`throw_ref`](super::InstructionSink::throw_ref).
     ThrowRef,
-    /// Its op is `0B`.
+    /// `end`, opcode `0B`, a delimiter of control instructions and expressions.
+    /// Its call is [`end`](super::InstructionSink::end).
     End,
-    /// Its op is `0C`.
+    /// `br`, opcode `0C`, a control instruction.
+    /// Its call is [`br`](super::InstructionSink::br), with the immediate `label`.
     Br(u32),
-    /// Its op is `0D`.
+    /// `br_if`, opcode `0D`, a control instruction.
+    /// Its call is [`br_if`](super::InstructionSink::br_if), with the immediate `label`.
     BrIf(u32),
-    /// Its op is `0E`.
+    /// `br_table`, opcode `0E`, a control instruction.
+    /// Its call is [`br_table`](super::InstructionSink::br_table), with the immediates `labels` and `default`.
     BrTable(Cow<'a, [u32]>, u32),
-    /// Its op is `0F`.
+    /// `return`, opcode `0F`, a control instruction.
+    /// Its call is [`return_`](super::InstructionSink::return_).
     Return,
-    /// Its op is `10`.
+    /// `call`, opcode `10`, a control instruction.
+    /// Its call is [`call`](super::InstructionSink::call), with the immediate `function_index`.
     Call(u32),
-    /// Its op is `11`.
-    CallIndirect { type_index: u32, table_index: u32 },
-    /// Its op is `12`.
+    /// `call_indirect`, opcode `11`, a control instruction.
+    /// Its call is [`call_indirect`](super::InstructionSink::call_indirect).
+    CallIndirect {
+        /// The index of the function type.
+        type_index: u32,
+        /// The index of the table.
+        table_index: u32,
+    },
+    /// `return_call`, opcode `12`, a control instruction.
+    /// Its call is [`return_call`](super::InstructionSink::return_call), with the immediate `function_index`.
     ReturnCall(u32),
-    /// Its op is `13`.
-    ReturnCallIndirect { type_index: u32, table_index: u32 },
-    /// Its op is `14`.
+    /// `return_call_indirect`, opcode `13`, a control instruction.
+    /// Its call is [`return_call_indirect`](super::InstructionSink::return_call_indirect).
+    ReturnCallIndirect {
+        /// The index of the function type.
+        type_index: u32,
+        /// The index of the table.
+        table_index: u32,
+    },
+    /// `call_ref`, opcode `14`, a control instruction.
+    /// Its call is [`call_ref`](super::InstructionSink::call_ref), with the immediate `type_index`.
     CallRef(u32),
-    /// Its op is `15`.
+    /// `return_call_ref`, opcode `15`, a control instruction.
+    /// Its call is [`return_call_ref`](super::InstructionSink::return_call_ref), with the immediate `type_index`.
     ReturnCallRef(u32),
-    /// Its op is `18`.
+    /// `delegate`, opcode `18`, a control instruction of the legacy exception handling proposal.
+    /// Its call is [`delegate`](super::InstructionSink::delegate), with the immediate `label`.
     Delegate(u32),
-    /// Its op is `19`.
+    /// `catch_all`, opcode `19`, a control instruction of the legacy exception handling proposal.
+    /// Its call is [`catch_all`](super::InstructionSink::catch_all).
     CatchAll,
-    /// Its op is `1A`.
+    /// `drop`, opcode `1A`, a parametric instruction.
+    /// Its call is [`drop`](super::InstructionSink::drop).
     Drop,
-    /// Its op is `1B`.
+    /// `select`, opcode `1B`, a parametric instruction.
+    /// Its call is [`select`](super::InstructionSink::select).
     Select,
-    /// Its op is `1C`.
+    /// `select (result t)`, opcode `1C`, a parametric instruction.
+    /// Its call is [`typed_select`](super::InstructionSink::typed_select), with the immediate `ty`.
     TypedSelect(ValType),
-    /// Its op is `1C`.
+    /// `select (result t*)`, opcode `1C`, a parametric instruction.
+    /// Its call is [`typed_select_multi`](super::InstructionSink::typed_select_multi), with the immediate `types`.
     TypedSelectMulti(Cow<'a, [ValType]>),
-    /// Its op is `1F`.
+    /// `try_table`, opcode `1F`, a control instruction.
+    /// Its call is [`try_table`](super::InstructionSink::try_table), with the immediates `block_type` and `catches`.
     TryTable(BlockType, Cow<'a, [Catch]>),
-    /// Its op is `20`.
+    /// `local.get`, opcode `20`, a variable instruction.
+    /// Its call is [`local_get`](super::InstructionSink::local_get), with the immediate `local_index`.
+    #[doc(alias = "local.get")]
     LocalGet(u32),
-    /// Its op is `21`.
+    /// `local.set`, opcode `21`, a variable instruction.
+    /// Its call is [`local_set`](super::InstructionSink::local_set), with the immediate `local_index`.
+    #[doc(alias = "local.set")]
     LocalSet(u32),
-    /// Its op is `22`.
+    /// `local.tee`, opcode `22`, a variable instruction.
+    /// Its call is [`local_tee`](super::InstructionSink::local_tee), with the immediate `local_index`.
+    #[doc(alias = "local.tee")]
     LocalTee(u32),
-    /// Its op is `23`.
+    /// `global.get`, opcode `23`, a variable instruction.
+    /// Its call is [`global_get`](super::InstructionSink::global_get), with the immediate `global_index`.
+    #[doc(alias = "global.get")]
     GlobalGet(u32),
-    /// Its op is `24`.
+    /// `global.set`, opcode `24`, a variable instruction.
+    /// Its call is [`global_set`](super::InstructionSink::global_set), with the immediate `global_index`.
+    #[doc(alias = "global.set")]
     GlobalSet(u32),
-    /// Its op is `25`.
+    /// `table.get`, opcode `25`, a table instruction.
+    /// Its call is [`table_get`](super::InstructionSink::table_get), with the immediate `table`.
+    #[doc(alias = "table.get")]
     TableGet(u32),
-    /// Its op is `26`.
+    /// `table.set`, opcode `26`, a table instruction.
+    /// Its call is [`table_set`](super::InstructionSink::table_set), with the immediate `table`.
+    #[doc(alias = "table.set")]
     TableSet(u32),
-    /// Its op is `28`.
+    /// `i32.load`, opcode `28`, a memory instruction.
+    /// Its call is [`i32_load`](super::InstructionSink::i32_load), with the immediate `memarg`.
+    #[doc(alias = "i32.load")]
     I32Load(MemArg),
-    /// Its op is `29`.
+    /// `i64.load`, opcode `29`, a memory instruction.
+    /// Its call is [`i64_load`](super::InstructionSink::i64_load), with the immediate `memarg`.
+    #[doc(alias = "i64.load")]
     I64Load(MemArg),
-    /// Its op is `2A`.
+    /// `f32.load`, opcode `2A`, a memory instruction.
+    /// Its call is [`f32_load`](super::InstructionSink::f32_load), with the immediate `memarg`.
+    #[doc(alias = "f32.load")]
     F32Load(MemArg),
-    /// Its op is `2B`.
+    /// `f64.load`, opcode `2B`, a memory instruction.
+    /// Its call is [`f64_load`](super::InstructionSink::f64_load), with the immediate `memarg`.
+    #[doc(alias = "f64.load")]
     F64Load(MemArg),
-    /// Its op is `2C`.
+    /// `i32.load8_s`, opcode `2C`, a memory instruction.
+    /// Its call is [`i32_load8_s`](super::InstructionSink::i32_load8_s), with the immediate `memarg`.
+    #[doc(alias = "i32.load8_s")]
     I32Load8S(MemArg),
-    /// Its op is `2D`.
+    /// `i32.load8_u`, opcode `2D`, a memory instruction.
+    /// Its call is [`i32_load8_u`](super::InstructionSink::i32_load8_u), with the immediate `memarg`.
+    #[doc(alias = "i32.load8_u")]
     I32Load8U(MemArg),
-    /// Its op is `2E`.
+    /// `i32.load16_s`, opcode `2E`, a memory instruction.
+    /// Its call is [`i32_load16_s`](super::InstructionSink::i32_load16_s), with the immediate `memarg`.
+    #[doc(alias = "i32.load16_s")]
     I32Load16S(MemArg),
-    /// Its op is `2F`.
+    /// `i32.load16_u`, opcode `2F`, a memory instruction.
+    /// Its call is [`i32_load16_u`](super::InstructionSink::i32_load16_u), with the immediate `memarg`.
+    #[doc(alias = "i32.load16_u")]
     I32Load16U(MemArg),
-    /// Its op is `30`.
+    /// `i64.load8_s`, opcode `30`, a memory instruction.
+    /// Its call is [`i64_load8_s`](super::InstructionSink::i64_load8_s), with the immediate `memarg`.
+    #[doc(alias = "i64.load8_s")]
     I64Load8S(MemArg),
-    /// Its op is `31`.
+    /// `i64.load8_u`, opcode `31`, a memory instruction.
+    /// Its call is [`i64_load8_u`](super::InstructionSink::i64_load8_u), with the immediate `memarg`.
+    #[doc(alias = "i64.load8_u")]
     I64Load8U(MemArg),
-    /// Its op is `32`.
+    /// `i64.load16_s`, opcode `32`, a memory instruction.
+    /// Its call is [`i64_load16_s`](super::InstructionSink::i64_load16_s), with the immediate `memarg`.
+    #[doc(alias = "i64.load16_s")]
     I64Load16S(MemArg),
-    /// Its op is `33`.
+    /// `i64.load16_u`, opcode `33`, a memory instruction.
+    /// Its call is [`i64_load16_u`](super::InstructionSink::i64_load16_u), with the immediate `memarg`.
+    #[doc(alias = "i64.load16_u")]
     I64Load16U(MemArg),
-    /// Its op is `34`.
+    /// `i64.load32_s`, opcode `34`, a memory instruction.
+    /// Its call is [`i64_load32_s`](super::InstructionSink::i64_load32_s), with the immediate `memarg`.
+    #[doc(alias = "i64.load32_s")]
     I64Load32S(MemArg),
-    /// Its op is `35`.
+    /// `i64.load32_u`, opcode `35`, a memory instruction.
+    /// Its call is [`i64_load32_u`](super::InstructionSink::i64_load32_u), with the immediate `memarg`.
+    #[doc(alias = "i64.load32_u")]
     I64Load32U(MemArg),
-    /// Its op is `36`.
+    /// `i32.store`, opcode `36`, a memory instruction.
+    /// Its call is [`i32_store`](super::InstructionSink::i32_store), with the immediate `memarg`.
+    #[doc(alias = "i32.store")]
     I32Store(MemArg),
-    /// Its op is `37`.
+    /// `i64.store`, opcode `37`, a memory instruction.
+    /// Its call is [`i64_store`](super::InstructionSink::i64_store), with the immediate `memarg`.
+    #[doc(alias = "i64.store")]
     I64Store(MemArg),
-    /// Its op is `38`.
+    /// `f32.store`, opcode `38`, a memory instruction.
+    /// Its call is [`f32_store`](super::InstructionSink::f32_store), with the immediate `memarg`.
+    #[doc(alias = "f32.store")]
     F32Store(MemArg),
-    /// Its op is `39`.
+    /// `f64.store`, opcode `39`, a memory instruction.
+    /// Its call is [`f64_store`](super::InstructionSink::f64_store), with the immediate `memarg`.
+    #[doc(alias = "f64.store")]
     F64Store(MemArg),
-    /// Its op is `3A`.
+    /// `i32.store8`, opcode `3A`, a memory instruction.
+    /// Its call is [`i32_store8`](super::InstructionSink::i32_store8), with the immediate `memarg`.
+    #[doc(alias = "i32.store8")]
     I32Store8(MemArg),
-    /// Its op is `3B`.
+    /// `i32.store16`, opcode `3B`, a memory instruction.
+    /// Its call is [`i32_store16`](super::InstructionSink::i32_store16), with the immediate `memarg`.
+    #[doc(alias = "i32.store16")]
     I32Store16(MemArg),
-    /// Its op is `3C`.
+    /// `i64.store8`, opcode `3C`, a memory instruction.
+    /// Its call is [`i64_store8`](super::InstructionSink::i64_store8), with the immediate `memarg`.
+    #[doc(alias = "i64.store8")]
     I64Store8(MemArg),
-    /// Its op is `3D`.
+    /// `i64.store16`, opcode `3D`, a memory instruction.
+    /// Its call is [`i64_store16`](super::InstructionSink::i64_store16), with the immediate `memarg`.
+    #[doc(alias = "i64.store16")]
     I64Store16(MemArg),
-    /// Its op is `3E`.
+    /// `i64.store32`, opcode `3E`, a memory instruction.
+    /// Its call is [`i64_store32`](super::InstructionSink::i64_store32), with the immediate `memarg`.
+    #[doc(alias = "i64.store32")]
     I64Store32(MemArg),
-    /// Its op is `3F`.
+    /// `memory.size`, opcode `3F`, a memory instruction.
+    /// Its call is [`memory_size`](super::InstructionSink::memory_size), with the immediate `mem`.
+    #[doc(alias = "memory.size")]
     MemorySize(u32),
-    /// Its op is `40`.
+    /// `memory.grow`, opcode `40`, a memory instruction.
+    /// Its call is [`memory_grow`](super::InstructionSink::memory_grow), with the immediate `mem`.
+    #[doc(alias = "memory.grow")]
     MemoryGrow(u32),
-    /// Its op is `41`.
+    /// `i32.const`, opcode `41`, a numeric instruction.
+    /// Its call is [`i32_const`](super::InstructionSink::i32_const), with the immediate `value`.
+    #[doc(alias = "i32.const")]
     I32Const(i32),
-    /// Its op is `42`.
+    /// `i64.const`, opcode `42`, a numeric instruction.
+    /// Its call is [`i64_const`](super::InstructionSink::i64_const), with the immediate `value`.
+    #[doc(alias = "i64.const")]
     I64Const(i64),
-    /// Its op is `43`.
+    /// `f32.const`, opcode `43`, a numeric instruction.
+    /// Its call is [`f32_const`](super::InstructionSink::f32_const), with the immediate `value`.
+    #[doc(alias = "f32.const")]
     F32Const(Ieee32),
-    /// Its op is `44`.
+    /// `f64.const`, opcode `44`, a numeric instruction.
+    /// Its call is [`f64_const`](super::InstructionSink::f64_const), with the immediate `value`.
+    #[doc(alias = "f64.const")]
     F64Const(Ieee64),
-    /// Its op is `45`.
+    /// `i32.eqz`, opcode `45`, a numeric instruction.
+    /// Its call is [`i32_eqz`](super::InstructionSink::i32_eqz).
+    #[doc(alias = "i32.eqz")]
     I32Eqz,
-    /// Its op is `46`.
+    /// `i32.eq`, opcode `46`, a numeric instruction.
+    /// Its call is [`i32_eq`](super::InstructionSink::i32_eq).
+    #[doc(alias = "i32.eq")]
     I32Eq,
-    /// Its op is `47`.
+    /// `i32.ne`, opcode `47`, a numeric instruction.
+    /// Its call is [`i32_ne`](super::InstructionSink::i32_ne).
+    #[doc(alias = "i32.ne")]
     I32Ne,
-    /// Its op is `48`.
+    /// `i32.lt_s`, opcode `48`, a numeric instruction.
+    /// Its call is [`i32_lt_s`](super::InstructionSink::i32_lt_s).
+    #[doc(alias = "i32.lt_s")]
     I32LtS,
-    /// Its op is `49`.
+    /// `i32.lt_u`, opcode `49`, a numeric instruction.
+    /// Its call is [`i32_lt_u`](super::InstructionSink::i32_lt_u).
+    #[doc(alias = "i32.lt_u")]
     I32LtU,
-    /// Its op is `4A`.
+    /// `i32.gt_s`, opcode `4A`, a numeric instruction.
+    /// Its call is [`i32_gt_s`](super::InstructionSink::i32_gt_s).
+    #[doc(alias = "i32.gt_s")]
     I32GtS,
-    /// Its op is `4B`.
+    /// `i32.gt_u`, opcode `4B`, a numeric instruction.
+    /// Its call is [`i32_gt_u`](super::InstructionSink::i32_gt_u).
+    #[doc(alias = "i32.gt_u")]
     I32GtU,
-    /// Its op is `4C`.
+    /// `i32.le_s`, opcode `4C`, a numeric instruction.
+    /// Its call is [`i32_le_s`](super::InstructionSink::i32_le_s).
+    #[doc(alias = "i32.le_s")]
     I32LeS,
-    /// Its op is `4D`.
+    /// `i32.le_u`, opcode `4D`, a numeric instruction.
+    /// Its call is [`i32_le_u`](super::InstructionSink::i32_le_u).
+    #[doc(alias = "i32.le_u")]
     I32LeU,
-    /// Its op is `4E`.
+    /// `i32.ge_s`, opcode `4E`, a numeric instruction.
+    /// Its call is [`i32_ge_s`](super::InstructionSink::i32_ge_s).
+    #[doc(alias = "i32.ge_s")]
     I32GeS,
-    /// Its op is `4F`.
+    /// `i32.ge_u`, opcode `4F`, a numeric instruction.
+    /// Its call is [`i32_ge_u`](super::InstructionSink::i32_ge_u).
+    #[doc(alias = "i32.ge_u")]
     I32GeU,
-    /// Its op is `50`.
+    /// `i64.eqz`, opcode `50`, a numeric instruction.
+    /// Its call is [`i64_eqz`](super::InstructionSink::i64_eqz).
+    #[doc(alias = "i64.eqz")]
     I64Eqz,
-    /// Its op is `51`.
+    /// `i64.eq`, opcode `51`, a numeric instruction.
+    /// Its call is [`i64_eq`](super::InstructionSink::i64_eq).
+    #[doc(alias = "i64.eq")]
     I64Eq,
-    /// Its op is `52`.
+    /// `i64.ne`, opcode `52`, a numeric instruction.
+    /// Its call is [`i64_ne`](super::InstructionSink::i64_ne).
+    #[doc(alias = "i64.ne")]
     I64Ne,
-    /// Its op is `53`.
+    /// `i64.lt_s`, opcode `53`, a numeric instruction.
+    /// Its call is [`i64_lt_s`](super::InstructionSink::i64_lt_s).
+    #[doc(alias = "i64.lt_s")]
     I64LtS,
-    /// Its op is `54`.
+    /// `i64.lt_u`, opcode `54`, a numeric instruction.
+    /// Its call is [`i64_lt_u`](super::InstructionSink::i64_lt_u).
+    #[doc(alias = "i64.lt_u")]
     I64LtU,
-    /// Its op is `55`.
+    /// `i64.gt_s`, opcode `55`, a numeric instruction.
+    /// Its call is [`i64_gt_s`](super::InstructionSink::i64_gt_s).
+    #[doc(alias = "i64.gt_s")]
     I64GtS,
-    /// Its op is `56`.
+    /// `i64.gt_u`, opcode `56`, a numeric instruction.
+    /// Its call is [`i64_gt_u`](super::InstructionSink::i64_gt_u).
+    #[doc(alias = "i64.gt_u")]
     I64GtU,
-    /// Its op is `57`.
+    /// `i64.le_s`, opcode `57`, a numeric instruction.
+    /// Its call is [`i64_le_s`](super::InstructionSink::i64_le_s).
+    #[doc(alias = "i64.le_s")]
     I64LeS,
-    /// Its op is `58`.
+    /// `i64.le_u`, opcode `58`, a numeric instruction.
+    /// Its call is [`i64_le_u`](super::InstructionSink::i64_le_u).
+    #[doc(alias = "i64.le_u")]
     I64LeU,
-    /// Its op is `59`.
+    /// `i64.ge_s`, opcode `59`, a numeric instruction.
+    /// Its call is [`i64_ge_s`](super::InstructionSink::i64_ge_s).
+    #[doc(alias = "i64.ge_s")]
     I64GeS,
-    /// Its op is `5A`.
+    /// `i64.ge_u`, opcode `5A`, a numeric instruction.
+    /// Its call is [`i64_ge_u`](super::InstructionSink::i64_ge_u).
+    #[doc(alias = "i64.ge_u")]
     I64GeU,
-    /// Its op is `5B`.
+    /// `f32.eq`, opcode `5B`, a numeric instruction.
+    /// Its call is [`f32_eq`](super::InstructionSink::f32_eq).
+    #[doc(alias = "f32.eq")]
     F32Eq,
-    /// Its op is `5C`.
+    /// `f32.ne`, opcode `5C`, a numeric instruction.
+    /// Its call is [`f32_ne`](super::InstructionSink::f32_ne).
+    #[doc(alias = "f32.ne")]
     F32Ne,
-    /// Its op is `5D`.
+    /// `f32.lt`, opcode `5D`, a numeric instruction.
+    /// Its call is [`f32_lt`](super::InstructionSink::f32_lt).
+    #[doc(alias = "f32.lt")]
     F32Lt,
-    /// Its op is `5E`.
+    /// `f32.gt`, opcode `5E`, a numeric instruction.
+    /// Its call is [`f32_gt`](super::InstructionSink::f32_gt).
+    #[doc(alias = "f32.gt")]
     F32Gt,
-    /// Its op is `5F`.
+    /// `f32.le`, opcode `5F`, a numeric instruction.
+    /// Its call is [`f32_le`](super::InstructionSink::f32_le).
+    #[doc(alias = "f32.le")]
     F32Le,
-    /// Its op is `60`.
+    /// `f32.ge`, opcode `60`, a numeric instruction.
+    /// Its call is [`f32_ge`](super::InstructionSink::f32_ge).
+    #[doc(alias = "f32.ge")]
     F32Ge,
-    /// Its op is `61`.
+    /// `f64.eq`, opcode `61`, a numeric instruction.
+    /// Its call is [`f64_eq`](super::InstructionSink::f64_eq).
+    #[doc(alias = "f64.eq")]
     F64Eq,
-    /// Its op is `62`.
+    /// `f64.ne`, opcode `62`, a numeric instruction.
+    /// Its call is [`f64_ne`](super::InstructionSink::f64_ne).
+    #[doc(alias = "f64.ne")]
     F64Ne,
-    /// Its op is `63`.
+    /// `f64.lt`, opcode `63`, a numeric instruction.
+    /// Its call is [`f64_lt`](super::InstructionSink::f64_lt).
+    #[doc(alias = "f64.lt")]
     F64Lt,
-    /// Its op is `64`.
+    /// `f64.gt`, opcode `64`, a numeric instruction.
+    /// Its call is [`f64_gt`](super::InstructionSink::f64_gt).
+    #[doc(alias = "f64.gt")]
     F64Gt,
-    /// Its op is `65`.
+    /// `f64.le`, opcode `65`, a numeric instruction.
+    /// Its call is [`f64_le`](super::InstructionSink::f64_le).
+    #[doc(alias = "f64.le")]
     F64Le,
-    /// Its op is `66`.
+    /// `f64.ge`, opcode `66`, a numeric instruction.
+    /// Its call is [`f64_ge`](super::InstructionSink::f64_ge).
+    #[doc(alias = "f64.ge")]
     F64Ge,
-    /// Its op is `67`.
+    /// `i32.clz`, opcode `67`, a numeric instruction.
+    /// Its call is [`i32_clz`](super::InstructionSink::i32_clz).
+    #[doc(alias = "i32.clz")]
     I32Clz,
-    /// Its op is `68`.
+    /// `i32.ctz`, opcode `68`, a numeric instruction.
+    /// Its call is [`i32_ctz`](super::InstructionSink::i32_ctz).
+    #[doc(alias = "i32.ctz")]
     I32Ctz,
-    /// Its op is `69`.
+    /// `i32.popcnt`, opcode `69`, a numeric instruction.
+    /// Its call is [`i32_popcnt`](super::InstructionSink::i32_popcnt).
+    #[doc(alias = "i32.popcnt")]
     I32Popcnt,
-    /// Its op is `6A`.
+    /// `i32.add`, opcode `6A`, a numeric instruction.
+    /// Its call is [`i32_add`](super::InstructionSink::i32_add).
+    #[doc(alias = "i32.add")]
     I32Add,
-    /// Its op is `6B`.
+    /// `i32.sub`, opcode `6B`, a numeric instruction.
+    /// Its call is [`i32_sub`](super::InstructionSink::i32_sub).
+    #[doc(alias = "i32.sub")]
     I32Sub,
-    /// Its op is `6C`.
+    /// `i32.mul`, opcode `6C`, a numeric instruction.
+    /// Its call is [`i32_mul`](super::InstructionSink::i32_mul).
+    #[doc(alias = "i32.mul")]
     I32Mul,
-    /// Its op is `6D`.
+    /// `i32.div_s`, opcode `6D`, a numeric instruction.
+    /// Its call is [`i32_div_s`](super::InstructionSink::i32_div_s).
+    #[doc(alias = "i32.div_s")]
     I32DivS,
-    /// Its op is `6E`.
+    /// `i32.div_u`, opcode `6E`, a numeric instruction.
+    /// Its call is [`i32_div_u`](super::InstructionSink::i32_div_u).
+    #[doc(alias = "i32.div_u")]
     I32DivU,
-    /// Its op is `6F`.
+    /// `i32.rem_s`, opcode `6F`, a numeric instruction.
+    /// Its call is [`i32_rem_s`](super::InstructionSink::i32_rem_s).
+    #[doc(alias = "i32.rem_s")]
     I32RemS,
-    /// Its op is `70`.
+    /// `i32.rem_u`, opcode `70`, a numeric instruction.
+    /// Its call is [`i32_rem_u`](super::InstructionSink::i32_rem_u).
+    #[doc(alias = "i32.rem_u")]
     I32RemU,
-    /// Its op is `71`.
+    /// `i32.and`, opcode `71`, a numeric instruction.
+    /// Its call is [`i32_and`](super::InstructionSink::i32_and).
+    #[doc(alias = "i32.and")]
     I32And,
-    /// Its op is `72`.
+    /// `i32.or`, opcode `72`, a numeric instruction.
+    /// Its call is [`i32_or`](super::InstructionSink::i32_or).
+    #[doc(alias = "i32.or")]
     I32Or,
-    /// Its op is `73`.
+    /// `i32.xor`, opcode `73`, a numeric instruction.
+    /// Its call is [`i32_xor`](super::InstructionSink::i32_xor).
+    #[doc(alias = "i32.xor")]
     I32Xor,
-    /// Its op is `74`.
+    /// `i32.shl`, opcode `74`, a numeric instruction.
+    /// Its call is [`i32_shl`](super::InstructionSink::i32_shl).
+    #[doc(alias = "i32.shl")]
     I32Shl,
-    /// Its op is `75`.
+    /// `i32.shr_s`, opcode `75`, a numeric instruction.
+    /// Its call is [`i32_shr_s`](super::InstructionSink::i32_shr_s).
+    #[doc(alias = "i32.shr_s")]
     I32ShrS,
-    /// Its op is `76`.
+    /// `i32.shr_u`, opcode `76`, a numeric instruction.
+    /// Its call is [`i32_shr_u`](super::InstructionSink::i32_shr_u).
+    #[doc(alias = "i32.shr_u")]
     I32ShrU,
-    /// Its op is `77`.
+    /// `i32.rotl`, opcode `77`, a numeric instruction.
+    /// Its call is [`i32_rotl`](super::InstructionSink::i32_rotl).
+    #[doc(alias = "i32.rotl")]
     I32Rotl,
-    /// Its op is `78`.
+    /// `i32.rotr`, opcode `78`, a numeric instruction.
+    /// Its call is [`i32_rotr`](super::InstructionSink::i32_rotr).
+    #[doc(alias = "i32.rotr")]
     I32Rotr,
-    /// Its op is `79`.
+    /// `i64.clz`, opcode `79`, a numeric instruction.
+    /// Its call is [`i64_clz`](super::InstructionSink::i64_clz).
+    #[doc(alias = "i64.clz")]
     I64Clz,
-    /// Its op is `7A`.
+    /// `i64.ctz`, opcode `7A`, a numeric instruction.
+    /// Its call is [`i64_ctz`](super::InstructionSink::i64_ctz).
+    #[doc(alias = "i64.ctz")]
     I64Ctz,
-    /// Its op is `7B`.
+    /// `i64.popcnt`, opcode `7B`, a numeric instruction.
+    /// Its call is [`i64_popcnt`](super::InstructionSink::i64_popcnt).
+    #[doc(alias = "i64.popcnt")]
     I64Popcnt,
-    /// Its op is `7C`.
+    /// `i64.add`, opcode `7C`, a numeric instruction.
+    /// Its call is [`i64_add`](super::InstructionSink::i64_add).
+    #[doc(alias = "i64.add")]
     I64Add,
-    /// Its op is `7D`.
+    /// `i64.sub`, opcode `7D`, a numeric instruction.
+    /// Its call is [`i64_sub`](super::InstructionSink::i64_sub).
+    #[doc(alias = "i64.sub")]
     I64Sub,
-    /// Its op is `7E`.
+    /// `i64.mul`, opcode `7E`, a numeric instruction.
+    /// Its call is [`i64_mul`](super::InstructionSink::i64_mul).
+    #[doc(alias = "i64.mul")]
     I64Mul,
-    /// Its op is `7F`.
+    /// `i64.div_s`, opcode `7F`, a numeric instruction.
+    /// Its call is [`i64_div_s`](super::InstructionSink::i64_div_s).
+    #[doc(alias = "i64.div_s")]
     I64DivS,
-    /// Its op is `80`.
+    /// `i64.div_u`, opcode `80`, a numeric instruction.
+    /// Its call is [`i64_div_u`](super::InstructionSink::i64_div_u).
+    #[doc(alias = "i64.div_u")]
     I64DivU,
-    /// Its op is `81`.
+    /// `i64.rem_s`, opcode `81`, a numeric instruction.
+    /// Its call is [`i64_rem_s`](super::InstructionSink::i64_rem_s).
+    #[doc(alias = "i64.rem_s")]
     I64RemS,
-    /// Its op is `82`.
+    /// `i64.rem_u`, opcode `82`, a numeric instruction.
+    /// Its call is [`i64_rem_u`](super::InstructionSink::i64_rem_u).
+    #[doc(alias = "i64.rem_u")]
     I64RemU,
-    /// Its op is `83`.
+    /// `i64.and`, opcode `83`, a numeric instruction.
+    /// Its call is [`i64_and`](super::InstructionSink::i64_and).
+    #[doc(alias = "i64.and")]
     I64And,
-    /// Its op is `84`.
+    /// `i64.or`, opcode `84`, a numeric instruction.
+    /// Its call is [`i64_or`](super::InstructionSink::i64_or).
+    #[doc(alias = "i64.or")]
     I64Or,
-    /// Its op is `85`.
+    /// `i64.xor`, opcode `85`, a numeric instruction.
+    /// Its call is [`i64_xor`](super::InstructionSink::i64_xor).
+    #[doc(alias = "i64.xor")]
     I64Xor,
-    /// Its op is `86`.
+    /// `i64.shl`, opcode `86`, a numeric instruction.
+    /// Its call is [`i64_shl`](super::InstructionSink::i64_shl).
+    #[doc(alias = "i64.shl")]
     I64Shl,
-    /// Its op is `87`.
+    /// `i64.shr_s`, opcode `87`, a numeric instruction.
+    /// Its call is [`i64_shr_s`](super::InstructionSink::i64_shr_s).
+    #[doc(alias = "i64.shr_s")]
     I64ShrS,
-    /// Its op is `88`.
+    /// `i64.shr_u`, opcode `88`, a numeric instruction.
+    /// Its call is [`i64_shr_u`](super::InstructionSink::i64_shr_u).
+    #[doc(alias = "i64.shr_u")]
     I64ShrU,
-    /// Its op is `89`.
+    /// `i64.rotl`, opcode `89`, a numeric instruction.
+    /// Its call is [`i64_rotl`](super::InstructionSink::i64_rotl).
+    #[doc(alias = "i64.rotl")]
     I64Rotl,
-    /// Its op is `8A`.
+    /// `i64.rotr`, opcode `8A`, a numeric instruction.
+    /// Its call is [`i64_rotr`](super::InstructionSink::i64_rotr).
+    #[doc(alias = "i64.rotr")]
     I64Rotr,
-    /// Its op is `8B`.
+    /// `f32.abs`, opcode `8B`, a numeric instruction.
+    /// Its call is [`f32_abs`](super::InstructionSink::f32_abs).
+    #[doc(alias = "f32.abs")]
     F32Abs,
-    /// Its op is `8C`.
+    /// `f32.neg`, opcode `8C`, a numeric instruction.
+    /// Its call is [`f32_neg`](super::InstructionSink::f32_neg).
+    #[doc(alias = "f32.neg")]
     F32Neg,
-    /// Its op is `8D`.
+    /// `f32.ceil`, opcode `8D`, a numeric instruction.
+    /// Its call is [`f32_ceil`](super::InstructionSink::f32_ceil).
+    #[doc(alias = "f32.ceil")]
     F32Ceil,
-    /// Its op is `8E`.
+    /// `f32.floor`, opcode `8E`, a numeric instruction.
+    /// Its call is [`f32_floor`](super::InstructionSink::f32_floor).
+    #[doc(alias = "f32.floor")]
     F32Floor,
-    /// Its op is `8F`.
+    /// `f32.trunc`, opcode `8F`, a numeric instruction.
+    /// Its call is [`f32_trunc`](super::InstructionSink::f32_trunc).
+    #[doc(alias = "f32.trunc")]
     F32Trunc,
-    /// Its op is `90`.
+    /// `f32.nearest`, opcode `90`, a numeric instruction.
+    /// Its call is [`f32_nearest`](super::InstructionSink::f32_nearest).
+    #[doc(alias = "f32.nearest")]
     F32Nearest,
-    /// Its op is `91`.
+    /// `f32.sqrt`, opcode `91`, a numeric instruction.
+    /// Its call is [`f32_sqrt`](super::InstructionSink::f32_sqrt).
+    #[doc(alias = "f32.sqrt")]
     F32Sqrt,
-    /// Its op is `92`.
+    /// `f32.add`, opcode `92`, a numeric instruction.
+    /// Its call is [`f32_add`](super::InstructionSink::f32_add).
+    #[doc(alias = "f32.add")]
     F32Add,
-    /// Its op is `93`.
+    /// `f32.sub`, opcode `93`, a numeric instruction.
+    /// Its call is [`f32_sub`](super::InstructionSink::f32_sub).
+    #[doc(alias = "f32.sub")]
     F32Sub,
-    /// Its op is `94`.
+    /// `f32.mul`, opcode `94`, a numeric instruction.
+    /// Its call is [`f32_mul`](super::InstructionSink::f32_mul).
+    #[doc(alias = "f32.mul")]
     F32Mul,
-    /// Its op is `95`.
+    /// `f32.div`, opcode `95`, a numeric instruction.
+    /// Its call is [`f32_div`](super::InstructionSink::f32_div).
+    #[doc(alias = "f32.div")]
     F32Div,
-    /// Its op is `96`.
+    /// `f32.min`, opcode `96`, a numeric instruction.
+    /// Its call is [`f32_min`](super::InstructionSink::f32_min).
+    #[doc(alias = "f32.min")]
     F32Min,
-    /// Its op is `97`.
+    /// `f32.max`, opcode `97`, a numeric instruction.
+    /// Its call is [`f32_max`](super::InstructionSink::f32_max).
+    #[doc(alias = "f32.max")]
     F32Max,
-    /// Its op is `98`.
+    /// `f32.copysign`, opcode `98`, a numeric instruction.
+    /// Its call is [`f32_copysign`](super::InstructionSink::f32_copysign).
+    #[doc(alias = "f32.copysign")]
     F32Copysign,
-    /// Its op is `99`.
+    /// `f64.abs`, opcode `99`, a numeric instruction.
+    /// Its call is [`f64_abs`](super::InstructionSink::f64_abs).
+    #[doc(alias = "f64.abs")]
     F64Abs,
-    /// Its op is `9A`.
+    /// `f64.neg`, opcode `9A`, a numeric instruction.
+    /// Its call is [`f64_neg`](super::InstructionSink::f64_neg).
+    #[doc(alias = "f64.neg")]
     F64Neg,
-    /// Its op is `9B`.
+    /// `f64.ceil`, opcode `9B`, a numeric instruction.
+    /// Its call is [`f64_ceil`](super::InstructionSink::f64_ceil).
+    #[doc(alias = "f64.ceil")]
     F64Ceil,
-    /// Its op is `9C`.
+    /// `f64.floor`, opcode `9C`, a numeric instruction.
+    /// Its call is [`f64_floor`](super::InstructionSink::f64_floor).
+    #[doc(alias = "f64.floor")]
     F64Floor,
-    /// Its op is `9D`.
+    /// `f64.trunc`, opcode `9D`, a numeric instruction.
+    /// Its call is [`f64_trunc`](super::InstructionSink::f64_trunc).
+    #[doc(alias = "f64.trunc")]
     F64Trunc,
-    /// Its op is `9E`.
+    /// `f64.nearest`, opcode `9E`, a numeric instruction.
+    /// Its call is [`f64_nearest`](super::InstructionSink::f64_nearest).
+    #[doc(alias = "f64.nearest")]
     F64Nearest,
-    /// Its op is `9F`.
+    /// `f64.sqrt`, opcode `9F`, a numeric instruction.
+    /// Its call is [`f64_sqrt`](super::InstructionSink::f64_sqrt).
+    #[doc(alias = "f64.sqrt")]
     F64Sqrt,
-    /// Its op is `A0`.
+    /// `f64.add`, opcode `A0`, a numeric instruction.
+    /// Its call is [`f64_add`](super::InstructionSink::f64_add).
+    #[doc(alias = "f64.add")]
     F64Add,
-    /// Its op is `A1`.
+    /// `f64.sub`, opcode `A1`, a numeric instruction.
+    /// Its call is [`f64_sub`](super::InstructionSink::f64_sub).
+    #[doc(alias = "f64.sub")]
     F64Sub,
-    /// Its op is `A2`.
+    /// `f64.mul`, opcode `A2`, a numeric instruction.
+    /// Its call is [`f64_mul`](super::InstructionSink::f64_mul).
+    #[doc(alias = "f64.mul")]
     F64Mul,
-    /// Its op is `A3`.
+    /// `f64.div`, opcode `A3`, a numeric instruction.
+    /// Its call is [`f64_div`](super::InstructionSink::f64_div).
+    #[doc(alias = "f64.div")]
     F64Div,
-    /// Its op is `A4`.
+    /// `f64.min`, opcode `A4`, a numeric instruction.
+    /// Its call is [`f64_min`](super::InstructionSink::f64_min).
+    #[doc(alias = "f64.min")]
     F64Min,
-    /// Its op is `A5`.
+    /// `f64.max`, opcode `A5`, a numeric instruction.
+    /// Its call is [`f64_max`](super::InstructionSink::f64_max).
+    #[doc(alias = "f64.max")]
     F64Max,
-    /// Its op is `A6`.
+    /// `f64.copysign`, opcode `A6`, a numeric instruction.
+    /// Its call is [`f64_copysign`](super::InstructionSink::f64_copysign).
+    #[doc(alias = "f64.copysign")]
     F64Copysign,
-    /// Its op is `A7`.
+    /// `i32.wrap_i64`, opcode `A7`, a numeric instruction.
+    /// Its call is [`i32_wrap_i64`](super::InstructionSink::i32_wrap_i64).
+    #[doc(alias = "i32.wrap_i64")]
     I32WrapI64,
-    /// Its op is `A8`.
+    /// `i32.trunc_f32_s`, opcode `A8`, a numeric instruction.
+    /// Its call is [`i32_trunc_f32_s`](super::InstructionSink::i32_trunc_f32_s).
+    #[doc(alias = "i32.trunc_f32_s")]
     I32TruncF32S,
-    /// Its op is `A9`.
+    /// `i32.trunc_f32_u`, opcode `A9`, a numeric instruction.
+    /// Its call is [`i32_trunc_f32_u`](super::InstructionSink::i32_trunc_f32_u).
+    #[doc(alias = "i32.trunc_f32_u")]
     I32TruncF32U,
-    /// Its op is `AA`.
+    /// `i32.trunc_f64_s`, opcode `AA`, a numeric instruction.
+    /// Its call is [`i32_trunc_f64_s`](super::InstructionSink::i32_trunc_f64_s).
+    #[doc(alias = "i32.trunc_f64_s")]
     I32TruncF64S,
-    /// Its op is `AB`.
+    /// `i32.trunc_f64_u`, opcode `AB`, a numeric instruction.
+    /// Its call is [`i32_trunc_f64_u`](super::InstructionSink::i32_trunc_f64_u).
+    #[doc(alias = "i32.trunc_f64_u")]
     I32TruncF64U,
-    /// Its op is `AC`.
+    /// `i64.extend_i32_s`, opcode `AC`, a numeric instruction.
+    /// Its call is [`i64_extend_i32_s`](super::InstructionSink::i64_extend_i32_s).
+    #[doc(alias = "i64.extend_i32_s")]
     I64ExtendI32S,
-    /// Its op is `AD`.
+    /// `i64.extend_i32_u`, opcode `AD`, a numeric instruction.
+    /// Its call is [`i64_extend_i32_u`](super::InstructionSink::i64_extend_i32_u).
+    #[doc(alias = "i64.extend_i32_u")]
     I64ExtendI32U,
-    /// Its op is `AE`.
+    /// `i64.trunc_f32_s`, opcode `AE`, a numeric instruction.
+    /// Its call is [`i64_trunc_f32_s`](super::InstructionSink::i64_trunc_f32_s).
+    #[doc(alias = "i64.trunc_f32_s")]
     I64TruncF32S,
-    /// Its op is `AF`.
+    /// `i64.trunc_f32_u`, opcode `AF`, a numeric instruction.
+    /// Its call is [`i64_trunc_f32_u`](super::InstructionSink::i64_trunc_f32_u).
+    #[doc(alias = "i64.trunc_f32_u")]
     I64TruncF32U,
-    /// Its op is `B0`.
+    /// `i64.trunc_f64_s`, opcode `B0`, a numeric instruction.
+    /// Its call is [`i64_trunc_f64_s`](super::InstructionSink::i64_trunc_f64_s).
+    #[doc(alias = "i64.trunc_f64_s")]
     I64TruncF64S,
-    /// Its op is `B1`.
+    /// `i64.trunc_f64_u`, opcode `B1`, a numeric instruction.
+    /// Its call is [`i64_trunc_f64_u`](super::InstructionSink::i64_trunc_f64_u).
+    #[doc(alias = "i64.trunc_f64_u")]
     I64TruncF64U,
-    /// Its op is `B2`.
+    /// `f32.convert_i32_s`, opcode `B2`, a numeric instruction.
+    /// Its call is [`f32_convert_i32_s`](super::InstructionSink::f32_convert_i32_s).
+    #[doc(alias = "f32.convert_i32_s")]
     F32ConvertI32S,
-    /// Its op is `B3`.
+    /// `f32.convert_i32_u`, opcode `B3`, a numeric instruction.
+    /// Its call is [`f32_convert_i32_u`](super::InstructionSink::f32_convert_i32_u).
+    #[doc(alias = "f32.convert_i32_u")]
     F32ConvertI32U,
-    /// Its op is `B4`.
+    /// `f32.convert_i64_s`, opcode `B4`, a numeric instruction.
+    /// Its call is [`f32_convert_i64_s`](super::InstructionSink::f32_convert_i64_s).
+    #[doc(alias = "f32.convert_i64_s")]
     F32ConvertI64S,
-    /// Its op is `B5`.
+    /// `f32.convert_i64_u`, opcode `B5`, a numeric instruction.
+    /// Its call is [`f32_convert_i64_u`](super::InstructionSink::f32_convert_i64_u).
+    #[doc(alias = "f32.convert_i64_u")]
     F32ConvertI64U,
-    /// Its op is `B6`.
+    /// `f32.demote_f64`, opcode `B6`, a numeric instruction.
+    /// Its call is [`f32_demote_f64`](super::InstructionSink::f32_demote_f64).
+    #[doc(alias = "f32.demote_f64")]
     F32DemoteF64,
-    /// Its op is `B7`.
+    /// `f64.convert_i32_s`, opcode `B7`, a numeric instruction.
+    /// Its call is [`f64_convert_i32_s`](super::InstructionSink::f64_convert_i32_s).
+    #[doc(alias = "f64.convert_i32_s")]
     F64ConvertI32S,
-    /// Its op is `B8`.
+    /// `f64.convert_i32_u`, opcode `B8`, a numeric instruction.
+    /// Its call is [`f64_convert_i32_u`](super::InstructionSink::f64_convert_i32_u).
+    #[doc(alias = "f64.convert_i32_u")]
     F64ConvertI32U,
-    /// Its op is `B9`.
+    /// `f64.convert_i64_s`, opcode `B9`, a numeric instruction.
+    /// Its call is [`f64_convert_i64_s`](super::InstructionSink::f64_convert_i64_s).
+    #[doc(alias = "f64.convert_i64_s")]
     F64ConvertI64S,
-    /// Its op is `BA`.
+    /// `f64.convert_i64_u`, opcode `BA`, a numeric instruction.
+    /// Its call is [`f64_convert_i64_u`](super::InstructionSink::f64_convert_i64_u).
+    #[doc(alias = "f64.convert_i64_u")]
     F64ConvertI64U,
-    /// Its op is `BB`.
+    /// `f64.promote_f32`, opcode `BB`, a numeric instruction.
+    /// Its call is [`f64_promote_f32`](super::InstructionSink::f64_promote_f32).
+    #[doc(alias = "f64.promote_f32")]
     F64PromoteF32,
-    /// Its op is `BC`.
+    /// `i32.reinterpret_f32`, opcode `BC`, a numeric instruction.
+    /// Its call is [`i32_reinterpret_f32`](super::InstructionSink::i32_reinterpret_f32).
+    #[doc(alias = "i32.reinterpret_f32")]
     I32ReinterpretF32,
-    /// Its op is `BD`.
+    /// `i64.reinterpret_f64`, opcode `BD`, a numeric instruction.
+    /// Its call is [`i64_reinterpret_f64`](super::InstructionSink::i64_reinterpret_f64).
+    #[doc(alias = "i64.reinterpret_f64")]
     I64ReinterpretF64,
-    /// Its op is `BE`.
+    /// `f32.reinterpret_i32`, opcode `BE`, a numeric instruction.
+    /// Its call is [`f32_reinterpret_i32`](super::InstructionSink::f32_reinterpret_i32).
+    #[doc(alias = "f32.reinterpret_i32")]
     F32ReinterpretI32,
-    /// Its op is `BF`.
+    /// `f64.reinterpret_i64`, opcode `BF`, a numeric instruction.
+    /// Its call is [`f64_reinterpret_i64`](super::InstructionSink::f64_reinterpret_i64).
+    #[doc(alias = "f64.reinterpret_i64")]
     F64ReinterpretI64,
-    /// Its op is `C0`.
+    /// `i32.extend8_s`, opcode `C0`, a numeric instruction.
+    /// Its call is [`i32_extend8_s`](super::InstructionSink::i32_extend8_s).
+    #[doc(alias = "i32.extend8_s")]
     I32Extend8S,
-    /// Its op is `C1`.
+    /// `i32.extend16_s`, opcode `C1`, a numeric instruction.
+    /// Its call is [`i32_extend16_s`](super::InstructionSink::i32_extend16_s).
+    #[doc(alias = "i32.extend16_s")]
     I32Extend16S,
-    /// Its op is `C2`.
+    /// `i64.extend8_s`, opcode `C2`, a numeric instruction.
+    /// Its call is [`i64_extend8_s`](super::InstructionSink::i64_extend8_s).
+    #[doc(alias = "i64.extend8_s")]
     I64Extend8S,
-    /// Its op is `C3`.
+    /// `i64.extend16_s`, opcode `C3`, a numeric instruction.
+    /// Its call is [`i64_extend16_s`](super::InstructionSink::i64_extend16_s).
+    #[doc(alias = "i64.extend16_s")]
     I64Extend16S,
-    /// Its op is `C4`.
+    /// `i64.extend32_s`, opcode `C4`, a numeric instruction.
+    /// Its call is [`i64_extend32_s`](super::InstructionSink::i64_extend32_s).
+    #[doc(alias = "i64.extend32_s")]
     I64Extend32S,
-    /// Its op is `D0`.
+    /// `ref.null`, opcode `D0`, a reference instruction.
+    /// Its call is [`ref_null`](super::InstructionSink::ref_null), with the immediate `heap_type`.
+    #[doc(alias = "ref.null")]
     RefNull(HeapType),
-    /// Its op is `D1`.
+    /// `ref.is_null`, opcode `D1`, a reference instruction.
+    /// Its call is [`ref_is_null`](super::InstructionSink::ref_is_null).
+    #[doc(alias = "ref.is_null")]
     RefIsNull,
-    /// Its op is `D2`.
+    /// `ref.func`, opcode `D2`, a reference instruction.
+    /// Its call is [`ref_func`](super::InstructionSink::ref_func), with the immediate `function_index`.
+    #[doc(alias = "ref.func")]
     RefFunc(u32),
-    /// Its op is `D3`.
+    /// `ref.eq`, opcode `D3`, a reference instruction.
+    /// Its call is [`ref_eq`](super::InstructionSink::ref_eq).
+    #[doc(alias = "ref.eq")]
     RefEq,
-    /// Its op is `D4`.
+    /// `ref.as_non_null`, opcode `D4`, a reference instruction.
+    /// Its call is [`ref_as_non_null`](super::InstructionSink::ref_as_non_null).
+    #[doc(alias = "ref.as_non_null")]
     RefAsNonNull,
-    /// Its op is `D5`.
+    /// `br_on_null`, opcode `D5`, a control instruction.
+    /// Its call is [`br_on_null`](super::InstructionSink::br_on_null), with the immediate `label`.
     BrOnNull(u32),
-    /// Its op is `D6`.
+    /// `br_on_non_null`, opcode `D6`, a control instruction.
+    /// Its call is [`br_on_non_null`](super::InstructionSink::br_on_non_null), with the immediate `label`.
     BrOnNonNull(u32),
-    /// Its op is `E0`.
+    /// `cont.new`, opcode `E0`, a control instruction of the stack switching proposal.
+    /// Its call is [`cont_new`](super::InstructionSink::cont_new), with the immediate `type_index`.
+    #[doc(alias = "cont.new")]
     ContNew(u32),
-    /// Its op is `E1`.
-    ContBind { argument_index: u32, result_index: u32 },
-    /// Its op is `E2`.
+    /// `cont.bind`, opcode `E1`, a control instruction of the stack switching proposal.
+    /// Its call is [`cont_bind`](super::InstructionSink::cont_bind).
+    #[doc(alias = "cont.bind")]
+    ContBind {
+        /// The index of the type of the bound continuation.
+        argument_index: u32,
+        /// The index of the type of the resulting continuation.
+        result_index: u32,
+    },
+    /// `suspend`, opcode `E2`, a control instruction of the stack switching proposal.
+    /// Its call is [`suspend`](super::InstructionSink::suspend), with the immediate `tag_index`.
     Suspend(u32),
-    /// Its op is `E3`.
-    Resume { cont_type_index: u32, resume_table: Cow<'a, [Handle]> },
-    /// Its op is `E4`.
-    ResumeThrow { cont_type_index: u32, tag_index: u32, resume_table: Cow<'a, [Handle]> },
-    /// Its op is `E5`.
-    ResumeThrowRef { cont_type_index: u32, resume_table: Cow<'a, [Handle]> },
-    /// Its op is `E6`.
-    Switch { cont_type_index: u32, tag_index: u32 },
-    /// Its op is `FB 00`.
+    /// `resume`, opcode `E3`, a control instruction of the stack switching proposal.
+    /// Its call is [`resume`](super::InstructionSink::resume).
+    Resume {
+        /// The index of the continuation type.
+        cont_type_index: u32,
+        /// The handlers.
+        resume_table: Cow<'a, [Handle]>,
+    },
+    /// `resume_throw`, opcode `E4`, a control instruction of the stack switching proposal.
+    /// Its call is [`resume_throw`](super::InstructionSink::resume_throw).
+    ResumeThrow {
+        /// The index of the continuation type.
+        cont_type_index: u32,
+        /// The index of the tag.
+        tag_index: u32,
+        /// The handlers.
+        resume_table: Cow<'a, [Handle]>,
+    },
+    /// `resume_throw_ref`, opcode `E5`, a control instruction of the stack switching proposal.
+    /// Its call is [`resume_throw_ref`](super::InstructionSink::resume_throw_ref).
+    ResumeThrowRef {
+        /// The index of the continuation type.
+        cont_type_index: u32,
+        /// The handlers.
+        resume_table: Cow<'a, [Handle]>,
+    },
+    /// `switch`, opcode `E6`, a control instruction of the stack switching proposal.
+    /// Its call is [`switch`](super::InstructionSink::switch).
+    Switch {
+        /// The index of the continuation type.
+        cont_type_index: u32,
+        /// The index of the tag.
+        tag_index: u32,
+    },
+    /// `struct.new`, opcode `FB 00`, an aggregate instruction.
+    /// Its call is [`struct_new`](super::InstructionSink::struct_new), with the immediate `type_index`.
+    #[doc(alias = "struct.new")]
     StructNew(u32),
-    /// Its op is `FB 01`.
+    /// `struct.new_default`, opcode `FB 01`, an aggregate instruction.
+    /// Its call is [`struct_new_default`](super::InstructionSink::struct_new_default), with the immediate `type_index`.
+    #[doc(alias = "struct.new_default")]
     StructNewDefault(u32),
-    /// Its op is `FB 02`.
-    StructGet { struct_type_index: u32, field_index: u32 },
-    /// Its op is `FB 03`.
-    StructGetS { struct_type_index: u32, field_index: u32 },
-    /// Its op is `FB 04`.
-    StructGetU { struct_type_index: u32, field_index: u32 },
-    /// Its op is `FB 05`.
-    StructSet { struct_type_index: u32, field_index: u32 },
-    /// Its op is `FB 06`.
+    /// `struct.get`, opcode `FB 02`, an aggregate instruction.
+    /// Its call is [`struct_get`](super::InstructionSink::struct_get).
+    #[doc(alias = "struct.get")]
+    StructGet {
+        /// The index of the structure type.
+        struct_type_index: u32,
+        /// The index of the field.
+        field_index: u32,
+    },
+    /// `struct.get_s`, opcode `FB 03`, an aggregate instruction.
+    /// Its call is [`struct_get_s`](super::InstructionSink::struct_get_s).
+    #[doc(alias = "struct.get_s")]
+    StructGetS {
+        /// The index of the structure type.
+        struct_type_index: u32,
+        /// The index of the field.
+        field_index: u32,
+    },
+    /// `struct.get_u`, opcode `FB 04`, an aggregate instruction.
+    /// Its call is [`struct_get_u`](super::InstructionSink::struct_get_u).
+    #[doc(alias = "struct.get_u")]
+    StructGetU {
+        /// The index of the structure type.
+        struct_type_index: u32,
+        /// The index of the field.
+        field_index: u32,
+    },
+    /// `struct.set`, opcode `FB 05`, an aggregate instruction.
+    /// Its call is [`struct_set`](super::InstructionSink::struct_set).
+    #[doc(alias = "struct.set")]
+    StructSet {
+        /// The index of the structure type.
+        struct_type_index: u32,
+        /// The index of the field.
+        field_index: u32,
+    },
+    /// `array.new`, opcode `FB 06`, an aggregate instruction.
+    /// Its call is [`array_new`](super::InstructionSink::array_new), with the immediate `type_index`.
+    #[doc(alias = "array.new")]
     ArrayNew(u32),
-    /// Its op is `FB 07`.
+    /// `array.new_default`, opcode `FB 07`, an aggregate instruction.
+    /// Its call is [`array_new_default`](super::InstructionSink::array_new_default), with the immediate `type_index`.
+    #[doc(alias = "array.new_default")]
     ArrayNewDefault(u32),
-    /// Its op is `FB 08`.
-    ArrayNewFixed { array_type_index: u32, array_size: u32 },
-    /// Its op is `FB 09`.
-    ArrayNewData { array_type_index: u32, array_data_index: u32 },
-    /// Its op is `FB 0A`.
-    ArrayNewElem { array_type_index: u32, array_elem_index: u32 },
-    /// Its op is `FB 0B`.
+    /// `array.new_fixed`, opcode `FB 08`, an aggregate instruction.
+    /// Its call is [`array_new_fixed`](super::InstructionSink::array_new_fixed).
+    #[doc(alias = "array.new_fixed")]
+    ArrayNewFixed {
+        /// The index of the array type.
+        array_type_index: u32,
+        /// The number of elements.
+        array_size: u32,
+    },
+    /// `array.new_data`, opcode `FB 09`, an aggregate instruction.
+    /// Its call is [`array_new_data`](super::InstructionSink::array_new_data).
+    #[doc(alias = "array.new_data")]
+    ArrayNewData {
+        /// The index of the array type.
+        array_type_index: u32,
+        /// The index of the data segment.
+        array_data_index: u32,
+    },
+    /// `array.new_elem`, opcode `FB 0A`, an aggregate instruction.
+    /// Its call is [`array_new_elem`](super::InstructionSink::array_new_elem).
+    #[doc(alias = "array.new_elem")]
+    ArrayNewElem {
+        /// The index of the array type.
+        array_type_index: u32,
+        /// The index of the element segment.
+        array_elem_index: u32,
+    },
+    /// `array.get`, opcode `FB 0B`, an aggregate instruction.
+    /// Its call is [`array_get`](super::InstructionSink::array_get), with the immediate `type_index`.
+    #[doc(alias = "array.get")]
     ArrayGet(u32),
-    /// Its op is `FB 0C`.
+    /// `array.get_s`, opcode `FB 0C`, an aggregate instruction.
+    /// Its call is [`array_get_s`](super::InstructionSink::array_get_s), with the immediate `type_index`.
+    #[doc(alias = "array.get_s")]
     ArrayGetS(u32),
-    /// Its op is `FB 0D`.
+    /// `array.get_u`, opcode `FB 0D`, an aggregate instruction.
+    /// Its call is [`array_get_u`](super::InstructionSink::array_get_u), with the immediate `type_index`.
+    #[doc(alias = "array.get_u")]
     ArrayGetU(u32),
-    /// Its op is `FB 0E`.
+    /// `array.set`, opcode `FB 0E`, an aggregate instruction.
+    /// Its call is [`array_set`](super::InstructionSink::array_set), with the immediate `type_index`.
+    #[doc(alias = "array.set")]
     ArraySet(u32),
-    /// Its op is `FB 0F`.
+    /// `array.len`, opcode `FB 0F`, an aggregate instruction.
+    /// Its call is [`array_len`](super::InstructionSink::array_len).
+    #[doc(alias = "array.len")]
     ArrayLen,
-    /// Its op is `FB 10`.
+    /// `array.fill`, opcode `FB 10`, an aggregate instruction.
+    /// Its call is [`array_fill`](super::InstructionSink::array_fill), with the immediate `type_index`.
+    #[doc(alias = "array.fill")]
     ArrayFill(u32),
-    /// Its op is `FB 11`.
-    ArrayCopy { array_type_index_dst: u32, array_type_index_src: u32 },
-    /// Its op is `FB 12`.
-    ArrayInitData { array_type_index: u32, array_data_index: u32 },
-    /// Its op is `FB 13`.
-    ArrayInitElem { array_type_index: u32, array_elem_index: u32 },
-    /// Its op is `FB 14`.
+    /// `array.copy`, opcode `FB 11`, an aggregate instruction.
+    /// Its call is [`array_copy`](super::InstructionSink::array_copy).
+    #[doc(alias = "array.copy")]
+    ArrayCopy {
+        /// The index of the type of the destination.
+        array_type_index_dst: u32,
+        /// The index of the type of the source.
+        array_type_index_src: u32,
+    },
+    /// `array.init_data`, opcode `FB 12`, an aggregate instruction.
+    /// Its call is [`array_init_data`](super::InstructionSink::array_init_data).
+    #[doc(alias = "array.init_data")]
+    ArrayInitData {
+        /// The index of the array type.
+        array_type_index: u32,
+        /// The index of the data segment.
+        array_data_index: u32,
+    },
+    /// `array.init_elem`, opcode `FB 13`, an aggregate instruction.
+    /// Its call is [`array_init_elem`](super::InstructionSink::array_init_elem).
+    #[doc(alias = "array.init_elem")]
+    ArrayInitElem {
+        /// The index of the array type.
+        array_type_index: u32,
+        /// The index of the element segment.
+        array_elem_index: u32,
+    },
+    /// `ref.test (ref ht)`, opcode `FB 14`, a reference instruction.
+    /// Its call is [`ref_test_non_null`](super::InstructionSink::ref_test_non_null), with the immediate `heap_type`.
+    #[doc(alias = "ref.test")]
     RefTestNonNull(HeapType),
-    /// Its op is `FB 15`.
+    /// `ref.test (ref null ht)`, opcode `FB 15`, a reference instruction.
+    /// Its call is [`ref_test_nullable`](super::InstructionSink::ref_test_nullable), with the immediate `heap_type`.
+    #[doc(alias = "ref.test")]
     RefTestNullable(HeapType),
-    /// Its op is `FB 16`.
+    /// `ref.cast (ref ht)`, opcode `FB 16`, a reference instruction.
+    /// Its call is [`ref_cast_non_null`](super::InstructionSink::ref_cast_non_null), with the immediate `heap_type`.
+    #[doc(alias = "ref.cast")]
     RefCastNonNull(HeapType),
-    /// Its op is `FB 17`.
+    /// `ref.cast (ref null ht)`, opcode `FB 17`, a reference instruction.
+    /// Its call is [`ref_cast_nullable`](super::InstructionSink::ref_cast_nullable), with the immediate `heap_type`.
+    #[doc(alias = "ref.cast")]
     RefCastNullable(HeapType),
-    /// Its op is `FB 18`.
-    BrOnCast { relative_depth: u32, from_ref_type: RefType, to_ref_type: RefType },
-    /// Its op is `FB 19`.
-    BrOnCastFail { relative_depth: u32, from_ref_type: RefType, to_ref_type: RefType },
-    /// Its op is `FB 1A`.
+    /// `br_on_cast`, opcode `FB 18`, a control instruction.
+    /// Its call is [`br_on_cast`](super::InstructionSink::br_on_cast).
+    BrOnCast {
+        /// The label of the branch.
+        relative_depth: u32,
+        /// The type of the operand.
+        from_ref_type: RefType,
+        /// The type that the operand is cast to.
+        to_ref_type: RefType,
+    },
+    /// `br_on_cast_fail`, opcode `FB 19`, a control instruction.
+    /// Its call is [`br_on_cast_fail`](super::InstructionSink::br_on_cast_fail).
+    BrOnCastFail {
+        /// The label of the branch.
+        relative_depth: u32,
+        /// The type of the operand.
+        from_ref_type: RefType,
+        /// The type that the operand is cast to.
+        to_ref_type: RefType,
+    },
+    /// `any.convert_extern`, opcode `FB 1A`, an aggregate instruction.
+    /// Its call is [`any_convert_extern`](super::InstructionSink::any_convert_extern).
+    #[doc(alias = "any.convert_extern")]
     AnyConvertExtern,
-    /// Its op is `FB 1B`.
+    /// `extern.convert_any`, opcode `FB 1B`, an aggregate instruction.
+    /// Its call is [`extern_convert_any`](super::InstructionSink::extern_convert_any).
+    #[doc(alias = "extern.convert_any")]
     ExternConvertAny,
-    /// Its op is `FB 1C`.
+    /// `ref.i31`, opcode `FB 1C`, an aggregate instruction.
+    /// Its call is [`ref_i31`](super::InstructionSink::ref_i31).
+    #[doc(alias = "ref.i31")]
     RefI31,
-    /// Its op is `FB 1D`.
+    /// `i31.get_s`, opcode `FB 1D`, an aggregate instruction.
+    /// Its call is [`i31_get_s`](super::InstructionSink::i31_get_s).
+    #[doc(alias = "i31.get_s")]
     I31GetS,
-    /// Its op is `FB 1E`.
+    /// `i31.get_u`, opcode `FB 1E`, an aggregate instruction.
+    /// Its call is [`i31_get_u`](super::InstructionSink::i31_get_u).
+    #[doc(alias = "i31.get_u")]
     I31GetU,
-    /// Its op is `FB 20`.
+    /// `struct.new_desc`, opcode `FB 20`, an instruction of the custom descriptors proposal.
+    /// Its call is [`struct_new_desc`](super::InstructionSink::struct_new_desc), with the immediate `type_index`.
+    #[doc(alias = "struct.new_desc")]
     StructNewDesc(u32),
-    /// Its op is `FB 21`.
+    /// `struct.new_default_desc`, opcode `FB 21`, an instruction of the custom descriptors proposal.
+    /// Its call is [`struct_new_default_desc`](super::InstructionSink::struct_new_default_desc), with the immediate `type_index`.
+    #[doc(alias = "struct.new_default_desc")]
     StructNewDefaultDesc(u32),
-    /// Its op is `FB 22`.
+    /// `ref.get_desc`, opcode `FB 22`, an instruction of the custom descriptors proposal.
+    /// Its call is [`ref_get_desc`](super::InstructionSink::ref_get_desc), with the immediate `type_index`.
+    #[doc(alias = "ref.get_desc")]
     RefGetDesc(u32),
-    /// Its op is `FB 23`.
+    /// `ref.cast_desc_eq (ref ht)`, opcode `FB 23`, an instruction of the custom descriptors proposal.
+    /// Its call is [`ref_cast_desc_eq_non_null`](super::InstructionSink::ref_cast_desc_eq_non_null), with the immediate `heap_type`.
+    #[doc(alias = "ref.cast_desc_eq")]
     RefCastDescEqNonNull(HeapType),
-    /// Its op is `FB 24`.
+    /// `ref.cast_desc_eq (ref null ht)`, opcode `FB 24`, an instruction of the custom descriptors proposal.
+    /// Its call is [`ref_cast_desc_eq_nullable`](super::InstructionSink::ref_cast_desc_eq_nullable), with the immediate `heap_type`.
+    #[doc(alias = "ref.cast_desc_eq")]
     RefCastDescEqNullable(HeapType),
-    /// Its op is `FB 25`.
-    BrOnCastDescEq { relative_depth: u32, from_ref_type: RefType, to_ref_type: RefType },
-    /// Its op is `FB 26`.
-    BrOnCastDescEqFail { relative_depth: u32, from_ref_type: RefType, to_ref_type: RefType },
-    /// Its op is `FC 00`.
+    /// `br_on_cast_desc_eq`, opcode `FB 25`, an instruction of the custom descriptors proposal.
+    /// Its call is [`br_on_cast_desc_eq`](super::InstructionSink::br_on_cast_desc_eq).
+    BrOnCastDescEq {
+        /// The label of the branch.
+        relative_depth: u32,
+        /// The type of the operand.
+        from_ref_type: RefType,
+        /// The type that the operand is cast to.
+        to_ref_type: RefType,
+    },
+    /// `br_on_cast_desc_eq_fail`, opcode `FB 26`, an instruction of the custom descriptors proposal.
+    /// Its call is [`br_on_cast_desc_eq_fail`](super::InstructionSink::br_on_cast_desc_eq_fail).
+    BrOnCastDescEqFail {
+        /// The label of the branch.
+        relative_depth: u32,
+        /// The type of the operand.
+        from_ref_type: RefType,
+        /// The type that the operand is cast to.
+        to_ref_type: RefType,
+    },
+    /// `i32.trunc_sat_f32_s`, opcode `FC 00`, a numeric instruction.
+    /// Its call is [`i32_trunc_sat_f32_s`](super::InstructionSink::i32_trunc_sat_f32_s).
+    #[doc(alias = "i32.trunc_sat_f32_s")]
     I32TruncSatF32S,
-    /// Its op is `FC 01`.
+    /// `i32.trunc_sat_f32_u`, opcode `FC 01`, a numeric instruction.
+    /// Its call is [`i32_trunc_sat_f32_u`](super::InstructionSink::i32_trunc_sat_f32_u).
+    #[doc(alias = "i32.trunc_sat_f32_u")]
     I32TruncSatF32U,
-    /// Its op is `FC 02`.
+    /// `i32.trunc_sat_f64_s`, opcode `FC 02`, a numeric instruction.
+    /// Its call is [`i32_trunc_sat_f64_s`](super::InstructionSink::i32_trunc_sat_f64_s).
+    #[doc(alias = "i32.trunc_sat_f64_s")]
     I32TruncSatF64S,
-    /// Its op is `FC 03`.
+    /// `i32.trunc_sat_f64_u`, opcode `FC 03`, a numeric instruction.
+    /// Its call is [`i32_trunc_sat_f64_u`](super::InstructionSink::i32_trunc_sat_f64_u).
+    #[doc(alias = "i32.trunc_sat_f64_u")]
     I32TruncSatF64U,
-    /// Its op is `FC 04`.
+    /// `i64.trunc_sat_f32_s`, opcode `FC 04`, a numeric instruction.
+    /// Its call is [`i64_trunc_sat_f32_s`](super::InstructionSink::i64_trunc_sat_f32_s).
+    #[doc(alias = "i64.trunc_sat_f32_s")]
     I64TruncSatF32S,
-    /// Its op is `FC 05`.
+    /// `i64.trunc_sat_f32_u`, opcode `FC 05`, a numeric instruction.
+    /// Its call is [`i64_trunc_sat_f32_u`](super::InstructionSink::i64_trunc_sat_f32_u).
+    #[doc(alias = "i64.trunc_sat_f32_u")]
     I64TruncSatF32U,
-    /// Its op is `FC 06`.
+    /// `i64.trunc_sat_f64_s`, opcode `FC 06`, a numeric instruction.
+    /// Its call is [`i64_trunc_sat_f64_s`](super::InstructionSink::i64_trunc_sat_f64_s).
+    #[doc(alias = "i64.trunc_sat_f64_s")]
     I64TruncSatF64S,
-    /// Its op is `FC 07`.
+    /// `i64.trunc_sat_f64_u`, opcode `FC 07`, a numeric instruction.
+    /// Its call is [`i64_trunc_sat_f64_u`](super::InstructionSink::i64_trunc_sat_f64_u).
+    #[doc(alias = "i64.trunc_sat_f64_u")]
     I64TruncSatF64U,
-    /// Its op is `FC 08`.
-    MemoryInit { mem: u32, data_index: u32 },
-    /// Its op is `FC 09`.
+    /// `memory.init`, opcode `FC 08`, a memory instruction.
+    /// Its call is [`memory_init`](super::InstructionSink::memory_init).
+    #[doc(alias = "memory.init")]
+    MemoryInit {
+        /// The index of the memory.
+        mem: u32,
+        /// The index of the data segment.
+        data_index: u32,
+    },
+    /// `data.drop`, opcode `FC 09`, a memory instruction.
+    /// Its call is [`data_drop`](super::InstructionSink::data_drop), with the immediate `data_index`.
+    #[doc(alias = "data.drop")]
     DataDrop(u32),
-    /// Its op is `FC 0A`.
-    MemoryCopy { src_mem: u32, dst_mem: u32 },
-    /// Its op is `FC 0B`.
+    /// `memory.copy`, opcode `FC 0A`, a memory instruction.
+    /// Its call is [`memory_copy`](super::InstructionSink::memory_copy).
+    #[doc(alias = "memory.copy")]
+    MemoryCopy {
+        /// The index of the source memory.
+        src_mem: u32,
+        /// The index of the destination memory.
+        dst_mem: u32,
+    },
+    /// `memory.fill`, opcode `FC 0B`, a memory instruction.
+    /// Its call is [`memory_fill`](super::InstructionSink::memory_fill), with the immediate `mem`.
+    #[doc(alias = "memory.fill")]
     MemoryFill(u32),
-    /// Its op is `FC 0C`.
-    TableInit { elem_index: u32, table: u32 },
-    /// Its op is `FC 0D`.
+    /// `table.init`, opcode `FC 0C`, a table instruction.
+    /// Its call is [`table_init`](super::InstructionSink::table_init).
+    #[doc(alias = "table.init")]
+    TableInit {
+        /// The index of the element segment.
+        elem_index: u32,
+        /// The index of the table.
+        table: u32,
+    },
+    /// `elem.drop`, opcode `FC 0D`, a table instruction.
+    /// Its call is [`elem_drop`](super::InstructionSink::elem_drop), with the immediate `elem_index`.
+    #[doc(alias = "elem.drop")]
     ElemDrop(u32),
-    /// Its op is `FC 0E`.
-    TableCopy { src_table: u32, dst_table: u32 },
-    /// Its op is `FC 0F`.
+    /// `table.copy`, opcode `FC 0E`, a table instruction.
+    /// Its call is [`table_copy`](super::InstructionSink::table_copy).
+    #[doc(alias = "table.copy")]
+    TableCopy {
+        /// The index of the source table.
+        src_table: u32,
+        /// The index of the destination table.
+        dst_table: u32,
+    },
+    /// `table.grow`, opcode `FC 0F`, a table instruction.
+    /// Its call is [`table_grow`](super::InstructionSink::table_grow), with the immediate `table`.
+    #[doc(alias = "table.grow")]
     TableGrow(u32),
-    /// Its op is `FC 10`.
+    /// `table.size`, opcode `FC 10`, a table instruction.
+    /// Its call is [`table_size`](super::InstructionSink::table_size), with the immediate `table`.
+    #[doc(alias = "table.size")]
     TableSize(u32),
-    /// Its op is `FC 11`.
+    /// `table.fill`, opcode `FC 11`, a table instruction.
+    /// Its call is [`table_fill`](super::InstructionSink::table_fill), with the immediate `table`.
+    #[doc(alias = "table.fill")]
     TableFill(u32),
-    /// Its op is `FC 12`.
+    /// `memory.discard`, opcode `FC 12`, a memory instruction of the memory control proposal.
+    /// Its call is [`memory_discard`](super::InstructionSink::memory_discard), with the immediate `mem`.
+    #[doc(alias = "memory.discard")]
     MemoryDiscard(u32),
-    /// Its op is `FC 13`.
+    /// `i64.add128`, opcode `FC 13`, a numeric instruction of the wide arithmetic proposal.
+    /// Its call is [`i64_add128`](super::InstructionSink::i64_add128).
+    #[doc(alias = "i64.add128")]
     I64Add128,
-    /// Its op is `FC 14`.
+    /// `i64.sub128`, opcode `FC 14`, a numeric instruction of the wide arithmetic proposal.
+    /// Its call is [`i64_sub128`](super::InstructionSink::i64_sub128).
+    #[doc(alias = "i64.sub128")]
     I64Sub128,
-    /// Its op is `FC 15`.
+    /// `i64.mul_wide_s`, opcode `FC 15`, a numeric instruction of the wide arithmetic proposal.
+    /// Its call is [`i64_mul_wide_s`](super::InstructionSink::i64_mul_wide_s).
+    #[doc(alias = "i64.mul_wide_s")]
     I64MulWideS,
-    /// Its op is `FC 16`.
+    /// `i64.mul_wide_u`, opcode `FC 16`, a numeric instruction of the wide arithmetic proposal.
+    /// Its call is [`i64_mul_wide_u`](super::InstructionSink::i64_mul_wide_u).
+    #[doc(alias = "i64.mul_wide_u")]
     I64MulWideU,
-    /// Its op is `FD 00`.
+    /// `v128.load`, opcode `FD 00`, a vector instruction.
+    /// Its call is [`v128_load`](super::InstructionSink::v128_load), with the immediate `memarg`.
+    #[doc(alias = "v128.load")]
     V128Load(MemArg),
-    /// Its op is `FD 01`.
+    /// `v128.load8x8_s`, opcode `FD 01`, a vector instruction.
+    /// Its call is [`v128_load8x8_s`](super::InstructionSink::v128_load8x8_s), with the immediate `memarg`.
+    #[doc(alias = "v128.load8x8_s")]
     V128Load8x8S(MemArg),
-    /// Its op is `FD 02`.
+    /// `v128.load8x8_u`, opcode `FD 02`, a vector instruction.
+    /// Its call is [`v128_load8x8_u`](super::InstructionSink::v128_load8x8_u), with the immediate `memarg`.
+    #[doc(alias = "v128.load8x8_u")]
     V128Load8x8U(MemArg),
-    /// Its op is `FD 03`.
+    /// `v128.load16x4_s`, opcode `FD 03`, a vector instruction.
+    /// Its call is [`v128_load16x4_s`](super::InstructionSink::v128_load16x4_s), with the immediate `memarg`.
+    #[doc(alias = "v128.load16x4_s")]
     V128Load16x4S(MemArg),
-    /// Its op is `FD 04`.
+    /// `v128.load16x4_u`, opcode `FD 04`, a vector instruction.
+    /// Its call is [`v128_load16x4_u`](super::InstructionSink::v128_load16x4_u), with the immediate `memarg`.
+    #[doc(alias = "v128.load16x4_u")]
     V128Load16x4U(MemArg),
-    /// Its op is `FD 05`.
+    /// `v128.load32x2_s`, opcode `FD 05`, a vector instruction.
+    /// Its call is [`v128_load32x2_s`](super::InstructionSink::v128_load32x2_s), with the immediate `memarg`.
+    #[doc(alias = "v128.load32x2_s")]
     V128Load32x2S(MemArg),
-    /// Its op is `FD 06`.
+    /// `v128.load32x2_u`, opcode `FD 06`, a vector instruction.
+    /// Its call is [`v128_load32x2_u`](super::InstructionSink::v128_load32x2_u), with the immediate `memarg`.
+    #[doc(alias = "v128.load32x2_u")]
     V128Load32x2U(MemArg),
-    /// Its op is `FD 07`.
+    /// `v128.load8_splat`, opcode `FD 07`, a vector instruction.
+    /// Its call is [`v128_load8_splat`](super::InstructionSink::v128_load8_splat), with the immediate `memarg`.
+    #[doc(alias = "v128.load8_splat")]
     V128Load8Splat(MemArg),
-    /// Its op is `FD 08`.
+    /// `v128.load16_splat`, opcode `FD 08`, a vector instruction.
+    /// Its call is [`v128_load16_splat`](super::InstructionSink::v128_load16_splat), with the immediate `memarg`.
+    #[doc(alias = "v128.load16_splat")]
     V128Load16Splat(MemArg),
-    /// Its op is `FD 09`.
+    /// `v128.load32_splat`, opcode `FD 09`, a vector instruction.
+    /// Its call is [`v128_load32_splat`](super::InstructionSink::v128_load32_splat), with the immediate `memarg`.
+    #[doc(alias = "v128.load32_splat")]
     V128Load32Splat(MemArg),
-    /// Its op is `FD 0A`.
+    /// `v128.load64_splat`, opcode `FD 0A`, a vector instruction.
+    /// Its call is [`v128_load64_splat`](super::InstructionSink::v128_load64_splat), with the immediate `memarg`.
+    #[doc(alias = "v128.load64_splat")]
     V128Load64Splat(MemArg),
-    /// Its op is `FD 0B`.
+    /// `v128.store`, opcode `FD 0B`, a vector instruction.
+    /// Its call is [`v128_store`](super::InstructionSink::v128_store), with the immediate `memarg`.
+    #[doc(alias = "v128.store")]
     V128Store(MemArg),
-    /// Its op is `FD 0C`.
+    /// `v128.const`, opcode `FD 0C`, a vector instruction.
+    /// Its call is [`v128_const`](super::InstructionSink::v128_const), with the immediate `value`.
+    #[doc(alias = "v128.const")]
     V128Const(i128),
-    /// Its op is `FD 0D`.
+    /// `i8x16.shuffle`, opcode `FD 0D`, a vector instruction.
+    /// Its call is [`i8x16_shuffle`](super::InstructionSink::i8x16_shuffle), with the immediate `lanes`.
+    #[doc(alias = "i8x16.shuffle")]
     I8x16Shuffle([Lane; 16]),
-    /// Its op is `FD 0E`.
+    /// `i8x16.swizzle`, opcode `FD 0E`, a vector instruction.
+    /// Its call is [`i8x16_swizzle`](super::InstructionSink::i8x16_swizzle).
+    #[doc(alias = "i8x16.swizzle")]
     I8x16Swizzle,
-    /// Its op is `FD 0F`.
+    /// `i8x16.splat`, opcode `FD 0F`, a vector instruction.
+    /// Its call is [`i8x16_splat`](super::InstructionSink::i8x16_splat).
+    #[doc(alias = "i8x16.splat")]
     I8x16Splat,
-    /// Its op is `FD 10`.
+    /// `i16x8.splat`, opcode `FD 10`, a vector instruction.
+    /// Its call is [`i16x8_splat`](super::InstructionSink::i16x8_splat).
+    #[doc(alias = "i16x8.splat")]
     I16x8Splat,
-    /// Its op is `FD 11`.
+    /// `i32x4.splat`, opcode `FD 11`, a vector instruction.
+    /// Its call is [`i32x4_splat`](super::InstructionSink::i32x4_splat).
+    #[doc(alias = "i32x4.splat")]
     I32x4Splat,
-    /// Its op is `FD 12`.
+    /// `i64x2.splat`, opcode `FD 12`, a vector instruction.
+    /// Its call is [`i64x2_splat`](super::InstructionSink::i64x2_splat).
+    #[doc(alias = "i64x2.splat")]
     I64x2Splat,
-    /// Its op is `FD 13`.
+    /// `f32x4.splat`, opcode `FD 13`, a vector instruction.
+    /// Its call is [`f32x4_splat`](super::InstructionSink::f32x4_splat).
+    #[doc(alias = "f32x4.splat")]
     F32x4Splat,
-    /// Its op is `FD 14`.
+    /// `f64x2.splat`, opcode `FD 14`, a vector instruction.
+    /// Its call is [`f64x2_splat`](super::InstructionSink::f64x2_splat).
+    #[doc(alias = "f64x2.splat")]
     F64x2Splat,
-    /// Its op is `FD 15`.
+    /// `i8x16.extract_lane_s`, opcode `FD 15`, a vector instruction.
+    /// Its call is [`i8x16_extract_lane_s`](super::InstructionSink::i8x16_extract_lane_s), with the immediate `lane`.
+    #[doc(alias = "i8x16.extract_lane_s")]
     I8x16ExtractLaneS(Lane),
-    /// Its op is `FD 16`.
+    /// `i8x16.extract_lane_u`, opcode `FD 16`, a vector instruction.
+    /// Its call is [`i8x16_extract_lane_u`](super::InstructionSink::i8x16_extract_lane_u), with the immediate `lane`.
+    #[doc(alias = "i8x16.extract_lane_u")]
     I8x16ExtractLaneU(Lane),
-    /// Its op is `FD 17`.
+    /// `i8x16.replace_lane`, opcode `FD 17`, a vector instruction.
+    /// Its call is [`i8x16_replace_lane`](super::InstructionSink::i8x16_replace_lane), with the immediate `lane`.
+    #[doc(alias = "i8x16.replace_lane")]
     I8x16ReplaceLane(Lane),
-    /// Its op is `FD 18`.
+    /// `i16x8.extract_lane_s`, opcode `FD 18`, a vector instruction.
+    /// Its call is [`i16x8_extract_lane_s`](super::InstructionSink::i16x8_extract_lane_s), with the immediate `lane`.
+    #[doc(alias = "i16x8.extract_lane_s")]
     I16x8ExtractLaneS(Lane),
-    /// Its op is `FD 19`.
+    /// `i16x8.extract_lane_u`, opcode `FD 19`, a vector instruction.
+    /// Its call is [`i16x8_extract_lane_u`](super::InstructionSink::i16x8_extract_lane_u), with the immediate `lane`.
+    #[doc(alias = "i16x8.extract_lane_u")]
     I16x8ExtractLaneU(Lane),
-    /// Its op is `FD 1A`.
+    /// `i16x8.replace_lane`, opcode `FD 1A`, a vector instruction.
+    /// Its call is [`i16x8_replace_lane`](super::InstructionSink::i16x8_replace_lane), with the immediate `lane`.
+    #[doc(alias = "i16x8.replace_lane")]
     I16x8ReplaceLane(Lane),
-    /// Its op is `FD 1B`.
+    /// `i32x4.extract_lane`, opcode `FD 1B`, a vector instruction.
+    /// Its call is [`i32x4_extract_lane`](super::InstructionSink::i32x4_extract_lane), with the immediate `lane`.
+    #[doc(alias = "i32x4.extract_lane")]
     I32x4ExtractLane(Lane),
-    /// Its op is `FD 1C`.
+    /// `i32x4.replace_lane`, opcode `FD 1C`, a vector instruction.
+    /// Its call is [`i32x4_replace_lane`](super::InstructionSink::i32x4_replace_lane), with the immediate `lane`.
+    #[doc(alias = "i32x4.replace_lane")]
     I32x4ReplaceLane(Lane),
-    /// Its op is `FD 1D`.
+    /// `i64x2.extract_lane`, opcode `FD 1D`, a vector instruction.
+    /// Its call is [`i64x2_extract_lane`](super::InstructionSink::i64x2_extract_lane), with the immediate `lane`.
+    #[doc(alias = "i64x2.extract_lane")]
     I64x2ExtractLane(Lane),
-    /// Its op is `FD 1E`.
+    /// `i64x2.replace_lane`, opcode `FD 1E`, a vector instruction.
+    /// Its call is [`i64x2_replace_lane`](super::InstructionSink::i64x2_replace_lane), with the immediate `lane`.
+    #[doc(alias = "i64x2.replace_lane")]
     I64x2ReplaceLane(Lane),
-    /// Its op is `FD 1F`.
+    /// `f32x4.extract_lane`, opcode `FD 1F`, a vector instruction.
+    /// Its call is [`f32x4_extract_lane`](super::InstructionSink::f32x4_extract_lane), with the immediate `lane`.
+    #[doc(alias = "f32x4.extract_lane")]
     F32x4ExtractLane(Lane),
-    /// Its op is `FD 20`.
+    /// `f32x4.replace_lane`, opcode `FD 20`, a vector instruction.
+    /// Its call is [`f32x4_replace_lane`](super::InstructionSink::f32x4_replace_lane), with the immediate `lane`.
+    #[doc(alias = "f32x4.replace_lane")]
     F32x4ReplaceLane(Lane),
-    /// Its op is `FD 21`.
+    /// `f64x2.extract_lane`, opcode `FD 21`, a vector instruction.
+    /// Its call is [`f64x2_extract_lane`](super::InstructionSink::f64x2_extract_lane), with the immediate `lane`.
+    #[doc(alias = "f64x2.extract_lane")]
     F64x2ExtractLane(Lane),
-    /// Its op is `FD 22`.
+    /// `f64x2.replace_lane`, opcode `FD 22`, a vector instruction.
+    /// Its call is [`f64x2_replace_lane`](super::InstructionSink::f64x2_replace_lane), with the immediate `lane`.
+    #[doc(alias = "f64x2.replace_lane")]
     F64x2ReplaceLane(Lane),
-    /// Its op is `FD 23`.
+    /// `i8x16.eq`, opcode `FD 23`, a vector instruction.
+    /// Its call is [`i8x16_eq`](super::InstructionSink::i8x16_eq).
+    #[doc(alias = "i8x16.eq")]
     I8x16Eq,
-    /// Its op is `FD 24`.
+    /// `i8x16.ne`, opcode `FD 24`, a vector instruction.
+    /// Its call is [`i8x16_ne`](super::InstructionSink::i8x16_ne).
+    #[doc(alias = "i8x16.ne")]
     I8x16Ne,
-    /// Its op is `FD 25`.
+    /// `i8x16.lt_s`, opcode `FD 25`, a vector instruction.
+    /// Its call is [`i8x16_lt_s`](super::InstructionSink::i8x16_lt_s).
+    #[doc(alias = "i8x16.lt_s")]
     I8x16LtS,
-    /// Its op is `FD 26`.
+    /// `i8x16.lt_u`, opcode `FD 26`, a vector instruction.
+    /// Its call is [`i8x16_lt_u`](super::InstructionSink::i8x16_lt_u).
+    #[doc(alias = "i8x16.lt_u")]
     I8x16LtU,
-    /// Its op is `FD 27`.
+    /// `i8x16.gt_s`, opcode `FD 27`, a vector instruction.
+    /// Its call is [`i8x16_gt_s`](super::InstructionSink::i8x16_gt_s).
+    #[doc(alias = "i8x16.gt_s")]
     I8x16GtS,
-    /// Its op is `FD 28`.
+    /// `i8x16.gt_u`, opcode `FD 28`, a vector instruction.
+    /// Its call is [`i8x16_gt_u`](super::InstructionSink::i8x16_gt_u).
+    #[doc(alias = "i8x16.gt_u")]
     I8x16GtU,
-    /// Its op is `FD 29`.
+    /// `i8x16.le_s`, opcode `FD 29`, a vector instruction.
+    /// Its call is [`i8x16_le_s`](super::InstructionSink::i8x16_le_s).
+    #[doc(alias = "i8x16.le_s")]
     I8x16LeS,
-    /// Its op is `FD 2A`.
+    /// `i8x16.le_u`, opcode `FD 2A`, a vector instruction.
+    /// Its call is [`i8x16_le_u`](super::InstructionSink::i8x16_le_u).
+    #[doc(alias = "i8x16.le_u")]
     I8x16LeU,
-    /// Its op is `FD 2B`.
+    /// `i8x16.ge_s`, opcode `FD 2B`, a vector instruction.
+    /// Its call is [`i8x16_ge_s`](super::InstructionSink::i8x16_ge_s).
+    #[doc(alias = "i8x16.ge_s")]
     I8x16GeS,
-    /// Its op is `FD 2C`.
+    /// `i8x16.ge_u`, opcode `FD 2C`, a vector instruction.
+    /// Its call is [`i8x16_ge_u`](super::InstructionSink::i8x16_ge_u).
+    #[doc(alias = "i8x16.ge_u")]
     I8x16GeU,
-    /// Its op is `FD 2D`.
+    /// `i16x8.eq`, opcode `FD 2D`, a vector instruction.
+    /// Its call is [`i16x8_eq`](super::InstructionSink::i16x8_eq).
+    #[doc(alias = "i16x8.eq")]
     I16x8Eq,
-    /// Its op is `FD 2E`.
+    /// `i16x8.ne`, opcode `FD 2E`, a vector instruction.
+    /// Its call is [`i16x8_ne`](super::InstructionSink::i16x8_ne).
+    #[doc(alias = "i16x8.ne")]
     I16x8Ne,
-    /// Its op is `FD 2F`.
+    /// `i16x8.lt_s`, opcode `FD 2F`, a vector instruction.
+    /// Its call is [`i16x8_lt_s`](super::InstructionSink::i16x8_lt_s).
+    #[doc(alias = "i16x8.lt_s")]
     I16x8LtS,
-    /// Its op is `FD 30`.
+    /// `i16x8.lt_u`, opcode `FD 30`, a vector instruction.
+    /// Its call is [`i16x8_lt_u`](super::InstructionSink::i16x8_lt_u).
+    #[doc(alias = "i16x8.lt_u")]
     I16x8LtU,
-    /// Its op is `FD 31`.
+    /// `i16x8.gt_s`, opcode `FD 31`, a vector instruction.
+    /// Its call is [`i16x8_gt_s`](super::InstructionSink::i16x8_gt_s).
+    #[doc(alias = "i16x8.gt_s")]
     I16x8GtS,
-    /// Its op is `FD 32`.
+    /// `i16x8.gt_u`, opcode `FD 32`, a vector instruction.
+    /// Its call is [`i16x8_gt_u`](super::InstructionSink::i16x8_gt_u).
+    #[doc(alias = "i16x8.gt_u")]
     I16x8GtU,
-    /// Its op is `FD 33`.
+    /// `i16x8.le_s`, opcode `FD 33`, a vector instruction.
+    /// Its call is [`i16x8_le_s`](super::InstructionSink::i16x8_le_s).
+    #[doc(alias = "i16x8.le_s")]
     I16x8LeS,
-    /// Its op is `FD 34`.
+    /// `i16x8.le_u`, opcode `FD 34`, a vector instruction.
+    /// Its call is [`i16x8_le_u`](super::InstructionSink::i16x8_le_u).
+    #[doc(alias = "i16x8.le_u")]
     I16x8LeU,
-    /// Its op is `FD 35`.
+    /// `i16x8.ge_s`, opcode `FD 35`, a vector instruction.
+    /// Its call is [`i16x8_ge_s`](super::InstructionSink::i16x8_ge_s).
+    #[doc(alias = "i16x8.ge_s")]
     I16x8GeS,
-    /// Its op is `FD 36`.
+    /// `i16x8.ge_u`, opcode `FD 36`, a vector instruction.
+    /// Its call is [`i16x8_ge_u`](super::InstructionSink::i16x8_ge_u).
+    #[doc(alias = "i16x8.ge_u")]
     I16x8GeU,
-    /// Its op is `FD 37`.
+    /// `i32x4.eq`, opcode `FD 37`, a vector instruction.
+    /// Its call is [`i32x4_eq`](super::InstructionSink::i32x4_eq).
+    #[doc(alias = "i32x4.eq")]
     I32x4Eq,
-    /// Its op is `FD 38`.
+    /// `i32x4.ne`, opcode `FD 38`, a vector instruction.
+    /// Its call is [`i32x4_ne`](super::InstructionSink::i32x4_ne).
+    #[doc(alias = "i32x4.ne")]
     I32x4Ne,
-    /// Its op is `FD 39`.
+    /// `i32x4.lt_s`, opcode `FD 39`, a vector instruction.
+    /// Its call is [`i32x4_lt_s`](super::InstructionSink::i32x4_lt_s).
+    #[doc(alias = "i32x4.lt_s")]
     I32x4LtS,
-    /// Its op is `FD 3A`.
+    /// `i32x4.lt_u`, opcode `FD 3A`, a vector instruction.
+    /// Its call is [`i32x4_lt_u`](super::InstructionSink::i32x4_lt_u).
+    #[doc(alias = "i32x4.lt_u")]
     I32x4LtU,
-    /// Its op is `FD 3B`.
+    /// `i32x4.gt_s`, opcode `FD 3B`, a vector instruction.
+    /// Its call is [`i32x4_gt_s`](super::InstructionSink::i32x4_gt_s).
+    #[doc(alias = "i32x4.gt_s")]
     I32x4GtS,
-    /// Its op is `FD 3C`.
+    /// `i32x4.gt_u`, opcode `FD 3C`, a vector instruction.
+    /// Its call is [`i32x4_gt_u`](super::InstructionSink::i32x4_gt_u).
+    #[doc(alias = "i32x4.gt_u")]
     I32x4GtU,
-    /// Its op is `FD 3D`.
+    /// `i32x4.le_s`, opcode `FD 3D`, a vector instruction.
+    /// Its call is [`i32x4_le_s`](super::InstructionSink::i32x4_le_s).
+    #[doc(alias = "i32x4.le_s")]
     I32x4LeS,
-    /// Its op is `FD 3E`.
+    /// `i32x4.le_u`, opcode `FD 3E`, a vector instruction.
+    /// Its call is [`i32x4_le_u`](super::InstructionSink::i32x4_le_u).
+    #[doc(alias = "i32x4.le_u")]
     I32x4LeU,
-    /// Its op is `FD 3F`.
+    /// `i32x4.ge_s`, opcode `FD 3F`, a vector instruction.
+    /// Its call is [`i32x4_ge_s`](super::InstructionSink::i32x4_ge_s).
+    #[doc(alias = "i32x4.ge_s")]
     I32x4GeS,
-    /// Its op is `FD 40`.
+    /// `i32x4.ge_u`, opcode `FD 40`, a vector instruction.
+    /// Its call is [`i32x4_ge_u`](super::InstructionSink::i32x4_ge_u).
+    #[doc(alias = "i32x4.ge_u")]
     I32x4GeU,
-    /// Its op is `FD 41`.
+    /// `f32x4.eq`, opcode `FD 41`, a vector instruction.
+    /// Its call is [`f32x4_eq`](super::InstructionSink::f32x4_eq).
+    #[doc(alias = "f32x4.eq")]
     F32x4Eq,
-    /// Its op is `FD 42`.
+    /// `f32x4.ne`, opcode `FD 42`, a vector instruction.
+    /// Its call is [`f32x4_ne`](super::InstructionSink::f32x4_ne).
+    #[doc(alias = "f32x4.ne")]
     F32x4Ne,
-    /// Its op is `FD 43`.
+    /// `f32x4.lt`, opcode `FD 43`, a vector instruction.
+    /// Its call is [`f32x4_lt`](super::InstructionSink::f32x4_lt).
+    #[doc(alias = "f32x4.lt")]
     F32x4Lt,
-    /// Its op is `FD 44`.
+    /// `f32x4.gt`, opcode `FD 44`, a vector instruction.
+    /// Its call is [`f32x4_gt`](super::InstructionSink::f32x4_gt).
+    #[doc(alias = "f32x4.gt")]
     F32x4Gt,
-    /// Its op is `FD 45`.
+    /// `f32x4.le`, opcode `FD 45`, a vector instruction.
+    /// Its call is [`f32x4_le`](super::InstructionSink::f32x4_le).
+    #[doc(alias = "f32x4.le")]
     F32x4Le,
-    /// Its op is `FD 46`.
+    /// `f32x4.ge`, opcode `FD 46`, a vector instruction.
+    /// Its call is [`f32x4_ge`](super::InstructionSink::f32x4_ge).
+    #[doc(alias = "f32x4.ge")]
     F32x4Ge,
-    /// Its op is `FD 47`.
+    /// `f64x2.eq`, opcode `FD 47`, a vector instruction.
+    /// Its call is [`f64x2_eq`](super::InstructionSink::f64x2_eq).
+    #[doc(alias = "f64x2.eq")]
     F64x2Eq,
-    /// Its op is `FD 48`.
+    /// `f64x2.ne`, opcode `FD 48`, a vector instruction.
+    /// Its call is [`f64x2_ne`](super::InstructionSink::f64x2_ne).
+    #[doc(alias = "f64x2.ne")]
     F64x2Ne,
-    /// Its op is `FD 49`.
+    /// `f64x2.lt`, opcode `FD 49`, a vector instruction.
+    /// Its call is [`f64x2_lt`](super::InstructionSink::f64x2_lt).
+    #[doc(alias = "f64x2.lt")]
     F64x2Lt,
-    /// Its op is `FD 4A`.
+    /// `f64x2.gt`, opcode `FD 4A`, a vector instruction.
+    /// Its call is [`f64x2_gt`](super::InstructionSink::f64x2_gt).
+    #[doc(alias = "f64x2.gt")]
     F64x2Gt,
-    /// Its op is `FD 4B`.
+    /// `f64x2.le`, opcode `FD 4B`, a vector instruction.
+    /// Its call is [`f64x2_le`](super::InstructionSink::f64x2_le).
+    #[doc(alias = "f64x2.le")]
     F64x2Le,
-    /// Its op is `FD 4C`.
+    /// `f64x2.ge`, opcode `FD 4C`, a vector instruction.
+    /// Its call is [`f64x2_ge`](super::InstructionSink::f64x2_ge).
+    #[doc(alias = "f64x2.ge")]
     F64x2Ge,
-    /// Its op is `FD 4D`.
+    /// `v128.not`, opcode `FD 4D`, a vector instruction.
+    /// Its call is [`v128_not`](super::InstructionSink::v128_not).
+    #[doc(alias = "v128.not")]
     V128Not,
-    /// Its op is `FD 4E`.
+    /// `v128.and`, opcode `FD 4E`, a vector instruction.
+    /// Its call is [`v128_and`](super::InstructionSink::v128_and).
+    #[doc(alias = "v128.and")]
     V128And,
-    /// Its op is `FD 4F`.
+    /// `v128.andnot`, opcode `FD 4F`, a vector instruction.
+    /// Its call is [`v128_andnot`](super::InstructionSink::v128_andnot).
+    #[doc(alias = "v128.andnot")]
     V128AndNot,
-    /// Its op is `FD 50`.
+    /// `v128.or`, opcode `FD 50`, a vector instruction.
+    /// Its call is [`v128_or`](super::InstructionSink::v128_or).
+    #[doc(alias = "v128.or")]
     V128Or,
-    /// Its op is `FD 51`.
+    /// `v128.xor`, opcode `FD 51`, a vector instruction.
+    /// Its call is [`v128_xor`](super::InstructionSink::v128_xor).
+    #[doc(alias = "v128.xor")]
     V128Xor,
-    /// Its op is `FD 52`.
+    /// `v128.bitselect`, opcode `FD 52`, a vector instruction.
+    /// Its call is [`v128_bitselect`](super::InstructionSink::v128_bitselect).
+    #[doc(alias = "v128.bitselect")]
     V128Bitselect,
-    /// Its op is `FD 53`.
+    /// `v128.any_true`, opcode `FD 53`, a vector instruction.
+    /// Its call is [`v128_any_true`](super::InstructionSink::v128_any_true).
+    #[doc(alias = "v128.any_true")]
     V128AnyTrue,
-    /// Its op is `FD 54`.
-    V128Load8Lane { memarg: MemArg, lane: Lane },
-    /// Its op is `FD 55`.
-    V128Load16Lane { memarg: MemArg, lane: Lane },
-    /// Its op is `FD 56`.
-    V128Load32Lane { memarg: MemArg, lane: Lane },
-    /// Its op is `FD 57`.
-    V128Load64Lane { memarg: MemArg, lane: Lane },
-    /// Its op is `FD 58`.
-    V128Store8Lane { memarg: MemArg, lane: Lane },
-    /// Its op is `FD 59`.
-    V128Store16Lane { memarg: MemArg, lane: Lane },
-    /// Its op is `FD 5A`.
-    V128Store32Lane { memarg: MemArg, lane: Lane },
-    /// Its op is `FD 5B`.
-    V128Store64Lane { memarg: MemArg, lane: Lane },
-    /// Its op is `FD 5C`.
+    /// `v128.load8_lane`, opcode `FD 54`, a vector instruction.
+    /// Its call is [`v128_load8_lane`](super::InstructionSink::v128_load8_lane).
+    #[doc(alias = "v128.load8_lane")]
+    V128Load8Lane {
+        /// The memory, the offset and the alignment.
+        memarg: MemArg,
+        /// The index of the lane.
+        lane: Lane,
+    },
+    /// `v128.load16_lane`, opcode `FD 55`, a vector instruction.
+    /// Its call is [`v128_load16_lane`](super::InstructionSink::v128_load16_lane).
+    #[doc(alias = "v128.load16_lane")]
+    V128Load16Lane {
+        /// The memory, the offset and the alignment.
+        memarg: MemArg,
+        /// The index of the lane.
+        lane: Lane,
+    },
+    /// `v128.load32_lane`, opcode `FD 56`, a vector instruction.
+    /// Its call is [`v128_load32_lane`](super::InstructionSink::v128_load32_lane).
+    #[doc(alias = "v128.load32_lane")]
+    V128Load32Lane {
+        /// The memory, the offset and the alignment.
+        memarg: MemArg,
+        /// The index of the lane.
+        lane: Lane,
+    },
+    /// `v128.load64_lane`, opcode `FD 57`, a vector instruction.
+    /// Its call is [`v128_load64_lane`](super::InstructionSink::v128_load64_lane).
+    #[doc(alias = "v128.load64_lane")]
+    V128Load64Lane {
+        /// The memory, the offset and the alignment.
+        memarg: MemArg,
+        /// The index of the lane.
+        lane: Lane,
+    },
+    /// `v128.store8_lane`, opcode `FD 58`, a vector instruction.
+    /// Its call is [`v128_store8_lane`](super::InstructionSink::v128_store8_lane).
+    #[doc(alias = "v128.store8_lane")]
+    V128Store8Lane {
+        /// The memory, the offset and the alignment.
+        memarg: MemArg,
+        /// The index of the lane.
+        lane: Lane,
+    },
+    /// `v128.store16_lane`, opcode `FD 59`, a vector instruction.
+    /// Its call is [`v128_store16_lane`](super::InstructionSink::v128_store16_lane).
+    #[doc(alias = "v128.store16_lane")]
+    V128Store16Lane {
+        /// The memory, the offset and the alignment.
+        memarg: MemArg,
+        /// The index of the lane.
+        lane: Lane,
+    },
+    /// `v128.store32_lane`, opcode `FD 5A`, a vector instruction.
+    /// Its call is [`v128_store32_lane`](super::InstructionSink::v128_store32_lane).
+    #[doc(alias = "v128.store32_lane")]
+    V128Store32Lane {
+        /// The memory, the offset and the alignment.
+        memarg: MemArg,
+        /// The index of the lane.
+        lane: Lane,
+    },
+    /// `v128.store64_lane`, opcode `FD 5B`, a vector instruction.
+    /// Its call is [`v128_store64_lane`](super::InstructionSink::v128_store64_lane).
+    #[doc(alias = "v128.store64_lane")]
+    V128Store64Lane {
+        /// The memory, the offset and the alignment.
+        memarg: MemArg,
+        /// The index of the lane.
+        lane: Lane,
+    },
+    /// `v128.load32_zero`, opcode `FD 5C`, a vector instruction.
+    /// Its call is [`v128_load32_zero`](super::InstructionSink::v128_load32_zero), with the immediate `memarg`.
+    #[doc(alias = "v128.load32_zero")]
     V128Load32Zero(MemArg),
-    /// Its op is `FD 5D`.
+    /// `v128.load64_zero`, opcode `FD 5D`, a vector instruction.
+    /// Its call is [`v128_load64_zero`](super::InstructionSink::v128_load64_zero), with the immediate `memarg`.
+    #[doc(alias = "v128.load64_zero")]
     V128Load64Zero(MemArg),
-    /// Its op is `FD 5E`.
+    /// `f32x4.demote_f64x2_zero`, opcode `FD 5E`, a vector instruction.
+    /// Its call is [`f32x4_demote_f64x2_zero`](super::InstructionSink::f32x4_demote_f64x2_zero).
+    #[doc(alias = "f32x4.demote_f64x2_zero")]
     F32x4DemoteF64x2Zero,
-    /// Its op is `FD 5F`.
+    /// `f64x2.promote_low_f32x4`, opcode `FD 5F`, a vector instruction.
+    /// Its call is [`f64x2_promote_low_f32x4`](super::InstructionSink::f64x2_promote_low_f32x4).
+    #[doc(alias = "f64x2.promote_low_f32x4")]
     F64x2PromoteLowF32x4,
-    /// Its op is `FD 60`.
+    /// `i8x16.abs`, opcode `FD 60`, a vector instruction.
+    /// Its call is [`i8x16_abs`](super::InstructionSink::i8x16_abs).
+    #[doc(alias = "i8x16.abs")]
     I8x16Abs,
-    /// Its op is `FD 61`.
+    /// `i8x16.neg`, opcode `FD 61`, a vector instruction.
+    /// Its call is [`i8x16_neg`](super::InstructionSink::i8x16_neg).
+    #[doc(alias = "i8x16.neg")]
     I8x16Neg,
-    /// Its op is `FD 62`.
+    /// `i8x16.popcnt`, opcode `FD 62`, a vector instruction.
+    /// Its call is [`i8x16_popcnt`](super::InstructionSink::i8x16_popcnt).
+    #[doc(alias = "i8x16.popcnt")]
     I8x16Popcnt,
-    /// Its op is `FD 63`.
+    /// `i8x16.all_true`, opcode `FD 63`, a vector instruction.
+    /// Its call is [`i8x16_all_true`](super::InstructionSink::i8x16_all_true).
+    #[doc(alias = "i8x16.all_true")]
     I8x16AllTrue,
-    /// Its op is `FD 64`.
+    /// `i8x16.bitmask`, opcode `FD 64`, a vector instruction.
+    /// Its call is [`i8x16_bitmask`](super::InstructionSink::i8x16_bitmask).
+    #[doc(alias = "i8x16.bitmask")]
     I8x16Bitmask,
-    /// Its op is `FD 65`.
+    /// `i8x16.narrow_i16x8_s`, opcode `FD 65`, a vector instruction.
+    /// Its call is [`i8x16_narrow_i16x8_s`](super::InstructionSink::i8x16_narrow_i16x8_s).
+    #[doc(alias = "i8x16.narrow_i16x8_s")]
     I8x16NarrowI16x8S,
-    /// Its op is `FD 66`.
+    /// `i8x16.narrow_i16x8_u`, opcode `FD 66`, a vector instruction.
+    /// Its call is [`i8x16_narrow_i16x8_u`](super::InstructionSink::i8x16_narrow_i16x8_u).
+    #[doc(alias = "i8x16.narrow_i16x8_u")]
     I8x16NarrowI16x8U,
-    /// Its op is `FD 67`.
+    /// `f32x4.ceil`, opcode `FD 67`, a vector instruction.
+    /// Its call is [`f32x4_ceil`](super::InstructionSink::f32x4_ceil).
+    #[doc(alias = "f32x4.ceil")]
     F32x4Ceil,
-    /// Its op is `FD 68`.
+    /// `f32x4.floor`, opcode `FD 68`, a vector instruction.
+    /// Its call is [`f32x4_floor`](super::InstructionSink::f32x4_floor).
+    #[doc(alias = "f32x4.floor")]
     F32x4Floor,
-    /// Its op is `FD 69`.
+    /// `f32x4.trunc`, opcode `FD 69`, a vector instruction.
+    /// Its call is [`f32x4_trunc`](super::InstructionSink::f32x4_trunc).
+    #[doc(alias = "f32x4.trunc")]
     F32x4Trunc,
-    /// Its op is `FD 6A`.
+    /// `f32x4.nearest`, opcode `FD 6A`, a vector instruction.
+    /// Its call is [`f32x4_nearest`](super::InstructionSink::f32x4_nearest).
+    #[doc(alias = "f32x4.nearest")]
     F32x4Nearest,
-    /// Its op is `FD 6B`.
+    /// `i8x16.shl`, opcode `FD 6B`, a vector instruction.
+    /// Its call is [`i8x16_shl`](super::InstructionSink::i8x16_shl).
+    #[doc(alias = "i8x16.shl")]
     I8x16Shl,
-    /// Its op is `FD 6C`.
+    /// `i8x16.shr_s`, opcode `FD 6C`, a vector instruction.
+    /// Its call is [`i8x16_shr_s`](super::InstructionSink::i8x16_shr_s).
+    #[doc(alias = "i8x16.shr_s")]
     I8x16ShrS,
-    /// Its op is `FD 6D`.
+    /// `i8x16.shr_u`, opcode `FD 6D`, a vector instruction.
+    /// Its call is [`i8x16_shr_u`](super::InstructionSink::i8x16_shr_u).
+    #[doc(alias = "i8x16.shr_u")]
     I8x16ShrU,
-    /// Its op is `FD 6E`.
+    /// `i8x16.add`, opcode `FD 6E`, a vector instruction.
+    /// Its call is [`i8x16_add`](super::InstructionSink::i8x16_add).
+    #[doc(alias = "i8x16.add")]
     I8x16Add,
-    /// Its op is `FD 6F`.
+    /// `i8x16.add_sat_s`, opcode `FD 6F`, a vector instruction.
+    /// Its call is [`i8x16_add_sat_s`](super::InstructionSink::i8x16_add_sat_s).
+    #[doc(alias = "i8x16.add_sat_s")]
     I8x16AddSatS,
-    /// Its op is `FD 70`.
+    /// `i8x16.add_sat_u`, opcode `FD 70`, a vector instruction.
+    /// Its call is [`i8x16_add_sat_u`](super::InstructionSink::i8x16_add_sat_u).
+    #[doc(alias = "i8x16.add_sat_u")]
     I8x16AddSatU,
-    /// Its op is `FD 71`.
+    /// `i8x16.sub`, opcode `FD 71`, a vector instruction.
+    /// Its call is [`i8x16_sub`](super::InstructionSink::i8x16_sub).
+    #[doc(alias = "i8x16.sub")]
     I8x16Sub,
-    /// Its op is `FD 72`.
+    /// `i8x16.sub_sat_s`, opcode `FD 72`, a vector instruction.
+    /// Its call is [`i8x16_sub_sat_s`](super::InstructionSink::i8x16_sub_sat_s).
+    #[doc(alias = "i8x16.sub_sat_s")]
     I8x16SubSatS,
-    /// Its op is `FD 73`.
+    /// `i8x16.sub_sat_u`, opcode `FD 73`, a vector instruction.
+    /// Its call is [`i8x16_sub_sat_u`](super::InstructionSink::i8x16_sub_sat_u).
+    #[doc(alias = "i8x16.sub_sat_u")]
     I8x16SubSatU,
-    /// Its op is `FD 74`.
+    /// `f64x2.ceil`, opcode `FD 74`, a vector instruction.
+    /// Its call is [`f64x2_ceil`](super::InstructionSink::f64x2_ceil).
+    #[doc(alias = "f64x2.ceil")]
     F64x2Ceil,
-    /// Its op is `FD 75`.
+    /// `f64x2.floor`, opcode `FD 75`, a vector instruction.
+    /// Its call is [`f64x2_floor`](super::InstructionSink::f64x2_floor).
+    #[doc(alias = "f64x2.floor")]
     F64x2Floor,
-    /// Its op is `FD 76`.
+    /// `i8x16.min_s`, opcode `FD 76`, a vector instruction.
+    /// Its call is [`i8x16_min_s`](super::InstructionSink::i8x16_min_s).
+    #[doc(alias = "i8x16.min_s")]
     I8x16MinS,
-    /// Its op is `FD 77`.
+    /// `i8x16.min_u`, opcode `FD 77`, a vector instruction.
+    /// Its call is [`i8x16_min_u`](super::InstructionSink::i8x16_min_u).
+    #[doc(alias = "i8x16.min_u")]
     I8x16MinU,
-    /// Its op is `FD 78`.
+    /// `i8x16.max_s`, opcode `FD 78`, a vector instruction.
+    /// Its call is [`i8x16_max_s`](super::InstructionSink::i8x16_max_s).
+    #[doc(alias = "i8x16.max_s")]
     I8x16MaxS,
-    /// Its op is `FD 79`.
+    /// `i8x16.max_u`, opcode `FD 79`, a vector instruction.
+    /// Its call is [`i8x16_max_u`](super::InstructionSink::i8x16_max_u).
+    #[doc(alias = "i8x16.max_u")]
     I8x16MaxU,
-    /// Its op is `FD 7A`.
+    /// `f64x2.trunc`, opcode `FD 7A`, a vector instruction.
+    /// Its call is [`f64x2_trunc`](super::InstructionSink::f64x2_trunc).
+    #[doc(alias = "f64x2.trunc")]
     F64x2Trunc,
-    /// Its op is `FD 7B`.
+    /// `i8x16.avgr_u`, opcode `FD 7B`, a vector instruction.
+    /// Its call is [`i8x16_avgr_u`](super::InstructionSink::i8x16_avgr_u).
+    #[doc(alias = "i8x16.avgr_u")]
     I8x16AvgrU,
-    /// Its op is `FD 7C`.
+    /// `i16x8.extadd_pairwise_i8x16_s`, opcode `FD 7C`, a vector instruction.
+    /// Its call is [`i16x8_extadd_pairwise_i8x16_s`](super::InstructionSink::i16x8_extadd_pairwise_i8x16_s).
+    #[doc(alias = "i16x8.extadd_pairwise_i8x16_s")]
     I16x8ExtAddPairwiseI8x16S,
-    /// Its op is `FD 7D`.
+    /// `i16x8.extadd_pairwise_i8x16_u`, opcode `FD 7D`, a vector instruction.
+    /// Its call is [`i16x8_extadd_pairwise_i8x16_u`](super::InstructionSink::i16x8_extadd_pairwise_i8x16_u).
+    #[doc(alias = "i16x8.extadd_pairwise_i8x16_u")]
     I16x8ExtAddPairwiseI8x16U,
-    /// Its op is `FD 7E`.
+    /// `i32x4.extadd_pairwise_i16x8_s`, opcode `FD 7E`, a vector instruction.
+    /// Its call is [`i32x4_extadd_pairwise_i16x8_s`](super::InstructionSink::i32x4_extadd_pairwise_i16x8_s).
+    #[doc(alias = "i32x4.extadd_pairwise_i16x8_s")]
     I32x4ExtAddPairwiseI16x8S,
-    /// Its op is `FD 7F`.
+    /// `i32x4.extadd_pairwise_i16x8_u`, opcode `FD 7F`, a vector instruction.
+    /// Its call is [`i32x4_extadd_pairwise_i16x8_u`](super::InstructionSink::i32x4_extadd_pairwise_i16x8_u).
+    #[doc(alias = "i32x4.extadd_pairwise_i16x8_u")]
     I32x4ExtAddPairwiseI16x8U,
-    /// Its op is `FD 80 01`.
+    /// `i16x8.abs`, opcode `FD 80 01`, a vector instruction.
+    /// Its call is [`i16x8_abs`](super::InstructionSink::i16x8_abs).
+    #[doc(alias = "i16x8.abs")]
     I16x8Abs,
-    /// Its op is `FD 81 01`.
+    /// `i16x8.neg`, opcode `FD 81 01`, a vector instruction.
+    /// Its call is [`i16x8_neg`](super::InstructionSink::i16x8_neg).
+    #[doc(alias = "i16x8.neg")]
     I16x8Neg,
-    /// Its op is `FD 82 01`.
+    /// `i16x8.q15mulr_sat_s`, opcode `FD 82 01`, a vector instruction.
+    /// Its call is [`i16x8_q15mulr_sat_s`](super::InstructionSink::i16x8_q15mulr_sat_s).
+    #[doc(alias = "i16x8.q15mulr_sat_s")]
     I16x8Q15MulrSatS,
-    /// Its op is `FD 83 01`.
+    /// `i16x8.all_true`, opcode `FD 83 01`, a vector instruction.
+    /// Its call is [`i16x8_all_true`](super::InstructionSink::i16x8_all_true).
+    #[doc(alias = "i16x8.all_true")]
     I16x8AllTrue,
-    /// Its op is `FD 84 01`.
+    /// `i16x8.bitmask`, opcode `FD 84 01`, a vector instruction.
+    /// Its call is [`i16x8_bitmask`](super::InstructionSink::i16x8_bitmask).
+    #[doc(alias = "i16x8.bitmask")]
     I16x8Bitmask,
-    /// Its op is `FD 85 01`.
+    /// `i16x8.narrow_i32x4_s`, opcode `FD 85 01`, a vector instruction.
+    /// Its call is [`i16x8_narrow_i32x4_s`](super::InstructionSink::i16x8_narrow_i32x4_s).
+    #[doc(alias = "i16x8.narrow_i32x4_s")]
     I16x8NarrowI32x4S,
-    /// Its op is `FD 86 01`.
+    /// `i16x8.narrow_i32x4_u`, opcode `FD 86 01`, a vector instruction.
+    /// Its call is [`i16x8_narrow_i32x4_u`](super::InstructionSink::i16x8_narrow_i32x4_u).
+    #[doc(alias = "i16x8.narrow_i32x4_u")]
     I16x8NarrowI32x4U,
-    /// Its op is `FD 87 01`.
+    /// `i16x8.extend_low_i8x16_s`, opcode `FD 87 01`, a vector instruction.
+    /// Its call is [`i16x8_extend_low_i8x16_s`](super::InstructionSink::i16x8_extend_low_i8x16_s).
+    #[doc(alias = "i16x8.extend_low_i8x16_s")]
     I16x8ExtendLowI8x16S,
-    /// Its op is `FD 88 01`.
+    /// `i16x8.extend_high_i8x16_s`, opcode `FD 88 01`, a vector instruction.
+    /// Its call is [`i16x8_extend_high_i8x16_s`](super::InstructionSink::i16x8_extend_high_i8x16_s).
+    #[doc(alias = "i16x8.extend_high_i8x16_s")]
     I16x8ExtendHighI8x16S,
-    /// Its op is `FD 89 01`.
+    /// `i16x8.extend_low_i8x16_u`, opcode `FD 89 01`, a vector instruction.
+    /// Its call is [`i16x8_extend_low_i8x16_u`](super::InstructionSink::i16x8_extend_low_i8x16_u).
+    #[doc(alias = "i16x8.extend_low_i8x16_u")]
     I16x8ExtendLowI8x16U,
-    /// Its op is `FD 8A 01`.
+    /// `i16x8.extend_high_i8x16_u`, opcode `FD 8A 01`, a vector instruction.
+    /// Its call is [`i16x8_extend_high_i8x16_u`](super::InstructionSink::i16x8_extend_high_i8x16_u).
+    #[doc(alias = "i16x8.extend_high_i8x16_u")]
     I16x8ExtendHighI8x16U,
-    /// Its op is `FD 8B 01`.
+    /// `i16x8.shl`, opcode `FD 8B 01`, a vector instruction.
+    /// Its call is [`i16x8_shl`](super::InstructionSink::i16x8_shl).
+    #[doc(alias = "i16x8.shl")]
     I16x8Shl,
-    /// Its op is `FD 8C 01`.
+    /// `i16x8.shr_s`, opcode `FD 8C 01`, a vector instruction.
+    /// Its call is [`i16x8_shr_s`](super::InstructionSink::i16x8_shr_s).
+    #[doc(alias = "i16x8.shr_s")]
     I16x8ShrS,
-    /// Its op is `FD 8D 01`.
+    /// `i16x8.shr_u`, opcode `FD 8D 01`, a vector instruction.
+    /// Its call is [`i16x8_shr_u`](super::InstructionSink::i16x8_shr_u).
+    #[doc(alias = "i16x8.shr_u")]
     I16x8ShrU,
-    /// Its op is `FD 8E 01`.
+    /// `i16x8.add`, opcode `FD 8E 01`, a vector instruction.
+    /// Its call is [`i16x8_add`](super::InstructionSink::i16x8_add).
+    #[doc(alias = "i16x8.add")]
     I16x8Add,
-    /// Its op is `FD 8F 01`.
+    /// `i16x8.add_sat_s`, opcode `FD 8F 01`, a vector instruction.
+    /// Its call is [`i16x8_add_sat_s`](super::InstructionSink::i16x8_add_sat_s).
+    #[doc(alias = "i16x8.add_sat_s")]
     I16x8AddSatS,
-    /// Its op is `FD 90 01`.
+    /// `i16x8.add_sat_u`, opcode `FD 90 01`, a vector instruction.
+    /// Its call is [`i16x8_add_sat_u`](super::InstructionSink::i16x8_add_sat_u).
+    #[doc(alias = "i16x8.add_sat_u")]
     I16x8AddSatU,
-    /// Its op is `FD 91 01`.
+    /// `i16x8.sub`, opcode `FD 91 01`, a vector instruction.
+    /// Its call is [`i16x8_sub`](super::InstructionSink::i16x8_sub).
+    #[doc(alias = "i16x8.sub")]
     I16x8Sub,
-    /// Its op is `FD 92 01`.
+    /// `i16x8.sub_sat_s`, opcode `FD 92 01`, a vector instruction.
+    /// Its call is [`i16x8_sub_sat_s`](super::InstructionSink::i16x8_sub_sat_s).
+    #[doc(alias = "i16x8.sub_sat_s")]
     I16x8SubSatS,
-    /// Its op is `FD 93 01`.
+    /// `i16x8.sub_sat_u`, opcode `FD 93 01`, a vector instruction.
+    /// Its call is [`i16x8_sub_sat_u`](super::InstructionSink::i16x8_sub_sat_u).
+    #[doc(alias = "i16x8.sub_sat_u")]
     I16x8SubSatU,
-    /// Its op is `FD 94 01`.
+    /// `f64x2.nearest`, opcode `FD 94 01`, a vector instruction.
+    /// Its call is [`f64x2_nearest`](super::InstructionSink::f64x2_nearest).
+    #[doc(alias = "f64x2.nearest")]
     F64x2Nearest,
-    /// Its op is `FD 95 01`.
+    /// `i16x8.mul`, opcode `FD 95 01`, a vector instruction.
+    /// Its call is [`i16x8_mul`](super::InstructionSink::i16x8_mul).
+    #[doc(alias = "i16x8.mul")]
     I16x8Mul,
-    /// Its op is `FD 96 01`.
+    /// `i16x8.min_s`, opcode `FD 96 01`, a vector instruction.
+    /// Its call is [`i16x8_min_s`](super::InstructionSink::i16x8_min_s).
+    #[doc(alias = "i16x8.min_s")]
     I16x8MinS,
-    /// Its op is `FD 97 01`.
+    /// `i16x8.min_u`, opcode `FD 97 01`, a vector instruction.
+    /// Its call is [`i16x8_min_u`](super::InstructionSink::i16x8_min_u).
+    #[doc(alias = "i16x8.min_u")]
     I16x8MinU,
-    /// Its op is `FD 98 01`.
+    /// `i16x8.max_s`, opcode `FD 98 01`, a vector instruction.
+    /// Its call is [`i16x8_max_s`](super::InstructionSink::i16x8_max_s).
+    #[doc(alias = "i16x8.max_s")]
     I16x8MaxS,
-    /// Its op is `FD 99 01`.
+    /// `i16x8.max_u`, opcode `FD 99 01`, a vector instruction.
+    /// Its call is [`i16x8_max_u`](super::InstructionSink::i16x8_max_u).
+    #[doc(alias = "i16x8.max_u")]
     I16x8MaxU,
-    /// Its op is `FD 9B 01`.
+    /// `i16x8.avgr_u`, opcode `FD 9B 01`, a vector instruction.
+    /// Its call is [`i16x8_avgr_u`](super::InstructionSink::i16x8_avgr_u).
+    #[doc(alias = "i16x8.avgr_u")]
     I16x8AvgrU,
-    /// Its op is `FD 9C 01`.
+    /// `i16x8.extmul_low_i8x16_s`, opcode `FD 9C 01`, a vector instruction.
+    /// Its call is [`i16x8_extmul_low_i8x16_s`](super::InstructionSink::i16x8_extmul_low_i8x16_s).
+    #[doc(alias = "i16x8.extmul_low_i8x16_s")]
     I16x8ExtMulLowI8x16S,
-    /// Its op is `FD 9D 01`.
+    /// `i16x8.extmul_high_i8x16_s`, opcode `FD 9D 01`, a vector instruction.
+    /// Its call is [`i16x8_extmul_high_i8x16_s`](super::InstructionSink::i16x8_extmul_high_i8x16_s).
+    #[doc(alias = "i16x8.extmul_high_i8x16_s")]
     I16x8ExtMulHighI8x16S,
-    /// Its op is `FD 9E 01`.
+    /// `i16x8.extmul_low_i8x16_u`, opcode `FD 9E 01`, a vector instruction.
+    /// Its call is [`i16x8_extmul_low_i8x16_u`](super::InstructionSink::i16x8_extmul_low_i8x16_u).
+    #[doc(alias = "i16x8.extmul_low_i8x16_u")]
     I16x8ExtMulLowI8x16U,
-    /// Its op is `FD 9F 01`.
+    /// `i16x8.extmul_high_i8x16_u`, opcode `FD 9F 01`, a vector instruction.
+    /// Its call is [`i16x8_extmul_high_i8x16_u`](super::InstructionSink::i16x8_extmul_high_i8x16_u).
+    #[doc(alias = "i16x8.extmul_high_i8x16_u")]
     I16x8ExtMulHighI8x16U,
-    /// Its op is `FD A0 01`.
+    /// `i32x4.abs`, opcode `FD A0 01`, a vector instruction.
+    /// Its call is [`i32x4_abs`](super::InstructionSink::i32x4_abs).
+    #[doc(alias = "i32x4.abs")]
     I32x4Abs,
-    /// Its op is `FD A1 01`.
+    /// `i32x4.neg`, opcode `FD A1 01`, a vector instruction.
+    /// Its call is [`i32x4_neg`](super::InstructionSink::i32x4_neg).
+    #[doc(alias = "i32x4.neg")]
     I32x4Neg,
-    /// Its op is `FD A3 01`.
+    /// `i32x4.all_true`, opcode `FD A3 01`, a vector instruction.
+    /// Its call is [`i32x4_all_true`](super::InstructionSink::i32x4_all_true).
+    #[doc(alias = "i32x4.all_true")]
     I32x4AllTrue,
-    /// Its op is `FD A4 01`.
+    /// `i32x4.bitmask`, opcode `FD A4 01`, a vector instruction.
+    /// Its call is [`i32x4_bitmask`](super::InstructionSink::i32x4_bitmask).
+    #[doc(alias = "i32x4.bitmask")]
     I32x4Bitmask,
-    /// Its op is `FD A7 01`.
+    /// `i32x4.extend_low_i16x8_s`, opcode `FD A7 01`, a vector instruction.
+    /// Its call is [`i32x4_extend_low_i16x8_s`](super::InstructionSink::i32x4_extend_low_i16x8_s).
+    #[doc(alias = "i32x4.extend_low_i16x8_s")]
     I32x4ExtendLowI16x8S,
-    /// Its op is `FD A8 01`.
+    /// `i32x4.extend_high_i16x8_s`, opcode `FD A8 01`, a vector instruction.
+    /// Its call is [`i32x4_extend_high_i16x8_s`](super::InstructionSink::i32x4_extend_high_i16x8_s).
+    #[doc(alias = "i32x4.extend_high_i16x8_s")]
     I32x4ExtendHighI16x8S,
-    /// Its op is `FD A9 01`.
+    /// `i32x4.extend_low_i16x8_u`, opcode `FD A9 01`, a vector instruction.
+    /// Its call is [`i32x4_extend_low_i16x8_u`](super::InstructionSink::i32x4_extend_low_i16x8_u).
+    #[doc(alias = "i32x4.extend_low_i16x8_u")]
     I32x4ExtendLowI16x8U,
-    /// Its op is `FD AA 01`.
+    /// `i32x4.extend_high_i16x8_u`, opcode `FD AA 01`, a vector instruction.
+    /// Its call is [`i32x4_extend_high_i16x8_u`](super::InstructionSink::i32x4_extend_high_i16x8_u).
+    #[doc(alias = "i32x4.extend_high_i16x8_u")]
     I32x4ExtendHighI16x8U,
-    /// Its op is `FD AB 01`.
+    /// `i32x4.shl`, opcode `FD AB 01`, a vector instruction.
+    /// Its call is [`i32x4_shl`](super::InstructionSink::i32x4_shl).
+    #[doc(alias = "i32x4.shl")]
     I32x4Shl,
-    /// Its op is `FD AC 01`.
+    /// `i32x4.shr_s`, opcode `FD AC 01`, a vector instruction.
+    /// Its call is [`i32x4_shr_s`](super::InstructionSink::i32x4_shr_s).
+    #[doc(alias = "i32x4.shr_s")]
     I32x4ShrS,
-    /// Its op is `FD AD 01`.
+    /// `i32x4.shr_u`, opcode `FD AD 01`, a vector instruction.
+    /// Its call is [`i32x4_shr_u`](super::InstructionSink::i32x4_shr_u).
+    #[doc(alias = "i32x4.shr_u")]
     I32x4ShrU,
-    /// Its op is `FD AE 01`.
+    /// `i32x4.add`, opcode `FD AE 01`, a vector instruction.
+    /// Its call is [`i32x4_add`](super::InstructionSink::i32x4_add).
+    #[doc(alias = "i32x4.add")]
     I32x4Add,
-    /// Its op is `FD B1 01`.
+    /// `i32x4.sub`, opcode `FD B1 01`, a vector instruction.
+    /// Its call is [`i32x4_sub`](super::InstructionSink::i32x4_sub).
+    #[doc(alias = "i32x4.sub")]
     I32x4Sub,
-    /// Its op is `FD B5 01`.
+    /// `i32x4.mul`, opcode `FD B5 01`, a vector instruction.
+    /// Its call is [`i32x4_mul`](super::InstructionSink::i32x4_mul).
+    #[doc(alias = "i32x4.mul")]
     I32x4Mul,
-    /// Its op is `FD B6 01`.
+    /// `i32x4.min_s`, opcode `FD B6 01`, a vector instruction.
+    /// Its call is [`i32x4_min_s`](super::InstructionSink::i32x4_min_s).
+    #[doc(alias = "i32x4.min_s")]
     I32x4MinS,
-    /// Its op is `FD B7 01`.
+    /// `i32x4.min_u`, opcode `FD B7 01`, a vector instruction.
+    /// Its call is [`i32x4_min_u`](super::InstructionSink::i32x4_min_u).
+    #[doc(alias = "i32x4.min_u")]
     I32x4MinU,
-    /// Its op is `FD B8 01`.
+    /// `i32x4.max_s`, opcode `FD B8 01`, a vector instruction.
+    /// Its call is [`i32x4_max_s`](super::InstructionSink::i32x4_max_s).
+    #[doc(alias = "i32x4.max_s")]
     I32x4MaxS,
-    /// Its op is `FD B9 01`.
+    /// `i32x4.max_u`, opcode `FD B9 01`, a vector instruction.
+    /// Its call is [`i32x4_max_u`](super::InstructionSink::i32x4_max_u).
+    #[doc(alias = "i32x4.max_u")]
     I32x4MaxU,
-    /// Its op is `FD BA 01`.
+    /// `i32x4.dot_i16x8_s`, opcode `FD BA 01`, a vector instruction.
+    /// Its call is [`i32x4_dot_i16x8_s`](super::InstructionSink::i32x4_dot_i16x8_s).
+    #[doc(alias = "i32x4.dot_i16x8_s")]
     I32x4DotI16x8S,
-    /// Its op is `FD BC 01`.
+    /// `i32x4.extmul_low_i16x8_s`, opcode `FD BC 01`, a vector instruction.
+    /// Its call is [`i32x4_extmul_low_i16x8_s`](super::InstructionSink::i32x4_extmul_low_i16x8_s).
+    #[doc(alias = "i32x4.extmul_low_i16x8_s")]
     I32x4ExtMulLowI16x8S,
-    /// Its op is `FD BD 01`.
+    /// `i32x4.extmul_high_i16x8_s`, opcode `FD BD 01`, a vector instruction.
+    /// Its call is [`i32x4_extmul_high_i16x8_s`](super::InstructionSink::i32x4_extmul_high_i16x8_s).
+    #[doc(alias = "i32x4.extmul_high_i16x8_s")]
     I32x4ExtMulHighI16x8S,
-    /// Its op is `FD BE 01`.
+    /// `i32x4.extmul_low_i16x8_u`, opcode `FD BE 01`, a vector instruction.
+    /// Its call is [`i32x4_extmul_low_i16x8_u`](super::InstructionSink::i32x4_extmul_low_i16x8_u).
+    #[doc(alias = "i32x4.extmul_low_i16x8_u")]
     I32x4ExtMulLowI16x8U,
-    /// Its op is `FD BF 01`.
+    /// `i32x4.extmul_high_i16x8_u`, opcode `FD BF 01`, a vector instruction.
+    /// Its call is [`i32x4_extmul_high_i16x8_u`](super::InstructionSink::i32x4_extmul_high_i16x8_u).
+    #[doc(alias = "i32x4.extmul_high_i16x8_u")]
     I32x4ExtMulHighI16x8U,
-    /// Its op is `FD C0 01`.
+    /// `i64x2.abs`, opcode `FD C0 01`, a vector instruction.
+    /// Its call is [`i64x2_abs`](super::InstructionSink::i64x2_abs).
+    #[doc(alias = "i64x2.abs")]
     I64x2Abs,
-    /// Its op is `FD C1 01`.
+    /// `i64x2.neg`, opcode `FD C1 01`, a vector instruction.
+    /// Its call is [`i64x2_neg`](super::InstructionSink::i64x2_neg).
+    #[doc(alias = "i64x2.neg")]
     I64x2Neg,
-    /// Its op is `FD C3 01`.
+    /// `i64x2.all_true`, opcode `FD C3 01`, a vector instruction.
+    /// Its call is [`i64x2_all_true`](super::InstructionSink::i64x2_all_true).
+    #[doc(alias = "i64x2.all_true")]
     I64x2AllTrue,
-    /// Its op is `FD C4 01`.
+    /// `i64x2.bitmask`, opcode `FD C4 01`, a vector instruction.
+    /// Its call is [`i64x2_bitmask`](super::InstructionSink::i64x2_bitmask).
+    #[doc(alias = "i64x2.bitmask")]
     I64x2Bitmask,
-    /// Its op is `FD C7 01`.
+    /// `i64x2.extend_low_i32x4_s`, opcode `FD C7 01`, a vector instruction.
+    /// Its call is [`i64x2_extend_low_i32x4_s`](super::InstructionSink::i64x2_extend_low_i32x4_s).
+    #[doc(alias = "i64x2.extend_low_i32x4_s")]
     I64x2ExtendLowI32x4S,
-    /// Its op is `FD C8 01`.
+    /// `i64x2.extend_high_i32x4_s`, opcode `FD C8 01`, a vector instruction.
+    /// Its call is [`i64x2_extend_high_i32x4_s`](super::InstructionSink::i64x2_extend_high_i32x4_s).
+    #[doc(alias = "i64x2.extend_high_i32x4_s")]
     I64x2ExtendHighI32x4S,
-    /// Its op is `FD C9 01`.
+    /// `i64x2.extend_low_i32x4_u`, opcode `FD C9 01`, a vector instruction.
+    /// Its call is [`i64x2_extend_low_i32x4_u`](super::InstructionSink::i64x2_extend_low_i32x4_u).
+    #[doc(alias = "i64x2.extend_low_i32x4_u")]
     I64x2ExtendLowI32x4U,
-    /// Its op is `FD CA 01`.
+    /// `i64x2.extend_high_i32x4_u`, opcode `FD CA 01`, a vector instruction.
+    /// Its call is [`i64x2_extend_high_i32x4_u`](super::InstructionSink::i64x2_extend_high_i32x4_u).
+    #[doc(alias = "i64x2.extend_high_i32x4_u")]
     I64x2ExtendHighI32x4U,
-    /// Its op is `FD CB 01`.
+    /// `i64x2.shl`, opcode `FD CB 01`, a vector instruction.
+    /// Its call is [`i64x2_shl`](super::InstructionSink::i64x2_shl).
+    #[doc(alias = "i64x2.shl")]
     I64x2Shl,
-    /// Its op is `FD CC 01`.
+    /// `i64x2.shr_s`, opcode `FD CC 01`, a vector instruction.
+    /// Its call is [`i64x2_shr_s`](super::InstructionSink::i64x2_shr_s).
+    #[doc(alias = "i64x2.shr_s")]
     I64x2ShrS,
-    /// Its op is `FD CD 01`.
+    /// `i64x2.shr_u`, opcode `FD CD 01`, a vector instruction.
+    /// Its call is [`i64x2_shr_u`](super::InstructionSink::i64x2_shr_u).
+    #[doc(alias = "i64x2.shr_u")]
     I64x2ShrU,
-    /// Its op is `FD CE 01`.
+    /// `i64x2.add`, opcode `FD CE 01`, a vector instruction.
+    /// Its call is [`i64x2_add`](super::InstructionSink::i64x2_add).
+    #[doc(alias = "i64x2.add")]
     I64x2Add,
-    /// Its op is `FD D1 01`.
+    /// `i64x2.sub`, opcode `FD D1 01`, a vector instruction.
+    /// Its call is [`i64x2_sub`](super::InstructionSink::i64x2_sub).
+    #[doc(alias = "i64x2.sub")]
     I64x2Sub,
-    /// Its op is `FD D5 01`.
+    /// `i64x2.mul`, opcode `FD D5 01`, a vector instruction.
+    /// Its call is [`i64x2_mul`](super::InstructionSink::i64x2_mul).
+    #[doc(alias = "i64x2.mul")]
     I64x2Mul,
-    /// Its op is `FD D6 01`.
+    /// `i64x2.eq`, opcode `FD D6 01`, a vector instruction.
+    /// Its call is [`i64x2_eq`](super::InstructionSink::i64x2_eq).
+    #[doc(alias = "i64x2.eq")]
     I64x2Eq,
-    /// Its op is `FD D7 01`.
+    /// `i64x2.ne`, opcode `FD D7 01`, a vector instruction.
+    /// Its call is [`i64x2_ne`](super::InstructionSink::i64x2_ne).
+    #[doc(alias = "i64x2.ne")]
     I64x2Ne,
-    /// Its op is `FD D8 01`.
+    /// `i64x2.lt_s`, opcode `FD D8 01`, a vector instruction.
+    /// Its call is [`i64x2_lt_s`](super::InstructionSink::i64x2_lt_s).
+    #[doc(alias = "i64x2.lt_s")]
     I64x2LtS,
-    /// Its op is `FD D9 01`.
+    /// `i64x2.gt_s`, opcode `FD D9 01`, a vector instruction.
+    /// Its call is [`i64x2_gt_s`](super::InstructionSink::i64x2_gt_s).
+    #[doc(alias = "i64x2.gt_s")]
     I64x2GtS,
-    /// Its op is `FD DA 01`.
+    /// `i64x2.le_s`, opcode `FD DA 01`, a vector instruction.
+    /// Its call is [`i64x2_le_s`](super::InstructionSink::i64x2_le_s).
+    #[doc(alias = "i64x2.le_s")]
     I64x2LeS,
-    /// Its op is `FD DB 01`.
+    /// `i64x2.ge_s`, opcode `FD DB 01`, a vector instruction.
+    /// Its call is [`i64x2_ge_s`](super::InstructionSink::i64x2_ge_s).
+    #[doc(alias = "i64x2.ge_s")]
     I64x2GeS,
-    /// Its op is `FD DC 01`.
+    /// `i64x2.extmul_low_i32x4_s`, opcode `FD DC 01`, a vector instruction.
+    /// Its call is [`i64x2_extmul_low_i32x4_s`](super::InstructionSink::i64x2_extmul_low_i32x4_s).
+    #[doc(alias = "i64x2.extmul_low_i32x4_s")]
     I64x2ExtMulLowI32x4S,
-    /// Its op is `FD DD 01`.
+    /// `i64x2.extmul_high_i32x4_s`, opcode `FD DD 01`, a vector instruction.
+    /// Its call is [`i64x2_extmul_high_i32x4_s`](super::InstructionSink::i64x2_extmul_high_i32x4_s).
+    #[doc(alias = "i64x2.extmul_high_i32x4_s")]
     I64x2ExtMulHighI32x4S,
-    /// Its op is `FD DE 01`.
+    /// `i64x2.extmul_low_i32x4_u`, opcode `FD DE 01`, a vector instruction.
+    /// Its call is [`i64x2_extmul_low_i32x4_u`](super::InstructionSink::i64x2_extmul_low_i32x4_u).
+    #[doc(alias = "i64x2.extmul_low_i32x4_u")]
     I64x2ExtMulLowI32x4U,
-    /// Its op is `FD DF 01`.
+    /// `i64x2.extmul_high_i32x4_u`, opcode `FD DF 01`, a vector instruction.
+    /// Its call is [`i64x2_extmul_high_i32x4_u`](super::InstructionSink::i64x2_extmul_high_i32x4_u).
+    #[doc(alias = "i64x2.extmul_high_i32x4_u")]
     I64x2ExtMulHighI32x4U,
-    /// Its op is `FD E0 01`.
+    /// `f32x4.abs`, opcode `FD E0 01`, a vector instruction.
+    /// Its call is [`f32x4_abs`](super::InstructionSink::f32x4_abs).
+    #[doc(alias = "f32x4.abs")]
     F32x4Abs,
-    /// Its op is `FD E1 01`.
+    /// `f32x4.neg`, opcode `FD E1 01`, a vector instruction.
+    /// Its call is [`f32x4_neg`](super::InstructionSink::f32x4_neg).
+    #[doc(alias = "f32x4.neg")]
     F32x4Neg,
-    /// Its op is `FD E3 01`.
+    /// `f32x4.sqrt`, opcode `FD E3 01`, a vector instruction.
+    /// Its call is [`f32x4_sqrt`](super::InstructionSink::f32x4_sqrt).
+    #[doc(alias = "f32x4.sqrt")]
     F32x4Sqrt,
-    /// Its op is `FD E4 01`.
+    /// `f32x4.add`, opcode `FD E4 01`, a vector instruction.
+    /// Its call is [`f32x4_add`](super::InstructionSink::f32x4_add).
+    #[doc(alias = "f32x4.add")]
     F32x4Add,
-    /// Its op is `FD E5 01`.
+    /// `f32x4.sub`, opcode `FD E5 01`, a vector instruction.
+    /// Its call is [`f32x4_sub`](super::InstructionSink::f32x4_sub).
+    #[doc(alias = "f32x4.sub")]
     F32x4Sub,
-    /// Its op is `FD E6 01`.
+    /// `f32x4.mul`, opcode `FD E6 01`, a vector instruction.
+    /// Its call is [`f32x4_mul`](super::InstructionSink::f32x4_mul).
+    #[doc(alias = "f32x4.mul")]
     F32x4Mul,
-    /// Its op is `FD E7 01`.
+    /// `f32x4.div`, opcode `FD E7 01`, a vector instruction.
+    /// Its call is [`f32x4_div`](super::InstructionSink::f32x4_div).
+    #[doc(alias = "f32x4.div")]
     F32x4Div,
-    /// Its op is `FD E8 01`.
+    /// `f32x4.min`, opcode `FD E8 01`, a vector instruction.
+    /// Its call is [`f32x4_min`](super::InstructionSink::f32x4_min).
+    #[doc(alias = "f32x4.min")]
     F32x4Min,
-    /// Its op is `FD E9 01`.
+    /// `f32x4.max`, opcode `FD E9 01`, a vector instruction.
+    /// Its call is [`f32x4_max`](super::InstructionSink::f32x4_max).
+    #[doc(alias = "f32x4.max")]
     F32x4Max,
-    /// Its op is `FD EA 01`.
+    /// `f32x4.pmin`, opcode `FD EA 01`, a vector instruction.
+    /// Its call is [`f32x4_pmin`](super::InstructionSink::f32x4_pmin).
+    #[doc(alias = "f32x4.pmin")]
     F32x4PMin,
-    /// Its op is `FD EB 01`.
+    /// `f32x4.pmax`, opcode `FD EB 01`, a vector instruction.
+    /// Its call is [`f32x4_pmax`](super::InstructionSink::f32x4_pmax).
+    #[doc(alias = "f32x4.pmax")]
     F32x4PMax,
-    /// Its op is `FD EC 01`.
+    /// `f64x2.abs`, opcode `FD EC 01`, a vector instruction.
+    /// Its call is [`f64x2_abs`](super::InstructionSink::f64x2_abs).
+    #[doc(alias = "f64x2.abs")]
     F64x2Abs,
-    /// Its op is `FD ED 01`.
+    /// `f64x2.neg`, opcode `FD ED 01`, a vector instruction.
+    /// Its call is [`f64x2_neg`](super::InstructionSink::f64x2_neg).
+    #[doc(alias = "f64x2.neg")]
     F64x2Neg,
-    /// Its op is `FD EF 01`.
+    /// `f64x2.sqrt`, opcode `FD EF 01`, a vector instruction.
+    /// Its call is [`f64x2_sqrt`](super::InstructionSink::f64x2_sqrt).
+    #[doc(alias = "f64x2.sqrt")]
     F64x2Sqrt,
-    /// Its op is `FD F0 01`.
+    /// `f64x2.add`, opcode `FD F0 01`, a vector instruction.
+    /// Its call is [`f64x2_add`](super::InstructionSink::f64x2_add).
+    #[doc(alias = "f64x2.add")]
     F64x2Add,
-    /// Its op is `FD F1 01`.
+    /// `f64x2.sub`, opcode `FD F1 01`, a vector instruction.
+    /// Its call is [`f64x2_sub`](super::InstructionSink::f64x2_sub).
+    #[doc(alias = "f64x2.sub")]
     F64x2Sub,
-    /// Its op is `FD F2 01`.
+    /// `f64x2.mul`, opcode `FD F2 01`, a vector instruction.
+    /// Its call is [`f64x2_mul`](super::InstructionSink::f64x2_mul).
+    #[doc(alias = "f64x2.mul")]
     F64x2Mul,
-    /// Its op is `FD F3 01`.
+    /// `f64x2.div`, opcode `FD F3 01`, a vector instruction.
+    /// Its call is [`f64x2_div`](super::InstructionSink::f64x2_div).
+    #[doc(alias = "f64x2.div")]
     F64x2Div,
-    /// Its op is `FD F4 01`.
+    /// `f64x2.min`, opcode `FD F4 01`, a vector instruction.
+    /// Its call is [`f64x2_min`](super::InstructionSink::f64x2_min).
+    #[doc(alias = "f64x2.min")]
     F64x2Min,
-    /// Its op is `FD F5 01`.
+    /// `f64x2.max`, opcode `FD F5 01`, a vector instruction.
+    /// Its call is [`f64x2_max`](super::InstructionSink::f64x2_max).
+    #[doc(alias = "f64x2.max")]
     F64x2Max,
-    /// Its op is `FD F6 01`.
+    /// `f64x2.pmin`, opcode `FD F6 01`, a vector instruction.
+    /// Its call is [`f64x2_pmin`](super::InstructionSink::f64x2_pmin).
+    #[doc(alias = "f64x2.pmin")]
     F64x2PMin,
-    /// Its op is `FD F7 01`.
+    /// `f64x2.pmax`, opcode `FD F7 01`, a vector instruction.
+    /// Its call is [`f64x2_pmax`](super::InstructionSink::f64x2_pmax).
+    #[doc(alias = "f64x2.pmax")]
     F64x2PMax,
-    /// Its op is `FD F8 01`.
+    /// `i32x4.trunc_sat_f32x4_s`, opcode `FD F8 01`, a vector instruction.
+    /// Its call is [`i32x4_trunc_sat_f32x4_s`](super::InstructionSink::i32x4_trunc_sat_f32x4_s).
+    #[doc(alias = "i32x4.trunc_sat_f32x4_s")]
     I32x4TruncSatF32x4S,
-    /// Its op is `FD F9 01`.
+    /// `i32x4.trunc_sat_f32x4_u`, opcode `FD F9 01`, a vector instruction.
+    /// Its call is [`i32x4_trunc_sat_f32x4_u`](super::InstructionSink::i32x4_trunc_sat_f32x4_u).
+    #[doc(alias = "i32x4.trunc_sat_f32x4_u")]
     I32x4TruncSatF32x4U,
-    /// Its op is `FD FA 01`.
+    /// `f32x4.convert_i32x4_s`, opcode `FD FA 01`, a vector instruction.
+    /// Its call is [`f32x4_convert_i32x4_s`](super::InstructionSink::f32x4_convert_i32x4_s).
+    #[doc(alias = "f32x4.convert_i32x4_s")]
     F32x4ConvertI32x4S,
-    /// Its op is `FD FB 01`.
+    /// `f32x4.convert_i32x4_u`, opcode `FD FB 01`, a vector instruction.
+    /// Its call is [`f32x4_convert_i32x4_u`](super::InstructionSink::f32x4_convert_i32x4_u).
+    #[doc(alias = "f32x4.convert_i32x4_u")]
     F32x4ConvertI32x4U,
-    /// Its op is `FD FC 01`.
+    /// `i32x4.trunc_sat_f64x2_s_zero`, opcode `FD FC 01`, a vector instruction.
+    /// Its call is [`i32x4_trunc_sat_f64x2_s_zero`](super::InstructionSink::i32x4_trunc_sat_f64x2_s_zero).
+    #[doc(alias = "i32x4.trunc_sat_f64x2_s_zero")]
     I32x4TruncSatF64x2SZero,
-    /// Its op is `FD FD 01`.
+    /// `i32x4.trunc_sat_f64x2_u_zero`, opcode `FD FD 01`, a vector instruction.
+    /// Its call is [`i32x4_trunc_sat_f64x2_u_zero`](super::InstructionSink::i32x4_trunc_sat_f64x2_u_zero).
+    #[doc(alias = "i32x4.trunc_sat_f64x2_u_zero")]
     I32x4TruncSatF64x2UZero,
-    /// Its op is `FD FE 01`.
+    /// `f64x2.convert_low_i32x4_s`, opcode `FD FE 01`, a vector instruction.
+    /// Its call is [`f64x2_convert_low_i32x4_s`](super::InstructionSink::f64x2_convert_low_i32x4_s).
+    #[doc(alias = "f64x2.convert_low_i32x4_s")]
     F64x2ConvertLowI32x4S,
-    /// Its op is `FD FF 01`.
+    /// `f64x2.convert_low_i32x4_u`, opcode `FD FF 01`, a vector instruction.
+    /// Its call is [`f64x2_convert_low_i32x4_u`](super::InstructionSink::f64x2_convert_low_i32x4_u).
+    #[doc(alias = "f64x2.convert_low_i32x4_u")]
     F64x2ConvertLowI32x4U,
-    /// Its op is `FD 80 02`.
+    /// `i8x16.relaxed_swizzle`, opcode `FD 80 02`, a relaxed vector instruction.
+    /// Its call is [`i8x16_relaxed_swizzle`](super::InstructionSink::i8x16_relaxed_swizzle).
+    #[doc(alias = "i8x16.relaxed_swizzle")]
     I8x16RelaxedSwizzle,
-    /// Its op is `FD 81 02`.
+    /// `i32x4.relaxed_trunc_f32x4_s`, opcode `FD 81 02`, a relaxed vector instruction.
+    /// Its call is [`i32x4_relaxed_trunc_f32x4_s`](super::InstructionSink::i32x4_relaxed_trunc_f32x4_s).
+    #[doc(alias = "i32x4.relaxed_trunc_f32x4_s")]
     I32x4RelaxedTruncF32x4S,
-    /// Its op is `FD 82 02`.
+    /// `i32x4.relaxed_trunc_f32x4_u`, opcode `FD 82 02`, a relaxed vector instruction.
+    /// Its call is [`i32x4_relaxed_trunc_f32x4_u`](super::InstructionSink::i32x4_relaxed_trunc_f32x4_u).
+    #[doc(alias = "i32x4.relaxed_trunc_f32x4_u")]
     I32x4RelaxedTruncF32x4U,
-    /// Its op is `FD 83 02`.
+    /// `i32x4.relaxed_trunc_f64x2_s_zero`, opcode `FD 83 02`, a relaxed vector instruction.
+    /// Its call is [`i32x4_relaxed_trunc_f64x2_s_zero`](super::InstructionSink::i32x4_relaxed_trunc_f64x2_s_zero).
+    #[doc(alias = "i32x4.relaxed_trunc_f64x2_s_zero")]
     I32x4RelaxedTruncF64x2SZero,
-    /// Its op is `FD 84 02`.
+    /// `i32x4.relaxed_trunc_f64x2_u_zero`, opcode `FD 84 02`, a relaxed vector instruction.
+    /// Its call is [`i32x4_relaxed_trunc_f64x2_u_zero`](super::InstructionSink::i32x4_relaxed_trunc_f64x2_u_zero).
+    #[doc(alias = "i32x4.relaxed_trunc_f64x2_u_zero")]
     I32x4RelaxedTruncF64x2UZero,
-    /// Its op is `FD 85 02`.
+    /// `f32x4.relaxed_madd`, opcode `FD 85 02`, a relaxed vector instruction.
+    /// Its call is [`f32x4_relaxed_madd`](super::InstructionSink::f32x4_relaxed_madd).
+    #[doc(alias = "f32x4.relaxed_madd")]
     F32x4RelaxedMadd,
-    /// Its op is `FD 86 02`.
+    /// `f32x4.relaxed_nmadd`, opcode `FD 86 02`, a relaxed vector instruction.
+    /// Its call is [`f32x4_relaxed_nmadd`](super::InstructionSink::f32x4_relaxed_nmadd).
+    #[doc(alias = "f32x4.relaxed_nmadd")]
     F32x4RelaxedNmadd,
-    /// Its op is `FD 87 02`.
+    /// `f64x2.relaxed_madd`, opcode `FD 87 02`, a relaxed vector instruction.
+    /// Its call is [`f64x2_relaxed_madd`](super::InstructionSink::f64x2_relaxed_madd).
+    #[doc(alias = "f64x2.relaxed_madd")]
     F64x2RelaxedMadd,
-    /// Its op is `FD 88 02`.
+    /// `f64x2.relaxed_nmadd`, opcode `FD 88 02`, a relaxed vector instruction.
+    /// Its call is [`f64x2_relaxed_nmadd`](super::InstructionSink::f64x2_relaxed_nmadd).
+    #[doc(alias = "f64x2.relaxed_nmadd")]
     F64x2RelaxedNmadd,
-    /// Its op is `FD 89 02`.
+    /// `i8x16.relaxed_laneselect`, opcode `FD 89 02`, a relaxed vector instruction.
+    /// Its call is [`i8x16_relaxed_laneselect`](super::InstructionSink::i8x16_relaxed_laneselect).
+    #[doc(alias = "i8x16.relaxed_laneselect")]
     I8x16RelaxedLaneselect,
-    /// Its op is `FD 8A 02`.
+    /// `i16x8.relaxed_laneselect`, opcode `FD 8A 02`, a relaxed vector instruction.
+    /// Its call is [`i16x8_relaxed_laneselect`](super::InstructionSink::i16x8_relaxed_laneselect).
+    #[doc(alias = "i16x8.relaxed_laneselect")]
     I16x8RelaxedLaneselect,
-    /// Its op is `FD 8B 02`.
+    /// `i32x4.relaxed_laneselect`, opcode `FD 8B 02`, a relaxed vector instruction.
+    /// Its call is [`i32x4_relaxed_laneselect`](super::InstructionSink::i32x4_relaxed_laneselect).
+    #[doc(alias = "i32x4.relaxed_laneselect")]
     I32x4RelaxedLaneselect,
-    /// Its op is `FD 8C 02`.
+    /// `i64x2.relaxed_laneselect`, opcode `FD 8C 02`, a relaxed vector instruction.
+    /// Its call is [`i64x2_relaxed_laneselect`](super::InstructionSink::i64x2_relaxed_laneselect).
+    #[doc(alias = "i64x2.relaxed_laneselect")]
     I64x2RelaxedLaneselect,
-    /// Its op is `FD 8D 02`.
+    /// `f32x4.relaxed_min`, opcode `FD 8D 02`, a relaxed vector instruction.
+    /// Its call is [`f32x4_relaxed_min`](super::InstructionSink::f32x4_relaxed_min).
+    #[doc(alias = "f32x4.relaxed_min")]
     F32x4RelaxedMin,
-    /// Its op is `FD 8E 02`.
+    /// `f32x4.relaxed_max`, opcode `FD 8E 02`, a relaxed vector instruction.
+    /// Its call is [`f32x4_relaxed_max`](super::InstructionSink::f32x4_relaxed_max).
+    #[doc(alias = "f32x4.relaxed_max")]
     F32x4RelaxedMax,
-    /// Its op is `FD 8F 02`.
+    /// `f64x2.relaxed_min`, opcode `FD 8F 02`, a relaxed vector instruction.
+    /// Its call is [`f64x2_relaxed_min`](super::InstructionSink::f64x2_relaxed_min).
+    #[doc(alias = "f64x2.relaxed_min")]
     F64x2RelaxedMin,
-    /// Its op is `FD 90 02`.
+    /// `f64x2.relaxed_max`, opcode `FD 90 02`, a relaxed vector instruction.
+    /// Its call is [`f64x2_relaxed_max`](super::InstructionSink::f64x2_relaxed_max).
+    #[doc(alias = "f64x2.relaxed_max")]
     F64x2RelaxedMax,
-    /// Its op is `FD 91 02`.
+    /// `i16x8.relaxed_q15mulr_s`, opcode `FD 91 02`, a relaxed vector instruction.
+    /// Its call is [`i16x8_relaxed_q15mulr_s`](super::InstructionSink::i16x8_relaxed_q15mulr_s).
+    #[doc(alias = "i16x8.relaxed_q15mulr_s")]
     I16x8RelaxedQ15mulrS,
-    /// Its op is `FD 92 02`.
+    /// `i16x8.relaxed_dot_i8x16_i7x16_s`, opcode `FD 92 02`, a relaxed vector instruction.
+    /// Its call is [`i16x8_relaxed_dot_i8x16_i7x16_s`](super::InstructionSink::i16x8_relaxed_dot_i8x16_i7x16_s).
+    #[doc(alias = "i16x8.relaxed_dot_i8x16_i7x16_s")]
     I16x8RelaxedDotI8x16I7x16S,
-    /// Its op is `FD 93 02`.
+    /// `i32x4.relaxed_dot_i8x16_i7x16_add_s`, opcode `FD 93 02`, a relaxed vector instruction.
+    /// Its call is [`i32x4_relaxed_dot_i8x16_i7x16_add_s`](super::InstructionSink::i32x4_relaxed_dot_i8x16_i7x16_add_s).
+    #[doc(alias = "i32x4.relaxed_dot_i8x16_i7x16_add_s")]
     I32x4RelaxedDotI8x16I7x16AddS,
-    /// Its op is `FE 00`.
+    /// `memory.atomic.notify`, opcode `FE 00`, an atomic instruction of the threads proposal.
+    /// Its call is [`memory_atomic_notify`](super::InstructionSink::memory_atomic_notify), with the immediate `memarg`.
+    #[doc(alias = "memory.atomic.notify")]
     MemoryAtomicNotify(MemArg),
-    /// Its op is `FE 01`.
+    /// `memory.atomic.wait32`, opcode `FE 01`, an atomic instruction of the threads proposal.
+    /// Its call is [`memory_atomic_wait32`](super::InstructionSink::memory_atomic_wait32), with the immediate `memarg`.
+    #[doc(alias = "memory.atomic.wait32")]
     MemoryAtomicWait32(MemArg),
-    /// Its op is `FE 02`.
+    /// `memory.atomic.wait64`, opcode `FE 02`, an atomic instruction of the threads proposal.
+    /// Its call is [`memory_atomic_wait64`](super::InstructionSink::memory_atomic_wait64), with the immediate `memarg`.
+    #[doc(alias = "memory.atomic.wait64")]
     MemoryAtomicWait64(MemArg),
-    /// Its op is `FE 03`.
+    /// `atomic.fence`, opcode `FE 03`, an atomic instruction of the threads proposal.
+    /// Its call is [`atomic_fence`](super::InstructionSink::atomic_fence), with the immediate `ordering`.
+    #[doc(alias = "atomic.fence")]
     AtomicFence(Ordering),
-    /// Its op is `FE 04`.
+    /// `pause`, opcode `FE 04`, an instruction of the shared-everything threads proposal.
+    /// Its call is [`pause`](super::InstructionSink::pause).
     Pause,
-    /// Its op is `FE 10`.
+    /// `i32.atomic.load`, opcode `FE 10`, an atomic instruction of the threads proposal.
+    /// Its call is [`i32_atomic_load`](super::InstructionSink::i32_atomic_load), with the immediate `memarg`.
+    #[doc(alias = "i32.atomic.load")]
     I32AtomicLoad(MemArg),
-    /// Its op is `FE 11`.
+    /// `i64.atomic.load`, opcode `FE 11`, an atomic instruction of the threads proposal.
+    /// Its call is [`i64_atomic_load`](super::InstructionSink::i64_atomic_load), with the immediate `memarg`.
+    #[doc(alias = "i64.atomic.load")]
     I64AtomicLoad(MemArg),
-    /// Its op is `FE 12`.
+    /// `i32.atomic.load8_u`, opcode `FE 12`, an atomic instruction of the threads proposal.
+    /// Its call is [`i32_atomic_load8_u`](super::InstructionSink::i32_atomic_load8_u), with the immediate `memarg`.
+    #[doc(alias = "i32.atomic.load8_u")]
     I32AtomicLoad8U(MemArg),
-    /// Its op is `FE 13`.
+    /// `i32.atomic.load16_u`, opcode `FE 13`, an atomic instruction of the threads proposal.
+    /// Its call is [`i32_atomic_load16_u`](super::InstructionSink::i32_atomic_load16_u), with the immediate `memarg`.
+    #[doc(alias = "i32.atomic.load16_u")]
     I32AtomicLoad16U(MemArg),
-    /// Its op is `FE 14`.
+    /// `i64.atomic.load8_u`, opcode `FE 14`, an atomic instruction of the threads proposal.
+    /// Its call is [`i64_atomic_load8_u`](super::InstructionSink::i64_atomic_load8_u), with the immediate `memarg`.
+    #[doc(alias = "i64.atomic.load8_u")]
     I64AtomicLoad8U(MemArg),
-    /// Its op is `FE 15`.
+    /// `i64.atomic.load16_u`, opcode `FE 15`, an atomic instruction of the threads proposal.
+    /// Its call is [`i64_atomic_load16_u`](super::InstructionSink::i64_atomic_load16_u), with the immediate `memarg`.
+    #[doc(alias = "i64.atomic.load16_u")]
     I64AtomicLoad16U(MemArg),
-    /// Its op is `FE 16`.
+    /// `i64.atomic.load32_u`, opcode `FE 16`, an atomic instruction of the threads proposal.
+    /// Its call is [`i64_atomic_load32_u`](super::InstructionSink::i64_atomic_load32_u), with the immediate `memarg`.
+    #[doc(alias = "i64.atomic.load32_u")]
     I64AtomicLoad32U(MemArg),
-    /// Its op is `FE 17`.
+    /// `i32.atomic.store`, opcode `FE 17`, an atomic instruction of the threads proposal.
+    /// Its call is [`i32_atomic_store`](super::InstructionSink::i32_atomic_store), with the immediate `memarg`.
+    #[doc(alias = "i32.atomic.store")]
     I32AtomicStore(MemArg),
-    /// Its op is `FE 18`.
+    /// `i64.atomic.store`, opcode `FE 18`, an atomic instruction of the threads proposal.
+    /// Its call is [`i64_atomic_store`](super::InstructionSink::i64_atomic_store), with the immediate `memarg`.
+    #[doc(alias = "i64.atomic.store")]
     I64AtomicStore(MemArg),
-    /// Its op is `FE 19`.
+    /// `i32.atomic.store8`, opcode `FE 19`, an atomic instruction of the threads proposal.
+    /// Its call is [`i32_atomic_store8`](super::InstructionSink::i32_atomic_store8), with the immediate `memarg`.
+    #[doc(alias = "i32.atomic.store8")]
     I32AtomicStore8(MemArg),
-    /// Its op is `FE 1A`.
+    /// `i32.atomic.store16`, opcode `FE 1A`, an atomic instruction of the threads proposal.
+    /// Its call is [`i32_atomic_store16`](super::InstructionSink::i32_atomic_store16), with the immediate `memarg`.
+    #[doc(alias = "i32.atomic.store16")]
     I32AtomicStore16(MemArg),
-    /// Its op is `FE 1B`.
+    /// `i64.atomic.store8`, opcode `FE 1B`, an atomic instruction of the threads proposal.
+    /// Its call is [`i64_atomic_store8`](super::InstructionSink::i64_atomic_store8), with the immediate `memarg`.
+    #[doc(alias = "i64.atomic.store8")]
     I64AtomicStore8(MemArg),
-    /// Its op is `FE 1C`.
+    /// `i64.atomic.store16`, opcode `FE 1C`, an atomic instruction of the threads proposal.
+    /// Its call is [`i64_atomic_store16`](super::InstructionSink::i64_atomic_store16), with the immediate `memarg`.
+    #[doc(alias = "i64.atomic.store16")]
     I64AtomicStore16(MemArg),
-    /// Its op is `FE 1D`.
+    /// `i64.atomic.store32`, opcode `FE 1D`, an atomic instruction of the threads proposal.
+    /// Its call is [`i64_atomic_store32`](super::InstructionSink::i64_atomic_store32), with the immediate `memarg`.
+    #[doc(alias = "i64.atomic.store32")]
     I64AtomicStore32(MemArg),
-    /// Its op is `FE 1E`.
+    /// `i32.atomic.rmw.add`, opcode `FE 1E`, an atomic instruction of the threads proposal.
+    /// Its call is [`i32_atomic_rmw_add`](super::InstructionSink::i32_atomic_rmw_add), with the immediate `memarg`.
+    #[doc(alias = "i32.atomic.rmw.add")]
     I32AtomicRmwAdd(MemArg),
-    /// Its op is `FE 1F`.
+    /// `i64.atomic.rmw.add`, opcode `FE 1F`, an atomic instruction of the threads proposal.
+    /// Its call is [`i64_atomic_rmw_add`](super::InstructionSink::i64_atomic_rmw_add), with the immediate `memarg`.
+    #[doc(alias = "i64.atomic.rmw.add")]
     I64AtomicRmwAdd(MemArg),
-    /// Its op is `FE 20`.
+    /// `i32.atomic.rmw8.add_u`, opcode `FE 20`, an atomic instruction of the threads proposal.
+    /// Its call is [`i32_atomic_rmw8_add_u`](super::InstructionSink::i32_atomic_rmw8_add_u), with the immediate `memarg`.
+    #[doc(alias = "i32.atomic.rmw8.add_u")]
     I32AtomicRmw8AddU(MemArg),
-    /// Its op is `FE 21`.
+    /// `i32.atomic.rmw16.add_u`, opcode `FE 21`, an atomic instruction of the threads proposal.
+    /// Its call is [`i32_atomic_rmw16_add_u`](super::InstructionSink::i32_atomic_rmw16_add_u), with the immediate `memarg`.
+    #[doc(alias = "i32.atomic.rmw16.add_u")]
     I32AtomicRmw16AddU(MemArg),
-    /// Its op is `FE 22`.
+    /// `i64.atomic.rmw8.add_u`, opcode `FE 22`, an atomic instruction of the threads proposal.
+    /// Its call is [`i64_atomic_rmw8_add_u`](super::InstructionSink::i64_atomic_rmw8_add_u), with the immediate `memarg`.
+    #[doc(alias = "i64.atomic.rmw8.add_u")]
     I64AtomicRmw8AddU(MemArg),
-    /// Its op is `FE 23`.
+    /// `i64.atomic.rmw16.add_u`, opcode `FE 23`, an atomic instruction of the threads proposal.
+    /// Its call is [`i64_atomic_rmw16_add_u`](super::InstructionSink::i64_atomic_rmw16_add_u), with the immediate `memarg`.
+    #[doc(alias = "i64.atomic.rmw16.add_u")]
     I64AtomicRmw16AddU(MemArg),
-    /// Its op is `FE 24`.
+    /// `i64.atomic.rmw32.add_u`, opcode `FE 24`, an atomic instruction of the threads proposal.
+    /// Its call is [`i64_atomic_rmw32_add_u`](super::InstructionSink::i64_atomic_rmw32_add_u), with the immediate `memarg`.
+    #[doc(alias = "i64.atomic.rmw32.add_u")]
     I64AtomicRmw32AddU(MemArg),
-    /// Its op is `FE 25`.
+    /// `i32.atomic.rmw.sub`, opcode `FE 25`, an atomic instruction of the threads proposal.
+    /// Its call is [`i32_atomic_rmw_sub`](super::InstructionSink::i32_atomic_rmw_sub), with the immediate `memarg`.
+    #[doc(alias = "i32.atomic.rmw.sub")]
     I32AtomicRmwSub(MemArg),
-    /// Its op is `FE 26`.
+    /// `i64.atomic.rmw.sub`, opcode `FE 26`, an atomic instruction of the threads proposal.
+    /// Its call is [`i64_atomic_rmw_sub`](super::InstructionSink::i64_atomic_rmw_sub), with the immediate `memarg`.
+    #[doc(alias = "i64.atomic.rmw.sub")]
     I64AtomicRmwSub(MemArg),
-    /// Its op is `FE 27`.
+    /// `i32.atomic.rmw8.sub_u`, opcode `FE 27`, an atomic instruction of the threads proposal.
+    /// Its call is [`i32_atomic_rmw8_sub_u`](super::InstructionSink::i32_atomic_rmw8_sub_u), with the immediate `memarg`.
+    #[doc(alias = "i32.atomic.rmw8.sub_u")]
     I32AtomicRmw8SubU(MemArg),
-    /// Its op is `FE 28`.
+    /// `i32.atomic.rmw16.sub_u`, opcode `FE 28`, an atomic instruction of the threads proposal.
+    /// Its call is [`i32_atomic_rmw16_sub_u`](super::InstructionSink::i32_atomic_rmw16_sub_u), with the immediate `memarg`.
+    #[doc(alias = "i32.atomic.rmw16.sub_u")]
     I32AtomicRmw16SubU(MemArg),
-    /// Its op is `FE 29`.
+    /// `i64.atomic.rmw8.sub_u`, opcode `FE 29`, an atomic instruction of the threads proposal.
+    /// Its call is [`i64_atomic_rmw8_sub_u`](super::InstructionSink::i64_atomic_rmw8_sub_u), with the immediate `memarg`.
+    #[doc(alias = "i64.atomic.rmw8.sub_u")]
     I64AtomicRmw8SubU(MemArg),
-    /// Its op is `FE 2A`.
+    /// `i64.atomic.rmw16.sub_u`, opcode `FE 2A`, an atomic instruction of the threads proposal.
+    /// Its call is [`i64_atomic_rmw16_sub_u`](super::InstructionSink::i64_atomic_rmw16_sub_u), with the immediate `memarg`.
+    #[doc(alias = "i64.atomic.rmw16.sub_u")]
     I64AtomicRmw16SubU(MemArg),
-    /// Its op is `FE 2B`.
+    /// `i64.atomic.rmw32.sub_u`, opcode `FE 2B`, an atomic instruction of the threads proposal.
+    /// Its call is [`i64_atomic_rmw32_sub_u`](super::InstructionSink::i64_atomic_rmw32_sub_u), with the immediate `memarg`.
+    #[doc(alias = "i64.atomic.rmw32.sub_u")]
     I64AtomicRmw32SubU(MemArg),
-    /// Its op is `FE 2C`.
+    /// `i32.atomic.rmw.and`, opcode `FE 2C`, an atomic instruction of the threads proposal.
+    /// Its call is [`i32_atomic_rmw_and`](super::InstructionSink::i32_atomic_rmw_and), with the immediate `memarg`.
+    #[doc(alias = "i32.atomic.rmw.and")]
     I32AtomicRmwAnd(MemArg),
-    /// Its op is `FE 2D`.
+    /// `i64.atomic.rmw.and`, opcode `FE 2D`, an atomic instruction of the threads proposal.
+    /// Its call is [`i64_atomic_rmw_and`](super::InstructionSink::i64_atomic_rmw_and), with the immediate `memarg`.
+    #[doc(alias = "i64.atomic.rmw.and")]
     I64AtomicRmwAnd(MemArg),
-    /// Its op is `FE 2E`.
+    /// `i32.atomic.rmw8.and_u`, opcode `FE 2E`, an atomic instruction of the threads proposal.
+    /// Its call is [`i32_atomic_rmw8_and_u`](super::InstructionSink::i32_atomic_rmw8_and_u), with the immediate `memarg`.
+    #[doc(alias = "i32.atomic.rmw8.and_u")]
     I32AtomicRmw8AndU(MemArg),
-    /// Its op is `FE 2F`.
+    /// `i32.atomic.rmw16.and_u`, opcode `FE 2F`, an atomic instruction of the threads proposal.
+    /// Its call is [`i32_atomic_rmw16_and_u`](super::InstructionSink::i32_atomic_rmw16_and_u), with the immediate `memarg`.
+    #[doc(alias = "i32.atomic.rmw16.and_u")]
     I32AtomicRmw16AndU(MemArg),
-    /// Its op is `FE 30`.
+    /// `i64.atomic.rmw8.and_u`, opcode `FE 30`, an atomic instruction of the threads proposal.
+    /// Its call is [`i64_atomic_rmw8_and_u`](super::InstructionSink::i64_atomic_rmw8_and_u), with the immediate `memarg`.
+    #[doc(alias = "i64.atomic.rmw8.and_u")]
     I64AtomicRmw8AndU(MemArg),
-    /// Its op is `FE 31`.
+    /// `i64.atomic.rmw16.and_u`, opcode `FE 31`, an atomic instruction of the threads proposal.
+    /// Its call is [`i64_atomic_rmw16_and_u`](super::InstructionSink::i64_atomic_rmw16_and_u), with the immediate `memarg`.
+    #[doc(alias = "i64.atomic.rmw16.and_u")]
     I64AtomicRmw16AndU(MemArg),
-    /// Its op is `FE 32`.
+    /// `i64.atomic.rmw32.and_u`, opcode `FE 32`, an atomic instruction of the threads proposal.
+    /// Its call is [`i64_atomic_rmw32_and_u`](super::InstructionSink::i64_atomic_rmw32_and_u), with the immediate `memarg`.
+    #[doc(alias = "i64.atomic.rmw32.and_u")]
     I64AtomicRmw32AndU(MemArg),
-    /// Its op is `FE 33`.
+    /// `i32.atomic.rmw.or`, opcode `FE 33`, an atomic instruction of the threads proposal.
+    /// Its call is [`i32_atomic_rmw_or`](super::InstructionSink::i32_atomic_rmw_or), with the immediate `memarg`.
+    #[doc(alias = "i32.atomic.rmw.or")]
     I32AtomicRmwOr(MemArg),
-    /// Its op is `FE 34`.
+    /// `i64.atomic.rmw.or`, opcode `FE 34`, an atomic instruction of the threads proposal.
+    /// Its call is [`i64_atomic_rmw_or`](super::InstructionSink::i64_atomic_rmw_or), with the immediate `memarg`.
+    #[doc(alias = "i64.atomic.rmw.or")]
     I64AtomicRmwOr(MemArg),
-    /// Its op is `FE 35`.
+    /// `i32.atomic.rmw8.or_u`, opcode `FE 35`, an atomic instruction of the threads proposal.
+    /// Its call is [`i32_atomic_rmw8_or_u`](super::InstructionSink::i32_atomic_rmw8_or_u), with the immediate `memarg`.
+    #[doc(alias = "i32.atomic.rmw8.or_u")]
     I32AtomicRmw8OrU(MemArg),
-    /// Its op is `FE 36`.
+    /// `i32.atomic.rmw16.or_u`, opcode `FE 36`, an atomic instruction of the threads proposal.
+    /// Its call is [`i32_atomic_rmw16_or_u`](super::InstructionSink::i32_atomic_rmw16_or_u), with the immediate `memarg`.
+    #[doc(alias = "i32.atomic.rmw16.or_u")]
     I32AtomicRmw16OrU(MemArg),
-    /// Its op is `FE 37`.
+    /// `i64.atomic.rmw8.or_u`, opcode `FE 37`, an atomic instruction of the threads proposal.
+    /// Its call is [`i64_atomic_rmw8_or_u`](super::InstructionSink::i64_atomic_rmw8_or_u), with the immediate `memarg`.
+    #[doc(alias = "i64.atomic.rmw8.or_u")]
     I64AtomicRmw8OrU(MemArg),
-    /// Its op is `FE 38`.
+    /// `i64.atomic.rmw16.or_u`, opcode `FE 38`, an atomic instruction of the threads proposal.
+    /// Its call is [`i64_atomic_rmw16_or_u`](super::InstructionSink::i64_atomic_rmw16_or_u), with the immediate `memarg`.
+    #[doc(alias = "i64.atomic.rmw16.or_u")]
     I64AtomicRmw16OrU(MemArg),
-    /// Its op is `FE 39`.
+    /// `i64.atomic.rmw32.or_u`, opcode `FE 39`, an atomic instruction of the threads proposal.
+    /// Its call is [`i64_atomic_rmw32_or_u`](super::InstructionSink::i64_atomic_rmw32_or_u), with the immediate `memarg`.
+    #[doc(alias = "i64.atomic.rmw32.or_u")]
     I64AtomicRmw32OrU(MemArg),
-    /// Its op is `FE 3A`.
+    /// `i32.atomic.rmw.xor`, opcode `FE 3A`, an atomic instruction of the threads proposal.
+    /// Its call is [`i32_atomic_rmw_xor`](super::InstructionSink::i32_atomic_rmw_xor), with the immediate `memarg`.
+    #[doc(alias = "i32.atomic.rmw.xor")]
     I32AtomicRmwXor(MemArg),
-    /// Its op is `FE 3B`.
+    /// `i64.atomic.rmw.xor`, opcode `FE 3B`, an atomic instruction of the threads proposal.
+    /// Its call is [`i64_atomic_rmw_xor`](super::InstructionSink::i64_atomic_rmw_xor), with the immediate `memarg`.
+    #[doc(alias = "i64.atomic.rmw.xor")]
     I64AtomicRmwXor(MemArg),
-    /// Its op is `FE 3C`.
+    /// `i32.atomic.rmw8.xor_u`, opcode `FE 3C`, an atomic instruction of the threads proposal.
+    /// Its call is [`i32_atomic_rmw8_xor_u`](super::InstructionSink::i32_atomic_rmw8_xor_u), with the immediate `memarg`.
+    #[doc(alias = "i32.atomic.rmw8.xor_u")]
     I32AtomicRmw8XorU(MemArg),
-    /// Its op is `FE 3D`.
+    /// `i32.atomic.rmw16.xor_u`, opcode `FE 3D`, an atomic instruction of the threads proposal.
+    /// Its call is [`i32_atomic_rmw16_xor_u`](super::InstructionSink::i32_atomic_rmw16_xor_u), with the immediate `memarg`.
+    #[doc(alias = "i32.atomic.rmw16.xor_u")]
     I32AtomicRmw16XorU(MemArg),
-    /// Its op is `FE 3E`.
+    /// `i64.atomic.rmw8.xor_u`, opcode `FE 3E`, an atomic instruction of the threads proposal.
+    /// Its call is [`i64_atomic_rmw8_xor_u`](super::InstructionSink::i64_atomic_rmw8_xor_u), with the immediate `memarg`.
+    #[doc(alias = "i64.atomic.rmw8.xor_u")]
     I64AtomicRmw8XorU(MemArg),
-    /// Its op is `FE 3F`.
+    /// `i64.atomic.rmw16.xor_u`, opcode `FE 3F`, an atomic instruction of the threads proposal.
+    /// Its call is [`i64_atomic_rmw16_xor_u`](super::InstructionSink::i64_atomic_rmw16_xor_u), with the immediate `memarg`.
+    #[doc(alias = "i64.atomic.rmw16.xor_u")]
     I64AtomicRmw16XorU(MemArg),
-    /// Its op is `FE 40`.
+    /// `i64.atomic.rmw32.xor_u`, opcode `FE 40`, an atomic instruction of the threads proposal.
+    /// Its call is [`i64_atomic_rmw32_xor_u`](super::InstructionSink::i64_atomic_rmw32_xor_u), with the immediate `memarg`.
+    #[doc(alias = "i64.atomic.rmw32.xor_u")]
     I64AtomicRmw32XorU(MemArg),
-    /// Its op is `FE 41`.
+    /// `i32.atomic.rmw.xchg`, opcode `FE 41`, an atomic instruction of the threads proposal.
+    /// Its call is [`i32_atomic_rmw_xchg`](super::InstructionSink::i32_atomic_rmw_xchg), with the immediate `memarg`.
+    #[doc(alias = "i32.atomic.rmw.xchg")]
     I32AtomicRmwXchg(MemArg),
-    /// Its op is `FE 42`.
+    /// `i64.atomic.rmw.xchg`, opcode `FE 42`, an atomic instruction of the threads proposal.
+    /// Its call is [`i64_atomic_rmw_xchg`](super::InstructionSink::i64_atomic_rmw_xchg), with the immediate `memarg`.
+    #[doc(alias = "i64.atomic.rmw.xchg")]
     I64AtomicRmwXchg(MemArg),
-    /// Its op is `FE 43`.
+    /// `i32.atomic.rmw8.xchg_u`, opcode `FE 43`, an atomic instruction of the threads proposal.
+    /// Its call is [`i32_atomic_rmw8_xchg_u`](super::InstructionSink::i32_atomic_rmw8_xchg_u), with the immediate `memarg`.
+    #[doc(alias = "i32.atomic.rmw8.xchg_u")]
     I32AtomicRmw8XchgU(MemArg),
-    /// Its op is `FE 44`.
+    /// `i32.atomic.rmw16.xchg_u`, opcode `FE 44`, an atomic instruction of the threads proposal.
+    /// Its call is [`i32_atomic_rmw16_xchg_u`](super::InstructionSink::i32_atomic_rmw16_xchg_u), with the immediate `memarg`.
+    #[doc(alias = "i32.atomic.rmw16.xchg_u")]
     I32AtomicRmw16XchgU(MemArg),
-    /// Its op is `FE 45`.
+    /// `i64.atomic.rmw8.xchg_u`, opcode `FE 45`, an atomic instruction of the threads proposal.
+    /// Its call is [`i64_atomic_rmw8_xchg_u`](super::InstructionSink::i64_atomic_rmw8_xchg_u), with the immediate `memarg`.
+    #[doc(alias = "i64.atomic.rmw8.xchg_u")]
     I64AtomicRmw8XchgU(MemArg),
-    /// Its op is `FE 46`.
+    /// `i64.atomic.rmw16.xchg_u`, opcode `FE 46`, an atomic instruction of the threads proposal.
+    /// Its call is [`i64_atomic_rmw16_xchg_u`](super::InstructionSink::i64_atomic_rmw16_xchg_u), with the immediate `memarg`.
+    #[doc(alias = "i64.atomic.rmw16.xchg_u")]
     I64AtomicRmw16XchgU(MemArg),
-    /// Its op is `FE 47`.
+    /// `i64.atomic.rmw32.xchg_u`, opcode `FE 47`, an atomic instruction of the threads proposal.
+    /// Its call is [`i64_atomic_rmw32_xchg_u`](super::InstructionSink::i64_atomic_rmw32_xchg_u), with the immediate `memarg`.
+    #[doc(alias = "i64.atomic.rmw32.xchg_u")]
     I64AtomicRmw32XchgU(MemArg),
-    /// Its op is `FE 48`.
+    /// `i32.atomic.rmw.cmpxchg`, opcode `FE 48`, an atomic instruction of the threads proposal.
+    /// Its call is [`i32_atomic_rmw_cmpxchg`](super::InstructionSink::i32_atomic_rmw_cmpxchg), with the immediate `memarg`.
+    #[doc(alias = "i32.atomic.rmw.cmpxchg")]
     I32AtomicRmwCmpxchg(MemArg),
-    /// Its op is `FE 49`.
+    /// `i64.atomic.rmw.cmpxchg`, opcode `FE 49`, an atomic instruction of the threads proposal.
+    /// Its call is [`i64_atomic_rmw_cmpxchg`](super::InstructionSink::i64_atomic_rmw_cmpxchg), with the immediate `memarg`.
+    #[doc(alias = "i64.atomic.rmw.cmpxchg")]
     I64AtomicRmwCmpxchg(MemArg),
-    /// Its op is `FE 4A`.
+    /// `i32.atomic.rmw8.cmpxchg_u`, opcode `FE 4A`, an atomic instruction of the threads proposal.
+    /// Its call is [`i32_atomic_rmw8_cmpxchg_u`](super::InstructionSink::i32_atomic_rmw8_cmpxchg_u), with the immediate `memarg`.
+    #[doc(alias = "i32.atomic.rmw8.cmpxchg_u")]
     I32AtomicRmw8CmpxchgU(MemArg),
-    /// Its op is `FE 4B`.
+    /// `i32.atomic.rmw16.cmpxchg_u`, opcode `FE 4B`, an atomic instruction of the threads proposal.
+    /// Its call is [`i32_atomic_rmw16_cmpxchg_u`](super::InstructionSink::i32_atomic_rmw16_cmpxchg_u), with the immediate `memarg`.
+    #[doc(alias = "i32.atomic.rmw16.cmpxchg_u")]
     I32AtomicRmw16CmpxchgU(MemArg),
-    /// Its op is `FE 4C`.
+    /// `i64.atomic.rmw8.cmpxchg_u`, opcode `FE 4C`, an atomic instruction of the threads proposal.
+    /// Its call is [`i64_atomic_rmw8_cmpxchg_u`](super::InstructionSink::i64_atomic_rmw8_cmpxchg_u), with the immediate `memarg`.
+    #[doc(alias = "i64.atomic.rmw8.cmpxchg_u")]
     I64AtomicRmw8CmpxchgU(MemArg),
-    /// Its op is `FE 4D`.
+    /// `i64.atomic.rmw16.cmpxchg_u`, opcode `FE 4D`, an atomic instruction of the threads proposal.
+    /// Its call is [`i64_atomic_rmw16_cmpxchg_u`](super::InstructionSink::i64_atomic_rmw16_cmpxchg_u), with the immediate `memarg`.
+    #[doc(alias = "i64.atomic.rmw16.cmpxchg_u")]
     I64AtomicRmw16CmpxchgU(MemArg),
-    /// Its op is `FE 4E`.
+    /// `i64.atomic.rmw32.cmpxchg_u`, opcode `FE 4E`, an atomic instruction of the threads proposal.
+    /// Its call is [`i64_atomic_rmw32_cmpxchg_u`](super::InstructionSink::i64_atomic_rmw32_cmpxchg_u), with the immediate `memarg`.
+    #[doc(alias = "i64.atomic.rmw32.cmpxchg_u")]
     I64AtomicRmw32CmpxchgU(MemArg),
-    /// Its op is `FE 4F`.
-    GlobalAtomicGet { ordering: Ordering, global_index: u32 },
-    /// Its op is `FE 50`.
-    GlobalAtomicSet { ordering: Ordering, global_index: u32 },
-    /// Its op is `FE 51`.
-    GlobalAtomicRmwAdd { ordering: Ordering, global_index: u32 },
-    /// Its op is `FE 52`.
-    GlobalAtomicRmwSub { ordering: Ordering, global_index: u32 },
-    /// Its op is `FE 53`.
-    GlobalAtomicRmwAnd { ordering: Ordering, global_index: u32 },
-    /// Its op is `FE 54`.
-    GlobalAtomicRmwOr { ordering: Ordering, global_index: u32 },
-    /// Its op is `FE 55`.
-    GlobalAtomicRmwXor { ordering: Ordering, global_index: u32 },
-    /// Its op is `FE 56`.
-    GlobalAtomicRmwXchg { ordering: Ordering, global_index: u32 },
-    /// Its op is `FE 57`.
-    GlobalAtomicRmwCmpxchg { ordering: Ordering, global_index: u32 },
-    /// Its op is `FE 58`.
-    TableAtomicGet { ordering: Ordering, table_index: u32 },
-    /// Its op is `FE 59`.
-    TableAtomicSet { ordering: Ordering, table_index: u32 },
-    /// Its op is `FE 5A`.
-    TableAtomicRmwXchg { ordering: Ordering, table_index: u32 },
-    /// Its op is `FE 5B`.
-    TableAtomicRmwCmpxchg { ordering: Ordering, table_index: u32 },
-    /// Its op is `FE 5C`.
-    StructAtomicGet { ordering: Ordering, struct_type_index: u32, field_index: u32 },
-    /// Its op is `FE 5D`.
-    StructAtomicGetS { ordering: Ordering, struct_type_index: u32, field_index: u32 },
-    /// Its op is `FE 5E`.
-    StructAtomicGetU { ordering: Ordering, struct_type_index: u32, field_index: u32 },
-    /// Its op is `FE 5F`.
-    StructAtomicSet { ordering: Ordering, struct_type_index: u32, field_index: u32 },
-    /// Its op is `FE 60`.
-    StructAtomicRmwAdd { ordering: Ordering, struct_type_index: u32, field_index: u32 },
-    /// Its op is `FE 61`.
-    StructAtomicRmwSub { ordering: Ordering, struct_type_index: u32, field_index: u32 },
-    /// Its op is `FE 62`.
-    StructAtomicRmwAnd { ordering: Ordering, struct_type_index: u32, field_index: u32 },
-    /// Its op is `FE 63`.
-    StructAtomicRmwOr { ordering: Ordering, struct_type_index: u32, field_index: u32 },
-    /// Its op is `FE 64`.
-    StructAtomicRmwXor { ordering: Ordering, struct_type_index: u32, field_index: u32 },
-    /// Its op is `FE 65`.
-    StructAtomicRmwXchg { ordering: Ordering, struct_type_index: u32, field_index: u32 },
-    /// Its op is `FE 66`.
-    StructAtomicRmwCmpxchg { ordering: Ordering, struct_type_index: u32, field_index: u32 },
-    /// Its op is `FE 67`.
-    ArrayAtomicGet { ordering: Ordering, array_type_index: u32 },
-    /// Its op is `FE 68`.
-    ArrayAtomicGetS { ordering: Ordering, array_type_index: u32 },
-    /// Its op is `FE 69`.
-    ArrayAtomicGetU { ordering: Ordering, array_type_index: u32 },
-    /// Its op is `FE 6A`.
-    ArrayAtomicSet { ordering: Ordering, array_type_index: u32 },
-    /// Its op is `FE 6B`.
-    ArrayAtomicRmwAdd { ordering: Ordering, array_type_index: u32 },
-    /// Its op is `FE 6C`.
-    ArrayAtomicRmwSub { ordering: Ordering, array_type_index: u32 },
-    /// Its op is `FE 6D`.
-    ArrayAtomicRmwAnd { ordering: Ordering, array_type_index: u32 },
-    /// Its op is `FE 6E`.
-    ArrayAtomicRmwOr { ordering: Ordering, array_type_index: u32 },
-    /// Its op is `FE 6F`.
-    ArrayAtomicRmwXor { ordering: Ordering, array_type_index: u32 },
-    /// Its op is `FE 70`.
-    ArrayAtomicRmwXchg { ordering: Ordering, array_type_index: u32 },
-    /// Its op is `FE 71`.
-    ArrayAtomicRmwCmpxchg { ordering: Ordering, array_type_index: u32 },
-    /// Its op is `FE 72`.
+    /// `global.atomic.get`, opcode `FE 4F`, an instruction of the shared-everything threads proposal.
+    /// Its call is [`global_atomic_get`](super::InstructionSink::global_atomic_get).
+    #[doc(alias = "global.atomic.get")]
+    GlobalAtomicGet {
+        /// The ordering of the access.
+        ordering: Ordering,
+        /// The index of the global.
+        global_index: u32,
+    },
+    /// `global.atomic.set`, opcode `FE 50`, an instruction of the shared-everything threads proposal.
+    /// Its call is [`global_atomic_set`](super::InstructionSink::global_atomic_set).
+    #[doc(alias = "global.atomic.set")]
+    GlobalAtomicSet {
+        /// The ordering of the access.
+        ordering: Ordering,
+        /// The index of the global.
+        global_index: u32,
+    },
+    /// `global.atomic.rmw.add`, opcode `FE 51`, an instruction of the shared-everything threads proposal.
+    /// Its call is [`global_atomic_rmw_add`](super::InstructionSink::global_atomic_rmw_add).
+    #[doc(alias = "global.atomic.rmw.add")]
+    GlobalAtomicRmwAdd {
+        /// The ordering of the access.
+        ordering: Ordering,
+        /// The index of the global.
+        global_index: u32,
+    },
+    /// `global.atomic.rmw.sub`, opcode `FE 52`, an instruction of the shared-everything threads proposal.
+    /// Its call is [`global_atomic_rmw_sub`](super::InstructionSink::global_atomic_rmw_sub).
+    #[doc(alias = "global.atomic.rmw.sub")]
+    GlobalAtomicRmwSub {
+        /// The ordering of the access.
+        ordering: Ordering,
+        /// The index of the global.
+        global_index: u32,
+    },
+    /// `global.atomic.rmw.and`, opcode `FE 53`, an instruction of the shared-everything threads proposal.
+    /// Its call is [`global_atomic_rmw_and`](super::InstructionSink::global_atomic_rmw_and).
+    #[doc(alias = "global.atomic.rmw.and")]
+    GlobalAtomicRmwAnd {
+        /// The ordering of the access.
+        ordering: Ordering,
+        /// The index of the global.
+        global_index: u32,
+    },
+    /// `global.atomic.rmw.or`, opcode `FE 54`, an instruction of the shared-everything threads proposal.
+    /// Its call is [`global_atomic_rmw_or`](super::InstructionSink::global_atomic_rmw_or).
+    #[doc(alias = "global.atomic.rmw.or")]
+    GlobalAtomicRmwOr {
+        /// The ordering of the access.
+        ordering: Ordering,
+        /// The index of the global.
+        global_index: u32,
+    },
+    /// `global.atomic.rmw.xor`, opcode `FE 55`, an instruction of the shared-everything threads proposal.
+    /// Its call is [`global_atomic_rmw_xor`](super::InstructionSink::global_atomic_rmw_xor).
+    #[doc(alias = "global.atomic.rmw.xor")]
+    GlobalAtomicRmwXor {
+        /// The ordering of the access.
+        ordering: Ordering,
+        /// The index of the global.
+        global_index: u32,
+    },
+    /// `global.atomic.rmw.xchg`, opcode `FE 56`, an instruction of the shared-everything threads proposal.
+    /// Its call is [`global_atomic_rmw_xchg`](super::InstructionSink::global_atomic_rmw_xchg).
+    #[doc(alias = "global.atomic.rmw.xchg")]
+    GlobalAtomicRmwXchg {
+        /// The ordering of the access.
+        ordering: Ordering,
+        /// The index of the global.
+        global_index: u32,
+    },
+    /// `global.atomic.rmw.cmpxchg`, opcode `FE 57`, an instruction of the shared-everything threads proposal.
+    /// Its call is [`global_atomic_rmw_cmpxchg`](super::InstructionSink::global_atomic_rmw_cmpxchg).
+    #[doc(alias = "global.atomic.rmw.cmpxchg")]
+    GlobalAtomicRmwCmpxchg {
+        /// The ordering of the access.
+        ordering: Ordering,
+        /// The index of the global.
+        global_index: u32,
+    },
+    /// `table.atomic.get`, opcode `FE 58`, an instruction of the shared-everything threads proposal.
+    /// Its call is [`table_atomic_get`](super::InstructionSink::table_atomic_get).
+    #[doc(alias = "table.atomic.get")]
+    TableAtomicGet {
+        /// The ordering of the access.
+        ordering: Ordering,
+        /// The index of the table.
+        table_index: u32,
+    },
+    /// `table.atomic.set`, opcode `FE 59`, an instruction of the shared-everything threads proposal.
+    /// Its call is [`table_atomic_set`](super::InstructionSink::table_atomic_set).
+    #[doc(alias = "table.atomic.set")]
+    TableAtomicSet {
+        /// The ordering of the access.
+        ordering: Ordering,
+        /// The index of the table.
+        table_index: u32,
+    },
+    /// `table.atomic.rmw.xchg`, opcode `FE 5A`, an instruction of the shared-everything threads proposal.
+    /// Its call is [`table_atomic_rmw_xchg`](super::InstructionSink::table_atomic_rmw_xchg).
+    #[doc(alias = "table.atomic.rmw.xchg")]
+    TableAtomicRmwXchg {
+        /// The ordering of the access.
+        ordering: Ordering,
+        /// The index of the table.
+        table_index: u32,
+    },
+    /// `table.atomic.rmw.cmpxchg`, opcode `FE 5B`, an instruction of the shared-everything threads proposal.
+    /// Its call is [`table_atomic_rmw_cmpxchg`](super::InstructionSink::table_atomic_rmw_cmpxchg).
+    #[doc(alias = "table.atomic.rmw.cmpxchg")]
+    TableAtomicRmwCmpxchg {
+        /// The ordering of the access.
+        ordering: Ordering,
+        /// The index of the table.
+        table_index: u32,
+    },
+    /// `struct.atomic.get`, opcode `FE 5C`, an instruction of the shared-everything threads proposal.
+    /// Its call is [`struct_atomic_get`](super::InstructionSink::struct_atomic_get).
+    #[doc(alias = "struct.atomic.get")]
+    StructAtomicGet {
+        /// The ordering of the access.
+        ordering: Ordering,
+        /// The index of the structure type.
+        struct_type_index: u32,
+        /// The index of the field.
+        field_index: u32,
+    },
+    /// `struct.atomic.get_s`, opcode `FE 5D`, an instruction of the shared-everything threads proposal.
+    /// Its call is [`struct_atomic_get_s`](super::InstructionSink::struct_atomic_get_s).
+    #[doc(alias = "struct.atomic.get_s")]
+    StructAtomicGetS {
+        /// The ordering of the access.
+        ordering: Ordering,
+        /// The index of the structure type.
+        struct_type_index: u32,
+        /// The index of the field.
+        field_index: u32,
+    },
+    /// `struct.atomic.get_u`, opcode `FE 5E`, an instruction of the shared-everything threads proposal.
+    /// Its call is [`struct_atomic_get_u`](super::InstructionSink::struct_atomic_get_u).
+    #[doc(alias = "struct.atomic.get_u")]
+    StructAtomicGetU {
+        /// The ordering of the access.
+        ordering: Ordering,
+        /// The index of the structure type.
+        struct_type_index: u32,
+        /// The index of the field.
+        field_index: u32,
+    },
+    /// `struct.atomic.set`, opcode `FE 5F`, an instruction of the shared-everything threads proposal.
+    /// Its call is [`struct_atomic_set`](super::InstructionSink::struct_atomic_set).
+    #[doc(alias = "struct.atomic.set")]
+    StructAtomicSet {
+        /// The ordering of the access.
+        ordering: Ordering,
+        /// The index of the structure type.
+        struct_type_index: u32,
+        /// The index of the field.
+        field_index: u32,
+    },
+    /// `struct.atomic.rmw.add`, opcode `FE 60`, an instruction of the shared-everything threads proposal.
+    /// Its call is [`struct_atomic_rmw_add`](super::InstructionSink::struct_atomic_rmw_add).
+    #[doc(alias = "struct.atomic.rmw.add")]
+    StructAtomicRmwAdd {
+        /// The ordering of the access.
+        ordering: Ordering,
+        /// The index of the structure type.
+        struct_type_index: u32,
+        /// The index of the field.
+        field_index: u32,
+    },
+    /// `struct.atomic.rmw.sub`, opcode `FE 61`, an instruction of the shared-everything threads proposal.
+    /// Its call is [`struct_atomic_rmw_sub`](super::InstructionSink::struct_atomic_rmw_sub).
+    #[doc(alias = "struct.atomic.rmw.sub")]
+    StructAtomicRmwSub {
+        /// The ordering of the access.
+        ordering: Ordering,
+        /// The index of the structure type.
+        struct_type_index: u32,
+        /// The index of the field.
+        field_index: u32,
+    },
+    /// `struct.atomic.rmw.and`, opcode `FE 62`, an instruction of the shared-everything threads proposal.
+    /// Its call is [`struct_atomic_rmw_and`](super::InstructionSink::struct_atomic_rmw_and).
+    #[doc(alias = "struct.atomic.rmw.and")]
+    StructAtomicRmwAnd {
+        /// The ordering of the access.
+        ordering: Ordering,
+        /// The index of the structure type.
+        struct_type_index: u32,
+        /// The index of the field.
+        field_index: u32,
+    },
+    /// `struct.atomic.rmw.or`, opcode `FE 63`, an instruction of the shared-everything threads proposal.
+    /// Its call is [`struct_atomic_rmw_or`](super::InstructionSink::struct_atomic_rmw_or).
+    #[doc(alias = "struct.atomic.rmw.or")]
+    StructAtomicRmwOr {
+        /// The ordering of the access.
+        ordering: Ordering,
+        /// The index of the structure type.
+        struct_type_index: u32,
+        /// The index of the field.
+        field_index: u32,
+    },
+    /// `struct.atomic.rmw.xor`, opcode `FE 64`, an instruction of the shared-everything threads proposal.
+    /// Its call is [`struct_atomic_rmw_xor`](super::InstructionSink::struct_atomic_rmw_xor).
+    #[doc(alias = "struct.atomic.rmw.xor")]
+    StructAtomicRmwXor {
+        /// The ordering of the access.
+        ordering: Ordering,
+        /// The index of the structure type.
+        struct_type_index: u32,
+        /// The index of the field.
+        field_index: u32,
+    },
+    /// `struct.atomic.rmw.xchg`, opcode `FE 65`, an instruction of the shared-everything threads proposal.
+    /// Its call is [`struct_atomic_rmw_xchg`](super::InstructionSink::struct_atomic_rmw_xchg).
+    #[doc(alias = "struct.atomic.rmw.xchg")]
+    StructAtomicRmwXchg {
+        /// The ordering of the access.
+        ordering: Ordering,
+        /// The index of the structure type.
+        struct_type_index: u32,
+        /// The index of the field.
+        field_index: u32,
+    },
+    /// `struct.atomic.rmw.cmpxchg`, opcode `FE 66`, an instruction of the shared-everything threads proposal.
+    /// Its call is [`struct_atomic_rmw_cmpxchg`](super::InstructionSink::struct_atomic_rmw_cmpxchg).
+    #[doc(alias = "struct.atomic.rmw.cmpxchg")]
+    StructAtomicRmwCmpxchg {
+        /// The ordering of the access.
+        ordering: Ordering,
+        /// The index of the structure type.
+        struct_type_index: u32,
+        /// The index of the field.
+        field_index: u32,
+    },
+    /// `array.atomic.get`, opcode `FE 67`, an instruction of the shared-everything threads proposal.
+    /// Its call is [`array_atomic_get`](super::InstructionSink::array_atomic_get).
+    #[doc(alias = "array.atomic.get")]
+    ArrayAtomicGet {
+        /// The ordering of the access.
+        ordering: Ordering,
+        /// The index of the array type.
+        array_type_index: u32,
+    },
+    /// `array.atomic.get_s`, opcode `FE 68`, an instruction of the shared-everything threads proposal.
+    /// Its call is [`array_atomic_get_s`](super::InstructionSink::array_atomic_get_s).
+    #[doc(alias = "array.atomic.get_s")]
+    ArrayAtomicGetS {
+        /// The ordering of the access.
+        ordering: Ordering,
+        /// The index of the array type.
+        array_type_index: u32,
+    },
+    /// `array.atomic.get_u`, opcode `FE 69`, an instruction of the shared-everything threads proposal.
+    /// Its call is [`array_atomic_get_u`](super::InstructionSink::array_atomic_get_u).
+    #[doc(alias = "array.atomic.get_u")]
+    ArrayAtomicGetU {
+        /// The ordering of the access.
+        ordering: Ordering,
+        /// The index of the array type.
+        array_type_index: u32,
+    },
+    /// `array.atomic.set`, opcode `FE 6A`, an instruction of the shared-everything threads proposal.
+    /// Its call is [`array_atomic_set`](super::InstructionSink::array_atomic_set).
+    #[doc(alias = "array.atomic.set")]
+    ArrayAtomicSet {
+        /// The ordering of the access.
+        ordering: Ordering,
+        /// The index of the array type.
+        array_type_index: u32,
+    },
+    /// `array.atomic.rmw.add`, opcode `FE 6B`, an instruction of the shared-everything threads proposal.
+    /// Its call is [`array_atomic_rmw_add`](super::InstructionSink::array_atomic_rmw_add).
+    #[doc(alias = "array.atomic.rmw.add")]
+    ArrayAtomicRmwAdd {
+        /// The ordering of the access.
+        ordering: Ordering,
+        /// The index of the array type.
+        array_type_index: u32,
+    },
+    /// `array.atomic.rmw.sub`, opcode `FE 6C`, an instruction of the shared-everything threads proposal.
+    /// Its call is [`array_atomic_rmw_sub`](super::InstructionSink::array_atomic_rmw_sub).
+    #[doc(alias = "array.atomic.rmw.sub")]
+    ArrayAtomicRmwSub {
+        /// The ordering of the access.
+        ordering: Ordering,
+        /// The index of the array type.
+        array_type_index: u32,
+    },
+    /// `array.atomic.rmw.and`, opcode `FE 6D`, an instruction of the shared-everything threads proposal.
+    /// Its call is [`array_atomic_rmw_and`](super::InstructionSink::array_atomic_rmw_and).
+    #[doc(alias = "array.atomic.rmw.and")]
+    ArrayAtomicRmwAnd {
+        /// The ordering of the access.
+        ordering: Ordering,
+        /// The index of the array type.
+        array_type_index: u32,
+    },
+    /// `array.atomic.rmw.or`, opcode `FE 6E`, an instruction of the shared-everything threads proposal.
+    /// Its call is [`array_atomic_rmw_or`](super::InstructionSink::array_atomic_rmw_or).
+    #[doc(alias = "array.atomic.rmw.or")]
+    ArrayAtomicRmwOr {
+        /// The ordering of the access.
+        ordering: Ordering,
+        /// The index of the array type.
+        array_type_index: u32,
+    },
+    /// `array.atomic.rmw.xor`, opcode `FE 6F`, an instruction of the shared-everything threads proposal.
+    /// Its call is [`array_atomic_rmw_xor`](super::InstructionSink::array_atomic_rmw_xor).
+    #[doc(alias = "array.atomic.rmw.xor")]
+    ArrayAtomicRmwXor {
+        /// The ordering of the access.
+        ordering: Ordering,
+        /// The index of the array type.
+        array_type_index: u32,
+    },
+    /// `array.atomic.rmw.xchg`, opcode `FE 70`, an instruction of the shared-everything threads proposal.
+    /// Its call is [`array_atomic_rmw_xchg`](super::InstructionSink::array_atomic_rmw_xchg).
+    #[doc(alias = "array.atomic.rmw.xchg")]
+    ArrayAtomicRmwXchg {
+        /// The ordering of the access.
+        ordering: Ordering,
+        /// The index of the array type.
+        array_type_index: u32,
+    },
+    /// `array.atomic.rmw.cmpxchg`, opcode `FE 71`, an instruction of the shared-everything threads proposal.
+    /// Its call is [`array_atomic_rmw_cmpxchg`](super::InstructionSink::array_atomic_rmw_cmpxchg).
+    #[doc(alias = "array.atomic.rmw.cmpxchg")]
+    ArrayAtomicRmwCmpxchg {
+        /// The ordering of the access.
+        ordering: Ordering,
+        /// The index of the array type.
+        array_type_index: u32,
+    },
+    /// `ref.i31_shared`, opcode `FE 72`, an instruction of the shared-everything threads proposal.
+    /// Its call is [`ref_i31_shared`](super::InstructionSink::ref_i31_shared).
+    #[doc(alias = "ref.i31_shared")]
     RefI31Shared,
 }
 
-/// The same instruction for the proved calls. Its lists are borrowed.
+/// Converts an instruction to the one that the proved calls take. Its lists are borrowed.
 impl<'a> From<&'a Instruction<'_>> for insn::Instruction<'a> {
-    // Inline, so that only who uses it compiles it.
+    // Inline, so that it is compiled only where it is used.
     #[inline]
     fn from(instruction: &'a Instruction<'_>) -> Self {
         match instruction {
@@ -1913,7 +3529,7 @@ impl<'a> From<&'a Instruction<'_>> for insn::Instruction<'a> {
 }
 
 impl Instruction<'_> {
-    /// The op of the table, as `op_of` takes it.
+    /// Returns the opcode as one number, which `op_of` takes.
     #[inline(always)]
     fn op(&self) -> u32 {
         match self {
@@ -2549,7 +4165,7 @@ impl Instruction<'_> {
     }
 }
 
-/// The bytes of a vector.
+/// Encodes a vector as its 16 bytes.
 struct Vector<'a>(&'a i128);
 
 impl base::Encode for Vector<'_> {
@@ -2559,7 +4175,7 @@ impl base::Encode for Vector<'_> {
     }
 }
 
-/// The op of a byte, or of a prefix and a number: the upper byte of this, and the others.
+/// Returns an opcode. The upper byte of the number is the prefix, or 0 for an opcode of one byte.
 #[inline]
 fn op_of(op: u32) -> Op {
     let [prefix, number @ ..] = op.to_be_bytes();
@@ -2569,27 +4185,28 @@ fn op_of(op: u32) -> Op {
     Op::Prefixed(prefix, op & 0x00FF_FFFF)
 }
 
-// Each arm of `encode` ends in a jump to one of these, with what it hands over in registers. An op as one number is an operand of an instruction of the processor.
+// Each arm of `encode` ends in a jump to one of these functions, and passes its arguments in
+// registers. An opcode as one number is an immediate operand of the processor.
 
-/// Appends an op.
+/// Appends an opcode.
 #[inline(never)]
 fn write_0(op: u32, sink: &mut Vec<u8>) {
     append(&op_of(op), sink)
 }
 
-/// Appends an op and its part.
+/// Appends an opcode and its immediate.
 #[inline(never)]
 fn write_1<T: base::Encode>(op: u32, part: T, sink: &mut Vec<u8>) {
     append(&(op_of(op), part), sink)
 }
 
-/// Appends an op and its two parts.
+/// Appends an opcode and its two immediates.
 #[inline(never)]
 fn write_2<T: base::Encode, U: base::Encode>(op: u32, first: T, second: U, sink: &mut Vec<u8>) {
     append(&(op_of(op), first, second), sink)
 }
 
-/// Appends an op and its three parts.
+/// Appends an opcode and its three immediates.
 #[inline(never)]
 fn write_3<T: base::Encode, U: base::Encode, V: base::Encode>(
     op: u32,
@@ -2614,7 +4231,7 @@ fn write_proved(instruction: &Instruction<'_>, sink: &mut Vec<u8>) {
     append(&proved, sink)
 }
 
-/// The op, and its parts.
+/// Encodes the opcode and the immediates.
 impl Encode for Instruction<'_> {
     fn encode(&self, sink: &mut Vec<u8>) {
         let op = self.op();

@@ -3,7 +3,10 @@ use super::{Encode, by_proved};
 use crate::{base, sections};
 use alloc_crate::vec::Vec;
 
-/// The id of a section, by the WebAssembly core specification, "Binary Format", "Modules".
+/// The id of a section: core specification, Modules, Sections.
+///
+/// [`Section::id`](super::Section::id) returns it as a byte, and [`RawSection`](super::RawSection)
+/// takes one.
 ///
 /// ```
 /// use dolzhytik::SectionId::{self, *};
@@ -45,7 +48,10 @@ pub enum SectionId {
     Tag = 13,
 }
 
-/// The kind of an export: an argument of [`ExportSection::export`](super::ExportSection::export).
+/// The kind of an exported item, which [`ExportSection::export`](super::ExportSection::export)
+/// takes.
+///
+/// Core specification, Modules, Export Section.
 ///
 /// ```
 /// use dolzhytik::ExportKind;
@@ -67,7 +73,7 @@ pub enum ExportKind {
     Tag = base::CORE_TAG_SORT,
 }
 
-/// The kind of a tag.
+/// The kind of a tag, a field of [`TagType`]. Exceptions are the only kind.
 #[derive(Clone, Copy, Debug, PartialEq, Eq)]
 #[repr(u8)]
 pub enum TagKind {
@@ -75,7 +81,10 @@ pub enum TagKind {
     Exception = 0,
 }
 
-/// The type of a tag.
+/// The type of a tag, which [`TagSection::tag`](super::TagSection::tag) takes, and
+/// [`EntityType::Tag`](super::EntityType::Tag) for an imported one.
+///
+/// Core specification, Types, Tag Types.
 ///
 /// ```
 /// use dolzhytik::{TagKind, TagSection, TagType};
@@ -99,7 +108,7 @@ impl From<SectionId> for u8 {
     }
 }
 
-/// Appends one byte.
+/// Encodes the id as one byte.
 impl Encode for SectionId {
     #[inline]
     fn encode(&self, sink: &mut Vec<u8>) {
@@ -109,7 +118,8 @@ impl Encode for SectionId {
 
 by_proved! { sections: ExportKind TagType }
 
-/// Implements the conversions between an enum and the proved one, by pairs of cases. Both have the same numbers, so that a conversion compiles to nothing.
+/// Implements the conversions between an enum and the proved one, by pairs of cases. Both have the
+/// same numbers, so that a conversion compiles to nothing.
 macro_rules! same_cases {
     ($($name:ident of $module:ident { $($case:ident = $proved:ident),* })*) => {
         $(

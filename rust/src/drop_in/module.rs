@@ -1,4 +1,4 @@
-//! Modules, and sections whose bytes are given.
+//! Modules, and sections of raw bytes.
 use super::entries::append;
 use super::{Encode, Section, default, done};
 use crate::alloc::Global;
@@ -6,7 +6,13 @@ use crate::base;
 use crate::reader;
 use alloc_crate::vec::Vec;
 
-/// A module.
+/// A module under construction: the header, and the sections added so far.
+///
+/// Build each section, add it by [`section`](Module::section), and take the bytes by
+/// [`finish`](Module::finish). The encoding is defined in the core specification, Binary Format,
+/// Modules. Neither the order of sections nor the module is validated. To decode a module, see
+/// [`reader::Sections`](crate::reader::Sections). The proved builder is
+/// [`fallible::Module`](crate::fallible::Module), which converts to this type.
 ///
 /// ```
 /// use dolzhytik::{FunctionSection, Module};
@@ -15,6 +21,7 @@ use alloc_crate::vec::Vec;
 /// functions.function(0).function(1);
 /// let mut module = Module::new();
 /// module.section(&functions);
+/// // The header; id 3, size 3, two functions, of types 0 and 1.
 /// assert_eq!(module.finish(), b"\0asm\x01\0\0\0\x03\x03\x02\x00\x01");
 /// ```
 #[derive(Clone, Debug)]
@@ -24,31 +31,51 @@ pub struct Module {
 
 #[allow(clippy::len_without_is_empty, reason = "a module has a header")]
 impl Module {
-    /// The eight bytes that a module begins with.
+    /// The first eight bytes of a module: the magic number and version 1.
+    #[doc(alias = "magic")]
+    #[doc(alias = "version")]
+    #[doc(alias = "preamble")]
     pub const HEADER: [u8; 8] = *b"\0asm\x01\0\0\0";
 
-    /// A module of no sections.
+    /// Creates a module without sections: its bytes are [`HEADER`](Module::HEADER).
     pub fn new() -> Self {
         done(base::Module::new(Global)).into()
     }
 
-    /// Appends a section, as [`fallible::Module::section`](crate::fallible::Module::section) does.
+    /// Appends a section: its id, and its encoding.
+    ///
+    /// A valid module has each section at most once, in the order type, import, function, table,
+    /// memory, tag, global, export, start, element, data count, code, data. Custom sections may be
+    /// anywhere. The call does not check it.
+    ///
+    /// # Panics
+    ///
+    /// Panics if a count or length in the section would pass 4294967295.
+    ///
+    /// ```
+    /// use dolzhytik::{Module, StartSection};
+    ///
+    /// let mut module = Module::new();
+    /// module.section(&StartSection { function_index: 2 });
+    /// // Id 8, size 1, function 2.
+    /// assert_eq!(module.as_slice()[8..], [8, 1, 2]);
+    /// ```
     pub fn section(&mut self, section: &impl Section) -> &mut Self {
         section.append_to(&mut self.bytes);
         self
     }
 
-    /// The bytes so far.
+    /// Returns the bytes of the header and the sections so far.
     pub fn as_slice(&self) -> &[u8] {
         &self.bytes
     }
 
-    /// How many bytes there are so far, with the header.
+    /// Returns the length of the module so far in bytes, header included.
     pub fn len(&self) -> usize {
         self.bytes.len()
     }
 
-    /// The bytes of the module.
+    /// Returns the bytes of the module, without a copy.
     pub fn finish(self) -> Vec<u8> {
         self.bytes
     }
@@ -56,7 +83,7 @@ impl Module {
 
 default!(Module);
 
-/// What the calls of [`fallible::Module`](crate::fallible::Module) have built.
+/// Converts a module built by the calls of [`fallible::Module`](crate::fallible::Module).
 impl From<base::Module> for Module {
     fn from(built: base::Module) -> Self {
         Module {
@@ -65,16 +92,31 @@ impl From<base::Module> for Module {
     }
 }
 
-/// A section whose data is given: its bytes are the frame of these.
+/// A section of any id and raw payload: the size prefix is added, and the payload is not checked.
+///
+/// [`Module::section`] takes it. Use it for sections that this package has no builder for, or
+/// whose payload is already encoded. For a custom section with a name, see
+/// [`CustomSection`](super::CustomSection). The encoding of sections is defined in the core
+/// specification, Modules, Sections.
+///
+/// ```
+/// use dolzhytik::{Module, RawSection};
+///
+/// let mut module = Module::new();
+/// module.section(&RawSection { id: 3, data: &[1, 0] });
+/// // Id 3, size 2, one function, of type 0.
+/// assert_eq!(module.as_slice()[8..], [3, 2, 1, 0]);
+/// ```
 #[derive(Clone, Copy, Debug)]
 pub struct RawSection<'a> {
     /// The id of the section.
     pub id: u8,
-    /// What the frame has.
+    /// The payload of the section, without its size prefix.
     pub data: &'a [u8],
 }
 
 impl<'a> RawSection<'a> {
+    /// Converts the section for the proved calls.
     fn proved(self) -> base::RawSection<'a> {
         base::RawSection {
             id: self.id,
@@ -83,6 +125,7 @@ impl<'a> RawSection<'a> {
     }
 }
 
+/// Encodes the size prefix and the payload.
 impl Encode for RawSection<'_> {
     fn encode(&self, sink: &mut Vec<u8>) {
         append(&self.proved(), sink)
@@ -95,7 +138,7 @@ impl Section for RawSection<'_> {
     }
 }
 
-/// The bytes of the section as they are, a padded size too.
+/// Copies the bytes of the section after its id, also a padded size prefix.
 impl Encode for reader::Section<'_> {
     fn encode(&self, sink: &mut Vec<u8>) {
         sink.extend_from_slice(&self.bytes()[1..])

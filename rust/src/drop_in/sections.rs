@@ -9,12 +9,17 @@ use crate::sections::{Export, GlobalType, MemoryType, TableType};
 use crate::vec::Sink;
 use alloc_crate::borrow::Cow;
 
-/// Writes a section whose entries are encoded by the proved calls.
+/// Defines a section whose entries are encoded by the proved calls.
 macro_rules! sections {
     ($($(#[$doc:meta])* $name:ident of $id:ident)*) => {
         $(
             $(#[$doc])*
-            #[doc = concat!("\n\nIts entries are encoded as those of the proved [`fallible::", stringify!($name), "`](crate::fallible::", stringify!($name), ").")]
+            #[doc = concat!("\n\n[`Module::section`](super::Module::section) takes the section. Its entries are encoded by the calls that the proved [`fallible::", stringify!($name), "`](crate::fallible::", stringify!($name), ") makes too.")]
+            ///
+            /// # Panics
+            ///
+            /// Its calls panic where the number of entries, or a count or length in one, would pass
+            /// 4294967295. A failed allocation ends the program.
             #[derive(Clone)]
             pub struct $name(pub(super) Entries);
 
@@ -24,28 +29,164 @@ macro_rules! sections {
 }
 
 sections! {
-    /// The import section.
+    /// The import section: the functions, tables, memories, globals and tags that a module takes
+    /// from its host.
+    ///
+    /// Core specification, Modules, Import Section.
+    ///
+    /// ```
+    /// use dolzhytik::{Encode, EntityType, ImportSection};
+    ///
+    /// let mut imports = ImportSection::new();
+    /// imports.import("env", "f", EntityType::Function(5));
+    /// let mut bytes = Vec::new();
+    /// imports.encode(&mut bytes);
+    /// // Size 9, one import: "env", "f", a function (00) of type 5.
+    /// assert_eq!(bytes, *b"\x09\x01\x03env\x01f\0\x05");
+    /// ```
     ImportSection of Import
-    /// The function section: the index of a type for each function.
+    /// The function section: the type of each function that the module defines, by its index.
+    ///
+    /// Core specification, Modules, Function Section.
+    ///
+    /// The bodies are in the [`CodeSection`](super::CodeSection), in the same order.
+    ///
+    /// ```
+    /// use dolzhytik::{Encode, FunctionSection};
+    ///
+    /// let mut functions = FunctionSection::new();
+    /// functions.function(1).function(128);
+    /// let mut bytes = Vec::new();
+    /// functions.encode(&mut bytes);
+    /// // Size 4, two functions, of types 1 and 128 (80 01).
+    /// assert_eq!(bytes, [4, 2, 1, 0x80, 0x01]);
+    /// ```
     FunctionSection of Function
-    /// The table section.
+    /// The table section: the tables that the module defines.
+    ///
+    /// Core specification, Modules, Table Section.
+    ///
+    /// ```
+    /// use dolzhytik::{Encode, RefType, TableSection, TableType};
+    ///
+    /// let mut tables = TableSection::new();
+    /// tables.table(TableType {
+    ///     element_type: RefType::FUNCREF,
+    ///     table64: false,
+    ///     minimum: 1,
+    ///     maximum: Some(2),
+    ///     shared: false,
+    /// });
+    /// let mut bytes = Vec::new();
+    /// tables.encode(&mut bytes);
+    /// // Size 5, one table: funcref (70), flags 1 for a maximum, 1 to 2 elements.
+    /// assert_eq!(bytes, [5, 1, 0x70, 1, 1, 2]);
+    /// ```
     TableSection of Table
-    /// The memory section.
+    /// The memory section: the memories that the module defines.
+    ///
+    /// Core specification, Modules, Memory Section.
+    ///
+    /// ```
+    /// use dolzhytik::{Encode, MemorySection, MemoryType};
+    ///
+    /// let mut memories = MemorySection::new();
+    /// memories.memory(MemoryType {
+    ///     minimum: 1,
+    ///     maximum: None,
+    ///     memory64: true,
+    ///     shared: false,
+    ///     page_size_log2: None,
+    /// });
+    /// let mut bytes = Vec::new();
+    /// memories.encode(&mut bytes);
+    /// // Size 3, one memory: flags 4 for addresses of 64 bits, at least 1 page.
+    /// assert_eq!(bytes, [3, 1, 4, 1]);
+    /// ```
     MemorySection of Memory
-    /// The tag section.
+    /// The tag section: the tags of exceptions that the module defines.
+    ///
+    /// Core specification, Modules, Tag Section.
+    ///
+    /// ```
+    /// use dolzhytik::{Encode, TagKind, TagSection, TagType};
+    ///
+    /// let mut tags = TagSection::new();
+    /// tags.tag(TagType { kind: TagKind::Exception, func_type_idx: 3 });
+    /// let mut bytes = Vec::new();
+    /// tags.encode(&mut bytes);
+    /// // Size 3, one tag: an exception (00), of function type 3.
+    /// assert_eq!(bytes, [3, 1, 0, 3]);
+    /// ```
     TagSection of Tag
-    /// The global section.
+    /// The global section: the globals that the module defines, with their initial values.
+    ///
+    /// Core specification, Modules, Global Section.
+    ///
+    /// ```
+    /// use dolzhytik::{ConstExpr, Encode, GlobalSection, GlobalType, ValType};
+    ///
+    /// let ty = GlobalType { val_type: ValType::I32, mutable: true, shared: false };
+    /// let mut globals = GlobalSection::new();
+    /// globals.global(ty, &ConstExpr::i32_const(42));
+    /// let mut bytes = Vec::new();
+    /// globals.encode(&mut bytes);
+    /// // Size 6, one global: i32 (7F), flags 1 for mutable, i32.const 42 (41 2A), end (0B).
+    /// assert_eq!(bytes, [6, 1, 0x7F, 1, 0x41, 0x2A, 0x0B]);
+    /// ```
     GlobalSection of Global
-    /// The export section.
+    /// The export section: the items that a module gives to its host, by name.
+    ///
+    /// Core specification, Modules, Export Section.
+    ///
+    /// ```
+    /// use dolzhytik::{Encode, ExportKind, ExportSection};
+    ///
+    /// let mut exports = ExportSection::new();
+    /// exports.export("mem", ExportKind::Memory, 0);
+    /// let mut bytes = Vec::new();
+    /// exports.encode(&mut bytes);
+    /// // Size 7, one export: "mem", kind 2, index 0.
+    /// assert_eq!(bytes, *b"\x07\x01\x03mem\x02\0");
+    /// ```
     ExportSection of Export
-    /// The element section.
+    /// The element section: lists of references that initialize tables.
+    ///
+    /// Core specification, Modules, Element Section.
+    ///
+    /// ```
+    /// use dolzhytik::{ConstExpr, ElementSection, Elements, Encode};
+    ///
+    /// let mut elements = ElementSection::new();
+    /// elements.active(None, &ConstExpr::i32_const(1), Elements::Functions(vec![3, 4].into()));
+    /// let mut bytes = Vec::new();
+    /// elements.encode(&mut bytes);
+    /// // Size 8, one segment: form 0, from offset i32.const 1 (41 01) end (0B), functions 3 and 4.
+    /// assert_eq!(bytes, [8, 1, 0, 0x41, 0x01, 0x0B, 2, 3, 4]);
+    /// ```
     ElementSection of Element
-    /// The data section.
+    /// The data section: lists of bytes that initialize memories.
+    ///
+    /// Core specification, Modules, Data Section.
+    ///
+    /// A module whose code has `memory.init` or `data.drop` also needs a
+    /// [`DataCountSection`](super::DataCountSection) before the code.
+    ///
+    /// ```
+    /// use dolzhytik::{ConstExpr, DataSection, Encode};
+    ///
+    /// let mut data = DataSection::new();
+    /// data.active(0, &ConstExpr::i32_const(42), *b"hi");
+    /// let mut bytes = Vec::new();
+    /// data.encode(&mut bytes);
+    /// // Size 8, one segment: form 0, from offset i32.const 42 (41 2A) end (0B), two bytes.
+    /// assert_eq!(bytes, [8, 1, 0, 0x41, 0x2A, 0x0B, 2, b'h', b'i']);
+    /// ```
     DataSection of Data
 }
 
 impl FunctionSection {
-    /// Appends a function of this type.
+    /// Appends a function whose type has this index.
     #[inline]
     pub fn function(&mut self, type_index: u32) -> &mut Self {
         self.0.add(&type_index);
@@ -61,7 +202,25 @@ impl TableSection {
         self
     }
 
-    /// Appends a table whose elements begin as what the expression gives.
+    /// Appends a table whose elements all are the value of the expression at first.
+    ///
+    /// ```
+    /// use dolzhytik::{ConstExpr, Encode, HeapType, RefType, TableSection, TableType};
+    ///
+    /// let ty = TableType {
+    ///     element_type: RefType::FUNCREF,
+    ///     table64: false,
+    ///     minimum: 4,
+    ///     maximum: None,
+    ///     shared: false,
+    /// };
+    /// let mut tables = TableSection::new();
+    /// tables.table_with_init(ty, &ConstExpr::ref_null(HeapType::FUNC));
+    /// let mut bytes = Vec::new();
+    /// tables.encode(&mut bytes);
+    /// // Size 9, one table: 40 00; funcref (70), no flags, 4 elements; ref.null func (D0 70), end.
+    /// assert_eq!(bytes, [9, 1, 0x40, 0x00, 0x70, 0, 4, 0xD0, 0x70, 0x0B]);
+    /// ```
     pub fn table_with_init(&mut self, table_type: TableType, init: &ConstExpr) -> &mut Self {
         self.0.add(&(BEFORE_INIT, table_type, Lent(init)));
         self
@@ -87,14 +246,14 @@ impl TagSection {
 }
 
 impl GlobalSection {
-    /// Appends a global.
+    /// Appends a global of this type and initial value.
     #[inline]
     pub fn global(&mut self, global_type: GlobalType, init_expr: &ConstExpr) -> &mut Self {
         self.0.add(&(global_type, Lent(init_expr)));
         self
     }
 
-    /// Appends a global by its bytes.
+    /// Appends a global by its encoding: the type and the expression. The bytes are not checked.
     pub fn raw(&mut self, data: &[u8]) -> &mut Self {
         self.0.add_bytes(data);
         self
@@ -102,7 +261,11 @@ impl GlobalSection {
 }
 
 impl ExportSection {
-    /// Appends an export.
+    /// Appends an export of the item with this kind and index.
+    ///
+    /// # Panics
+    ///
+    /// Panics if the name has more than 4294967295 bytes.
     #[inline]
     pub fn export(&mut self, name: &str, kind: ExportKind, index: u32) -> &mut Self {
         let kind = kind.into();
@@ -111,43 +274,68 @@ impl ExportSection {
     }
 }
 
-/// The elements of a segment.
+/// The elements of a segment of the [`ElementSection`].
+///
+/// ```
+/// use dolzhytik::{ConstExpr, ElementSection, Elements, Encode, HeapType, RefType};
+///
+/// let expressions = vec![ConstExpr::ref_null(HeapType::EXTERN)];
+/// let mut section = ElementSection::new();
+/// section.passive(Elements::Expressions(RefType::EXTERNREF, expressions.into()));
+/// let mut bytes = Vec::new();
+/// section.encode(&mut bytes);
+/// // Size 7, one segment: form 5, externref (6F), one expression: ref.null extern (D0 6F), end.
+/// assert_eq!(bytes, [7, 1, 5, 0x6F, 1, 0xD0, 0x6F, 0x0B]);
+/// ```
 #[derive(Clone, Debug)]
 pub enum Elements<'a> {
-    /// Functions by their indices.
+    /// References to the functions of these indices.
     Functions(Cow<'a, [u32]>),
-    /// Expressions of this type.
+    /// Constant expressions for references of this type.
     Expressions(RefType, Cow<'a, [ConstExpr]>),
 }
 
-/// Where the elements of a segment go.
+/// The mode of an [`ElementSegment`], whose page has an example: whether instantiation copies the
+/// elements into a table.
 #[derive(Clone, Debug)]
 pub enum ElementMode<'a> {
-    /// To where `table.init` says.
+    /// Only `table.init` copies them.
     Passive,
-    /// Nowhere: they are named, so that `ref.func` may be used.
+    /// Nothing copies them: their functions may be operands of `ref.func` in code.
     Declared,
-    /// Into a table, when the module is instantiated.
+    /// Instantiation copies them into a table.
     Active {
-        /// The table, or the first one.
+        /// The index of the table. `None` is table 0 in the shorter form, where there is one.
         table: Option<u32>,
-        /// Where they begin.
+        /// The index of the first element in the table.
         offset: &'a ConstExpr,
     },
 }
 
-/// A segment of elements.
+/// A segment of the [`ElementSection`], which [`ElementSection::segment`] takes.
+///
+/// ```
+/// use dolzhytik::{ElementMode, ElementSection, ElementSegment, Elements, Encode};
+///
+/// let mut section = ElementSection::new();
+/// let elements = Elements::Functions(vec![7].into());
+/// section.segment(ElementSegment { mode: ElementMode::Declared, elements });
+/// let mut bytes = Vec::new();
+/// section.encode(&mut bytes);
+/// // Size 5, one segment: form 3, functions (00), of one: 7.
+/// assert_eq!(bytes, [5, 1, 3, 0, 1, 7]);
+/// ```
 #[derive(Clone, Debug)]
 pub struct ElementSegment<'a> {
-    /// Where the elements go.
+    /// Whether instantiation copies the elements into a table.
     pub mode: ElementMode<'a>,
     /// The elements.
     pub elements: Elements<'a>,
 }
 
-/// A segment and its expressions, which are the last of it.
+/// A segment and its expressions, which are encoded last.
 struct WithExpressions<'a> {
-    /// The same segment of no expressions. It ends in their number, which is one byte.
+    /// The segment without expressions. Its encoding ends with their number, which is one byte.
     before: sections::ElementSegment<'a>,
     expressions: &'a [ConstExpr],
 }
@@ -162,6 +350,10 @@ impl Encode for WithExpressions<'_> {
 
 impl ElementSection {
     /// Appends a segment.
+    ///
+    /// # Panics
+    ///
+    /// Panics if the segment has more than 4294967295 elements.
     pub fn segment<'a>(&mut self, segment: ElementSegment<'a>) -> &mut Self {
         let offset;
         let mode = match segment.mode {
@@ -191,7 +383,12 @@ impl ElementSection {
         self
     }
 
-    /// Appends an active segment: the elements go into the table, or the first one, from the offset on.
+    /// Appends an active segment: instantiation copies the elements into the table, from the offset
+    /// on. Without a table it is table 0.
+    ///
+    /// # Panics
+    ///
+    /// Panics if the segment has more than 4294967295 elements.
     pub fn active(
         &mut self,
         table_index: Option<u32>,
@@ -207,7 +404,11 @@ impl ElementSection {
         })
     }
 
-    /// Appends a passive segment.
+    /// Appends a passive segment, for `table.init` and `array.new_elem`.
+    ///
+    /// # Panics
+    ///
+    /// Panics if the segment has more than 4294967295 elements.
     pub fn passive<'a>(&mut self, elements: Elements<'a>) -> &mut Self {
         self.segment(ElementSegment {
             mode: ElementMode::Passive,
@@ -215,7 +416,11 @@ impl ElementSection {
         })
     }
 
-    /// Appends a declared segment.
+    /// Appends a declared segment, whose functions may be operands of `ref.func` in code.
+    ///
+    /// # Panics
+    ///
+    /// Panics if the segment has more than 4294967295 elements.
     pub fn declared<'a>(&mut self, elements: Elements<'a>) -> &mut Self {
         self.segment(ElementSegment {
             mode: ElementMode::Declared,
@@ -223,31 +428,43 @@ impl ElementSection {
         })
     }
 
-    /// Appends a segment by its bytes.
+    /// Appends a segment by its encoding. The bytes are not checked.
     pub fn raw(&mut self, raw_bytes: &[u8]) -> &mut Self {
         self.0.add_bytes(raw_bytes);
         self
     }
 }
 
-/// Where the bytes of a segment go.
+/// The mode of a [`DataSegment`], whose page has an example: whether instantiation copies the bytes
+/// into a memory.
 #[derive(Clone, Debug)]
 pub enum DataSegmentMode<'a> {
-    /// Into a memory, when the module is instantiated.
+    /// Instantiation copies them into a memory.
     Active {
-        /// The memory.
+        /// The index of the memory.
         memory_index: u32,
-        /// Where they begin.
+        /// The address of the first byte.
         offset: &'a ConstExpr,
     },
-    /// To where `memory.init` says.
+    /// Only `memory.init` copies them.
     Passive,
 }
 
-/// A segment of bytes.
+/// A segment of the [`DataSection`], which [`DataSection::segment`] takes.
+///
+/// ```
+/// use dolzhytik::{DataSection, DataSegment, DataSegmentMode, Encode};
+///
+/// let mut section = DataSection::new();
+/// section.segment(DataSegment { mode: DataSegmentMode::Passive, data: *b"hi" });
+/// let mut bytes = Vec::new();
+/// section.encode(&mut bytes);
+/// // Size 5, one segment: form 1, two bytes.
+/// assert_eq!(bytes, [5, 1, 1, 2, b'h', b'i']);
+/// ```
 #[derive(Clone, Debug)]
 pub struct DataSegment<'a, D> {
-    /// Where the bytes go.
+    /// Whether instantiation copies the bytes into a memory.
     pub mode: DataSegmentMode<'a>,
     /// The bytes.
     pub data: D,
@@ -255,6 +472,10 @@ pub struct DataSegment<'a, D> {
 
 impl DataSection {
     /// Appends a segment.
+    ///
+    /// # Panics
+    ///
+    /// Panics if the iterator reports more than 4294967295 bytes, before one is requested.
     pub fn segment<D>(&mut self, segment: DataSegment<D>) -> &mut Self
     where
         D: IntoIterator<Item = u8>,
@@ -269,7 +490,12 @@ impl DataSection {
         }
     }
 
-    /// Appends an active segment: the bytes go into the memory from the offset on.
+    /// Appends an active segment: instantiation copies the bytes into the memory, from the offset
+    /// on.
+    ///
+    /// # Panics
+    ///
+    /// Panics if the iterator reports more than 4294967295 bytes, before one is requested.
     pub fn active<D>(&mut self, memory_index: u32, offset: &ConstExpr, data: D) -> &mut Self
     where
         D: IntoIterator<Item = u8>,
@@ -283,7 +509,11 @@ impl DataSection {
         }
     }
 
-    /// Appends a passive segment.
+    /// Appends a passive segment, for `memory.init` and `array.new_data`.
+    ///
+    /// # Panics
+    ///
+    /// Panics if the iterator reports more than 4294967295 bytes, before one is requested.
     pub fn passive<D>(&mut self, data: D) -> &mut Self
     where
         D: IntoIterator<Item = u8>,
@@ -292,7 +522,7 @@ impl DataSection {
         self.with_bytes(PASSIVE, data)
     }
 
-    /// Appends a segment that begins so.
+    /// Appends a segment of these first fields and its bytes.
     #[inline]
     fn with_bytes<D>(&mut self, front: impl Encode, data: D) -> &mut Self
     where
@@ -303,7 +533,7 @@ impl DataSection {
         self
     }
 
-    /// Appends a segment by its bytes.
+    /// Appends a segment by its encoding. The bytes are not checked.
     pub fn raw(&mut self, already_encoded_data_segment: &[u8]) -> &mut Self {
         self.0.add_bytes(already_encoded_data_segment);
         self

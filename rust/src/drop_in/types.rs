@@ -11,7 +11,18 @@ use alloc_crate::boxed::Box;
 use core::fmt;
 use core::hash::{Hash, Hasher};
 
-/// The type of a function.
+/// The type of a function: the types of its parameters and of its results.
+///
+/// [`CoreTypeEncoder::func_type`] takes it, and [`CompositeInnerType::Func`] has one. To add a type
+/// without a value, see [`CoreTypeEncoder::function`]. Core specification, Types, Composite Types.
+///
+/// ```
+/// use dolzhytik::{FuncType, TypeSection, ValType};
+///
+/// let ty = FuncType::new([ValType::I32], [ValType::I64]);
+/// assert_eq!((ty.params(), ty.results()), (&[ValType::I32][..], &[ValType::I64][..]));
+/// TypeSection::new().ty().func_type(&ty);
+/// ```
 pub struct FuncType(types::FuncType);
 
 copied!(FuncType);
@@ -19,7 +30,7 @@ encoded!(FuncType);
 taken!(FuncType of types);
 
 impl FuncType {
-    /// The type of functions of these parameters and results.
+    /// Returns the type of functions with these parameters and results.
     pub fn new<P, R>(params: P, results: R) -> Self
     where
         P: IntoIterator<Item = ValType>,
@@ -28,12 +39,12 @@ impl FuncType {
         FuncType(done(types::FuncType::new(Global, params, results)))
     }
 
-    /// The types of the parameters.
+    /// Returns the types of the parameters.
     pub fn params(&self) -> &[ValType] {
         self.0.params()
     }
 
-    /// The types of the results.
+    /// Returns the types of the results.
     pub fn results(&self) -> &[ValType] {
         self.0.results()
     }
@@ -63,51 +74,93 @@ impl Hash for FuncType {
     }
 }
 
-/// The type of a structure.
+/// The type of a structure: its fields. It is a case of [`CompositeInnerType`]; to add one without
+/// a value, see [`CoreTypeEncoder::struct_`].
+///
+/// Core specification, Types, Composite Types.
+///
+/// ```
+/// use dolzhytik::{Encode, FieldType, StorageType, StructType};
+///
+/// let mut bytes = Vec::new();
+/// let field = FieldType { element_type: StorageType::I8, mutable: true };
+/// StructType { fields: Box::new([field]) }.encode(&mut bytes);
+/// // A structure: 5F. One field: i8, 78, mutable, 01.
+/// assert_eq!(bytes, [0x5F, 1, 0x78, 0x01]);
+/// ```
 #[derive(Clone, Debug, PartialEq, Eq, Hash)]
 pub struct StructType {
-    /// Its fields.
+    /// The types of its fields.
     pub fields: Box<[FieldType]>,
 }
 
-/// What a type is, beside what can be said of all.
+/// A composite type without sharing and descriptors: a field of [`CompositeType`].
+///
+/// ```
+/// use dolzhytik::{CompositeInnerType, Encode, FuncType};
+///
+/// let mut bytes = Vec::new();
+/// CompositeInnerType::Func(FuncType::new([], [])).encode(&mut bytes);
+/// // A function: 60. No parameters and no results.
+/// assert_eq!(bytes, [0x60, 0, 0]);
+/// ```
 #[derive(Clone, Debug, PartialEq, Eq, Hash)]
 pub enum CompositeInnerType {
-    /// A function.
+    /// A function type, byte 60.
     Func(FuncType),
-    /// An array.
+    /// An array type, byte 5E.
     Array(ArrayType),
-    /// A structure.
+    /// A structure type, byte 5F.
     Struct(StructType),
-    /// A continuation.
+    /// A continuation type, byte 5D, by the stack switching proposal.
     Cont(ContType),
 }
 
-/// A type without its place among others.
+/// A composite type: a field of [`SubType`].
+///
+/// Core specification, Types, Composite Types.
+///
+/// ```
+/// use dolzhytik::{CompositeInnerType, CompositeType, Encode, FuncType};
+///
+/// let mut bytes = Vec::new();
+/// CompositeType {
+///     inner: CompositeInnerType::Func(FuncType::new([], [])),
+///     shared: true,
+///     descriptor: None,
+///     describes: None,
+/// }
+/// .encode(&mut bytes);
+/// // Shared: 65. The function type: 60, no parameters, no results.
+/// assert_eq!(bytes, [0x65, 0x60, 0, 0]);
+/// ```
 #[derive(Clone, Debug, PartialEq, Eq, Hash)]
 pub struct CompositeType {
-    /// What it is.
+    /// The function, array, structure or continuation type.
     pub inner: CompositeInnerType,
-    /// It can be shared by threads.
+    /// Whether threads share its values, by the shared-everything threads proposal.
     pub shared: bool,
-    /// The type that describes it.
+    /// The index of the type that describes it, by the custom descriptors proposal.
     pub descriptor: Option<u32>,
-    /// The type that it describes.
+    /// The index of the type that it describes, by the custom descriptors proposal.
     pub describes: Option<u32>,
 }
 
-/// A type, and what it is a subtype of.
+/// A subtype: a composite type, its supertype, and whether it can have subtypes.
+///
+/// [`CoreTypeEncoder::subtype`], whose page has an example, and [`CoreTypeEncoder::rec`] take it.
+/// Core specification, Types, Recursive Types.
 #[derive(Clone, Debug, PartialEq, Eq, Hash)]
 pub struct SubType {
-    /// It has no subtypes.
+    /// Whether it is final, so that it can have no subtypes.
     pub is_final: bool,
-    /// The type that it is a subtype of.
+    /// The index of its supertype.
     pub supertype_idx: Option<u32>,
-    /// The type.
+    /// The composite type.
     pub composite_type: CompositeType,
 }
 
-// The same types for the proved calls. Nothing is copied.
+// Conversions to the types that the proved calls take. Nothing is copied.
 
 impl From<StructType> for types::StructType {
     fn from(ty: StructType) -> Self {
@@ -151,33 +204,65 @@ impl From<SubType> for types::SubType {
 
 by_proved! { types: StructType CompositeInnerType CompositeType SubType }
 
-/// The type section. Its entries are encoded as those of the proved [`fallible::TypeSection`](crate::fallible::TypeSection).
+/// The type section: the types that functions, blocks and other types of the module refer to by
+/// index.
+///
+/// [`ty`](TypeSection::ty) returns the calls that add a type, and
+/// [`Module::section`](super::Module::section) takes the section. Core specification, Modules, Type
+/// Section. Its entries are encoded by the calls that the proved
+/// [`fallible::TypeSection`](crate::fallible::TypeSection) makes too.
 ///
 /// ```
-/// use dolzhytik::{TypeSection, ValType};
+/// use dolzhytik::{Encode, TypeSection, ValType};
 ///
 /// let mut types = TypeSection::new();
 /// types.ty().function([ValType::I32, ValType::I32], [ValType::I64]);
-/// assert_eq!(types.len(), 1);
+/// let mut bytes = Vec::new();
+/// types.encode(&mut bytes);
+/// // Size 7, one type: a function (60) of two i32 (7F) to one i64 (7E).
+/// assert_eq!(bytes, [7, 1, 0x60, 2, 0x7F, 0x7F, 1, 0x7E]);
 /// ```
+///
+/// # Panics
+///
+/// Its calls panic where the number of entries, or a count in one, would pass 4294967295. A failed
+/// allocation ends the program.
 #[derive(Clone)]
 pub struct TypeSection(Entries);
 
 listed!(TypeSection of types Type);
 
 impl TypeSection {
-    /// The calls that append an entry: a type or a group. Nothing is appended, and nothing counted, until one of them is made.
-    #[must_use = "an entry is appended by a call of what this answers"]
+    /// Returns the calls that append an entry: a type, or a group of types. Each call uses the
+    /// value up. Nothing is appended or counted if none is made.
+    #[must_use = "an entry is appended by a call of the returned value"]
     pub fn ty(&mut self) -> CoreTypeEncoder<'_> {
         CoreTypeEncoder(&mut self.0)
     }
 }
 
-/// The calls that append an entry of a [`TypeSection`].
+/// The calls that append an entry of a [`TypeSection`], which [`TypeSection::ty`] returns.
+///
+/// ```
+/// use dolzhytik::{Encode, FieldType, StorageType, TypeSection, ValType};
+///
+/// let mut types = TypeSection::new();
+/// types.ty().array(&StorageType::I8, true);
+/// types.ty().struct_([FieldType { element_type: ValType::F32.into(), mutable: false }]);
+/// let mut bytes = Vec::new();
+/// types.encode(&mut bytes);
+/// // Size 8, two types: an array (5E) of mutable (01) i8 (78), and a structure (5F) of one field,
+/// // f32 (7D), immutable (00).
+/// assert_eq!(bytes, [8, 2, 0x5E, 0x78, 1, 0x5F, 1, 0x7D, 0]);
+/// ```
 pub struct CoreTypeEncoder<'a>(&'a mut Entries);
 
 impl CoreTypeEncoder<'_> {
-    /// Appends the type of functions of these parameters and results.
+    /// Appends the type of functions with these parameters and results.
+    ///
+    /// # Panics
+    ///
+    /// Panics if an iterator reports more than 4294967295 types, before one is requested.
     #[inline]
     pub fn function<P, R>(self, params: P, results: R)
     where
@@ -191,12 +276,12 @@ impl CoreTypeEncoder<'_> {
         self.0.add_once((FUNC, params, results))
     }
 
-    /// Appends the type of a function.
+    /// Appends a function type.
     pub fn func_type(self, ty: &FuncType) {
         self.0.add(&ty.0)
     }
 
-    /// Appends the type of arrays of these elements.
+    /// Appends the type of arrays with elements of this type.
     pub fn array(self, ty: &StorageType, mutable: bool) {
         let element_type = *ty;
         self.0.add(&ArrayType(FieldType {
@@ -205,7 +290,11 @@ impl CoreTypeEncoder<'_> {
         }))
     }
 
-    /// Appends the type of structures of these fields.
+    /// Appends the type of structures with these fields.
+    ///
+    /// # Panics
+    ///
+    /// Panics if the iterator reports more than 4294967295 fields, before one is requested.
     pub fn struct_<F>(self, fields: F)
     where
         F: IntoIterator<Item = FieldType>,
@@ -214,17 +303,57 @@ impl CoreTypeEncoder<'_> {
         self.0.add_once((STRUCT, done(vec_of(fields))))
     }
 
-    /// Appends the type of continuations.
+    /// Appends a continuation type, by the stack switching proposal.
     pub fn cont(self, ty: &ContType) {
         self.0.add(ty)
     }
 
-    /// Appends a type and what it is a subtype of. The lists of the type are copied.
+    /// Appends a subtype. The lists of the type are copied.
+    ///
+    /// ```
+    /// use dolzhytik::{
+    ///     CompositeInnerType, CompositeType, Encode, StructType, SubType, TypeSection,
+    /// };
+    ///
+    /// let mut types = TypeSection::new();
+    /// types.ty().subtype(&SubType {
+    ///     is_final: false,
+    ///     supertype_idx: Some(0),
+    ///     composite_type: CompositeType {
+    ///         inner: CompositeInnerType::Struct(StructType { fields: Box::new([]) }),
+    ///         shared: false,
+    ///         descriptor: None,
+    ///         describes: None,
+    ///     },
+    /// });
+    /// let mut bytes = Vec::new();
+    /// types.encode(&mut bytes);
+    /// // Size 6, one type: not final (50), one supertype, 0; a structure (5F) of no fields.
+    /// assert_eq!(bytes, [6, 1, 0x50, 1, 0, 0x5F, 0]);
+    /// ```
     pub fn subtype(self, ty: &SubType) {
         self.0.add(&types::SubType::from(ty.clone()))
     }
 
-    /// Appends a group of types that may refer to one another: one entry.
+    /// Appends a group of types that may refer to each other. It is one entry, and each type takes
+    /// an index.
+    ///
+    /// ```
+    /// use dolzhytik::{Encode, TypeSection};
+    ///
+    /// let mut types = TypeSection::new();
+    /// types.ty().rec([]);
+    /// let mut bytes = Vec::new();
+    /// types.encode(&mut bytes);
+    /// // Size 3, one entry: a group (4E) of no types.
+    /// assert_eq!(bytes, [3, 1, 0x4E, 0]);
+    /// ```
+    ///
+    /// # Panics
+    ///
+    /// Panics if the iterator reports more than 4294967295 types, before one is requested.
+    #[doc(alias = "recursive type")]
+    #[doc(alias = "recursion group")]
     pub fn rec<T>(self, types: T)
     where
         T: IntoIterator<Item = SubType>,

@@ -1,4 +1,4 @@
-//! What Rust programs do with values that the proved calls take: conversions, orders, constants and predicates.
+//! Conversions, orders, constants and predicates of the values that the proved calls take.
 use crate::base::{AbstractHeapType, HeapType, RefType, ValType};
 use crate::immediates::{Ieee32, Ieee64};
 use crate::types::StorageType;
@@ -41,7 +41,7 @@ impl From<ValType> for StorageType {
 }
 
 impl RefType {
-    /// A reference to what has a name.
+    /// Returns the type of references to values of an abstract heap type.
     pub const fn new_abstract(ty: AbstractHeapType, nullable: bool, shared: bool) -> Self {
         RefType {
             nullable,
@@ -51,13 +51,13 @@ impl RefType {
 }
 
 impl ValType {
-    /// A function or null.
+    /// The type of references to functions, or null.
     pub const FUNCREF: ValType = ValType::Ref(RefType::FUNCREF);
 
-    /// A value of the host or null.
+    /// The type of references to values of the host, or null.
     pub const EXTERNREF: ValType = ValType::Ref(RefType::EXTERNREF);
 
-    /// It is an integer or a float.
+    /// Returns `true` for integers and floats.
     pub const fn is_numeric(&self) -> bool {
         matches!(
             self,
@@ -65,19 +65,19 @@ impl ValType {
         )
     }
 
-    /// It is a vector.
+    /// Returns `true` for `v128`.
     pub const fn is_vector(&self) -> bool {
         matches!(self, ValType::V128)
     }
 
-    /// It is a reference.
+    /// Returns `true` for references.
     pub const fn is_reference(&self) -> bool {
         matches!(self, ValType::Ref(_))
     }
 }
 
 impl StorageType {
-    /// The type of what is read from such a place.
+    /// Returns the type of a value that is read from such a field: `i32` for a packed integer.
     pub const fn unpack(&self) -> ValType {
         match self {
             StorageType::I8 | StorageType::I16 => ValType::I32,
@@ -86,7 +86,7 @@ impl StorageType {
     }
 }
 
-/// Writes a total order by a key.
+/// Implements a total order by a key.
 macro_rules! ordered {
     ($($name:ident by |$value:ident| $key:expr;)*) => {
         $(

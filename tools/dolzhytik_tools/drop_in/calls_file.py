@@ -1,7 +1,10 @@
 """The file of the named calls."""
 from __future__ import annotations
 
+from ..errors import Stop
 from .cases import HEAD, Case, item_of
+from .examples import EXAMPLES, example
+from .standard import alias, class_of, opcode, text_name
 
 
 def signature(case: Case) -> str:
@@ -20,9 +23,18 @@ def signature(case: Case) -> str:
 
 def documentation(case: Case, proved: dict[str, str]) -> str:
     """Returns the doc comment of a call."""
-    name = proved.get(case.call)
-    by = ", by the proved [`%s`](insn::InstructionSink::%s)" % (name, name) if name else ""
-    return "    /// Appends [`%s`](super::Instruction::%s)%s.\n" % (case.name, case.name, by)
+    lines = ["Appends `%s`, opcode `%s`, %s." % (text_name(case), opcode(case), class_of(case)), ""]
+    lines.append("As a value it is [`%s`](super::Instruction::%s)." % (case.name, case.name))
+    if case.call in proved:
+        name = proved[case.call]
+        lines.append("It is written by the proved [`%s`](insn::InstructionSink::%s) of `fallible`." % (name, name))
+    ordered, given = [name for name, _ in case.parts], [name for name, _ in case.parameters]
+    if ordered != given:
+        lines.append("Its bytes have %s." % " before ".join("`%s`" % name for name in ordered))
+    lines += example(case.call)
+    if any(map(item_of, case.types)) and not case.is_one:
+        lines += ["", "# Panics", "", "Panics if the list has more than 4294967295 items."]
+    return "".join("    /// %s\n" % line if line else "    ///\n" for line in lines)
 
 
 def body(case: Case, proved: dict[str, str]) -> str:
@@ -42,8 +54,10 @@ def body(case: Case, proved: dict[str, str]) -> str:
 
 def calls_file(cases: list[Case], proved: dict[str, str]) -> str:
     """Returns the file."""
-    calls = [documentation(case, proved) + "    #[inline]\n%s{\n        %s\n    }\n" % (signature(case), body(case, proved)) for case in cases]
-    return HEAD + """//! A named call for each instruction.
+    for call in EXAMPLES.keys() - {case.call for case in cases}:
+        raise Stop("an example of the call %s, which the table does not have" % call)
+    calls = [documentation(case, proved) + alias(case) + "    #[inline]\n%s{\n        %s\n    }\n" % (signature(case), body(case, proved)) for case in cases]
+    return HEAD + """//! The named calls of `InstructionSink`, one for each instruction.
 
 use super::InstructionSink;
 use crate::base::{HeapType, RefType, ValType};

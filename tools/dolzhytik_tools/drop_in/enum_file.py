@@ -2,12 +2,25 @@
 from __future__ import annotations
 
 from .cases import HEAD, Case, item_of
+from .standard import alias, class_of, field, opcode, text_name
 
 
 def declaration(case: Case) -> str:
     """Returns the variant of a case."""
-    fields = " { %s }" % ", ".join("%s: %s" % pair for pair in case.declared) if case.declared else "(%s)" % ", ".join(case.types) if case.types else ""
-    return "    /// Its op is `%s`.\n    %s%s,\n" % (" ".join("%02X" % byte for byte in case.op_bytes()), case.name, fields)
+    declared = "".join("        /// %s\n        %s: %s,\n" % (field(name), name, ty) for name, ty in case.declared)
+    fields = " {\n%s    }" % declared if declared else "(%s)" % ", ".join(case.types) if case.types else ""
+    return "".join("    /// %s\n" % line for line in documentation(case)) + alias(case) + "    %s%s,\n" % (case.name, fields)
+
+
+def documentation(case: Case) -> list[str]:
+    """Returns the lines of the doc comment of a case. Fields without names have those of the
+    parameters of the call."""
+    unnamed = [] if case.fields else ["`%s`" % name for name, _ in case.parts]
+    held = ", with the immediate%s %s" % ("s" * (len(unnamed) > 1), " and ".join(unnamed)) if unnamed else ""
+    return [
+        "`%s`, opcode `%s`, %s." % (text_name(case), opcode(case), class_of(case)),
+        "Its call is [`%s`](super::InstructionSink::%s)%s." % (case.call, case.call, held),
+    ]
 
 
 def conversion(case: Case) -> str:
@@ -53,7 +66,7 @@ def encode_arms(cases: list[Case]) -> str:
     return "".join("            %s => %s,\n" % ("\n            | ".join(patterns), way) for (_, way), patterns in arms.items())
 
 
-TEMPLATE = """//! All instructions, as cases of one enum.
+TEMPLATE = """//! The instructions, as cases of one enum.
 
 use super::Encode;
 use super::entries::append;
@@ -64,17 +77,46 @@ use alloc_crate::borrow::Cow;
 use alloc_crate::vec::Vec;
 use core::slice;
 
-/// An instruction.
+/// An instruction as a value, with its immediates.
 ///
-/// A `match` on it outside this package needs a wildcard, as in the crate.
+/// [`Function::instruction`](super::Function::instruction) appends one to a body,
+/// [`ConstExpr::extended`](super::ConstExpr::extended) makes a constant expression of some, and
+/// `encode` of [`Encode`] appends its bytes to a list. Each case also has a named call of
+/// [`InstructionSink`](super::InstructionSink), which takes its immediates as arguments.
+///
+/// The line of a case has the instruction's name in the text format, the bytes of its opcode in
+/// hexadecimal, and its class. Instructions whose line names no proposal are defined in the core
+/// specification, Binary Format, [Instructions].
+///
+/// The enum is `non_exhaustive`: a `match` outside this package needs a wildcard. To decode
+/// instructions, see [`reader::CodeBody::instructions`](crate::reader::CodeBody::instructions).
+///
+/// ```
+/// use dolzhytik::{BlockType, Encode, Instruction};
+///
+/// let mut bytes = Vec::new();
+/// for instruction in [
+///     Instruction::Block(BlockType::Empty),
+///     Instruction::I32Const(-1),
+///     Instruction::BrTable(vec![0, 0].into(), 0),
+///     Instruction::End,
+/// ] {
+///     instruction.encode(&mut bytes);
+/// }
+/// // block: 02 and the empty type 40. i32.const: 41 and -1 as signed LEB128. br_table: 0E, two
+/// // labels, and the default label. end: 0B.
+/// assert_eq!(bytes, [0x02, 0x40, 0x41, 0x7F, 0x0E, 2, 0, 0, 0, 0x0B]);
+/// ```
+///
+/// [Instructions]: https://webassembly.github.io/spec/core/binary/instructions.html
 #[derive(Clone, Debug)]
 #[non_exhaustive]
 pub enum Instruction<'a> {
 %s}
 
-/// The same instruction for the proved calls. Its lists are borrowed.
+/// Converts an instruction to the one that the proved calls take. Its lists are borrowed.
 impl<'a> From<&'a Instruction<'_>> for insn::Instruction<'a> {
-    // Inline, so that only who uses it compiles it.
+    // Inline, so that it is compiled only where it is used.
     #[inline]
     fn from(instruction: &'a Instruction<'_>) -> Self {
         match instruction {
@@ -83,7 +125,7 @@ impl<'a> From<&'a Instruction<'_>> for insn::Instruction<'a> {
 }
 
 impl Instruction<'_> {
-    /// The op of the table, as `op_of` takes it.
+    /// Returns the opcode as one number, which `op_of` takes.
     #[inline(always)]
     fn op(&self) -> u32 {
         match self {
@@ -91,7 +133,7 @@ impl Instruction<'_> {
     }
 }
 
-/// The bytes of a vector.
+/// Encodes a vector as its 16 bytes.
 struct Vector<'a>(&'a i128);
 
 impl base::Encode for Vector<'_> {
@@ -101,7 +143,7 @@ impl base::Encode for Vector<'_> {
     }
 }
 
-/// The op of a byte, or of a prefix and a number: the upper byte of this, and the others.
+/// Returns an opcode. The upper byte of the number is the prefix, or 0 for an opcode of one byte.
 #[inline]
 fn op_of(op: u32) -> Op {
     let [prefix, number @ ..] = op.to_be_bytes();
@@ -111,27 +153,28 @@ fn op_of(op: u32) -> Op {
     Op::Prefixed(prefix, op & 0x00FF_FFFF)
 }
 
-// Each arm of `encode` ends in a jump to one of these, with what it hands over in registers. An op as one number is an operand of an instruction of the processor.
+// Each arm of `encode` ends in a jump to one of these functions, and passes its arguments in
+// registers. An opcode as one number is an immediate operand of the processor.
 
-/// Appends an op.
+/// Appends an opcode.
 #[inline(never)]
 fn write_0(op: u32, sink: &mut Vec<u8>) {
     append(&op_of(op), sink)
 }
 
-/// Appends an op and its part.
+/// Appends an opcode and its immediate.
 #[inline(never)]
 fn write_1<T: base::Encode>(op: u32, part: T, sink: &mut Vec<u8>) {
     append(&(op_of(op), part), sink)
 }
 
-/// Appends an op and its two parts.
+/// Appends an opcode and its two immediates.
 #[inline(never)]
 fn write_2<T: base::Encode, U: base::Encode>(op: u32, first: T, second: U, sink: &mut Vec<u8>) {
     append(&(op_of(op), first, second), sink)
 }
 
-/// Appends an op and its three parts.
+/// Appends an opcode and its three immediates.
 #[inline(never)]
 fn write_3<T: base::Encode, U: base::Encode, V: base::Encode>(
     op: u32,
@@ -152,7 +195,7 @@ fn write_proved(instruction: &Instruction<'_>, sink: &mut Vec<u8>) {
     append(&proved, sink)
 }
 
-/// The op, and its parts.
+/// Encodes the opcode and the immediates.
 impl Encode for Instruction<'_> {
     fn encode(&self, sink: &mut Vec<u8>) {
         let op = self.op();

@@ -1,15 +1,17 @@
-"""Tests of tools/drop-in: a proved sink that the table does not fit, the enum's match, and changed
-files."""
+"""Tests of tools/drop-in: a proved sink that the table does not fit, the enum's match, doc comments,
+and changed files."""
 from __future__ import annotations
 
 import pathlib
 import re
 import tempfile
 
+from ..drop_in.calls_file import documentation as documentation_of_call
 from ..drop_in.cases import Case, proved_calls, read
 from ..drop_in.command import SINK
 from ..drop_in.command import main as main_of_tool
-from ..drop_in.enum_file import instruction_file
+from ..drop_in.enum_file import documentation, instruction_file
+from ..drop_in.standard import class_of, field
 from ..drop_in.test_file import test_file
 from ..errors import Stop
 from ..instructions.table import TABLE
@@ -46,6 +48,42 @@ def match_trouble() -> str | None:
     return None if named and sorted(named) == sorted(it.name for it in cases()) else "the match has other cases than the table"
 
 
+# The first line of the doc comment of cases, by hand.
+SAID = {
+    "BrTable": "`br_table`, opcode `0E`, a control instruction.",
+    "I32Add": "`i32.add`, opcode `6A`, a numeric instruction.",
+    "Try": "`try`, opcode `06`, a control instruction of the legacy exception handling proposal.",
+    "RefTestNullable": "`ref.test (ref null ht)`, opcode `FB 15`, a reference instruction.",
+    "I16x8Abs": "`i16x8.abs`, opcode `FD 80 01`, a vector instruction.",
+    "I32AtomicRmw8AddU": "`i32.atomic.rmw8.add_u`, opcode `FE 20`, an atomic instruction of the threads proposal.",
+}
+
+
+def said_trouble() -> str | None:
+    """A doc comment has the name, the opcode and the class. A call that takes its arguments in
+    another order than its bytes says so. An opcode without a class stops the tool, and so does an
+    unknown field."""
+    by_name = {it.name: it for it in cases()}
+    wrong = [name for name, line in SAID.items() if documentation(by_name[name])[0] != line]
+    if wrong:
+        return "other lines: %s" % ", ".join(wrong)
+    if not documentation(by_name["BrTable"])[1].endswith(", with the immediates `labels` and `default`."):
+        return "the names of the immediates are missing"
+    if "Its bytes have `type_index` before `table_index`." not in documentation_of_call(by_name["CallIndirect"], {}):
+        return "the order of the bytes is missing"
+    if "# Panics" not in documentation_of_call(by_name["BrTable"], {}) or "# Panics" in documentation_of_call(by_name["TypedSelect"], {}):
+        return "another call panics"
+    unknown = by_name["I32Add"]
+    unknown.code = 0xFF
+    for stops in (lambda: class_of(unknown), lambda: field("depth")):
+        try:
+            stops()
+        except Stop:
+            continue
+        return "it was not stopped at"
+    return None
+
+
 def check_trouble() -> str | None:
     """`--check` reports missing and changed files."""
     with tempfile.TemporaryDirectory() as folder:
@@ -62,5 +100,5 @@ def check_trouble() -> str | None:
 
 def main() -> int:
     """Runs the tests."""
-    troubles = {"touched files": check_trouble, "the proved sink": proved_trouble, "matches": match_trouble}
+    troubles = {"touched files": check_trouble, "the proved sink": proved_trouble, "matches": match_trouble, "doc comments": said_trouble}
     return end([report("drop-in-test", name, trouble()) for name, trouble in troubles.items()])
