@@ -157,14 +157,3 @@ fn standard_streams() {
         answer
     );
 }
-
-#[test]
-fn no_module() {
-    let folder = Folder::new("strip_none");
-    let fault = folder.call(&["strip", "-", "-o", "b.wasm"], b"(module)");
-    assert_eq!(
-        fault,
-        Answer::fault("standard input: text, and no binary module")
-    );
-    assert!(folder.names().is_empty());
-}
