@@ -423,7 +423,7 @@ test('sizes that are none', () => {
   const large = moduleOf('0e 00', '0e ffffffff 1f');
   const cause = 'integer too large';
   for (const call of [outline, list, minimize, (module) => items(module, 0)]) {
-    checkError(() => call(large), `section 2 at offset 0xb: ${cause}`, cause, { offset: 10 });
+    checkError(() => call(large), `section 2 at offset 0xf: ${cause}`, cause, { offset: 10 });
   }
 });
 
