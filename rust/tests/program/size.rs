@@ -82,12 +82,14 @@ fn faults() {
     check(&["0a 04 02 02 00 0b"], ended);
     let unknown = "section 1 (import) at offset 0xf: unexpected byte or value";
     check(&["02 07 01 01 61 01 62 09 00"], unknown);
-    // Names that do not decode are none.
-    let answer = folder.call(
-        &["size", "-", "--functions=1"],
-        &module(&[NAMED[3], &custom("name", "01 09")]),
-    );
-    assert!(answer.out.ends_with(b"function 1\n"));
+    let names = |data: &str, line: &[u8]| {
+        let sections = module(&[NAMED[3], &custom("name", data)]);
+        let answer = folder.call(&["size", "-", "--functions=1"], &sections);
+        assert!(answer.out.ends_with(line), "{data}");
+    };
+    // Names after the first wrong byte are none, and no error.
+    names("01 09", b" function 1\n");
+    names("01 06 01 01 03 616263 02 09", b" function 1 \"abc\"\n");
 }
 
 #[test]
