@@ -402,8 +402,8 @@ test('what is no module', () => {
   const text = 'text, and no binary module';
   const causes = [
     [hex(''), 'empty, and no module'],
-    [hex('00'), 'no module: the header ends at offset 0x1'],
-    [ADD.subarray(0, 7), 'no module: the header ends at offset 0x7'],
+    [hex('00'), 'no module: it ends in the header, at offset 0x1'],
+    [ADD.subarray(0, 7), 'no module: it ends in the header, at offset 0x7'],
     [ADD.subarray(1), none],
     [hex('0061736e 01000000'), 'no module: it differs from 00 61 73 6d 01 00 00 00 at offset 0x3'],
     [hex('0061736d 0d000100'), 'a component, and no module'],

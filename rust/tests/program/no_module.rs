@@ -72,11 +72,11 @@ fn damaged_headers() {
     check(&bytes_of("0061736e01000000"), &format!("{magic} 0x3"));
     check(
         &bytes_of("006173"),
-        "no module: the header ends at offset 0x3",
+        "no module: it ends in the header, at offset 0x3",
     );
     check(
         &bytes_of("0061736d010000"),
-        "no module: the header ends at offset 0x7",
+        "no module: it ends in the header, at offset 0x7",
     );
 }
 

@@ -25,8 +25,8 @@ pub fn at<'a>(module: &[u8], number: usize, cause: Cause<'a>) -> Failure<'a> {
     Failure { place, cause }
 }
 
-/// The failure of a section that has no id or size, or of the header for 0. Its cause is looked up
-/// by the reader of sections, which has its offset.
+/// The failure at the section with this number, or at the header for 0. Where the section has no id
+/// or size, the reader of sections has the offset.
 pub fn no_module<'a>(module: &[u8], number: usize, fault: ReadFault) -> Failure<'a> {
     let sections = sections_from(module, number);
     let cause = match sections.map(|mut sections| sections.next()) {

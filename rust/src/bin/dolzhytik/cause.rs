@@ -1,40 +1,28 @@
 //! The texts of causes. The program and the JavaScript package have this file.
 use core::fmt::{self, Display, Formatter, Write};
-use dolzhytik::reader::{ReadError, ReadFault};
+use dolzhytik::reader::{ModuleFault, ReadFault};
 
-/// Prints a cause as [`ReadError`] does, which prints its offset too.
+/// Prints the text of a cause, which errors of the reader print beside a section or an offset.
 pub struct Text(pub ReadFault);
 
-/// What [`ReadError`] prints after the text of a cause at offset 0.
-const AFTER: &str = " at offset 0x0";
+/// What a [`ModuleFault`] prints before the cause.
+const BEFORE: &str = "section 0: ";
 
-/// Counts bytes.
-struct Length(usize);
+/// Drops this number of bytes, and passes on the bytes after them.
+struct After<'f, 'g>(usize, &'f mut Formatter<'g>);
 
-impl Write for Length {
+impl Write for After<'_, '_> {
     fn write_str(&mut self, text: &str) -> fmt::Result {
-        self.0 += text.len();
-        Ok(())
-    }
-}
-
-/// Passes on so many bytes, and drops those after them.
-struct Front<'f, 'g>(usize, &'f mut Formatter<'g>);
-
-impl Write for Front<'_, '_> {
-    fn write_str(&mut self, text: &str) -> fmt::Result {
-        let front = &text[..text.len().min(self.0)];
-        self.0 -= front.len();
-        self.1.write_str(front)
+        let dropped = text.len().min(self.0);
+        self.0 -= dropped;
+        self.1.write_str(&text[dropped..])
     }
 }
 
 impl Display for Text {
     fn fmt(&self, f: &mut Formatter<'_>) -> fmt::Result {
-        let (cause, offset) = (self.0, 0);
-        let error = ReadError { cause, offset };
-        let mut length = Length(0);
-        write!(length, "{error}")?;
-        write!(Front(length.0 - AFTER.len(), f), "{error}")
+        let (number, fault) = (0, self.0);
+        let error = ModuleFault::Section { number, fault };
+        write!(After(BEFORE.len(), f), "{error}")
     }
 }

@@ -199,20 +199,29 @@ mod tests {
     #[test]
     fn causes_have_the_texts_of_the_reader() {
         let causes = [
-            (ReadFault::Ended, "unexpected end of input"),
-            (ReadFault::NotShortest, "padded integer"),
-            (ReadFault::TooLarge, "integer too large"),
-            (ReadFault::UnknownTag, "unexpected byte or value"),
-            (ReadFault::UnknownOpcode, "unknown opcode"),
-            (ReadFault::NotUtf8, "invalid UTF-8"),
-            (ReadFault::SizeMismatch, "bytes remain after the value"),
+            ReadFault::Ended,
+            ReadFault::NotShortest,
+            ReadFault::TooLarge,
+            ReadFault::UnknownTag,
+            ReadFault::UnknownOpcode,
+            ReadFault::NotUtf8,
+            ReadFault::SizeMismatch,
+            ReadFault::Memory,
         ];
-        for (cause, text) in causes {
-            let before = "standard input: section 3 at offset 0x1a: ";
-            check(bad(None, cause), &format!("{before}{text}"));
-            let before = "standard input: section 3 (data) at offset 0x1a: ";
-            check(bad(Some("data"), cause), &format!("{before}{text}"));
+        for cause in causes {
+            let error = ReadError { cause, offset: 26 };
+            let text = format!("{} at offset 0x1a", Text(cause));
+            assert_eq!(text, error.to_string());
         }
+    }
+
+    #[test]
+    fn sections_and_offsets() {
+        let text = "section 3 at offset 0x1a: integer too large";
+        let text = format!("standard input: {text}");
+        check(bad(None, ReadFault::TooLarge), &text);
+        let text = text.replace(" at", " (data) at");
+        check(bad(Some("data"), ReadFault::TooLarge), &text);
     }
 
     #[test]

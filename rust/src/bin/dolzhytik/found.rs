@@ -13,13 +13,13 @@ pub enum Found {
     Text,
     /// A version that is not known, and the offset at which the header differs.
     Version(u32, usize),
-    /// The first bytes of the header, so many.
+    /// The first bytes of the header, and the offset at which the file ends.
     Front(usize),
     /// Anything else, and the offset at which it differs from the header.
     Other(usize),
 }
 
-/// Whether all bytes are ASCII that can be shown, or not ASCII.
+/// Whether the bytes are UTF-8 without ASCII control characters other than white space.
 fn is_text(bytes: &[u8]) -> bool {
     let is_shown = |byte: &u8| !byte.is_ascii_control() || byte.is_ascii_whitespace();
     bytes.iter().all(is_shown) && str::from_utf8(bytes).is_ok()
@@ -52,7 +52,7 @@ impl fmt::Display for Found {
                 f,
                 "a module of version {version}, and not 1: the header differs at offset {offset:#x}"
             ),
-            Found::Front(size) => write!(f, "no module: the header ends at offset {size:#x}"),
+            Found::Front(end) => write!(f, "no module: it ends in the header, at offset {end:#x}"),
             Found::Other(0) => write!(
                 f,
                 "no module: it does not begin with 00 61 73 6d 01 00 00 00"

@@ -38,7 +38,7 @@ impl Row<'_> {
         self.count.err()
     }
 
-    /// Whether the section decodes as its kind. It is none for ids past 13 and for custom sections
+    /// Whether the section decodes as its kind, or `None` for ids past 13 and for custom sections
     /// whose names select no kind.
     pub fn decodes(&self) -> Option<bool> {
         match (self.section.kind(), &self.count) {
