@@ -20,7 +20,7 @@ pub struct Sizes<'a> {
 }
 
 impl<'a> Sizes<'a> {
-    /// Returns the sizes of the sections, and of so many functions.
+    /// Returns the sizes of the sections, and of this number of functions.
     pub fn of(input: &Input, module: &'a [u8], functions: usize) -> Result<Self, Failure> {
         let mut sections = sections_of(input, module)?;
         let functions = largest(input, &sections, functions)?;
@@ -71,7 +71,7 @@ impl Display for Function<'_> {
     }
 }
 
-/// Returns so many functions, the largest first.
+/// Returns this number of functions, or all if there are fewer, the largest first.
 fn largest<'a>(
     input: &Input,
     sections: &[Section<'a>],

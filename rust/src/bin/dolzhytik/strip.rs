@@ -44,7 +44,8 @@ pub struct Stripped {
     pub removed: usize,
 }
 
-/// Returns the module without the sections of the choice, unless sections that stay would no longer fit.
+/// Returns the module without the sections of the choice, unless sections that stay would no longer
+/// fit.
 pub fn strip(input: &Input, module: &[u8], choice: &Choice) -> Result<Stripped, Failure> {
     let sections = sections_of(input, module)?;
     let removed: Vec<bool> = sections
@@ -68,7 +69,8 @@ pub fn strip(input: &Input, module: &[u8], choice: &Choice) -> Result<Stripped, 
     })
 }
 
-/// Whether what the section refers to would be gone or elsewhere. The offsets of source maps count from the first byte of the module, those of DWARF and of relocations do not.
+/// Whether sections or offsets that the section refers to would be gone or elsewhere. The offsets of
+/// source maps count from the first byte of the module, those of DWARF and of relocations do not.
 fn breaks(section: &Section<'_>, sections: &[Section<'_>], removed: &[bool]) -> bool {
     let first = removed.iter().position(|removed| *removed);
     let Some(first) = first else {
@@ -82,7 +84,8 @@ fn breaks(section: &Section<'_>, sections: &[Section<'_>], removed: &[bool]) -> 
     }
 }
 
-/// Whether one of the indices is of the first removed section or past it. That is so if the indices are not known.
+/// Whether one of the indices is that of the first removed section or greater, or the indices are
+/// not known.
 fn refers_past(indices: Result<Vec<u32>, ReadError>, first: usize) -> bool {
     indices.map_or(true, |indices| {
         indices.iter().any(|index| *index as usize >= first)
@@ -95,7 +98,8 @@ fn target(mut cursor: Cursor<'_>) -> Result<Vec<u32>, ReadError> {
     Ok(vec![cursor.read()?])
 }
 
-/// The indices of the sections that are symbols.
+/// The indices of the sections that are symbols. A linking section of another version does not
+/// decode.
 fn section_symbols(linking: &Section<'_>) -> Result<Vec<u32>, ReadError> {
     let mut indices = Vec::new();
     if let Items::Linking(items) = linking.items(Global)? {

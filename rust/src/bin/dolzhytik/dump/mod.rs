@@ -124,18 +124,23 @@ fn list_custom(
     section: &Section<'_>,
     listing: &mut Listing<impl Write>,
 ) -> Result<(), Stop> {
-    let listed = section.items(Global);
-    match &listed {
-        Ok(items) if list_items(items, listing)? => return Ok(()),
-        Err(error) if error.cause == ReadFault::Memory => return Err(Stop::Undecoded(*error)),
-        Err(error) if section.name().is_some() => {
-            listing.flush()?;
-            failure::report(&section.failure(input, *error));
+    let is_listed = match section.items(Global) {
+        Ok(items) => list_items(&items, listing)?,
+        Err(error) if error.cause == ReadFault::Memory => return Err(error.into()),
+        Err(error) => {
+            // A section without a name has no kind.
+            if section.name().is_some() {
+                listing.flush()?;
+                failure::report(&section.failure(input, error));
+            }
+            false
         }
-        _ => {}
+    };
+    if !is_listed {
+        // The bytes are those after the name, if there is one.
+        let mut cursor = section.cursor();
+        let _ = cursor.read::<&str>();
+        listing.bytes(cursor.offset(), cursor.rest())?;
     }
-    // After the name, if there is one.
-    let mut cursor = section.cursor();
-    let _ = cursor.read::<&str>();
-    Ok(listing.bytes(cursor.offset(), cursor.rest())?)
+    Ok(())
 }
