@@ -45,7 +45,7 @@ export interface MinimizeOptions {
 export class DolzhytikError extends Error {
   /** What the program `dolzhytik` reports, without the name of the file; `dropOffsets` for `--drop-offsets`. */
   message: string;
-  /** The message without the number of the section or line. */
+  /** The message without the section and the offset, or without the line. */
   cause: string;
   /** The offset of the section, at its id, or 0 for the header of the module; null for recipes. */
   offset: number | null;

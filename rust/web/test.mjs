@@ -110,9 +110,10 @@ test('a list has the sections, and counts no types', () => {
 
 test('a list has no section that does not decode', () => {
   const module = moduleOf('0e 00', '03 01 07');
-  checkError(() => list(module), 'section 2: Ended', 'Ended', { offset: 10 });
-  checkError(() => list(moduleOf('00 01 09')), 'section 1: Ended', 'Ended', { offset: 8 });
-  checkError(() => list(moduleOf('07 05 01 01ff 00 00')), 'section 1: NotUtf8', 'NotUtf8', { offset: 8 });
+  const [ended, notUtf8] = ['unexpected end of input', 'invalid UTF-8'];
+  checkError(() => list(module), `section 2: ${ended}`, ended, { offset: 10 });
+  checkError(() => list(moduleOf('00 01 09')), `section 1: ${ended}`, ended, { offset: 8 });
+  checkError(() => list(moduleOf('07 05 01 01ff 00 00')), `section 1: ${notUtf8}`, notUtf8, { offset: 8 });
 });
 
 // Minimal encodings.
@@ -398,13 +399,18 @@ test('as many items as an outline counts, without gaps', async () => {
 
 test('what is no module', () => {
   const none = 'no module: it does not begin with 00 61 73 6d 01 00 00 00';
+  const text = 'text, and no binary module';
   const causes = [
-    [hex(''), none],
-    [hex('00'), none],
+    [hex(''), 'empty, and no module'],
+    [hex('00'), 'no module: it ends in the header, at offset 0x1'],
+    [ADD.subarray(0, 7), 'no module: it ends in the header, at offset 0x7'],
     [ADD.subarray(1), none],
+    [hex('0061736e 01000000'), 'no module: it differs from 00 61 73 6d 01 00 00 00 at offset 0x3'],
     [hex('0061736d 0d000100'), 'a component, and no module'],
-    [hex('0061736d 02000000'), 'a module of version 2, and not 1'],
-    [new TextEncoder().encode('(module)'), 'text, and no binary module'],
+    [hex('0061736d 02000000'), 'a module of version 2, and not 1: the header differs at offset 0x4'],
+    [hex('0061736d 01000001'), 'a module of version 16777217, and not 1: the header differs at offset 0x7'],
+    [new TextEncoder().encode('(module)'), text],
+    [new TextEncoder().encode('é\n'), text],
   ];
   for (const [bytes, cause] of causes) {
     for (const call of [outline, list, minimize, (module) => items(module, 0)]) {
@@ -416,10 +422,9 @@ test('what is no module', () => {
 test('sizes that are none', () => {
   const large = moduleOf('0e 00', '0e ffffffff 1f');
   const cause = 'integer too large';
-  for (const call of [outline, minimize, (module) => items(module, 0)]) {
-    checkError(() => call(large), `section 2: ${cause}`, cause, { offset: 10 });
+  for (const call of [outline, list, minimize, (module) => items(module, 0)]) {
+    checkError(() => call(large), `section 2 at offset 0xf: ${cause}`, cause, { offset: 10 });
   }
-  checkError(() => list(large), 'section 2: TooLarge', 'TooLarge', { offset: 10 });
 });
 
 test('a module that ends early', () => {
@@ -432,10 +437,10 @@ test('a module that ends early', () => {
       continue;
     }
     const cause = 'unexpected end of input';
-    for (const call of [outline, minimize, (module) => items(module, 0)]) {
-      checkError(() => call(module), `section ${number}: ${cause}`, cause, { offset: start });
+    const message = `section ${number} at offset 0x${end.toString(16)}: ${cause}`;
+    for (const call of [outline, list, minimize, (module) => items(module, 0)]) {
+      checkError(() => call(module), message, cause, { offset: start });
     }
-    checkError(() => list(module), `section ${number}: Ended`, 'Ended', { offset: start });
   }
 });
 

@@ -573,13 +573,13 @@ fn errors() {
     let unknown = "(code) at offset 0xd: unknown opcode";
     check_error("0a 08 02 03 00 ff 0b 02 00 0b", unknown, function);
     let function_0 = " 00000b: function 0 (type 0)\n";
-    let mismatch = "(function) at offset 0xc: size mismatch: bytes remain after the value";
+    let mismatch = "(function) at offset 0xc: bytes remain after the value";
     check_error("03 03 01 00 05", mismatch, function_0);
     let large = "(function) at offset 0xf: integer too large";
     check_error("03 06 01 ffffffff1f", large, "");
     check_error(
         "05 03 01 10 01",
-        "(memory) at offset 0xb: invalid byte or value",
+        "(memory) at offset 0xb: unexpected byte or value",
         "",
     );
     check_error(
@@ -620,19 +620,11 @@ fn imports_that_do_not_decode_leave_no_indices() {
     let folder = Folder::new("dump_imports");
     let sections = ["02 07 01 0161 0162 09 00", SHORT[3]];
     let words = ["dump", "-", "--section", "code"];
-    let error = "standard input: section 1 (import) at offset 0xf: invalid byte or value";
+    let error = "standard input: section 1 (import) at offset 0xf: unexpected byte or value";
     assert_eq!(
         folder.call(&words, &module(&sections)),
         Answer::fault(error)
     );
-}
-
-#[test]
-fn no_module() {
-    let folder = Folder::new("dump_none");
-    let fault = folder.call(&["dump", "-"], b"(module)");
-    let text = "standard input: text, and no binary module";
-    assert_eq!(fault, Answer::fault(text));
 }
 
 // ---- output

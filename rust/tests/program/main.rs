@@ -3,6 +3,7 @@ mod build;
 mod completions;
 mod dump;
 mod files;
+mod no_module;
 mod outline;
 mod program;
 #[path = "../modules/samples.rs"]

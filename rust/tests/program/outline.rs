@@ -1,8 +1,8 @@
 //! `dolzhytik outline`.
 use crate::program::{Answer, Folder};
-use crate::samples::{PADDED, PADDED_NAME, UNREAD, bytes_of, custom, module};
+use crate::samples::{PADDED, PADDED_NAME, UNREAD, custom, module};
 
-const HEAD: &str = "section  id     offset       size      items  name\n";
+const HEAD: &str = "section  id     offset       size      items  decodes  name\n";
 
 /// Checks the lines, and those on standard error, which are after the name of the module.
 #[track_caller]
@@ -31,13 +31,13 @@ fn tables() {
     check("header", &[], "");
     let [types, functions, exports, code] = PADDED;
     let debug = custom(".debug_info", "ff");
-    let lines = "      1   1        0xe          7          1  type
-      2   3       0x19          3          1  function
-      3   7       0x1e          5          1  export
-      4  10       0x29         11          1  code
-      5   0       0x37         12          -  custom \"name\"
-      6   3       0x46          1          -  function
-      7   0       0x49         13          -  custom \".debug_info\"
+    let lines = "      1   1        0xe          7          1      yes  type
+      2   3       0x19          3          1      yes  function
+      3   7       0x1e          5          1      yes  export
+      4  10       0x29         11          1      yes  code
+      5   0       0x37         12          -      yes  custom \"name\"
+      6   3       0x46          1          -       no  function
+      7   0       0x49         13          -        -  custom \".debug_info\"
 ";
     check_reported(
         "table",
@@ -47,22 +47,22 @@ fn tables() {
     );
 }
 
-const IDS: &str = "      1   0        0xa          0          -  custom
-      2   1        0xc          0          -  type
-      3   2        0xe          0          -  import
-      4   3       0x10          0          -  function
-      5   4       0x12          0          -  table
-      6   5       0x14          0          -  memory
-      7   6       0x16          0          -  global
-      8   7       0x18          0          -  export
-      9   8       0x1a          0          -  start
-     10   9       0x1c          0          -  element
-     11  10       0x1e          0          -  code
-     12  11       0x20          0          -  data
-     13  12       0x22          0          -  data count
-     14  13       0x24          0          -  tag
-     15  14       0x26          0          -  unknown
-     16 255       0x28          0          -  unknown
+const IDS: &str = "      1   0        0xa          0          -       no  custom
+      2   1        0xc          0          -       no  type
+      3   2        0xe          0          -       no  import
+      4   3       0x10          0          -       no  function
+      5   4       0x12          0          -       no  table
+      6   5       0x14          0          -       no  memory
+      7   6       0x16          0          -       no  global
+      8   7       0x18          0          -       no  export
+      9   8       0x1a          0          -       no  start
+     10   9       0x1c          0          -       no  element
+     11  10       0x1e          0          -       no  code
+     12  11       0x20          0          -       no  data
+     13  12       0x22          0          -       no  data count
+     14  13       0x24          0          -       no  tag
+     15  14       0x26          0          -        -  unknown
+     16 255       0x28          0          -        -  unknown
 ";
 
 #[test]
@@ -100,38 +100,11 @@ fn names_of_all_ids() {
 #[test]
 fn names_are_told_in_quotes() {
     let section = custom("a\n\u{1b}\"", "");
-    let line = "      1   0        0xa          5          -  custom \"a\\n\\u{1b}\\\"\"\n";
+    let line =
+        "      1   0        0xa          5          -        -  custom \"a\\n\\u{1b}\\\"\"\n";
     check("quotes", &[&section, "00 01 00"], &{
-        format!("{line}      2   0       0x11          1          -  custom \"\"\n")
+        format!("{line}      2   0       0x11          1          -        -  custom \"\"\n")
     });
-}
-
-#[test]
-fn faults() {
-    let folder = Folder::new("outline_faults");
-    let check = |bytes: &[u8], why: &str| {
-        folder.write("a.wasm", bytes);
-        let fault = folder.call(&["outline", "a.wasm"], b"");
-        assert_eq!(fault, Answer::fault(&format!("a.wasm: {why}")));
-        let fault = folder.call(&["outline", "-"], bytes);
-        assert_eq!(fault, Answer::fault(&format!("standard input: {why}")));
-    };
-    let no_header = "no module: it does not begin with 00 61 73 6d 01 00 00 00";
-    check(b"", no_header);
-    check(b"\0asm\x01\0\0", no_header);
-    check(b"\x7fELF", no_header);
-    check(&bytes_of("0061736d0d000100"), "a component, and no module");
-    check(
-        &bytes_of("0061736d02000000"),
-        "a module of version 2, and not 1",
-    );
-    check(b" \n(module)", "text, and no binary module");
-    check(b";; a module", "text, and no binary module");
-    let ended = "section 2: unexpected end of input";
-    check(&module(&[PADDED[0], "03 03 01 00"]), ended);
-    let too_large = "section 1: integer too large";
-    check(&module(&["03 808080808000"]), too_large);
-    check(&module(&["03 ffffffff1f"]), too_large);
 }
 
 #[test]
@@ -166,18 +139,18 @@ const BROKEN: [&str; 8] = [
 
 const WHY: &str = r#"section  id     offset       size      items  decodes  name
       1   3        0xa          2          1      yes  function
-      2   3        0xe          6          -       no  function: integer too large at 0x13
-      3   7       0x16          5          -       no  export: invalid byte or value at 0x19
-      4  10       0x1d          5          -       no  code: unknown opcode at 0x20
-      5   0       0x24          8          -       no  custom "name": unexpected end of input at 0x2c
+      2   3        0xe          6          -       no  function: integer too large at offset 0x13
+      3   7       0x16          5          -       no  export: unexpected byte or value at offset 0x19
+      4  10       0x1d          5          -       no  code: unknown opcode at offset 0x20
+      5   0       0x24          8          -       no  custom "name": unexpected end of input at offset 0x2c
       6   0       0x2e         11          -      yes  custom "producers"
       7   0       0x3b          2          -        -  custom "a"
-      8   0       0x3f          2          -       no  custom: unexpected end of input at 0x41
+      8   0       0x3f          2          -       no  custom: unexpected end of input at offset 0x41
 "#;
 
 const REPORTED: [&str; 3] = [
     "section 2 (function) at offset 0x13: integer too large",
-    "section 3 (export) at offset 0x19: invalid byte or value",
+    "section 3 (export) at offset 0x19: unexpected byte or value",
     "section 4 (code) at offset 0x20: unknown opcode",
 ];
 
@@ -201,7 +174,7 @@ fn why() {
         expected
     );
     let text = r#"[
-  {"section": 1, "id": 3, "kind": "function", "name": null, "offset": 10, "size": 3, "items": null, "decodes": false, "error": {"cause": "size mismatch: bytes remain after the value", "offset": 12}},
+  {"section": 1, "id": 3, "kind": "function", "name": null, "offset": 10, "size": 3, "items": null, "decodes": false, "error": {"cause": "bytes remain after the value", "offset": 12}},
   {"section": 2, "id": 0, "kind": "custom", "name": "a", "offset": 15, "size": 2, "items": null, "decodes": null, "error": null}
 ]
 "#;
@@ -209,8 +182,7 @@ fn why() {
         &["outline", "--why", "--json", "-"],
         &module(&["03 03 01 00 05", BROKEN[6]]),
     );
-    let mismatch =
-        "section 1 (function) at offset 0xc: size mismatch: bytes remain after the value";
+    let mismatch = "section 1 (function) at offset 0xc: bytes remain after the value";
     let expected = Answer {
         err: told(&[mismatch]),
         ..Answer::of(text)

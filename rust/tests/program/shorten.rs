@@ -85,32 +85,6 @@ fn offsets_into_code_that_stays() {
     assert_eq!(folder.read("b.wasm"), expected);
 }
 
-#[test]
-fn faults() {
-    let folder = Folder::new("shorten_faults");
-    folder.write("b.wasm", "as it was");
-    let check = |bytes: &[u8], why: &str| {
-        folder.write("a.wasm", bytes);
-        for words in [
-            &["shorten", "a.wasm", "-o", "b.wasm"][..],
-            &["shorten", "a.wasm", "-o", "b.wasm", "--drop-offsets"],
-            &["shorten", "a.wasm", "-o", "-"],
-            &["shorten", "a.wasm", "--dry-run"],
-        ] {
-            let fault = folder.call(words, b"");
-            assert_eq!(fault, Answer::fault(&format!("a.wasm: {why}")));
-        }
-        assert_eq!(folder.read("b.wasm"), b"as it was");
-        assert_eq!(folder.names(), ["a.wasm", "b.wasm"]);
-    };
-    check(
-        b"\0asm",
-        "no module: it does not begin with 00 61 73 6d 01 00 00 00",
-    );
-    let ended = module(&[PADDED[0], "03 03 01 00"]);
-    check(&ended, "section 2: unexpected end of input");
-}
-
 const SAVINGS: &str = "    before      after      saved  name
          8          8          0  header
         13          9          4  type

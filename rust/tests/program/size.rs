@@ -58,8 +58,7 @@ fn functions() {
 #[test]
 fn groups_of_imports() {
     // Two functions and a memory of module `a`, and then three functions of it.
-    let imports =
-        "02 1c 02 01 61 00 7f 03 01 62 00 00 01 63 02 00 01 01 64 20 00 01 61 00 7e 00 00 00";
+    let imports = "02 20 02 01 61 00 7f 03 01 62 00 00 01 63 02 00 01 01 64 20 00 01 61 00 7e 00 00 03 01 65 01 66 01 67";
     let sections = [
         "01 04 01 60 00 00",
         imports,
@@ -69,7 +68,7 @@ fn groups_of_imports() {
     let folder = Folder::new("size_groups");
     let answer = folder.call(&["size", "-", "--functions", "1"], &module(&sections));
     let text = String::from_utf8(answer.out).unwrap();
-    assert!(text.ends_with("  function 2\n"), "{text}{}", answer.err);
+    assert!(text.ends_with("  function 5\n"), "{text}{}", answer.err);
 }
 
 #[test]
@@ -81,14 +80,16 @@ fn faults() {
     };
     let ended = "section 1 (code) at offset 0xe: unexpected end of input";
     check(&["0a 04 02 02 00 0b"], ended);
-    let unknown = "section 1 (import) at offset 0xf: invalid byte or value";
+    let unknown = "section 1 (import) at offset 0xf: unexpected byte or value";
     check(&["02 07 01 01 61 01 62 09 00"], unknown);
-    // Names that do not decode are none.
-    let answer = folder.call(
-        &["size", "-", "--functions=1"],
-        &module(&[NAMED[3], &custom("name", "01 09")]),
-    );
-    assert!(answer.out.ends_with(b"function 1\n"));
+    let names = |data: &str, line: &[u8]| {
+        let sections = module(&[NAMED[3], &custom("name", data)]);
+        let answer = folder.call(&["size", "-", "--functions=1"], &sections);
+        assert!(answer.out.ends_with(line), "{data}");
+    };
+    // Names after the first wrong byte are none, and no error.
+    names("01 09", b" function 1\n");
+    names("01 06 01 01 03 616263 02 09", b" function 1 \"abc\"\n");
 }
 
 #[test]

@@ -117,9 +117,11 @@ fn section_symbols() {
         1,
     );
     check_refused(&[types, &other, code, &linking], &["other"], 4, "linking");
-    // A subsection that no convention has.
-    let unknown = custom("linking", "02 04 00");
-    check_refused(&[types, code, &other, &unknown], &["other"], 4, "linking");
+    // A subsection and a version that no convention has.
+    for data in ["02 04 00", "01 08 04 01 03 00 01"] {
+        let unknown = custom("linking", data);
+        check_refused(&[types, code, &other, &unknown], &["other"], 4, "linking");
+    }
 }
 
 #[test]
@@ -156,15 +158,4 @@ fn standard_streams() {
         folder.call(&["strip", "-", "-o-"], &module(&sections)),
         answer
     );
-}
-
-#[test]
-fn no_module() {
-    let folder = Folder::new("strip_none");
-    let fault = folder.call(&["strip", "-", "-o", "b.wasm"], b"(module)");
-    assert_eq!(
-        fault,
-        Answer::fault("standard input: text, and no binary module")
-    );
-    assert!(folder.names().is_empty());
 }

@@ -3,8 +3,8 @@
 
 use crate::block::Block;
 use crate::failure::{Cause, Failure, Place};
-use crate::read::read;
-use crate::sections::{Section, sections, start_of};
+use crate::found::Found;
+use crate::sections::sections_from;
 use dolzhytik::fallible::recipe::assemble;
 use dolzhytik::fallible::{Global, Vec};
 use dolzhytik::reader::{
@@ -19,15 +19,20 @@ pub type Answer<'a> = Result<Vec<u8>, Failure<'a>>;
 
 /// A failure at the section with this number, or at the header for 0.
 pub fn at<'a>(module: &[u8], number: usize, cause: Cause<'a>) -> Failure<'a> {
-    let start = start_of(module, number);
+    let sections = sections_from(module, number);
+    let start = sections.map_or(0, |sections| sections.offset());
     let place = Place::Section { number, start };
     Failure { place, cause }
 }
 
+/// The failure at the section with this number, or at the header for 0. Where the section has no id
+/// or size, the reader of sections has the offset.
 pub fn no_module<'a>(module: &[u8], number: usize, fault: ReadFault) -> Failure<'a> {
-    let cause = match number {
-        0 => Cause::header(module, fault),
-        _ => Cause::section(fault),
+    let sections = sections_from(module, number);
+    let cause = match sections.map(|mut sections| sections.next()) {
+        None => Cause::NoHeader(Found::at_front(module)),
+        Some(Some(Err(error))) => Cause::NoSection(error),
+        Some(_) => Cause::items(fault),
     };
     at(module, number, cause)
 }
@@ -58,28 +63,20 @@ pub fn outline(module: &[u8]) -> Answer<'_> {
     Ok(block.finish()?)
 }
 
-/// The name of a custom section.
-fn name_of(section: Section<'_>) -> Option<&str> {
-    let (name, _) = read(section.payload).ok()?;
-    (section.id == 0).then_some(name)
-}
-
 /// The sections of a module, each of which decodes.
 pub fn list(module: &[u8]) -> Answer<'_> {
-    let listed = list_module(Global, module).map_err(|(number, fault)| match number {
-        0 => at(module, 0, Cause::header(module, fault)),
-        _ => at(module, number, Cause::items(fault)),
-    })?;
+    let listed =
+        list_module(Global, module).map_err(|(number, fault)| no_module(module, number, fault))?;
     let mut block = Block::new(DONE)?;
     block.size(listed.len())?;
-    let sections = sections(module).into_iter().flatten().flatten();
+    let sections = sections_from(module, 1).into_iter().flatten().flatten();
     for (listed, section) in listed.iter().zip(sections) {
         let section = Outlined {
             id: listed.id,
-            offset: section.end - section.payload.len(),
+            offset: section.range().start,
             size: listed.size,
             items: listed.items,
-            name: name_of(section),
+            name: section.name(),
         };
         append_section(&mut block, &section)?;
     }

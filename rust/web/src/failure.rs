@@ -2,11 +2,12 @@
 #![forbid(unsafe_code)]
 
 use crate::block::Block;
+use crate::cause::Text;
 use crate::found::Found;
 use core::fmt;
 use dolzhytik::fallible::recipe::{RecipeCause, RecipeFault};
 use dolzhytik::fallible::{AllocError, Vec};
-use dolzhytik::reader::ReadFault;
+use dolzhytik::reader::{ReadError, ReadFault};
 
 /// The status of a block that says why a call fails.
 const FAILED: u32 = 1;
@@ -17,7 +18,7 @@ pub enum Cause<'a> {
     /// The bytes do not begin with the header.
     NoHeader(Found),
     /// The module ends in a section, or a section's size is no number.
-    NoSection(ReadFault),
+    NoSection(ReadError),
     /// The payload of a section does not decode.
     NoItems(ReadFault),
     /// The section with this name has offsets that would be lost.
@@ -27,20 +28,6 @@ pub enum Cause<'a> {
 }
 
 impl Cause<'_> {
-    pub fn header(module: &[u8], fault: ReadFault) -> Self {
-        match fault {
-            ReadFault::Memory => Cause::Memory,
-            _ => Cause::NoHeader(Found::at_front(module)),
-        }
-    }
-
-    pub fn section(fault: ReadFault) -> Self {
-        match fault {
-            ReadFault::Memory => Cause::Memory,
-            fault => Cause::NoSection(fault),
-        }
-    }
-
     pub fn items(fault: ReadFault) -> Self {
         match fault {
             ReadFault::Memory => Cause::Memory,
@@ -54,9 +41,8 @@ impl fmt::Display for Cause<'_> {
         match self {
             Cause::Memory => AllocError.fmt(f),
             Cause::NoHeader(found) => found.fmt(f),
-            Cause::NoSection(ReadFault::Ended) => f.write_str("unexpected end of input"),
-            Cause::NoSection(ReadFault::TooLarge) => f.write_str("integer too large"),
-            Cause::NoSection(fault) | Cause::NoItems(fault) => fault.fmt(f),
+            Cause::NoSection(error) => Text(error.cause).fmt(f),
+            Cause::NoItems(fault) => Text(*fault).fmt(f),
             Cause::Offsets(_) => f.write_str(
                 "holds offsets that would no longer lead where they do; \
                  dropOffsets leaves such sections out",
@@ -92,6 +78,9 @@ impl fmt::Display for Failure<'_> {
             Place::Section { number: 0, .. } | Place::Nowhere => cause.fmt(f),
             Place::Section { number, .. } => match cause {
                 Cause::Offsets(name) => write!(f, "section {number}, {name:?}, {cause}"),
+                Cause::NoSection(ReadError { offset, .. }) => {
+                    write!(f, "section {number} at offset {offset:#x}: {cause}")
+                }
                 _ => write!(f, "section {number}: {cause}"),
             },
             Place::Line(0) => write!(f, "behind the last line: {cause}"),

@@ -5,15 +5,15 @@ use crate::answers::{Answer, DONE, at, no_module};
 use crate::block::Block;
 use crate::failure::Cause;
 use crate::read::read;
-use crate::sections::{Section, sections};
+use crate::sections::sections_from;
 use crate::texts::{Count, Show, Text};
 use core::fmt::Display;
 use dolzhytik::fallible::{
     AllocError, BranchHint, Export, Global, Imports, MemoryType, TagType, Vec,
 };
 use dolzhytik::reader::{
-    ElementItem, GlobalItem, Instructions, LinkItem, ReadFault, Readable, Segment, Standard,
-    TableItem, TypeEntry,
+    ElementItem, GlobalItem, Instructions, LinkItem, ReadFault, Readable, Section, Segment,
+    Standard, TableItem, TypeEntry,
 };
 
 /// The items of a section under way.
@@ -224,10 +224,10 @@ fn custom(part: Part<'_>, list: &mut List) -> Result<(), ReadFault> {
 /// Appends the items of a section, or none where it has none.
 fn append(section: Section<'_>, list: &mut List) -> Result<(), ReadFault> {
     let part = Part {
-        bytes: section.payload,
-        end: section.end,
+        bytes: section.payload(),
+        end: section.range().end,
     };
-    match section.id {
+    match section.id() {
         0 => custom(part, list),
         1 => all::<TypeEntry>(part, list),
         2 => all::<Imports<'_>>(part, list),
@@ -248,10 +248,10 @@ fn append(section: Section<'_>, list: &mut List) -> Result<(), ReadFault> {
 
 /// The section at this index.
 fn section_at(module: &[u8], index: u32) -> Result<Option<Section<'_>>, (usize, ReadFault)> {
-    let sections = sections(module).ok_or((0, ReadFault::UnknownTag))?;
+    let sections = sections_from(module, 1).ok_or((0, ReadFault::UnknownTag))?;
     let mut found = None;
     for (at, section) in sections.enumerate() {
-        let section = section.map_err(|fault| (at + 1, fault))?;
+        let section = section.map_err(|error| (at + 1, error.cause))?;
         if at == index as usize {
             found = Some(section);
         }

@@ -5,6 +5,8 @@
 
 mod answers;
 mod block;
+#[path = "../../src/bin/dolzhytik/cause.rs"]
+mod cause;
 mod failure;
 #[path = "../../src/bin/dolzhytik/found.rs"]
 mod found;

@@ -13,6 +13,15 @@ from ..repository import TOP
 from .builds import WEB, modules, native
 from .outlines import line_of, row_of, rows_of
 
+# The causes of `wasmrow`, as the package reports them.
+CAUSES = {
+    'Ended': 'unexpected end of input',
+    'TooLarge': 'integer too large',
+    'UnknownTag': 'unexpected byte or value',
+    'UnknownOpcode': 'unknown opcode',
+    'NotUtf8': 'invalid UTF-8',
+    'SizeMismatch': 'bytes remain after the value',
+}
 # How often each module is damaged, and how many recipes are assembled.
 DAMAGES = 40
 RECIPES = 200
@@ -68,15 +77,16 @@ class Both:
         return same('outline', path, [row_of(section) for section in answer.get('result', [])], rows_of(output))
 
     def list(self, path: pathlib.Path) -> bool:
-        """Compares lists of a module. `wasmrow` reports another message for a missing header."""
+        """Compares lists of a module. `wasmrow` reports other messages, without offsets."""
         answer = self.of_package(call='list', input=str(path))
         done = subprocess.run([self.programs / 'wasmrow', '--read'], input=path.read_bytes().hex().encode(), capture_output=True)
         if done.returncode == 0:
             return same('list', path, ''.join(line_of(section) for section in answer.get('result', [])), done.stdout.decode())
-        message = done.stderr.decode().removesuffix('\n')
-        if message.startswith('section 0: '):
-            # `dolzhytik` has the message of the package.
-            message = self.of_program(path, 'outline', path)[1]
+        section, cause = done.stderr.decode().removesuffix('\n').split(': ')
+        # `dolzhytik` has the message of the package for a missing header, and for an id or a size.
+        _, message = self.of_program(path, 'outline', path)
+        if section != 'section 0' and not (message or '').startswith(f'{section} at offset '):
+            message = f'{section}: {CAUSES[cause]}'
         return same('list', path, answer, {'message': message})
 
     def written(self, path: pathlib.Path, request: dict, words: tuple[str, ...]) -> bool:

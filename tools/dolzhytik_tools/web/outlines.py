@@ -29,7 +29,7 @@ def line_of(section: dict[str, Any]) -> str:
     return f'{section["id"]} {section["size"]} {items}\n'
 
 
-LINE = re.compile(r' *\d+ +(\d+) +(0x[0-9a-f]+) +(\d+) +(\d+|-)  ([a-z ]+?)(?: "(.*)")?')
+LINE = re.compile(r' *\d+ +(\d+) +(0x[0-9a-f]+) +(\d+) +(\d+|-) +(?:yes|no|-)  ([a-z ]+?)(?: "(.*)")?')
 
 
 def rows_of(output: str) -> list[Row]:

@@ -1,6 +1,6 @@
 //! Decodes values one after another, in the standard's grammar.
 use dolzhytik::fallible::Global;
-use dolzhytik::reader::{DecodeError, ReadFault, Readable, Standard};
+use dolzhytik::reader::{ReadError, ReadFault, Readable, Standard};
 
 /// The bytes of a module that are not decoded yet, and where they end.
 #[derive(Clone, Copy, Debug)]
@@ -30,14 +30,17 @@ impl<'a> Cursor<'a> {
     }
 
     /// Decodes the next value. After an error the cursor stays.
-    pub fn read<T: Readable<'a, Global, Standard>>(&mut self) -> Result<T, DecodeError> {
-        let (value, rest) = T::read(self.rest, Global)?;
+    pub fn read<T: Readable<'a, Global, Standard>>(&mut self) -> Result<T, ReadError> {
+        let (value, rest) = T::read(self.rest, Global).map_err(|error| ReadError {
+            cause: error.cause,
+            offset: self.end - self.rest.len().min(error.left as usize),
+        })?;
         self.rest = rest;
         Ok(value)
     }
 
     /// Decodes a vector, and passes each member with the offset of its first byte.
-    pub fn each<T: Readable<'a, Global, Standard>, E: From<DecodeError>>(
+    pub fn each<T: Readable<'a, Global, Standard>, E: From<ReadError>>(
         &mut self,
         mut pass: impl FnMut(usize, T) -> Result<(), E>,
     ) -> Result<(), E> {
@@ -50,11 +53,12 @@ impl<'a> Cursor<'a> {
     }
 
     /// Checks that no bytes remain.
-    pub fn finish(&self) -> Result<(), DecodeError> {
+    pub fn finish(&self) -> Result<(), ReadError> {
+        let (cause, offset) = (ReadFault::SizeMismatch, self.offset());
         if self.rest.is_empty() {
             Ok(())
         } else {
-            Err(ReadFault::SizeMismatch.at(self.rest))
+            Err(ReadError { cause, offset })
         }
     }
 }

@@ -1,11 +1,11 @@
 //! Errors of the program, and their messages.
+use crate::cause::Text;
 use crate::files::{Input, Output};
 use crate::found::Found;
 use crate::help::usage;
 use crate::words::Usage;
-use dolzhytik::fallible::AllocError;
 use dolzhytik::fallible::recipe::RecipeFault;
-use dolzhytik::reader::ReadFault;
+use dolzhytik::reader::{ReadError, ReadFault};
 use std::fmt;
 use std::io::{self, Write};
 
@@ -28,17 +28,11 @@ pub enum Failure {
         input: Input,
         found: Found,
     },
-    /// The section of this number is none.
-    NoModule {
-        input: Input,
-        number: usize,
-        fault: ReadFault,
-    },
     /// A section holds offsets that would no longer lead where they do.
     Offsets(NamedSection),
     /// A section holds indices or offsets that would no longer be right.
     References(NamedSection),
-    /// A section does not decode.
+    /// A section has no id or size, or does not decode.
     Section(BadSection),
     /// No section of the module has this name or id.
     NoSection {
@@ -80,27 +74,29 @@ impl fmt::Display for NamedSection {
     }
 }
 
-/// A section that does not decode.
+/// A section that has no id or size, or does not decode.
 #[derive(Debug)]
 pub struct BadSection {
     pub input: Input,
     pub number: usize,
-    /// What an outline calls it.
-    pub section: String,
-    /// Where in the module, in bytes.
-    pub offset: usize,
-    pub fault: ReadFault,
+    /// What an outline calls it, if it has an id and a size.
+    pub section: Option<String>,
+    pub error: ReadError,
 }
 
 impl fmt::Display for BadSection {
     fn fmt(&self, f: &mut fmt::Formatter<'_>) -> fmt::Result {
-        let BadSection { input, section, .. } = self;
-        write!(f, "{input}: section {} ({section})", self.number)?;
-        // Memory has no offset in the module.
-        if self.fault != ReadFault::Memory {
-            write!(f, " at offset {:#x}", self.offset)?;
+        let BadSection { input, number, .. } = self;
+        write!(f, "{input}: section {number}")?;
+        if let Some(section) = &self.section {
+            write!(f, " ({section})")?;
         }
-        write!(f, ": {}", section_fault(self.fault))
+        let ReadError { cause, offset } = self.error;
+        // Memory has no offset in the module.
+        if cause != ReadFault::Memory {
+            write!(f, " at offset {offset:#x}")?;
+        }
+        write!(f, ": {}", Text(cause))
     }
 }
 
@@ -127,20 +123,6 @@ pub fn report(failure: &Failure) {
     let _ = writeln!(io::stderr(), "dolzhytik: {failure}");
 }
 
-/// Why bytes do not decode.
-pub fn section_fault(fault: ReadFault) -> String {
-    match fault {
-        ReadFault::Ended => "unexpected end of input".into(),
-        ReadFault::NotShortest => "padded integer".into(),
-        ReadFault::TooLarge => "integer too large".into(),
-        ReadFault::UnknownTag => "invalid byte or value".into(),
-        ReadFault::UnknownOpcode => "unknown opcode".into(),
-        ReadFault::NotUtf8 => "invalid UTF-8".into(),
-        ReadFault::SizeMismatch => "size mismatch: bytes remain after the value".into(),
-        ReadFault::Memory => AllocError.to_string(),
-    }
-}
-
 impl fmt::Display for Failure {
     fn fmt(&self, f: &mut fmt::Formatter<'_>) -> fmt::Result {
         match self {
@@ -152,16 +134,6 @@ impl fmt::Display for Failure {
                 "standard output is a terminal: write the module to a file, or give --force"
             ),
             Failure::NoHeader { input, found } => write!(f, "{input}: {found}"),
-            Failure::NoModule {
-                input,
-                number,
-                fault,
-            } => {
-                let header = *number == 0;
-                let section = (!header).then(|| format!("section {number}: "));
-                let (section, cause) = (section.unwrap_or_default(), section_fault(*fault));
-                write!(f, "{input}: {section}{cause}")
-            }
             Failure::Offsets(section) => write!(
                 f,
                 "{section} holds offsets that would no longer lead where they do; \
@@ -198,13 +170,13 @@ mod tests {
         assert_eq!(failure.status(), 1);
     }
 
-    fn no_module(number: usize, fault: ReadFault) -> Failure {
-        let input = Input::Standard;
-        Failure::NoModule {
-            input,
-            number,
-            fault,
-        }
+    fn bad(section: Option<&str>, cause: ReadFault) -> Failure {
+        Failure::Section(BadSection {
+            input: Input::Standard,
+            number: 3,
+            section: section.map(String::from),
+            error: ReadError { cause, offset: 26 },
+        })
     }
 
     fn recipe(line: usize, cause: RecipeCause) -> Failure {
@@ -215,21 +187,31 @@ mod tests {
 
     #[test]
     fn refused_memory() {
-        let header = no_module(0, ReadFault::Memory);
-        check(header, "standard input: out of memory");
-        let section = no_module(2, ReadFault::Memory);
-        check(section, "standard input: section 2: out of memory");
-        let bad = BadSection {
-            input: Input::Standard,
-            number: 3,
-            section: "code".into(),
-            offset: 7,
-            fault: ReadFault::Memory,
-        };
-        let bad = Failure::Section(bad);
-        check(bad, "standard input: section 3 (code): out of memory");
+        let memory = ReadFault::Memory;
+        let text = "standard input: section 3: out of memory";
+        check(bad(None, memory), text);
+        let text = "standard input: section 3 (code): out of memory";
+        check(bad(Some("code"), memory), text);
         let line = recipe(3, RecipeCause::Memory);
         check(line, "a.txt: line 3: out of memory");
+    }
+
+    #[test]
+    fn causes_have_the_texts_of_the_reader() {
+        for cause in [ReadFault::Ended, ReadFault::UnknownTag, ReadFault::Memory] {
+            let error = ReadError { cause, offset: 26 };
+            let text = format!("{} at offset 0x1a", Text(cause));
+            assert_eq!(text, error.to_string());
+        }
+    }
+
+    #[test]
+    fn sections_and_offsets() {
+        let text = "section 3 at offset 0x1a: integer too large";
+        let text = format!("standard input: {text}");
+        check(bad(None, ReadFault::TooLarge), &text);
+        let text = text.replace(" at", " (data) at");
+        check(bad(Some("data"), ReadFault::TooLarge), &text);
     }
 
     #[test]

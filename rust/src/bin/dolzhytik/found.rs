@@ -1,35 +1,43 @@
 //! What files that are no modules begin with. The program and the JavaScript package have this file.
 use core::fmt;
 
+/// The header of a module: the magic and the version.
+const HEADER: [u8; 8] = *b"\0asm\x01\0\0\0";
+
 /// What bytes without the header of a module begin with.
 #[derive(Clone, Copy, PartialEq, Eq, Debug)]
 pub enum Found {
+    Empty,
     Component,
-    /// The text format, of a module or a component.
+    /// Text, such as a module or a component in the text format.
     Text,
-    /// A version that is not known.
-    Version(u32),
-    Other,
+    /// A version that is not known, and the offset at which the header differs.
+    Version(u32, usize),
+    /// The first bytes of the header, and the offset at which the file ends.
+    Front(usize),
+    /// Anything else, and the offset at which it differs from the header.
+    Other(usize),
+}
+
+/// Whether the bytes are UTF-8 without ASCII control characters other than white space.
+fn is_text(bytes: &[u8]) -> bool {
+    let is_shown = |byte: &u8| !byte.is_ascii_control() || byte.is_ascii_whitespace();
+    bytes.iter().all(is_shown) && str::from_utf8(bytes).is_ok()
 }
 
 impl Found {
     pub fn at_front(bytes: &[u8]) -> Self {
+        let is_same = |(byte, expected): &(&u8, &u8)| byte == expected;
+        let same = bytes.iter().zip(&HEADER).take_while(is_same).count();
         match *bytes {
+            [] => Found::Empty,
             [0x00, b'a', b's', b'm', _, _, 0x01, 0x00, ..] => Found::Component,
             [0x00, b'a', b's', b'm', a, b, c, d, ..] => {
-                Found::Version(u32::from_le_bytes([a, b, c, d]))
+                Found::Version(u32::from_le_bytes([a, b, c, d]), same)
             }
-            _ => {
-                let text = bytes.trim_ascii_start();
-                if [&b"("[..], b";;"]
-                    .iter()
-                    .any(|begun| text.starts_with(begun))
-                {
-                    Found::Text
-                } else {
-                    Found::Other
-                }
-            }
+            _ if same == bytes.len() => Found::Front(same),
+            _ if is_text(bytes) => Found::Text,
+            _ => Found::Other(same),
         }
     }
 }
@@ -37,12 +45,21 @@ impl Found {
 impl fmt::Display for Found {
     fn fmt(&self, f: &mut fmt::Formatter<'_>) -> fmt::Result {
         match self {
+            Found::Empty => write!(f, "empty, and no module"),
             Found::Component => write!(f, "a component, and no module"),
             Found::Text => write!(f, "text, and no binary module"),
-            Found::Version(version) => write!(f, "a module of version {version}, and not 1"),
-            Found::Other => write!(
+            Found::Version(version, offset) => write!(
+                f,
+                "a module of version {version}, and not 1: the header differs at offset {offset:#x}"
+            ),
+            Found::Front(end) => write!(f, "no module: it ends in the header, at offset {end:#x}"),
+            Found::Other(0) => write!(
                 f,
                 "no module: it does not begin with 00 61 73 6d 01 00 00 00"
+            ),
+            Found::Other(offset) => write!(
+                f,
+                "no module: it differs from 00 61 73 6d 01 00 00 00 at offset {offset:#x}"
             ),
         }
     }

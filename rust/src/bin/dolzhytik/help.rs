@@ -30,11 +30,11 @@ pub const MANUALS: [Manual; 7] = [
         name: "outline",
         usage: "FILE [--why] [--strict] [--json]",
         says: "\
-prints a line for each section of a module: its number, id, offset, size, number of items, and name. The
-offset is that of the payload in the file, in hexadecimal, and the size is that of the payload in bytes.
-There is a - for items if the section does not decode, in custom sections, and in those of ids past 13.
-Those of a type section are its entries: a recursion group is one. Sections of ids 1 to 13 that do not decode
-are reported on standard error.",
+prints a line for each section of a module: its number, id, offset, size, number of items, whether it
+decodes as its kind, and name. The offset is that of the payload in the file, in hexadecimal, and the size is
+that of the payload in bytes. There is a - for items if the section does not decode, in custom sections, and
+in those of ids past 13. Those of a type section are its entries: a recursion group is one. There is a - for
+decodes if the kind is not known. Sections of ids 1 to 13 that do not decode are reported on standard error.",
         options: &[Flag::Why, Flag::Strict, Flag::Json],
     },
     Manual {
@@ -194,7 +194,7 @@ There may be several. Without it, dump prints all.",
         Flag::Why,
         "--why",
         Given::Alone,
-        "prints whether each section decodes as its kind, and if not, the cause and the offset in the file.",
+        "prints the cause and the offset in the file for each section that does not decode.",
     ),
     explained(
         Flag::Strict,

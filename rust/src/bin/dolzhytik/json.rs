@@ -1,7 +1,7 @@
 //! Outlines and sizes as JSON.
-use crate::failure::section_fault;
+use crate::cause::Text;
 use crate::outline::Row;
-use crate::sections::{Decoded, Section};
+use crate::sections::Section;
 use crate::sizes::{Function, Sizes};
 use std::fmt::Write;
 
@@ -42,7 +42,7 @@ pub fn optional<T: ToString>(value: Option<T>) -> String {
 /// Why a section does not decode, or `null`.
 fn error(row: &Row<'_>) -> String {
     let error = row.error().map(|error| {
-        let (cause, offset) = (section_fault(error.cause), row.section.offset_of(error));
+        let (cause, offset) = (Text(error.cause), error.offset);
         format!("{{\"cause\": \"{cause}\", \"offset\": {offset}}}")
     });
     optional(error)
@@ -50,11 +50,6 @@ fn error(row: &Row<'_>) -> String {
 
 fn outlined(row: &Row<'_>, why: bool) -> String {
     let section = &row.section;
-    let decodes = match row.decoded {
-        Decoded::Yes => Some(true),
-        Decoded::No(_) => Some(false),
-        Decoded::UnknownKind => None,
-    };
     let why = if why {
         format!(", \"error\": {}", error(row))
     } else {
@@ -63,13 +58,13 @@ fn outlined(row: &Row<'_>, why: bool) -> String {
     format!(
         "{{\"section\": {}, \"id\": {}, \"kind\": \"{}\", \"name\": {}, \"offset\": {}, \"size\": {}, \"items\": {}, \"decodes\": {}{why}}}",
         section.number,
-        section.id,
+        section.id(),
         section.kind_name(),
-        string(section.name),
-        section.offset,
-        section.payload.len(),
-        optional(section.items),
-        optional(decodes),
+        string(section.name()),
+        section.range().start,
+        section.payload().len(),
+        optional(row.items()),
+        optional(row.decodes()),
     )
 }
 
@@ -83,8 +78,8 @@ fn section(section: &Section<'_>) -> String {
         "{{\"section\": {}, \"kind\": \"{}\", \"name\": {}, \"bytes\": {}}}",
         section.number,
         section.kind_name(),
-        string(section.name),
-        section.bytes.len(),
+        string(section.name()),
+        section.bytes().len(),
     )
 }
 

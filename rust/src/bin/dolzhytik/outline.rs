@@ -1,11 +1,14 @@
 //! Lists the sections of a module.
-use crate::failure::{Failure, report, section_fault};
+use crate::failure::{Failure, report};
 use crate::files::{Input, Output};
 use crate::json;
 use crate::progress::Progress;
-use crate::sections::{Decoded, Section, sections_of};
+use crate::sections::{Section, sections_of};
 use crate::words::Format;
-use dolzhytik::reader::{DecodeError, ReadFault};
+use dolzhytik::fallible::Global;
+use dolzhytik::reader::{ReadError, ReadFault, SectionKind};
+
+const HEAD: &str = "section  id     offset       size      items  decodes  name\n";
 
 /// How an outline is printed, and what is an error.
 #[derive(Clone, Copy, PartialEq, Eq, Debug)]
@@ -20,42 +23,49 @@ pub struct Choice {
 /// A section, and whether it decodes.
 pub struct Row<'a> {
     pub section: Section<'a>,
-    pub decoded: Decoded,
+    /// The number of items, if they are counted, or why the section does not decode.
+    count: Result<Option<u32>, ReadError>,
 }
 
 impl Row<'_> {
-    /// The error, if the section is of a known kind and does not decode.
-    pub fn error(&self) -> Option<DecodeError> {
-        match self.decoded {
-            Decoded::No(error) => Some(error),
-            Decoded::Yes | Decoded::UnknownKind => None,
+    /// The number of items, if the section decodes and they are counted.
+    pub fn items(&self) -> Option<u32> {
+        self.count.ok().flatten()
+    }
+
+    /// Why the section does not decode.
+    pub fn error(&self) -> Option<ReadError> {
+        self.count.err()
+    }
+
+    /// Whether the section decodes as its kind, or `None` for ids past 13 and for custom sections
+    /// whose names select no kind.
+    pub fn decodes(&self) -> Option<bool> {
+        match (self.section.kind(), &self.count) {
+            (_, Err(_)) => Some(false),
+            (None | Some(SectionKind::Custom), Ok(_)) => None,
+            (Some(_), Ok(_)) => Some(true),
         }
     }
 
     /// The line of a table.
     fn line(&self, why: bool) -> String {
         let section = &self.section;
-        let items = section.items.map_or("-".into(), |items| items.to_string());
-        let front = format!(
-            "{:>7} {:>3} {:>#10x} {:>10} {items:>10}",
-            section.number,
-            section.id,
-            section.offset,
-            section.payload.len(),
-        );
-        if !why {
-            return format!("{front}  {section}\n");
-        }
-        let decodes = match self.decoded {
-            Decoded::Yes => "yes",
-            Decoded::No(_) => "no",
-            Decoded::UnknownKind => "-",
+        let items = self.items().map_or("-".into(), |items| items.to_string());
+        let decodes = match self.decodes() {
+            Some(true) => "yes",
+            Some(false) => "no",
+            None => "-",
         };
-        let why = self.error().map_or(String::new(), |error| {
-            let (cause, offset) = (section_fault(error.cause), section.offset_of(error));
-            format!(": {cause} at {offset:#x}")
-        });
-        format!("{front}  {decodes:>7}  {section}{why}\n")
+        let why = self.error().filter(|_| why);
+        let why = why.map_or(String::new(), |error| format!(": {error}"));
+        format!(
+            "{:>7} {:>3} {:>#10x} {:>10} {items:>10}  {decodes:>7}  {section}{why}\n",
+            section.number,
+            section.id(),
+            section.range().start,
+            section.payload().len(),
+        )
     }
 }
 
@@ -69,20 +79,17 @@ pub fn show(input: &Input, choice: Choice) -> Result<(), Failure> {
     drop(progress);
     let text = match choice.format {
         Format::Json => json::outline(&rows, choice.why),
-        Format::Table => {
-            let decodes = if choice.why { "  decodes" } else { "" };
-            let head = format!("section  id     offset       size      items{decodes}  name\n");
-            rows.iter()
-                .fold(head, |text, row| text + &row.line(choice.why))
-        }
+        Format::Table => rows
+            .iter()
+            .fold(String::from(HEAD), |text, row| text + &row.line(choice.why)),
     };
     Output::Standard.write(text.as_bytes())?;
     let mut count = 0;
-    for Row { section, decoded } in &rows {
-        if let Decoded::No(error) = decoded
-            && (section.id != 0 || choice.strict)
+    for row in &rows {
+        if let Some(error) = row.error()
+            && (row.section.id() != 0 || choice.strict)
         {
-            report(&section.failure(input, *error));
+            report(&row.section.failure(input, error));
             count += 1;
         }
     }
@@ -97,11 +104,9 @@ pub fn show(input: &Input, choice: Choice) -> Result<(), Failure> {
 
 /// Decodes each section.
 fn rows_of<'a>(input: &Input, module: &'a [u8]) -> Result<Vec<Row<'a>>, Failure> {
-    let row = |section: Section<'a>| match section.decoded() {
-        Decoded::No(error) if error.cause == ReadFault::Memory => {
-            Err(section.failure(input, error))
-        }
-        decoded => Ok(Row { section, decoded }),
+    let row = |section: Section<'a>| match section.count(Global) {
+        Err(error) if error.cause == ReadFault::Memory => Err(section.failure(input, error)),
+        count => Ok(Row { section, count }),
     };
     sections_of(input, module)?.into_iter().map(row).collect()
 }

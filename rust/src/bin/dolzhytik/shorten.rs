@@ -1,10 +1,10 @@
 //! Writes modules in their minimal encoding, or prints what that would save.
-use crate::failure::{Failure, NamedSection};
+use crate::failure::{BadSection, Failure};
 use crate::files::{Input, Output};
 use crate::progress::Progress;
-use crate::sections::{HEADER, Section, no_module, sections_of};
+use crate::sections::{HEADER, Section, sections_of};
 use dolzhytik::fallible::{self, Global};
-use dolzhytik::reader::{ModuleFault, Offsets, shorten_module};
+use dolzhytik::reader::{ModuleFault, Offsets, ReadError, shorten_module};
 use std::fmt::{self, Display};
 use std::io::{self, Write};
 
@@ -15,18 +15,24 @@ struct Shortened {
     kept: usize,
 }
 
-/// Why the module is not shortened: a section that holds offsets is named as an outline has it.
+/// Why the module is not shortened. A section that has no id or size fails here again, with its
+/// offset.
 fn why_not(input: &Input, bytes: &[u8], fault: ModuleFault) -> Failure {
-    match fault {
-        ModuleFault::Section { number, fault } => no_module(input, bytes, number, fault),
-        ModuleFault::Offsets { number } => match sections_of(input, bytes) {
-            Ok(sections) => Failure::Offsets(NamedSection {
-                input: input.clone(),
-                number,
-                name: sections[number - 1].name.unwrap_or_default().into(),
-            }),
-            Err(failure) => failure,
-        },
+    match (sections_of(input, bytes), fault) {
+        (Err(failure), _) => failure,
+        (Ok(sections), ModuleFault::Offsets { number }) => {
+            Failure::Offsets(sections[number - 1].named(input))
+        }
+        // The cause is Memory, which has no offset.
+        (Ok(_), ModuleFault::Section { number, fault }) => Failure::Section(BadSection {
+            input: input.clone(),
+            number,
+            section: None,
+            error: ReadError {
+                cause: fault,
+                offset: 0,
+            },
+        }),
     }
 }
 
@@ -110,10 +116,10 @@ impl<'a> Savings<'a> {
         let after = sections_of(input, &shortened.module)?;
         let mut after = after.iter().peekable();
         let saving = |section: Section<'a>| {
-            let same = after.next_if(|it| (it.id, it.name) == (section.id, section.name));
+            let same = after.next_if(|it| (it.id(), it.name()) == (section.id(), section.name()));
             Saving {
                 section,
-                after: same.map(|it| it.bytes.len()),
+                after: same.map(|it| it.bytes().len()),
             }
         };
         let before = sections_of(input, bytes)?;
@@ -142,7 +148,7 @@ impl Display for Savings<'_> {
         line(f, HEADER, HEADER, "header")?;
         let mut all = (HEADER, HEADER);
         for Saving { section, after } in &self.0 {
-            let before = section.bytes.len();
+            let before = section.bytes().len();
             match after {
                 Some(after) => line(f, before, *after, section)?,
                 None => line(f, before, 0, format_args!("{section}, dropped"))?,

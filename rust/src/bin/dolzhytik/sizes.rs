@@ -1,12 +1,12 @@
 //! The sizes of sections and of function bodies.
+use crate::context::{Context, Space};
 use crate::cursor::Cursor;
 use crate::failure::Failure;
 use crate::files::Input;
 use crate::sections::{HEADER, Section, sections_of};
-use dolzhytik::fallible::{EntityType, Imports};
-use dolzhytik::reader::{DecodeError, NameItem};
+use dolzhytik::fallible::Global;
+use dolzhytik::reader::ReadError;
 use std::cmp::Reverse;
-use std::collections::HashMap;
 use std::fmt::{self, Display};
 
 /// The sizes of a module.
@@ -20,11 +20,11 @@ pub struct Sizes<'a> {
 }
 
 impl<'a> Sizes<'a> {
-    /// Returns the sizes of the sections, and of so many functions.
+    /// Returns the sizes of the sections, and of this number of functions.
     pub fn of(input: &Input, module: &'a [u8], functions: usize) -> Result<Self, Failure> {
         let mut sections = sections_of(input, module)?;
         let functions = largest(input, &sections, functions)?;
-        sections.sort_by_key(|section| Reverse(section.bytes.len()));
+        sections.sort_by_key(|section| Reverse(section.bytes().len()));
         Ok(Sizes {
             module: module.len(),
             sections,
@@ -44,7 +44,7 @@ impl Display for Sizes<'_> {
     fn fmt(&self, f: &mut fmt::Formatter<'_>) -> fmt::Result {
         f.write_str("     bytes     %  name\n")?;
         for section in &self.sections {
-            self.line(f, section.bytes.len(), section)?;
+            self.line(f, section.bytes().len(), section)?;
         }
         self.line(f, HEADER, "header")?;
         self.line(f, self.module, "all")?;
@@ -71,7 +71,7 @@ impl Display for Function<'_> {
     }
 }
 
-/// Returns so many functions, the largest first.
+/// Returns this number of functions, or all if there are fewer, the largest first.
 fn largest<'a>(
     input: &Input,
     sections: &[Section<'a>],
@@ -80,18 +80,23 @@ fn largest<'a>(
     if count == 0 {
         return Ok(Vec::new());
     }
-    let find = |is: fn(&Section<'a>) -> bool| sections.iter().copied().find(is);
-    let imported = decoded(input, find(|it| it.id == 2), imported_functions)?.unwrap_or(0);
-    let sizes = decoded(input, find(|it| it.id == 10), body_sizes)?.unwrap_or_default();
-    // Names are for people: functions without one are listed too.
-    let names = decoded(input, find(|it| it.name == Some("name")), function_names);
-    let names = names.ok().flatten().unwrap_or_default();
-    let mut functions: Vec<_> = (imported..)
+    let mut sizes = Vec::new();
+    for section in sections {
+        let decoded = match section.id() {
+            // Imports that do not decode would leave indices unknown.
+            2 => section.count(Global).map(drop),
+            10 => add_sizes(section.cursor(), &mut sizes),
+            _ => Ok(()),
+        };
+        decoded.map_err(|error| section.failure(input, error))?;
+    }
+    let context = Context::of(sections);
+    let mut functions: Vec<_> = (context.imported(Space::Function)..)
         .zip(sizes)
         .map(|(index, size)| Function {
             size,
             index,
-            name: names.get(&index).copied(),
+            name: context.name(Space::Function, index),
         })
         .collect();
     functions.sort_by_key(|function| Reverse(function.size));
@@ -99,63 +104,13 @@ fn largest<'a>(
     Ok(functions)
 }
 
-/// Decodes the payload of a section that a module may have.
-fn decoded<'a, T>(
-    input: &Input,
-    section: Option<Section<'a>>,
-    decode: fn(Cursor<'a>) -> Result<T, DecodeError>,
-) -> Result<Option<T>, Failure> {
-    let decode = |section: Section<'a>| {
-        decode(section.cursor()).map_err(|error| section.failure(input, error))
-    };
-    section.map(decode).transpose()
-}
-
-/// The number of imported functions.
-fn imported_functions(mut cursor: Cursor<'_>) -> Result<u32, DecodeError> {
-    let is_function =
-        |ty: &EntityType| matches!(ty, EntityType::Function(_) | EntityType::FunctionExact(_));
-    let mut count = 0;
-    cursor.each(|_, imports: Imports<'_>| {
-        count += match &imports {
-            Imports::Single(import) => usize::from(is_function(&import.ty)),
-            Imports::Compact1 { items, .. } => items
-                .as_slice()
-                .iter()
-                .filter(|it| is_function(&it.ty))
-                .count(),
-            Imports::Compact2 { ty, names, .. } if is_function(ty) => names.as_slice().len(),
-            Imports::Compact2 { .. } => 0,
-        };
-        Ok::<(), DecodeError>(())
-    })?;
-    Ok(count as u32)
-}
-
-/// The size of each body, with its size prefix.
-fn body_sizes(mut cursor: Cursor<'_>) -> Result<Vec<usize>, DecodeError> {
-    let mut sizes = Vec::new();
+/// Adds the size of each body, with its size prefix.
+fn add_sizes(mut cursor: Cursor<'_>, sizes: &mut Vec<usize>) -> Result<(), ReadError> {
     let count: u32 = cursor.read()?;
     for _ in 0..count {
         let begun = cursor.offset();
         cursor.read::<&[u8]>()?;
         sizes.push(cursor.offset() - begun);
     }
-    Ok(sizes)
-}
-
-/// The names of functions, by their indices.
-fn function_names(mut cursor: Cursor<'_>) -> Result<HashMap<u32, &str>, DecodeError> {
-    cursor.read::<&str>()?;
-    let mut names = HashMap::new();
-    while !cursor.rest().is_empty() {
-        if let NameItem::Map {
-            id: 1,
-            names: found,
-        } = cursor.read()?
-        {
-            names.extend(found.iter().copied());
-        }
-    }
-    Ok(names)
+    Ok(())
 }

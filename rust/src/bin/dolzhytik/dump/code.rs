@@ -1,49 +1,49 @@
 //! Lists the code section.
+use crate::context::{Context, Space};
 use crate::cursor::Cursor;
 use crate::dump::Stop;
-use crate::dump::context::{Context, Space};
 use crate::dump::listing::{Function, Line, Listing};
 use crate::dump::operands::Operands;
 use crate::dump::text::Text;
 use crate::names::name_of;
+use crate::sections::Section;
 use dolzhytik::fallible::{Global, Op, ValType};
-use dolzhytik::reader::{Arg, Instructions, Standard};
+use dolzhytik::reader::{Arg, CodeBody, Instructions, Standard};
 use std::io::Write;
 
 /// Lists each function: its locals and its instructions.
 pub fn list_code(
-    cursor: &mut Cursor<'_>,
+    section: &Section<'_>,
     context: &Context<'_>,
     listing: &mut Listing<impl Write>,
 ) -> Result<(), Stop> {
     let imported = context.imported(Space::Function);
-    let count: u32 = cursor.read()?;
-    for number in 0..count {
-        let body: &[u8] = cursor.read()?;
-        let offset = cursor.offset() - body.len();
+    for (number, code) in section.bodies()?.enumerate() {
+        let code = code?;
         // The reader accepts up to 4294967295 imports and as many bodies.
-        let index = imported.saturating_add(number);
+        let index = imported.saturating_add(number as u32);
         let function = Function {
             index,
             name: context.name(Space::Function, index),
             ty: context.type_of(index),
-            offset,
-            size: body.len(),
+            offset: code.offset(),
+            size: code.bytes().len(),
         };
         listing.function(&function)?;
         let mut body = Body {
-            cursor: Cursor::new(body, offset),
+            code,
+            cursor: Cursor::new(code.bytes(), code.offset()),
             context,
             depth: 0,
         };
-        body.list(index, listing)
-            .map_err(|stop| stop.before(cursor.rest()))?;
+        body.list(index, listing)?;
     }
     Ok(())
 }
 
 /// The body of a function.
 struct Body<'a, 'c> {
+    code: CodeBody<'a>,
     cursor: Cursor<'a>,
     context: &'c Context<'a>,
     /// How many blocks the next instruction is in.
@@ -51,11 +51,15 @@ struct Body<'a, 'c> {
 }
 
 impl Body<'_, '_> {
+    /// Lists the body, and keeps nothing of it: neither its locals nor its instructions.
     fn list(&mut self, function: u32, listing: &mut Listing<impl Write>) -> Result<(), Stop> {
         self.list_locals(function, listing)?;
         let (offset, bytes) = (self.cursor.offset(), self.cursor.rest());
         let mut instructions = Instructions::<Global, Standard>::standard(bytes, Global);
-        while let Some(step) = instructions.next()? {
+        while let Some(step) = instructions
+            .next()
+            .map_err(|error| self.code.locate(error))?
+        {
             let (op, args) = (step.op, instructions.args());
             listing.line(&Line {
                 offset: offset + step.offset,

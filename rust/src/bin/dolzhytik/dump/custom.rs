@@ -1,102 +1,45 @@
 //! Lists custom sections of known kinds.
-use crate::dump::Stop;
-use crate::dump::context::Space;
+use crate::context::Space;
 use crate::dump::listing::{Item, Listing};
 use crate::dump::operands::Float;
-use dolzhytik::fallible::{
-    BranchHint, Comdat, CoreDumpValue, Global, SegmentInfo, read_hints, read_instances, read_links,
-    read_modules, read_names, read_process, read_producers, read_stack,
-};
-use dolzhytik::reader::{CoreFrame, LinkItem, NameItem, Standard, Symbol};
+use dolzhytik::fallible::{self, BranchHint, Comdat, CoreDumpValue, SegmentInfo};
+use dolzhytik::reader::{CoreFrame, Items, LinkItem, NameItem, Symbol};
 use std::fmt::Display;
 use std::io::{self, Write};
 
-/// Lists a custom section of this name. A section of another kind is listed as bytes.
-///
-/// # Errors
-///
-/// A section that does not decode as its kind is not listed.
-pub fn list_custom(
-    name: &str,
-    payload: &[u8],
-    lines: &mut Lines<'_, impl Write>,
-) -> Result<Known, Stop> {
-    match name {
-        "name" => {
-            let items = read_names::<Global, Standard>(payload, Global)?;
-            items.iter().try_for_each(|item| lines.names(item))
-        }
-        "linking" => {
-            let items = read_links::<Global, Standard>(payload, Global)?;
-            items.iter().try_for_each(|item| lines.linking(item))
-        }
-        "producers" => {
-            let fields = read_producers::<Global, Standard>(payload, Global)?;
-            fields.iter().try_for_each(|(field, values)| {
-                values.iter().try_for_each(|(name, version)| {
-                    let text = format!("(version {version:?}) (field {field:?})");
-                    lines.named("producer", name, text)
-                })
+/// Lists the items of a custom section, and returns whether its name selects a kind. If not, nothing
+/// is listed.
+pub fn list_items(items: &Items<'_>, listing: &mut Listing<impl Write>) -> io::Result<bool> {
+    let mut lines = Lines(listing);
+    match items {
+        Items::Names(items) => items.iter().try_for_each(|item| lines.names(item)),
+        Items::Linking(items) => items.iter().try_for_each(|item| lines.linking(item)),
+        Items::Producers(fields) => fields.iter().try_for_each(|(field, values)| {
+            values.iter().try_for_each(|(name, version)| {
+                let text = format!("(version {version:?}) (field {field:?})");
+                lines.named("producer", name, text)
             })
-        }
-        "metadata.code.branch_hint" => {
-            let functions = read_hints::<Global, Standard>(payload, Global)?;
-            functions.iter().try_for_each(|(function, hints)| {
-                hints
-                    .iter()
-                    .try_for_each(|hint| lines.hint(*function, hint))
-            })
-        }
-        _ => return list_core_dump(name, payload, lines),
-    }?;
-    Ok(Known::Listed)
-}
-
-/// Whether a custom section has a known kind.
-#[derive(Clone, Copy, PartialEq, Eq, Debug)]
-pub enum Known {
-    Listed,
-    /// It is listed as bytes, since its name selects no kind.
-    Other,
-}
-
-/// Lists a section of a core dump.
-fn list_core_dump(
-    name: &str,
-    payload: &[u8],
-    lines: &mut Lines<'_, impl Write>,
-) -> Result<Known, Stop> {
-    match name {
-        "core" => {
-            let process = read_process::<Global, Standard>(payload, Global)?;
-            lines.named("process", process, "")
-        }
-        "coremodules" => {
-            let modules = read_modules::<Global, Standard>(payload, Global)?;
-            let mut modules = (0..).zip(modules.iter());
-            modules.try_for_each(|(index, name)| lines.entry("module", index, Some(name), ""))
-        }
-        "coreinstances" => {
-            let instances = read_instances::<Global, Standard>(payload, Global)?;
-            let mut instances = (0..).zip(instances.iter());
-            instances.try_for_each(|(index, (module, memories, globals))| {
-                let text = format!(
-                    "(module {module}) (memories{}) (globals{})",
-                    spaced(memories),
-                    spaced(globals)
-                );
-                lines.entry("instance", index, None, text)
-            })
-        }
-        "corestack" => {
-            let (thread, frames) = read_stack::<Global, Standard>(payload, Global)?;
+        }),
+        Items::Hints(functions) => functions.iter().try_for_each(|(function, hints)| {
+            hints
+                .iter()
+                .try_for_each(|hint| lines.hint(*function, hint))
+        }),
+        Items::Core(process) => lines.named("process", process, ""),
+        Items::CoreModules(modules) => (0..)
+            .zip(modules.iter())
+            .try_for_each(|(index, name)| lines.entry("module", index, Some(name), "")),
+        Items::CoreInstances(instances) => (0..)
+            .zip(instances.iter())
+            .try_for_each(|(index, instance)| lines.instance(index, instance)),
+        Items::CoreStack { thread, frames } => {
             lines.named("thread", thread, "")?;
             let mut frames = (0..).zip(frames.iter());
             frames.try_for_each(|(index, frame)| lines.entry("frame", index, None, text_of(frame)))
         }
-        _ => return Ok(Known::Other),
+        _ => return Ok(false),
     }?;
-    Ok(Known::Listed)
+    Ok(true)
 }
 
 /// The values, with a space before each.
@@ -130,8 +73,11 @@ fn value(value: &CoreDumpValue) -> String {
     }
 }
 
+/// An instance of a core dump: its module, its memories and its globals.
+type Instance = (u32, fallible::Vec<u32>, fallible::Vec<u32>);
+
 /// Prints the items of custom sections, which have no offsets.
-pub struct Lines<'l, W: Write>(pub &'l mut Listing<W>);
+struct Lines<'l, W: Write>(&'l mut Listing<W>);
 
 impl<W: Write> Lines<'_, W> {
     fn entry(
@@ -187,6 +133,14 @@ impl<W: Write> Lines<'_, W> {
                 self.entry("subsection", u32::from(*id), None, text)
             }
         }
+    }
+
+    /// Prints an instance of a core dump.
+    fn instance(&mut self, index: u32, instance: &Instance) -> io::Result<()> {
+        let (module, memories, globals) = instance;
+        let (memories, globals) = (spaced(memories), spaced(globals));
+        let text = format!("(module {module}) (memories{memories}) (globals{globals})");
+        self.entry("instance", index, None, text)
     }
 
     fn hint(&mut self, function: u32, hint: &BranchHint) -> io::Result<()> {

@@ -1,9 +1,10 @@
 //! Lists the sections of the standard but for the code section.
+use crate::context::{Context, Space, each_import};
 use crate::cursor::Cursor;
 use crate::dump::Stop;
-use crate::dump::context::{Context, Space, each_import};
 use crate::dump::listing::{Item, Listing};
 use crate::dump::text::Text;
+use crate::sections::Section;
 use dolzhytik::fallible::{
     Export, ExportKind, Global, GlobalType, Imports, MemoryType, SubItem, TagType,
 };
@@ -20,9 +21,10 @@ pub struct Items<'i, 'a, W: Write> {
 }
 
 impl<'a, W: Write> Items<'_, 'a, W> {
-    /// Lists the items of a section of this id. The standard has none of other ids.
-    pub fn list(&mut self, id: u8, cursor: &mut Cursor<'a>) -> Result<(), Stop> {
-        match id {
+    /// Lists the items of a section of an id from 1 to 13, but for the code section.
+    pub fn list(&mut self, section: &Section<'a>) -> Result<(), Stop> {
+        let cursor = &mut section.cursor();
+        match section.id() {
             1 => self.types(cursor),
             2 => self.imports(cursor),
             3 => self.entries(cursor, Space::Function, type_use),
@@ -35,7 +37,8 @@ impl<'a, W: Write> Items<'_, 'a, W> {
             11 => self.segments(cursor),
             12 => self.number(cursor, "data count", |count| count.to_string()),
             _ => self.entries(cursor, Space::Tag, tag),
-        }
+        }?;
+        Ok(cursor.finish()?)
     }
 
     /// Prints an entry of an index space.

@@ -124,14 +124,14 @@ impl<W: Write> Listing<W> {
     pub fn section(&mut self, section: &Section<'_>) -> io::Result<()> {
         let (number, id, offset, size) = (
             section.number,
-            section.id,
-            section.offset,
-            section.payload.len(),
+            section.id(),
+            section.range().start,
+            section.payload().len(),
         );
         if self.format == Format::Json {
             self.close(1)?;
             self.member()?;
-            let (kind, name) = (section.kind_name(), json::string(section.name));
+            let (kind, name) = (section.kind_name(), json::string(section.name()));
             self.open.push(false);
             return write!(
                 self.out,

@@ -1,21 +1,20 @@
 //! Lists the content of a module: the items of its sections, and the instructions of its functions.
 mod code;
-mod context;
 mod custom;
 mod items;
 mod listing;
 mod operands;
 mod text;
 
-use crate::cursor::Cursor;
+use crate::context::Context;
 use crate::failure::{self, Failure};
 use crate::files::{Input, Output};
 use crate::sections::{Section, sections_of};
 use crate::words::Format;
 use code::list_code;
-use context::Context;
-use custom::{Known, Lines, list_custom};
-use dolzhytik::reader::{DecodeError, ReadFault};
+use custom::list_items;
+use dolzhytik::fallible::Global;
+use dolzhytik::reader::{ReadError, ReadFault};
 use items::Items;
 use listing::Listing;
 use std::io::{self, BufWriter, Write};
@@ -23,13 +22,13 @@ use std::io::{self, BufWriter, Write};
 /// Why a listing ends before the section does.
 #[derive(Debug)]
 pub enum Stop {
-    /// The section does not decode. The error counts from the end of its payload.
-    Undecoded(DecodeError),
+    /// The section does not decode.
+    Undecoded(ReadError),
     Unwritten(io::Error),
 }
 
-impl From<DecodeError> for Stop {
-    fn from(error: DecodeError) -> Self {
+impl From<ReadError> for Stop {
+    fn from(error: ReadError) -> Self {
         Stop::Undecoded(error)
     }
 }
@@ -41,14 +40,6 @@ impl From<io::Error> for Stop {
 }
 
 impl Stop {
-    /// Returns it for a decoder whose input is followed by these bytes.
-    fn before(self, rest: &[u8]) -> Self {
-        match self {
-            Stop::Undecoded(error) => Stop::Undecoded(error.before(rest)),
-            Stop::Unwritten(error) => Stop::Unwritten(error),
-        }
-    }
-
     fn failure(self, input: &Input, section: &Section<'_>) -> Failure {
         match self {
             Stop::Undecoded(error) => section.failure(input, error),
@@ -67,9 +58,7 @@ fn unwritten(error: io::Error) -> Failure {
 /// Whether a word selects the section: its id, the name of its kind, or the name of a custom
 /// section.
 fn selects(word: &str, section: &Section<'_>) -> bool {
-    word.parse() == Ok(section.id)
-        || word == section.kind_name()
-        || section.name.is_some_and(|name| name == word)
+    word.parse() == Ok(section.id()) || word == section.kind_name() || section.name() == Some(word)
 }
 
 /// Prints the sections that the words select, or all if there are none.
@@ -101,12 +90,9 @@ fn list(
     for section in sections {
         let listed = if is_listed(section) {
             list_section(input, section, &context, listing)
-        } else if section.id == 2 {
+        } else if section.id() == 2 {
             // Imports that do not decode would leave indices unknown.
-            let discarded = Listing::begin(io::sink(), Format::Table);
-            discarded
-                .map_err(Stop::from)
-                .and_then(|mut discarded| list_section(input, section, &context, &mut discarded))
+            section.count(Global).map(drop).map_err(Stop::from)
         } else {
             Ok(())
         };
@@ -115,8 +101,7 @@ fn list(
     Ok(())
 }
 
-/// Lists a section. A custom section that does not decode as its kind is reported, and listed as
-/// bytes.
+/// Lists a section.
 fn list_section(
     input: &Input,
     section: &Section<'_>,
@@ -124,27 +109,38 @@ fn list_section(
     listing: &mut Listing<impl Write>,
 ) -> Result<(), Stop> {
     listing.section(section)?;
-    let mut cursor = section.cursor();
-    match (section.id, section.name) {
-        (10, _) => list_code(&mut cursor, context, listing)?,
-        (1..=13, _) => Items { context, listing }.list(section.id, &mut cursor)?,
-        (_, Some(name)) => match list_custom(name, section.payload, &mut Lines(listing)) {
-            Ok(Known::Listed) => return Ok(()),
-            Ok(Known::Other) => return bytes_of_custom(cursor, listing),
-            Err(Stop::Undecoded(error)) if error.cause != ReadFault::Memory => {
-                listing.flush()?;
-                failure::report(&section.failure(input, error));
-                return bytes_of_custom(cursor, listing);
-            }
-            Err(stop) => return Err(stop),
-        },
-        _ => return Ok(listing.bytes(section.offset, section.payload)?),
+    match section.id() {
+        0 => list_custom(input, section, listing),
+        10 => list_code(section, context, listing),
+        1..=13 => Items { context, listing }.list(section),
+        _ => Ok(listing.bytes(section.range().start, section.payload())?),
     }
-    Ok(cursor.finish()?)
 }
 
-/// Lists the bytes after the name of a custom section.
-fn bytes_of_custom(mut cursor: Cursor<'_>, listing: &mut Listing<impl Write>) -> Result<(), Stop> {
-    cursor.read::<&str>()?;
-    Ok(listing.bytes(cursor.offset(), cursor.rest())?)
+/// Lists a custom section by the kind that its name selects, or else as bytes. One that does not
+/// decode as its kind is reported, and listed as bytes.
+fn list_custom(
+    input: &Input,
+    section: &Section<'_>,
+    listing: &mut Listing<impl Write>,
+) -> Result<(), Stop> {
+    let is_listed = match section.items(Global) {
+        Ok(items) => list_items(&items, listing)?,
+        Err(error) if error.cause == ReadFault::Memory => return Err(error.into()),
+        Err(error) => {
+            // A section without a name has no kind.
+            if section.name().is_some() {
+                listing.flush()?;
+                failure::report(&section.failure(input, error));
+            }
+            false
+        }
+    };
+    if !is_listed {
+        // The bytes are those after the name, if there is one.
+        let mut cursor = section.cursor();
+        let _ = cursor.read::<&str>();
+        listing.bytes(cursor.offset(), cursor.rest())?;
+    }
+    Ok(())
 }

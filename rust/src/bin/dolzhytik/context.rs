@@ -1,8 +1,8 @@
-//! What a listing takes from other sections: names, indices and types.
+//! What the lines of functions and items take from other sections: names, indices and types.
 use crate::cursor::Cursor;
 use crate::sections::Section;
 use dolzhytik::fallible::{CompositeInnerType, EntityType, Imports, SubItem};
-use dolzhytik::reader::{DecodeError, NameItem, TypeEntry};
+use dolzhytik::reader::{NameItem, ReadError, TypeEntry};
 use std::collections::HashMap;
 
 /// An index space of a module.
@@ -60,7 +60,7 @@ impl Space {
     }
 }
 
-/// What a listing takes from other sections.
+/// What the lines of functions and items take from other sections.
 #[derive(Default)]
 pub struct Context<'a> {
     names: HashMap<(Space, u32), &'a str>,
@@ -76,7 +76,7 @@ impl<'a> Context<'a> {
     /// Takes what the sections have up to their first byte that does not decode.
     pub fn of(sections: &[Section<'a>]) -> Self {
         let mut context = Context::default();
-        let (imports, others): (Vec<_>, Vec<_>) = sections.iter().partition(|it| it.id == 2);
+        let (imports, others): (Vec<_>, Vec<_>) = sections.iter().partition(|it| it.id() == 2);
         for section in imports.into_iter().chain(others) {
             // Whoever lists the section reports what does not decode.
             let _ = context.take(section);
@@ -84,9 +84,9 @@ impl<'a> Context<'a> {
         context
     }
 
-    fn take(&mut self, section: &Section<'a>) -> Result<(), DecodeError> {
+    fn take(&mut self, section: &Section<'a>) -> Result<(), ReadError> {
         let mut cursor = section.cursor();
-        match (section.id, section.name) {
+        match (section.id(), section.name()) {
             (1, _) => cursor.each(|_, entry: TypeEntry| {
                 self.take_type(&entry);
                 Ok(())
@@ -122,7 +122,7 @@ impl<'a> Context<'a> {
         }
     }
 
-    fn take_names(&mut self, mut cursor: Cursor<'a>) -> Result<(), DecodeError> {
+    fn take_names(&mut self, mut cursor: Cursor<'a>) -> Result<(), ReadError> {
         cursor.read::<&str>()?;
         while !cursor.rest().is_empty() {
             let NameItem::Map { id, names } = cursor.read()? else {
