@@ -234,7 +234,7 @@ fn is_outlined(bytes: &[u8]) -> bool {
 
 /// Whether items decode exactly if the plain reader decodes them, are as many, and are encoded as the plain reader does; an error is inside of the payload.
 fn has_items(given: &reader::Section<'_>, expected: &Section<'_>) -> bool {
-    match (given.items(Global), given.count(Global)) {
+    match (given.items(), given.count()) {
         (Ok(items), Ok(count)) => {
             let mut payload = fallible::Vec::new(Global);
             count == expected.items()
@@ -262,7 +262,7 @@ fn has_bodies(given: &reader::Section<'_>) -> bool {
         let mut count = 0;
         for body in given.bodies()? {
             let body = body?;
-            let (_, mut instructions) = body.instructions(Global)?;
+            let (_, mut instructions) = body.instructions()?;
             while instructions
                 .next()
                 .map_err(|error| body.locate(error))?
@@ -272,7 +272,7 @@ fn has_bodies(given: &reader::Section<'_>) -> bool {
         }
         Ok(count)
     };
-    match (walk(), given.items(Global)) {
+    match (walk(), given.items()) {
         (Ok(count), Ok(Items::Bodies(bodies))) => count == bodies.len(),
         (Err(error), Err(other)) => error.cause == other.cause && error.offset == other.offset,
         _ => false,
@@ -297,7 +297,7 @@ fn is_same_section(given: &reader::Section<'_>, expected: &Section<'_>) -> bool 
 
 /// Whether the iterator gives the sections of the plain reader, or as many as come before the first that is none, and then an error there.
 fn is_iterated(bytes: &[u8]) -> bool {
-    let given: Result<Vec<_>, _> = match Sections::new(bytes) {
+    let given: Result<Vec<_>, _> = match Sections::new(Global, bytes) {
         Ok(sections) => sections.collect(),
         Err(error) => return sections(bytes) == Err(0) && error.offset <= bytes.len(),
     };
@@ -310,7 +310,7 @@ fn is_iterated(bytes: &[u8]) -> bool {
                     .all(|(given, expected)| is_same_section(given, expected))
         }
         (Err(error), Err(number)) => {
-            let mut before = Sections::new(bytes).into_iter().flatten();
+            let mut before = Sections::new(Global, bytes).into_iter().flatten();
             let whole = before.by_ref().take_while(Result::is_ok).count();
             whole + 1 == number && error.offset <= bytes.len() && before.next().is_none()
         }

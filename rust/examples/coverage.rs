@@ -109,7 +109,7 @@ const ORDER: [u8; 13] = [1, 2, 3, 4, 5, 13, 6, 7, 8, 9, 12, 10, 11];
 
 /// Returns the module with a counter for each function.
 pub fn covered(module: &[u8], drop_offsets: bool) -> Result<Vec<u8>> {
-    let sections: std::result::Result<Vec<_>, _> = Sections::new(module)?.collect();
+    let sections: std::result::Result<Vec<_>, _> = Sections::new(Global, module)?.collect();
     let sections = sections?;
     let (globals, exports, code) = with_counters(&sections)?;
     let new: [&dyn Section; 3] = [&globals, &exports, &code];

@@ -1,7 +1,7 @@
 -- This file defines the results of callers that iterate over a module.
-use Rattle.std.specs.Prelude.{◌≡◌, ℕ, List, [], ◌∷◌, ◌++◌}
-use Rattle.wasm_base.specs.Words.{minimal, padded, standard, any_bytes, header, size_prefixed, u32, vec, Decodes}
-use Rattle.wasm_reader.specs.Words.{Contents, Functions, content, kind_in, Section, IsSection, LocatedBody, bytes_of, section_kind_of}
+use Rattle.std.specs.Prelude.{◌≡◌, ℕ, List, ◌++◌}
+use Rattle.wasm_base.specs.Words.{minimal, padded, standard, any_bytes, header, size_prefixed, u32, Decodes}
+use Rattle.wasm_reader.specs.Words.{Contents, content, kind_in, Section, IsSection, LocatedBody, bytes_of, section_kind_of}
 
 -- The bytes are the header of a module and a section of this payload, and any rest.
 pub record BeginsWithPayload (bytes payload : List ℕ) : Type 0 where
@@ -25,9 +25,3 @@ pub record IsFirstBody (s : Section) (body : LocatedBody) : Type 0 where
   pub after : List ℕ
   pub counted : Decodes u32 padded s.payload count rest
   pub decodes : Decodes (size_prefixed any_bytes) padded rest body.bytes after
-
--- The section decodes to types of functions, and the new bytes are the payload of these and one more.
-pub record IsWithFunction (s : Section) (ty : ℕ) (new : List ℕ) : Type 0 where
-  pub types : List ℕ
-  pub decoded : content (section_kind_of s) standard s.payload (Functions types)
-  pub encoded : vec u32 minimal new (types ++ ty ∷ [])

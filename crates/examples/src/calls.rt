@@ -5,7 +5,6 @@ pub mod bodies;
 pub mod copied_segments;
 pub mod copies;
 pub mod decodings;
-pub mod edits;
 pub mod first_values;
 pub mod given;
 pub mod grammars;

@@ -21,7 +21,7 @@ pub fn without_custom<A: Allocator + Copy>(bytes: &[u8], alloc: A) -> Result<Vec
     ensures found { IfOk result (λ kept. IsStripped bytes.now kept.items) }
     ensures none { IfErr result (λ e. e.cause ≢ Memory → RejectsWhole wasm_module padded bytes.now) }
 {
-    let mut sections = Sections::new(bytes)?;
+    let mut sections = Sections::new(alloc, bytes)?;
     let mut kept = match Module::new(alloc) {
         Ok(module) => module,
         Err(_) => return Err(refused_at(0)),
@@ -48,7 +48,10 @@ fn refused_at(offset: usize) -> ReadError
 }
 
 /// Appends a section to the module as it is.
-fn copy<A: Allocator>(section: &Section<'_>, module: &mut Module<A>) -> Result<(), ReadError>
+fn copy<A: Allocator + Copy>(
+    section: &Section<'_, A>,
+    module: &mut Module<A>,
+) -> Result<(), ReadError>
     ensures ok { OnOk result (DecodesOneMore (λ payload. payload ≡ section.now.section.payload) section.now.section.id module.old module.new) }
     ensures memory { IfErr result (λ e. e.cause ≡ Memory) }
 {

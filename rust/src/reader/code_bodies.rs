@@ -15,7 +15,7 @@ use crate::code::Instructions;
 /// ```text
 /// for body in section.bodies()? {
 ///     let body = body?;
-///     let (locals, mut instructions) = body.instructions(alloc)?;
+///     let (locals, mut instructions) = body.instructions()?;
 ///     while let Some(step) = instructions.next().map_err(|error| body.locate(error))? {
 ///         // step.op, instructions.args()
 ///     }
@@ -27,14 +27,15 @@ use crate::code::Instructions;
 /// An error but `Memory` means that no size-prefixed body is next, or that bytes remain after the
 /// last one. It is the last item.
 #[derive(Clone, Debug)]
-pub struct Bodies<'a> {
+pub struct Bodies<'a, A: Allocator = Global> {
+    alloc: A,
     left: u32,
     rest: &'a [u8],
     /// The offset of the end of `rest` in the module.
     end: usize,
 }
 
-impl<'a> Section<'a> {
+impl<'a, A: Allocator + Copy> Section<'a, A> {
     /// Decodes the number of bodies of a code section, and returns an iterator over them.
     ///
     /// # Errors
@@ -52,7 +53,7 @@ impl<'a> Section<'a> {
     /// ensures from { IfErr result (λ e. self.now.offset ≤ e.offset) }
     /// ensures within { IfErr result (λ e. e.offset ≤ end_of self.now) }
     /// ```
-    pub fn bodies(&self) -> Result<Bodies<'a>, ReadError> {
+    pub fn bodies(&self) -> Result<Bodies<'a, A>, ReadError> {
         if self.id() != 10 {
             return Err(ReadError {
                 cause: ReadFault::UnknownTag,
@@ -61,14 +62,20 @@ impl<'a> Section<'a> {
         }
         let payload = self.payload();
         let end = self.range().end;
-        match <u32 as Readable<'a, Global, Padded>>::read(payload, Global) {
-            Ok((left, rest)) => Ok(Bodies { left, rest, end }),
+        let alloc = self.allocator();
+        match <u32 as Readable<'a, A, Padded>>::read(payload, alloc) {
+            Ok((left, rest)) => Ok(Bodies {
+                alloc,
+                left,
+                rest,
+                end,
+            }),
             Err(error) => Err(ReadError::located(error, payload.len(), end)),
         }
     }
 }
 
-impl<'a> Bodies<'a> {
+impl<'a, A: Allocator + Copy> Bodies<'a, A> {
     /// Returns the number of bodies that are left, as the section states it.
     ///
     /// # Proved
@@ -88,7 +95,7 @@ impl<'a> Bodies<'a> {
     /// ensures error { result ≡ Some (Err error) }
     /// ensures ended { self.new ≡ record { left = 0; rest = []; end = self.old.end } }
     /// ```
-    fn fail(&mut self, error: ReadError) -> Option<Result<CodeBody<'a>, ReadError>> {
+    fn fail(&mut self, error: ReadError) -> Option<Result<CodeBody<'a, A>, ReadError>> {
         self.left = 0;
         self.rest = b"";
         Some(Err(error))
@@ -101,10 +108,10 @@ impl<'a> Bodies<'a> {
 /// next_gives = { NextBody }
 /// remaining = { λ it. at_most (it.left + length it.rest) }
 /// ```
-impl<'a> Iterator for Bodies<'a> {
-    type Item = Result<CodeBody<'a>, ReadError>;
+impl<'a, A: Allocator + Copy> Iterator for Bodies<'a, A> {
+    type Item = Result<CodeBody<'a, A>, ReadError>;
 
-    fn next(&mut self) -> Option<Result<CodeBody<'a>, ReadError>> {
+    fn next(&mut self) -> Option<Result<CodeBody<'a, A>, ReadError>> {
         let (size, end) = (self.rest.len(), self.end);
         if self.left == 0 {
             if size == 0 {
@@ -113,29 +120,34 @@ impl<'a> Iterator for Bodies<'a> {
             let error = ReadFault::SizeMismatch.at(self.rest);
             return self.fail(ReadError::located(error, size, end));
         }
-        match <&'a [u8] as Readable<'a, Global, Padded>>::read(self.rest, Global) {
+        match <&'a [u8] as Readable<'a, A, Padded>>::read(self.rest, self.alloc) {
             Ok((bytes, rest)) => {
                 self.left -= 1;
                 self.rest = rest;
                 let offset = end - rest.len() - bytes.len();
-                Some(Ok(CodeBody { offset, bytes }))
+                Some(Ok(CodeBody {
+                    alloc: self.alloc,
+                    offset,
+                    bytes,
+                }))
             }
             Err(error) => self.fail(ReadError::located(error, size, end)),
         }
     }
 }
 
-impl<'a> FusedIterator for Bodies<'a> {}
+impl<'a, A: Allocator + Copy> FusedIterator for Bodies<'a, A> {}
 
 /// A body of a code section, not yet decoded. Blocks are not matched: a body decodes without its final
 /// `End` too, and with instructions after it.
 #[derive(Clone, Copy, Debug)]
-pub struct CodeBody<'a> {
+pub struct CodeBody<'a, A: Allocator = Global> {
+    alloc: A,
     offset: usize,
     bytes: &'a [u8],
 }
 
-impl<'a> CodeBody<'a> {
+impl<'a, A: Allocator + Copy> CodeBody<'a, A> {
     /// Returns the offset of its first byte, after its size prefix, in the module, in bytes.
     ///
     /// # Proved
@@ -177,11 +189,10 @@ impl<'a> CodeBody<'a> {
     /// ensures from { IfErr result (λ e. self.now.offset ≤ e.offset) }
     /// ensures within { IfErr result (λ e. e.offset ≤ self.now.offset + length self.now.bytes) }
     /// ```
-    pub fn instructions<A: Allocator + Copy>(
+    pub fn instructions(
         &self,
-        alloc: A,
     ) -> Result<(Vec<(u32, ValType), A>, Instructions<'a, A, Standard>), ReadError> {
-        match Instructions::<A, Standard>::of_standard_body(self.bytes, alloc) {
+        match Instructions::<A, Standard>::of_standard_body(self.bytes, self.alloc) {
             Ok(read) => Ok(read),
             Err(error) => Err(self.locate(error)),
         }

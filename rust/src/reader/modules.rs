@@ -51,9 +51,9 @@ pub(crate) fn read_header(bytes: &[u8]) -> Result<&[u8], ReadFault> {
 /// ensures found { IfOk result (λ line. (x : Contents) × content (kind_of_id section.now.section.id) padded section.now.section.payload x × (line ≡ line_of (section.now.section.id, (length section.now.section.payload, x)))) }
 /// ensures none { IfErr result (λ e. e ≢ Memory → RejectsWhole (content (kind_of_id section.now.section.id)) padded section.now.section.payload) }
 /// ```
-fn line_of<A: Allocator + Copy>(section: &Section<'_>, alloc: A) -> Result<Listed, ReadFault> {
+fn line_of<A: Allocator + Copy>(section: &Section<'_, A>) -> Result<Listed, ReadFault> {
     let id = section.id();
-    let items = read_number::<A, Padded>(kind_of_id(id), section.payload(), alloc)?;
+    let items = read_number::<A, Padded>(kind_of_id(id), section.payload(), section.allocator())?;
     let size = section.payload().len() as u32;
     Ok(Listed { id, size, items })
 }
@@ -78,7 +78,7 @@ pub fn list_module<'a, A: Allocator + Copy>(
     alloc: A,
     bytes: &'a [u8],
 ) -> Result<Vec<Listed, A>, (usize, ReadFault)> {
-    let mut sections = match Sections::new(bytes) {
+    let mut sections = match Sections::new(alloc, bytes) {
         Ok(sections) => sections,
         Err(error) => return Err((0, error.cause)),
     };
@@ -90,7 +90,7 @@ pub fn list_module<'a, A: Allocator + Copy>(
             Some(Ok(section)) => section,
             Some(Err(error)) => return Err((number, error.cause)),
         };
-        let line = match line_of(&section, alloc) {
+        let line = match line_of(&section) {
             Ok(line) => line,
             Err(fault) => return Err((number, fault)),
         };

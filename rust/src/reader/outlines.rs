@@ -31,8 +31,8 @@ pub struct Outlined<'a> {
 /// ensures found { IfOk result (λ count. IsCount (section_kind_of section.now.section) section.now.section.payload count) }
 /// ensures memory { IfErr result (λ e. e ≡ Memory) }
 /// ```
-fn count<A: Allocator + Copy>(section: &Section<'_>, alloc: A) -> Result<Option<u32>, ReadFault> {
-    match section.count(alloc) {
+fn count<A: Allocator + Copy>(section: &Section<'_, A>) -> Result<Option<u32>, ReadFault> {
+    match section.count() {
         Ok(count) => Ok(count),
         Err(error) if error.cause == ReadFault::Memory => Err(ReadFault::Memory),
         Err(_) => Ok(None),
@@ -47,11 +47,8 @@ fn count<A: Allocator + Copy>(section: &Section<'_>, alloc: A) -> Result<Option<
 /// ensures found { IfOk result (λ line. IsOutline section.now.offset section.now.section line) }
 /// ensures memory { IfErr result (λ e. e ≡ Memory) }
 /// ```
-fn line_of<'a, A: Allocator + Copy>(
-    section: &Section<'a>,
-    alloc: A,
-) -> Result<Outlined<'a>, ReadFault> {
-    let items = count(section, alloc)?;
+fn line_of<'a, A: Allocator + Copy>(section: &Section<'a, A>) -> Result<Outlined<'a>, ReadFault> {
+    let items = count(section)?;
     Ok(Outlined {
         id: section.id(),
         offset: section.range().start,
@@ -83,7 +80,7 @@ pub fn outline<'a, A: Allocator + Copy>(
     alloc: A,
     bytes: &'a [u8],
 ) -> Result<Vec<Outlined<'a>, A>, (usize, ReadFault)> {
-    let mut sections = match Sections::new(bytes) {
+    let mut sections = match Sections::new(alloc, bytes) {
         Ok(sections) => sections,
         Err(error) => return Err((0, error.cause)),
     };
@@ -95,7 +92,7 @@ pub fn outline<'a, A: Allocator + Copy>(
             Some(Ok(section)) => section,
             Some(Err(error)) => return Err((number, error.cause)),
         };
-        let line = match line_of(&section, alloc) {
+        let line = match line_of(&section) {
             Ok(line) => line,
             Err(fault) => return Err((number, fault)),
         };

@@ -28,25 +28,27 @@ fn common_length(bytes: &[u8], other: &[u8]) -> usize {
 /// The sections of a module, one after another. It allocates nothing.
 ///
 /// ```text
-/// for section in Sections::new(module)? {
+/// for section in Sections::new(alloc, module)? {
 ///     let section = section?;
-///     // section.id(), section.name(), section.range(), section.items(alloc)?
+///     // section.id(), section.name(), section.range(), section.items()?
 /// }
 /// ```
 ///
 /// It splits a module, and does not validate it: sections may have any ids, in any order and number.
+/// What is decoded of a section is in memory of the allocator.
 ///
 /// # Errors
 ///
 /// An error but `Memory` means that the bytes at the offset of the next section are not an id and a
 /// size-prefixed payload. It is the last item.
 #[derive(Clone, Debug)]
-pub struct Sections<'a> {
+pub struct Sections<'a, A: Allocator = Global> {
+    alloc: A,
     module: &'a [u8],
     offset: usize,
 }
 
-impl<'a> Sections<'a> {
+impl<'a, A: Allocator + Copy> Sections<'a, A> {
     /// Checks the header of a module, and returns an iterator over its sections.
     ///
     /// # Errors
@@ -62,11 +64,13 @@ impl<'a> Sections<'a> {
     /// ensures offset { IfOk result (λ it. it.offset ≡ length header) }
     /// ensures same { IfOk result (λ it. it.bytes ≡ module.now) }
     /// ensures none { IfErr result (λ _. Rejects (fixed header (tt {0})) padded module.now) }
+    /// ensures cause { IfErr result (λ e. (e.cause ≡ Ended) ⊎ (e.cause ≡ UnknownTag)) }
     /// ensures within { IfErr result (λ e. e.offset ≤ length module.now) }
     /// ```
-    pub fn new(module: &'a [u8]) -> Result<Self, ReadError> {
+    pub fn new(alloc: A, module: &'a [u8]) -> Result<Self, ReadError> {
         match read_header(module) {
             Ok(rest) => Ok(Sections {
+                alloc,
                 module,
                 offset: module.len() - rest.len(),
             }),
@@ -100,20 +104,21 @@ impl<'a> Sections<'a> {
 /// next_gives = { NextSection }
 /// remaining = { λ it. at_most (length (ahead it)) }
 /// ```
-impl<'a> Iterator for Sections<'a> {
-    type Item = Result<Section<'a>, ReadError>;
+impl<'a, A: Allocator + Copy> Iterator for Sections<'a, A> {
+    type Item = Result<Section<'a, A>, ReadError>;
 
-    fn next(&mut self) -> Option<Result<Section<'a>, ReadError>> {
+    fn next(&mut self) -> Option<Result<Section<'a, A>, ReadError>> {
         let offset = self.offset;
         let bytes = &self.module[offset..];
         if bytes.is_empty() {
             return None;
         }
-        match read_standing(bytes, Global) {
+        match read_standing(bytes, self.alloc) {
             Ok((standing, rest)) => {
                 let size = bytes.len() - rest.len();
                 self.offset = offset + size;
                 Some(Ok(Section {
+                    alloc: self.alloc,
                     offset,
                     bytes: &bytes[..size],
                     standing,
@@ -128,19 +133,25 @@ impl<'a> Iterator for Sections<'a> {
     }
 }
 
-impl<'a> FusedIterator for Sections<'a> {}
+impl<'a, A: Allocator + Copy> FusedIterator for Sections<'a, A> {}
 
 /// A section of a module, whose payload is not yet decoded.
 ///
 /// Calls that decode accept all encodings that the standard admits.
 #[derive(Clone, Copy, Debug)]
-pub struct Section<'a> {
+pub struct Section<'a, A: Allocator = Global> {
+    alloc: A,
     offset: usize,
     bytes: &'a [u8],
     standing: Standing<'a>,
 }
 
-impl<'a> Section<'a> {
+impl<'a, A: Allocator + Copy> Section<'a, A> {
+    /// Returns the allocator of what is decoded.
+    pub(crate) fn allocator(&self) -> A {
+        self.alloc
+    }
+
     /// Returns the section without its offset.
     ///
     /// # Proved
@@ -219,6 +230,7 @@ impl<'a> Section<'a> {
     /// ```text
     /// ensures start { result.start + length self.now.section.payload ≡ end_of self.now }
     /// ensures end { result.end ≡ end_of self.now }
+    /// ensures after { self.now.offset < result.start }
     /// ```
     pub fn range(&self) -> Range<usize> {
         let end = self.offset + self.bytes.len();
@@ -230,7 +242,8 @@ impl<'a> Section<'a> {
     /// # Proved
     ///
     /// ```text
-    /// ensures { result.now ≡ self.now.section.payload }
+    /// ensures value { result.now ≡ self.now.section.payload }
+    /// ensures size { length result.now < 2 ^ 32 }
     /// ```
     pub fn payload(&self) -> &'a [u8] {
         self.standing.payload
@@ -251,8 +264,8 @@ impl<'a> Section<'a> {
     /// ensures none { IfErr result (λ e. e.cause ≢ Memory → RejectsWhole (content (section_kind_of self.now.section)) standard self.now.section.payload) }
     /// ensures within { IfErr result (λ e. IsInPayload self.now e.offset) }
     /// ```
-    pub fn count<A: Allocator + Copy>(&self, alloc: A) -> Result<Option<u32>, ReadError> {
-        match read_number::<A, Standard>(self.standing.kind(), self.standing.payload, alloc) {
+    pub fn count(&self) -> Result<Option<u32>, ReadError> {
+        match read_number::<A, Standard>(self.standing.kind(), self.standing.payload, self.alloc) {
             Ok(number) => Ok(number),
             Err(error) => Err(ReadError::located(
                 error,
@@ -277,8 +290,11 @@ impl<'a> Section<'a> {
     /// ensures none { IfErr result (λ e. e.cause ≢ Memory → RejectsWhole (content (section_kind_of self.now.section)) standard self.now.section.payload) }
     /// ensures within { IfErr result (λ e. IsInPayload self.now e.offset) }
     /// ```
-    pub fn items<A: Allocator + Copy + 'a>(&self, alloc: A) -> Result<Items<'a, A>, ReadError> {
-        match read_content::<A, Standard>(self.standing.kind(), self.standing.payload, alloc) {
+    pub fn items(&self) -> Result<Items<'a, A>, ReadError>
+    where
+        A: 'a,
+    {
+        match read_content::<A, Standard>(self.standing.kind(), self.standing.payload, self.alloc) {
             Ok(items) => Ok(items),
             Err(error) => Err(ReadError::located(
                 error,

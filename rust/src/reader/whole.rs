@@ -471,7 +471,7 @@ fn is_same(a: usize, b: usize) -> bool {
 /// # Asks
 ///
 /// ```text
-/// requires { length (ahead sections.entry) < 2 ^ 64 }
+/// requires { length (ahead sections) < 2 ^ 64 }
 /// ```
 ///
 /// # Proved
@@ -483,7 +483,7 @@ fn is_same(a: usize, b: usize) -> bool {
 /// ```
 fn append_sections<A: Allocator + Copy, B: Sink>(
     alloc: A,
-    mut sections: Sections<'_>,
+    mut sections: Sections<'_, A>,
     offsets: Offsets,
     sink: &mut B,
 ) -> Result<Tally, (usize, ReadFault)> {
@@ -491,15 +491,12 @@ fn append_sections<A: Allocator + Copy, B: Sink>(
     let start = sink.len();
     let mut tally = NOTHING;
     loop {
-        let next = match sections.next() {
+        let section = match sections.next() {
             None => return Ok(tally),
-            Some(next) => next,
+            Some(Ok(section)) => section,
+            Some(Err(error)) => return Err((tally.sections + 1, error.cause)),
         };
         let number = tally.sections + 1;
-        let section = match next {
-            Ok(section) => section,
-            Err(error) => return Err((number, error.cause)),
-        };
         let is_level = is_same(section.offset() - first, sink.len() - start);
         let written = match append_section(alloc, section.standing(), offsets, sink) {
             Ok(written) => written,
@@ -538,7 +535,7 @@ fn append_module<A: Allocator + Copy, B: Sink>(
     offsets: Offsets,
     sink: &mut B,
 ) -> Result<usize, ModuleFault> {
-    let sections = match Sections::new(bytes) {
+    let sections = match Sections::new(alloc, bytes) {
         Ok(sections) => sections,
         Err(error) => {
             return Err(ModuleFault::Section {

@@ -21,7 +21,7 @@ use dolzhytik::reader::{ReadError, Section, Sections};
 /// ensures none { IfErr result (λ e. e.cause ≢ Memory → RejectsWhole wasm_module padded bytes.now) }
 /// ```
 pub fn without_custom<A: Allocator + Copy>(bytes: &[u8], alloc: A) -> Result<Vec<u8, A>, ReadError> {
-    let mut sections = Sections::new(bytes)?;
+    let mut sections = Sections::new(alloc, bytes)?;
     let mut kept = match Module::new(alloc) {
         Ok(module) => module,
         Err(_) => return Err(refused_at(0)),
@@ -59,7 +59,10 @@ fn refused_at(offset: usize) -> ReadError {
 /// ensures ok { OnOk result (DecodesOneMore (λ payload. payload ≡ section.now.section.payload) section.now.section.id module.old module.new) }
 /// ensures memory { IfErr result (λ e. e.cause ≡ Memory) }
 /// ```
-fn copy<A: Allocator>(section: &Section<'_>, module: &mut Module<A>) -> Result<(), ReadError> {
+fn copy<A: Allocator + Copy>(
+    section: &Section<'_, A>,
+    module: &mut Module<A>,
+) -> Result<(), ReadError> {
     let copied = RawSection {
         id: section.id(),
         bytes: section.payload(),

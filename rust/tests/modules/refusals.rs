@@ -2,7 +2,8 @@
 use crate::samples::{PADDED, PADDED_NAME, SHORT, SHORT_NAME, UNREAD, bytes_of, module};
 use dolzhytik::fallible::{AllocError, Allocator, Global, Refused, Vec};
 use dolzhytik::reader::{
-    ModuleFault, Offsets, ReadError, ReadFault, Sections, encode_items, outline, shorten_module,
+    ModuleFault, Offsets, ReadError, ReadFault, Section, Sections, encode_items, outline,
+    shorten_module,
 };
 use std::cell::Cell;
 
@@ -83,14 +84,20 @@ fn unless_refused<T>(given: Result<T, ReadError>) -> Option<T> {
     }
 }
 
+/// The first section, which no request for memory is made for.
+fn first<'a>(alloc: &'a Grants, module: &'a [u8]) -> Section<'a, &'a Grants> {
+    let mut sections = Sections::new(alloc, module).unwrap();
+    sections.next().unwrap().unwrap()
+}
+
 /// A section alone, counted and decoded.
 #[track_caller]
 fn check_section(section: &str, counting: usize, decoding: usize) {
     let bytes = module(&[section]);
-    let section = Sections::new(&bytes).unwrap().next().unwrap().unwrap();
-    let (granted, _) = first_granted(|alloc| unless_refused(section.count(alloc)));
+    let (granted, _) = first_granted(|alloc| unless_refused(first(alloc, &bytes).count()));
     assert_eq!(granted, counting);
-    let (granted, _) = first_granted(|alloc| unless_refused(section.items(alloc)).map(drop));
+    let (granted, _) =
+        first_granted(|alloc| unless_refused(first(alloc, &bytes).items()).map(drop));
     assert_eq!(granted, decoding);
 }
 
@@ -105,10 +112,10 @@ fn of_sections() {
 #[test]
 fn of_bodies() {
     let bytes = module(&[PADDED[3]]);
-    let code = Sections::new(&bytes).unwrap().next().unwrap().unwrap();
-    let body = code.bodies().unwrap().next().unwrap().unwrap();
     let (granted, ()) = first_granted(|alloc| {
-        let (locals, _) = unless_refused(body.instructions(alloc))?;
+        let code = first(alloc, &bytes);
+        let body = code.bodies().unwrap().next().unwrap().unwrap();
+        let (locals, _) = unless_refused(body.instructions())?;
         assert!(locals.is_empty());
         Some(())
     });
@@ -128,8 +135,12 @@ fn of_encoded_items() {
     ];
     for (section, payload) in sections {
         let bytes = module(&[section]);
-        let section = Sections::new(&bytes).unwrap().next().unwrap().unwrap();
-        let items = section.items(Global).unwrap();
+        let section = Sections::new(Global, &bytes)
+            .unwrap()
+            .next()
+            .unwrap()
+            .unwrap();
+        let items = section.items().unwrap();
         first_granted(|alloc| {
             let mut sink = Vec::new(alloc);
             match encode_items(&items, &mut sink) {

@@ -12,7 +12,7 @@ type Told = (u8, Option<SectionKind>, usize, std::ops::Range<usize>);
 
 #[track_caller]
 fn check(bytes: &[u8], expected: &[Told]) {
-    let mut sections = Sections::new(bytes).unwrap();
+    let mut sections = Sections::new(Global, bytes).unwrap();
     for (id, kind, offset, range) in expected {
         assert_eq!(sections.offset(), *offset);
         let section = sections.next().unwrap().unwrap();
@@ -68,7 +68,7 @@ fn kinds_by_ids_and_names() {
         "ff 01 aa",
     ]);
     check(&bytes, &sections);
-    let names = Sections::new(&bytes)
+    let names = Sections::new(Global, &bytes)
         .unwrap()
         .map(|section| section.unwrap().name());
     let names: Vec<_> = names.collect();
@@ -82,7 +82,7 @@ fn kinds_by_ids_and_names() {
 #[track_caller]
 fn check_end(sections: &[&str], whole: usize, expected: ReadError, text: &str) {
     let bytes = module(sections);
-    let mut given = Sections::new(&bytes).unwrap();
+    let mut given = Sections::new(Global, &bytes).unwrap();
     assert_eq!(
         given.by_ref().take(whole).filter(Result::is_ok).count(),
         whole
@@ -127,12 +127,15 @@ fn ended_at(offset: usize) -> ReadError {
 
 #[test]
 fn headers() {
-    assert_eq!(Sections::new(b"\0asm").unwrap_err(), ended_at(4));
+    assert_eq!(Sections::new(Global, b"\0asm").unwrap_err(), ended_at(4));
     // A component, and a text.
     let component = error(ReadFault::UnknownTag, 4);
-    assert_eq!(Sections::new(b"\0asm\x0d\0\x01\0").unwrap_err(), component);
+    assert_eq!(
+        Sections::new(Global, b"\0asm\x0d\0\x01\0").unwrap_err(),
+        component
+    );
     let other = error(ReadFault::UnknownTag, 0);
-    assert_eq!(Sections::new(b"(module)").unwrap_err(), other);
+    assert_eq!(Sections::new(Global, b"(module)").unwrap_err(), other);
     assert_eq!(other.to_string(), "unexpected byte or value at offset 0x0");
 }
 
@@ -140,9 +143,13 @@ fn headers() {
 #[track_caller]
 fn check_items(section: &str, count: Option<u32>, is_expected: impl Fn(&Items<'_>) -> bool) {
     let bytes = module(&[section]);
-    let section = Sections::new(&bytes).unwrap().next().unwrap().unwrap();
-    assert_eq!(section.count(Global), Ok(count));
-    let items = section.items(Global).unwrap();
+    let section = Sections::new(Global, &bytes)
+        .unwrap()
+        .next()
+        .unwrap()
+        .unwrap();
+    assert_eq!(section.count(), Ok(count));
+    let items = section.items().unwrap();
     assert!(is_expected(&items), "{items:?}");
 }
 
@@ -183,9 +190,13 @@ fn items_and_their_number() {
 #[track_caller]
 fn check_unread(section: &str, expected: ReadError) {
     let bytes = module(&[section]);
-    let section = Sections::new(&bytes).unwrap().next().unwrap().unwrap();
-    assert_eq!(section.count(Global), Err(expected));
-    assert_eq!(section.items(Global).unwrap_err(), expected);
+    let section = Sections::new(Global, &bytes)
+        .unwrap()
+        .next()
+        .unwrap()
+        .unwrap();
+    assert_eq!(section.count(), Err(expected));
+    assert_eq!(section.items().unwrap_err(), expected);
 }
 
 #[test]
@@ -205,13 +216,17 @@ fn bodies_of_a_code_section() {
         SHORT[1],
         "0a 8e80808000 02 8800 01 02 7f 2000 45 1a 0b 02 00 0b",
     ]);
-    let code = Sections::new(&bytes).unwrap().nth(1).unwrap().unwrap();
+    let code = Sections::new(Global, &bytes)
+        .unwrap()
+        .nth(1)
+        .unwrap()
+        .unwrap();
     let mut bodies = code.bodies().unwrap();
     assert_eq!(bodies.left(), 2);
     let first = bodies.next().unwrap().unwrap();
     assert_eq!(first.offset(), 21);
     assert_eq!(first.bytes(), bytes_of("01 02 7f 2000 45 1a 0b"));
-    let (locals, mut instructions) = first.instructions(Global).unwrap();
+    let (locals, mut instructions) = first.instructions().unwrap();
     assert_eq!(*locals, [(2, ValType::I32)]);
     let mut steps = Vec::new();
     while let Some(step) = instructions.next().unwrap() {
@@ -234,7 +249,11 @@ fn bodies_of_a_code_section() {
 #[track_caller]
 fn check_bodies(section: &str, whole: usize, expected: ReadError) {
     let bytes = module(&[section]);
-    let section = Sections::new(&bytes).unwrap().next().unwrap().unwrap();
+    let section = Sections::new(Global, &bytes)
+        .unwrap()
+        .next()
+        .unwrap()
+        .unwrap();
     let mut bodies = section.bodies().unwrap();
     assert_eq!(
         bodies.by_ref().take(whole).filter(Result::is_ok).count(),
@@ -259,7 +278,7 @@ fn bodies_that_are_not_all_there() {
 #[test]
 fn sections_without_bodies() {
     let bytes = module(&[SHORT[1], "0a 00"]);
-    let mut sections = Sections::new(&bytes).unwrap();
+    let mut sections = Sections::new(Global, &bytes).unwrap();
     let functions = sections.next().unwrap().unwrap();
     assert_eq!(
         functions.bodies().unwrap_err(),
@@ -273,12 +292,16 @@ fn sections_without_bodies() {
 #[test]
 fn instructions_that_are_none() {
     let bytes = module(&["0a 06 02 00 03 00 ff 0b"]);
-    let code = Sections::new(&bytes).unwrap().next().unwrap().unwrap();
+    let code = Sections::new(Global, &bytes)
+        .unwrap()
+        .next()
+        .unwrap()
+        .unwrap();
     let mut bodies = code.bodies().unwrap();
     let first = bodies.next().unwrap().unwrap();
-    assert_eq!(first.instructions(Global).unwrap_err(), ended_at(12));
+    assert_eq!(first.instructions().unwrap_err(), ended_at(12));
     let second = bodies.next().unwrap().unwrap();
-    let (_, mut instructions) = second.instructions(Global).unwrap();
+    let (_, mut instructions) = second.instructions().unwrap();
     let stopped = second.locate(instructions.next().unwrap_err());
     assert_eq!(stopped, error(ReadFault::UnknownOpcode, 14));
 }
@@ -288,7 +311,7 @@ fn instructions_that_are_none() {
 fn sections_are_copied() {
     let bytes = module(&PADDED);
     let mut copied = dolzhytik::Module::new();
-    for section in Sections::new(&bytes).unwrap() {
+    for section in Sections::new(Global, &bytes).unwrap() {
         copied.section(&section.unwrap());
     }
     assert_eq!(copied.finish(), bytes);

@@ -7,7 +7,7 @@ use dolzhytik::reader::Sections;
 /// 0 and where the module does not begin with the header. The sections before it have all of their
 /// bytes.
 pub fn sections_from(module: &[u8], number: usize) -> Option<Sections<'_>> {
-    let (before, mut sections) = (number.checked_sub(1)?, Sections::new(module).ok()?);
+    let (before, mut sections) = (number.checked_sub(1)?, Sections::new(Global, module).ok()?);
     sections.by_ref().take(before).for_each(drop);
     Some(sections)
 }

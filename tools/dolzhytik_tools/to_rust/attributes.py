@@ -4,7 +4,7 @@ from __future__ import annotations
 from ..rattle.lexer import is_word
 from .errors import display
 from .source import Source
-from .tables import BORDERS, ERASED_ATTRIBUTES, ERASED_DERIVES, KEPT_ATTRIBUTES, KEPT_DERIVES
+from .tables import COPIED, BORDERS, ERASED_ATTRIBUTES, ERASED_DERIVES, KEPT_ATTRIBUTES, KEPT_DERIVES
 
 
 def erase_attributes(source: Source) -> None:
@@ -36,6 +36,9 @@ def turn_derive(source: Source, place: int, bracket: int, end: int) -> None:
         if name not in ERASED_DERIVES | KEPT_DERIVES:
             source.stop(place, f'an unknown derived trait: {name}')
     kept = [name for name in names if name not in ERASED_DERIVES]
+    struct = source.after(source.skip(end), 'pub', 'struct')
+    if struct is not None and source.tokens[source.skip(struct)] in COPIED:
+        kept.insert(1, 'Copy')
     if 'Error' in names:
         source.errors.append(display(source, end))
     if kept != names:

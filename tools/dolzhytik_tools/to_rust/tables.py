@@ -85,6 +85,8 @@ ERASED_ATTRIBUTES = {'tactic', 'rattlefmt', 'cycle'}
 # Derived traits of Rattle: every value can be dropped in Rust, and `errors` implements errors.
 ERASED_DERIVES = {'Drop', 'Error'}
 KEPT_DERIVES = {'Clone', 'Copy', 'PartialEq', 'Eq', 'Hash', 'Debug'}
+# Structs that are `Copy` too: Rattle has no `Copy` for a struct with a model and a lifetime.
+COPIED = {'CodeBody', 'Section'}
 # Paths of std: of Rust's std, of its core, of the package, of the host of tests, and erased ones.
 KEPT_STD = {
     'std::io::Error',

@@ -14,21 +14,24 @@ use wasm_base::ReadFault;
 use wasm_reader::{CodeBody, Items, ReadError, Section, SectionKind, Sections, encode_items};
 
 /// Returns the payload of the first section of a module: the bytes of its range.
-pub fn first_payload(module: &[u8]) -> Result<Option<&[u8]>, ReadError>
+pub fn first_payload<A: Allocator + Copy>(
+    alloc: A,
+    module: &[u8],
+) -> Result<Option<&[u8]>, ReadError>
     ensures { IfOk result (λ payload. IfSome payload (λ p. BeginsWithPayload module.now p.now)) }
 {
-    let mut sections = Sections::new(module)?;
+    let mut sections = Sections::new(alloc, module)?;
     match sections.next() {
         None => Ok(None),
         Some(section) => {
-            let section: Section<'_> = section?;
+            let section: Section<'_, A> = section?;
             Ok(Some(&module[section.range()]))
         }
     }
 }
 
 /// Skips the next section, and returns its length in bytes; 0 at the end.
-pub fn skip_section(sections: &mut Sections<'_>) -> Result<usize, ReadError>
+pub fn skip_section<A: Allocator + Copy>(sections: &mut Sections<'_, A>) -> Result<usize, ReadError>
     ensures { IfOk result (λ n. n + length (ahead sections.new) ≡ length (ahead sections.old)) }
 {
     match sections.next() {
@@ -41,7 +44,9 @@ pub fn skip_section(sections: &mut Sections<'_>) -> Result<usize, ReadError>
 }
 
 /// Returns the kind and the name of a section.
-pub fn kind_and_name<'a>(section: &Section<'a>) -> (Option<SectionKind>, Option<&'a str>)
+pub fn kind_and_name<'a, A: Allocator + Copy>(
+    section: &Section<'a, A>,
+) -> (Option<SectionKind>, Option<&'a str>)
     ensures kind { result.0 ≡ known_kind_of section.now.section }
     ensures name { option_map (λ n. n.now) result.1 ≡ section.now.section.name }
 {
@@ -50,24 +55,23 @@ pub fn kind_and_name<'a>(section: &Section<'a>) -> (Option<SectionKind>, Option<
 
 /// Decodes the items of a section, and counts them.
 pub fn items_and_count<'a, A: Allocator + Copy + 'a>(
-    section: &Section<'a>,
-    alloc: A,
+    section: &Section<'a, A>,
 ) -> Result<(Items<'a, A>, Option<u32>), ReadError>
     ensures { IfOk result (λ x. x.1 ≡ number_in (contents_of x.0)) }
 {
-    let items = section.items(alloc)?;
-    let count = section.count(alloc)?;
+    let items = section.items()?;
+    let count = section.count()?;
     Ok((items, count))
 }
 
 /// Decodes the items of a section, and encodes them again.
 pub fn encode_again<A: Allocator + Copy>(
-    section: &Section<'_>,
+    section: &Section<'_, A>,
     alloc: A,
 ) -> Result<Vec<u8, A>, ReadError>
     ensures { IfOk result (λ payload. IsEncodedAgain section.now.section payload.items) }
 {
-    let items = section.items(alloc)?;
+    let items = section.items()?;
     let mut payload = Vec::new(alloc);
     match encode_items(&items, &mut payload) {
         Ok(()) => Ok(payload),
@@ -79,7 +83,9 @@ pub fn encode_again<A: Allocator + Copy>(
 }
 
 /// Returns the first body of a code section, or `None` if it has none.
-pub fn first_body<'a>(section: &Section<'a>) -> Result<Option<CodeBody<'a>>, ReadError>
+pub fn first_body<'a, A: Allocator + Copy>(
+    section: &Section<'a, A>,
+) -> Result<Option<CodeBody<'a, A>>, ReadError>
     ensures { IfOk result (λ body. IfSome body (IsFirstBody section.now.section)) }
 {
     let mut bodies = section.bodies()?;
@@ -93,7 +99,7 @@ pub fn first_body<'a>(section: &Section<'a>) -> Result<Option<CodeBody<'a>>, Rea
 }
 
 /// Returns a body's offset in the module, and its length in bytes.
-pub fn place_of(body: &CodeBody<'_>) -> (usize, usize)
+pub fn place_of<A: Allocator + Copy>(body: &CodeBody<'_, A>) -> (usize, usize)
     ensures offset { result.0 ≡ body.now.offset }
     ensures length { result.1 ≡ length body.now.bytes }
 {
@@ -101,11 +107,11 @@ pub fn place_of(body: &CodeBody<'_>) -> (usize, usize)
 }
 
 /// Returns the number of instructions in a body.
-pub fn count_in_body<A: Allocator + Copy>(body: &CodeBody<'_>, alloc: A) -> Result<usize, ReadError>
+pub fn count_in_body<A: Allocator + Copy>(body: &CodeBody<'_, A>) -> Result<usize, ReadError>
     ensures found { IfOk result (λ n. (x : Body) × body_format standard body.now.bytes x × (length x.code ≡ n)) }
     ensures none { IfErr result (λ e. e.cause ≢ Memory → RejectsWhole body_format standard body.now.bytes) }
 {
-    let (_runs, mut instructions) = body.instructions(alloc)?;
+    let (_runs, mut instructions) = body.instructions()?;
     let mut count = 0;
     loop {
         match instructions.next() {

@@ -5,7 +5,6 @@ use crate::json;
 use crate::progress::Progress;
 use crate::sections::{Section, sections_of};
 use crate::words::Format;
-use dolzhytik::fallible::Global;
 use dolzhytik::reader::{ReadError, ReadFault, SectionKind};
 
 const HEAD: &str = "section  id     offset       size      items  decodes  name\n";
@@ -104,7 +103,7 @@ pub fn show(input: &Input, choice: Choice) -> Result<(), Failure> {
 
 /// Decodes each section.
 fn rows_of<'a>(input: &Input, module: &'a [u8]) -> Result<Vec<Row<'a>>, Failure> {
-    let row = |section: Section<'a>| match section.count(Global) {
+    let row = |section: Section<'a>| match section.count() {
         Err(error) if error.cause == ReadFault::Memory => Err(section.failure(input, error)),
         count => Ok(Row { section, count }),
     };

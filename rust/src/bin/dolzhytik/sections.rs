@@ -3,6 +3,7 @@ use crate::cursor::Cursor;
 use crate::failure::{BadSection, Failure, NamedSection};
 use crate::files::Input;
 use crate::found::Found;
+use dolzhytik::fallible::Global;
 use dolzhytik::reader::{self, ReadError, Sections};
 use std::fmt;
 use std::ops::Deref;
@@ -28,7 +29,7 @@ impl<'a> Deref for Section<'a> {
 
 /// Returns the sections of the module that was read from the input.
 pub fn sections_of<'a>(input: &Input, module: &'a [u8]) -> Result<Vec<Section<'a>>, Failure> {
-    let sections = Sections::new(module).map_err(|_| Failure::NoHeader {
+    let sections = Sections::new(Global, module).map_err(|_| Failure::NoHeader {
         input: input.clone(),
         found: Found::at_front(module),
     })?;

@@ -4,7 +4,6 @@ use crate::cursor::Cursor;
 use crate::failure::Failure;
 use crate::files::Input;
 use crate::sections::{HEADER, Section, sections_of};
-use dolzhytik::fallible::Global;
 use dolzhytik::reader::ReadError;
 use std::cmp::Reverse;
 use std::fmt::{self, Display};
@@ -84,7 +83,7 @@ fn largest<'a>(
     for section in sections {
         let decoded = match section.id() {
             // Imports that do not decode would leave indices unknown.
-            2 => section.count(Global).map(drop),
+            2 => section.count().map(drop),
             10 => add_sizes(section.cursor(), &mut sizes),
             _ => Ok(()),
         };

@@ -3,7 +3,6 @@ use crate::cursor::Cursor;
 use crate::failure::Failure;
 use crate::files::Input;
 use crate::sections::{HEADER, Section, sections_of};
-use dolzhytik::fallible::Global;
 use dolzhytik::reader::{Items, LinkItem, ReadError, Symbol};
 
 /// Which custom sections to remove.
@@ -102,7 +101,7 @@ fn target(mut cursor: Cursor<'_>) -> Result<Vec<u32>, ReadError> {
 /// decode.
 fn section_symbols(linking: &Section<'_>) -> Result<Vec<u32>, ReadError> {
     let mut indices = Vec::new();
-    if let Items::Linking(items) = linking.items(Global)? {
+    if let Items::Linking(items) = linking.items()? {
         let symbols = items.iter().filter_map(|item| match item {
             LinkItem::Symbols(symbols) => Some(symbols.as_slice()),
             _ => None,

@@ -14,12 +14,15 @@ use dolzhytik::reader::{CodeBody, Items, ReadError, Section, SectionKind, Sectio
 /// ```text
 /// ensures { IfOk result (λ payload. IfSome payload (λ p. BeginsWithPayload module.now p.now)) }
 /// ```
-pub fn first_payload(module: &[u8]) -> Result<Option<&[u8]>, ReadError> {
-    let mut sections = Sections::new(module)?;
+pub fn first_payload<A: Allocator + Copy>(
+    alloc: A,
+    module: &[u8],
+) -> Result<Option<&[u8]>, ReadError> {
+    let mut sections = Sections::new(alloc, module)?;
     match sections.next() {
         None => Ok(None),
         Some(section) => {
-            let section: Section<'_> = section?;
+            let section: Section<'_, A> = section?;
             Ok(Some(&module[section.range()]))
         }
     }
@@ -32,7 +35,7 @@ pub fn first_payload(module: &[u8]) -> Result<Option<&[u8]>, ReadError> {
 /// ```text
 /// ensures { IfOk result (λ n. n + length (ahead sections.new) ≡ length (ahead sections.old)) }
 /// ```
-pub fn skip_section(sections: &mut Sections<'_>) -> Result<usize, ReadError> {
+pub fn skip_section<A: Allocator + Copy>(sections: &mut Sections<'_, A>) -> Result<usize, ReadError> {
     match sections.next() {
         None => Ok(0),
         Some(section) => {
@@ -50,7 +53,9 @@ pub fn skip_section(sections: &mut Sections<'_>) -> Result<usize, ReadError> {
 /// ensures kind { result.0 ≡ known_kind_of section.now.section }
 /// ensures name { option_map (λ n. n.now) result.1 ≡ section.now.section.name }
 /// ```
-pub fn kind_and_name<'a>(section: &Section<'a>) -> (Option<SectionKind>, Option<&'a str>) {
+pub fn kind_and_name<'a, A: Allocator + Copy>(
+    section: &Section<'a, A>,
+) -> (Option<SectionKind>, Option<&'a str>) {
     (section.kind(), section.name())
 }
 
@@ -62,11 +67,10 @@ pub fn kind_and_name<'a>(section: &Section<'a>) -> (Option<SectionKind>, Option<
 /// ensures { IfOk result (λ x. x.1 ≡ number_in (contents_of x.0)) }
 /// ```
 pub fn items_and_count<'a, A: Allocator + Copy + 'a>(
-    section: &Section<'a>,
-    alloc: A,
+    section: &Section<'a, A>,
 ) -> Result<(Items<'a, A>, Option<u32>), ReadError> {
-    let items = section.items(alloc)?;
-    let count = section.count(alloc)?;
+    let items = section.items()?;
+    let count = section.count()?;
     Ok((items, count))
 }
 
@@ -78,10 +82,10 @@ pub fn items_and_count<'a, A: Allocator + Copy + 'a>(
 /// ensures { IfOk result (λ payload. IsEncodedAgain section.now.section payload.items) }
 /// ```
 pub fn encode_again<A: Allocator + Copy>(
-    section: &Section<'_>,
+    section: &Section<'_, A>,
     alloc: A,
 ) -> Result<Vec<u8, A>, ReadError> {
-    let items = section.items(alloc)?;
+    let items = section.items()?;
     let mut payload = Vec::new(alloc);
     match encode_items(&items, &mut payload) {
         Ok(()) => Ok(payload),
@@ -99,7 +103,9 @@ pub fn encode_again<A: Allocator + Copy>(
 /// ```text
 /// ensures { IfOk result (λ body. IfSome body (IsFirstBody section.now.section)) }
 /// ```
-pub fn first_body<'a>(section: &Section<'a>) -> Result<Option<CodeBody<'a>>, ReadError> {
+pub fn first_body<'a, A: Allocator + Copy>(
+    section: &Section<'a, A>,
+) -> Result<Option<CodeBody<'a, A>>, ReadError> {
     let mut bodies = section.bodies()?;
     if bodies.left() == 0 {
         return Ok(None);
@@ -118,7 +124,7 @@ pub fn first_body<'a>(section: &Section<'a>) -> Result<Option<CodeBody<'a>>, Rea
 /// ensures offset { result.0 ≡ body.now.offset }
 /// ensures length { result.1 ≡ length body.now.bytes }
 /// ```
-pub fn place_of(body: &CodeBody<'_>) -> (usize, usize) {
+pub fn place_of<A: Allocator + Copy>(body: &CodeBody<'_, A>) -> (usize, usize) {
     (body.offset(), body.bytes().len())
 }
 
@@ -130,8 +136,8 @@ pub fn place_of(body: &CodeBody<'_>) -> (usize, usize) {
 /// ensures found { IfOk result (λ n. (x : Body) × body_format standard body.now.bytes x × (length x.code ≡ n)) }
 /// ensures none { IfErr result (λ e. e.cause ≢ Memory → RejectsWhole body_format standard body.now.bytes) }
 /// ```
-pub fn count_in_body<A: Allocator + Copy>(body: &CodeBody<'_>, alloc: A) -> Result<usize, ReadError> {
-    let (_runs, mut instructions) = body.instructions(alloc)?;
+pub fn count_in_body<A: Allocator + Copy>(body: &CodeBody<'_, A>) -> Result<usize, ReadError> {
+    let (_runs, mut instructions) = body.instructions()?;
     let mut count = 0;
     loop {
         match instructions.next() {

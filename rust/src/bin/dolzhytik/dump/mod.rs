@@ -13,7 +13,6 @@ use crate::sections::{Section, sections_of};
 use crate::words::Format;
 use code::list_code;
 use custom::list_items;
-use dolzhytik::fallible::Global;
 use dolzhytik::reader::{ReadError, ReadFault};
 use items::Items;
 use listing::Listing;
@@ -92,7 +91,7 @@ fn list(
             list_section(input, section, &context, listing)
         } else if section.id() == 2 {
             // Imports that do not decode would leave indices unknown.
-            section.count(Global).map(drop).map_err(Stop::from)
+            section.count().map(drop).map_err(Stop::from)
         } else {
             Ok(())
         };
@@ -124,7 +123,7 @@ fn list_custom(
     section: &Section<'_>,
     listing: &mut Listing<impl Write>,
 ) -> Result<(), Stop> {
-    let is_listed = match section.items(Global) {
+    let is_listed = match section.items() {
         Ok(items) => list_items(&items, listing)?,
         Err(error) if error.cause == ReadFault::Memory => return Err(error.into()),
         Err(error) => {
