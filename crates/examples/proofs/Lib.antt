@@ -4,3 +4,4 @@ pub mod Branch
 pub mod DecodeBodies
 pub mod OneByte
 pub mod StrippedLaws
+pub mod IteratedLaws

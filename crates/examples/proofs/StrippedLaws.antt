@@ -1,8 +1,8 @@
 -- This file proves that a module without its custom sections decodes to the others.
-use Rattle.wasm_base.proofs.Words.{◌≡◌, ◌≢◌, ℕ, List, [], ◌∷◌, ◌++◌, length, Bool, true, false, if◌then◌else◌, refl, sym, ap, subst, ◌∙◌, ne_eqb}
+use Rattle.wasm_base.proofs.Words.{◌≡◌, ◌≢◌, ℕ, List, [], ◌∷◌, ◌++◌, length, Bool, true, false, if◌then◌else◌, ◌==◌, refl, sym, ap, subst, ◌∙◌, ne_eqb}
 use Rattle.wasm_base.proofs.Words.{append-nil, padded, any_section, header, members, wasm_module, Decodes, DecodesWhole, DecodesOneMore, members_start, members_step, whole_decodes}
 use Rattle.wasm_sections.proofs.Words.{prefixed_decodes}
-use Rattle.examples.specs.{not_custom, IsStripped}
+use Rattle.examples.specs.Stripped.{not_custom, IsStripped}
 
 -- The sections from `start` on, up to `rest`; the new bytes are a module of those that are not
 -- custom.

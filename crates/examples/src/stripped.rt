@@ -31,8 +31,12 @@ pub fn without_custom<A: Allocator + Copy>(bytes: &[u8], alloc: A) -> Result<Vec
             None => return Ok(kept.finish()),
             Some(section) => section?,
         };
-        if section.id() != 0 {
-            copy(&section, &mut kept)?;
+        if section.id() == 0 {
+            continue;
+        }
+        match copy(&section, &mut kept) {
+            Ok(()) => {}
+            Err(error) => return Err(error),
         }
     }
 }

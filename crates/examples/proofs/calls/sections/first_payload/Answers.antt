@@ -1,0 +1,17 @@
+use Rattle.wasm_base.proofs.Words.{ap, ap₂, sym, drop, ◌++◌, ◌∙◌, header}
+use Rattle.wasm_reader.specs.Words.{ahead}
+use Rattle.wasm_reader.proofs.IteratingLaws.{next_section}
+use Rattle.examples.proofs.IteratedLaws.{payload_sliced}
+use Rattle.examples.proofs.calls.sections.first_payload.Goals as goal
+
+pub returns-in_ok-section-in-Some : goal.returns-in_ok-section-in-Some
+returns-in_ok-section-in-Some g c =
+    let s = next_section c.in_ok-section-in-Some.was c.in-Some.ensures.steps in
+    let at = ap₂ drop s.offset (sym c.in_ok-sections.ensures.same) ∙ s.split in
+    record {
+      section = c.in_ok-section-in-Some.section.section;
+      rest = ahead c.next.new.self;
+      is_section = s.is_section;
+      split = c.in_ok-sections.ensures.found ∙ ap (λ z. header ++ z) s.split;
+      is = payload_sliced c.args.module.now _ _ c.in_ok-section-in-Some.section _ at s.is_section c.range.ensures.start c.range.ensures.end;
+    }
