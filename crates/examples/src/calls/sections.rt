@@ -6,6 +6,7 @@ ghost use Rattle.wasm_base.specs.Numbers.{standard};
 ghost use Rattle.wasm_base.specs.declared.fault.ReadFault.TheVariants.{Memory};
 ghost use Rattle.wasm_code.specs.Bodies.{Body, body as body_format};
 ghost use Rattle.wasm_reader.specs.Kinds.{contents_of, number_in};
+ghost use Rattle.wasm_reader.specs.Outlines.{bytes_of};
 ghost use Rattle.wasm_reader.specs.Iterating.{ahead, known_kind_of};
 ghost use Rattle.examples.specs.Iterated.{BeginsWithPayload, IsEncodedAgain, IsFirstBody};
 
@@ -41,6 +42,13 @@ pub fn skip_section<A: Allocator + Copy>(sections: &mut Sections<'_, A>) -> Resu
             Ok(sections.offset() - start)
         }
     }
+}
+
+/// Returns the length of a section in bytes, with its id and its size prefix.
+pub fn length_of<A: Allocator + Copy>(section: &Section<'_, A>) -> usize
+    ensures { result ≡ length (bytes_of section.now.section) }
+{
+    section.bytes().len()
 }
 
 /// Returns the kind and the name of a section.

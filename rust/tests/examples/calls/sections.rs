@@ -45,6 +45,17 @@ pub fn skip_section<A: Allocator + Copy>(sections: &mut Sections<'_, A>) -> Resu
     }
 }
 
+/// Returns the length of a section in bytes, with its id and its size prefix.
+///
+/// # Proved
+///
+/// ```text
+/// ensures { result ≡ length (bytes_of section.now.section) }
+/// ```
+pub fn length_of<A: Allocator + Copy>(section: &Section<'_, A>) -> usize {
+    section.bytes().len()
+}
+
 /// Returns the kind and the name of a section.
 ///
 /// # Proved
