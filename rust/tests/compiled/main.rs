@@ -5,7 +5,9 @@
 mod examples;
 
 use dolzhytik::fallible::Global;
-use examples::{compiled_module, object_module};
+use dolzhytik::reader::{ReadError, SectionKind, Sections};
+use dolzhytik::{CodeSection, Encode, Instruction, Module};
+use examples::{compiled_module, object_module, without_custom};
 use std::process::Command;
 
 /// Makes an instance of the module, and prints what its functions answer.
@@ -53,5 +55,48 @@ fn the_module_for_a_linker_is_valid() {
     let module = object_module(Global).expect("accepted");
     if let Some(counts) = printed(&module, CUSTOM_SECTIONS) {
         assert_eq!(counts, "1 1 1\n");
+    }
+}
+
+/// Returns the module with this instruction at the start of each function, as the page of `reader` edits one.
+fn with_first(instruction: &Instruction<'_>, module: &[u8]) -> Result<Vec<u8>, ReadError> {
+    let mut edited = Module::new();
+    for section in Sections::new(Global, module)? {
+        let section = section?;
+        if section.kind() != Some(SectionKind::Bodies) {
+            edited.section(&section);
+            continue;
+        }
+        let mut code = CodeSection::new();
+        for body in section.bodies()? {
+            let body = body?;
+            let (_, instructions) = body.instructions()?;
+            let (locals, expression) = body.bytes().split_at(instructions.offset());
+            let mut bytes = locals.to_vec();
+            instruction.encode(&mut bytes);
+            bytes.extend_from_slice(expression);
+            code.raw(&bytes);
+        }
+        edited.section(&code);
+    }
+    Ok(edited.finish())
+}
+
+#[test]
+fn functions_of_an_edited_module_are_called() {
+    let module = compiled_module(Global).expect("accepted");
+    let edited = with_first(&Instruction::Nop, &module).expect("a module");
+    assert!(edited.len() > module.len());
+    if let Some(answers) = printed(&edited, CALLS) {
+        assert_eq!(answers, ANSWERS);
+    }
+}
+
+#[test]
+fn a_module_without_custom_sections_has_none() {
+    let module = object_module(Global).expect("accepted");
+    let stripped = without_custom(&module, Global).expect("a module");
+    if let Some(counts) = printed(&stripped, CUSTOM_SECTIONS) {
+        assert_eq!(counts, "0 0 0\n");
     }
 }
