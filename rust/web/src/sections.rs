@@ -1,6 +1,7 @@
 //! The sections of a module by their numbers.
 #![forbid(unsafe_code)]
 
+use dolzhytik::fallible::Global;
 use dolzhytik::reader::Sections;
 
 /// The sections of a module from the one with this number, counted from 1, or `None` for the number
