@@ -1,6 +1,7 @@
 //! Each request for memory refused in turn.
 use crate::samples::{PADDED, PADDED_NAME, SHORT, SHORT_NAME, UNREAD, bytes_of, module};
-use dolzhytik::fallible::{AllocError, Allocator, Global, Refused, Vec};
+use crate::sections::first_section;
+use dolzhytik::fallible::{AllocError, Allocator, Refused, Vec};
 use dolzhytik::reader::{
     ModuleFault, Offsets, ReadError, ReadFault, Section, Sections, encode_items, outline,
     shorten_module,
@@ -135,11 +136,7 @@ fn of_encoded_items() {
     ];
     for (section, payload) in sections {
         let bytes = module(&[section]);
-        let section = Sections::new(Global, &bytes)
-            .unwrap()
-            .next()
-            .unwrap()
-            .unwrap();
+        let section = first_section(&bytes);
         let items = section.items().unwrap();
         first_granted(|alloc| {
             let mut sink = Vec::new(alloc);

@@ -1,7 +1,7 @@
 //! Iterating over the sections of a module, and over the bodies of a code section.
 use crate::samples::{PADDED, PADDED_NAME, SHORT, UNREAD, bytes_of, custom, module};
 use dolzhytik::fallible::{Global, Op, ValType};
-use dolzhytik::reader::{Items, ReadError, ReadFault, SectionKind, Sections, Step};
+use dolzhytik::reader::{Items, ReadError, ReadFault, Section, SectionKind, Sections, Step};
 
 fn error(cause: ReadFault, offset: usize) -> ReadError {
     ReadError { cause, offset }
@@ -139,15 +139,20 @@ fn headers() {
     assert_eq!(other.to_string(), "unexpected byte or value at offset 0x0");
 }
 
+/// The first section of a module.
+pub fn first_section(module: &[u8]) -> Section<'_> {
+    Sections::new(Global, module)
+        .unwrap()
+        .next()
+        .unwrap()
+        .unwrap()
+}
+
 /// A section alone, and what follows from its payload.
 #[track_caller]
 fn check_items(section: &str, count: Option<u32>, is_expected: impl Fn(&Items<'_>) -> bool) {
     let bytes = module(&[section]);
-    let section = Sections::new(Global, &bytes)
-        .unwrap()
-        .next()
-        .unwrap()
-        .unwrap();
+    let section = first_section(&bytes);
     assert_eq!(section.count(), Ok(count));
     let items = section.items().unwrap();
     assert!(is_expected(&items), "{items:?}");
@@ -190,11 +195,7 @@ fn items_and_their_number() {
 #[track_caller]
 fn check_unread(section: &str, expected: ReadError) {
     let bytes = module(&[section]);
-    let section = Sections::new(Global, &bytes)
-        .unwrap()
-        .next()
-        .unwrap()
-        .unwrap();
+    let section = first_section(&bytes);
     assert_eq!(section.count(), Err(expected));
     assert_eq!(section.items().unwrap_err(), expected);
 }
@@ -249,11 +250,7 @@ fn bodies_of_a_code_section() {
 #[track_caller]
 fn check_bodies(section: &str, whole: usize, expected: ReadError) {
     let bytes = module(&[section]);
-    let section = Sections::new(Global, &bytes)
-        .unwrap()
-        .next()
-        .unwrap()
-        .unwrap();
+    let section = first_section(&bytes);
     let mut bodies = section.bodies().unwrap();
     assert_eq!(
         bodies.by_ref().take(whole).filter(Result::is_ok).count(),
@@ -292,11 +289,7 @@ fn sections_without_bodies() {
 #[test]
 fn instructions_that_are_none() {
     let bytes = module(&["0a 06 02 00 03 00 ff 0b"]);
-    let code = Sections::new(Global, &bytes)
-        .unwrap()
-        .next()
-        .unwrap()
-        .unwrap();
+    let code = first_section(&bytes);
     let mut bodies = code.bodies().unwrap();
     let first = bodies.next().unwrap().unwrap();
     assert_eq!(first.instructions().unwrap_err(), ended_at(12));
