@@ -30,8 +30,8 @@ fn count(
         match by_library::<Standard>(section.framed, kind) {
             Ok(_) => counts.standard += 1,
             Err(error) => {
-                let offset = section.offset + section.payload.len() - error.left as usize;
-                println!("{path}: {kind}: {:?} at offset {offset:#x}", error.cause);
+                let offset = section.offset + section.payload.len() - error.left() as usize;
+                println!("{path}: {kind}: {:?} at offset {offset:#x}", error.cause());
             }
         }
     }
@@ -96,10 +96,13 @@ impl Damages {
             return;
         };
         self.rejected += 1;
-        match section.payload.len().checked_sub(error.left as usize) {
+        match section.payload.len().checked_sub(error.left() as usize) {
             None => self.outside += 1,
             Some(offset) if offset < first => {
-                *self.before.entry(format!("{:?}", error.cause)).or_default() += 1;
+                *self
+                    .before
+                    .entry(format!("{:?}", error.cause()))
+                    .or_default() += 1;
             }
             Some(_) => {}
         }

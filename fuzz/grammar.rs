@@ -208,18 +208,38 @@ fn is_not_zero(n: u64) -> bool {
     n != 0
 }
 
+/// The index of a memory that is explicit. Builders leave out that of memory 0.
+fn explicit_memory<G: Follow>(g: &mut G) -> Option<()> {
+    let is_in = match g.grammar() {
+        Grammar::Builders => is_not_zero,
+        Grammar::Standard => any,
+    };
+    g.number(32, is_in).map(|_| ())
+}
+
+/// A memory argument without the index of memory 0.
+fn without_index(bytes: &[u8]) -> Option<Vec<u8>> {
+    match bytes {
+        [flags, 0, rest @ ..] if flags & 0x40 != 0 => Some([&[flags & !0x40], rest].concat()),
+        _ => None,
+    }
+}
+
 fn memory_argument<G: Follow>(g: &mut G) -> Option<()> {
-    let flags = g.number(32, is_memory_flags)?;
-    if flags & 0x40 != 0 {
-        g.number(32, is_not_zero)?;
-    }
-    if flags & 0x20 != 0 {
-        u32_any(g)?;
-    }
-    if flags & 0x10 != 0 {
-        g.tag(&[0x00, 0x01, 0x11])?;
-    }
-    g.number(64, any).map(|_| ())
+    let argument = |g: &mut G| {
+        let flags = g.number(32, is_memory_flags)?;
+        if flags & 0x40 != 0 {
+            explicit_memory(g)?;
+        }
+        if flags & 0x20 != 0 {
+            u32_any(g)?;
+        }
+        if flags & 0x10 != 0 {
+            g.tag(&[0x00, 0x01, 0x11])?;
+        }
+        g.number(64, any).map(|_| ())
+    };
+    g.rewritten(argument, without_index)
 }
 
 fn catch<G: Follow>(g: &mut G) -> Option<()> {
@@ -305,15 +325,26 @@ fn body<G: Follow>(g: &mut G) -> Option<()> {
     })
 }
 
+/// A segment of memory 0 without its index.
+fn without_memory(bytes: &[u8]) -> Option<Vec<u8>> {
+    match bytes {
+        [2, 0, rest @ ..] => Some([&[0], rest].concat()),
+        _ => None,
+    }
+}
+
 fn segment<G: Follow>(g: &mut G) -> Option<()> {
-    let flag = g.number(32, |n| n < 3)?;
-    if flag == 2 {
-        g.number(32, is_not_zero)?;
-    }
-    if flag != 1 {
-        expression(g)?;
-    }
-    g.bytes()
+    let any_segment = |g: &mut G| {
+        let flag = g.number(32, |n| n < 3)?;
+        if flag == 2 {
+            explicit_memory(g)?;
+        }
+        if flag != 1 {
+            expression(g)?;
+        }
+        g.bytes()
+    };
+    g.rewritten(any_segment, without_memory)
 }
 
 fn element<G: Follow>(g: &mut G) -> Option<()> {

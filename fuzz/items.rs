@@ -11,10 +11,7 @@ use std::fmt::Debug;
 type Decoded<'a> = Result<(String, &'a [u8]), DecodeError>;
 
 fn wrong(rest: &[u8]) -> DecodeError {
-    DecodeError {
-        cause: ReadFault::UnknownTag,
-        left: rest.len() as u32,
-    }
+    ReadFault::UnknownTag.at(rest)
 }
 
 fn value<'a, T: Readable<'a, Global, G>, G: reader::Grammar>(
@@ -141,8 +138,5 @@ pub fn by_library<G: reader::Grammar>(
     if rest.is_empty() {
         return Ok((text, bytes.len() - behind.len()));
     }
-    Err(DecodeError {
-        cause: ReadFault::SizeMismatch,
-        left: rest.len() as u32,
-    })
+    Err(ReadFault::SizeMismatch.at(rest))
 }

@@ -19,8 +19,8 @@ fn agree<G: reader::Grammar>(bytes: &[u8], kind: &str, grammar: Grammar) -> (boo
             (is_same, true)
         }
         (None, Err(error)) => (
-            error.left as usize <= bytes.len()
-                && ![ReadFault::Memory, ReadFault::NotShortest].contains(&error.cause),
+            error.left() as usize <= bytes.len()
+                && ![ReadFault::Memory, ReadFault::NotShortest].contains(&error.cause()),
             false,
         ),
         _ => (false, false),

@@ -8,7 +8,7 @@ _dolzhytik() {
     dump) words='--section --json -h --help' ;;
     size) words='--functions --json -h --help' ;;
     strip) words='--all --debug --keep -o --output --force -h --help' ;;
-    shorten) words='-o --output --dry-run --drop-offsets --force -h --help' ;;
+    shorten) words='-o --output --dry-run --json --drop-offsets --keep-code --build-id --force -h --help' ;;
     build) words='-o --output --force -h --help' ;;
     help) words='-h --help' ;;
     esac
@@ -19,6 +19,8 @@ _dolzhytik() {
         words="$words $commands"
     elif [ "$before" = --section ]; then
         words=$sections
+    elif [ "$before" = --build-id ]; then
+        words='keep drop'
     elif [ "$before" = -o ] || [ "$before" = --output ] || [[ $word != -* ]]; then
         # Where there are no words, bash completes names of files.
         return

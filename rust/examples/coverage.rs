@@ -30,7 +30,7 @@ where
     let section = sections.iter().find(|section| section.id() == id as u8);
     let payload = section.map_or(&[0][..], |section| section.payload());
     let items = read_whole::<List<T>, Global, Standard>(payload, Global);
-    items.map_err(|error| format!("{id:?} section: {}", error.cause).into())
+    items.map_err(|error| format!("{id:?} section: {}", error.cause()).into())
 }
 
 /// Returns the numbers of imported functions and globals.
@@ -54,7 +54,7 @@ fn imported(sections: &[Part<'_>]) -> Result<(u32, u32)> {
 /// Returns the body with instructions that add 1 to the counter before its own.
 fn counted(body: &[u8], counter: u32) -> Result<Vec<u8>> {
     let visitor = Instructions::of_standard_body(body, Global);
-    let (_, visitor) = visitor.map_err(|error| format!("Code section: {}", error.cause))?;
+    let (_, visitor) = visitor.map_err(|error| format!("Code section: {}", error.cause()))?;
     let (locals, instructions) = body.split_at(visitor.offset());
     let mut counted = locals.to_vec();
     let mut sink = InstructionSink::new(&mut counted);

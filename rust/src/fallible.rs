@@ -64,13 +64,11 @@
 //! This module and [`reader`](crate::reader) are the repository's libraries with the contracts erased. Written by hand
 //! are only [`Allocator`], [`Vec`], [`String`], [`Sink`], their impls and errors, and [`hex`]. Every other function is
 //! proved to be safe, to return, and to keep what its page has under **Proved**, word for word. Trusted are the prover,
-//! the [definitions](https://github.com/dolzhytik/dolzhytik/tree/main/crates) in `specs/` that clauses cite,
-//! `tools/to-rust`, which erases the contracts, the code written by hand, and rustc with its library.
+//! the definitions that clauses name, `tools/to-rust`, which erases the contracts, the code written by hand, and rustc
+//! with its library.
 //!
-//! In a clause `self.old` and `self.new` are a value before and after the call, `x.now` is the value that a reference
-//! points to, `result` is the returned value, and `≡` is equality. `IfOk result (λ x. P)` says `P` of the value in `Ok`;
-//! `OnOk result P` says `P` if the result is `Ok`. **Defined** has the words of a trait's clauses, such as `encoding`,
-//! the encoding. The [glossary](https://github.com/dolzhytik/dolzhytik/blob/main/docs/GLOSSARY.md) has the other words.
+//! [`definitions`](crate::definitions) has these definitions, and says how to read clauses. **Defined** has the words of
+//! a trait's clauses, such as `encoding`, the encoding.
 //!
 //! # Instructions
 //!

@@ -8,6 +8,7 @@
 //! - [`Encode`] and [`Section`] are the traits of what can be encoded: implement them for your own.
 //! - [`fallible`] has the proved builders, and the list of what calls ask of their callers.
 //! - [`reader`] decodes modules: begin with [`reader::Sections`].
+//! - [`definitions`] says what the words of contracts mean.
 #![no_std]
 #![forbid(unsafe_code)]
 
@@ -28,6 +29,9 @@ compile_error!(
 compile_error!("there are no components: keep `wasm-encoder` beside this package for them");
 
 mod alloc;
+#[cfg(doc)]
+#[rustfmt::skip]
+pub mod definitions;
 mod drop_in;
 #[doc(alias = "allocator")]
 #[doc(alias = "out of memory")]

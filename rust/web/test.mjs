@@ -132,7 +132,7 @@ test('a section that does not decode is kept', () => {
 test('custom sections that hold offsets', () => {
   const code = '0a 84 00 01 02 00 0b';
   const module = moduleOf(code, '00 08 072e64656275675f');
-  const cause = 'holds offsets that would no longer lead where they do; dropOffsets leaves such sections out';
+  const cause = 'holds offsets that would become wrong; dropOffsets drops such sections';
   checkError(() => minimize(module), `section 2, ".debug_", ${cause}`, cause, { offset: 15 });
   checkError(() => minimize(module, { dropOffsets: false }), `section 2, ".debug_", ${cause}`, cause, { offset: 15 });
   assert.deepEqual(minimize(module, { dropOffsets: true }), moduleOf('0a 04 01 02 00 0b'));

@@ -5,3 +5,4 @@ pub mod DecodeBodies
 pub mod OneByte
 pub mod StrippedLaws
 pub mod IteratedLaws
+pub mod CoverageLaws

@@ -8,6 +8,7 @@ pub mod Adding
 pub mod Lowering
 pub mod Trees
 pub mod Compiled
+pub mod Coverage
 pub mod Object
 pub mod Large
 pub mod Customs

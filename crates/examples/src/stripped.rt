@@ -52,7 +52,7 @@ fn refused_at(offset: usize) -> ReadError
 }
 
 /// Appends a section to the module as it is.
-fn copy<A: Allocator + Copy>(
+pub(crate) fn copy<A: Allocator + Copy>(
     section: &Section<'_, A>,
     module: &mut Module<A>,
 ) -> Result<(), ReadError>

@@ -50,7 +50,7 @@ heap_is =
     values_one_of IsHeap (λ mode s x h. subst IsHeap h.1 tt)
     (values_one_of IsHeap (values_tagged IsHeap heap_tags (λ mode s x h. subst IsHeap h.1 tt, (λ mode s x h. subst IsHeap h.1 h.2.range, tt))) (λ mode s x h. subst IsHeap h.1 (index_is mode s h.0 h.2)))
 
-values_by_mode : {X : Type 0} (Q : X → Type 0) {F G H : Format X} → AllValues Q F → AllValues Q G → AllValues Q H → AllValues Q (by_mode F G H)
+pub values_by_mode : {X : Type 0} (Q : X → Type 0) {F G H : Format X} → AllValues Q F → AllValues Q G → AllValues Q H → AllValues Q (by_mode F G H)
 values_by_mode Q f g h minimal = f minimal
 values_by_mode Q f g h padded = f padded
 values_by_mode Q f g h standard_minimal = g standard_minimal

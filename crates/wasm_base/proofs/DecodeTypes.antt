@@ -7,7 +7,7 @@ use Rattle.wasm_base.specs.declared.types.AbstractHeapType.{AbstractHeapType}
 use Rattle.wasm_base.specs.declared.types.HeapType.{HeapType}
 use Rattle.wasm_base.specs.declared.types.RefType.{RefType}
 use Rattle.wasm_base.specs.declared.types.ValType.{ValType}
-use Rattle.wasm_base.specs.declared.fault.DecodeError.{DecodeError}
+use Rattle.wasm_base.specs.{Failure}
 use Rattle.wasm_base.specs.declared.types.HeapType.TheVariants.{Abstract, Concrete, Exact}
 use Rattle.wasm_base.specs.declared.types.ValType.TheVariants.{I32, I64, F32, F64, V128, Ref}
 use Rattle.wasm_base.proofs.FormatLaws.{byte_unambiguous}
@@ -231,7 +231,7 @@ ref_type_none bytes none = no_bytes IsRefByte ref_type ref_begins none
 pub ref_type_rejects : {m : Mode} (bytes rest : List ℕ) (b : ℕ) → Decodes byte m bytes b rest → Rejects (after_byte ref_type b) m rest → Rejects ref_type m bytes
 ref_type_rejects bytes rest b h none = after_rejects IsRefByte ref_type ref_begins h none
 
-pub ref_type_fails : {m : Mode} {T : Type 0} (bytes rest : List ℕ) (b : ℕ) (r : Result T DecodeError) → Decodes byte m bytes b rest → IfErr r (λ e. e.cause ≢ Memory → Rejects (after_byte ref_type b) m rest) → IfErr r (λ e. e.cause ≢ Memory → Rejects ref_type m bytes)
+pub ref_type_fails : {m : Mode} {T : Type 0} (bytes rest : List ℕ) (b : ℕ) (r : Result T Failure) → Decodes byte m bytes b rest → IfErr r (λ e. e.cause ≢ Memory → Rejects (after_byte ref_type b) m rest) → IfErr r (λ e. e.cause ≢ Memory → Rejects ref_type m bytes)
 ref_type_fails bytes rest b r h = if_err_more r λ e none n. ref_type_rejects bytes rest b h (none n)
 
 pub ruleset ref_type_steps = (ref_type_decodes, ref_type_none, ref_type_rejects)
@@ -282,7 +282,7 @@ val_type_none bytes none = no_bytes IsValByte val_type val_begins none
 pub val_type_rejects : {m : Mode} (bytes rest : List ℕ) (b : ℕ) → Decodes byte m bytes b rest → Rejects (after_byte val_type b) m rest → Rejects val_type m bytes
 val_type_rejects bytes rest b h none = after_rejects IsValByte val_type val_begins h none
 
-pub val_type_fails : {m : Mode} {T : Type 0} (bytes rest : List ℕ) (b : ℕ) (r : Result T DecodeError) → Decodes byte m bytes b rest → IfErr r (λ e. e.cause ≢ Memory → Rejects (after_byte val_type b) m rest) → IfErr r (λ e. e.cause ≢ Memory → Rejects val_type m bytes)
+pub val_type_fails : {m : Mode} {T : Type 0} (bytes rest : List ℕ) (b : ℕ) (r : Result T Failure) → Decodes byte m bytes b rest → IfErr r (λ e. e.cause ≢ Memory → Rejects (after_byte val_type b) m rest) → IfErr r (λ e. e.cause ≢ Memory → Rejects val_type m bytes)
 val_type_fails bytes rest b r h = if_err_more r λ e none n. val_type_rejects bytes rest b h (none n)
 
 pub ruleset val_type_steps = (val_type_decodes, val_type_none, val_type_rejects)

@@ -1,11 +1,11 @@
 -- This file proves that an error remains true when a call propagates it.
 use Rattle.wasm_base.proofs.Std.{◌≡◌, ◌≢◌, Result, Ok, Err, IfErr, IsErrAnd, ap, ◌∙◌}
 use Rattle.std.proofs.Common.{IfOk}
-use Rattle.wasm_base.specs.declared.fault.DecodeError.{DecodeError}
+use Rattle.wasm_base.specs.{Failure}
 use Rattle.wasm_base.specs.declared.fault.ReadFault.TheVariants.{Memory}
 
 -- `?` propagates the error.
-pub fault_stays : {T P : Type 0} (r : Result T DecodeError) (f : DecodeError) → IsErrAnd r (λ y. y ≡ f) → (f.cause ≢ Memory → P) → IfErr r (λ e. e.cause ≢ Memory → P)
+pub fault_stays : {T P : Type 0} (r : Result T Failure) (f : Failure) → IsErrAnd r (λ y. y ≡ f) → (f.cause ≢ Memory → P) → IfErr r (λ e. e.cause ≢ Memory → P)
 fault_stays (Ok x) f h p = elim h [ ]
 fault_stays (Err e) f h p = λ n. p (λ k. n (ap (λ e. e.cause) h ∙ k))
 
@@ -19,6 +19,6 @@ if_err_more (Ok x) f p = p
 if_err_more (Err e) f p = f e p
 
 -- The error `Memory` implies nothing about the bytes.
-pub memory_stays : {T : Type 0} (P : Type 0) (r : Result T DecodeError) → IsErrAnd r (λ y. y.cause ≡ Memory) → IfErr r (λ e. e.cause ≢ Memory → P)
+pub memory_stays : {T : Type 0} (P : Type 0) (r : Result T Failure) → IsErrAnd r (λ y. y.cause ≡ Memory) → IfErr r (λ e. e.cause ≢ Memory → P)
 memory_stays P (Ok x) h = elim h [ ]
 memory_stays P (Err e) h = λ n. absurd (n h)

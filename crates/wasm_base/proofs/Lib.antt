@@ -35,5 +35,6 @@ pub mod DecodeVectors
 pub mod DecodeWhole
 pub mod DecodedValues
 pub mod Faults
+pub mod FaultWords
 pub mod MinimalEncodings
 pub mod SkipLaws

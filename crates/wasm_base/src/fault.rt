@@ -4,6 +4,8 @@ ghost use Rattle.wasm_base.specs.declared.fault.ReadFault.TheVariants.{Memory};
 
 use crate::refused::Refused;
 use std::alloc::{AllocError, AllocFailed};
+use std::fmt;
+use std::marker::Model;
 use thiserror::Error;
 
 /// The cause of a failed decoding. Any cause but `Memory` means that the bytes encode no such
@@ -37,14 +39,28 @@ pub enum ReadFault {
 }
 
 /// The cause of a failed decoding, and its place.
-#[derive(Clone, Copy, PartialEq, Eq, Debug)]
+///
+/// Both are in one number of 64 bits, so that a result with a slice has two words, and the slice's
+/// address is moved as a whole.
+#[derive(Clone, Copy, PartialEq, Eq)]
 pub struct DecodeError {
-    pub cause: ReadFault,
-    /// The number of bytes from the first one that cannot be part of an encoding to the end of the
-    /// input, or from the end of a payload that ends too soon; 4294967295 if there are more. It
-    /// means nothing for `Memory`. Tests show it; no contract says it. It has 32 bits so that a
-    /// result with a slice fits two registers.
-    pub left: u32,
+    /// The place times 256, and the number of the cause.
+    word: u64,
+}
+
+impl Model for DecodeError {
+    ghost use Rattle.std.proofs.Common.{ap};
+    ghost use Rattle.wasm_base.specs.Faults.{Failure, failure_of, word_of, IsWord};
+
+    ghost Value = { Failure };
+
+    ghost view = { λ e. failure_of e.word };
+
+    ghost invariant = { λ e. IsWord e.word };
+
+    ghost inverse = { λ f. record { word = word_of f } };
+
+    ghost inverse_ok = { λ e h. ap (λ w. record { word = w }) h.is_number };
 }
 
 /// Returns the length of the bytes, or 4294967295 if it is greater.
@@ -59,10 +75,7 @@ impl ReadFault {
     pub fn at(self, rest: &[u8]) -> DecodeError
         ensures { result.cause ≡ self }
     {
-        DecodeError {
-            cause: self,
-            left: length(rest),
-        }
+        DecodeError::new(self, length(rest))
     }
 
     /// Returns the error with this cause at the byte just before the remaining bytes.
@@ -71,36 +84,74 @@ impl ReadFault {
     pub fn just_before(self, rest: &[u8]) -> DecodeError
         ensures { result.cause ≡ self }
     {
-        DecodeError {
-            cause: self,
-            left: length(rest).saturating_add(1),
-        }
+        DecodeError::new(self, length(rest).saturating_add(1))
     }
 }
 
 impl DecodeError {
+    /// Returns the error with this cause and this place.
+    #[tactic(auto, using(crate::proofs::FaultWords::failure_again, crate::proofs::FaultWords::is_word))]
+    fn new(cause: ReadFault, left: u32) -> DecodeError
+        ensures { result ≡ record { cause = cause; left = left } }
+    {
+        DecodeError {
+            word: u64::from(left) * 256 + cause as u64,
+        }
+    }
+
+    /// Returns the cause.
+    #[tactic(auto, using(crate::proofs::FaultWords::other_cause))]
+    pub fn cause(self) -> ReadFault
+        ensures { result ≡ self.cause }
+    {
+        match self.word % 256 {
+            0 => ReadFault::Ended,
+            1 => ReadFault::NotShortest,
+            2 => ReadFault::TooLarge,
+            3 => ReadFault::UnknownTag,
+            4 => ReadFault::UnknownOpcode,
+            5 => ReadFault::NotUtf8,
+            6 => ReadFault::SizeMismatch,
+            _ => ReadFault::Memory,
+        }
+    }
+
+    /// Returns the place: the number of bytes from the first one that cannot be part of an encoding
+    /// to the end of the input, or from the end of a payload that ends too soon; 4294967295 if
+    /// there are more. It means nothing for `Memory`. Tests show it; no contract says it.
+    pub fn left(self) -> u32
+        ensures { result ≡ self.left }
+    {
+        (self.word / 256) as u32
+    }
+
     /// Returns the error of a decoder whose input is followed by these bytes.
     pub fn before(self, rest: &[u8]) -> DecodeError
         ensures { result.cause ≡ self.cause }
     {
-        DecodeError {
-            cause: self.cause,
-            left: self.left.saturating_add(length(rest)),
-        }
+        DecodeError::new(self.cause(), self.left().saturating_add(length(rest)))
     }
 }
 
-/// The error of a failed allocation, which has no place.
-const NO_MEMORY: DecodeError = DecodeError {
-    cause: ReadFault::Memory,
-    left: 0,
-};
+impl fmt::Debug for DecodeError {
+    fn fmt<W: fmt::Write>(&self, f: &mut fmt::Formatter<W>) -> fmt::Result {
+        let (cause, left) = (self.cause(), self.left());
+        write!(f, "DecodeError {{ cause: {cause:?}, left: {left} }}")
+    }
+}
+
+/// Returns the error of a failed allocation, which has no place.
+fn no_memory() -> DecodeError
+    ensures { result.cause ≡ Memory }
+{
+    DecodeError::new(ReadFault::Memory, 0)
+}
 
 impl From<AllocError> for DecodeError {
     ghost from_gives = { λ _ error. error.cause ≡ Memory };
 
     fn from(_error: AllocError) -> DecodeError {
-        NO_MEMORY
+        no_memory()
     }
 }
 
@@ -108,7 +159,7 @@ impl<T: Drop> From<AllocFailed<T>> for DecodeError {
     ghost from_gives = { λ _ error. error.cause ≡ Memory };
 
     fn from(_failed: AllocFailed<T>) -> DecodeError {
-        NO_MEMORY
+        no_memory()
     }
 }
 
@@ -120,7 +171,7 @@ impl From<Refused> for DecodeError {
     ghost from_gives = { λ _ error. error.cause ≡ Memory };
 
     fn from(_refused: Refused) -> DecodeError {
-        NO_MEMORY
+        no_memory()
     }
 }
 
@@ -153,6 +204,6 @@ impl From<DecodeError> for ReadFault {
     ghost from_gives = { λ error fault. fault ≡ error.cause };
 
     fn from(error: DecodeError) -> ReadFault {
-        error.cause
+        error.cause()
     }
 }

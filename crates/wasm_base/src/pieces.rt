@@ -1,5 +1,6 @@
 // The buffer of a builder, in which its entries are encoded.
 ghost use Rattle.std.specs.Prelude.{◌≡◌, ◌≢◌, ℕ, ◌≤◌, List, [], ◌∷◌, length, IfOk, IsTrue, ◌↔◌, slice_get, slice_index, ⊤};
+ghost use Rattle.std.specs.Bool.{Decides};
 ghost use Rattle.std.specs.Option.{option_copied};
 ghost use Rattle.wasm_base.specs.Calls.{Adds};
 ghost use Rattle.wasm_base.specs.Once.{AddsOnce};
@@ -68,6 +69,14 @@ impl<A: Allocator> Pieces<A> {
         self.ends.is_empty()
     }
 
+    /// Returns `true` if there are as many entries as a count of 32 bits represents.
+    #[inline]
+    fn is_full(&self) -> bool
+        ensures { Decides result (length self.now ≡ longest) }
+    {
+        self.len() == u32::MAX
+    }
+
     /// Returns the bytes of the entries, one entry after another.
     pub fn bytes(&self) -> &[u8]
         ensures { result.now ≡ joined self.now }
@@ -94,7 +103,7 @@ impl<A: Allocator> Pieces<A> {
     pub fn add(&mut self, entry: &[u8]) -> Result<()>
         ensures { Adds entry.now ⊤ self.old self.new result }
     {
-        if self.ends.len() >= MOST_ENTRIES {
+        if self.is_full() {
             return Err(Refused::TooLong);
         }
         self.ends.reserve(1)?;
@@ -110,7 +119,7 @@ impl<A: Allocator> Pieces<A> {
     pub fn add_encoded<T: Encode>(&mut self, item: &T) -> Result<()>
         ensures { Adds (T.encoding item.now) (T.encodable item.now) self.old self.new result }
     {
-        if self.ends.len() >= MOST_ENTRIES {
+        if self.is_full() {
             return Err(Refused::TooLong);
         }
         self.ends.reserve(1)?;
@@ -128,7 +137,7 @@ impl<A: Allocator> Pieces<A> {
         requires { T.lawful item }
         ensures { AddsOnce (T.gives item) (T.encodable item) self.old self.new result }
     {
-        if self.ends.len() >= MOST_ENTRIES {
+        if self.is_full() {
             return Err(Refused::TooLong);
         }
         self.ends.reserve(1)?;
@@ -138,9 +147,6 @@ impl<A: Allocator> Pieces<A> {
         Ok(())
     }
 }
-
-/// The largest number of entries, which a count of 32 bits represents.
-const MOST_ENTRIES: usize = 4294967295;
 
 impl<A: Allocator + Copy> Pieces<A> {
     /// Returns no entries, without an allocation.

@@ -21,7 +21,10 @@ enum dz_recipe_cause {
     DZ_MISSING_WORD = 4,
     DZ_RECIPE_OUT_OF_MEMORY = 5,
     DZ_TOO_LONG = 6,
-    DZ_NOT_TEXT = 7
+    DZ_NOT_TEXT = 7,
+    DZ_SURPLUS_WORD = 8,
+    DZ_UNKNOWN_TYPE = 9,
+    DZ_UNUSED_LOCALS = 10
 };
 
 /* What is wrong with the bytes of a section or a module. dz_cause gives the text. DZ_NOT_SHORTEST is never given, since padded numbers are read; DZ_NO_KIND by
@@ -89,10 +92,13 @@ typedef struct {
    that is not null will do); nobody else reads or writes what the call writes; and nothing that it writes overlaps anything else that is
    handed in. */
 
-/* Assembles a recipe. Answers how many bytes the module has, and copies them to the front of `out` where it has room for all of them. Where there
+/* Assembles a recipe of version 1. Answers how many bytes the module has, and copies them to the front of `out` where it has room for all of them. Where there
    is no module the answer is DZ_NO_ANSWER, `out` is as it was, `*line` is the line of the first fault, counted from 1, or 0, and `*cause` is
    one of dz_recipe_cause. Else both are 0. */
 uint64_t dz_assemble(const uint8_t *recipe, size_t recipe_len, uint8_t *out, size_t out_len, uint64_t *line, uint32_t *cause);
+
+/* The same for a recipe of version 1 or 2. The causes from DZ_SURPLUS_WORD on are those of version 2. */
+uint64_t dz_assemble_versioned(const uint8_t *recipe, size_t recipe_len, uint8_t *out, size_t out_len, uint64_t *line, uint32_t *cause);
 
 /* Lists the sections of a module. Answers how many there are, and copies them to the front of `out` where it has room for all of them. Where the bytes
    are no module the answer is DZ_NO_ANSWER, `out` is as it was, `*place` is the number of the section at which they are none, counted from 1, or 0 for

@@ -11,7 +11,10 @@ fault_texts =
 
 -- The texts of errors in a recipe, in the order of their numbers.
 abbrev pub recipe_texts : List (List ℕ)
-recipe_texts = codes "unknown command" ∷ codes "bad number" ∷ codes "bad hex" ∷ codes "missing word" ∷ codes "out of memory" ∷ codes "too long" ∷ codes "not text" ∷ []
+recipe_texts =
+    codes "unknown command" ∷ codes "bad number" ∷ codes "bad hex" ∷ codes "missing word" ∷ codes "out of memory" ∷ codes "too long" ∷ codes "not text"
+    ∷ codes "surplus word" ∷ codes "unknown type" ∷ codes "locals without a body"
+    ∷ []
 
 -- The text of a number, counted from 1.
 abbrev pub text_numbered : List (List ℕ) → ℕ → Option (List ℕ)

@@ -36,6 +36,9 @@ fn recipe_text(cause: u32) -> Option<&'static str>
         5 => Some("out of memory"),
         6 => Some("too long"),
         7 => Some("not text"),
+        8 => Some("surplus word"),
+        9 => Some("unknown type"),
+        10 => Some("locals without a body"),
         _ => None,
     }
 }
@@ -54,8 +57,9 @@ pub extern "C" fn dz_cause(cause: u32, out: &mut [u8]) -> u64
     }
 }
 
-/// Writes the message of a cause of [`dz_assemble`](crate::recipes::dz_assemble), in ASCII and
-/// without a terminating NUL. Returns its length in bytes, or [`NO_ANSWER`] for any other number.
+/// Writes the message of a cause of [`dz_assemble`](crate::recipes::dz_assemble) or
+/// [`dz_assemble_versioned`](crate::recipes::dz_assemble_versioned), in ASCII and without a
+/// terminating NUL. Returns its length in bytes, or [`NO_ANSWER`] for any other number.
 #[unsafe(no_mangle)]
 pub extern "C" fn dz_recipe_cause(cause: u32, out: &mut [u8]) -> u64
     ensures { Determines (text_numbered recipe_texts cause) out.old out.new result }

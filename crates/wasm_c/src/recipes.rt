@@ -1,10 +1,11 @@
 // Recipes, for C.
-ghost use Rattle.std.specs.Prelude.{◌≡◌};
+ghost use Rattle.std.specs.Prelude.{◌≡◌, MatchResult};
 ghost use Rattle.wasm_c.specs.Assembled.{Gives, cause_number, Outcome};
+ghost use Rattle.wasm_tool.specs.Lines.{first_script, versioned_script};
 
 use crate::NO_ANSWER;
 use std::alloc::Global;
-use wasm_tool::{RecipeCause, assemble};
+use wasm_tool::{RecipeCause, RecipeFault, assemble, assemble_versioned};
 
 /// The number of the cause of a recipe that is not UTF-8.
 const NOT_TEXT: u32 = 7;
@@ -20,6 +21,9 @@ pub(crate) fn number_of(cause: RecipeCause) -> u32
         RecipeCause::MissingWord => 4,
         RecipeCause::Memory => 5,
         RecipeCause::TooLong => 6,
+        RecipeCause::SurplusWord => 8,
+        RecipeCause::UnknownType => 9,
+        RecipeCause::UnusedLocals => 10,
     }
 }
 
@@ -35,7 +39,26 @@ pub(crate) fn copied(bytes: &[u8], out: &mut [u8]) -> u64
     count as u64
 }
 
-/// Assembles a recipe. Returns the length of the module in bytes.
+/// Returns the length of the module, which it copies, or sets the line and the cause of the error.
+fn answer_of(
+    assembled: Result<Vec<u8>, RecipeFault>,
+    out: &mut [u8],
+    line: &mut u64,
+    cause: &mut u32,
+) -> u64
+    ensures { MatchResult assembled (λ bytes. Gives bytes.items out.old out.new result × (line.new ≡ line.old) × (cause.new ≡ cause.old)) (λ fault. (result ≡ NO_ANSWER) × (out.new ≡ out.old) × (line.new ≡ fault.line) × (cause.new ≡ cause_number fault.cause)) }
+{
+    match assembled {
+        Ok(bytes) => copied(&bytes, out),
+        Err(fault) => {
+            *line = fault.line as u64;
+            *cause = number_of(fault.cause);
+            NO_ANSWER
+        }
+    }
+}
+
+/// Assembles a recipe of version 1. Returns the length of the module in bytes.
 ///
 /// On an error, `line` is the first line with an error, counted from 1, or 0, and `cause` is the
 /// number of the error. On success both are 0.
@@ -47,7 +70,7 @@ pub extern "C" fn dz_assemble(
     line: &mut u64,
     cause: &mut u32,
 ) -> u64
-    ensures { Outcome recipe.now out.old out.new line.new cause.new result }
+    ensures { Outcome (first_script recipe.now) recipe.now out.old out.new line.new cause.new result }
 {
     *line = 0;
     *cause = 0;
@@ -55,12 +78,25 @@ pub extern "C" fn dz_assemble(
         *cause = NOT_TEXT;
         return NO_ANSWER;
     };
-    match assemble(alloc, text) {
-        Ok(bytes) => copied(&bytes, out),
-        Err(fault) => {
-            *line = fault.line as u64;
-            *cause = number_of(fault.cause);
-            NO_ANSWER
-        }
-    }
+    answer_of(assemble(alloc, text), out, line, cause)
+}
+
+/// Assembles a recipe of version 1 or 2, as [`dz_assemble`] does one of version 1.
+#[unsafe(no_mangle)]
+pub extern "C" fn dz_assemble_versioned(
+    alloc: Global,
+    recipe: &[u8],
+    out: &mut [u8],
+    line: &mut u64,
+    cause: &mut u32,
+) -> u64
+    ensures { Outcome (versioned_script recipe.now) recipe.now out.old out.new line.new cause.new result }
+{
+    *line = 0;
+    *cause = 0;
+    let Ok(text) = str::from_utf8(recipe) else {
+        *cause = NOT_TEXT;
+        return NO_ANSWER;
+    };
+    answer_of(assemble_versioned(alloc, text), out, line, cause)
 }

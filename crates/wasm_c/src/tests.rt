@@ -4,7 +4,7 @@ use crate::causes::{dz_cause, dz_recipe_cause};
 use crate::listing::{DzSection, dz_list, number_of as fault_number};
 use crate::minimal::dz_shorten;
 use crate::outlining::{DzOutlined, dz_outline};
-use crate::recipes::{dz_assemble, number_of as cause_number};
+use crate::recipes::{dz_assemble, dz_assemble_versioned, number_of as cause_number};
 use crate::whole::dz_shorten_module;
 use std::alloc::Global;
 use std::process::Abort;
@@ -39,6 +39,39 @@ fn recipes(rt: HostRuntime) {
     check_recipe(&rt, alloc, b"", &mut [], (8, 0, 0), &[]);
     check_recipe(&rt, alloc, b"\nbody 0", &mut [9], (NO_ANSWER, 2, 3), &[9]);
     check_recipe(&rt, alloc, &[0xFF], &mut [9], (NO_ANSWER, 0, 7), &[9]);
+}
+
+/// Checks the result of a recipe of version 1 or 2, and the content of `room` afterwards.
+fn check_versioned(
+    rt: &impl Abort,
+    alloc: Global,
+    recipe: &[u8],
+    room: &mut [u8],
+    expected: (u64, u64, u32),
+    left: &[u8],
+) {
+    let mut line = 7;
+    let mut cause = 7;
+    let answer = dz_assemble_versioned(alloc, recipe, room, &mut line, &mut cause);
+    assert_eq!(rt; (answer, line, cause), expected);
+    assert_eq!(rt; &*room, left);
+}
+
+#[test]
+fn versions(rt: HostRuntime) {
+    let alloc = rt.alloc();
+    let second = b"version 2\nbody 0b # end";
+    check_versioned(&rt, alloc, second, &mut [0; 14], (14, 0, 0), MODULE);
+    check_versioned(&rt, alloc, second, &mut [9; 3], (14, 0, 0), &[9; 3]);
+    check_versioned(&rt, alloc, b"body 0b 0", &mut [0; 14], (14, 0, 0), MODULE);
+    let surplus = b"version 2\nbody 0b 0";
+    check_versioned(&rt, alloc, surplus, &mut [9], (NO_ANSWER, 2, 8), &[9]);
+    let unknown = b"version 2\nlocals 1 a";
+    check_versioned(&rt, alloc, unknown, &mut [9], (NO_ANSWER, 2, 9), &[9]);
+    let unused = b"version 2\nlocals 1 i32";
+    check_versioned(&rt, alloc, unused, &mut [9], (NO_ANSWER, 0, 10), &[9]);
+    check_versioned(&rt, alloc, &[0xFF], &mut [9], (NO_ANSWER, 0, 7), &[9]);
+    check_recipe(&rt, alloc, second, &mut [9], (NO_ANSWER, 1, 1), &[9]);
 }
 
 /// Checks the result of a module's listing: the number of sections, the section number and the
@@ -353,7 +386,7 @@ const FAULT_TEXTS: [TextRow; 10] = [
 ];
 
 /// The messages of errors of recipes.
-const RECIPE_TEXTS: [TextRow; 7] = [
+const RECIPE_TEXTS: [TextRow; 10] = [
     TextRow {
         cause: 1,
         text: b"unknown command",
@@ -381,6 +414,18 @@ const RECIPE_TEXTS: [TextRow; 7] = [
     TextRow {
         cause: 7,
         text: b"not text",
+    },
+    TextRow {
+        cause: 8,
+        text: b"surplus word",
+    },
+    TextRow {
+        cause: 9,
+        text: b"unknown type",
+    },
+    TextRow {
+        cause: 10,
+        text: b"locals without a body",
     },
 ];
 
@@ -412,14 +457,14 @@ fn texts_of_faults(rt: HostRuntime) {
 #[test]
 fn texts_of_recipe_causes(rt: HostRuntime) {
     for row in &RECIPE_TEXTS {
-        let mut room = [9; 20];
+        let mut room = [9; 24];
         let answer = dz_recipe_cause(row.cause, &mut room);
         check_told(&rt, answer, &room, row.text);
     }
     let mut little = [9; 4];
     assert_eq!(rt; dz_recipe_cause(7, &mut little), 8);
     assert_eq!(rt; dz_recipe_cause(0, &mut little), NO_ANSWER);
-    assert_eq!(rt; dz_recipe_cause(8, &mut little), NO_ANSWER);
+    assert_eq!(rt; dz_recipe_cause(11, &mut little), NO_ANSWER);
     assert_eq!(rt; little, [9; 4]);
     assert_eq!(rt; dz_recipe_cause(7, &mut []), 8);
 }
@@ -437,13 +482,16 @@ const FAULTS: [ReadFault; 8] = [
 ];
 
 /// The causes of a recipe's error.
-const CAUSES: [RecipeCause; 6] = [
+const CAUSES: [RecipeCause; 9] = [
     RecipeCause::UnknownCommand,
     RecipeCause::BadNumber,
     RecipeCause::BadHex,
     RecipeCause::MissingWord,
     RecipeCause::Memory,
     RecipeCause::TooLong,
+    RecipeCause::SurplusWord,
+    RecipeCause::UnknownType,
+    RecipeCause::UnusedLocals,
 ];
 
 /// The messages are those that the errors and causes print themselves.
@@ -457,7 +505,7 @@ fn texts_that_are_printed(rt: HostRuntime) {
     }
     for cause in CAUSES {
         let said = format!(in rt.alloc(); "{cause}").expect(&rt, "accepted");
-        let mut room = [9; 20];
+        let mut room = [9; 24];
         let answer = dz_recipe_cause(cause_number(cause), &mut room);
         check_told(&rt, answer, &room, said.as_bytes());
     }

@@ -1,5 +1,5 @@
 -- This file proves that certain bytes are not a code section.
-use Rattle.wasm_base.proofs.Words.{◌≡◌, ℕ, ◌<◌, List, [], ◌∷◌, ◌++◌, length, Option, Some, None, refl, sym, ap, subst, ◌∙◌, append_assoc, append-nil, arith, inl, inr, minimal, AreGroups}
+use Rattle.wasm_base.proofs.Words.{builders, ◌≡◌, ℕ, ◌<◌, List, [], ◌∷◌, ◌++◌, length, Option, Some, None, refl, sym, ap, subst, ◌∙◌, append_assoc, append-nil, arith, inl, inr, minimal, AreGroups}
 use Rattle.wasm_base.proofs.Words.{IsUnsignedSize, u32, u64, fixed, mapped, pair, vec, members, size_prefixed, val_type, byte_unambiguous, fixed_unambiguous, then_at, tagged_at, member_at}
 use Rattle.wasm_base.proofs.Words.{size_prefixed_of, vec_of_one, u32_unambiguous, u32_small, groups_apart}
 use Rattle.std.specs.declared.alloc.Global.{Global}
@@ -26,7 +26,7 @@ no_groups [] t r e g = g
 no_groups (b ∷ s) t r e g = omega (arith, ap length e, length-append t ((b ∷ s) ++ r))
 
 -- After the flags 10 an ordering and an offset follow, but there is only one byte.
-cut_after : (s back : List ℕ) (m : MemArg) → 0x00 ∷ [] ≡ s ++ back → after_flags 0x10 minimal s m → ⊥
+cut_after : (s back : List ℕ) (m : MemArg) → 0x00 ∷ [] ≡ s ++ back → after_flags builders 0x10 minimal s m → ⊥
 cut_after s back m e h =
     let target = then_at {F = fixed [] (Memory 0)} {G = λ u. pair (mapped Some mem_ordering) u64} (fixed_unambiguous [] (Memory 0)) minimal [] (Memory 0) (refl, refl) (0x00 ∷ []) s back h.0 e h.2 in
     cut_order target.0 back h.0.1 target.1 target.2
@@ -38,7 +38,7 @@ cut_after s back m e h =
 
 cut_flags : (s back : List ℕ) (m : MemArg) → 0x10 ∷ 0x00 ∷ [] ≡ s ++ back → mem_arg minimal s m → ⊥
 cut_flags s back m e h =
-    let flags = tagged_at {G = after_flags} u32_unambiguous minimal (0x10 ∷ []) 0x10 (u32_small minimal 0x10 (omega arith)) (0x00 ∷ []) s back m e h in
+    let flags = tagged_at {G = after_flags builders} u32_unambiguous minimal (0x10 ∷ []) 0x10 (u32_small minimal 0x10 (omega arith)) (0x00 ∷ []) s back m e h in
     cut_after flags.0 back m flags.1 flags.2
 
 abbrev load : Instruction Global

@@ -53,7 +53,36 @@ impl<A: Allocator> NameMap<A> {
     pub fn append(&mut self, index: u32, name: &str) -> Result<()>
         ensures { Adds (unsigned_encoding index ++ size_prefixed_encoding name.now) (HasEncodableSize name.now) self.old self.new result }
     {
-        self.add_record(&(index, name))
+        self.add_record(&IndexedName { index, name })
+    }
+}
+
+/// A member of a name map: an index, and its name.
+#[derive(Clone, Copy)]
+struct IndexedName<'a> {
+    index: u32,
+    name: &'a str,
+}
+
+/// Encodes the index, and then the name. An index and a size of one byte each are written after one
+/// test of the spare capacity.
+impl Encode for IndexedName<'_> {
+    ghost encoding = { λ n. unsigned_encoding n.index ++ size_prefixed_encoding n.name.now };
+
+    ghost encodable = { λ n. HasEncodableSize n.name.now };
+
+    #[tactic(auto, using(wasm_base::proofs::NumberEncodings::one_group))]
+    fn encode<A: Allocator>(&self, sink: &mut Vec<u8, A>) -> Result<()> {
+        let bytes = self.name.as_bytes();
+        let size = bytes.len();
+        if self.index >= 0x80 || size >= 0x80 {
+            return (self.index, self.name).encode(sink);
+        }
+        sink.reserve(size + 2)?;
+        sink.push_reserved(self.index as u8);
+        sink.push_reserved(size as u8);
+        sink.extend_from_slice(bytes).unwrap();
+        Ok(())
     }
 }
 

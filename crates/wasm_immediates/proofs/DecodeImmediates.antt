@@ -1,5 +1,5 @@
 -- This file proves how readers decode immediates.
-use Rattle.wasm_base.proofs.Words.{val_type_rejects, val_type_none, begins_fixed, val_type_decodes, val_type, [], IsValByte, BeginsWith, fixed, after_byte, ◌∙◌, Mode, Grammar, padded_of, ◌≡◌, ◌≢◌}
+use Rattle.wasm_base.proofs.Words.{val_type_rejects, val_type_none, begins_fixed, val_type_decodes, val_type, [], IsValByte, BeginsWith, fixed, after_byte, ◌∙◌, Mode, minimal, padded, standard_minimal, standard, Grammar, builders, admitted, is_admitted, padded_of, ◌≡◌, ◌≢◌}
 use Rattle.wasm_base.proofs.Words.{◌⊎◌, inl, inr, ℕ, ◌<◌, ◌≤◌, ◌/◌, ◌%◌, ◌^◌, ◌==◌, List, ◌∷◌, Bool, true, false, Option, Some, None, option_map, refl, sym, ap, subst, arith, lt-ltb, le-ltb, Format}
 use Rattle.wasm_base.proofs.Words.{u32, u64, byte, s33, choice, impossible, pair, optional, when, Decodes, Rejects, IsIndexByte, byte_unambiguous, optional_unambiguous, u32_unambiguous, begins_s33}
 use Rattle.wasm_base.proofs.Words.{val_begins, u32_byte, no_index_byte, then_decodes, then_rejects_first, then_rejects_second, mapped_decodes, mapped_rejects, such_decodes, such_none, such_rejects}
@@ -11,7 +11,7 @@ use Rattle.wasm_immediates.specs.declared.memory.MemArgOrdering.{MemArgOrdering}
 use Rattle.wasm_immediates.specs.declared.memory.MemArg.{MemArg}
 use Rattle.wasm_immediates.specs.declared.control.Catch.{Catch}
 use Rattle.wasm_immediates.specs.declared.control.Handle.{Handle}
-use Rattle.wasm_immediates.specs.{ordering_code, block_type, ordering_format, mem_orderings, mem_ordering, bit, target_of, mem_arg_of, mem_arg_with, after_flags, mem_arg, one_of_pair, one_ref_of_pair}
+use Rattle.wasm_immediates.specs.{ordering_code, block_type, ordering_format, mem_orderings, mem_ordering, bit, HasIndex, mem_arg_in, target_of, mem_arg_of, mem_arg_with, after_flags, mem_arg, one_of_pair, one_ref_of_pair}
 use Rattle.wasm_immediates.specs.{catch_tags, catch, on_label_of_pair, handle_tags, handle}
 use Rattle.wasm_immediates.specs.declared.memory.Ordering.TheVariants.{AcqRel, SeqCst}
 use Rattle.wasm_immediates.specs.declared.memory.MemArgTarget.{MemArgTarget}
@@ -62,30 +62,49 @@ mem_order_unknown bytes rest b h p q r = tagged_rejects {G = after_order} byte_u
 
 pub ruleset mem_ordering_steps = (mem_seq_cst, mem_acq_rel, mem_rmw, mem_order_none, mem_order_unknown)
 
+-- ---- indices of memories
+
+pub has_index : (w : Grammar) (n : ℕ) → n ≢ 0 → HasIndex w n
+has_index builders n p = omega (arith, p)
+has_index admitted n p = tt
+
+pub any_index : (w : Grammar) (n : ℕ) → is_admitted w ≡ true → HasIndex w n
+any_index builders n p = absurd (cc p)
+any_index admitted n p = tt
+
+pub no_index : (w : Grammar) (n : ℕ) → n ≡ 0 → is_admitted w ≡ false → HasIndex w n → ⊥
+no_index builders n z p h = omega (arith, z, h)
+no_index admitted n z p h = absurd (cc p)
+
 -- ---- targets
 
-pub target_memory_0 : {m : Mode} (array other : Bool) (bytes : List ℕ) → array ≡ false → other ≡ false → Decodes (target_of array other) m bytes (Memory 0) bytes
-target_memory_0 array other bytes e f = rw (e, f) (fixed_decodes bytes (Memory 0))
+module _ {m : Mode} (w : Grammar) (array other : Bool) (bytes : List ℕ) where
+  pub target_memory_0 : array ≡ false → other ≡ false → Decodes (target_of w array other) m bytes (Memory 0) bytes
+  target_memory_0 e f = rw (e, f) (fixed_decodes bytes (Memory 0))
 
-pub target_array : {m : Mode} (array other : Bool) (bytes rest : List ℕ) (n : ℕ) → array ≡ true → other ≡ false → Decodes u32 m bytes n rest → Decodes (target_of array other) m bytes (Array n) rest
-target_array array other bytes rest n e f h = rw (e, f) (mapped_decodes Array h)
+  pub target_array : (rest : List ℕ) (n : ℕ) → array ≡ true → other ≡ false → Decodes u32 m bytes n rest → Decodes (target_of w array other) m bytes (Array n) rest
+  target_array rest n e f h = rw (e, f) (mapped_decodes Array h)
 
-pub target_memory : {m : Mode} (array other : Bool) (bytes rest : List ℕ) (n : ℕ) → array ≡ false → other ≡ true → Decodes u32 m bytes n rest → n ≢ 0 → Decodes (target_of array other) m bytes (Memory n) rest
-target_memory array other bytes rest n e f h p = rw (e, f) (mapped_decodes Memory (such_decodes (λ n. 0 < n) h (omega (arith, p))))
+  pub target_memory : (rest : List ℕ) (n : ℕ) → array ≡ false → other ≡ true → Decodes u32 m bytes n rest → n ≢ 0 → Decodes (target_of w array other) m bytes (Memory n) rest
+  target_memory rest n e f h p = rw (e, f) (mapped_decodes Memory (such_decodes (HasIndex w) h (has_index w n p)))
 
-pub target_both : {m : Mode} (array other : Bool) (bytes : List ℕ) → array ≡ true → other ≡ true → Rejects (target_of array other) m bytes
-target_both array other bytes e f = rw (e, f) (impossible_rejects bytes)
+  -- In the standard's grammar memory 0 may have an index.
+  pub target_any_memory : (rest : List ℕ) (n : ℕ) (r : Bool) → array ≡ false → other ≡ true → Decodes u32 m bytes n rest → r ≡ is_admitted w → r ≡ true → Decodes (target_of w array other) m bytes (Memory n) rest
+  target_any_memory rest n r e f h is p = rw (e, f) (mapped_decodes Memory (such_decodes (HasIndex w) h (any_index w n (sym is ∙ p))))
 
-pub target_no_array : {m : Mode} (array other : Bool) (bytes : List ℕ) → array ≡ true → other ≡ false → Rejects u32 m bytes → Rejects (target_of array other) m bytes
-target_no_array array other bytes e f n = rw (e, f) (mapped_rejects Array n)
+  pub target_both : array ≡ true → other ≡ true → Rejects (target_of w array other) m bytes
+  target_both e f = rw (e, f) (impossible_rejects bytes)
 
-pub target_no_memory : {m : Mode} (array other : Bool) (bytes : List ℕ) → array ≡ false → other ≡ true → Rejects u32 m bytes → Rejects (target_of array other) m bytes
-target_no_memory array other bytes e f n = rw (e, f) (mapped_rejects Memory (such_none (λ n. 0 < n) n))
+  pub target_no_array : array ≡ true → other ≡ false → Rejects u32 m bytes → Rejects (target_of w array other) m bytes
+  target_no_array e f n = rw (e, f) (mapped_rejects Array n)
 
-pub target_zero : {m : Mode} (array other : Bool) (bytes rest : List ℕ) (n : ℕ) → array ≡ false → other ≡ true → Decodes u32 m bytes n rest → n ≡ 0 → Rejects (target_of array other) m bytes
-target_zero array other bytes rest n e f h p = rw (e, f) (mapped_rejects Memory (such_rejects (λ n. 0 < n) u32_unambiguous h (λ l. omega (arith, l, p))))
+  pub target_no_memory : array ≡ false → other ≡ true → Rejects u32 m bytes → Rejects (target_of w array other) m bytes
+  target_no_memory e f n = rw (e, f) (mapped_rejects Memory (such_none (HasIndex w) n))
 
-pub ruleset target_steps = (target_memory_0, target_array, target_memory, target_both, target_no_array, target_no_memory, target_zero)
+  pub target_zero : (rest : List ℕ) (n : ℕ) (r : Bool) → array ≡ false → other ≡ true → Decodes u32 m bytes n rest → n ≡ 0 → r ≡ is_admitted w → r ≡ false → Rejects (target_of w array other) m bytes
+  target_zero rest n r e f h z is p = rw (e, f) (mapped_rejects Memory (such_rejects (HasIndex w) u32_unambiguous h (no_index w n z (sym is ∙ p))))
+
+pub ruleset target_steps = (target_memory_0, target_array, target_memory, target_any_memory, target_both, target_no_array, target_no_memory, target_zero)
 
 -- ---- memory arguments
 
@@ -93,40 +112,74 @@ pub option_same : {X : Type 0} (x : Option X) → option_map (λ n. n) x ≡ x
 option_same (Some n) = refl
 option_same None = refl
 
-abbrev mem_parts : ℕ → Format (MemArgTarget × (Option MemArgOrdering × ℕ))
-mem_parts flags = pair (target_of (bit 5 flags) (bit 6 flags)) (pair (optional (bit 4 flags) mem_ordering) u64)
+-- The memory arguments of a mode are those of its grammar.
+at_grammar : (w : Grammar) (s : List ℕ) (v : MemArg) → mem_arg_in w (padded_of w) s v → mem_arg (padded_of w) s v
+at_grammar builders s v h = h
+at_grammar admitted s v h = h
 
-abbrev pub mem_after : ℕ → Bool → Format MemArg
-mem_after flags low = when low (mem_arg_with (flags % 16) (bit 4 flags) (bit 5 flags) (bit 6 flags)) impossible
+abbrev pub grammar_of : Mode → Grammar
+grammar_of minimal = builders
+grammar_of padded = builders
+grammar_of standard_minimal = builders
+grammar_of standard = admitted
 
-pub memory_decodes : {m : Mode} (bytes start next last end : List ℕ) (flags offset : ℕ) (t : MemArgTarget) (o : Option MemArgOrdering) → Decodes u32 m bytes flags start → flags < 0x80 → Decodes (target_of (bit 5 flags) (bit 6 flags)) m start t next
-    → Decodes (optional (bit 4 flags) mem_ordering) m next (option_map (λ n. n) o) last → Decodes u64 m last offset end → Decodes mem_arg m bytes (record { offset = offset; align = flags % 16; target = t; ordering = o }) end
-memory_decodes {m = m} bytes start next last end flags offset t o h l g k j =
-    tagged_decodes {G = after_flags} h
-    (subst (λ low. Decodes (mem_after flags low) m start (mem_arg_of (flags % 16) (t, (o, offset))) end) (sym (lt-ltb flags 0x80 l))
-    (mapped_decodes (mem_arg_of (flags % 16)) (then_decodes g (then_decodes (subst (λ z. Decodes (optional (bit 4 flags) mem_ordering) m next z last) (option_same o) k) j))))
+of_mode : (m : Mode) (s : List ℕ) (v : MemArg) → mem_arg m s v → mem_arg_in (grammar_of m) m s v
+of_mode minimal s v h = h
+of_mode padded s v h = h
+of_mode standard_minimal s v h = h
+of_mode standard s v h = h
+
+mode_rejects : {m : Mode} {bytes : List ℕ} → Rejects (mem_arg_in (grammar_of m)) m bytes → Rejects mem_arg m bytes
+mode_rejects {m = m} n = record { none = λ x rest h. n.none x rest (record { front = h.front; split = h.split; encodes = of_mode m h.front x h.encodes }) }
+
+pub same_grammar : (w : Grammar) → grammar_of (padded_of w) ≡ w
+same_grammar builders = refl
+same_grammar admitted = refl
+
+module _ (w : Grammar) where
+  abbrev mem_parts : ℕ → Format (MemArgTarget × (Option MemArgOrdering × ℕ))
+  mem_parts flags = pair (target_of w (bit 5 flags) (bit 6 flags)) (pair (optional (bit 4 flags) mem_ordering) u64)
+
+  abbrev mem_after : ℕ → Bool → Format MemArg
+  mem_after flags low = when low (mem_arg_with w (flags % 16) (bit 4 flags) (bit 5 flags) (bit 6 flags)) impossible
+
+  in_decodes : {bytes rest : List ℕ} {v : MemArg} → Decodes (mem_arg_in w) (padded_of w) bytes v rest → Decodes mem_arg (padded_of w) bytes v rest
+  in_decodes {v = v} h = record { front = h.front; split = h.split; encodes = at_grammar w h.front v h.encodes }
+
+  in_rejects : {bytes : List ℕ} → Rejects (mem_arg_in w) (padded_of w) bytes → Rejects mem_arg (padded_of w) bytes
+  in_rejects {bytes = bytes} n = mode_rejects (subst (λ z. Rejects (mem_arg_in z) (padded_of w) bytes) (sym (same_grammar w)) n)
+
+  pub memory_decodes : (bytes start next last end : List ℕ) (flags offset : ℕ) (t : MemArgTarget) (o : Option MemArgOrdering) → Decodes u32 (padded_of w) bytes flags start → flags < 0x80
+      → Decodes (target_of w (bit 5 flags) (bit 6 flags)) (padded_of w) start t next → Decodes (optional (bit 4 flags) mem_ordering) (padded_of w) next (option_map (λ n. n) o) last → Decodes u64 (padded_of w) last offset end
+      → Decodes mem_arg (padded_of w) bytes (record { offset = offset; align = flags % 16; target = t; ordering = o }) end
+  memory_decodes bytes start next last end flags offset t o h l g k j =
+      in_decodes (tagged_decodes {G = after_flags w} h
+      (subst (λ low. Decodes (mem_after flags low) (padded_of w) start (mem_arg_of (flags % 16) (t, (o, offset))) end) (sym (lt-ltb flags 0x80 l))
+      (mapped_decodes (mem_arg_of (flags % 16)) (then_decodes g (then_decodes (subst (λ z. Decodes (optional (bit 4 flags) mem_ordering) (padded_of w) next z last) (option_same o) k) j)))))
+
+  memory_rejects : (bytes start : List ℕ) (flags : ℕ) → Decodes u32 (padded_of w) bytes flags start → flags < 0x80 → Rejects (mem_parts flags) (padded_of w) start → Rejects mem_arg (padded_of w) bytes
+  memory_rejects bytes start flags h l n =
+      in_rejects (tagged_rejects {G = after_flags w} u32_unambiguous h (subst (λ low. Rejects (mem_after flags low) (padded_of w) start) (sym (lt-ltb flags 0x80 l)) (mapped_rejects (mem_arg_of (flags % 16)) n)))
+
+  pub memory_no_target : (bytes start : List ℕ) (flags : ℕ) → Decodes u32 (padded_of w) bytes flags start → flags < 0x80 → Rejects (target_of w (bit 5 flags) (bit 6 flags)) (padded_of w) start → Rejects mem_arg (padded_of w) bytes
+  memory_no_target bytes start flags h l n = memory_rejects bytes start flags h l (then_rejects_first n)
+
+  pub memory_no_ordering : (bytes start next : List ℕ) (flags : ℕ) (t : MemArgTarget) → Decodes u32 (padded_of w) bytes flags start → flags < 0x80 → Decodes (target_of w (bit 5 flags) (bit 6 flags)) (padded_of w) start t next
+      → Rejects (optional (bit 4 flags) mem_ordering) (padded_of w) next → Rejects mem_arg (padded_of w) bytes
+  memory_no_ordering bytes start next flags t h l g n = memory_rejects bytes start flags h l (then_rejects_second (target_unambiguous w (bit 5 flags) (bit 6 flags)) g (then_rejects_first n))
+
+  pub memory_no_offset : (bytes start next last : List ℕ) (flags : ℕ) (t : MemArgTarget) (o : Option MemArgOrdering) → Decodes u32 (padded_of w) bytes flags start → flags < 0x80
+      → Decodes (target_of w (bit 5 flags) (bit 6 flags)) (padded_of w) start t next → Decodes (optional (bit 4 flags) mem_ordering) (padded_of w) next (option_map (λ n. n) o) last → Rejects u64 (padded_of w) last
+      → Rejects mem_arg (padded_of w) bytes
+  memory_no_offset bytes start next last flags t o h l g k n =
+      memory_rejects bytes start flags h l (then_rejects_second (target_unambiguous w (bit 5 flags) (bit 6 flags)) g (then_rejects_second (optional_unambiguous (bit 4 flags) mem_ordering_unambiguous) k n))
 
 pub memory_none : {m : Mode} (bytes : List ℕ) → Rejects u32 m bytes → Rejects mem_arg m bytes
-memory_none bytes n = tagged_none u32 after_flags bytes n
+memory_none {m = m} bytes n = mode_rejects (tagged_none u32 (after_flags (grammar_of m)) bytes n)
 
 pub memory_unknown : {m : Mode} (bytes rest : List ℕ) (flags : ℕ) → Decodes u32 m bytes flags rest → 0x80 ≤ flags → Rejects mem_arg m bytes
-memory_unknown {m = m} bytes rest flags h l = tagged_rejects {G = after_flags} u32_unambiguous h (subst (λ low. Rejects (mem_after flags low) m rest) (sym (le-ltb flags 0x80 l)) (impossible_rejects rest))
-
-memory_rejects : {m : Mode} (bytes start : List ℕ) (flags : ℕ) → Decodes u32 m bytes flags start → flags < 0x80 → Rejects (mem_parts flags) m start → Rejects mem_arg m bytes
-memory_rejects {m = m} bytes start flags h l n =
-    tagged_rejects {G = after_flags} u32_unambiguous h (subst (λ low. Rejects (mem_after flags low) m start) (sym (lt-ltb flags 0x80 l)) (mapped_rejects (mem_arg_of (flags % 16)) n))
-
-pub memory_no_target : {m : Mode} (bytes start : List ℕ) (flags : ℕ) → Decodes u32 m bytes flags start → flags < 0x80 → Rejects (target_of (bit 5 flags) (bit 6 flags)) m start → Rejects mem_arg m bytes
-memory_no_target bytes start flags h l n = memory_rejects bytes start flags h l (then_rejects_first n)
-
-pub memory_no_ordering : {m : Mode} (bytes start next : List ℕ) (flags : ℕ) (t : MemArgTarget) → Decodes u32 m bytes flags start → flags < 0x80 → Decodes (target_of (bit 5 flags) (bit 6 flags)) m start t next
-    → Rejects (optional (bit 4 flags) mem_ordering) m next → Rejects mem_arg m bytes
-memory_no_ordering bytes start next flags t h l g n = memory_rejects bytes start flags h l (then_rejects_second (target_unambiguous (bit 5 flags) (bit 6 flags)) g (then_rejects_first n))
-
-pub memory_no_offset : {m : Mode} (bytes start next last : List ℕ) (flags : ℕ) (t : MemArgTarget) (o : Option MemArgOrdering) → Decodes u32 m bytes flags start → flags < 0x80 → Decodes (target_of (bit 5 flags) (bit 6 flags)) m start t next
-    → Decodes (optional (bit 4 flags) mem_ordering) m next (option_map (λ n. n) o) last → Rejects u64 m last → Rejects mem_arg m bytes
-memory_no_offset bytes start next last flags t o h l g k n =
-    memory_rejects bytes start flags h l (then_rejects_second (target_unambiguous (bit 5 flags) (bit 6 flags)) g (then_rejects_second (optional_unambiguous (bit 4 flags) mem_ordering_unambiguous) k n))
+memory_unknown {m = m} bytes rest flags h l =
+    mode_rejects (tagged_rejects {G = after_flags (grammar_of m)} u32_unambiguous h (subst (λ low. Rejects (mem_after (grammar_of m) flags low) m rest) (sym (le-ltb flags 0x80 l)) (impossible_rejects rest)))
 
 -- Bit tests of the flags are false where the arithmetic gives 0.
 unset : (place flags : ℕ) → flags / 2 ^ place % 2 ≡ 0 → bit place flags ≡ false
@@ -136,8 +189,8 @@ module _ (bytes start : List ℕ) (flags : ℕ) (e : bytes ≡ flags ∷ start) 
   few_flags : (w : Grammar) → Decodes u32 (padded_of w) bytes flags start
   few_flags w = u32_byte w bytes start flags flags e (omega (arith, low)) refl
 
-  memory_0 : {m : Mode} → Decodes (target_of (bit 5 flags) (bit 6 flags)) m start (Memory 0) start
-  memory_0 = target_memory_0 (bit 5 flags) (bit 6 flags) start (unset 5 flags (omega (arith, low))) (unset 6 flags (omega (arith, low)))
+  memory_0 : {m : Mode} (w : Grammar) → Decodes (target_of w (bit 5 flags) (bit 6 flags)) m start (Memory 0) start
+  memory_0 w = target_memory_0 w (bit 5 flags) (bit 6 flags) start (unset 5 flags (omega (arith, low))) (unset 6 flags (omega (arith, low)))
 
   no_order : {m : Mode} → Decodes (optional (bit 4 flags) mem_ordering) m start None start
   no_order = optional_none mem_ordering (bit 4 flags) start (unset 4 flags (omega (arith, low)))
@@ -146,10 +199,10 @@ module _ (bytes start : List ℕ) (flags : ℕ) (e : bytes ≡ flags ∷ start) 
   memory_plain w last align offset is h =
       let same : flags % 16 ≡ align = omega (arith, low, is) in
       subst (λ n. Decodes mem_arg (padded_of w) bytes (record { offset = offset; align = n; target = Memory 0; ordering = None }) last) same
-      (memory_decodes bytes start start start last flags offset (Memory 0) None (few_flags w) (omega (arith, low)) memory_0 no_order h)
+      (memory_decodes w bytes start start start last flags offset (Memory 0) None (few_flags w) (omega (arith, low)) (memory_0 w) no_order h)
 
   pub memory_plain_none : (w : Grammar) → Rejects u64 (padded_of w) start → Rejects mem_arg (padded_of w) bytes
-  memory_plain_none w n = memory_no_offset bytes start start start flags (Memory 0) None (few_flags w) (omega (arith, low)) memory_0 no_order n
+  memory_plain_none w n = memory_no_offset w bytes start start start flags (Memory 0) None (few_flags w) (omega (arith, low)) (memory_0 w) no_order n
 
 pub ruleset memory_steps = (memory_decodes, memory_none, memory_unknown, memory_no_target, memory_no_ordering, memory_no_offset)
 

@@ -1,4 +1,5 @@
 -- This file proves that the encodings of well-formed immediates encode their normal forms.
+use Rattle.wasm_base.proofs.Words.{builders}
 use Rattle.wasm_base.proofs.Words.{◌≡◌, ℕ, zero, suc, ◌+◌, ◌*◌, ◌%◌, ◌^◌, ◌<◌, List, [], ◌∷◌, ◌++◌, Bool, true, false, eqb, Option, Some, None, refl, sym, ap, ap₂, subst, ◌∙◌, arith, inl, inr, ℤ, pos}
 use Rattle.wasm_base.proofs.Words.{negsuc, lt-ltb, or_shifted, or_comm, bit_or, nat_lt, ⊤, minimal, unsigned_encoding, u32, pair, optional, twos_complement, vector_format, IsVector}
 use Rattle.wasm_base.proofs.Words.{HasMinimalEncodings, UnambiguousPadded, optional_encoding, unambiguous_padded, vector_unambiguous, one_group, val-encodings, decodes_uniquely, u32_encodes}
@@ -52,11 +53,11 @@ is_set true n e = rw e refl
 is_set false n e = rw e refl
 
 with_bits : (f align : ℕ) (a b c : Bool) (s : List ℕ) (m : MemArg) → nat_lt f 0x80 ≡ true → f % 16 ≡ align → bit 4 f ≡ a → bit 5 f ≡ b → bit 6 f ≡ c
-    → mem_arg_with align a b c minimal s m → after_flags f minimal s m
+    → mem_arg_with builders align a b c minimal s m → after_flags builders f minimal s m
 with_bits f align a b c s m low e p q r h = rw (low, e, p, q, r) h
 
-flags_encodes : (align : ℕ) (a b c : Bool) (s : List ℕ) (m : MemArg) → align < 16 → mem_arg_with align a b c minimal s m
-    → after_flags (align + 16 * (where_set a 1 + (2 * where_set b 1 + 4 * where_set c 1))) minimal s m
+flags_encodes : (align : ℕ) (a b c : Bool) (s : List ℕ) (m : MemArg) → align < 16 → mem_arg_with builders align a b c minimal s m
+    → after_flags builders (align + 16 * (where_set a 1 + (2 * where_set b 1 + 4 * where_set c 1))) minimal s m
 flags_encodes align a b c s m low h =
     let f : ℕ = align + 16 * (where_set a 1 + (2 * where_set b 1 + 4 * where_set c 1)) in
     let p = one_or_none a in
@@ -66,7 +67,7 @@ flags_encodes align a b c s m low h =
     (lt-ltb _ 0x80 (omega (arith, low, p, q, r))) (omega (arith, low, p, q, r))
     (is_set a _ (omega (arith, low, p, q, r))) (is_set b _ (omega (arith, low, p, q, r))) (is_set c _ (omega (arith, low, p, q, r))) h
 
-target_encodes : (t : MemArgTarget) → IsWellFormedTarget t → target_of (is_array t) (has_memory t) minimal (optional_encoding unsigned_encoding (index_of t)) t
+target_encodes : (t : MemArgTarget) → IsWellFormedTarget t → target_of builders (is_array t) (has_memory t) minimal (optional_encoding unsigned_encoding (index_of t)) t
 target_encodes (Memory zero) h = (refl, refl)
 target_encodes (Memory (suc n)) h = (suc n, refl, (u32_encodes (suc n) h, omega arith))
 target_encodes (Array n) h = (n, refl, u32_encodes n h)
@@ -90,7 +91,7 @@ memory_encodes m h =
     let index = optional_encoding unsigned_encoding (index_of m.target) in
     let back = index ++ (order ++ unsigned_encoding m.offset) in
     let sum : mem_flags m ≡ m.align + 16 * (where_set a 1 + (2 * where_set b 1 + 4 * where_set c 1)) = flags_sum m.align a b c h.align in
-    let after : mem_arg_with m.align a b c minimal back (normal_memory m) = (
+    let after : mem_arg_with builders m.align a b c minimal back (normal_memory m) = (
       (m.target, (normal_order m.ordering, m.offset)),
       refl,
       record {
@@ -101,7 +102,7 @@ memory_encodes m h =
         second = record { front = order; back = unsigned_encoding m.offset; joined = refl; first = optional_encodes m.ordering; second = u64_encodes m.offset h.offset };
       },
     ) in
-    let known : after_flags (mem_flags m) minimal back (normal_memory m) = subst (λ f. after_flags f minimal back (normal_memory m)) (sym sum) (flags_encodes m.align a b c back (normal_memory m) h.align after) in (
+    let known : after_flags builders (mem_flags m) minimal back (normal_memory m) = subst (λ f. after_flags builders f minimal back (normal_memory m)) (sym sum) (flags_encodes m.align a b c back (normal_memory m) h.align after) in (
       (mem_flags m, normal_memory m),
       refl,
       record {

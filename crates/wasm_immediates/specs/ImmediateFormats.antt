@@ -1,5 +1,5 @@
 -- This file defines well-formed immediates, their normal forms and their formats.
-use Rattle.wasm_base.specs.Words.{val_type, Format, u32, u64, s33, byte, fixed, impossible, coded, mapped, such, when, choice, tagged, one_of, pair, optional, DecodesUniquely, IsVal}
+use Rattle.wasm_base.specs.Words.{val_type, Format, Grammar, builders, admitted, by_mode, u32, u64, s33, byte, fixed, impossible, coded, mapped, such, when, choice, tagged, one_of, pair, optional, DecodesUniquely, IsVal}
 use Rattle.std.specs.Prelude.{◌≡◌, ℕ, ◌/◌, ◌%◌, ◌^◌, ◌<◌, List, [], ◌∷◌, Bool, true, false, ◌==◌, nat_lt, Option, Some, None, ⊤}
 use Rattle.wasm_immediates.specs.declared.memory.Ordering.{Ordering}
 use Rattle.wasm_immediates.specs.declared.memory.Ordering.TheVariants.{AcqRel, SeqCst}
@@ -99,32 +99,46 @@ mem_ordering = tagged byte (choice mem_orderings (λ b. impossible))
 abbrev pub bit : ℕ → ℕ → Bool
 bit place flags = flags / 2 ^ place % 2 == 1
 
--- The target of a memory argument, by bits 5 and 6 of its flags. Memory 0 has no index, and both
--- bits together do not decode.
-abbrev pub target_of : (array other_memory : Bool) → Format MemArgTarget
-target_of false false = fixed [] (Memory 0)
-target_of true false = mapped Array u32
-target_of false true = mapped Memory (such (λ n. 0 < n) u32)
-target_of true true = impossible
+-- The memories whose index is encoded. Builders encode none for memory 0; the standard admits it.
+abbrev pub HasIndex : Grammar → ℕ → Type 0
+HasIndex builders n = 0 < n
+HasIndex admitted n = ⊤
+
+-- The target of a memory argument, by bits 5 and 6 of its flags. Without an index it is memory 0,
+-- and both bits together do not decode.
+abbrev pub target_of : Grammar → (array other_memory : Bool) → Format MemArgTarget
+target_of w false false = fixed [] (Memory 0)
+target_of w true false = mapped Array u32
+target_of w false true = mapped Memory (such (HasIndex w) u32)
+target_of w true true = impossible
 
 -- The memory argument of this alignment, with a target, an optional ordering and an offset.
 abbrev pub mem_arg_of : ℕ → MemArgTarget × (Option MemArgOrdering × ℕ) → MemArg
 mem_arg_of align p = record { offset = p.1.1; align = align; target = p.0; ordering = p.1.0 }
 
 -- The bytes after flags with this alignment and these bits 4, 5 and 6: target, ordering and offset.
-abbrev pub mem_arg_with : ℕ → (ordered array other_memory : Bool) → Format MemArg
-mem_arg_with align ordered array other_memory = mapped (mem_arg_of align) (pair (target_of array other_memory) (pair (optional ordered mem_ordering) u64))
+abbrev pub mem_arg_with : Grammar → ℕ → (ordered array other_memory : Bool) → Format MemArg
+mem_arg_with w align ordered array other_memory = mapped (mem_arg_of align) (pair (target_of w array other_memory) (pair (optional ordered mem_ordering) u64))
 
 -- The bytes after flags below 128: bits 0 to 3 are the alignment, and bits 4, 5 and 6 say which
 -- immediates are encoded. Higher flags do not decode.
-abbrev pub after_flags : ℕ → Format MemArg
-after_flags flags = when (nat_lt flags 0x80) (mem_arg_with (flags % 16) (bit 4 flags) (bit 5 flags) (bit 6 flags)) impossible
+abbrev pub after_flags : Grammar → ℕ → Format MemArg
+after_flags w flags = when (nat_lt flags 0x80) (mem_arg_with w (flags % 16) (bit 4 flags) (bit 5 flags) (bit 6 flags)) impossible
 
--- A memory argument: flags, an index and an ordering if the flags say so, and the offset. Core
--- specification, Binary Format, Instructions, Memory Instructions; bits 4 and 5 are this
--- repository's own.
+-- A memory argument of a grammar: flags, an index and an ordering if the flags say so, and the
+-- offset.
+abbrev pub mem_arg_in : Grammar → Format MemArg
+mem_arg_in w = tagged u32 (after_flags w)
+
+-- A memory argument. In the standard's grammar memory 0 may have an index; the minimal encoding is
+-- that without. Core specification, Binary Format, Instructions, Memory Instructions; bits 4 and 5
+-- are this repository's own.
 abbrev pub mem_arg : Format MemArg
-mem_arg = tagged u32 after_flags
+mem_arg = by_mode (mem_arg_in builders) (mem_arg_in builders) (mem_arg_in admitted)
+
+-- The argument of memory 0 with this alignment and offset, without an ordering.
+abbrev pub memory_0 : (align offset : ℕ) → MemArg
+memory_0 align offset = record { offset = offset; align = align; target = Memory 0; ordering = None }
 
 -- The clause `catch` of this tag and label.
 abbrev pub one_of_pair : ℕ × ℕ → Catch

@@ -5,11 +5,12 @@
 //! front of any bytes, with minimal and with padded numbers. A value has at most one minimal
 //! encoding. `HasMinimalEncodings F encodable encoding` says that `encoding` is the minimal
 //! encoding of each value that fits.
-ghost use Rattle.std.specs.Prelude.{⊤};
+ghost use Rattle.std.specs.Prelude.{ℕ, ◌+◌, ◌<◌, List, ◌∷◌, ⊤};
 ghost use Rattle.wasm_base.specs.Decoding.{Unambiguous, HasMinimalEncodings, UnambiguousPadded};
 ghost use Rattle.wasm_immediates.specs.Immediates.{mem_arg_encoding, block_encoding, catch_encoding, handle_encoding, vector_encoding};
-ghost use Rattle.wasm_immediates.specs.ImmediateFormats.{mem_arg, block_type, catch, handle, ordering_format, IsNormalMemory, IsWellFormedBlock, IsWellFormedCatch, IsWellFormedHandle, ordering_encoding, DecodesMemoryArgument};
-ghost use Rattle.wasm_base.specs.Formats.{vector_format, IsVector};
+ghost use Rattle.wasm_immediates.specs.ImmediateFormats.{mem_arg, memory_0, block_type, catch, handle, ordering_format, IsNormalMemory, IsWellFormedBlock, IsWellFormedCatch, IsWellFormedHandle, ordering_encoding, DecodesMemoryArgument};
+ghost use Rattle.wasm_base.specs.Formats.{u64, vector_format, IsVector};
+ghost use Rattle.wasm_base.specs.Numbers.{standard};
 ghost use Rattle.wasm_immediates.specs.declared.memory.MemArg.{MemArg};
 
 /// The formats of immediates are unambiguous.
@@ -33,6 +34,13 @@ pub fn immediates()
 /// The encoding of a well-formed memory argument decodes to its normal form alone.
 pub fn memory_arguments()
     ensures { (m : MemArg) → DecodesMemoryArgument m }
+{}
+
+/// The standard's grammar also has an index for memory 0, after flags with bit 6. It is the same
+/// memory argument as the one without an index.
+#[tactic(auto, using(crate::proofs::ImmediateLaws::index_zero))]
+pub fn standard()
+    ensures { (align : ℕ) (bytes : List ℕ) (offset : ℕ) → align < 16 → u64 standard bytes offset → mem_arg standard ((0x40 + align) ∷ 0x00 ∷ bytes) (memory_0 align offset) }
 {}
 
 /// With padded numbers the formats are unambiguous too.

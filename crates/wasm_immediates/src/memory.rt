@@ -223,7 +223,8 @@ impl<'a, A: Allocator + Copy, G: Grammar> Readable<'a, A, G> for MemArgOrdering 
     }
 }
 
-/// Decodes the index of an array type, or of a memory other than 0, as the flags select.
+/// Decodes the index of an array type or of a memory, as the flags select. Memory 0 has an index
+/// in the standard's grammar alone.
 #[tactic(auto, using(crate::proofs::DecodeImmediates::target_steps))]
 fn read_target<'a, A: Allocator + Copy, G: Grammar>(
     array: bool,
@@ -231,8 +232,8 @@ fn read_target<'a, A: Allocator + Copy, G: Grammar>(
     bytes: &'a [u8],
     alloc: A,
 ) -> Result<(MemArgTarget, &'a [u8]), DecodeError>
-    ensures found { IfOk result (λ x. Decodes (target_of array other) (padded_of G.grammar) bytes.now x.0 x.1.now) }
-    ensures none { IfErr result (λ e. e.cause ≢ Memory → Rejects (target_of array other) (padded_of G.grammar) bytes.now) }
+    ensures found { IfOk result (λ x. Decodes (target_of G.grammar array other) (padded_of G.grammar) bytes.now x.0 x.1.now) }
+    ensures none { IfErr result (λ e. e.cause ≢ Memory → Rejects (target_of G.grammar array other) (padded_of G.grammar) bytes.now) }
 {
     match (array, other) {
         (false, false) => Ok((MemArgTarget::Memory(0), bytes)),
@@ -243,7 +244,7 @@ fn read_target<'a, A: Allocator + Copy, G: Grammar>(
         }
         (false, true) => {
             let (index, rest) = <u32 as Readable<'a, A, G>>::read(bytes, alloc)?;
-            if index == 0 {
+            if index == 0 && !G::is_standard() {
                 return Err(ReadFault::UnknownTag.just_before(rest));
             }
             Ok((MemArgTarget::Memory(index), rest))

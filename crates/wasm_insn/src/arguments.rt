@@ -414,6 +414,16 @@ fn read_any_into<'a, A: Allocator + Copy, G: Grammar>(
     read_parts::<A, G>(shape.parts(), bytes, alloc, args)
 }
 
+/// Drops the arguments of the list. One without arguments takes no call.
+#[inline(always)]
+fn drop_all<A: Allocator + Copy>(args: &mut Vec<Arg<A>, A>)
+    ensures { args.new.items ≡ [] }
+{
+    if !args.is_empty() {
+        args.clear();
+    }
+}
+
 /// Makes the decoded argument the only one of the list, and returns the remaining bytes.
 #[inline(always)]
 fn keep_one<'a, A: Allocator + Copy>(
@@ -428,7 +438,7 @@ fn keep_one<'a, A: Allocator + Copy>(
         *one = arg;
         return Ok(rest);
     }
-    args.clear();
+    drop_all(args);
     args.push(arg)?;
     Ok(rest)
 }
@@ -447,7 +457,7 @@ pub(crate) fn read_arguments_into<'a, A: Allocator + Copy, G: Grammar>(
 {
     match shape {
         Shape::Nothing => {
-            args.clear();
+            drop_all(args);
             Ok(bytes)
         }
         Shape::U => keep_one(args, read_unsigned::<A, G>(bytes, alloc)?),

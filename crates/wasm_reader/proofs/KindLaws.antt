@@ -4,12 +4,17 @@ use Rattle.wasm_base.proofs.Words.{Mode, ◌≡◌, ℕ, List, [], ◌++◌, map
 use Rattle.wasm_base.proofs.Words.{minimal, padded, u32, name, any_bytes, pair, vec, size_prefixed, Format, mapped, UnambiguousWhole, Decodes, Rejects, vec_encoding, IsEncodableVec, name_unambiguous}
 use Rattle.wasm_base.proofs.Words.{vec_unambiguous, whole_from_unique, mapped_whole, pair_whole, any_bytes_whole, u32_unambiguous, decodes_same, AppendsMinimal, encoding_appended, pair_appended}
 use Rattle.wasm_base.proofs.Words.{mapped_appended, records_appended, RejectsWhole, bytes_eq, ne_eqb}
-use Rattle.wasm_base.specs.declared.fault.DecodeError.{DecodeError}
+use Rattle.wasm_base.proofs.Words.{All, All-nil, All-cons, HasEncoding, members, coded, mapped_encoded, members_encoded, counted_encodable, left_encoded, name_encodable}
+use Rattle.wasm_base.proofs.DecodedValues.{viewed_encodable}
+use Rattle.wasm_base.specs.Faults.{Failure}
+use Rattle.wasm_base.specs.declared.refused.Refused.{Refused}
+use Rattle.wasm_base.specs.declared.refused.Refused.TheVariants.{TooLong}
 use Rattle.std.proofs.Common.{IfOk}
 use Rattle.wasm_code.proofs.Words.{body, size_prefixed_body_unambiguous}
 use Rattle.wasm_sections.proofs.Words.{data_item, element, global_item, import_format, table_item, IsEncodableExport, export_encoding, item_of, export, memory_encoding, memory_type, tag_encoding}
 use Rattle.wasm_sections.proofs.Words.{tag_type, export_short, exports_section, memory_encodes, memory_is, memories_section, tag_encodes, tag_is, tags_section, segments_section, elements_section}
 use Rattle.wasm_sections.proofs.Words.{globals_section, imports_section, tables_section, functions_section}
+use Rattle.wasm_sections.specs.Exports.{kind_code}
 use Rattle.wasm_sections.specs.declared.export.Export.{Export}
 use Rattle.wasm_sections.specs.declared.memory.MemoryType.{MemoryType}
 use Rattle.wasm_sections.specs.declared.tag.TagType.{TagType}
@@ -93,6 +98,86 @@ pub raw_appended : (bytes old new : List ℕ) → new ≡ old ++ bytes → Appen
 raw_appended bytes old new e = mapped_appended Raw any_bytes bytes old new (λ z k. cc k) (encoding_appended any_bytes bytes bytes old new (λ s h. refl) e)
 
 pub ruleset contents = (items_appended, exports_appended, functions_appended, memories_appended, tags_appended, custom_appended, raw_appended)
+
+-- ---- the errors of each kind
+
+-- The call does not return `TooLong` if some bytes encode these items, as one value of the format of
+-- their kind.
+abbrev pub FitsItems : Contents → Result (Unit {0}) Refused → Type 0
+FitsItems (Bodies x) r = HasEncoding (vec (size_prefixed body)) x → r ≢ Err TooLong
+FitsItems (Segments x) r = HasEncoding (vec data_item) x → r ≢ Err TooLong
+FitsItems (DataCount x) r = HasEncoding u32 x → r ≢ Err TooLong
+FitsItems (Elements x) r = HasEncoding (vec element) x → r ≢ Err TooLong
+FitsItems (Globals x) r = HasEncoding (vec global_item) x → r ≢ Err TooLong
+FitsItems (Imports x) r = HasEncoding (vec import_format) x → r ≢ Err TooLong
+FitsItems (Start x) r = HasEncoding u32 x → r ≢ Err TooLong
+FitsItems (Tables x) r = HasEncoding (vec table_item) x → r ≢ Err TooLong
+FitsItems (Names x) r = HasEncoding name_payload x → r ≢ Err TooLong
+FitsItems (Linking x) r = HasEncoding linking_payload x → r ≢ Err TooLong
+FitsItems (Producers x) r = HasEncoding producers_payload x → r ≢ Err TooLong
+FitsItems (Hints x) r = HasEncoding hints_payload x → r ≢ Err TooLong
+FitsItems (Core x) r = HasEncoding core_payload x → r ≢ Err TooLong
+FitsItems (CoreModules x) r = HasEncoding modules_payload x → r ≢ Err TooLong
+FitsItems (CoreInstances x) r = HasEncoding instances_payload x → r ≢ Err TooLong
+FitsItems (CoreStack x) r = HasEncoding stack_payload x → r ≢ Err TooLong
+FitsItems (Types x) r = HasEncoding (vec type_item) x → r ≢ Err TooLong
+FitsItems x r = ⊥
+
+pub items_fit : (x : Contents) (r : Result (Unit {0}) Refused) → FitsItems x r → HasEncoding (content (kind_in x)) x → r ≢ Err TooLong
+items_fit (Bodies x) r fits h = fits (mapped_encoded Bodies _ x (λ z e. cc e) h)
+items_fit (Segments x) r fits h = fits (mapped_encoded Segments _ x (λ z e. cc e) h)
+items_fit (DataCount x) r fits h = fits (mapped_encoded DataCount _ x (λ z e. cc e) h)
+items_fit (Elements x) r fits h = fits (mapped_encoded Elements _ x (λ z e. cc e) h)
+items_fit (Exports x) r fits h = absurd fits
+items_fit (Functions x) r fits h = absurd fits
+items_fit (Globals x) r fits h = fits (mapped_encoded Globals _ x (λ z e. cc e) h)
+items_fit (Imports x) r fits h = fits (mapped_encoded Imports _ x (λ z e. cc e) h)
+items_fit (Memories x) r fits h = absurd fits
+items_fit (Start x) r fits h = fits (mapped_encoded Start _ x (λ z e. cc e) h)
+items_fit (Tables x) r fits h = fits (mapped_encoded Tables _ x (λ z e. cc e) h)
+items_fit (Tags x) r fits h = absurd fits
+items_fit (Names x) r fits h = fits (mapped_encoded Names _ x (λ z e. cc e) h)
+items_fit (Linking x) r fits h = fits (mapped_encoded Linking _ x (λ z e. cc e) h)
+items_fit (Producers x) r fits h = fits (mapped_encoded Producers _ x (λ z e. cc e) h)
+items_fit (Hints x) r fits h = fits (mapped_encoded Hints _ x (λ z e. cc e) h)
+items_fit (Core x) r fits h = fits (mapped_encoded Core _ x (λ z e. cc e) h)
+items_fit (CoreModules x) r fits h = fits (mapped_encoded CoreModules _ x (λ z e. cc e) h)
+items_fit (CoreInstances x) r fits h = fits (mapped_encoded CoreInstances _ x (λ z e. cc e) h)
+items_fit (CoreStack x) r fits h = fits (mapped_encoded CoreStack _ x (λ z e. cc e) h)
+items_fit (Custom x) r fits h = absurd fits
+items_fit (Raw x) r fits h = absurd fits
+items_fit (Types x) r fits h = fits (mapped_encoded Types _ x (λ z e. cc e) h)
+
+-- Each member of a list that has an encoding has a property that each decoded member has.
+each_encodable : {T X : Type 0} (F : Format X) (view : T → X) (P : T → Type 0) → ((x : T) (s : List ℕ) → F padded s (view x) → P x) → (xs : List T) (s : List ℕ) → members F padded s (map view xs) → All P xs
+each_encodable F view P each [] s h = All-nil P
+each_encodable F view P each (x ∷ xs) s h = All-cons P x xs (each x h.0 h.3) (each_encodable F view P each xs h.1 h.4)
+
+all_units : {T : Type 0} (xs : List T) → All (λ x. Unit {0}) xs
+all_units [] = All-nil (λ x. Unit {0})
+all_units (x ∷ xs) = All-cons (λ x. Unit {0}) x xs tt (all_units xs)
+
+export_fits : (e : Export) (s : List ℕ) → export padded s (item_of e) → IsEncodableExport e
+export_fits e s h = name_encodable e.name.now (left_encoded name _ e.name.now (h.0.1) (subst (λ z. HasEncoding (pair name (pair (coded kind_code) u32)) (z, h.0.1)) (ap (λ i. i.name) h.1) (record { bytes = s; decoded = h.2 })))
+
+pub exports_fit : (es : List Export) → HasEncoding (content kinds.Exports) (Exports (map item_of es)) → IsEncodableVec IsEncodableExport es
+exports_fit es h =
+    let k = mapped_encoded Exports (vec export) (map item_of es) (λ z e. cc e) h in
+    record { count = viewed_encodable export item_of es k; members = each_encodable export item_of IsEncodableExport export_fits es _ (members_encoded export (map item_of es) k).decoded }
+
+pub functions_fit : (ns : List ℕ) → HasEncoding (content kinds.Functions) (Functions ns) → HasEncoding (vec u32) (map (λ n. n) ns)
+functions_fit ns h = subst (λ z. HasEncoding (vec u32) z) (sym (map-id ns)) (mapped_encoded Functions (vec u32) ns (λ z e. cc e) h)
+
+pub memories_fit : (ms : List MemoryType) → HasEncoding (content kinds.Memories) (Memories ms) → IsEncodableVec (λ m. Unit {0}) ms
+memories_fit ms h = record { count = counted_encodable memory_type ms (mapped_encoded Memories (vec memory_type) ms (λ z e. cc e) h); members = all_units ms }
+
+pub tags_fit : (ts : List TagType) → HasEncoding (content kinds.Tags) (Tags ts) → IsEncodableVec (λ t. Unit {0}) ts
+tags_fit ts h = record { count = counted_encodable tag_type ts (mapped_encoded Tags (vec tag_type) ts (λ z e. cc e) h); members = all_units ts }
+
+pub custom_fits : (n bytes : List ℕ) → HasEncoding (content kinds.Custom) (Custom (n, bytes)) → HasEncoding name n
+custom_fits n bytes h = left_encoded name any_bytes n bytes (mapped_encoded Custom (pair name any_bytes) (n, bytes) (λ z e. cc e) h)
+
+pub ruleset fitting = (items_fit, exports_fit, functions_fit, memories_fit, tags_fit, custom_fits)
 
 -- ---- unambiguous
 
@@ -319,7 +404,7 @@ keeps_name = kept_among known_names (names_kept, (linking_kept, (producers_kept,
 -- If the bytes are a vector of `F`, a section of the kind has as many items, which are the image by
 -- `f`.
 abbrev pub CountsAs : {X : Type 0} → (List X → Contents) → Format X → SectionKind → Type 0
-CountsAs {X} f F k = (m : Mode) (kind : SectionKind) (bytes : List ℕ) (r : Result (Option ℕ) DecodeError) → kind ≡ k → IfOk r (λ n. (xs : List X) × vec F m bytes xs × (n ≡ Some (length xs))) → IfOk r (λ n. (x : Contents) × content kind m bytes x × (n ≡ number_in x))
+CountsAs {X} f F k = (m : Mode) (kind : SectionKind) (bytes : List ℕ) (r : Result (Option ℕ) Failure) → kind ≡ k → IfOk r (λ n. (xs : List X) × vec F m bytes xs × (n ≡ Some (length xs))) → IfOk r (λ n. (x : Contents) × content kind m bytes x × (n ≡ number_in x))
 
 count_as : {X : Type 0} (f : List X → Contents) {F : Format X} {k : SectionKind} → DecodesAs f (vec F) k → ((xs : List X) → Some (length xs) ≡ number_in (f xs)) → CountsAs f F k
 count_as f decodes numbered m kind bytes (Ok n) e h = (f h.0, (decodes m kind bytes e).1 h.0 h.1, h.2 ∙ numbered h.0)

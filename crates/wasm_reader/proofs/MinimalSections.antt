@@ -3,7 +3,8 @@ use Rattle.wasm_reader.specs.{Contents, Bodies, content, kind_in, section, Takes
 use Rattle.wasm_reader.specs.declared.kinds.SectionKind.{SectionKind}
 use Rattle.wasm_reader.proofs.KindLaws.{content_whole, kind_is}
 use Rattle.wasm_base.proofs.Words.{◌≡◌, ℕ, ◌+◌, List, [], ◌++◌, length, drop, refl, sym, ap, subst, ◌∙◌, arith, length-drop, append_cancel_left, minimal, padded, builders, any_bytes, size_prefixed}
-use Rattle.wasm_base.proofs.Words.{vec, Unambiguous, Decodes, size_prefixed_encoding, HasEncodableSize, size_prefixed_unambiguous, decodes_same, size_prefixed_encodes, AppendsMinimal, mapped_appended}
+use Rattle.wasm_base.proofs.Words.{vec, Unambiguous, Decodes, size_prefixed_encoding, HasEncodableSize, size_prefixed_unambiguous, decodes_same, AppendsMinimal, mapped_appended, take}
+use Rattle.wasm_base.proofs.MinimalEncodings.{size_prefixed_appended}
 use Rattle.std.proofs.lemmas.List.{length-append}
 use Rattle.wasm_code.proofs.Words.{Body, body}
 use Rattle.wasm_reader.proofs.DecodeSections.{takes}
@@ -24,25 +25,31 @@ bodies_shortened kind sized old new e h = subst (λ k. IsShortened k sized old n
 pub items_shortened : (kind : SectionKind) (sized old new : List ℕ) (x : Contents) → content kind padded sized x → AppendsMinimal (content (kind_in x)) x old new → IsShortened kind sized old new
 items_shortened kind sized old new x h a = (x, h, subst (λ k. AppendsMinimal (content k) x old new) (kind_is kind sized x h) a)
 
--- The content is appended to an empty buffer, and then with its size prefix to the sink.
-pub shortened : (kind : SectionKind) (bytes sized rest start encoding old new : List ℕ) (n : ℕ) → Decodes (size_prefixed any_bytes) padded bytes sized rest → n + length rest ≡ length bytes → start ≡ [] → IsShortened kind sized start encoding → HasEncodableSize encoding → new ≡ old ++ size_prefixed_encoding encoding → Shortens kind bytes n old new
-shortened kind bytes sized rest start encoding old new n h l empty s encodable e =
+-- The payload encodes items of the kind, and the minimal encoding of their section is appended.
+abbrev pub IsSectionShortened : SectionKind → List ℕ → List ℕ → List ℕ → Type 0
+IsSectionShortened kind sized old new = (x : Contents) × content kind padded sized x × AppendsMinimal (section kind) x old new
+
+-- The payload is appended, and then its size before it.
+pub sized : (kind : SectionKind) (payload old middle new : List ℕ) (start : ℕ) → start ≡ length old → IsShortened kind payload old middle → HasEncodableSize (drop start middle) → new ≡ take start middle ++ size_prefixed_encoding (drop start middle) → IsSectionShortened kind payload old new
+sized kind payload old middle new start e s encodable is = (s.0, s.1, size_prefixed_appended (content kind) s.0 start old middle new e s.2 encodable is)
+
+pub shortened : (kind : SectionKind) (bytes payload rest old new : List ℕ) (n : ℕ) → Decodes (size_prefixed any_bytes) padded bytes payload rest → n + length rest ≡ length bytes → IsSectionShortened kind payload old new → Shortens kind bytes n old new
+shortened kind bytes payload rest old new n h l s =
     let x = s.0 in
     let given = s.2 in
-    let t = takes kind bytes sized rest x n h s.1 l in
+    let t = takes kind bytes payload rest x n h s.1 l in
     let read = t.decodes in
-    let is : encoding ≡ given.encoding = given.appended ∙ ap (λ z. z ++ given.encoding) empty in
-    let encodes = size_prefixed_encodes (content kind) encoding x encodable (subst (λ z. content kind minimal z x) (sym is) (given.encodes read.encodes.content read.encodes.encodes)) in
+    let encodes = given.encodes read.front read.encodes in
     let unique = section_unambiguous kind in
     let less = unique.encodings.shorter builders read.front x read.encodes in
-    let same = unique.encodings.one builders less.0 (size_prefixed_encoding encoding) x less.1 encodes in
+    let same = unique.encodings.one builders less.0 given.encoding x less.1 encodes in
     record {
       value = x;
       takes = t;
-      encoding = size_prefixed_encoding encoding;
+      encoding = given.encoding;
       encodes = encodes;
       shorter = omega (arith, less.2, ap length same, ap length read.split, length-append read.front (drop n bytes), length-drop n bytes, t.within);
-      appended = e;
+      appended = given.appended;
     }
 
 -- ---- one encoding

@@ -193,10 +193,11 @@ abbrev pub AreMoved : Bool → Target → ℕ → Bool → Bool → Type 0
 AreMoved is_moved target id is_changed is_level =
     (w : Rewrite) (from to : ℕ) → id ≡ w.section.id → IsChange is_changed w.section w.encoding → Decides is_level (from ≡ to) → MatchBool is_moved (Stays target from to w → ⊥) (Stays target from to w)
 
--- The number of bytes of the sections in the input, and in the output.
+-- The number of bytes of the sections in the input.
 abbrev pub size_before : List Rewrite → ℕ
 size_before ws = length (flat_map (λ w. bytes_of w.section) ws)
 
+-- The number of bytes of the sections in the output.
 abbrev pub size_after : List Rewrite → ℕ
 size_after ws = length (flat_map written ws)
 

@@ -1,9 +1,10 @@
 // Kinds of sections: the reader and the minimizer of each.
-ghost use Rattle.std.specs.Prelude.{◌≡◌, ◌≢◌, IfOk, IfErr, OnOk, OnErr};
+ghost use Rattle.std.specs.Prelude.{◌≡◌, ◌≢◌, Err, IfOk, IfErr, OnOk, OnErr};
 ghost use Rattle.wasm_base.specs.Continuing.{RejectsWhole};
 ghost use Rattle.wasm_base.specs.Numbers.{padded_of};
-ghost use Rattle.wasm_base.specs.Minimal.{AppendsMinimal};
+ghost use Rattle.wasm_base.specs.Minimal.{AppendsMinimal, HasEncoding};
 ghost use Rattle.wasm_base.specs.declared.fault.ReadFault.TheVariants.{Memory};
+ghost use Rattle.wasm_base.specs.declared.refused.Refused.TheVariants.{TooLong};
 ghost use Rattle.wasm_reader.specs.Kinds.{Contents, Custom, content, contents_of, kind_in, kind_named, kind_numbered, kind_of_id as kind_among_ids, number_in};
 ghost use Rattle.wasm_reader.specs.declared.kinds.SectionKind.TheVariants as kinds;
 
@@ -279,9 +280,11 @@ pub(crate) fn read_number<'a, A: Allocator + Copy, G: Grammar>(
 
 /// Appends the minimal encoding of a custom section's payload: its name, and its data. On an error,
 /// the sink is unchanged.
+#[tactic(auto, using(crate::proofs::KindLaws::custom_fits))]
 fn append_custom<B: Allocator>(name: &str, bytes: &[u8], sink: &mut Vec<u8, B>) -> Result<()>
     ensures ok { OnOk result (AppendsMinimal (content kinds.Custom) (Custom (name.now, bytes.now)) sink.old.items sink.new.items) }
     ensures err { OnErr result (sink.new.items ≡ sink.old.items) }
+    ensures too_long { HasEncoding (content kinds.Custom) (Custom (name.now, bytes.now)) → result ≢ Err TooLong }
 {
     let start = sink.len();
     name.append_minimal(sink)?;
@@ -314,13 +317,14 @@ fn append_custom<B: Allocator>(name: &str, bytes: &[u8], sink: &mut Vec<u8, B>) 
 ///
 /// Returns `TooLong` if a count or a length is above 4294967295, and `Memory` if an allocation
 /// fails.
-#[tactic(auto, using(crate::proofs::KindLaws::contents))]
+#[tactic(auto, using(crate::proofs::KindLaws::contents, crate::proofs::KindLaws::fitting))]
 pub fn encode_items<A: Allocator, B: Allocator>(
     items: &Items<'_, A>,
     sink: &mut Vec<u8, B>,
 ) -> Result<()>
     ensures ok { OnOk result (AppendsMinimal (content (kind_in (contents_of items.now))) (contents_of items.now) sink.old.items sink.new.items) }
     ensures err { OnErr result (sink.new.items ≡ sink.old.items) }
+    ensures too_long { HasEncoding (content (kind_in (contents_of items.now))) (contents_of items.now) → result ≢ Err TooLong }
 {
     match items {
         Items::Bodies(items) => items.append_minimal(sink),

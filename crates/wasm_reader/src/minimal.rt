@@ -5,24 +5,26 @@ ghost use Rattle.wasm_base.specs.Continuing.{RejectsWhole};
 ghost use Rattle.wasm_base.specs.Numbers.{padded};
 ghost use Rattle.wasm_base.specs.Decoding.{Rejects};
 ghost use Rattle.wasm_code.specs.Bodies.{Body, body};
-ghost use Rattle.wasm_base.specs.Minimal.{AppendsMinimal};
+ghost use Rattle.wasm_base.specs.Minimal.{AppendsMinimal, IsFrontOf};
 ghost use Rattle.wasm_base.specs.declared.fault.ReadFault.TheVariants.{Memory};
 ghost use Rattle.wasm_reader.specs.Kinds.{Contents, content};
 ghost use Rattle.wasm_reader.specs.Sections.{section, Shortens};
 
 use crate::kinds::{SectionKind, encode_items, read_content};
 use std::alloc::Allocator;
-use wasm_base::{DecodeError, Padded, ReadFault, Readable, Shorten, encode_size_prefixed};
+use wasm_base::{DecodeError, Padded, ReadFault, Readable, Shorten, prefix_size_since};
 use wasm_code::shorten_body;
 
 /// Appends the minimal encoding of a vector of bodies that occupies all of the bytes. It keeps none
-/// of them.
+/// of them. After an error, the old bytes are still the front of the sink.
+#[tactic(auto, using(wasm_base::proofs::MinimalEncodings::front_steps))]
 fn shorten_bodies<A: Allocator + Copy, B: Allocator>(
     bytes: &[u8],
     alloc: A,
     sink: &mut Vec<u8, B>,
 ) -> Result<(), DecodeError>
     ensures found { OnOk result ((xs : List Body) × vec (size_prefixed body) padded bytes.now xs × AppendsMinimal (vec (size_prefixed body)) xs sink.old.items sink.new.items) }
+    ensures front { IsFrontOf sink.old.items sink.new.items }
     ensures none { IfErr result (λ e. e.cause ≢ Memory → RejectsWhole (vec (size_prefixed body)) padded bytes.now) }
 {
     let (count, mut rest) = <u32 as Readable<'_, A, Padded>>::read(bytes, alloc)?;
@@ -39,7 +41,9 @@ fn shorten_bodies<A: Allocator + Copy, B: Allocator>(
     }
 }
 
-/// Appends the minimal encoding of the payload of a section of this kind.
+/// Appends the minimal encoding of the payload of a section of this kind. After an error, the old
+/// bytes are still the front of the sink.
+#[tactic(auto, using(wasm_base::proofs::MinimalEncodings::front_steps))]
 fn shorten_content<A: Allocator + Copy, B: Allocator>(
     kind: SectionKind,
     bytes: &[u8],
@@ -47,6 +51,7 @@ fn shorten_content<A: Allocator + Copy, B: Allocator>(
     sink: &mut Vec<u8, B>,
 ) -> Result<(), DecodeError>
     ensures found { OnOk result ((x : Contents) × content kind padded bytes.now x × AppendsMinimal (content kind) x sink.old.items sink.new.items) }
+    ensures front { IsFrontOf sink.old.items sink.new.items }
     ensures none { IfErr result (λ e. e.cause ≢ Memory → RejectsWhole (content kind) padded bytes.now) }
 {
     match kind {
@@ -57,6 +62,25 @@ fn shorten_content<A: Allocator + Copy, B: Allocator>(
             Ok(())
         }
     }
+}
+
+/// Appends the minimal encoding of a section of this kind, whose payload these bytes are. After an
+/// error, the old bytes are still the front of the sink.
+#[tactic(auto, using(wasm_base::proofs::MinimalEncodings::front_steps))]
+fn shorten_sized<A: Allocator + Copy, B: Allocator>(
+    kind: SectionKind,
+    bytes: &[u8],
+    alloc: A,
+    sink: &mut Vec<u8, B>,
+) -> Result<(), DecodeError>
+    ensures found { OnOk result ((x : Contents) × content kind padded bytes.now x × AppendsMinimal (section kind) x sink.old.items sink.new.items) }
+    ensures front { IsFrontOf sink.old.items sink.new.items }
+    ensures none { IfErr result (λ e. e.cause ≢ Memory → RejectsWhole (content kind) padded bytes.now) }
+{
+    let start = sink.len();
+    shorten_content(kind, bytes, alloc, sink)?;
+    prefix_size_since(sink, start)?;
+    Ok(())
 }
 
 /// Appends the minimal encoding of the section at the front, and returns the section's length in
@@ -100,8 +124,12 @@ pub(crate) fn shorten_in<A: Allocator + Copy, B: Allocator>(
     ensures none { IfErr result (λ e. e ≢ Memory → Rejects (section kind) padded bytes.now) }
 {
     let (sized, rest) = <&[u8] as Readable<'_, A, Padded>>::read(bytes, alloc)?;
-    let mut content = Vec::with_capacity(alloc, sized.len())?;
-    shorten_content(kind, sized, alloc, &mut content)?;
-    encode_size_prefixed(sink, &content)?;
-    Ok(bytes.len() - rest.len())
+    let start = sink.len();
+    match shorten_sized(kind, sized, alloc, sink) {
+        Ok(()) => Ok(bytes.len() - rest.len()),
+        Err(error) => {
+            sink.truncate(start);
+            Err(error.cause())
+        }
+    }
 }

@@ -43,9 +43,9 @@ impl ReadError {
         ensures from { end ≤ result.offset + size }
         ensures within { result.offset ≤ end }
     {
-        let left = size.min(error.left as usize);
+        let left = size.min(error.left() as usize);
         ReadError {
-            cause: error.cause,
+            cause: error.cause(),
             offset: end - left,
         }
     }

@@ -49,7 +49,7 @@ fn read_name<'a, A: Allocator + Copy>(
     }
     match <&'a str as Readable<'a, A, Padded>>::read(payload, alloc) {
         Ok((name, _)) => Ok(Some(name)),
-        Err(error) if error.cause == ReadFault::Memory => Err(error),
+        Err(error) if error.cause() == ReadFault::Memory => Err(error),
         Err(_) => Ok(None),
     }
 }

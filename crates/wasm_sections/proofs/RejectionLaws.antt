@@ -1,5 +1,5 @@
 -- This file proves that certain bytes are not a section.
-use Rattle.wasm_base.proofs.Words.{◌≡◌, ℕ, ◌<◌, List, [], ◌∷◌, ◌++◌, false, pos, refl, sym, subst, ◌∙◌, append-nil, arith, lit<, inl, inr, ints, IsUtf8-nil, counted_format, u32, impossible, choice}
+use Rattle.wasm_base.proofs.Words.{builders, ◌≡◌, ℕ, ◌<◌, List, [], ◌∷◌, ◌++◌, false, pos, refl, sym, subst, ◌∙◌, append-nil, arith, lit<, inl, inr, ints, IsUtf8-nil, counted_format, u32, impossible, choice}
 use Rattle.wasm_base.proofs.Words.{name, mapped, such, RejectsAllAfterPadded, minimal, padded, name_unambiguous, then_at, tagged_at, begins_mapped, u32_unambiguous, u32_small, rejects_padded}
 use Rattle.wasm_base.proofs.Words.{one_item, groups_encoding-last}
 use Rattle.std.specs.declared.alloc.Global.{Global}
@@ -79,7 +79,7 @@ padded_group =
 
 no_segment : (x : DataItem) → data_item padded (2 ∷ 0 ∷ 65 ∷ 0 ∷ 11 ∷ 1 ∷ 9 ∷ []) x → ⊥
 no_segment x h =
-    let flag = tagged_at {F = u32} {G = choice data_tags (λ flag. impossible)} u32_unambiguous padded (2 ∷ []) 2 (u32_small padded 2 (omega arith)) (0 ∷ 65 ∷ 0 ∷ 11 ∷ 1 ∷ 9 ∷ []) (2 ∷ 0 ∷ 65 ∷ 0 ∷ 11 ∷ 1 ∷ 9 ∷ []) [] x refl h in
+    let flag = tagged_at {F = u32} {G = choice (data_tags builders) (λ flag. impossible)} u32_unambiguous padded (2 ∷ []) 2 (u32_small padded 2 (omega arith)) (0 ∷ 65 ∷ 0 ∷ 11 ∷ 1 ∷ 9 ∷ []) (2 ∷ 0 ∷ 65 ∷ 0 ∷ 11 ∷ 1 ∷ 9 ∷ []) [] x refl h in
     let parts = flag.2.2 in
     let memory = u32_unambiguous.unique padded (0 ∷ []) parts.front (65 ∷ 0 ∷ 11 ∷ 1 ∷ 9 ∷ []) parts.back 0 flag.2.0.0 (u32_small padded 0 (omega arith)) parts.first.0 (flag.1 ∙ append-nil flag.0 ∙ parts.joined) in
     omega (arith, memory.0, parts.first.1)

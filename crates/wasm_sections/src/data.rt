@@ -1,5 +1,6 @@
 // The data section: its builder, its reader and its minimizer.
 ghost use Rattle.std.specs.Prelude.{◌≡◌, ◌≢◌, ℕ, List, ◌++◌, IfOk, ⊤, IfErr, Err, OnOk, map};
+ghost use Rattle.std.specs.Bool.{Decides};
 ghost use Rattle.wasm_base.specs.Calls.{Adds};
 ghost use Rattle.wasm_base.specs.Formats.{byte, pair, vec};
 ghost use Rattle.wasm_base.specs.Continuing.{RejectsWhole};
@@ -12,6 +13,7 @@ ghost use Rattle.wasm_code.specs.Expressions.{expression};
 ghost use Rattle.wasm_base.specs.Minimal.{AppendsMinimal, IsFrontOf, HasEncoding};
 ghost use Rattle.wasm_base.specs.declared.fault.ReadFault.TheVariants.{Memory};
 ghost use Rattle.wasm_sections.specs.Constants.{instructions_view};
+ghost use Rattle.wasm_immediates.specs.ImmediateFormats.{HasIndex};
 ghost use Rattle.wasm_sections.specs.DataSegments.{data_items, DataItem, active, data_item, segment_view};
 
 use crate::counted_section::{CountedSection, ItemKind};
@@ -255,6 +257,16 @@ impl<'a, A: Allocator> Layout for Segment<'a, A> {
     {}
 }
 
+/// Returns `true` if the memory may be explicit, after flag 2: memory 0 in the standard's grammar
+/// alone.
+#[tactic(auto, using(crate::proofs::DataLaws::index_steps))]
+#[inline]
+fn has_index<G: Grammar>(memory: u32) -> bool
+    ensures { Decides result (HasIndex G.grammar memory) }
+{
+    memory != 0 || G::is_standard()
+}
+
 impl<'a, A: Allocator + Copy, G: Grammar> Readable<'a, A, G> for Segment<'a, A> {
     #[tactic(auto, using(crate::proofs::DataLaws::segment_steps))]
     fn read(bytes: &'a [u8], alloc: A) -> Result<(Segment<'a, A>, &'a [u8]), DecodeError> {
@@ -282,7 +294,7 @@ impl<'a, A: Allocator + Copy, G: Grammar> Readable<'a, A, G> for Segment<'a, A> 
             }
             2 => {
                 let (memory, rest) = <u32 as Readable<'a, A, G>>::read(rest, alloc)?;
-                if memory == 0 {
+                if !has_index::<G>(memory) {
                     return Err(ReadFault::UnknownTag.just_before(rest));
                 }
                 let ((offset, Bytes(bytes)), rest) = <(Expression<A>, Bytes<'a>) as Readable<
@@ -389,7 +401,7 @@ impl<'a, A: Allocator + Copy, G: Grammar> Skip<'a, A, G> for Segment<'a, A> {
             }
             2 => {
                 let (memory, rest) = <u32 as Readable<'a, A, G>>::read(rest, alloc)?;
-                if memory == 0 {
+                if !has_index::<G>(memory) {
                     return Err(ReadFault::UnknownTag.just_before(rest));
                 }
                 let rest = <(Expression<A>, Dropped<Bytes<'a>>) as Skip<'a, A, G>>::skip(

@@ -3,13 +3,16 @@
 //!
 //! `ItemLaws` says of a kind of items that its format is unambiguous, and that a well-formed record
 //! encodes its item.
-ghost use Rattle.std.specs.Prelude.{◌≡◌, All, ◌∷◌, []};
+ghost use Rattle.std.specs.Prelude.{◌≡◌, ℕ, All, List, ◌∷◌, []};
 ghost use Rattle.wasm_base.specs.Entries.{ItemLaws, counted_format};
-ghost use Rattle.wasm_base.specs.Formats.{u32 as u32_format, size_prefixed, vec};
+ghost use Rattle.wasm_base.specs.Formats.{u32 as u32_format, byte, pair, size_prefixed, vec};
+ghost use Rattle.wasm_base.specs.Numbers.{standard};
 ghost use Rattle.wasm_base.specs.Modules.{DecodesPayloads, DecodesPayloadsPadded};
 ghost use Rattle.wasm_base.specs.Decoding.{Unambiguous, UnambiguousPadded};
+ghost use Rattle.wasm_code.specs.Expressions.{expression};
+ghost use Rattle.wasm_insn.specs.Plain.{Plain};
 ghost use Rattle.wasm_sections.specs.Constants.{Stored};
-ghost use Rattle.wasm_sections.specs.DataSegments.{data_item, data_items};
+ghost use Rattle.wasm_sections.specs.DataSegments.{active, data_item, data_items};
 ghost use Rattle.wasm_sections.specs.Elements.{ElementItem, element, element_items};
 ghost use Rattle.wasm_sections.specs.Exports.{IsExport, export, export_items};
 ghost use Rattle.wasm_sections.specs.GivenElements.{HaveOneEncoding};
@@ -55,6 +58,13 @@ pub fn sections()
     ensures data_items { ItemLaws data_items }
     ensures import_items { ItemLaws import_items }
     ensures tag_items { ItemLaws tag_items }
+{}
+
+/// The standard's grammar also has an active data segment of memory 0 after flag 2. It is the same
+/// segment as the one after flag 0.
+#[tactic(auto, using(crate::proofs::DataLaws::memory_zero))]
+pub fn standard()
+    ensures { (bytes : List ℕ) (offset : List Plain) (content : List ℕ) → pair expression (vec byte) standard bytes (offset, content) → data_item standard (0x02 ∷ 0x00 ∷ bytes) (active 0 offset content) }
 {}
 
 /// With padded numbers the formats of sections are unambiguous too. A minimal encoding is also an

@@ -1,7 +1,7 @@
 -- This file proves how a cut at the first space gives the words of a line.
 use Rattle.wasm_base.proofs.Words.{◌≡◌, ℕ, ◌<◌, ◌==◌, false, List, [], ◌∷◌, length, refl, ap, ◌∙◌, sym, arith, ◌-◌, ◌≢◌, ◌++◌, get_or, take, cond, Bor, None, Some, Option, unwrap_or, eq-eqb, subst}
-use Rattle.wasm_base.proofs.Words.{◌+◌, Bool, true, not, drop, lit<, common_steps, IfSome, MatchOption, filter, CutsPrefixes, FindsCharPrefix, IsTrimStartMatches, drop_at_char, slice_get, slice_split}
-use Rattle.wasm_base.proofs.Words.{before_first, after_first, position_or_len, slice_get-get_or, drop_all, take_more, take_all, length-map, get_or-map, strip_carriage_return, All-from_get_or}
+use Rattle.wasm_base.proofs.Words.{◌+◌, Bool, true, not, drop, lit<, common_steps, IfSome, MatchOption, filter, CutsPrefixes, FindsCharPrefix, IsTrimStartMatches, drop_at_char, slice_split}
+use Rattle.wasm_base.proofs.Words.{before_first, after_first, position_or_len, drop_all, take_more, length-map, get_or-map, strip_carriage_return, All-from_get_or}
 use Rattle.wasm_base.proofs.Words.{slice_split_first, slice_split_none, fails_before_first}
 use Rattle.std.proofs.lemmas.List.{length-take}
 use Rattle.wasm_tool.specs.{is_word, lines_of, rest_of, without_spaces, words_of}
@@ -124,21 +124,15 @@ pub record IsPart (text part : List ℕ) (n : ℕ) : Type 0 where
   pub is : part ≡ get_or (slice_split (λ b. b == 0x0A) text) n part
 
 -- The line of the part of a text at this index.
-module _ {text part line : List ℕ} {n : ℕ} (found : IsPart text part n) (stripped : line ≡ strip_carriage_return part) where
+module _ {text part : List ℕ} {n : ℕ} (found : IsPart text part n) where
   pub within : n < length (lines_of text)
   within = omega (arith, found.within, length-map (slice_split (λ b. b == 0x0A) text) strip_carriage_return)
 
-  line_is : get_or (lines_of text) n line ≡ line
-  line_is = get_or-map strip_carriage_return (slice_split (λ b. b == 0x0A) text) n part line found.within ∙ ap strip_carriage_return (sym found.is) ∙ sym stripped
+  pub line_is : (line : List ℕ) → get_or (lines_of text) n line ≡ strip_carriage_return part
+  line_is line = get_or-map strip_carriage_return (slice_split (λ b. b == 0x0A) text) n part line found.within ∙ ap strip_carriage_return (sym found.is)
 
-  pub line_at : slice_get (lines_of text) n ≡ Some line
-  line_at = slice_get-get_or (lines_of text) n line within ∙ ap Some line_is
-
-  pub one_more_line : take (n + 1) (lines_of text) ≡ take n (lines_of text) ++ line ∷ []
-  one_more_line = take_more (lines_of text) n line within ∙ ap (λ l. take n (lines_of text) ++ l ∷ []) line_is
-
-pub all_lines : (text : List ℕ) (n : ℕ) → n ≡ length (slice_split (λ b. b == 0x0A) text) → take n (lines_of text) ≡ lines_of text
-all_lines text n e = take_all n (lines_of text) (omega (arith, length-map (slice_split (λ b. b == 0x0A) text) strip_carriage_return))
+pub lines_of-length : (text : List ℕ) → length (lines_of text) ≡ length (slice_split (λ b. b == 0x0A) text)
+lines_of-length text = length-map (slice_split (λ b. b == 0x0A) text) strip_carriage_return
 
 pub part_at : (text : List ℕ) {part : List ℕ} {n count : ℕ} → n ≡ count
     → (count < length (slice_split (λ b. b == 0x0A) text)) × (part ≡ get_or (slice_split (λ b. b == 0x0A) text) count part) → IsPart text part n

@@ -2,14 +2,15 @@
 -- from its pieces.
 use Rattle.wasm_base.proofs.Words.{◌≡◌, ℕ, ◌<◌, ◌≤◌, List, [], ◌∷◌, ◌++◌, length, false, Result, Ok, Err, ◌≢◌, refl, sym, ap, ◌∙◌, lit<, lit≤, arith, length-append, append-nil, OnOk, flat_map}
 use Rattle.wasm_base.proofs.Words.{unsigned_encoding, longest, size_prefixed_encoding, HasEncodableSize, any_section_encoding, joined, section_encoding, IsEncodableSection, joined_push}
-use Rattle.wasm_base.proofs.Words.{groups_encoding-last, on_ok, All-nil, All-push}
+use Rattle.wasm_base.proofs.NumberEncodings.{length-groups_encoding-positive}
+use Rattle.wasm_base.proofs.Words.{groups_encoding-last, on_ok, ℤ, All-from_get_or, All-nil, All-push, IsEncodableVec, vec_encoding}
 use Rattle.wasm_base.specs.declared.refused.Refused.{Refused}
 use Rattle.wasm_base.specs.declared.refused.Refused.TheVariants.{TooLong}
 use Rattle.std.specs.Prelude.{All}
 use Rattle.wasm_code.proofs.Words.{expression_encoding}
 use Rattle.wasm_sections.proofs.Words.{active_encoding}
 use Rattle.wasm_custom.proofs.Words.{IsEncodableNamed, named_encoding, subsection_encoding, name_name}
-use Rattle.wasm_tool.specs.{AreEncodableNames, names_of, section_of, Puts}
+use Rattle.wasm_tool.specs.{AreEncodableNames, constant_bytes, functions_encoding, names_of, section_of, Puts}
 
 -- If a section fits with one more item, its count was below 2^32 - 1.
 pub encodable_count : (items : List (List ℕ)) (item : List ℕ) → IsEncodableSection (items ++ item ∷ []) → length items < longest
@@ -30,10 +31,29 @@ pub encodable_name : (items : List (List ℕ)) (name rest : List ℕ) → IsEnco
 encodable_name items name rest h =
     omega (arith, encodable_item items (size_prefixed_encoding name ++ rest) h, length-append (size_prefixed_encoding name) rest, length-append (unsigned_encoding (length name)) name)
 
+-- So are the names of an import.
+pub encodable_import : (items : List (List ℕ)) (from name rest : List ℕ) → IsEncodableSection (items ++ (size_prefixed_encoding from ++ (size_prefixed_encoding name ++ rest)) ∷ []) → HasEncodableSize from × HasEncodableSize name
+encodable_import items from name rest h = (
+  encodable_name items from (size_prefixed_encoding name ++ rest) h,
+  omega (arith, encodable_item items (size_prefixed_encoding from ++ (size_prefixed_encoding name ++ rest)) h, length-append (size_prefixed_encoding from) (size_prefixed_encoding name ++ rest), length-append (size_prefixed_encoding name) rest, length-append (unsigned_encoding (length name)) name),
+)
+
 -- So are the bytes of a data segment.
 pub encodable_segment : (items : List (List ℕ)) (place bytes : List ℕ) → IsEncodableSection (items ++ active_encoding 0 place bytes ∷ []) → HasEncodableSize bytes
 encodable_segment items place bytes h =
     omega (arith, encodable_item items (active_encoding 0 place bytes) h, length-append (expression_encoding place) (size_prefixed_encoding bytes), length-append (unsigned_encoding (length bytes)) bytes)
+
+-- The functions of an element segment are at most 2^32 - 1.
+indices_count : (ns : List ℕ) → length ns ≤ length (flat_map unsigned_encoding ns)
+indices_count [] = omega arith
+indices_count (n ∷ ns) =
+    omega (arith, indices_count ns, length-groups_encoding-positive false 0x80 n (lit< tt), length-append (unsigned_encoding n) (flat_map unsigned_encoding ns))
+
+pub encodable_functions : (items : List (List ℕ)) (offset : ℤ) (ns : List ℕ) → IsEncodableSection (items ++ functions_encoding offset ns ∷ []) → IsEncodableVec (λ n. Unit {0}) ns
+encodable_functions items offset ns h = record {
+  count = omega (arith, encodable_item items (functions_encoding offset ns) h, indices_count ns, length-append (expression_encoding (constant_bytes offset)) (vec_encoding unsigned_encoding ns), length-append (unsigned_encoding (length ns)) (flat_map unsigned_encoding ns));
+  members = All-from_get_or (λ n. Unit {0}) ns 0 (λ k l. tt);
+}
 
 -- So is the name in a subsection of a name section that fits, and the count was below 2^32 - 1.
 pub names_count : (items : List (List ℕ)) (item : List ℕ) → AreEncodableNames (items ++ item ∷ []) → length items < longest

@@ -1,5 +1,5 @@
 -- This file passes on the definitions that those of the crates above use.
-pub use Rattle.wasm_tool.specs.Lines.{lines_of}
+pub use Rattle.wasm_tool.specs.Lines.{Script, first_script, versioned_script}
 pub use Rattle.wasm_tool.specs.Recipe.{entries_of, sections_of}
 unfoldable pub use Rattle.wasm_tool.specs.Recipe.{IsGood, recipe_module}
 pub use Rattle.wasm_tool.specs.Steps.{Explains}

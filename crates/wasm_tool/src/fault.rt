@@ -7,7 +7,8 @@ use wasm_base::Refused;
 /// The cause of an error in a recipe.
 #[derive(Clone, Copy, PartialEq, Eq, Debug, Error)]
 pub enum RecipeCause {
-    /// The first word of the line is not a command, or the kind of an export is unknown.
+    /// The first word of the line is not a command, or the kind of an export or an import is
+    /// unknown.
     #[error("unknown command")]
     UnknownCommand,
     /// A word that should be a number is not one in range.
@@ -25,6 +26,15 @@ pub enum RecipeCause {
     /// A count or a size of the module would exceed 4294967295.
     #[error("too long")]
     TooLong,
+    /// The line has words after those of the command. Version 1 ignores them.
+    #[error("surplus word")]
+    SurplusWord,
+    /// A word that should be a value type is not one.
+    #[error("unknown type")]
+    UnknownType,
+    /// No body is after the last locals.
+    #[error("locals without a body")]
+    UnusedLocals,
 }
 
 /// The error of a recipe, with the number of its line, counted from 1; 0 for an error after the

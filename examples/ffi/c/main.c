@@ -35,11 +35,14 @@ static void list(const uint8_t *module, size_t len) {
     }
 }
 
-static void assemble(const void *recipe, size_t len, size_t room) {
+/* dz_assemble or dz_assemble_versioned. */
+typedef uint64_t assembler(const uint8_t *recipe, size_t recipe_len, uint8_t *out, size_t out_len, uint64_t *line, uint32_t *cause);
+
+static void assemble_by(assembler *call, const void *recipe, size_t len, size_t room) {
     uint8_t out[ROOM] = {0};
     uint64_t line;
     uint32_t cause;
-    uint64_t size = dz_assemble(recipe, len, out, room, &line, &cause);
+    uint64_t size = call(recipe, len, out, room, &line, &cause);
     if (size == DZ_NO_ANSWER) {
         printf("line %" PRIu64 ": ", line);
         say(dz_recipe_cause, cause);
@@ -53,6 +56,14 @@ static void assemble(const void *recipe, size_t len, size_t room) {
         printf("%02x", out[i]);
     printf("\n");
     list(out, size);
+}
+
+static void assemble(const void *recipe, size_t len, size_t room) {
+    assemble_by(dz_assemble, recipe, len, room);
+}
+
+static void assemble_versioned(const char *recipe) {
+    assemble_by(dz_assemble_versioned, recipe, strlen(recipe), ROOM);
 }
 
 static void shorten(uint32_t kind, const void *bytes, size_t len) {
@@ -121,6 +132,8 @@ int main(void) {
     assemble("", 0, ROOM);
     assemble("body 0b\nbody zz", 15, ROOM);
     assemble("\xFF", 1, ROOM);
+    assemble_versioned("version 2\nlocals 1 i32\nbody 20000b # local 0");
+    assemble_versioned("version 2\nfunc 0 1");
     list((const uint8_t *)"\0asm\x01\0\0\0\x03\x01\x00\x00\x01\x05", 14);
     list((const uint8_t *)"\0asm", 4);
     shorten(DZ_FUNCTIONS, "\x86\x00\x01\x85\x80\x80\x80\x00", 8);

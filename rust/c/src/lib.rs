@@ -37,7 +37,7 @@ unsafe fn room<'a, T>(first: *mut T, len: usize) -> &'a mut [T] {
     unsafe { slice::from_raw_parts_mut(first, len) }
 }
 
-/// Assembles a recipe.
+/// Assembles a recipe of version 1.
 ///
 /// # Safety
 ///
@@ -54,6 +54,25 @@ pub unsafe extern "C" fn dz_assemble(
     let recipe = unsafe { list(recipe, recipe_len) };
     let out = unsafe { room(out, out_len) };
     recipes::dz_assemble(Global, recipe, out, line, cause)
+}
+
+/// Assembles a recipe of version 1 or 2.
+///
+/// # Safety
+///
+/// As the header says: pointers are valid for their lengths, and what is written overlaps nothing else.
+#[unsafe(no_mangle)]
+pub unsafe extern "C" fn dz_assemble_versioned(
+    recipe: *const u8,
+    recipe_len: usize,
+    out: *mut u8,
+    out_len: usize,
+    line: &mut u64,
+    cause: &mut u32,
+) -> u64 {
+    let recipe = unsafe { list(recipe, recipe_len) };
+    let out = unsafe { room(out, out_len) };
+    recipes::dz_assemble_versioned(Global, recipe, out, line, cause)
 }
 
 /// Lists the sections of a module.

@@ -16,8 +16,11 @@ use crate::base::sections::Section;
 /// // `item_encodable`: every count and length in that encoding is representable.
 /// item_encodable: { T → Type 0 }
 /// // Its encoding is the size prefix, the number of entries, and the entries.
-/// counted: { (builder : Self) → Self.encoding builder ≡ section_encoding (pieces builder) }
+/// counted: { (builder : Self)
+///     → Self.encoding builder ≡ section_encoding (pieces builder) }
 /// ```
+///
+/// Definitions: [`section_encoding`](crate::definitions::base::pieces::section_encoding). [How to read clauses](crate::definitions).
 pub trait Counted<T>: Section {
     /// Adds an item as the last entry.
     ///
@@ -29,8 +32,11 @@ pub trait Counted<T>: Section {
     /// # Proved
     ///
     /// ```text
-    /// ensures { Adds (item_encoding item.now) (item_encodable item.now) (pieces self.old) (pieces self.new) result }
+    /// ensures { Adds (item_encoding item.now) (item_encodable item.now) (pieces self.old)
+    ///     (pieces self.new) result }
     /// ```
+    ///
+    /// Definitions: [`Adds`](crate::definitions::base::calls::Adds). [How to read clauses](crate::definitions).
     fn add(&mut self, item: &T) -> Result<()>;
 }
 
@@ -44,8 +50,11 @@ pub trait Counted<T>: Section {
 /// # Proved
 ///
 /// ```text
-/// ensures { AddsAll B.item_encoding B.item_encodable items.now (B.pieces builder.old) (B.pieces builder.new) result }
+/// ensures { AddsAll B.item_encoding B.item_encodable items.now (B.pieces builder.old)
+///     (B.pieces builder.new) result }
 /// ```
+///
+/// Definitions: [`AddsAll`](crate::definitions::base::calls::AddsAll). [How to read clauses](crate::definitions).
 pub fn add_all<T, B: Counted<T>>(builder: &mut B, items: &[T]) -> Result<(), (usize, Refused)> {
     for (added, item) in items.iter().enumerate() {
         if let Err(refused) = builder.add(item) {

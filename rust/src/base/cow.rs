@@ -22,6 +22,8 @@ impl<'a, T, A: Allocator> CowSlice<'a, T, A> {
     /// ```text
     /// ensures { result.now ≡ items_of self.now }
     /// ```
+    ///
+    /// Definitions: [`items_of`](crate::definitions::base::cow::items_of). [How to read clauses](crate::definitions).
     pub fn as_slice(&self) -> &[T] {
         match self {
             CowSlice::Borrowed(items) => items,
@@ -35,10 +37,14 @@ impl<'a, T: Copy, A: Allocator + Copy> CowSlice<'a, T, A> {
     ///
     /// # Proved
     ///
+    /// After `Ok`: `same`. In any case: `memory`.
+    ///
     /// ```text
     /// ensures same { IfOk result (λ cow. items_of cow ≡ items_of self.now) }
     /// ensures memory { result ≢ Err Refused.TooLong }
     /// ```
+    ///
+    /// Definitions: [`items_of`](crate::definitions::base::cow::items_of). [How to read clauses](crate::definitions).
     pub fn clone(&self) -> Result<Self> {
         match self {
             CowSlice::Borrowed(items) => Ok(CowSlice::Borrowed(items)),
@@ -58,6 +64,8 @@ impl<'a, T: Copy, A: Allocator + Copy> CowSlice<'a, T, A> {
 /// encoding = { λ cow. vec_encoding T.encoding (items_of cow) }
 /// encodable = { λ cow. IsEncodableVec T.encodable (items_of cow) }
 /// ```
+///
+/// Definitions: [`vec_encoding`](crate::definitions::base::encodings::vec_encoding), [`items_of`](crate::definitions::base::cow::items_of), [`IsEncodableVec`](crate::definitions::base::encodings::IsEncodableVec). [How to read clauses](crate::definitions).
 impl<T: Encode, A: Allocator> Encode for CowSlice<'_, T, A> {
     fn encode<B: Sink>(&self, sink: &mut B) -> Result<()> {
         self.as_slice().encode(sink)
@@ -79,6 +87,8 @@ impl<'a, A: Allocator> CowStr<'a, A> {
     /// ```text
     /// ensures { result.now ≡ encoding_of self.now }
     /// ```
+    ///
+    /// Definitions: [`encoding_of`](crate::definitions::base::cow::encoding_of). [How to read clauses](crate::definitions).
     pub fn as_str(&self) -> &str {
         match self {
             CowStr::Borrowed(encoding) => encoding,
@@ -92,10 +102,14 @@ impl<'a, A: Allocator + Copy> CowStr<'a, A> {
     ///
     /// # Proved
     ///
+    /// After `Ok`: `same`. In any case: `memory`.
+    ///
     /// ```text
     /// ensures same { IfOk result (λ cow. encoding_of cow ≡ encoding_of self.now) }
     /// ensures memory { result ≢ Err Refused.TooLong }
     /// ```
+    ///
+    /// Definitions: [`encoding_of`](crate::definitions::base::cow::encoding_of). [How to read clauses](crate::definitions).
     pub fn clone(&self) -> Result<Self> {
         match self {
             CowStr::Borrowed(encoding) => Ok(CowStr::Borrowed(encoding)),
@@ -115,6 +129,8 @@ impl<'a, A: Allocator + Copy> CowStr<'a, A> {
 /// encoding = { λ cow. size_prefixed_encoding (encoding_of cow) }
 /// encodable = { λ cow. HasEncodableSize (encoding_of cow) }
 /// ```
+///
+/// Definitions: [`size_prefixed_encoding`](crate::definitions::base::encodings::size_prefixed_encoding), [`encoding_of`](crate::definitions::base::cow::encoding_of), [`HasEncodableSize`](crate::definitions::base::encodings::HasEncodableSize). [How to read clauses](crate::definitions).
 impl<A: Allocator> Encode for CowStr<'_, A> {
     fn encode<B: Sink>(&self, sink: &mut B) -> Result<()> {
         self.as_str().encode(sink)

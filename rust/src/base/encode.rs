@@ -18,21 +18,30 @@ use crate::base::refused::Result;
 /// encoding: { Self → List ℕ }
 /// // `encodable`: every count and length in that encoding is representable.
 /// encodable: { Self → Type 0 }
-/// // `decoding`: the promise about decoding the encoding. A section must promise its headline
+/// // `decoding`: the promise about decoding the encoding. A section must promise its
+///     headline
 /// // here.
 /// decoding: { Self → Type 0 } = { λ _. ⊤ }
-/// // `overlong`: `encode` returns `TooLong` for such a value, however much memory there is.
+/// // `overlong`: `encode` returns `TooLong` for such a value, however much memory there
+///     is.
 /// overlong: { Self → Type 0 } = { λ _. ⊥ }
 /// ```
+///
+/// [How to read clauses](crate::definitions).
 pub trait Encode {
     /// Appends the encoding of the value. On an error, the bytes of the sink are unchanged.
     ///
     /// # Proved
     ///
+    /// After `Ok`: `read`. In any case: `appends`, `too_many`.
+    ///
     /// ```text
-    /// ensures appends { Appends (encoding self.now) (encodable self.now) sink.old sink.new result }
+    /// ensures appends { Appends (encoding self.now)
+    ///     (encodable self.now) sink.old sink.new result }
     /// ensures read { OnOk result (decoding self.now) }
     /// ensures too_many { overlong self.now → result ≡ Err TooLong }
     /// ```
+    ///
+    /// Definitions: [`Appends`](crate::definitions::base::calls::Appends). [How to read clauses](crate::definitions).
     fn encode<A: Sink>(&self, sink: &mut A) -> Result<()>;
 }

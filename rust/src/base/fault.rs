@@ -3,6 +3,7 @@
 
 use crate::base::refused::Refused;
 use crate::alloc::{AllocError, AllocFailed};
+use core::fmt;
 
 /// The cause of a failed decoding. Any cause but `Memory` means that the bytes encode no such
 /// value. Tests show which of the other causes a call returns; no contract says that.
@@ -27,14 +28,13 @@ pub enum ReadFault {
 }
 
 /// The cause of a failed decoding, and its place.
-#[derive(Clone, Copy, PartialEq, Eq, Debug)]
+///
+/// Both are in one number of 64 bits, so that a result with a slice has two words, and the slice's
+/// address is moved as a whole.
+#[derive(Clone, Copy, PartialEq, Eq)]
 pub struct DecodeError {
-    pub cause: ReadFault,
-    /// The number of bytes from the first one that cannot be part of an encoding to the end of the
-    /// input, or from the end of a payload that ends too soon; 4294967295 if there are more. It
-    /// means nothing for `Memory`. Tests show it; no contract says it. It has 32 bits so that a
-    /// result with a slice fits two registers.
-    pub left: u32,
+    /// The place times 256, and the number of the cause.
+    word: u64,
 }
 
 /// Returns the length of the bytes, or 4294967295 if it is greater.
@@ -50,13 +50,12 @@ impl ReadFault {
     /// ```text
     /// ensures { result.cause ≡ self }
     /// ```
+    ///
+    /// [How to read clauses](crate::definitions).
     #[cold]
     #[inline(never)]
     pub fn at(self, rest: &[u8]) -> DecodeError {
-        DecodeError {
-            cause: self,
-            left: length(rest),
-        }
+        DecodeError::new(self, length(rest))
     }
 
     /// Returns the error with this cause at the byte just before the remaining bytes.
@@ -66,17 +65,68 @@ impl ReadFault {
     /// ```text
     /// ensures { result.cause ≡ self }
     /// ```
+    ///
+    /// [How to read clauses](crate::definitions).
     #[cold]
     #[inline(never)]
     pub fn just_before(self, rest: &[u8]) -> DecodeError {
-        DecodeError {
-            cause: self,
-            left: length(rest).saturating_add(1),
-        }
+        DecodeError::new(self, length(rest).saturating_add(1))
     }
 }
 
 impl DecodeError {
+    /// Returns the error with this cause and this place.
+    ///
+    /// # Proved
+    ///
+    /// ```text
+    /// ensures { result ≡ record { cause = cause; left = left } }
+    /// ```
+    ///
+    /// [How to read clauses](crate::definitions).
+    fn new(cause: ReadFault, left: u32) -> DecodeError {
+        DecodeError {
+            word: u64::from(left) * 256 + cause as u64,
+        }
+    }
+
+    /// Returns the cause.
+    ///
+    /// # Proved
+    ///
+    /// ```text
+    /// ensures { result ≡ self.cause }
+    /// ```
+    ///
+    /// [How to read clauses](crate::definitions).
+    pub fn cause(self) -> ReadFault {
+        match self.word % 256 {
+            0 => ReadFault::Ended,
+            1 => ReadFault::NotShortest,
+            2 => ReadFault::TooLarge,
+            3 => ReadFault::UnknownTag,
+            4 => ReadFault::UnknownOpcode,
+            5 => ReadFault::NotUtf8,
+            6 => ReadFault::SizeMismatch,
+            _ => ReadFault::Memory,
+        }
+    }
+
+    /// Returns the place: the number of bytes from the first one that cannot be part of an encoding
+    /// to the end of the input, or from the end of a payload that ends too soon; 4294967295 if
+    /// there are more. It means nothing for `Memory`. Tests show it; no contract says it.
+    ///
+    /// # Proved
+    ///
+    /// ```text
+    /// ensures { result ≡ self.left }
+    /// ```
+    ///
+    /// [How to read clauses](crate::definitions).
+    pub fn left(self) -> u32 {
+        (self.word / 256) as u32
+    }
+
     /// Returns the error of a decoder whose input is followed by these bytes.
     ///
     /// # Proved
@@ -84,28 +134,43 @@ impl DecodeError {
     /// ```text
     /// ensures { result.cause ≡ self.cause }
     /// ```
+    ///
+    /// [How to read clauses](crate::definitions).
     pub fn before(self, rest: &[u8]) -> DecodeError {
-        DecodeError {
-            cause: self.cause,
-            left: self.left.saturating_add(length(rest)),
-        }
+        DecodeError::new(self.cause(), self.left().saturating_add(length(rest)))
     }
 }
 
-/// The error of a failed allocation, which has no place.
-const NO_MEMORY: DecodeError = DecodeError {
-    cause: ReadFault::Memory,
-    left: 0,
-};
+impl fmt::Debug for DecodeError {
+    fn fmt(&self, f: &mut fmt::Formatter<'_>) -> fmt::Result {
+        let (cause, left) = (self.cause(), self.left());
+        write!(f, "DecodeError {{ cause: {cause:?}, left: {left} }}")
+    }
+}
+
+/// Returns the error of a failed allocation, which has no place.
+///
+/// # Proved
+///
+/// ```text
+/// ensures { result.cause ≡ Memory }
+/// ```
+///
+/// [How to read clauses](crate::definitions).
+fn no_memory() -> DecodeError {
+    DecodeError::new(ReadFault::Memory, 0)
+}
 
 /// # Defined
 ///
 /// ```text
 /// from_gives = { λ _ error. error.cause ≡ Memory }
 /// ```
+///
+/// [How to read clauses](crate::definitions).
 impl From<AllocError> for DecodeError {
     fn from(_error: AllocError) -> DecodeError {
-        NO_MEMORY
+        no_memory()
     }
 }
 
@@ -114,9 +179,11 @@ impl From<AllocError> for DecodeError {
 /// ```text
 /// from_gives = { λ _ error. error.cause ≡ Memory }
 /// ```
+///
+/// [How to read clauses](crate::definitions).
 impl<T> From<AllocFailed<T>> for DecodeError {
     fn from(_failed: AllocFailed<T>) -> DecodeError {
-        NO_MEMORY
+        no_memory()
     }
 }
 
@@ -130,9 +197,11 @@ impl<T> From<AllocFailed<T>> for DecodeError {
 /// ```text
 /// from_gives = { λ _ error. error.cause ≡ Memory }
 /// ```
+///
+/// [How to read clauses](crate::definitions).
 impl From<Refused> for DecodeError {
     fn from(_refused: Refused) -> DecodeError {
-        NO_MEMORY
+        no_memory()
     }
 }
 
@@ -141,6 +210,8 @@ impl From<Refused> for DecodeError {
 /// ```text
 /// from_gives = { λ _ fault. fault ≡ Memory }
 /// ```
+///
+/// [How to read clauses](crate::definitions).
 impl From<AllocError> for ReadFault {
     fn from(_error: AllocError) -> ReadFault {
         ReadFault::Memory
@@ -152,6 +223,8 @@ impl From<AllocError> for ReadFault {
 /// ```text
 /// from_gives = { λ _ fault. fault ≡ Memory }
 /// ```
+///
+/// [How to read clauses](crate::definitions).
 impl<T> From<AllocFailed<T>> for ReadFault {
     fn from(_failed: AllocFailed<T>) -> ReadFault {
         ReadFault::Memory
@@ -163,6 +236,8 @@ impl<T> From<AllocFailed<T>> for ReadFault {
 /// ```text
 /// from_gives = { λ _ fault. fault ≡ Memory }
 /// ```
+///
+/// [How to read clauses](crate::definitions).
 impl From<Refused> for ReadFault {
     fn from(_refused: Refused) -> ReadFault {
         ReadFault::Memory
@@ -176,9 +251,11 @@ impl From<Refused> for ReadFault {
 /// ```text
 /// from_gives = { λ error fault. fault ≡ error.cause }
 /// ```
+///
+/// [How to read clauses](crate::definitions).
 impl From<DecodeError> for ReadFault {
     fn from(error: DecodeError) -> ReadFault {
-        error.cause
+        error.cause()
     }
 }
 

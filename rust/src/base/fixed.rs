@@ -17,6 +17,8 @@ use crate::alloc::Allocator;
 /// encoding = { λ n. n ∷ [] }
 /// encodable = { λ _. ⊤ }
 /// ```
+///
+/// [How to read clauses](crate::definitions).
 impl Encode for u8 {
     #[inline]
     fn encode<A: Sink>(&self, sink: &mut A) -> Result<()> {
@@ -41,6 +43,8 @@ impl<const N: usize> Encode for [u8; N] {
 /// format = { byte }
 /// view = { λ b. b }
 /// ```
+///
+/// Definitions: [`byte`](crate::definitions::base::formats::byte). [How to read clauses](crate::definitions).
 impl Layout for u8 {
     fn laws() {}
 }
@@ -64,6 +68,8 @@ impl<'a, A: Allocator + Copy, G: Grammar> Readable<'a, A, G> for u8 {
 /// format = { vector_format }
 /// view = { λ v. v }
 /// ```
+///
+/// Definitions: [`vector_format`](crate::definitions::base::formats::vector_format). [How to read clauses](crate::definitions).
 impl Layout for i128 {
     fn laws() {}
 }

@@ -16,6 +16,8 @@ use crate::alloc::Allocator;
 ///
 /// # Proved
 ///
+/// After `Ok`: `ok`, `reserved`, `was_encodable`. After an error: `err`. In any case: `too_long`, `too_many`, `spare`, `capacity`.
+///
 /// ```text
 /// ensures ok { OnOk result (sink.new.items ≡ sink.old.items ++ unsigned_encoding size) }
 /// ensures reserved { OnOk result (vec_len sink.new + size ≤ vec_capacity sink.new) }
@@ -24,10 +26,13 @@ use crate::alloc::Allocator;
 /// ensures too_long { size ≤ longest → result ≢ Err Refused.TooLong }
 /// ensures too_many { longest < size → result ≡ Err Refused.TooLong }
 /// ensures spare { size ≤ longest
-///     → vec_len sink.old + (length (unsigned_encoding size) + size) ≤ vec_capacity sink.old
+///     → vec_len sink.old + (length (unsigned_encoding size) + size)
+///         ≤ vec_capacity sink.old
 ///     → IsOk result }
 /// ensures capacity { vec_capacity sink.old ≤ vec_capacity sink.new }
 /// ```
+///
+/// Definitions: [`unsigned_encoding`](crate::definitions::base::numbers::unsigned_encoding), [`longest`](crate::definitions::base::encodings::longest). [How to read clauses](crate::definitions).
 pub fn begin_size_prefixed<A: Sink>(sink: &mut A, size: usize) -> Result<()> {
     let Ok(short) = u32::try_from(size) else {
         return Err(Refused::TooLong);
@@ -44,9 +49,12 @@ const SHORT: usize = 0x80;
 /// # Proved
 ///
 /// ```text
-/// ensures appends { Appends (size_prefixed_encoding bytes.now) (HasEncodableSize bytes.now) sink.old sink.new result }
+/// ensures appends { Appends (size_prefixed_encoding bytes.now)
+///     (HasEncodableSize bytes.now) sink.old sink.new result }
 /// ensures too_many { longest < length bytes.now → result ≡ Err Refused.TooLong }
 /// ```
+///
+/// Definitions: [`Appends`](crate::definitions::base::calls::Appends), [`size_prefixed_encoding`](crate::definitions::base::encodings::size_prefixed_encoding), [`HasEncodableSize`](crate::definitions::base::encodings::HasEncodableSize), [`longest`](crate::definitions::base::encodings::longest). [How to read clauses](crate::definitions).
 #[inline(always)]
 pub fn encode_size_prefixed<A: Sink>(sink: &mut A, bytes: &[u8]) -> Result<()> {
     let size = bytes.len();
@@ -64,9 +72,12 @@ pub fn encode_size_prefixed<A: Sink>(sink: &mut A, bytes: &[u8]) -> Result<()> {
 /// # Proved
 ///
 /// ```text
-/// ensures appends { Appends (size_prefixed_encoding bytes.now) (HasEncodableSize bytes.now) sink.old sink.new result }
+/// ensures appends { Appends (size_prefixed_encoding bytes.now)
+///     (HasEncodableSize bytes.now) sink.old sink.new result }
 /// ensures too_many { longest < length bytes.now → result ≡ Err Refused.TooLong }
 /// ```
+///
+/// Definitions: [`Appends`](crate::definitions::base::calls::Appends), [`size_prefixed_encoding`](crate::definitions::base::encodings::size_prefixed_encoding), [`HasEncodableSize`](crate::definitions::base::encodings::HasEncodableSize), [`longest`](crate::definitions::base::encodings::longest). [How to read clauses](crate::definitions).
 #[inline(never)]
 fn encode_long_payload<A: Sink>(sink: &mut A, bytes: &[u8]) -> Result<()> {
     begin_size_prefixed(sink, bytes.len())?;
@@ -80,9 +91,14 @@ fn encode_long_payload<A: Sink>(sink: &mut A, bytes: &[u8]) -> Result<()> {
 /// # Proved
 ///
 /// ```text
-/// ensures appends { Appends (size_prefixed_encoding (unsigned_encoding count ++ bytes.now)) (HasEncodableSize (unsigned_encoding count ++ bytes.now)) sink.old sink.new result }
-/// ensures too_many { longest < length (unsigned_encoding count ++ bytes.now) → result ≡ Err Refused.TooLong }
+/// ensures appends { Appends
+///     (size_prefixed_encoding (unsigned_encoding count ++ bytes.now))
+///     (HasEncodableSize (unsigned_encoding count ++ bytes.now)) sink.old sink.new result }
+/// ensures too_many { longest < length (unsigned_encoding count ++ bytes.now)
+///     → result ≡ Err Refused.TooLong }
 /// ```
+///
+/// Definitions: [`Appends`](crate::definitions::base::calls::Appends), [`size_prefixed_encoding`](crate::definitions::base::encodings::size_prefixed_encoding), [`unsigned_encoding`](crate::definitions::base::numbers::unsigned_encoding), [`HasEncodableSize`](crate::definitions::base::encodings::HasEncodableSize), [`longest`](crate::definitions::base::encodings::longest). [How to read clauses](crate::definitions).
 pub fn encode_section<A: Sink>(sink: &mut A, count: u32, bytes: &[u8]) -> Result<()> {
     begin_size_prefixed(sink, bytes.len().saturating_add(encoding_size(count)))?;
     count.encode(sink).unwrap();
@@ -102,6 +118,8 @@ pub struct SizePrefixed<T>(pub T);
 /// format = { size_prefixed T.format }
 /// view = { λ f. T.view f.0 }
 /// ```
+///
+/// Definitions: [`size_prefixed`](crate::definitions::base::formats::size_prefixed). [How to read clauses](crate::definitions).
 impl<T: Layout> Layout for SizePrefixed<T> {
     fn laws() {
         T::laws();
@@ -126,14 +144,22 @@ impl<'a, A: Allocator + Copy, G: Grammar, T: Readable<'a, A, G>> Readable<'a, A,
 /// requires { start ≤ vec_len sink.old }
 /// ```
 ///
+/// [How to read clauses](crate::definitions).
+///
 /// # Proved
 ///
+/// After `Ok`: `sized`, `was_encodable`. After an error: `err`. In any case: `too_long`.
+///
 /// ```text
-/// ensures sized { OnOk result (sink.new.items ≡ take start sink.old.items ++ size_prefixed_encoding (drop start sink.old.items)) }
+/// ensures sized { OnOk result
+///     (sink.new.items ≡ take start sink.old.items
+///         ++ size_prefixed_encoding (drop start sink.old.items)) }
 /// ensures was_encodable { OnOk result (HasEncodableSize (drop start sink.old.items)) }
 /// ensures err { OnErr result (sink.new.items ≡ sink.old.items) }
 /// ensures too_long { HasEncodableSize (drop start sink.old.items) → result ≢ Err TooLong }
 /// ```
+///
+/// Definitions: [`size_prefixed_encoding`](crate::definitions::base::encodings::size_prefixed_encoding), [`HasEncodableSize`](crate::definitions::base::encodings::HasEncodableSize). [How to read clauses](crate::definitions).
 pub fn prefix_size_since<B: Sink>(sink: &mut B, start: usize) -> Result<()> {
     let size = sink.len() - start;
     size.encode(sink)?;
@@ -145,11 +171,18 @@ pub fn prefix_size_since<B: Sink>(sink: &mut B, start: usize) -> Result<()> {
 ///
 /// # Proved
 ///
+/// After `Ok`: `ok`. In any case: `front`, `too_long`.
+///
 /// ```text
-/// ensures ok { OnOk result (AppendsMinimal (size_prefixed T.format) (T.view value.now) sink.old.items sink.new.items) }
+/// ensures ok { OnOk result
+///     (AppendsMinimal (size_prefixed T.format)
+///         (T.view value.now) sink.old.items sink.new.items) }
 /// ensures front { IsFrontOf sink.old.items sink.new.items }
-/// ensures too_long { HasEncoding (size_prefixed T.format) (T.view value.now) → result ≢ Err TooLong }
+/// ensures too_long { HasEncoding (size_prefixed T.format) (T.view value.now)
+///     → result ≢ Err TooLong }
 /// ```
+///
+/// Definitions: [`AppendsMinimal`](crate::definitions::base::minimal::AppendsMinimal), [`size_prefixed`](crate::definitions::base::formats::size_prefixed), [`IsFrontOf`](crate::definitions::base::minimal::IsFrontOf), [`HasEncoding`](crate::definitions::base::minimal::HasEncoding). [How to read clauses](crate::definitions).
 fn append_payload<T: Shorten, B: Sink>(value: &T, sink: &mut B) -> Result<()> {
     T::laws();
     let start = sink.len();

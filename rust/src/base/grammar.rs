@@ -9,6 +9,8 @@
 /// ```text
 /// grammar: { GrammarOf }
 /// ```
+///
+/// Definitions: [`GrammarOf`](crate::definitions::base::numbers::Grammar). [How to read clauses](crate::definitions).
 pub trait Grammar {
     // The grammar, as formats take it.
 
@@ -19,6 +21,8 @@ pub trait Grammar {
     /// ```text
     /// ensures { result ≡ is_admitted grammar }
     /// ```
+    ///
+    /// Definitions: [`is_admitted`](crate::definitions::base::numbers::is_admitted). [How to read clauses](crate::definitions).
     fn is_standard() -> bool;
 }
 
@@ -31,6 +35,8 @@ pub struct Padded;
 /// ```text
 /// grammar = { builders }
 /// ```
+///
+/// Definitions: [`builders`](crate::definitions::base::numbers::Grammar). [How to read clauses](crate::definitions).
 impl Grammar for Padded {
     #[inline]
     fn is_standard() -> bool {
@@ -48,6 +54,8 @@ pub struct Standard;
 /// ```text
 /// grammar = { admitted }
 /// ```
+///
+/// Definitions: [`admitted`](crate::definitions::base::numbers::Grammar). [How to read clauses](crate::definitions).
 impl Grammar for Standard {
     #[inline]
     fn is_standard() -> bool {

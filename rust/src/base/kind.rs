@@ -10,10 +10,13 @@
 /// Record: { Type 0 }
 /// // The value to which an entry decodes.
 /// Item: { Type 0 }
-/// // The encoding of a record, when the record is well-formed, the item that it then encodes, and
+/// // The encoding of a record, when the record is well-formed, the item that it then
+///     encodes, and
 /// // the format of items.
 /// kind: { KindOf Record Item }
 /// ```
+///
+/// Definitions: [`KindOf`](crate::definitions::base::entries::Kind). [How to read clauses](crate::definitions).
 pub trait Kind {
     /// Proves that the format of items is unambiguous, and that a well-formed record encodes its
     /// item. The function does nothing.
@@ -23,5 +26,7 @@ pub trait Kind {
     /// ```text
     /// ensures { ItemLaws kind }
     /// ```
+    ///
+    /// Definitions: [`ItemLaws`](crate::definitions::base::entries::ItemLaws). [How to read clauses](crate::definitions).
     fn laws();
 }

@@ -18,12 +18,17 @@
 /// ensures s32 { Unambiguous s32 }
 /// ensures s64 { Unambiguous s64 }
 /// ensures s33 { Unambiguous s33 }
-/// ensures u32_encodings { HasMinimalEncodings u32_format (IsUnsignedInRange 32) unsigned_encoding }
-/// ensures u64_encodings { HasMinimalEncodings u64_format (IsUnsignedInRange 64) unsigned_encoding }
+/// ensures u32_encodings { HasMinimalEncodings u32_format
+///     (IsUnsignedInRange 32) unsigned_encoding }
+/// ensures u64_encodings { HasMinimalEncodings u64_format
+///     (IsUnsignedInRange 64) unsigned_encoding }
 /// ensures s32_encodings { HasMinimalEncodings s32 IsSigned32InRange signed_encoding }
 /// ensures s64_encodings { HasMinimalEncodings s64 IsSigned64InRange signed_encoding }
-/// ensures s33_encodings { HasMinimalEncodings s33 (IsUnsignedInRange 32) (λ n. signed_encoding (pos n)) }
+/// ensures s33_encodings { HasMinimalEncodings s33 (IsUnsignedInRange 32)
+///     (λ n. signed_encoding (pos n)) }
 /// ```
+///
+/// Definitions: [`Unambiguous`](crate::definitions::base::decoding::Unambiguous), [`u32_format`](crate::definitions::base::formats::u32), [`u64_format`](crate::definitions::base::formats::u64), [`s32`](crate::definitions::base::formats::s32), [`s64`](crate::definitions::base::formats::s64), [`s33`](crate::definitions::base::formats::s33), [`HasMinimalEncodings`](crate::definitions::base::decoding::HasMinimalEncodings), [`IsUnsignedInRange`](crate::definitions::base::laws::IsUnsignedInRange), [`unsigned_encoding`](crate::definitions::base::numbers::unsigned_encoding), [`IsSigned32InRange`](crate::definitions::base::laws::IsSigned32InRange), [`signed_encoding`](crate::definitions::base::numbers::signed_encoding), [`IsSigned64InRange`](crate::definitions::base::laws::IsSigned64InRange). [How to read clauses](crate::definitions).
 pub fn numbers() {}
 
 /// Fixed-width bytes, names, vectors and size-prefixed payloads are unambiguous, and so is a module
@@ -42,17 +47,35 @@ pub fn numbers() {}
 /// ensures name { Unambiguous name }
 /// ensures custom { Unambiguous custom }
 /// ensures wasm_module { UnambiguousWhole wasm_module }
-/// ensures fixed_4_encodings { HasMinimalEncodings (little_endian 4) (IsByteNumberInRange 4) (little_endian_encoding 4) }
-/// ensures fixed_8_encodings { HasMinimalEncodings (little_endian 8) (IsByteNumberInRange 8) (little_endian_encoding 8) }
-/// ensures fixed_16_encodings { HasMinimalEncodings (little_endian 16) (IsByteNumberInRange 16) (little_endian_encoding 16) }
-/// ensures vec_bytes_encodings { HasMinimalEncodings (vec byte) HasEncodableSize size_prefixed_encoding }
-/// ensures vec_u32_encodings { HasMinimalEncodings (vec u32_format) (IsEncodableVec (IsUnsignedInRange 32)) (vec_encoding unsigned_encoding) }
-/// ensures vec_names_encodings { HasMinimalEncodings (vec name) (IsEncodableVec IsEncodableName) (vec_encoding size_prefixed_encoding) }
-/// ensures size_prefixed_encodings { HasMinimalEncodings (size_prefixed any_bytes) HasEncodableSize size_prefixed_encoding }
-/// ensures name_encodings { HasMinimalEncodings name IsEncodableName size_prefixed_encoding }
-/// ensures custom_encodings { HasMinimalEncodings custom IsEncodableCustom custom_encoding }
-/// ensures module_encodings { HasMinimalEncodings wasm_module IsEncodableModule module_encoding }
+/// ensures fixed_4_encodings
+///     { HasMinimalEncodings (little_endian 4) (IsByteNumberInRange 4)
+///     (little_endian_encoding 4) }
+/// ensures fixed_8_encodings
+///     { HasMinimalEncodings (little_endian 8) (IsByteNumberInRange 8)
+///     (little_endian_encoding 8) }
+/// ensures fixed_16_encodings
+///     { HasMinimalEncodings (little_endian 16) (IsByteNumberInRange 16)
+///     (little_endian_encoding 16) }
+/// ensures vec_bytes_encodings
+///     { HasMinimalEncodings (vec byte) HasEncodableSize size_prefixed_encoding }
+/// ensures vec_u32_encodings
+///     { HasMinimalEncodings (vec u32_format) (IsEncodableVec (IsUnsignedInRange 32))
+///     (vec_encoding unsigned_encoding) }
+/// ensures vec_names_encodings
+///     { HasMinimalEncodings (vec name) (IsEncodableVec IsEncodableName)
+///     (vec_encoding size_prefixed_encoding) }
+/// ensures size_prefixed_encodings
+///     { HasMinimalEncodings (size_prefixed any_bytes) HasEncodableSize
+///     size_prefixed_encoding }
+/// ensures name_encodings { HasMinimalEncodings name IsEncodableName size_prefixed_encoding
+///     }
+/// ensures custom_encodings
+///     { HasMinimalEncodings custom IsEncodableCustom custom_encoding }
+/// ensures module_encodings
+///     { HasMinimalEncodings wasm_module IsEncodableModule module_encoding }
 /// ```
+///
+/// Definitions: [`Unambiguous`](crate::definitions::base::decoding::Unambiguous), [`little_endian`](crate::definitions::base::formats::little_endian), [`vec`](crate::definitions::base::formats::vec), [`byte`](crate::definitions::base::formats::byte), [`u32_format`](crate::definitions::base::formats::u32), [`name`](crate::definitions::base::formats::name), [`size_prefixed`](crate::definitions::base::formats::size_prefixed), [`any_bytes`](crate::definitions::base::formats::any_bytes), [`custom`](crate::definitions::base::formats::custom), [`wasm_module`](crate::definitions::base::formats::wasm_module), [`UnambiguousWhole`](crate::definitions::base::decoding::UnambiguousWhole), [`HasMinimalEncodings`](crate::definitions::base::decoding::HasMinimalEncodings), [`IsByteNumberInRange`](crate::definitions::base::laws::IsByteNumberInRange), [`little_endian_encoding`](crate::definitions::base::encodings::little_endian_encoding), [`HasEncodableSize`](crate::definitions::base::encodings::HasEncodableSize), [`size_prefixed_encoding`](crate::definitions::base::encodings::size_prefixed_encoding), [`IsEncodableVec`](crate::definitions::base::encodings::IsEncodableVec), [`IsUnsignedInRange`](crate::definitions::base::laws::IsUnsignedInRange), [`vec_encoding`](crate::definitions::base::encodings::vec_encoding), [`unsigned_encoding`](crate::definitions::base::numbers::unsigned_encoding), [`IsEncodableName`](crate::definitions::base::laws::IsEncodableName), [`IsEncodableCustom`](crate::definitions::base::laws::IsEncodableCustom), [`custom_encoding`](crate::definitions::base::laws::custom_encoding), [`IsEncodableModule`](crate::definitions::base::encodings::IsEncodableModule), [`module_encoding`](crate::definitions::base::encodings::module_encoding). [How to read clauses](crate::definitions).
 pub fn frames() {}
 
 /// Suppose that a module decodes to ids and payloads, and that a payload with its size prefix
@@ -65,6 +88,8 @@ pub fn frames() {}
 /// ensures u32 { DecodesPayloads u32_format }
 /// ensures custom { DecodesPayloads (pair name any_bytes) }
 /// ```
+///
+/// Definitions: [`DecodesPayloads`](crate::definitions::base::modules::DecodesPayloads), [`any_bytes`](crate::definitions::base::formats::any_bytes), [`u32_format`](crate::definitions::base::formats::u32), [`custom`](crate::definitions::base::formats::custom), [`pair`](crate::definitions::base::formats::pair), [`name`](crate::definitions::base::formats::name). [How to read clauses](crate::definitions).
 pub fn payloads() {}
 
 /// The same with padded numbers.
@@ -76,6 +101,8 @@ pub fn payloads() {}
 /// ensures u32 { DecodesPayloadsPadded u32_format }
 /// ensures custom { DecodesPayloadsPadded (pair name any_bytes) }
 /// ```
+///
+/// Definitions: [`DecodesPayloadsPadded`](crate::definitions::base::modules::DecodesPayloadsPadded), [`any_bytes`](crate::definitions::base::formats::any_bytes), [`u32_format`](crate::definitions::base::formats::u32), [`custom`](crate::definitions::base::formats::custom), [`pair`](crate::definitions::base::formats::pair), [`name`](crate::definitions::base::formats::name). [How to read clauses](crate::definitions).
 pub fn padded_payloads() {}
 
 /// The formats of types are unambiguous. No index begins with a byte that encodes a type, nor with
@@ -92,6 +119,8 @@ pub fn padded_payloads() {}
 /// ensures reference_encodings { HasMinimalEncodings ref_type IsRef ref_encoding }
 /// ensures value_encodings { HasMinimalEncodings val_type IsVal val_encoding }
 /// ```
+///
+/// Definitions: [`Unambiguous`](crate::definitions::base::decoding::Unambiguous), [`heap_type`](crate::definitions::base::types::heap_type), [`ref_type`](crate::definitions::base::types::ref_type), [`val_type`](crate::definitions::base::types::val_type), [`BeginsWith`](crate::definitions::base::decoding::BeginsWith), [`IsIndexByte`](crate::definitions::base::types::IsIndexByte), [`s33`](crate::definitions::base::formats::s33), [`HasMinimalEncodings`](crate::definitions::base::decoding::HasMinimalEncodings), [`IsHeap`](crate::definitions::base::types::IsHeap), [`heap_encoding`](crate::definitions::base::types::heap_encoding), [`IsRef`](crate::definitions::base::types::IsRef), [`ref_encoding`](crate::definitions::base::types::ref_encoding), [`IsVal`](crate::definitions::base::types::IsVal), [`val_encoding`](crate::definitions::base::types::val_encoding). [How to read clauses](crate::definitions).
 pub fn types() {}
 
 /// In the standard's grammar, the byte of an abstract heap type is the minimal encoding of the
@@ -100,10 +129,15 @@ pub fn types() {}
 /// # Proved
 ///
 /// ```text
-/// ensures reference { (ty : AbstractHeapType) → ref_type standard_minimal (abstract_code ty ∷ []) (nullable_abstract ty) }
-/// ensures long { (heap : HeapType) (s : List ℕ) → heap_type standard s heap → ref_type standard (0x63 ∷ s) (nullable_to heap) }
-/// ensures builders { (ty : AbstractHeapType) (rest : List ℕ) → ty ≢ Func → ty ≢ Extern → Rejects ref_type padded (abstract_code ty ∷ rest) }
+/// ensures reference { (ty : AbstractHeapType)
+///     → ref_type standard_minimal (abstract_code ty ∷ []) (nullable_abstract ty) }
+/// ensures long { (heap : HeapType) (s : List ℕ) → heap_type standard s heap
+///     → ref_type standard (0x63 ∷ s) (nullable_to heap) }
+/// ensures builders { (ty : AbstractHeapType) (rest : List ℕ) → ty ≢ Func → ty ≢ Extern
+///     → Rejects ref_type padded (abstract_code ty ∷ rest) }
 /// ```
+///
+/// Definitions: [`ref_type`](crate::definitions::base::types::ref_type), [`standard_minimal`](crate::definitions::base::numbers::Mode), [`abstract_code`](crate::definitions::base::types::abstract_code), [`nullable_abstract`](crate::definitions::base::types::nullable_abstract), [`heap_type`](crate::definitions::base::types::heap_type), [`standard`](crate::definitions::base::numbers::Mode), [`nullable_to`](crate::definitions::base::types::nullable_to), [`Rejects`](crate::definitions::base::decoding::Rejects), [`padded`](crate::definitions::base::numbers::Mode). [How to read clauses](crate::definitions).
 pub fn standard_types() {}
 
 /// The values of the constants of types.
@@ -113,9 +147,13 @@ pub fn standard_types() {}
 /// ```text
 /// ensures function { FUNC ≡ Abstract false Func }
 /// ensures host { EXTERN ≡ Abstract false Extern }
-/// ensures function_reference { FUNCREF ≡ record { nullable = true; heap_type = Abstract false Func } }
-/// ensures host_reference { EXTERNREF ≡ record { nullable = true; heap_type = Abstract false Extern } }
+/// ensures function_reference
+///     { FUNCREF ≡ record { nullable = true; heap_type = Abstract false Func } }
+/// ensures host_reference { EXTERNREF
+///     ≡ record { nullable = true; heap_type = Abstract false Extern } }
 /// ```
+///
+/// [How to read clauses](crate::definitions).
 pub fn constants() {}
 
 /// With padded numbers, as the standard allows them, the formats are unambiguous too. A minimal
@@ -143,6 +181,8 @@ pub fn constants() {}
 /// ensures ref_type { UnambiguousPadded ref_type }
 /// ensures val_type { UnambiguousPadded val_type }
 /// ```
+///
+/// Definitions: [`UnambiguousPadded`](crate::definitions::base::decoding::UnambiguousPadded), [`u32_format`](crate::definitions::base::formats::u32), [`u64_format`](crate::definitions::base::formats::u64), [`s32`](crate::definitions::base::formats::s32), [`s64`](crate::definitions::base::formats::s64), [`s33`](crate::definitions::base::formats::s33), [`little_endian`](crate::definitions::base::formats::little_endian), [`vec`](crate::definitions::base::formats::vec), [`byte`](crate::definitions::base::formats::byte), [`name`](crate::definitions::base::formats::name), [`size_prefixed`](crate::definitions::base::formats::size_prefixed), [`any_bytes`](crate::definitions::base::formats::any_bytes), [`custom`](crate::definitions::base::formats::custom), [`wasm_module`](crate::definitions::base::formats::wasm_module), [`UnambiguousWholePadded`](crate::definitions::base::decoding::UnambiguousWholePadded), [`heap_type`](crate::definitions::base::types::heap_type), [`ref_type`](crate::definitions::base::types::ref_type), [`val_type`](crate::definitions::base::types::val_type). [How to read clauses](crate::definitions).
 pub fn padded() {}
 
 /// A name is UTF-8. For a name behind a reference, as in a record, no clause shows that; this call
@@ -153,6 +193,8 @@ pub fn padded() {}
 /// ```text
 /// ensures { IsUtf8 name.now }
 /// ```
+///
+/// [How to read clauses](crate::definitions).
 pub fn plain_name(name: &str) {}
 
 /// Each name of a list is UTF-8.
@@ -162,6 +204,8 @@ pub fn plain_name(name: &str) {}
 /// ```text
 /// ensures { All (λ name. IsUtf8 name.now) names.now }
 /// ```
+///
+/// [How to read clauses](crate::definitions).
 pub fn plain_names(names: &[&str]) {
     for name in names {
         plain_name(name);

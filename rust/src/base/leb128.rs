@@ -26,6 +26,8 @@ const SIGNED_LIMIT: u64 = 0x40;
 /// ensures value { result ≡ length (unsigned_encoding n) }
 /// ensures bound { result ≤ 5 }
 /// ```
+///
+/// Definitions: [`unsigned_encoding`](crate::definitions::base::numbers::unsigned_encoding). [How to read clauses](crate::definitions).
 pub fn encoding_size(n: u32) -> usize {
     groups_size(false, UNSIGNED_LIMIT, u64::from(n))
 }
@@ -38,11 +40,15 @@ pub fn encoding_size(n: u32) -> usize {
 /// requires { 0 < limit }
 /// ```
 ///
+/// [How to read clauses](crate::definitions).
+///
 /// # Proved
 ///
 /// ```text
 /// ensures { result ≡ length (groups_encoding negative limit n) }
 /// ```
+///
+/// Definitions: [`groups_encoding`](crate::definitions::base::numbers::groups_encoding). [How to read clauses](crate::definitions).
 fn groups_size(negative: bool, limit: u64, n: u64) -> usize {
     let mut size = 1;
     let mut rest = n;
@@ -60,6 +66,8 @@ fn groups_size(negative: bool, limit: u64, n: u64) -> usize {
 /// ```text
 /// ensures { result ≡ next_group negative n }
 /// ```
+///
+/// Definitions: [`next_group`](crate::definitions::base::numbers::next_group). [How to read clauses](crate::definitions).
 #[inline]
 fn group_before_others(negative: bool, n: u64) -> u8 {
     let low = (n % 0x80) as u8;
@@ -74,11 +82,15 @@ fn group_before_others(negative: bool, n: u64) -> u8 {
 /// requires { n < 0x80 }
 /// ```
 ///
+/// [How to read clauses](crate::definitions).
+///
 /// # Proved
 ///
 /// ```text
 /// ensures { result ≡ last_group negative n }
 /// ```
+///
+/// Definitions: [`last_group`](crate::definitions::base::numbers::last_group). [How to read clauses](crate::definitions).
 #[inline]
 fn group_at_the_end(negative: bool, n: u64) -> u8 {
     let low = n as u8;
@@ -91,8 +103,11 @@ fn group_at_the_end(negative: bool, n: u64) -> u8 {
 ///
 /// ```text
 /// requires limit { 0 < limit × limit ≤ 0x80 }
-/// requires spare { vec_len sink.old + length (groups_encoding negative limit n) ≤ vec_capacity sink.old }
+/// requires spare { vec_len sink.old + length (groups_encoding negative limit n)
+///     ≤ vec_capacity sink.old }
 /// ```
+///
+/// Definitions: [`groups_encoding`](crate::definitions::base::numbers::groups_encoding). [How to read clauses](crate::definitions).
 ///
 /// # Proved
 ///
@@ -100,6 +115,8 @@ fn group_at_the_end(negative: bool, n: u64) -> u8 {
 /// ensures items { sink.new.items ≡ sink.old.items ++ groups_encoding negative limit n }
 /// ensures capacity { vec_capacity sink.new ≡ vec_capacity sink.old }
 /// ```
+///
+/// Definitions: [`groups_encoding`](crate::definitions::base::numbers::groups_encoding). [How to read clauses](crate::definitions).
 fn put_groups<A: Sink>(sink: &mut A, negative: bool, limit: u64, n: u64) {
     let mut rest = n;
     while rest >= limit {
@@ -119,12 +136,16 @@ fn put_groups<A: Sink>(sink: &mut A, negative: bool, limit: u64, n: u64) {
 /// requires spare { vec_len sink.old + 2 ≤ vec_capacity sink.old }
 /// ```
 ///
+/// [How to read clauses](crate::definitions).
+///
 /// # Proved
 ///
 /// ```text
 /// ensures items { sink.new.items ≡ sink.old.items ++ groups_encoding negative limit n }
 /// ensures capacity { vec_capacity sink.new ≡ vec_capacity sink.old }
 /// ```
+///
+/// Definitions: [`groups_encoding`](crate::definitions::base::numbers::groups_encoding). [How to read clauses](crate::definitions).
 #[inline]
 fn put_two_groups<A: Sink>(sink: &mut A, negative: bool, limit: u64, n: u64) {
     sink.push_both_reserved([group_before_others(negative, n), group_at_the_end(negative, n / 0x80)]);
@@ -143,11 +164,15 @@ const MOST_GROUPS: usize = 10;
 /// requires several { limit ≤ n }
 /// ```
 ///
+/// [How to read clauses](crate::definitions).
+///
 /// # Proved
 ///
 /// ```text
 /// ensures { Appends (groups_encoding negative limit n) ⊤ sink.old sink.new result }
 /// ```
+///
+/// Definitions: [`Appends`](crate::definitions::base::calls::Appends), [`groups_encoding`](crate::definitions::base::numbers::groups_encoding). [How to read clauses](crate::definitions).
 #[inline(always)]
 fn append_groups<A: Sink>(
     sink: &mut A,
@@ -174,11 +199,15 @@ fn append_groups<A: Sink>(
 /// requires { 0 < limit × limit ≤ 0x80 }
 /// ```
 ///
+/// [How to read clauses](crate::definitions).
+///
 /// # Proved
 ///
 /// ```text
 /// ensures { Appends (groups_encoding negative limit n) ⊤ sink.old sink.new result }
 /// ```
+///
+/// Definitions: [`Appends`](crate::definitions::base::calls::Appends), [`groups_encoding`](crate::definitions::base::numbers::groups_encoding). [How to read clauses](crate::definitions).
 #[cold]
 #[inline(never)]
 fn append_counted_groups<A: Sink>(
@@ -200,11 +229,15 @@ fn append_counted_groups<A: Sink>(
 /// requires { 0x80 ≤ n }
 /// ```
 ///
+/// [How to read clauses](crate::definitions).
+///
 /// # Proved
 ///
 /// ```text
 /// ensures { Appends (unsigned_encoding n) ⊤ sink.old sink.new result }
 /// ```
+///
+/// Definitions: [`Appends`](crate::definitions::base::calls::Appends), [`unsigned_encoding`](crate::definitions::base::numbers::unsigned_encoding). [How to read clauses](crate::definitions).
 #[inline(never)]
 fn append_long_unsigned<A: Sink>(sink: &mut A, n: u64) -> Result<()> {
     append_groups(sink, false, UNSIGNED_LIMIT, n)
@@ -218,11 +251,15 @@ fn append_long_unsigned<A: Sink>(sink: &mut A, n: u64) -> Result<()> {
 /// requires { 0x40 ≤ n }
 /// ```
 ///
+/// [How to read clauses](crate::definitions).
+///
 /// # Proved
 ///
 /// ```text
 /// ensures { Appends (groups_encoding negative SIGNED_LIMIT n) ⊤ sink.old sink.new result }
 /// ```
+///
+/// Definitions: [`Appends`](crate::definitions::base::calls::Appends), [`groups_encoding`](crate::definitions::base::numbers::groups_encoding). [How to read clauses](crate::definitions).
 #[inline(never)]
 fn append_long_signed<A: Sink>(sink: &mut A, negative: bool, n: u64) -> Result<()> {
     append_groups(sink, negative, SIGNED_LIMIT, n)
@@ -235,6 +272,8 @@ fn append_long_signed<A: Sink>(sink: &mut A, negative: bool, n: u64) -> Result<(
 /// ```text
 /// ensures { Appends (unsigned_encoding n) ⊤ sink.old sink.new result }
 /// ```
+///
+/// Definitions: [`Appends`](crate::definitions::base::calls::Appends), [`unsigned_encoding`](crate::definitions::base::numbers::unsigned_encoding). [How to read clauses](crate::definitions).
 #[inline]
 fn append_unsigned<A: Sink>(sink: &mut A, n: u64) -> Result<()> {
     if n < UNSIGNED_LIMIT {
@@ -249,6 +288,8 @@ fn append_unsigned<A: Sink>(sink: &mut A, n: u64) -> Result<()> {
 /// ```text
 /// ensures { Appends (signed_encoding n) ⊤ sink.old sink.new result }
 /// ```
+///
+/// Definitions: [`Appends`](crate::definitions::base::calls::Appends), [`signed_encoding`](crate::definitions::base::numbers::signed_encoding). [How to read clauses](crate::definitions).
 #[inline]
 fn append_signed<A: Sink>(sink: &mut A, n: i64) -> Result<()> {
     let negative = n < 0;
@@ -268,6 +309,8 @@ fn append_signed<A: Sink>(sink: &mut A, n: i64) -> Result<()> {
 /// encoding = { unsigned_encoding }
 /// encodable = { λ _. ⊤ }
 /// ```
+///
+/// Definitions: [`unsigned_encoding`](crate::definitions::base::numbers::unsigned_encoding). [How to read clauses](crate::definitions).
 impl Encode for u32 {
     #[inline]
     fn encode<A: Sink>(&self, sink: &mut A) -> Result<()> {
@@ -283,6 +326,8 @@ impl Encode for u32 {
 /// encoding = { unsigned_encoding }
 /// encodable = { λ _. ⊤ }
 /// ```
+///
+/// Definitions: [`unsigned_encoding`](crate::definitions::base::numbers::unsigned_encoding). [How to read clauses](crate::definitions).
 impl Encode for u64 {
     #[inline]
     fn encode<A: Sink>(&self, sink: &mut A) -> Result<()> {
@@ -299,6 +344,8 @@ impl Encode for u64 {
 /// encodable = { λ n. n ≤ longest }
 /// overlong = { λ n. longest < n }
 /// ```
+///
+/// Definitions: [`unsigned_encoding`](crate::definitions::base::numbers::unsigned_encoding), [`longest`](crate::definitions::base::encodings::longest). [How to read clauses](crate::definitions).
 impl Encode for usize {
     fn encode<A: Sink>(&self, sink: &mut A) -> Result<()> {
         match u32::try_from(*self) {
@@ -316,6 +363,8 @@ impl Encode for usize {
 /// encoding = { signed_encoding }
 /// encodable = { λ _. ⊤ }
 /// ```
+///
+/// Definitions: [`signed_encoding`](crate::definitions::base::numbers::signed_encoding). [How to read clauses](crate::definitions).
 impl Encode for i32 {
     #[inline]
     fn encode<A: Sink>(&self, sink: &mut A) -> Result<()> {
@@ -331,6 +380,8 @@ impl Encode for i32 {
 /// encoding = { signed_encoding }
 /// encodable = { λ _. ⊤ }
 /// ```
+///
+/// Definitions: [`signed_encoding`](crate::definitions::base::numbers::signed_encoding). [How to read clauses](crate::definitions).
 impl Encode for i64 {
     #[inline]
     fn encode<A: Sink>(&self, sink: &mut A) -> Result<()> {
@@ -358,16 +409,23 @@ pub struct Groups {
 /// requires { limit ≤ 10 }
 /// ```
 ///
+/// [How to read clauses](crate::definitions).
+///
 /// # Proved
 ///
+/// After `Ok`: `found`, `power`, `below`. After an error: `none`, `ended`, `too_many`.
+///
 /// ```text
-/// ensures found { IfOk result (λ x. HasGroups limit bytes.now x.0.sum x.0.power x.0.last x.1.now) }
+/// ensures found { IfOk result
+///     (λ x. HasGroups limit bytes.now x.0.sum x.0.power x.0.last x.1.now) }
 /// ensures power { IfOk result (λ x. x.0.power ≤ 128 ^ limit) }
 /// ensures below { IfOk result (λ x. x.0.sum < x.0.power) }
 /// ensures none { IfErr result (λ _. Rejects (groups limit) padded bytes.now) }
 /// ensures ended { IfErr result (λ e. e.cause ≡ Ended → length bytes.now < limit) }
 /// ensures too_many { IfErr result (λ e. e.cause ≡ TooLarge → limit ≤ length bytes.now) }
 /// ```
+///
+/// Definitions: [`HasGroups`](crate::definitions::base::groups::HasGroups), [`Rejects`](crate::definitions::base::decoding::Rejects), [`groups`](crate::definitions::base::groups::groups), [`padded`](crate::definitions::base::numbers::Mode). [How to read clauses](crate::definitions).
 pub fn read_groups(bytes: &[u8], limit: u8) -> Result<(Groups, &[u8]), DecodeError> {
     if limit == 0 {
         return Err(ReadFault::TooLarge.just_before(bytes));
@@ -402,11 +460,15 @@ pub fn read_groups(bytes: &[u8], limit: u8) -> Result<(Groups, &[u8]), DecodeErr
 /// requires { groups.sum < 2 ^ 70 × groups.power ≤ 2 ^ 70 }
 /// ```
 ///
+/// [How to read clauses](crate::definitions).
+///
 /// # Proved
 ///
 /// ```text
 /// ensures { result ≡ signed_of groups.sum groups.power groups.last }
 /// ```
+///
+/// Definitions: [`signed_of`](crate::definitions::base::groups::signed_of). [How to read clauses](crate::definitions).
 fn signed(groups: Groups) -> i128 {
     if groups.last < 0x40 {
         groups.sum as i128
@@ -423,11 +485,15 @@ fn signed(groups: Groups) -> i128 {
 /// requires { group < 0x80 }
 /// ```
 ///
+/// [How to read clauses](crate::definitions).
+///
 /// # Proved
 ///
 /// ```text
 /// ensures { result ≡ signed_of group 0x80 group }
 /// ```
+///
+/// Definitions: [`signed_of`](crate::definitions::base::groups::signed_of). [How to read clauses](crate::definitions).
 #[inline]
 fn signed_byte(group: u8) -> i16 {
     if group < 0x40 {
@@ -449,12 +515,17 @@ struct FewGroups {
 ///
 /// # Proved
 ///
+/// After `Ok`: `found`, `power`, `below`. After an error: `none`.
+///
 /// ```text
-/// ensures found { IfOk result (λ x. HasGroups 5 bytes.now x.0.sum x.0.power x.0.last x.1.now) }
+/// ensures found { IfOk result
+///     (λ x. HasGroups 5 bytes.now x.0.sum x.0.power x.0.last x.1.now) }
 /// ensures power { IfOk result (λ x. x.0.power ≤ 2 ^ 35) }
 /// ensures below { IfOk result (λ x. x.0.sum < x.0.power) }
 /// ensures none { IfErr result (λ _. Rejects (groups 5) padded bytes.now) }
 /// ```
+///
+/// Definitions: [`HasGroups`](crate::definitions::base::groups::HasGroups), [`Rejects`](crate::definitions::base::decoding::Rejects), [`groups`](crate::definitions::base::groups::groups), [`padded`](crate::definitions::base::numbers::Mode). [How to read clauses](crate::definitions).
 #[inline]
 fn read_few_groups(bytes: &[u8]) -> Result<(FewGroups, &[u8]), DecodeError> {
     let mut rest = bytes;
@@ -487,11 +558,15 @@ fn read_few_groups(bytes: &[u8]) -> Result<(FewGroups, &[u8]), DecodeError> {
 /// requires { groups.sum < 2 ^ 35 × groups.power ≤ 2 ^ 35 }
 /// ```
 ///
+/// [How to read clauses](crate::definitions).
+///
 /// # Proved
 ///
 /// ```text
 /// ensures { result ≡ signed_of groups.sum groups.power groups.last }
 /// ```
+///
+/// Definitions: [`signed_of`](crate::definitions::base::groups::signed_of). [How to read clauses](crate::definitions).
 #[inline]
 fn signed_few(groups: FewGroups) -> i64 {
     if groups.last < 0x40 {
@@ -505,10 +580,16 @@ fn signed_few(groups: FewGroups) -> i64 {
 ///
 /// # Proved
 ///
+/// After `Ok`: `found`. After an error: `none`.
+///
 /// ```text
-/// ensures found { IfOk result (λ x. Decodes u32_format (padded_of G.grammar) bytes.now x.0 x.1.now) }
-/// ensures none { IfErr result (λ e. e.cause ≢ Memory → Rejects u32_format (padded_of G.grammar) bytes.now) }
+/// ensures found { IfOk result
+///     (λ x. Decodes u32_format (padded_of G.grammar) bytes.now x.0 x.1.now) }
+/// ensures none { IfErr result
+///     (λ e. e.cause ≢ Memory → Rejects u32_format (padded_of G.grammar) bytes.now) }
 /// ```
+///
+/// Definitions: [`Decodes`](crate::definitions::base::decoding::Decodes), [`u32_format`](crate::definitions::base::formats::u32), [`padded_of`](crate::definitions::base::numbers::padded_of), [`Rejects`](crate::definitions::base::decoding::Rejects). [How to read clauses](crate::definitions).
 #[inline(never)]
 fn read_long_u32<G: Grammar>(bytes: &[u8]) -> Result<(u32, &[u8]), DecodeError> {
     let (groups, rest) = read_few_groups(bytes)?;
@@ -523,10 +604,16 @@ fn read_long_u32<G: Grammar>(bytes: &[u8]) -> Result<(u32, &[u8]), DecodeError> 
 ///
 /// # Proved
 ///
+/// After `Ok`: `found`. After an error: `none`.
+///
 /// ```text
-/// ensures found { IfOk result (λ x. Decodes u64_format (padded_of G.grammar) bytes.now x.0 x.1.now) }
-/// ensures none { IfErr result (λ e. e.cause ≢ Memory → Rejects u64_format (padded_of G.grammar) bytes.now) }
+/// ensures found { IfOk result
+///     (λ x. Decodes u64_format (padded_of G.grammar) bytes.now x.0 x.1.now) }
+/// ensures none { IfErr result
+///     (λ e. e.cause ≢ Memory → Rejects u64_format (padded_of G.grammar) bytes.now) }
 /// ```
+///
+/// Definitions: [`Decodes`](crate::definitions::base::decoding::Decodes), [`u64_format`](crate::definitions::base::formats::u64), [`padded_of`](crate::definitions::base::numbers::padded_of), [`Rejects`](crate::definitions::base::decoding::Rejects). [How to read clauses](crate::definitions).
 #[inline(never)]
 fn read_long_u64<G: Grammar>(bytes: &[u8]) -> Result<(u64, &[u8]), DecodeError> {
     if let Ok((groups, rest)) = read_few_groups(bytes) {
@@ -544,10 +631,16 @@ fn read_long_u64<G: Grammar>(bytes: &[u8]) -> Result<(u64, &[u8]), DecodeError> 
 ///
 /// # Proved
 ///
+/// After `Ok`: `found`. After an error: `none`.
+///
 /// ```text
-/// ensures found { IfOk result (λ x. Decodes s32 (padded_of G.grammar) bytes.now x.0 x.1.now) }
-/// ensures none { IfErr result (λ e. e.cause ≢ Memory → Rejects s32 (padded_of G.grammar) bytes.now) }
+/// ensures found { IfOk result
+///     (λ x. Decodes s32 (padded_of G.grammar) bytes.now x.0 x.1.now) }
+/// ensures none { IfErr result
+///     (λ e. e.cause ≢ Memory → Rejects s32 (padded_of G.grammar) bytes.now) }
 /// ```
+///
+/// Definitions: [`Decodes`](crate::definitions::base::decoding::Decodes), [`s32`](crate::definitions::base::formats::s32), [`padded_of`](crate::definitions::base::numbers::padded_of), [`Rejects`](crate::definitions::base::decoding::Rejects). [How to read clauses](crate::definitions).
 #[inline(never)]
 fn read_long_i32<G: Grammar>(bytes: &[u8]) -> Result<(i32, &[u8]), DecodeError> {
     let (groups, rest) = read_few_groups(bytes)?;
@@ -566,10 +659,16 @@ fn read_long_i32<G: Grammar>(bytes: &[u8]) -> Result<(i32, &[u8]), DecodeError> 
 ///
 /// # Proved
 ///
+/// After `Ok`: `found`. After an error: `none`.
+///
 /// ```text
-/// ensures found { IfOk result (λ x. Decodes s64 (padded_of G.grammar) bytes.now x.0 x.1.now) }
-/// ensures none { IfErr result (λ e. e.cause ≢ Memory → Rejects s64 (padded_of G.grammar) bytes.now) }
+/// ensures found { IfOk result
+///     (λ x. Decodes s64 (padded_of G.grammar) bytes.now x.0 x.1.now) }
+/// ensures none { IfErr result
+///     (λ e. e.cause ≢ Memory → Rejects s64 (padded_of G.grammar) bytes.now) }
 /// ```
+///
+/// Definitions: [`Decodes`](crate::definitions::base::decoding::Decodes), [`s64`](crate::definitions::base::formats::s64), [`padded_of`](crate::definitions::base::numbers::padded_of), [`Rejects`](crate::definitions::base::decoding::Rejects). [How to read clauses](crate::definitions).
 #[inline(never)]
 fn read_long_i64<G: Grammar>(bytes: &[u8]) -> Result<(i64, &[u8]), DecodeError> {
     if let Ok((groups, rest)) = read_few_groups(bytes) {
@@ -594,6 +693,8 @@ fn read_long_i64<G: Grammar>(bytes: &[u8]) -> Result<(i64, &[u8]), DecodeError> 
 /// format = { u32_format }
 /// view = { λ n. n }
 /// ```
+///
+/// Definitions: [`u32_format`](crate::definitions::base::formats::u32). [How to read clauses](crate::definitions).
 impl Layout for u32 {
     fn laws() {}
 }
@@ -617,6 +718,8 @@ impl<'a, A: Allocator + Copy, G: Grammar> Readable<'a, A, G> for u32 {
 /// format = { u64_format }
 /// view = { λ n. n }
 /// ```
+///
+/// Definitions: [`u64_format`](crate::definitions::base::formats::u64). [How to read clauses](crate::definitions).
 impl Layout for u64 {
     fn laws() {}
 }
@@ -640,6 +743,8 @@ impl<'a, A: Allocator + Copy, G: Grammar> Readable<'a, A, G> for u64 {
 /// format = { s32 }
 /// view = { λ n. n }
 /// ```
+///
+/// Definitions: [`s32`](crate::definitions::base::formats::s32). [How to read clauses](crate::definitions).
 impl Layout for i32 {
     fn laws() {}
 }
@@ -663,6 +768,8 @@ impl<'a, A: Allocator + Copy, G: Grammar> Readable<'a, A, G> for i32 {
 /// format = { s64 }
 /// view = { λ n. n }
 /// ```
+///
+/// Definitions: [`s64`](crate::definitions::base::formats::s64). [How to read clauses](crate::definitions).
 impl Layout for i64 {
     fn laws() {}
 }
@@ -684,10 +791,16 @@ impl<'a, A: Allocator + Copy, G: Grammar> Readable<'a, A, G> for i64 {
 ///
 /// # Proved
 ///
+/// After `Ok`: `found`. After an error: `none`.
+///
 /// ```text
-/// ensures found { IfOk result (λ x. Decodes s33 (padded_of G.grammar) bytes.now x.0 x.1.now) }
-/// ensures none { IfErr result (λ e. e.cause ≢ Memory → Rejects s33 (padded_of G.grammar) bytes.now) }
+/// ensures found { IfOk result
+///     (λ x. Decodes s33 (padded_of G.grammar) bytes.now x.0 x.1.now) }
+/// ensures none { IfErr result
+///     (λ e. e.cause ≢ Memory → Rejects s33 (padded_of G.grammar) bytes.now) }
 /// ```
+///
+/// Definitions: [`Decodes`](crate::definitions::base::decoding::Decodes), [`s33`](crate::definitions::base::formats::s33), [`padded_of`](crate::definitions::base::numbers::padded_of), [`Rejects`](crate::definitions::base::decoding::Rejects). [How to read clauses](crate::definitions).
 #[inline]
 pub fn read_index<G: Grammar>(bytes: &[u8]) -> Result<(u32, &[u8]), DecodeError> {
     let (groups, rest) = read_few_groups(bytes)?;

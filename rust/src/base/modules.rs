@@ -32,11 +32,15 @@ impl<A: Allocator> Module<A> {
     ///
     /// # Proved
     ///
+    /// After `Ok`: `bytes`, `read`. In any case: `memory`.
+    ///
     /// ```text
     /// ensures bytes { IfOk result (λ m. m ≡ header) }
     /// ensures read { IfOk result (λ m. DecodesWhole wasm_module m []) }
     /// ensures memory { result ≢ Err Refused.TooLong }
     /// ```
+    ///
+    /// Definitions: [`header`](crate::definitions::base::formats::header), [`DecodesWhole`](crate::definitions::base::decoding::DecodesWhole), [`wasm_module`](crate::definitions::base::formats::wasm_module). [How to read clauses](crate::definitions).
     pub fn new(alloc: A) -> Result<Module<A>> {
         Ok(Module {
             bytes: Vec::from_slice(alloc, b"\0asm\x01\0\0\0")?,
@@ -52,15 +56,21 @@ impl<A: Allocator> Module<A> {
     ///
     /// # Proved
     ///
+    /// After `Ok`: `ok`, `read`, `section`, `was_encodable`. After an error: `err`. In any case: `too_long`, `too_many`.
+    ///
     /// ```text
-    /// ensures ok { OnOk result (self.new ≡ self.old ++ (S.id_of section.now ∷ S.encoding section.now)) }
-    /// ensures read { OnOk result (DecodesOneMore (S.payload section.now) (S.id_of section.now) self.old self.new) }
+    /// ensures ok { OnOk result
+    ///     (self.new ≡ self.old ++ (S.id_of section.now ∷ S.encoding section.now)) }
+    /// ensures read { OnOk result
+    ///     (DecodesOneMore (S.payload section.now) (S.id_of section.now) self.old self.new) }
     /// ensures section { OnOk result (S.decoding section.now) }
     /// ensures err { OnErr result (self.new ≡ self.old) }
     /// ensures was_encodable { OnOk result (S.encodable section.now) }
     /// ensures too_long { S.encodable section.now → result ≢ Err Refused.TooLong }
     /// ensures too_many { S.overlong section.now → result ≡ Err Refused.TooLong }
     /// ```
+    ///
+    /// Definitions: [`DecodesOneMore`](crate::definitions::base::calls::DecodesOneMore). [How to read clauses](crate::definitions).
     pub fn section<S: Section>(&mut self, section: &S) -> Result<()> {
         section.append_to(&mut self.bytes)
     }
@@ -69,10 +79,14 @@ impl<A: Allocator> Module<A> {
     ///
     /// # Proved
     ///
+    /// After `Ok`: `same`. In any case: `memory`.
+    ///
     /// ```text
     /// ensures same { IfOk result (λ m. m ≡ self.now) }
     /// ensures memory { result ≢ Err Refused.TooLong }
     /// ```
+    ///
+    /// [How to read clauses](crate::definitions).
     pub fn clone(&self) -> Result<Module<A>>
     where
         A: Clone,
@@ -90,6 +104,8 @@ impl<A: Allocator> Module<A> {
     /// ```text
     /// ensures { result.items ≡ self }
     /// ```
+    ///
+    /// [How to read clauses](crate::definitions).
     pub fn finish(self) -> Vec<u8, A> {
         self.bytes
     }

@@ -20,6 +20,8 @@ use crate::alloc::Allocator;
 /// encodable = { λ name. HasEncodableSize name.now }
 /// overlong = { λ name. longest < length name.now }
 /// ```
+///
+/// Definitions: [`size_prefixed_encoding`](crate::definitions::base::encodings::size_prefixed_encoding), [`HasEncodableSize`](crate::definitions::base::encodings::HasEncodableSize), [`longest`](crate::definitions::base::encodings::longest). [How to read clauses](crate::definitions).
 impl Encode for &str {
     #[inline(always)]
     fn encode<A: Sink>(&self, sink: &mut A) -> Result<()> {
@@ -36,12 +38,16 @@ impl Encode for &str {
 /// format = { size_prefixed any_bytes }
 /// view = { λ b. b.now }
 /// ```
+///
+/// Definitions: [`size_prefixed`](crate::definitions::base::formats::size_prefixed), [`any_bytes`](crate::definitions::base::formats::any_bytes). [How to read clauses](crate::definitions).
 impl<'a> Layout for &'a [u8] {
     /// # Proved
     ///
     /// ```text
     /// ensures { Unambiguous (size_prefixed any_bytes) }
     /// ```
+    ///
+    /// Definitions: [`Unambiguous`](crate::definitions::base::decoding::Unambiguous), [`size_prefixed`](crate::definitions::base::formats::size_prefixed), [`any_bytes`](crate::definitions::base::formats::any_bytes). [How to read clauses](crate::definitions).
     fn laws() {}
 }
 
@@ -64,12 +70,16 @@ impl<'a, A: Allocator + Copy, G: Grammar> Readable<'a, A, G> for &'a [u8] {
 /// format = { name }
 /// view = { λ s. s.now }
 /// ```
+///
+/// Definitions: [`name`](crate::definitions::base::formats::name). [How to read clauses](crate::definitions).
 impl<'a> Layout for &'a str {
     /// # Proved
     ///
     /// ```text
     /// ensures { Unambiguous name }
     /// ```
+    ///
+    /// Definitions: [`Unambiguous`](crate::definitions::base::decoding::Unambiguous), [`name`](crate::definitions::base::formats::name). [How to read clauses](crate::definitions).
     fn laws() {}
 }
 

@@ -23,6 +23,8 @@ use crate::base::refused::{Refused, Result};
 /// // representable.
 /// encodable: { Self → Type 0 }
 /// ```
+///
+/// [How to read clauses](crate::definitions).
 pub trait EncodeOnce {
     /// Appends an encoding of the value. On an error, the bytes of the sink are unchanged.
     ///
@@ -32,11 +34,15 @@ pub trait EncodeOnce {
     /// requires { lawful self }
     /// ```
     ///
+    /// [How to read clauses](crate::definitions).
+    ///
     /// # Proved
     ///
     /// ```text
     /// ensures { AppendsOnce (gives self) (encodable self) sink.old sink.new result }
     /// ```
+    ///
+    /// Definitions: [`AppendsOnce`](crate::definitions::base::once::AppendsOnce). [How to read clauses](crate::definitions).
     fn encode_once<A: Sink>(self, sink: &mut A) -> Result<()>;
 }
 
@@ -60,12 +66,18 @@ pub struct BytesOf<I> {
 ///
 /// # Proved
 ///
+/// After `Ok`: `ok`. After an error: `refused`. In any case: `too_long`, `too_many`.
+///
 /// ```text
-/// ensures ok { IfOk result (λ count. IsFinite (I.remaining items.now) × (size (I.remaining items.now) ≡ count) × (count ≤ longest)) }
+/// ensures ok { IfOk result
+///     (λ count. IsFinite (I.remaining items.now) × (size (I.remaining items.now) ≡ count)
+///         × (count ≤ longest)) }
 /// ensures too_long { size (I.remaining items.now) ≤ longest → result ≢ Err TooLong }
 /// ensures too_many { longest < size (I.remaining items.now) → result ≡ Err TooLong }
 /// ensures refused { IfErr result (λ refused. refused ≡ TooLong) }
 /// ```
+///
+/// Definitions: [`longest`](crate::definitions::base::encodings::longest). [How to read clauses](crate::definitions).
 fn count_of<I: ExactSizeIterator>(items: &I) -> Result<u32> {
     let Ok(count) = u32::try_from(items.len()) else {
         return Err(Refused::TooLong);
@@ -82,12 +94,20 @@ fn count_of<I: ExactSizeIterator>(items: &I) -> Result<u32> {
 ///
 /// # Proved
 ///
+/// After `Ok`: `ok`. After an error: `refused`. In any case: `too_long`, `too_many`.
+///
 /// ```text
-/// ensures ok { IfOk result (λ v. V.into_iter_gives elements v.items × IsFinite (V.IntoIter.remaining v.items) × (size (V.IntoIter.remaining v.items) ≡ v.count) × (v.count ≤ longest)) }
-/// ensures too_long { ((it : V.IntoIter) → V.into_iter_gives elements it → size (V.IntoIter.remaining it) ≤ longest) → result ≢ Err TooLong }
-/// ensures too_many { ((it : V.IntoIter) → V.into_iter_gives elements it → longest < size (V.IntoIter.remaining it)) → result ≡ Err TooLong }
+/// ensures ok { IfOk result
+///     (λ v. V.into_iter_gives elements v.items × IsFinite (V.IntoIter.remaining v.items)
+///         × (size (V.IntoIter.remaining v.items) ≡ v.count) × (v.count ≤ longest)) }
+/// ensures too_long { ((it : V.IntoIter) → V.into_iter_gives elements it
+///         → size (V.IntoIter.remaining it) ≤ longest) → result ≢ Err TooLong }
+/// ensures too_many { ((it : V.IntoIter) → V.into_iter_gives elements it
+///         → longest < size (V.IntoIter.remaining it)) → result ≡ Err TooLong }
 /// ensures refused { IfErr result (λ refused. refused ≡ TooLong) }
 /// ```
+///
+/// Definitions: [`longest`](crate::definitions::base::encodings::longest). [How to read clauses](crate::definitions).
 pub fn vec_of<V: IntoIterator>(elements: V) -> Result<VecOf<V::IntoIter>>
 where
     V::IntoIter: ExactSizeIterator,
@@ -106,12 +126,20 @@ where
 ///
 /// # Proved
 ///
+/// After `Ok`: `ok`. After an error: `refused`. In any case: `too_long`, `too_many`.
+///
 /// ```text
-/// ensures ok { IfOk result (λ v. V.into_iter_gives bytes v.items × IsFinite (V.IntoIter.remaining v.items) × (size (V.IntoIter.remaining v.items) ≡ v.count) × (v.count ≤ longest)) }
-/// ensures too_long { ((it : V.IntoIter) → V.into_iter_gives bytes it → size (V.IntoIter.remaining it) ≤ longest) → result ≢ Err TooLong }
-/// ensures too_many { ((it : V.IntoIter) → V.into_iter_gives bytes it → longest < size (V.IntoIter.remaining it)) → result ≡ Err TooLong }
+/// ensures ok { IfOk result
+///     (λ v. V.into_iter_gives bytes v.items × IsFinite (V.IntoIter.remaining v.items)
+///         × (size (V.IntoIter.remaining v.items) ≡ v.count) × (v.count ≤ longest)) }
+/// ensures too_long { ((it : V.IntoIter) → V.into_iter_gives bytes it
+///         → size (V.IntoIter.remaining it) ≤ longest) → result ≢ Err TooLong }
+/// ensures too_many { ((it : V.IntoIter) → V.into_iter_gives bytes it
+///         → longest < size (V.IntoIter.remaining it)) → result ≡ Err TooLong }
 /// ensures refused { IfErr result (λ refused. refused ≡ TooLong) }
 /// ```
+///
+/// Definitions: [`longest`](crate::definitions::base::encodings::longest). [How to read clauses](crate::definitions).
 pub fn bytes_of<V: IntoIterator>(bytes: V) -> Result<BytesOf<V::IntoIter>>
 where
     V::IntoIter: ExactSizeIterator,
@@ -128,6 +156,8 @@ where
 /// gives = { λ v. GivesVec I.next_gives T.encodable T.encoding v.items }
 /// encodable = { λ v. YieldsEncodable I.next_gives T.encodable v.items }
 /// ```
+///
+/// Definitions: [`ReportsCount`](crate::definitions::base::once::ReportsCount), [`GivesVec`](crate::definitions::base::once::GivesVec), [`YieldsEncodable`](crate::definitions::base::once::YieldsEncodable). [How to read clauses](crate::definitions).
 impl<T: Encode, I: Iterator<Item = T>> EncodeOnce for VecOf<I> {
     #[inline(always)]
     fn encode_once<A: Sink>(self, sink: &mut A) -> Result<()> {
@@ -163,6 +193,8 @@ const SHORT: usize = 256;
 /// requires many { (xs : List ℕ) → Drains I.next_gives items.old xs → 16 ≤ length xs }
 /// ```
 ///
+/// [How to read clauses](crate::definitions).
+///
 /// # Proved
 ///
 /// ```text
@@ -170,6 +202,8 @@ const SHORT: usize = 256;
 /// ensures count { length result ≡ 16 }
 /// ensures ready { I.can_next items.new × IsFinite (I.remaining items.new) }
 /// ```
+///
+/// [How to read clauses](crate::definitions).
 fn next_block<I: Iterator<Item = u8>>(items: &mut I) -> [u8; BLOCK] {
     let mut block = [0; BLOCK];
     for i in 0..BLOCK {
@@ -185,17 +219,23 @@ fn next_block<I: Iterator<Item = u8>>(items: &mut I) -> [u8; BLOCK] {
 ///
 /// ```text
 /// requires ready { I.can_next items.old × IsFinite (I.remaining items.old) }
-/// requires reported { (xs : List ℕ) → Drains I.next_gives items.old xs → length xs ≡ count }
+/// requires reported { (xs : List ℕ) → Drains I.next_gives items.old xs
+///     → length xs ≡ count }
 /// requires spare { vec_len sink.old + count ≤ vec_capacity sink.old }
 /// ```
+///
+/// [How to read clauses](crate::definitions).
 ///
 /// # Proved
 ///
 /// ```text
-/// ensures appends { (xs : List ℕ) × Yields I.next_gives items.old xs items.new × (sink.new.items ≡ sink.old.items ++ xs) }
+/// ensures appends { (xs : List ℕ) × Yields I.next_gives items.old xs items.new
+///     × (sink.new.items ≡ sink.old.items ++ xs) }
 /// ensures ready { I.can_next items.new × IsFinite (I.remaining items.new) }
 /// ensures capacity { vec_capacity sink.old ≤ vec_capacity sink.new }
 /// ```
+///
+/// [How to read clauses](crate::definitions).
 fn append_blocks<I: Iterator<Item = u8>, A: Sink>(
     sink: &mut A,
     items: &mut I,
@@ -216,6 +256,8 @@ fn append_blocks<I: Iterator<Item = u8>, A: Sink>(
 /// gives = { λ v. GivesBytes I.next_gives v.items }
 /// encodable = { λ _. Unit {0} }
 /// ```
+///
+/// Definitions: [`ReportsCount`](crate::definitions::base::once::ReportsCount), [`GivesBytes`](crate::definitions::base::once::GivesBytes). [How to read clauses](crate::definitions).
 impl<I: Iterator<Item = u8>> EncodeOnce for BytesOf<I> {
     #[inline(always)]
     fn encode_once<A: Sink>(self, sink: &mut A) -> Result<()> {
@@ -241,6 +283,8 @@ impl<I: Iterator<Item = u8>> EncodeOnce for BytesOf<I> {
 /// gives = { λ p. GivesPair (S.encoding p.0) (S.encodable p.0) (T.gives p.1) }
 /// encodable = { λ p. S.encodable p.0 × T.encodable p.1 }
 /// ```
+///
+/// Definitions: [`GivesPair`](crate::definitions::base::once::GivesPair). [How to read clauses](crate::definitions).
 impl<S: Encode, T: EncodeOnce> EncodeOnce for (S, T) {
     #[inline(always)]
     fn encode_once<A: Sink>(self, sink: &mut A) -> Result<()> {
@@ -261,9 +305,12 @@ impl<S: Encode, T: EncodeOnce> EncodeOnce for (S, T) {
 ///
 /// ```text
 /// lawful = { λ p. T.lawful p.1 × U.lawful p.2 }
-/// gives = { λ p. GivesTriple (S.encoding p.0) (S.encodable p.0) (T.gives p.1) (U.gives p.2) }
+/// gives = { λ p. GivesTriple (S.encoding p.0) (S.encodable p.0) (T.gives p.1)
+///     (U.gives p.2) }
 /// encodable = { λ p. S.encodable p.0 × T.encodable p.1 × U.encodable p.2 }
 /// ```
+///
+/// Definitions: [`GivesTriple`](crate::definitions::base::once::GivesTriple). [How to read clauses](crate::definitions).
 impl<S: Encode, T: EncodeOnce, U: EncodeOnce> EncodeOnce for (S, T, U) {
     #[inline(always)]
     fn encode_once<A: Sink>(self, sink: &mut A) -> Result<()> {

@@ -21,6 +21,8 @@ pub struct Lent<'a, T>(pub &'a T);
 /// encoding = { λ lent. T.encoding lent.0.now }
 /// encodable = { λ lent. T.encodable lent.0.now }
 /// ```
+///
+/// [How to read clauses](crate::definitions).
 impl<T: Encode> Encode for Lent<'_, T> {
     #[inline]
     fn encode<A: Sink>(&self, sink: &mut A) -> Result<()> {
@@ -40,6 +42,8 @@ pub struct Optional<T>(pub Option<T>);
 /// encoding = { λ part. optional_encoding T.encoding part.0 }
 /// encodable = { λ part. IfSome part.0 T.encodable }
 /// ```
+///
+/// Definitions: [`optional_encoding`](crate::definitions::base::encodings::optional_encoding). [How to read clauses](crate::definitions).
 impl<T: Encode> Encode for Optional<T> {
     #[inline]
     fn encode<A: Sink>(&self, sink: &mut A) -> Result<()> {
@@ -58,10 +62,18 @@ impl<T: Encode> Encode for Optional<T> {
 ///
 /// # Proved
 ///
+/// After `Ok`: `found`. After an error: `none`.
+///
 /// ```text
-/// ensures found { IfOk result (λ x. Decodes (optional flag T.format) (padded_of G.grammar) bytes.now (option_map T.view x.0) x.1.now) }
-/// ensures none { IfErr result (λ e. e.cause ≢ Memory → Rejects (optional flag T.format) (padded_of G.grammar) bytes.now) }
+/// ensures found { IfOk result
+///     (λ x. Decodes (optional flag T.format) (padded_of G.grammar) bytes.now
+///         (option_map T.view x.0) x.1.now) }
+/// ensures none { IfErr result
+///     (λ e. e.cause ≢ Memory → Rejects (optional flag T.format)
+///         (padded_of G.grammar) bytes.now) }
 /// ```
+///
+/// Definitions: [`Decodes`](crate::definitions::base::decoding::Decodes), [`optional`](crate::definitions::base::formats::optional), [`padded_of`](crate::definitions::base::numbers::padded_of), [`Rejects`](crate::definitions::base::decoding::Rejects). [How to read clauses](crate::definitions).
 pub fn read_optional<'a, T: Readable<'a, A, G>, A: Allocator + Copy, G: Grammar>(
     flag: bool,
     bytes: &'a [u8],

@@ -32,11 +32,15 @@ pub struct Pieces<A: Allocator = Global> {
 /// requires { index ≤ length ends.now }
 /// ```
 ///
+/// [How to read clauses](crate::definitions).
+///
 /// # Proved
 ///
 /// ```text
 /// ensures { result ≡ slice_index (0 ∷ ends.now) index }
 /// ```
+///
+/// [How to read clauses](crate::definitions).
 fn start_of(ends: &[usize], index: usize) -> usize {
     if index == 0 { 0 } else { ends[index - 1] }
 }
@@ -49,6 +53,8 @@ impl<A: Allocator> Pieces<A> {
     /// ```text
     /// ensures { result ≡ length (joined self.now) }
     /// ```
+    ///
+    /// Definitions: [`joined`](crate::definitions::base::pieces::joined). [How to read clauses](crate::definitions).
     pub fn raw_len(&self) -> usize {
         self.bytes.len()
     }
@@ -60,6 +66,8 @@ impl<A: Allocator> Pieces<A> {
     /// ```text
     /// ensures { result ≡ length self.now }
     /// ```
+    ///
+    /// [How to read clauses](crate::definitions).
     pub fn len(&self) -> u32 {
         self.ends.len() as u32
     }
@@ -71,8 +79,24 @@ impl<A: Allocator> Pieces<A> {
     /// ```text
     /// ensures { IsTrue result ↔ (length self.now ≡ 0) }
     /// ```
+    ///
+    /// [How to read clauses](crate::definitions).
     pub fn is_empty(&self) -> bool {
         self.ends.is_empty()
+    }
+
+    /// Returns `true` if there are as many entries as a count of 32 bits represents.
+    ///
+    /// # Proved
+    ///
+    /// ```text
+    /// ensures { Decides result (length self.now ≡ longest) }
+    /// ```
+    ///
+    /// Definitions: [`longest`](crate::definitions::base::encodings::longest). [How to read clauses](crate::definitions).
+    #[inline]
+    fn is_full(&self) -> bool {
+        self.len() == u32::MAX
     }
 
     /// Returns the bytes of the entries, one entry after another.
@@ -82,6 +106,8 @@ impl<A: Allocator> Pieces<A> {
     /// ```text
     /// ensures { result.now ≡ joined self.now }
     /// ```
+    ///
+    /// Definitions: [`joined`](crate::definitions::base::pieces::joined). [How to read clauses](crate::definitions).
     pub fn bytes(&self) -> &[u8] {
         &self.bytes
     }
@@ -93,6 +119,8 @@ impl<A: Allocator> Pieces<A> {
     /// ```text
     /// ensures { option_copied result ≡ slice_get self.now index }
     /// ```
+    ///
+    /// [How to read clauses](crate::definitions).
     pub fn get(&self, index: u32) -> Option<&[u8]> {
         let index = index as usize;
         if index >= self.ends.len() {
@@ -110,9 +138,11 @@ impl<A: Allocator> Pieces<A> {
     /// ```text
     /// ensures { Adds entry.now ⊤ self.old self.new result }
     /// ```
+    ///
+    /// Definitions: [`Adds`](crate::definitions::base::calls::Adds). [How to read clauses](crate::definitions).
     #[inline]
     pub fn add(&mut self, entry: &[u8]) -> Result<()> {
-        if self.ends.len() >= MOST_ENTRIES {
+        if self.is_full() {
             return Err(Refused::TooLong);
         }
         self.ends.reserve(1)?;
@@ -129,9 +159,11 @@ impl<A: Allocator> Pieces<A> {
     /// ```text
     /// ensures { Adds (T.encoding item.now) (T.encodable item.now) self.old self.new result }
     /// ```
+    ///
+    /// Definitions: [`Adds`](crate::definitions::base::calls::Adds). [How to read clauses](crate::definitions).
     #[inline]
     pub fn add_encoded<T: Encode>(&mut self, item: &T) -> Result<()> {
-        if self.ends.len() >= MOST_ENTRIES {
+        if self.is_full() {
             return Err(Refused::TooLong);
         }
         self.ends.reserve(1)?;
@@ -150,14 +182,18 @@ impl<A: Allocator> Pieces<A> {
     /// requires { T.lawful item }
     /// ```
     ///
+    /// [How to read clauses](crate::definitions).
+    ///
     /// # Proved
     ///
     /// ```text
     /// ensures { AddsOnce (T.gives item) (T.encodable item) self.old self.new result }
     /// ```
+    ///
+    /// Definitions: [`AddsOnce`](crate::definitions::base::once::AddsOnce). [How to read clauses](crate::definitions).
     #[inline]
     pub fn add_once<T: EncodeOnce>(&mut self, item: T) -> Result<()> {
-        if self.ends.len() >= MOST_ENTRIES {
+        if self.is_full() {
             return Err(Refused::TooLong);
         }
         self.ends.reserve(1)?;
@@ -168,9 +204,6 @@ impl<A: Allocator> Pieces<A> {
     }
 }
 
-/// The largest number of entries, which a count of 32 bits represents.
-const MOST_ENTRIES: usize = 4294967295;
-
 impl<A: Allocator + Copy> Pieces<A> {
     /// Returns no entries, without an allocation.
     ///
@@ -179,6 +212,8 @@ impl<A: Allocator + Copy> Pieces<A> {
     /// ```text
     /// ensures { result ≡ [] }
     /// ```
+    ///
+    /// [How to read clauses](crate::definitions).
     pub fn new(alloc: A) -> Self {
         Pieces {
             bytes: Vec::new(alloc),
@@ -190,10 +225,14 @@ impl<A: Allocator + Copy> Pieces<A> {
     ///
     /// # Proved
     ///
+    /// After `Ok`: `same`. In any case: `memory`.
+    ///
     /// ```text
     /// ensures same { IfOk result (λ pieces. pieces ≡ self.now) }
     /// ensures memory { result ≢ Err Refused.TooLong }
     /// ```
+    ///
+    /// [How to read clauses](crate::definitions).
     pub fn clone(&self) -> Result<Self> {
         let alloc = *self.bytes.allocator();
         Ok(Pieces {
@@ -213,6 +252,8 @@ impl<A: Allocator + Copy> Pieces<A> {
 /// encodable = { IsEncodableSection }
 /// overlong = { IsOverlong }
 /// ```
+///
+/// Definitions: [`section_encoding`](crate::definitions::base::pieces::section_encoding), [`IsEncodableSection`](crate::definitions::base::pieces::IsEncodableSection), [`IsOverlong`](crate::definitions::base::pieces::IsOverlong). [How to read clauses](crate::definitions).
 impl<A: Allocator> Encode for Pieces<A> {
     fn encode<B: Sink>(&self, sink: &mut B) -> Result<()> {
         encode_section(sink, self.len(), self.bytes())

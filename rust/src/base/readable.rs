@@ -14,6 +14,8 @@ use crate::alloc::Allocator;
 /// format: { Mode → List ℕ → Value → Type 0 }
 /// view: { Self → Value }
 /// ```
+///
+/// Definitions: [`Mode`](crate::definitions::base::numbers::Mode). [How to read clauses](crate::definitions).
 pub trait Layout {
     // The value, without its location in memory.
 
@@ -27,6 +29,8 @@ pub trait Layout {
     /// ```text
     /// ensures { Unambiguous format }
     /// ```
+    ///
+    /// Definitions: [`Unambiguous`](crate::definitions::base::decoding::Unambiguous). [How to read clauses](crate::definitions).
     fn laws();
 }
 
@@ -41,9 +45,15 @@ pub trait Readable<'a, A: Allocator + Copy, G: Grammar>: Layout + Sized {
     ///
     /// # Proved
     ///
+    /// After `Ok`: `found`. After an error: `none`.
+    ///
     /// ```text
-    /// ensures found { IfOk result (λ x. Decodes Self.format (padded_of G.grammar) bytes.now (Self.view x.0) x.1.now) }
-    /// ensures none { IfErr result (λ e. e.cause ≢ Memory → Rejects Self.format (padded_of G.grammar) bytes.now) }
+    /// ensures found { IfOk result
+    ///     (λ x. Decodes Self.format (padded_of G.grammar) bytes.now (Self.view x.0) x.1.now) }
+    /// ensures none { IfErr result
+    ///     (λ e. e.cause ≢ Memory → Rejects Self.format (padded_of G.grammar) bytes.now) }
     /// ```
+    ///
+    /// Definitions: [`Decodes`](crate::definitions::base::decoding::Decodes), [`padded_of`](crate::definitions::base::numbers::padded_of), [`Rejects`](crate::definitions::base::decoding::Rejects). [How to read clauses](crate::definitions).
     fn read(bytes: &'a [u8], alloc: A) -> Result<(Self, &'a [u8]), DecodeError>;
 }

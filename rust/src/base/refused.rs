@@ -23,6 +23,8 @@ pub type Result<T, E = Refused> = result::Result<T, E>;
 /// ```text
 /// from_gives = { λ _ refused. refused ≡ Memory }
 /// ```
+///
+/// [How to read clauses](crate::definitions).
 impl From<AllocError> for Refused {
     fn from(_error: AllocError) -> Refused {
         Refused::Memory
@@ -34,6 +36,8 @@ impl From<AllocError> for Refused {
 /// ```text
 /// from_gives = { λ _ refused. refused ≡ Memory }
 /// ```
+///
+/// [How to read clauses](crate::definitions).
 impl<T> From<AllocFailed<T>> for Refused {
     fn from(_failed: AllocFailed<T>) -> Refused {
         Refused::Memory

@@ -25,6 +25,8 @@ pub enum SectionId {
 /// ```text
 /// from_gives = { λ id n. n ≡ number_of id }
 /// ```
+///
+/// Definitions: [`number_of`](crate::definitions::base::section_id::number_of). [How to read clauses](crate::definitions).
 impl From<SectionId> for u8 {
     fn from(id: SectionId) -> u8 {
         id as u8

@@ -22,10 +22,15 @@ use crate::base::refused::{Refused, Result};
 /// // The encoding is the size prefix of these bytes, and the bytes.
 /// payload: { Self → List ℕ → Type 0 }
 /// // The encoding is the payload with its size prefix.
-/// sized: { (section : Self) (bytes : List ℕ) → Self.encodable section → payload section bytes → IsSizePrefixed (Self.encoding section) bytes }
-/// // The headline: `encode` promises at least that the encoding decodes to the items alone.
-/// decodes_back: { (section : Self) → Self.decoding section → DecodesBack format (says section) (Self.encoding section) }
+/// sized: { (section : Self) (bytes : List ℕ) → Self.encodable section
+///     → payload section bytes → IsSizePrefixed (Self.encoding section) bytes }
+/// // The headline: `encode` promises at least that the encoding decodes to the items
+///     alone.
+/// decodes_back: { (section : Self) → Self.decoding section
+///     → DecodesBack format (says section) (Self.encoding section) }
 /// ```
+///
+/// Definitions: [`Mode`](crate::definitions::base::numbers::Mode), [`IsSizePrefixed`](crate::definitions::base::encodings::IsSizePrefixed), [`DecodesBack`](crate::definitions::base::calls::DecodesBack). [How to read clauses](crate::definitions).
 pub trait Section: Encode {
     /// Returns the section id.
     ///
@@ -34,17 +39,24 @@ pub trait Section: Encode {
     /// ```text
     /// ensures { result ≡ id_of self.now }
     /// ```
+    ///
+    /// [How to read clauses](crate::definitions).
     fn id(&self) -> u8;
 
     /// Appends the id and the encoding. On an error, the bytes of `dst` are unchanged.
     ///
     /// # Proved
     ///
+    /// After `Ok`: `read`. In any case: `appends`, `too_many`.
+    ///
     /// ```text
-    /// ensures appends { Appends (id_of self.now ∷ Self.encoding self.now) (Self.encodable self.now) dst.old dst.new result }
+    /// ensures appends { Appends (id_of self.now ∷ Self.encoding self.now)
+    ///     (Self.encodable self.now) dst.old dst.new result }
     /// ensures read { OnOk result (Self.decoding self.now) }
     /// ensures too_many { Self.overlong self.now → result ≡ Err TooLong }
     /// ```
+    ///
+    /// Definitions: [`Appends`](crate::definitions::base::calls::Appends). [How to read clauses](crate::definitions).
     fn append_to<A: Sink>(&self, dst: &mut A) -> Result<()> {
         let start = dst.len();
         if dst.push(self.id()).is_err() {
@@ -74,8 +86,11 @@ pub struct RawSection<'a> {
 /// encoding = { λ s. size_prefixed_encoding s.bytes.now }
 /// encodable = { λ s. HasEncodableSize s.bytes.now }
 /// overlong = { λ s. longest < length s.bytes.now }
-/// decoding = { λ s. DecodesBack (size_prefixed any_bytes) (λ bytes. bytes ≡ s.bytes.now) (size_prefixed_encoding s.bytes.now) }
+/// decoding = { λ s. DecodesBack (size_prefixed any_bytes) (λ bytes. bytes ≡ s.bytes.now)
+///     (size_prefixed_encoding s.bytes.now) }
 /// ```
+///
+/// Definitions: [`size_prefixed_encoding`](crate::definitions::base::encodings::size_prefixed_encoding), [`HasEncodableSize`](crate::definitions::base::encodings::HasEncodableSize), [`longest`](crate::definitions::base::encodings::longest), [`DecodesBack`](crate::definitions::base::calls::DecodesBack), [`size_prefixed`](crate::definitions::base::formats::size_prefixed), [`any_bytes`](crate::definitions::base::formats::any_bytes). [How to read clauses](crate::definitions).
 impl Encode for RawSection<'_> {
     fn encode<A: Sink>(&self, sink: &mut A) -> Result<()> {
         encode_size_prefixed(sink, self.bytes)
@@ -93,6 +108,8 @@ impl Encode for RawSection<'_> {
 /// sized = { λ s bytes encodable says. raw_sized s.bytes.now bytes encodable says }
 /// decodes_back = { λ s promised. promised }
 /// ```
+///
+/// Definitions: [`size_prefixed`](crate::definitions::base::formats::size_prefixed), [`any_bytes`](crate::definitions::base::formats::any_bytes), [`raw_sized`](crate::definitions::base::encodings::raw_sized). [How to read clauses](crate::definitions).
 impl Section for RawSection<'_> {
     fn id(&self) -> u8 {
         self.id

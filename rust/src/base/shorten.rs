@@ -13,22 +13,32 @@ pub trait Shorten: Layout {
     ///
     /// # Proved
     ///
+    /// After `Ok`: `ok`. In any case: `front`, `too_long`.
+    ///
     /// ```text
-    /// ensures ok { OnOk result (AppendsMinimal Self.format (Self.view self.now) sink.old.items sink.new.items) }
+    /// ensures ok { OnOk result
+    ///     (AppendsMinimal Self.format (Self.view self.now) sink.old.items sink.new.items) }
     /// ensures front { IsFrontOf sink.old.items sink.new.items }
     /// ensures too_long { HasEncoding Self.format (Self.view self.now) → result ≢ Err TooLong }
     /// ```
+    ///
+    /// Definitions: [`AppendsMinimal`](crate::definitions::base::minimal::AppendsMinimal), [`IsFrontOf`](crate::definitions::base::minimal::IsFrontOf), [`HasEncoding`](crate::definitions::base::minimal::HasEncoding). [How to read clauses](crate::definitions).
     fn write_minimal<B: Sink>(&self, sink: &mut B) -> Result<()>;
 
     /// Appends the minimal encoding of the value. On an error, the sink is unchanged.
     ///
     /// # Proved
     ///
+    /// After `Ok`: `ok`. After an error: `err`. In any case: `too_long`.
+    ///
     /// ```text
-    /// ensures ok { OnOk result (AppendsMinimal Self.format (Self.view self.now) sink.old.items sink.new.items) }
+    /// ensures ok { OnOk result
+    ///     (AppendsMinimal Self.format (Self.view self.now) sink.old.items sink.new.items) }
     /// ensures err { OnErr result (sink.new.items ≡ sink.old.items) }
     /// ensures too_long { HasEncoding Self.format (Self.view self.now) → result ≢ Err TooLong }
     /// ```
+    ///
+    /// Definitions: [`AppendsMinimal`](crate::definitions::base::minimal::AppendsMinimal), [`HasEncoding`](crate::definitions::base::minimal::HasEncoding). [How to read clauses](crate::definitions).
     fn append_minimal<B: Sink>(&self, sink: &mut B) -> Result<()> {
         let start = sink.len();
         let written = self.write_minimal(sink);

@@ -17,10 +17,17 @@ pub trait Skip<'a, A: Allocator + Copy, G: Grammar>: Layout {
     ///
     /// # Proved
     ///
+    /// After `Ok`: `found`. After an error: `none`.
+    ///
     /// ```text
-    /// ensures found { IfOk result (λ rest. (x : Self.Value) × Decodes Self.format (padded_of G.grammar) bytes.now x rest.now) }
-    /// ensures none { IfErr result (λ e. e.cause ≢ Memory → Rejects Self.format (padded_of G.grammar) bytes.now) }
+    /// ensures found { IfOk result
+    ///     (λ rest. (x : Self.Value)
+    ///         × Decodes Self.format (padded_of G.grammar) bytes.now x rest.now) }
+    /// ensures none { IfErr result
+    ///     (λ e. e.cause ≢ Memory → Rejects Self.format (padded_of G.grammar) bytes.now) }
     /// ```
+    ///
+    /// Definitions: [`Decodes`](crate::definitions::base::decoding::Decodes), [`padded_of`](crate::definitions::base::numbers::padded_of), [`Rejects`](crate::definitions::base::decoding::Rejects). [How to read clauses](crate::definitions).
     fn skip(bytes: &'a [u8], alloc: A) -> Result<&'a [u8], DecodeError>;
 }
 
@@ -34,6 +41,8 @@ pub struct Dropped<T>(T);
 /// format = { T.format }
 /// view = { λ dropped. T.view dropped.0 }
 /// ```
+///
+/// [How to read clauses](crate::definitions).
 impl<T: Layout> Layout for Dropped<T> {
     fn laws() {
         T::laws();
@@ -56,10 +65,18 @@ impl<'a, A: Allocator + Copy, G: Grammar, T: Readable<'a, A, G>> Skip<'a, A, G> 
 ///
 /// # Proved
 ///
+/// After `Ok`: `found`. After an error: `none`.
+///
 /// ```text
-/// ensures found { IfOk result (λ x. (xs : List P.Value) × Decodes (vec P.format) (padded_of G.grammar) bytes.now xs x.1.now × (x.0 ≡ length xs)) }
-/// ensures none { IfErr result (λ e. e.cause ≢ Memory → Rejects (vec P.format) (padded_of G.grammar) bytes.now) }
+/// ensures found { IfOk result
+///     (λ x. (xs : List P.Value)
+///         × Decodes (vec P.format) (padded_of G.grammar) bytes.now xs x.1.now
+///         × (x.0 ≡ length xs)) }
+/// ensures none { IfErr result
+///     (λ e. e.cause ≢ Memory → Rejects (vec P.format) (padded_of G.grammar) bytes.now) }
 /// ```
+///
+/// Definitions: [`Decodes`](crate::definitions::base::decoding::Decodes), [`vec`](crate::definitions::base::formats::vec), [`padded_of`](crate::definitions::base::numbers::padded_of), [`Rejects`](crate::definitions::base::decoding::Rejects). [How to read clauses](crate::definitions).
 pub fn skip_many<'a, P: Skip<'a, A, G>, A: Allocator + Copy, G: Grammar>(
     bytes: &'a [u8],
     alloc: A,

@@ -16,8 +16,11 @@ use crate::alloc::Allocator;
 /// # Proved
 ///
 /// ```text
-/// ensures { Appends (S.encoding first.now ++ T.encoding second.now) (S.encodable first.now × T.encodable second.now) sink.old sink.new result }
+/// ensures { Appends (S.encoding first.now ++ T.encoding second.now)
+///     (S.encodable first.now × T.encodable second.now) sink.old sink.new result }
 /// ```
+///
+/// Definitions: [`Appends`](crate::definitions::base::calls::Appends). [How to read clauses](crate::definitions).
 #[inline(always)]
 fn encode_both<S: Encode, T: Encode, A: Sink>(
     first: &S,
@@ -41,6 +44,8 @@ fn encode_both<S: Encode, T: Encode, A: Sink>(
 /// encoding = { λ p. S.encoding p.0 ++ T.encoding p.1 }
 /// encodable = { λ p. S.encodable p.0 × T.encodable p.1 }
 /// ```
+///
+/// [How to read clauses](crate::definitions).
 impl<S: Encode, T: Encode> Encode for (S, T) {
     #[inline]
     fn encode<A: Sink>(&self, sink: &mut A) -> Result<()> {
@@ -56,6 +61,8 @@ impl<S: Encode, T: Encode> Encode for (S, T) {
 /// encoding = { λ p. S.encoding p.0 ++ (T.encoding p.1 ++ U.encoding p.2) }
 /// encodable = { λ p. S.encodable p.0 × T.encodable p.1 × U.encodable p.2 }
 /// ```
+///
+/// [How to read clauses](crate::definitions).
 impl<S: Encode, T: Encode, U: Encode> Encode for (S, T, U) {
     #[inline]
     fn encode<A: Sink>(&self, sink: &mut A) -> Result<()> {
@@ -89,6 +96,8 @@ impl<'a, A: Allocator + Copy, G: Grammar, P: Skip<'a, A, G>, Q: Skip<'a, A, G>> 
 /// format = { pair T.format U.format }
 /// view = { λ p. (T.view p.0, U.view p.1) }
 /// ```
+///
+/// Definitions: [`pair`](crate::definitions::base::formats::pair). [How to read clauses](crate::definitions).
 impl<T: Layout, U: Layout> Layout for (T, U) {
     fn laws() {
         T::laws();

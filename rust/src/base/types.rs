@@ -95,6 +95,8 @@ impl AbstractHeapType {
     /// ```text
     /// ensures { result ≡ abstract_code self }
     /// ```
+    ///
+    /// Definitions: [`abstract_code`](crate::definitions::base::types::abstract_code). [How to read clauses](crate::definitions).
     #[inline]
     fn byte(self) -> u8 {
         self as u8
@@ -109,6 +111,8 @@ impl AbstractHeapType {
 /// encoding = { λ ty. abstract_code ty ∷ [] }
 /// encodable = { λ _. ⊤ }
 /// ```
+///
+/// Definitions: [`abstract_code`](crate::definitions::base::types::abstract_code). [How to read clauses](crate::definitions).
 impl Encode for AbstractHeapType {
     #[inline]
     fn encode<A: Sink>(&self, sink: &mut A) -> Result<()> {
@@ -125,6 +129,8 @@ impl Encode for AbstractHeapType {
 /// encoding = { heap_encoding }
 /// encodable = { λ _. ⊤ }
 /// ```
+///
+/// Definitions: [`heap_encoding`](crate::definitions::base::types::heap_encoding). [How to read clauses](crate::definitions).
 impl Encode for HeapType {
     #[inline]
     fn encode<A: Sink>(&self, sink: &mut A) -> Result<()> {
@@ -144,8 +150,11 @@ impl RefType {
     /// # Proved
     ///
     /// ```text
-    /// ensures { Appends (cond self.nullable 0x63 0x64 ∷ heap_encoding self.heap_type) ⊤ sink.old sink.new result }
+    /// ensures { Appends (cond self.nullable 0x63 0x64 ∷ heap_encoding self.heap_type) ⊤
+    ///     sink.old sink.new result }
     /// ```
+    ///
+    /// Definitions: [`Appends`](crate::definitions::base::calls::Appends), [`heap_encoding`](crate::definitions::base::types::heap_encoding). [How to read clauses](crate::definitions).
     #[inline(never)]
     fn encode_heap_type<A: Sink>(self, sink: &mut A) -> Result<()> {
         let byte: u8 = if self.nullable { 0x63 } else { 0x64 };
@@ -161,6 +170,8 @@ impl RefType {
 /// encoding = { ref_encoding }
 /// encodable = { λ _. ⊤ }
 /// ```
+///
+/// Definitions: [`ref_encoding`](crate::definitions::base::types::ref_encoding). [How to read clauses](crate::definitions).
 impl Encode for RefType {
     #[inline(always)]
     fn encode<A: Sink>(&self, sink: &mut A) -> Result<()> {
@@ -193,6 +204,8 @@ impl Encode for RefType {
 /// encoding = { val_encoding }
 /// encodable = { λ _. ⊤ }
 /// ```
+///
+/// Definitions: [`val_encoding`](crate::definitions::base::types::val_encoding). [How to read clauses](crate::definitions).
 impl Encode for ValType {
     #[inline(always)]
     fn encode<A: Sink>(&self, sink: &mut A) -> Result<()> {
@@ -213,8 +226,11 @@ impl Encode for ValType {
 /// # Proved
 ///
 /// ```text
-/// ensures { MatchOption result ((ty : Abstract) → byte ≢ abstract_code ty) (λ ty. byte ≡ abstract_code ty) }
+/// ensures { MatchOption result ((ty : Abstract) → byte ≢ abstract_code ty)
+///     (λ ty. byte ≡ abstract_code ty) }
 /// ```
+///
+/// Definitions: [`abstract_code`](crate::definitions::base::types::abstract_code). [How to read clauses](crate::definitions).
 fn abstract_of(byte: u8) -> Option<AbstractHeapType> {
     match byte {
         0x70 => Some(AbstractHeapType::Func),
@@ -242,6 +258,8 @@ fn abstract_of(byte: u8) -> Option<AbstractHeapType> {
 /// format = { abstract_type }
 /// view = { λ ty. ty }
 /// ```
+///
+/// Definitions: [`abstract_type`](crate::definitions::base::types::abstract_type). [How to read clauses](crate::definitions).
 impl Layout for AbstractHeapType {
     fn laws() {}
 }
@@ -263,6 +281,8 @@ impl<'a, A: Allocator + Copy, G: Grammar> Readable<'a, A, G> for AbstractHeapTyp
 /// format = { heap_type }
 /// view = { λ heap. heap }
 /// ```
+///
+/// Definitions: [`heap_type`](crate::definitions::base::types::heap_type). [How to read clauses](crate::definitions).
 impl Layout for HeapType {
     fn laws() {}
 }
@@ -298,6 +318,8 @@ impl<'a, A: Allocator + Copy, G: Grammar> Readable<'a, A, G> for HeapType {
 /// ensures yes { IsTrue result → HasNoByte heap → ⊥ }
 /// ensures no { result ≡ false → HasNoByte heap }
 /// ```
+///
+/// Definitions: [`HasNoByte`](crate::definitions::base::types::HasNoByte). [How to read clauses](crate::definitions).
 fn has_own_byte(heap: HeapType) -> bool {
     match heap {
         HeapType::Abstract {
@@ -316,6 +338,8 @@ fn has_own_byte(heap: HeapType) -> bool {
 /// ensures yes { IsTrue result → HasLongForm G.grammar heap }
 /// ensures no { result ≡ false → HasLongForm G.grammar heap → ⊥ }
 /// ```
+///
+/// Definitions: [`HasLongForm`](crate::definitions::base::types::HasLongForm). [How to read clauses](crate::definitions).
 fn has_long_form<G: Grammar>(heap: HeapType) -> bool {
     if G::is_standard() {
         return true;
@@ -329,8 +353,12 @@ fn has_long_form<G: Grammar>(heap: HeapType) -> bool {
 /// # Proved
 ///
 /// ```text
-/// ensures { MatchOption result (is_admitted G.grammar ≡ true → (ty : Abstract) → byte ≢ abstract_code ty) (λ r. ref_type (padded_of G.grammar) (byte ∷ []) r) }
+/// ensures { MatchOption result
+///     (is_admitted G.grammar ≡ true → (ty : Abstract) → byte ≢ abstract_code ty)
+///     (λ r. ref_type (padded_of G.grammar) (byte ∷ []) r) }
 /// ```
+///
+/// Definitions: [`is_admitted`](crate::definitions::base::numbers::is_admitted), [`abstract_code`](crate::definitions::base::types::abstract_code), [`ref_type`](crate::definitions::base::types::ref_type), [`padded_of`](crate::definitions::base::numbers::padded_of). [How to read clauses](crate::definitions).
 fn short_ref<G: Grammar>(byte: u8) -> Option<RefType> {
     if !G::is_standard() {
         return None;
@@ -348,10 +376,18 @@ fn short_ref<G: Grammar>(byte: u8) -> Option<RefType> {
 ///
 /// # Proved
 ///
+/// After `Ok`: `found`. After an error: `none`.
+///
 /// ```text
-/// ensures found { IfOk result (λ x. Decodes (after_byte ref_type tag) (padded_of G.grammar) bytes.now x.0 x.1.now) }
-/// ensures none { IfErr result (λ e. e.cause ≢ Memory → Rejects (after_byte ref_type tag) (padded_of G.grammar) bytes.now) }
+/// ensures found { IfOk result
+///     (λ x. Decodes (after_byte ref_type tag) (padded_of G.grammar) bytes.now x.0 x.1.now)
+///     }
+/// ensures none { IfErr result
+///     (λ e. e.cause ≢ Memory → Rejects (after_byte ref_type tag)
+///         (padded_of G.grammar) bytes.now) }
 /// ```
+///
+/// Definitions: [`Decodes`](crate::definitions::base::decoding::Decodes), [`after_byte`](crate::definitions::base::formats::after_byte), [`ref_type`](crate::definitions::base::types::ref_type), [`padded_of`](crate::definitions::base::numbers::padded_of), [`Rejects`](crate::definitions::base::decoding::Rejects). [How to read clauses](crate::definitions).
 fn read_ref_after<'a, A: Allocator + Copy, G: Grammar>(
     tag: u8,
     bytes: &'a [u8],
@@ -398,6 +434,8 @@ fn read_ref_after<'a, A: Allocator + Copy, G: Grammar>(
 /// format = { ref_type }
 /// view = { λ r. r }
 /// ```
+///
+/// Definitions: [`ref_type`](crate::definitions::base::types::ref_type). [How to read clauses](crate::definitions).
 impl Layout for RefType {
     fn laws() {}
 }
@@ -413,10 +451,18 @@ impl<'a, A: Allocator + Copy, G: Grammar> Readable<'a, A, G> for RefType {
 ///
 /// # Proved
 ///
+/// After `Ok`: `found`. After an error: `none`.
+///
 /// ```text
-/// ensures found { IfOk result (λ x. Decodes (after_byte val_type tag) (padded_of G.grammar) bytes.now x.0 x.1.now) }
-/// ensures none { IfErr result (λ e. e.cause ≢ Memory → Rejects (after_byte val_type tag) (padded_of G.grammar) bytes.now) }
+/// ensures found { IfOk result
+///     (λ x. Decodes (after_byte val_type tag) (padded_of G.grammar) bytes.now x.0 x.1.now)
+///     }
+/// ensures none { IfErr result
+///     (λ e. e.cause ≢ Memory → Rejects (after_byte val_type tag)
+///         (padded_of G.grammar) bytes.now) }
 /// ```
+///
+/// Definitions: [`Decodes`](crate::definitions::base::decoding::Decodes), [`after_byte`](crate::definitions::base::formats::after_byte), [`val_type`](crate::definitions::base::types::val_type), [`padded_of`](crate::definitions::base::numbers::padded_of), [`Rejects`](crate::definitions::base::decoding::Rejects). [How to read clauses](crate::definitions).
 pub fn read_val_after<'a, A: Allocator + Copy, G: Grammar>(
     tag: u8,
     bytes: &'a [u8],
@@ -442,6 +488,8 @@ pub fn read_val_after<'a, A: Allocator + Copy, G: Grammar>(
 /// format = { val_type }
 /// view = { λ ty. ty }
 /// ```
+///
+/// Definitions: [`val_type`](crate::definitions::base::types::val_type). [How to read clauses](crate::definitions).
 impl Layout for ValType {
     fn laws() {}
 }

@@ -20,6 +20,8 @@ use crate::alloc::Allocator;
 /// encodable = { λ s. IsEncodableVec T.encodable s.now }
 /// overlong = { λ s. longest < length s.now }
 /// ```
+///
+/// Definitions: [`vec_encoding`](crate::definitions::base::encodings::vec_encoding), [`IsEncodableVec`](crate::definitions::base::encodings::IsEncodableVec), [`longest`](crate::definitions::base::encodings::longest). [How to read clauses](crate::definitions).
 impl<T: Encode> Encode for &[T] {
     fn encode<A: Sink>(&self, sink: &mut A) -> Result<()> {
         let start = sink.len();
@@ -41,14 +43,20 @@ impl<T: Encode> Encode for &[T] {
 /// # Asks
 ///
 /// ```text
-/// requires { HasKnownLength V.into_iter_gives V.IntoIter.can_next V.IntoIter.next_gives V.IntoIter.remaining elements }
+/// requires { HasKnownLength V.into_iter_gives V.IntoIter.can_next V.IntoIter.next_gives
+///     V.IntoIter.remaining elements }
 /// ```
+///
+/// Definitions: [`HasKnownLength`](crate::definitions::base::iterators::HasKnownLength). [How to read clauses](crate::definitions).
 ///
 /// # Proved
 ///
 /// ```text
-/// ensures { AppendsVec V.into_iter_gives V.IntoIter.next_gives V.IntoIter.remaining T.encodable T.encoding elements sink.old sink.new result }
+/// ensures { AppendsVec V.into_iter_gives V.IntoIter.next_gives V.IntoIter.remaining
+///     T.encodable T.encoding elements sink.old sink.new result }
 /// ```
+///
+/// Definitions: [`AppendsVec`](crate::definitions::base::iterators::AppendsVec). [How to read clauses](crate::definitions).
 pub fn encode_vec<T: Encode, V: IntoIterator<Item = T>, A: Sink>(
     elements: V,
     sink: &mut A,
@@ -69,6 +77,8 @@ where
 /// format = { vec T.format }
 /// view = { λ v. map T.view v.items }
 /// ```
+///
+/// Definitions: [`vec`](crate::definitions::base::formats::vec). [How to read clauses](crate::definitions).
 impl<A: Allocator, T: Layout> Layout for Vec<T, A> {
     fn laws() {
         T::laws();
@@ -94,11 +104,18 @@ impl<'a, A: Allocator + Copy, G: Grammar, T: Readable<'a, A, G>> Readable<'a, A,
 ///
 /// # Proved
 ///
+/// After `Ok`: `ok`. In any case: `front`, `too_long`.
+///
 /// ```text
-/// ensures ok { OnOk result (AppendsMinimal (members T.format) (map T.view items.now) sink.old.items sink.new.items) }
+/// ensures ok { OnOk result
+///     (AppendsMinimal (members T.format)
+///         (map T.view items.now) sink.old.items sink.new.items) }
 /// ensures front { IsFrontOf sink.old.items sink.new.items }
-/// ensures too_long { HasEncoding (members T.format) (map T.view items.now) → result ≢ Err TooLong }
+/// ensures too_long { HasEncoding (members T.format) (map T.view items.now)
+///     → result ≢ Err TooLong }
 /// ```
+///
+/// Definitions: [`AppendsMinimal`](crate::definitions::base::minimal::AppendsMinimal), [`members`](crate::definitions::base::formats::members), [`IsFrontOf`](crate::definitions::base::minimal::IsFrontOf), [`HasEncoding`](crate::definitions::base::minimal::HasEncoding). [How to read clauses](crate::definitions).
 fn write_all<T: Shorten, B: Sink>(items: &[T], sink: &mut B) -> Result<()> {
     for item in items {
         item.write_minimal(sink)?;
@@ -111,11 +128,18 @@ fn write_all<T: Shorten, B: Sink>(items: &[T], sink: &mut B) -> Result<()> {
 ///
 /// # Proved
 ///
+/// After `Ok`: `ok`. After an error: `err`. In any case: `too_long`.
+///
 /// ```text
-/// ensures ok { OnOk result (AppendsMinimal (members T.format) (map T.view items.now) sink.old.items sink.new.items) }
+/// ensures ok { OnOk result
+///     (AppendsMinimal (members T.format)
+///         (map T.view items.now) sink.old.items sink.new.items) }
 /// ensures err { OnErr result (sink.new.items ≡ sink.old.items) }
-/// ensures too_long { HasEncoding (members T.format) (map T.view items.now) → result ≢ Err TooLong }
+/// ensures too_long { HasEncoding (members T.format) (map T.view items.now)
+///     → result ≢ Err TooLong }
 /// ```
+///
+/// Definitions: [`AppendsMinimal`](crate::definitions::base::minimal::AppendsMinimal), [`members`](crate::definitions::base::formats::members), [`HasEncoding`](crate::definitions::base::minimal::HasEncoding). [How to read clauses](crate::definitions).
 pub fn append_all<T: Shorten, B: Sink>(items: &[T], sink: &mut B) -> Result<()> {
     let start = sink.len();
     let written = write_all(items, sink);

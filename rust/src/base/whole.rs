@@ -15,10 +15,15 @@ use crate::alloc::Allocator;
 ///
 /// # Proved
 ///
+/// After `Ok`: `found`. After an error: `none`.
+///
 /// ```text
 /// ensures found { IfOk result (λ x. T.format (padded_of G.grammar) bytes.now (T.view x)) }
-/// ensures none { IfErr result (λ e. e.cause ≢ Memory → RejectsWhole T.format (padded_of G.grammar) bytes.now) }
+/// ensures none { IfErr result
+///     (λ e. e.cause ≢ Memory → RejectsWhole T.format (padded_of G.grammar) bytes.now) }
 /// ```
+///
+/// Definitions: [`padded_of`](crate::definitions::base::numbers::padded_of), [`RejectsWhole`](crate::definitions::base::continuing::RejectsWhole). [How to read clauses](crate::definitions).
 pub fn read_whole<'a, T: Readable<'a, A, G>, A: Allocator + Copy, G: Grammar>(
     bytes: &'a [u8],
     alloc: A,
@@ -41,10 +46,15 @@ pub fn read_whole<'a, T: Readable<'a, A, G>, A: Allocator + Copy, G: Grammar>(
 ///
 /// # Proved
 ///
+/// After `Ok`: `found`. After an error: `none`.
+///
 /// ```text
 /// ensures found { IfOk result (λ x. T.format (padded_of G.grammar) bytes.now (T.view x)) }
-/// ensures none { IfErr result (λ e. e.cause ≢ Memory → RejectsWhole T.format (padded_of G.grammar) bytes.now) }
+/// ensures none { IfErr result
+///     (λ e. e.cause ≢ Memory → RejectsWhole T.format (padded_of G.grammar) bytes.now) }
 /// ```
+///
+/// Definitions: [`padded_of`](crate::definitions::base::numbers::padded_of), [`RejectsWhole`](crate::definitions::base::continuing::RejectsWhole). [How to read clauses](crate::definitions).
 pub fn read_before<'a, T: Readable<'a, A, G>, A: Allocator + Copy, G: Grammar>(
     bytes: &'a [u8],
     rest: &[u8],
@@ -69,12 +79,21 @@ pub fn read_before<'a, T: Readable<'a, A, G>, A: Allocator + Copy, G: Grammar>(
 /// requires { BeginsWith (λ b. Unit {0}) T.format }
 /// ```
 ///
+/// Definitions: [`BeginsWith`](crate::definitions::base::decoding::BeginsWith). [How to read clauses](crate::definitions).
+///
 /// # Proved
 ///
+/// After `Ok`: `found`. After an error: `none`.
+///
 /// ```text
-/// ensures found { IfOk result (λ x. members T.format (padded_of G.grammar) bytes.now (map T.view x.items)) }
-/// ensures none { IfErr result (λ e. e.cause ≢ Memory → RejectsWhole (members T.format) (padded_of G.grammar) bytes.now) }
+/// ensures found { IfOk result
+///     (λ x. members T.format (padded_of G.grammar) bytes.now (map T.view x.items)) }
+/// ensures none { IfErr result
+///     (λ e. e.cause ≢ Memory → RejectsWhole (members T.format)
+///         (padded_of G.grammar) bytes.now) }
 /// ```
+///
+/// Definitions: [`members`](crate::definitions::base::formats::members), [`padded_of`](crate::definitions::base::numbers::padded_of), [`RejectsWhole`](crate::definitions::base::continuing::RejectsWhole). [How to read clauses](crate::definitions).
 pub fn read_to_end<'a, T: Readable<'a, A, G>, A: Allocator + Copy, G: Grammar>(
     bytes: &'a [u8],
     alloc: A,

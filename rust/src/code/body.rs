@@ -19,10 +19,18 @@ const BYTES_OF_ONE: usize = 4;
 ///
 /// # Proved
 ///
+/// After `Ok`: `found`. After an error: `none`.
+///
 /// ```text
-/// ensures found { IfOk result (λ x. members (instruction table) (padded_of G.grammar) bytes.now (map plain_view x.items)) }
-/// ensures none { IfErr result (λ e. e.cause ≢ Memory → RejectsWhole (members (instruction table)) (padded_of G.grammar) bytes.now) }
+/// ensures found { IfOk result
+///     (λ x. members (instruction table) (padded_of G.grammar) bytes.now
+///         (map plain_view x.items)) }
+/// ensures none { IfErr result
+///     (λ e. e.cause ≢ Memory → RejectsWhole (members (instruction table))
+///         (padded_of G.grammar) bytes.now) }
 /// ```
+///
+/// Definitions: [`members`](crate::definitions::base::formats::members), [`instruction`](crate::definitions::insn::plain::instruction), [`table`](crate::definitions::insn::table::table), [`padded_of`](crate::definitions::base::numbers::padded_of), [`plain_view`](crate::definitions::insn::views::plain_view), [`RejectsWhole`](crate::definitions::base::continuing::RejectsWhole). [How to read clauses](crate::definitions).
 pub fn read_code<'a, A: Allocator + Copy, G: Grammar>(
     bytes: &'a [u8],
     alloc: A,
@@ -43,11 +51,18 @@ pub fn read_code<'a, A: Allocator + Copy, G: Grammar>(
 ///
 /// # Proved
 ///
+/// After `Ok`: `ok`. In any case: `front`, `too_long`.
+///
 /// ```text
-/// ensures ok { OnOk result (AppendsMinimal (members (instruction table)) (map plain_view code.now) sink.old.items sink.new.items) }
+/// ensures ok { OnOk result
+///     (AppendsMinimal (members (instruction table))
+///         (map plain_view code.now) sink.old.items sink.new.items) }
 /// ensures front { IsFrontOf sink.old.items sink.new.items }
-/// ensures too_long { HasEncoding (members (instruction table)) (map plain_view code.now) → result ≢ Err TooLong }
+/// ensures too_long { HasEncoding (members (instruction table)) (map plain_view code.now)
+///     → result ≢ Err TooLong }
 /// ```
+///
+/// Definitions: [`AppendsMinimal`](crate::definitions::base::minimal::AppendsMinimal), [`members`](crate::definitions::base::formats::members), [`instruction`](crate::definitions::insn::plain::instruction), [`table`](crate::definitions::insn::table::table), [`plain_view`](crate::definitions::insn::views::plain_view), [`IsFrontOf`](crate::definitions::base::minimal::IsFrontOf), [`HasEncoding`](crate::definitions::base::minimal::HasEncoding). [How to read clauses](crate::definitions).
 pub(crate) fn append_code<A: Allocator, B: Sink>(
     code: &[Plain<A>],
     sink: &mut B,
@@ -74,10 +89,15 @@ pub struct Body<A: Allocator = Global> {
 ///
 /// # Proved
 ///
+/// After `Ok`: `found`. After an error: `none`.
+///
 /// ```text
 /// ensures found { IfOk result (λ x. body (padded_of G.grammar) bytes.now (body_view x)) }
-/// ensures none { IfErr result (λ e. e.cause ≢ Memory → RejectsWhole body (padded_of G.grammar) bytes.now) }
+/// ensures none { IfErr result
+///     (λ e. e.cause ≢ Memory → RejectsWhole body (padded_of G.grammar) bytes.now) }
 /// ```
+///
+/// Definitions: [`body`](crate::definitions::code::bodies::body), [`padded_of`](crate::definitions::base::numbers::padded_of), [`body_view`](crate::definitions::code::body_views::body_view), [`RejectsWhole`](crate::definitions::base::continuing::RejectsWhole). [How to read clauses](crate::definitions).
 pub fn read_body<'a, A: Allocator + Copy, G: Grammar>(
     bytes: &'a [u8],
     alloc: A,
@@ -96,6 +116,8 @@ pub fn read_body<'a, A: Allocator + Copy, G: Grammar>(
 /// format = { size_prefixed body }
 /// view = { body_view }
 /// ```
+///
+/// Definitions: [`BodyModel`](crate::definitions::code::bodies::Body), [`size_prefixed`](crate::definitions::base::formats::size_prefixed), [`body`](crate::definitions::code::bodies::body), [`body_view`](crate::definitions::code::body_views::body_view). [How to read clauses](crate::definitions).
 impl<A: Allocator> Layout for Body<A> {
     fn laws() {}
 }
@@ -124,11 +146,18 @@ impl<A: Allocator> Shorten for Body<A> {
 ///
 /// # Proved
 ///
+/// After `Ok`: `found`. After an error: `none`. In any case: `front`.
+///
 /// ```text
-/// ensures found { OnOk result ((x : BodyModel) × body padded bytes.now x × AppendsMinimal (size_prefixed body) x sink.old.items sink.new.items) }
-/// ensures none { IfErr result (λ e. e.cause ≢ Memory → RejectsWhole body padded bytes.now) }
+/// ensures found { OnOk result
+///     ((x : BodyModel) × body padded bytes.now x
+///         × AppendsMinimal (size_prefixed body) x sink.old.items sink.new.items) }
+/// ensures none { IfErr result
+///     (λ e. e.cause ≢ Memory → RejectsWhole body padded bytes.now) }
 /// ensures front { IsFrontOf sink.old.items sink.new.items }
 /// ```
+///
+/// Definitions: [`BodyModel`](crate::definitions::code::bodies::Body), [`body`](crate::definitions::code::bodies::body), [`padded`](crate::definitions::base::numbers::Mode), [`AppendsMinimal`](crate::definitions::base::minimal::AppendsMinimal), [`size_prefixed`](crate::definitions::base::formats::size_prefixed), [`RejectsWhole`](crate::definitions::base::continuing::RejectsWhole), [`IsFrontOf`](crate::definitions::base::minimal::IsFrontOf). [How to read clauses](crate::definitions).
 fn write_body<A: Allocator + Copy, B: Sink>(
     bytes: &[u8],
     alloc: A,
@@ -159,11 +188,18 @@ fn write_body<A: Allocator + Copy, B: Sink>(
 ///
 /// # Proved
 ///
+/// After `Ok`: `found`. After an error: `none`, `err`.
+///
 /// ```text
-/// ensures found { OnOk result ((x : BodyModel) × body padded bytes.now x × AppendsMinimal (size_prefixed body) x sink.old.items sink.new.items) }
-/// ensures none { IfErr result (λ e. e.cause ≢ Memory → RejectsWhole body padded bytes.now) }
+/// ensures found { OnOk result
+///     ((x : BodyModel) × body padded bytes.now x
+///         × AppendsMinimal (size_prefixed body) x sink.old.items sink.new.items) }
+/// ensures none { IfErr result
+///     (λ e. e.cause ≢ Memory → RejectsWhole body padded bytes.now) }
 /// ensures err { OnErr result (sink.new.items ≡ sink.old.items) }
 /// ```
+///
+/// Definitions: [`BodyModel`](crate::definitions::code::bodies::Body), [`body`](crate::definitions::code::bodies::body), [`padded`](crate::definitions::base::numbers::Mode), [`AppendsMinimal`](crate::definitions::base::minimal::AppendsMinimal), [`size_prefixed`](crate::definitions::base::formats::size_prefixed), [`RejectsWhole`](crate::definitions::base::continuing::RejectsWhole). [How to read clauses](crate::definitions).
 pub fn shorten_body<A: Allocator + Copy, B: Sink>(
     bytes: &[u8],
     alloc: A,
@@ -181,10 +217,18 @@ pub fn shorten_body<A: Allocator + Copy, B: Sink>(
 ///
 /// # Proved
 ///
+/// After `Ok`: `found`. After an error: `none`.
+///
 /// ```text
-/// ensures found { OnOk result ((xs : List PlainInstruction) × members (instruction table) (padded_of G.grammar) bytes.now xs) }
-/// ensures none { IfErr result (λ e. e.cause ≢ Memory → RejectsWhole (members (instruction table)) (padded_of G.grammar) bytes.now) }
+/// ensures found { OnOk result
+///     ((xs : List PlainInstruction)
+///         × members (instruction table) (padded_of G.grammar) bytes.now xs) }
+/// ensures none { IfErr result
+///     (λ e. e.cause ≢ Memory → RejectsWhole (members (instruction table))
+///         (padded_of G.grammar) bytes.now) }
 /// ```
+///
+/// Definitions: [`PlainInstruction`](crate::definitions::insn::plain::Plain), [`members`](crate::definitions::base::formats::members), [`instruction`](crate::definitions::insn::plain::instruction), [`table`](crate::definitions::insn::table::table), [`padded_of`](crate::definitions::base::numbers::padded_of), [`RejectsWhole`](crate::definitions::base::continuing::RejectsWhole). [How to read clauses](crate::definitions).
 fn skip_code<'a, A: Allocator + Copy, G: Grammar>(
     bytes: &'a [u8],
     alloc: A,
@@ -202,10 +246,15 @@ fn skip_code<'a, A: Allocator + Copy, G: Grammar>(
 ///
 /// # Proved
 ///
+/// After `Ok`: `found`. After an error: `none`.
+///
 /// ```text
 /// ensures found { OnOk result ((x : BodyModel) × body (padded_of G.grammar) bytes.now x) }
-/// ensures none { IfErr result (λ e. e.cause ≢ Memory → RejectsWhole body (padded_of G.grammar) bytes.now) }
+/// ensures none { IfErr result
+///     (λ e. e.cause ≢ Memory → RejectsWhole body (padded_of G.grammar) bytes.now) }
 /// ```
+///
+/// Definitions: [`BodyModel`](crate::definitions::code::bodies::Body), [`body`](crate::definitions::code::bodies::body), [`padded_of`](crate::definitions::base::numbers::padded_of), [`RejectsWhole`](crate::definitions::base::continuing::RejectsWhole). [How to read clauses](crate::definitions).
 fn skip_body<'a, A: Allocator + Copy, G: Grammar>(
     bytes: &'a [u8],
     alloc: A,

@@ -43,6 +43,8 @@ pub(crate) struct RawBody<'a> {
 /// encoding = { λ body. size_prefixed_encoding body.bytes.now }
 /// encodable = { λ body. HasEncodableSize body.bytes.now }
 /// ```
+///
+/// Definitions: [`size_prefixed_encoding`](crate::definitions::base::encodings::size_prefixed_encoding), [`HasEncodableSize`](crate::definitions::base::encodings::HasEncodableSize). [How to read clauses](crate::definitions).
 impl Encode for RawBody<'_> {
     #[inline]
     fn encode<A: Sink>(&self, sink: &mut A) -> Result<()> {
@@ -58,6 +60,8 @@ impl<A: Allocator> CodeSection<A> {
     /// ```text
     /// ensures { result ≡ length self.now }
     /// ```
+    ///
+    /// [How to read clauses](crate::definitions).
     pub fn len(&self) -> u32 {
         self.pieces.len()
     }
@@ -69,6 +73,8 @@ impl<A: Allocator> CodeSection<A> {
     /// ```text
     /// ensures { result ≡ length (joined self.now) }
     /// ```
+    ///
+    /// Definitions: [`joined`](crate::definitions::base::pieces::joined). [How to read clauses](crate::definitions).
     pub fn byte_len(&self) -> usize {
         self.pieces.raw_len()
     }
@@ -80,6 +86,8 @@ impl<A: Allocator> CodeSection<A> {
     /// ```text
     /// ensures { IsTrue result ↔ (length self.now ≡ 0) }
     /// ```
+    ///
+    /// [How to read clauses](crate::definitions).
     pub fn is_empty(&self) -> bool {
         self.pieces.is_empty()
     }
@@ -91,6 +99,8 @@ impl<A: Allocator> CodeSection<A> {
     /// ```text
     /// ensures { option_copied result ≡ slice_get self.now index }
     /// ```
+    ///
+    /// [How to read clauses](crate::definitions).
     pub fn piece(&self, index: u32) -> Option<&[u8]> {
         self.pieces.get(index)
     }
@@ -100,8 +110,11 @@ impl<A: Allocator> CodeSection<A> {
     /// # Proved
     ///
     /// ```text
-    /// ensures { Adds (size_prefixed_encoding function.now) (HasEncodableSize function.now) self.old self.new result }
+    /// ensures { Adds (size_prefixed_encoding function.now)
+    ///     (HasEncodableSize function.now) self.old self.new result }
     /// ```
+    ///
+    /// Definitions: [`Adds`](crate::definitions::base::calls::Adds), [`size_prefixed_encoding`](crate::definitions::base::encodings::size_prefixed_encoding), [`HasEncodableSize`](crate::definitions::base::encodings::HasEncodableSize). [How to read clauses](crate::definitions).
     pub fn function<B: Allocator>(&mut self, function: &Function<B>) -> Result<()> {
         self.pieces.add_encoded(function)
     }
@@ -111,8 +124,11 @@ impl<A: Allocator> CodeSection<A> {
     /// # Proved
     ///
     /// ```text
-    /// ensures { Adds (size_prefixed_encoding body.now) (HasEncodableSize body.now) self.old self.new result }
+    /// ensures { Adds (size_prefixed_encoding body.now)
+    ///     (HasEncodableSize body.now) self.old self.new result }
     /// ```
+    ///
+    /// Definitions: [`Adds`](crate::definitions::base::calls::Adds), [`size_prefixed_encoding`](crate::definitions::base::encodings::size_prefixed_encoding), [`HasEncodableSize`](crate::definitions::base::encodings::HasEncodableSize). [How to read clauses](crate::definitions).
     pub fn raw(&mut self, body: &[u8]) -> Result<()> {
         self.pieces.add_encoded(&RawBody { bytes: body })
     }
@@ -126,6 +142,8 @@ impl<A: Allocator + Copy> CodeSection<A> {
     /// ```text
     /// ensures { result ≡ [] }
     /// ```
+    ///
+    /// [How to read clauses](crate::definitions).
     pub fn new(alloc: A) -> Self {
         CodeSection {
             pieces: Pieces::new(alloc),
@@ -136,10 +154,14 @@ impl<A: Allocator + Copy> CodeSection<A> {
     ///
     /// # Proved
     ///
+    /// After `Ok`: `same`. In any case: `memory`.
+    ///
     /// ```text
     /// ensures same { IfOk result (λ section. section ≡ self.now) }
     /// ensures memory { result ≢ Err TooLong }
     /// ```
+    ///
+    /// [How to read clauses](crate::definitions).
     pub fn clone(&self) -> Result<Self> {
         Ok(CodeSection {
             pieces: self.pieces.clone()?,
@@ -157,6 +179,8 @@ impl<A: Allocator + Copy> CodeSection<A> {
 /// overlong = { IsOverlong }
 /// decoding = { λ section. DecodesCode section (section_encoding section) }
 /// ```
+///
+/// Definitions: [`section_encoding`](crate::definitions::base::pieces::section_encoding), [`IsEncodableSection`](crate::definitions::base::pieces::IsEncodableSection), [`IsOverlong`](crate::definitions::base::pieces::IsOverlong), [`DecodesCode`](crate::definitions::code::code::DecodesCode). [How to read clauses](crate::definitions).
 impl<A: Allocator> Encode for CodeSection<A> {
     fn encode<B: Sink>(&self, sink: &mut B) -> Result<()> {
         self.pieces.encode(sink)
@@ -174,6 +198,8 @@ impl<A: Allocator> Encode for CodeSection<A> {
 /// sized = { section_sized }
 /// decodes_back = { λ section promised. promised.bodies }
 /// ```
+///
+/// Definitions: [`number_of`](crate::definitions::base::section_id::number_of), [`Body`](crate::definitions::code::bodies::Body), [`code_section`](crate::definitions::code::code::code_section), [`EncodesBodies`](crate::definitions::code::code::EncodesBodies), [`SectionPayload`](crate::definitions::base::pieces::SectionPayload), [`section_sized`](crate::definitions::base::pieces::section_sized). [How to read clauses](crate::definitions).
 impl<A: Allocator> Section for CodeSection<A> {
     fn id(&self) -> u8 {
         SectionId::Code.into()
@@ -188,6 +214,8 @@ impl<A: Allocator> Section for CodeSection<A> {
 /// item_encodable = { HasEncodableSize }
 /// counted = { λ section. refl }
 /// ```
+///
+/// Definitions: [`size_prefixed_encoding`](crate::definitions::base::encodings::size_prefixed_encoding), [`HasEncodableSize`](crate::definitions::base::encodings::HasEncodableSize). [How to read clauses](crate::definitions).
 impl<A: Allocator, B: Allocator> Counted<Function<B>> for CodeSection<A> {
     fn add(&mut self, item: &Function<B>) -> Result<()> {
         self.function(item)

@@ -36,6 +36,8 @@ impl<A: Allocator> ConstExpr<A> {
     /// ```text
     /// ensures { result ≡ [] }
     /// ```
+    ///
+    /// [How to read clauses](crate::definitions).
     pub fn empty(alloc: A) -> Self {
         ConstExpr {
             first: None,
@@ -49,10 +51,15 @@ impl<A: Allocator> ConstExpr<A> {
     /// # Asks
     ///
     /// ```text
-    /// requires { (it : I.IntoIter) → I.into_iter_gives bytes it → I.IntoIter.can_next it × IsFinite (I.IntoIter.remaining it) }
+    /// requires { (it : I.IntoIter) → I.into_iter_gives bytes it
+    ///     → I.IntoIter.can_next it × IsFinite (I.IntoIter.remaining it) }
     /// ```
     ///
+    /// [How to read clauses](crate::definitions).
+    ///
     /// # Proved
+    ///
+    /// After `Ok`: `ok`. In any case: `memory`.
     ///
     /// ```text
     /// ensures ok { IfOk result (λ e. (it : I.IntoIter) × (xs : List ℕ)
@@ -61,6 +68,8 @@ impl<A: Allocator> ConstExpr<A> {
     ///     × (e ≡ xs)) }
     /// ensures memory { result ≢ Err TooLong }
     /// ```
+    ///
+    /// [How to read clauses](crate::definitions).
     pub fn raw<I: IntoIterator<Item = u8>>(alloc: A, bytes: I) -> Result<Self> {
         let mut stored = Vec::new(alloc);
         append_all(&mut stored, bytes)?;
@@ -72,14 +81,19 @@ impl<A: Allocator> ConstExpr<A> {
     /// # Asks
     ///
     /// ```text
-    /// requires { (it : I.IntoIter) → I.into_iter_gives instructions it → I.IntoIter.can_next it × IsFinite (I.IntoIter.remaining it) }
+    /// requires { (it : I.IntoIter) → I.into_iter_gives instructions it
+    ///     → I.IntoIter.can_next it × IsFinite (I.IntoIter.remaining it) }
     /// ```
+    ///
+    /// [How to read clauses](crate::definitions).
     ///
     /// # Proved
     ///
     /// ```text
     /// ensures { StoresGiven I.into_iter_gives I.IntoIter.next_gives instructions result }
     /// ```
+    ///
+    /// Definitions: [`StoresGiven`](crate::definitions::code::expressions::StoresGiven). [How to read clauses](crate::definitions).
     pub fn extended<'i, I: IntoIterator<Item = Instruction<'i>>>(
         alloc: A,
         instructions: I,
@@ -96,6 +110,8 @@ impl<A: Allocator> ConstExpr<A> {
     /// ```text
     /// ensures { result ≡ bytes.items }
     /// ```
+    ///
+    /// [How to read clauses](crate::definitions).
     pub(crate) fn stored(bytes: Vec<u8, A>) -> Self {
         ConstExpr { first: None, bytes }
     }
@@ -107,6 +123,8 @@ impl<A: Allocator> ConstExpr<A> {
     /// ```text
     /// ensures { Stores (instruction_of first) [] result }
     /// ```
+    ///
+    /// Definitions: [`Stores`](crate::definitions::code::expressions::Stores), [`instruction_of`](crate::definitions::code::expressions::instruction_of). [How to read clauses](crate::definitions).
     #[inline]
     pub(crate) fn of(alloc: A, first: First) -> Self {
         let bytes = Vec::new(alloc);
@@ -120,10 +138,14 @@ impl<A: Allocator> ConstExpr<A> {
     ///
     /// # Proved
     ///
+    /// After `Ok`: `stores`. In any case: `memory`.
+    ///
     /// ```text
     /// ensures stores { IfOk result (Stores (Instruction.GlobalGet index) []) }
     /// ensures memory { result ≢ Err TooLong }
     /// ```
+    ///
+    /// Definitions: [`Stores`](crate::definitions::code::expressions::Stores). [How to read clauses](crate::definitions).
     #[inline]
     pub fn global_get(alloc: A, index: u32) -> Result<Self> {
         Ok(ConstExpr::of(alloc, First::GlobalGet(index)))
@@ -133,10 +155,14 @@ impl<A: Allocator> ConstExpr<A> {
     ///
     /// # Proved
     ///
+    /// After `Ok`: `stores`. In any case: `memory`.
+    ///
     /// ```text
     /// ensures stores { IfOk result (Stores (Instruction.RefNull ty) []) }
     /// ensures memory { result ≢ Err TooLong }
     /// ```
+    ///
+    /// Definitions: [`Stores`](crate::definitions::code::expressions::Stores). [How to read clauses](crate::definitions).
     #[inline]
     pub fn ref_null(alloc: A, ty: HeapType) -> Result<Self> {
         Ok(ConstExpr::of(alloc, First::RefNull(ty)))
@@ -146,10 +172,14 @@ impl<A: Allocator> ConstExpr<A> {
     ///
     /// # Proved
     ///
+    /// After `Ok`: `stores`. In any case: `memory`.
+    ///
     /// ```text
     /// ensures stores { IfOk result (Stores (Instruction.RefFunc function_index) []) }
     /// ensures memory { result ≢ Err TooLong }
     /// ```
+    ///
+    /// Definitions: [`Stores`](crate::definitions::code::expressions::Stores). [How to read clauses](crate::definitions).
     #[inline]
     pub fn ref_func(alloc: A, function_index: u32) -> Result<Self> {
         Ok(ConstExpr::of(alloc, First::RefFunc(function_index)))
@@ -159,10 +189,14 @@ impl<A: Allocator> ConstExpr<A> {
     ///
     /// # Proved
     ///
+    /// After `Ok`: `stores`. In any case: `memory`.
+    ///
     /// ```text
     /// ensures stores { IfOk result (Stores (Instruction.I32Const value) []) }
     /// ensures memory { result ≢ Err TooLong }
     /// ```
+    ///
+    /// Definitions: [`Stores`](crate::definitions::code::expressions::Stores). [How to read clauses](crate::definitions).
     #[inline]
     pub fn i32_const(alloc: A, value: i32) -> Result<Self> {
         Ok(ConstExpr::of(alloc, First::I32Const(value)))
@@ -172,10 +206,14 @@ impl<A: Allocator> ConstExpr<A> {
     ///
     /// # Proved
     ///
+    /// After `Ok`: `stores`. In any case: `memory`.
+    ///
     /// ```text
     /// ensures stores { IfOk result (Stores (Instruction.I64Const value) []) }
     /// ensures memory { result ≢ Err TooLong }
     /// ```
+    ///
+    /// Definitions: [`Stores`](crate::definitions::code::expressions::Stores). [How to read clauses](crate::definitions).
     #[inline]
     pub fn i64_const(alloc: A, value: i64) -> Result<Self> {
         Ok(ConstExpr::of(alloc, First::I64Const(value)))
@@ -185,10 +223,14 @@ impl<A: Allocator> ConstExpr<A> {
     ///
     /// # Proved
     ///
+    /// After `Ok`: `stores`. In any case: `memory`.
+    ///
     /// ```text
     /// ensures stores { IfOk result (Stores (Instruction.F32Const value) []) }
     /// ensures memory { result ≢ Err TooLong }
     /// ```
+    ///
+    /// Definitions: [`Stores`](crate::definitions::code::expressions::Stores). [How to read clauses](crate::definitions).
     #[inline]
     pub fn f32_const(alloc: A, value: Ieee32) -> Result<Self> {
         Ok(ConstExpr::of(alloc, First::F32Const(value)))
@@ -198,10 +240,14 @@ impl<A: Allocator> ConstExpr<A> {
     ///
     /// # Proved
     ///
+    /// After `Ok`: `stores`. In any case: `memory`.
+    ///
     /// ```text
     /// ensures stores { IfOk result (Stores (Instruction.F64Const value) []) }
     /// ensures memory { result ≢ Err TooLong }
     /// ```
+    ///
+    /// Definitions: [`Stores`](crate::definitions::code::expressions::Stores). [How to read clauses](crate::definitions).
     #[inline]
     pub fn f64_const(alloc: A, value: Ieee64) -> Result<Self> {
         Ok(ConstExpr::of(alloc, First::F64Const(value)))
@@ -211,10 +257,15 @@ impl<A: Allocator> ConstExpr<A> {
     ///
     /// # Proved
     ///
+    /// After `Ok`: `stores`. In any case: `memory`.
+    ///
     /// ```text
-    /// ensures stores { IfOk result (Stores (Instruction.VectorImmediate (VectorImmediate.V128Const value)) []) }
+    /// ensures stores { IfOk result
+    ///     (Stores (Instruction.VectorImmediate (VectorImmediate.V128Const value)) []) }
     /// ensures memory { result ≢ Err TooLong }
     /// ```
+    ///
+    /// Definitions: [`Stores`](crate::definitions::code::expressions::Stores). [How to read clauses](crate::definitions).
     pub fn v128_const(alloc: A, value: i128) -> Result<Self> {
         let bytes = Vec::with_capacity(alloc, VECTOR_BYTES)?;
         ConstExpr::stored(bytes).with_v128_const(value)
@@ -224,10 +275,14 @@ impl<A: Allocator> ConstExpr<A> {
     ///
     /// # Proved
     ///
+    /// After `Ok`: `stores`. In any case: `memory`.
+    ///
     /// ```text
     /// ensures stores { IfOk result (Stores (Instruction.GlobalGet index) self) }
     /// ensures memory { result ≢ Err TooLong }
     /// ```
+    ///
+    /// Definitions: [`Stores`](crate::definitions::code::expressions::Stores). [How to read clauses](crate::definitions).
     #[inline]
     pub fn with_global_get(mut self, index: u32) -> Result<Self> {
         InstructionSink::new(&mut self.bytes).global_get(index)?;
@@ -238,10 +293,14 @@ impl<A: Allocator> ConstExpr<A> {
     ///
     /// # Proved
     ///
+    /// After `Ok`: `stores`. In any case: `memory`.
+    ///
     /// ```text
     /// ensures stores { IfOk result (Stores (Instruction.RefNull ty) self) }
     /// ensures memory { result ≢ Err TooLong }
     /// ```
+    ///
+    /// Definitions: [`Stores`](crate::definitions::code::expressions::Stores). [How to read clauses](crate::definitions).
     #[inline]
     pub fn with_ref_null(mut self, ty: HeapType) -> Result<Self> {
         InstructionSink::new(&mut self.bytes).ref_null(ty)?;
@@ -252,10 +311,14 @@ impl<A: Allocator> ConstExpr<A> {
     ///
     /// # Proved
     ///
+    /// After `Ok`: `stores`. In any case: `memory`.
+    ///
     /// ```text
     /// ensures stores { IfOk result (Stores (Instruction.RefFunc function_index) self) }
     /// ensures memory { result ≢ Err TooLong }
     /// ```
+    ///
+    /// Definitions: [`Stores`](crate::definitions::code::expressions::Stores). [How to read clauses](crate::definitions).
     #[inline]
     pub fn with_ref_func(mut self, function_index: u32) -> Result<Self> {
         InstructionSink::new(&mut self.bytes).ref_func(function_index)?;
@@ -266,10 +329,14 @@ impl<A: Allocator> ConstExpr<A> {
     ///
     /// # Proved
     ///
+    /// After `Ok`: `stores`. In any case: `memory`.
+    ///
     /// ```text
     /// ensures stores { IfOk result (Stores (Instruction.I32Const value) self) }
     /// ensures memory { result ≢ Err TooLong }
     /// ```
+    ///
+    /// Definitions: [`Stores`](crate::definitions::code::expressions::Stores). [How to read clauses](crate::definitions).
     #[inline]
     pub fn with_i32_const(mut self, value: i32) -> Result<Self> {
         InstructionSink::new(&mut self.bytes).i32_const(value)?;
@@ -280,10 +347,14 @@ impl<A: Allocator> ConstExpr<A> {
     ///
     /// # Proved
     ///
+    /// After `Ok`: `stores`. In any case: `memory`.
+    ///
     /// ```text
     /// ensures stores { IfOk result (Stores (Instruction.I64Const value) self) }
     /// ensures memory { result ≢ Err TooLong }
     /// ```
+    ///
+    /// Definitions: [`Stores`](crate::definitions::code::expressions::Stores). [How to read clauses](crate::definitions).
     #[inline]
     pub fn with_i64_const(mut self, value: i64) -> Result<Self> {
         InstructionSink::new(&mut self.bytes).i64_const(value)?;
@@ -294,10 +365,14 @@ impl<A: Allocator> ConstExpr<A> {
     ///
     /// # Proved
     ///
+    /// After `Ok`: `stores`. In any case: `memory`.
+    ///
     /// ```text
     /// ensures stores { IfOk result (Stores (Instruction.F32Const value) self) }
     /// ensures memory { result ≢ Err TooLong }
     /// ```
+    ///
+    /// Definitions: [`Stores`](crate::definitions::code::expressions::Stores). [How to read clauses](crate::definitions).
     #[inline]
     pub fn with_f32_const(mut self, value: Ieee32) -> Result<Self> {
         InstructionSink::new(&mut self.bytes).f32_const(value)?;
@@ -308,10 +383,14 @@ impl<A: Allocator> ConstExpr<A> {
     ///
     /// # Proved
     ///
+    /// After `Ok`: `stores`. In any case: `memory`.
+    ///
     /// ```text
     /// ensures stores { IfOk result (Stores (Instruction.F64Const value) self) }
     /// ensures memory { result ≢ Err TooLong }
     /// ```
+    ///
+    /// Definitions: [`Stores`](crate::definitions::code::expressions::Stores). [How to read clauses](crate::definitions).
     #[inline]
     pub fn with_f64_const(mut self, value: Ieee64) -> Result<Self> {
         InstructionSink::new(&mut self.bytes).f64_const(value)?;
@@ -322,10 +401,15 @@ impl<A: Allocator> ConstExpr<A> {
     ///
     /// # Proved
     ///
+    /// After `Ok`: `stores`. In any case: `memory`.
+    ///
     /// ```text
-    /// ensures stores { IfOk result (Stores (Instruction.VectorImmediate (VectorImmediate.V128Const value)) self) }
+    /// ensures stores { IfOk result
+    ///     (Stores (Instruction.VectorImmediate (VectorImmediate.V128Const value)) self) }
     /// ensures memory { result ≢ Err TooLong }
     /// ```
+    ///
+    /// Definitions: [`Stores`](crate::definitions::code::expressions::Stores). [How to read clauses](crate::definitions).
     #[inline]
     pub fn with_v128_const(mut self, value: i128) -> Result<Self> {
         InstructionSink::new(&mut self.bytes).v128_const(value)?;
@@ -336,10 +420,14 @@ impl<A: Allocator> ConstExpr<A> {
     ///
     /// # Proved
     ///
+    /// After `Ok`: `stores`. In any case: `memory`.
+    ///
     /// ```text
     /// ensures stores { IfOk result (Stores (Instruction.Numeric Numeric.I32Add) self) }
     /// ensures memory { result ≢ Err TooLong }
     /// ```
+    ///
+    /// Definitions: [`Stores`](crate::definitions::code::expressions::Stores). [How to read clauses](crate::definitions).
     #[inline]
     pub fn with_i32_add(mut self) -> Result<Self> {
         InstructionSink::new(&mut self.bytes).i32_add()?;
@@ -350,10 +438,14 @@ impl<A: Allocator> ConstExpr<A> {
     ///
     /// # Proved
     ///
+    /// After `Ok`: `stores`. In any case: `memory`.
+    ///
     /// ```text
     /// ensures stores { IfOk result (Stores (Instruction.Numeric Numeric.I32Sub) self) }
     /// ensures memory { result ≢ Err TooLong }
     /// ```
+    ///
+    /// Definitions: [`Stores`](crate::definitions::code::expressions::Stores). [How to read clauses](crate::definitions).
     #[inline]
     pub fn with_i32_sub(mut self) -> Result<Self> {
         InstructionSink::new(&mut self.bytes).i32_sub()?;
@@ -364,10 +456,14 @@ impl<A: Allocator> ConstExpr<A> {
     ///
     /// # Proved
     ///
+    /// After `Ok`: `stores`. In any case: `memory`.
+    ///
     /// ```text
     /// ensures stores { IfOk result (Stores (Instruction.Numeric Numeric.I32Mul) self) }
     /// ensures memory { result ≢ Err TooLong }
     /// ```
+    ///
+    /// Definitions: [`Stores`](crate::definitions::code::expressions::Stores). [How to read clauses](crate::definitions).
     #[inline]
     pub fn with_i32_mul(mut self) -> Result<Self> {
         InstructionSink::new(&mut self.bytes).i32_mul()?;
@@ -378,10 +474,14 @@ impl<A: Allocator> ConstExpr<A> {
     ///
     /// # Proved
     ///
+    /// After `Ok`: `stores`. In any case: `memory`.
+    ///
     /// ```text
     /// ensures stores { IfOk result (Stores (Instruction.Numeric Numeric.I64Add) self) }
     /// ensures memory { result ≢ Err TooLong }
     /// ```
+    ///
+    /// Definitions: [`Stores`](crate::definitions::code::expressions::Stores). [How to read clauses](crate::definitions).
     #[inline]
     pub fn with_i64_add(mut self) -> Result<Self> {
         InstructionSink::new(&mut self.bytes).i64_add()?;
@@ -392,10 +492,14 @@ impl<A: Allocator> ConstExpr<A> {
     ///
     /// # Proved
     ///
+    /// After `Ok`: `stores`. In any case: `memory`.
+    ///
     /// ```text
     /// ensures stores { IfOk result (Stores (Instruction.Numeric Numeric.I64Sub) self) }
     /// ensures memory { result ≢ Err TooLong }
     /// ```
+    ///
+    /// Definitions: [`Stores`](crate::definitions::code::expressions::Stores). [How to read clauses](crate::definitions).
     #[inline]
     pub fn with_i64_sub(mut self) -> Result<Self> {
         InstructionSink::new(&mut self.bytes).i64_sub()?;
@@ -406,10 +510,14 @@ impl<A: Allocator> ConstExpr<A> {
     ///
     /// # Proved
     ///
+    /// After `Ok`: `stores`. In any case: `memory`.
+    ///
     /// ```text
     /// ensures stores { IfOk result (Stores (Instruction.Numeric Numeric.I64Mul) self) }
     /// ensures memory { result ≢ Err TooLong }
     /// ```
+    ///
+    /// Definitions: [`Stores`](crate::definitions::code::expressions::Stores). [How to read clauses](crate::definitions).
     #[inline]
     pub fn with_i64_mul(mut self) -> Result<Self> {
         InstructionSink::new(&mut self.bytes).i64_mul()?;
@@ -423,6 +531,8 @@ impl<A: Allocator> ConstExpr<A> {
     /// ```text
     /// ensures { IsRefFunc self.now result }
     /// ```
+    ///
+    /// Definitions: [`IsRefFunc`](crate::definitions::code::expressions::IsRefFunc). [How to read clauses](crate::definitions).
     pub fn get_ref_func(&self) -> Option<u32> {
         match self.first {
             Some(first) => first.function_index(),
@@ -438,6 +548,8 @@ impl<A: Allocator> ConstExpr<A> {
 /// ```text
 /// ensures { IsRefFunc bytes.now result }
 /// ```
+///
+/// Definitions: [`IsRefFunc`](crate::definitions::code::expressions::IsRefFunc). [How to read clauses](crate::definitions).
 pub(crate) fn function_at_front(bytes: &[u8]) -> Option<u32> {
     let [op, rest @ ..] = bytes else {
         return None;
@@ -460,14 +572,20 @@ pub(crate) fn function_at_front(bytes: &[u8]) -> Option<u32> {
 /// # Asks
 ///
 /// ```text
-/// requires { (it : I.IntoIter) → I.into_iter_gives elements it → I.IntoIter.can_next it × IsFinite (I.IntoIter.remaining it) }
+/// requires { (it : I.IntoIter) → I.into_iter_gives elements it
+///     → I.IntoIter.can_next it × IsFinite (I.IntoIter.remaining it) }
 /// ```
+///
+/// [How to read clauses](crate::definitions).
 ///
 /// # Proved
 ///
 /// ```text
-/// ensures { AppendsEach I.into_iter_gives I.IntoIter.next_gives T.encodable T.encoding elements sink.old.items sink.new.items result }
+/// ensures { AppendsEach I.into_iter_gives I.IntoIter.next_gives T.encodable T.encoding
+///     elements sink.old.items sink.new.items result }
 /// ```
+///
+/// Definitions: [`AppendsEach`](crate::definitions::code::expressions::AppendsEach). [How to read clauses](crate::definitions).
 fn encode_each<T: Encode, I: IntoIterator<Item = T>, A: Sink>(
     elements: I,
     sink: &mut A,
@@ -483,10 +601,14 @@ impl<A: Allocator + Copy> ConstExpr<A> {
     ///
     /// # Proved
     ///
+    /// After `Ok`: `same`. In any case: `memory`.
+    ///
     /// ```text
     /// ensures same { IfOk result (λ e. e ≡ self.now) }
     /// ensures memory { result ≢ Err TooLong }
     /// ```
+    ///
+    /// [How to read clauses](crate::definitions).
     pub fn clone(&self) -> Result<Self> {
         let alloc = *self.bytes.allocator();
         Ok(ConstExpr {
@@ -507,6 +629,8 @@ pub(crate) struct Stored<'a>(pub(crate) &'a [u8]);
 /// encoding = { λ stored. stored.0.now }
 /// encodable = { λ _. ⊤ }
 /// ```
+///
+/// [How to read clauses](crate::definitions).
 impl Encode for Stored<'_> {
     #[inline]
     fn encode<A: Sink>(&self, sink: &mut A) -> Result<()> {
@@ -525,8 +649,11 @@ pub(crate) const END: u8 = 0x0B;
 /// ```text
 /// encoding = { expression_encoding }
 /// encodable = { λ _. ⊤ }
-/// decoding = { λ e. DecodesBack expression (StoresInstructions e) (expression_encoding e) }
+/// decoding = { λ e. DecodesBack expression (StoresInstructions e)
+///     (expression_encoding e) }
 /// ```
+///
+/// Definitions: [`expression_encoding`](crate::definitions::code::expressions::expression_encoding), [`DecodesBack`](crate::definitions::base::calls::DecodesBack), [`expression`](crate::definitions::code::expressions::expression), [`StoresInstructions`](crate::definitions::code::expressions::StoresInstructions). [How to read clauses](crate::definitions).
 impl<A: Allocator> Encode for ConstExpr<A> {
     #[inline]
     fn encode<B: Sink>(&self, sink: &mut B) -> Result<()> {

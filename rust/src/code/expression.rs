@@ -21,6 +21,8 @@ pub struct Expression<A: Allocator = Global>(pub Vec<Plain<A>, A>);
 /// format = { expression }
 /// view = { λ e. map plain_view e.0.items }
 /// ```
+///
+/// Definitions: [`PlainInstruction`](crate::definitions::insn::plain::Plain), [`expression`](crate::definitions::code::expressions::expression), [`plain_view`](crate::definitions::insn::views::plain_view). [How to read clauses](crate::definitions).
 impl<A: Allocator> Layout for Expression<A> {
     fn laws() {}
 }

@@ -27,6 +27,8 @@ impl First {
     /// ensures index { result ≡ index_of self }
     /// ensures range { IfSome result (λ index. index < 2 ^ 32) }
     /// ```
+    ///
+    /// Definitions: [`index_of`](crate::definitions::code::expressions::index_of). [How to read clauses](crate::definitions).
     pub fn function_index(self) -> Option<u32> {
         match self {
             First::RefFunc(index) => Some(index),
@@ -43,6 +45,8 @@ impl First {
 /// encoding = { first_encoding }
 /// encodable = { λ _. ⊤ }
 /// ```
+///
+/// Definitions: [`first_encoding`](crate::definitions::code::expressions::first_encoding). [How to read clauses](crate::definitions).
 impl Encode for First {
     #[inline]
     fn encode<A: Sink>(&self, sink: &mut A) -> Result<()> {

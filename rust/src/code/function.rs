@@ -43,14 +43,20 @@ impl<A: Allocator> Function<A> {
     /// # Asks
     ///
     /// ```text
-    /// requires { HasKnownLength V.into_iter_gives V.IntoIter.can_next V.IntoIter.next_gives V.IntoIter.remaining locals }
+    /// requires { HasKnownLength V.into_iter_gives V.IntoIter.can_next V.IntoIter.next_gives
+    ///     V.IntoIter.remaining locals }
     /// ```
+    ///
+    /// Definitions: [`HasKnownLength`](crate::definitions::base::iterators::HasKnownLength). [How to read clauses](crate::definitions).
     ///
     /// # Proved
     ///
     /// ```text
-    /// ensures { BeginsWithRuns V.into_iter_gives V.IntoIter.next_gives V.IntoIter.remaining locals result }
+    /// ensures { BeginsWithRuns V.into_iter_gives V.IntoIter.next_gives V.IntoIter.remaining
+    ///     locals result }
     /// ```
+    ///
+    /// Definitions: [`BeginsWithRuns`](crate::definitions::code::bodies::BeginsWithRuns). [How to read clauses](crate::definitions).
     pub fn new<V: IntoIterator<Item = (u32, ValType)>>(alloc: A, locals: V) -> Result<Self>
     where
         V::IntoIter: ExactSizeIterator,
@@ -72,6 +78,8 @@ impl<A: Allocator> Function<A> {
     /// ensures same_reference { result.sink.ghost_name ≡ self.entry.ghost_name }
     /// ensures same { result.sink.now ≡ self.old }
     /// ```
+    ///
+    /// [How to read clauses](crate::definitions).
     pub fn instructions(&mut self) -> InstructionSink<'_, Function<A>> {
         InstructionSink::new(self)
     }
@@ -83,6 +91,8 @@ impl<A: Allocator> Function<A> {
     /// ```text
     /// ensures { AddsInstruction instruction.now self.old self.new result }
     /// ```
+    ///
+    /// Definitions: [`AddsInstruction`](crate::definitions::code::bodies::AddsInstruction). [How to read clauses](crate::definitions).
     pub fn instruction(&mut self, instruction: &Instruction<'_>) -> Result<()> {
         instruction.encode(&mut self.bytes)
     }
@@ -92,10 +102,15 @@ impl<A: Allocator> Function<A> {
     /// # Asks
     ///
     /// ```text
-    /// requires { (it : I.IntoIter) → I.into_iter_gives bytes it → I.IntoIter.can_next it × IsFinite (I.IntoIter.remaining it) }
+    /// requires { (it : I.IntoIter) → I.into_iter_gives bytes it
+    ///     → I.IntoIter.can_next it × IsFinite (I.IntoIter.remaining it) }
     /// ```
     ///
+    /// [How to read clauses](crate::definitions).
+    ///
     /// # Proved
+    ///
+    /// After `Ok`: `ok`. After an error: `err`. In any case: `memory`.
     ///
     /// ```text
     /// ensures ok { OnOk result ((it : I.IntoIter) × (xs : List ℕ)
@@ -105,6 +120,8 @@ impl<A: Allocator> Function<A> {
     /// ensures err { OnErr result (self.new ≡ self.old) }
     /// ensures memory { result ≢ Err TooLong }
     /// ```
+    ///
+    /// Definitions: [`GrowsBy`](crate::definitions::code::bodies::GrowsBy). [How to read clauses](crate::definitions).
     pub fn raw<I: IntoIterator<Item = u8>>(&mut self, bytes: I) -> Result<()> {
         append_all(&mut self.bytes, bytes)
     }
@@ -117,6 +134,8 @@ impl<A: Allocator> Function<A> {
     /// ```text
     /// ensures { result ≡ length self.now }
     /// ```
+    ///
+    /// [How to read clauses](crate::definitions).
     pub fn byte_len(&self) -> usize {
         self.bytes.len()
     }
@@ -128,6 +147,8 @@ impl<A: Allocator> Function<A> {
     /// ```text
     /// ensures { result.items ≡ self }
     /// ```
+    ///
+    /// [How to read clauses](crate::definitions).
     pub fn into_raw_body(self) -> Vec<u8, A> {
         let Function { bytes } = self;
         bytes
@@ -141,14 +162,19 @@ impl<A: Allocator + Copy> Function<A> {
     /// # Asks
     ///
     /// ```text
-    /// requires { (it : I.IntoIter) → I.into_iter_gives locals it → I.IntoIter.can_next it × IsFinite (I.IntoIter.remaining it) }
+    /// requires { (it : I.IntoIter) → I.into_iter_gives locals it
+    ///     → I.IntoIter.can_next it × IsFinite (I.IntoIter.remaining it) }
     /// ```
+    ///
+    /// [How to read clauses](crate::definitions).
     ///
     /// # Proved
     ///
     /// ```text
     /// ensures { BeginsWithTypes I.into_iter_gives I.IntoIter.next_gives locals result }
     /// ```
+    ///
+    /// Definitions: [`BeginsWithTypes`](crate::definitions::code::bodies::BeginsWithTypes). [How to read clauses](crate::definitions).
     pub fn new_with_locals_types<I: IntoIterator<Item = ValType>>(
         alloc: A,
         locals: I,
@@ -161,10 +187,14 @@ impl<A: Allocator + Copy> Function<A> {
     ///
     /// # Proved
     ///
+    /// After `Ok`: `same`. In any case: `memory`.
+    ///
     /// ```text
     /// ensures same { IfOk result (λ f. f ≡ self.now) }
     /// ensures memory { result ≢ Err TooLong }
     /// ```
+    ///
+    /// [How to read clauses](crate::definitions).
     pub fn clone(&self) -> Result<Self> {
         let alloc = *self.bytes.allocator();
         Ok(Function {
@@ -181,6 +211,8 @@ impl<A: Allocator + Copy> Function<A> {
 /// eq = { bytes_eq }
 /// laws = { Prim.search (comparing, rules) }
 /// ```
+///
+/// [How to read clauses](crate::definitions).
 impl<A: Allocator> PartialEq for Function<A> {
     fn eq(&self, other: &Self) -> bool {
         self.bytes.as_slice() == other.bytes.as_slice()
@@ -192,6 +224,8 @@ impl<A: Allocator> PartialEq for Function<A> {
 /// ```text
 /// laws = { Prim.search (comparing, rules) }
 /// ```
+///
+/// [How to read clauses](crate::definitions).
 impl<A: Allocator> Eq for Function<A> {}
 
 /// Instructions are appended to the raw body.
@@ -201,6 +235,8 @@ impl<A: Allocator> Eq for Function<A> {}
 /// ```text
 /// written = { λ f. f }
 /// ```
+///
+/// [How to read clauses](crate::definitions).
 impl<A: Allocator> Buffer for Function<A> {
     fn append<E: Encode>(&mut self, value: &E) -> Result<()> {
         value.encode(&mut self.bytes)
@@ -224,10 +260,15 @@ impl<A: Allocator> Buffer for Function<A> {
 /// # Asks
 ///
 /// ```text
-/// requires { (it : I.IntoIter) → I.into_iter_gives bytes it → I.IntoIter.can_next it × IsFinite (I.IntoIter.remaining it) }
+/// requires { (it : I.IntoIter) → I.into_iter_gives bytes it
+///     → I.IntoIter.can_next it × IsFinite (I.IntoIter.remaining it) }
 /// ```
 ///
+/// [How to read clauses](crate::definitions).
+///
 /// # Proved
+///
+/// After `Ok`: `ok`. After an error: `err`. In any case: `memory`.
 ///
 /// ```text
 /// ensures ok { OnOk result ((it : I.IntoIter) × (xs : List ℕ)
@@ -237,6 +278,8 @@ impl<A: Allocator> Buffer for Function<A> {
 /// ensures err { OnErr result (sink.new.items ≡ sink.old.items) }
 /// ensures memory { result ≢ Err TooLong }
 /// ```
+///
+/// [How to read clauses](crate::definitions).
 pub(crate) fn append_all<I: IntoIterator<Item = u8>, A: Sink>(
     sink: &mut A,
     bytes: I,
@@ -258,8 +301,11 @@ pub(crate) fn append_all<I: IntoIterator<Item = u8>, A: Sink>(
 /// ```text
 /// encoding = { size_prefixed_encoding }
 /// encodable = { HasEncodableSize }
-/// decoding = { λ f. DecodesBack (size_prefixed body) (IsWellFormedBody f) (size_prefixed_encoding f) }
+/// decoding = { λ f. DecodesBack (size_prefixed body) (IsWellFormedBody f)
+///     (size_prefixed_encoding f) }
 /// ```
+///
+/// Definitions: [`size_prefixed_encoding`](crate::definitions::base::encodings::size_prefixed_encoding), [`HasEncodableSize`](crate::definitions::base::encodings::HasEncodableSize), [`DecodesBack`](crate::definitions::base::calls::DecodesBack), [`size_prefixed`](crate::definitions::base::formats::size_prefixed), [`body`](crate::definitions::code::bodies::body), [`IsWellFormedBody`](crate::definitions::code::bodies::IsWellFormedBody). [How to read clauses](crate::definitions).
 impl<A: Allocator> Encode for Function<A> {
     fn encode<B: Sink>(&self, sink: &mut B) -> Result<()> {
         encode_size_prefixed(sink, &self.bytes)

@@ -17,8 +17,11 @@ use crate::alloc::Allocator;
 ///
 /// ```text
 /// ensures unambiguous { Unambiguous expression }
-/// ensures encodings { HasMinimalEncodings expression IsEncodablePlainExpression plain_expression_encoding }
+/// ensures encodings { HasMinimalEncodings expression IsEncodablePlainExpression
+///     plain_expression_encoding }
 /// ```
+///
+/// Definitions: [`Unambiguous`](crate::definitions::base::decoding::Unambiguous), [`expression`](crate::definitions::code::expressions::expression), [`HasMinimalEncodings`](crate::definitions::base::decoding::HasMinimalEncodings), [`IsEncodablePlainExpression`](crate::definitions::code::laws::IsEncodablePlainExpression), [`plain_expression_encoding`](crate::definitions::code::laws::plain_expression_encoding). [How to read clauses](crate::definitions).
 pub fn expressions() {}
 
 /// The formats of bodies and of code sections, of raw bodies and of decoded ones, are unambiguous.
@@ -31,10 +34,16 @@ pub fn expressions() {}
 /// ensures raw_code { Unambiguous raw_code }
 /// ensures code_section { Unambiguous code_section }
 /// ensures body_encodings { HasMinimalEncodings body IsEncodableBody body_encoding }
-/// ensures size_prefixed_encodings { HasMinimalEncodings (size_prefixed body) IsEncodableSizedBody body_size_prefixed_encoding }
-/// ensures raw_code_encodings { HasMinimalEncodings raw_code IsEncodableRawCode raw_code_encoding }
-/// ensures code_section_encodings { HasMinimalEncodings code_section IsEncodableCodeSection code_section_encoding }
+/// ensures size_prefixed_encodings
+///     { HasMinimalEncodings (size_prefixed body) IsEncodableSizedBody
+///     body_size_prefixed_encoding }
+/// ensures raw_code_encodings
+///     { HasMinimalEncodings raw_code IsEncodableRawCode raw_code_encoding }
+/// ensures code_section_encodings
+///     { HasMinimalEncodings code_section IsEncodableCodeSection code_section_encoding }
 /// ```
+///
+/// Definitions: [`body`](crate::definitions::code::bodies::body), [`UnambiguousWhole`](crate::definitions::base::decoding::UnambiguousWhole), [`size_prefixed`](crate::definitions::base::formats::size_prefixed), [`Unambiguous`](crate::definitions::base::decoding::Unambiguous), [`raw_code`](crate::definitions::code::code::raw_code), [`code_section`](crate::definitions::code::code::code_section), [`HasMinimalEncodings`](crate::definitions::base::decoding::HasMinimalEncodings), [`IsEncodableBody`](crate::definitions::code::laws::IsEncodableBody), [`body_encoding`](crate::definitions::code::laws::body_encoding), [`IsEncodableSizedBody`](crate::definitions::code::laws::IsEncodableSizedBody), [`body_size_prefixed_encoding`](crate::definitions::code::laws::body_size_prefixed_encoding), [`IsEncodableRawCode`](crate::definitions::code::laws::IsEncodableRawCode), [`raw_code_encoding`](crate::definitions::code::laws::raw_code_encoding), [`IsEncodableCodeSection`](crate::definitions::code::laws::IsEncodableCodeSection), [`code_section_encoding`](crate::definitions::code::laws::code_section_encoding). [How to read clauses](crate::definitions).
 pub fn bodies() {}
 
 /// Suppose that a raw body decodes, and a longer one that begins with it decodes too. Then an
@@ -47,6 +56,8 @@ pub fn bodies() {}
 /// ensures begins { HasOffsets }
 /// ensures added { (i : Instruction A) → FindsAdded i }
 /// ```
+///
+/// Definitions: [`HasOffsets`](crate::definitions::code::laws::HasOffsets), [`FindsAdded`](crate::definitions::code::laws::FindsAdded). [How to read clauses](crate::definitions).
 pub fn offset<A: Allocator>() {}
 
 /// If a module decodes to ids and payloads, and a code section decodes to bodies alone, then its
@@ -58,6 +69,8 @@ pub fn offset<A: Allocator>() {}
 /// ensures raw_code { DecodesPayloads (vec (size_prefixed any_bytes)) }
 /// ensures code_section { DecodesPayloads (vec (size_prefixed body)) }
 /// ```
+///
+/// Definitions: [`raw_code`](crate::definitions::code::code::raw_code), [`DecodesPayloads`](crate::definitions::base::modules::DecodesPayloads), [`vec`](crate::definitions::base::formats::vec), [`size_prefixed`](crate::definitions::base::formats::size_prefixed), [`any_bytes`](crate::definitions::base::formats::any_bytes), [`code_section`](crate::definitions::code::code::code_section), [`body`](crate::definitions::code::bodies::body). [How to read clauses](crate::definitions).
 pub fn payloads() {}
 
 /// The same with padded numbers.
@@ -68,6 +81,8 @@ pub fn payloads() {}
 /// ensures raw_code { DecodesPayloadsPadded (vec (size_prefixed any_bytes)) }
 /// ensures code_section { DecodesPayloadsPadded (vec (size_prefixed body)) }
 /// ```
+///
+/// Definitions: [`raw_code`](crate::definitions::code::code::raw_code), [`DecodesPayloadsPadded`](crate::definitions::base::modules::DecodesPayloadsPadded), [`vec`](crate::definitions::base::formats::vec), [`size_prefixed`](crate::definitions::base::formats::size_prefixed), [`any_bytes`](crate::definitions::base::formats::any_bytes), [`code_section`](crate::definitions::code::code::code_section), [`body`](crate::definitions::code::bodies::body). [How to read clauses](crate::definitions).
 pub fn padded_payloads() {}
 
 /// The bodies that a code section holds, call by call; and the instruction that a body gains when a
@@ -80,6 +95,8 @@ pub fn padded_payloads() {}
 /// ensures instruction { (i : Instruction A) → GrowsByEncoding i }
 /// ensures labels { GrowsByLabels }
 /// ```
+///
+/// Definitions: [`ContainsMoreBodies`](crate::definitions::code::laws::ContainsMoreBodies), [`GrowsByEncoding`](crate::definitions::code::laws::GrowsByEncoding), [`GrowsByLabels`](crate::definitions::code::laws::GrowsByLabels). [How to read clauses](crate::definitions).
 pub fn calls<A: Allocator>() {}
 
 /// The same with padded numbers: the content of a code section, a body and a constant expression,
@@ -93,6 +110,8 @@ pub fn calls<A: Allocator>() {}
 /// ensures instruction { (i : Instruction A) → GrowsByEncodingPadded i }
 /// ensures expression { StoresMorePadded }
 /// ```
+///
+/// Definitions: [`ContainsMoreBodiesPadded`](crate::definitions::code::laws::ContainsMoreBodiesPadded), [`body`](crate::definitions::code::bodies::body), [`GrowsPadded`](crate::definitions::code::laws::GrowsPadded), [`GrowsByEncodingPadded`](crate::definitions::code::laws::GrowsByEncodingPadded), [`expression`](crate::definitions::code::expressions::expression), [`StoresMorePadded`](crate::definitions::code::laws::StoresMorePadded). [How to read clauses](crate::definitions).
 pub fn padded_calls<A: Allocator>() {}
 
 /// With padded numbers the formats are unambiguous too.
@@ -106,6 +125,8 @@ pub fn padded_calls<A: Allocator>() {}
 /// ensures raw_code { UnambiguousPadded raw_code }
 /// ensures code_section { UnambiguousPadded code_section }
 /// ```
+///
+/// Definitions: [`expression`](crate::definitions::code::expressions::expression), [`UnambiguousPadded`](crate::definitions::base::decoding::UnambiguousPadded), [`body`](crate::definitions::code::bodies::body), [`UnambiguousWholePadded`](crate::definitions::base::decoding::UnambiguousWholePadded), [`size_prefixed`](crate::definitions::base::formats::size_prefixed), [`raw_code`](crate::definitions::code::code::raw_code), [`code_section`](crate::definitions::code::code::code_section). [How to read clauses](crate::definitions).
 pub fn padded() {}
 
 /// A list of types has at most one list of runs with counts of at least 1 and no two neighbours of
@@ -116,6 +137,8 @@ pub fn padded() {}
 /// ```text
 /// ensures { (xs ys : List Run) → HaveOneExpansion xs ys }
 /// ```
+///
+/// Definitions: [`Run`](crate::definitions::code::bodies::Run), [`HaveOneExpansion`](crate::definitions::code::laws::HaveOneExpansion). [How to read clauses](crate::definitions).
 pub fn locals() {}
 
 /// With minimal numbers, these two byte sequences encode no code section: in one a memory argument
@@ -128,6 +151,8 @@ pub fn locals() {}
 /// ensures cut { RejectsAllAfter code_section (6 ∷ 1 ∷ 4 ∷ 0 ∷ 40 ∷ 16 ∷ 0 ∷ []) }
 /// ensures padded_of { RejectsAllAfter code_section (5 ∷ 1 ∷ 3 ∷ 128 ∷ 0 ∷ 11 ∷ []) }
 /// ```
+///
+/// Definitions: [`RejectsAllAfter`](crate::definitions::code::laws::RejectsAllAfter), [`code_section`](crate::definitions::code::code::code_section). [How to read clauses](crate::definitions).
 pub fn rejections() {}
 
 /// The visitor of a body reports the offsets that `Function::byte_len` of `wasm_code` returned.
@@ -139,4 +164,6 @@ pub fn rejections() {}
 /// ```text
 /// ensures { OffsetLaws }
 /// ```
+///
+/// Definitions: [`OffsetLaws`](crate::definitions::code::offsets::OffsetLaws). [How to read clauses](crate::definitions).
 pub fn offsets() {}

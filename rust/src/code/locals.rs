@@ -10,14 +10,19 @@ use crate::base::{Refused, Result, ValType};
 /// # Asks
 ///
 /// ```text
-/// requires { (it : I.IntoIter) → I.into_iter_gives types it → I.IntoIter.can_next it × IsFinite (I.IntoIter.remaining it) }
+/// requires { (it : I.IntoIter) → I.into_iter_gives types it
+///     → I.IntoIter.can_next it × IsFinite (I.IntoIter.remaining it) }
 /// ```
+///
+/// [How to read clauses](crate::definitions).
 ///
 /// # Proved
 ///
 /// ```text
 /// ensures { GathersRuns I.into_iter_gives I.IntoIter.next_gives types result }
 /// ```
+///
+/// Definitions: [`GathersRuns`](crate::definitions::code::bodies::GathersRuns). [How to read clauses](crate::definitions).
 pub(crate) fn runs_of<I: IntoIterator<Item = ValType>, A: Allocator>(
     alloc: A,
     types: I,
@@ -36,6 +41,8 @@ pub(crate) fn runs_of<I: IntoIterator<Item = ValType>, A: Allocator>(
 /// ```text
 /// ensures { IsTrue result ↔ (last ≡ ty) }
 /// ```
+///
+/// [How to read clauses](crate::definitions).
 fn continues(last: ValType, ty: ValType) -> bool {
     last == ty
 }
@@ -45,12 +52,17 @@ fn continues(last: ValType, ty: ValType) -> bool {
 ///
 /// # Proved
 ///
+/// After `Ok`: `more`. In any case: `counted`, `full`, `too_many`.
+///
 /// ```text
 /// ensures more { OnOk result (MoreRuns ty runs.old.items runs.new.items) }
-/// ensures counted { All IsCounted runs.old.items → OnOk result (All IsCounted runs.new.items) }
+/// ensures counted { All IsCounted runs.old.items
+///     → OnOk result (All IsCounted runs.new.items) }
 /// ensures full { result ≡ Err TooLong → IsFull ty runs.old.items }
 /// ensures too_many { IsFull ty runs.old.items → result ≡ Err TooLong }
 /// ```
+///
+/// Definitions: [`MoreRuns`](crate::definitions::code::bodies::MoreRuns), [`IsCounted`](crate::definitions::code::bodies::IsCounted), [`IsFull`](crate::definitions::code::bodies::IsFull). [How to read clauses](crate::definitions).
 fn add_local<A: Allocator>(runs: &mut Vec<(u32, ValType), A>, ty: ValType) -> Result<()> {
     let Some((count, last)) = runs.pop() else {
         runs.push((1, ty))?;

@@ -47,6 +47,8 @@ impl<'a, A: Allocator + Copy> Instructions<'a, A> {
     /// ```text
     /// ensures { result ≡ record { bytes = bytes.now; offset = 0; arguments = [] } }
     /// ```
+    ///
+    /// [How to read clauses](crate::definitions).
     pub fn new(bytes: &'a [u8], alloc: A) -> Self {
         Instructions::begin(bytes, alloc)
     }
@@ -57,13 +59,19 @@ impl<'a, A: Allocator + Copy> Instructions<'a, A> {
     ///
     /// # Proved
     ///
+    /// After `Ok`: `found`, `same`, `within`, `before`. After an error: `none`.
+    ///
     /// ```text
-    /// ensures found { IfOk result (λ x. Decodes (vec (pair u32 val_type)) padded bytes.now x.0.items (ahead x.1)) }
+    /// ensures found { IfOk result
+    ///     (λ x. Decodes (vec (pair u32 val_type)) padded bytes.now x.0.items (ahead x.1)) }
     /// ensures same { IfOk result (λ x. x.1.bytes ≡ bytes.now) }
     /// ensures within { IfOk result (λ x. x.1.offset ≤ length bytes.now) }
     /// ensures before { IfOk result (λ x. x.1.arguments ≡ []) }
-    /// ensures none { IfErr result (λ e. e.cause ≢ Memory → RejectsWhole body padded bytes.now) }
+    /// ensures none { IfErr result
+    ///     (λ e. e.cause ≢ Memory → RejectsWhole body padded bytes.now) }
     /// ```
+    ///
+    /// Definitions: [`Decodes`](crate::definitions::base::decoding::Decodes), [`vec`](crate::definitions::base::formats::vec), [`pair`](crate::definitions::base::formats::pair), [`u32`](crate::definitions::base::formats::u32), [`val_type`](crate::definitions::base::types::val_type), [`padded`](crate::definitions::base::numbers::Mode), [`ahead`](crate::definitions::code::walks::ahead), [`RejectsWhole`](crate::definitions::base::continuing::RejectsWhole), [`body`](crate::definitions::code::bodies::body). [How to read clauses](crate::definitions).
     pub fn of_body(bytes: &'a [u8], alloc: A) -> Result<(Vec<(u32, ValType), A>, Self), DecodeError> {
         Instructions::begin_body(bytes, alloc)
     }
@@ -78,6 +86,8 @@ impl<'a, A: Allocator + Copy> Instructions<'a, A, Standard> {
     /// ```text
     /// ensures { result ≡ record { bytes = bytes.now; offset = 0; arguments = [] } }
     /// ```
+    ///
+    /// [How to read clauses](crate::definitions).
     pub fn standard(bytes: &'a [u8], alloc: A) -> Self {
         Instructions::begin(bytes, alloc)
     }
@@ -87,13 +97,19 @@ impl<'a, A: Allocator + Copy> Instructions<'a, A, Standard> {
     ///
     /// # Proved
     ///
+    /// After `Ok`: `found`, `same`, `within`, `before`. After an error: `none`.
+    ///
     /// ```text
-    /// ensures found { IfOk result (λ x. Decodes (vec (pair u32 val_type)) standard bytes.now x.0.items (ahead x.1)) }
+    /// ensures found { IfOk result
+    ///     (λ x. Decodes (vec (pair u32 val_type)) standard bytes.now x.0.items (ahead x.1)) }
     /// ensures same { IfOk result (λ x. x.1.bytes ≡ bytes.now) }
     /// ensures within { IfOk result (λ x. x.1.offset ≤ length bytes.now) }
     /// ensures before { IfOk result (λ x. x.1.arguments ≡ []) }
-    /// ensures none { IfErr result (λ e. e.cause ≢ Memory → RejectsWhole body standard bytes.now) }
+    /// ensures none { IfErr result
+    ///     (λ e. e.cause ≢ Memory → RejectsWhole body standard bytes.now) }
     /// ```
+    ///
+    /// Definitions: [`Decodes`](crate::definitions::base::decoding::Decodes), [`vec`](crate::definitions::base::formats::vec), [`pair`](crate::definitions::base::formats::pair), [`u32`](crate::definitions::base::formats::u32), [`val_type`](crate::definitions::base::types::val_type), [`standard`](crate::definitions::base::numbers::Mode), [`ahead`](crate::definitions::code::walks::ahead), [`RejectsWhole`](crate::definitions::base::continuing::RejectsWhole), [`body`](crate::definitions::code::bodies::body). [How to read clauses](crate::definitions).
     pub fn of_standard_body(
         bytes: &'a [u8],
         alloc: A,
@@ -110,6 +126,8 @@ impl<'a, A: Allocator + Copy, G: Grammar> Instructions<'a, A, G> {
     /// ```text
     /// ensures { result ≡ record { bytes = bytes.now; offset = 0; arguments = [] } }
     /// ```
+    ///
+    /// [How to read clauses](crate::definitions).
     fn begin(bytes: &'a [u8], alloc: A) -> Self {
         Instructions {
             bytes,
@@ -123,13 +141,20 @@ impl<'a, A: Allocator + Copy, G: Grammar> Instructions<'a, A, G> {
     ///
     /// # Proved
     ///
+    /// After `Ok`: `found`, `same`, `within`, `before`. After an error: `none`.
+    ///
     /// ```text
-    /// ensures found { IfOk result (λ x. Decodes (vec (pair u32 val_type)) (padded_of G.grammar) bytes.now x.0.items (ahead x.1)) }
+    /// ensures found { IfOk result
+    ///     (λ x. Decodes (vec (pair u32 val_type)) (padded_of G.grammar) bytes.now x.0.items
+    ///         (ahead x.1)) }
     /// ensures same { IfOk result (λ x. x.1.bytes ≡ bytes.now) }
     /// ensures within { IfOk result (λ x. x.1.offset ≤ length bytes.now) }
     /// ensures before { IfOk result (λ x. x.1.arguments ≡ []) }
-    /// ensures none { IfErr result (λ e. e.cause ≢ Memory → RejectsWhole body (padded_of G.grammar) bytes.now) }
+    /// ensures none { IfErr result
+    ///     (λ e. e.cause ≢ Memory → RejectsWhole body (padded_of G.grammar) bytes.now) }
     /// ```
+    ///
+    /// Definitions: [`Decodes`](crate::definitions::base::decoding::Decodes), [`vec`](crate::definitions::base::formats::vec), [`pair`](crate::definitions::base::formats::pair), [`u32`](crate::definitions::base::formats::u32), [`val_type`](crate::definitions::base::types::val_type), [`padded_of`](crate::definitions::base::numbers::padded_of), [`ahead`](crate::definitions::code::walks::ahead), [`RejectsWhole`](crate::definitions::base::continuing::RejectsWhole), [`body`](crate::definitions::code::bodies::body). [How to read clauses](crate::definitions).
     fn begin_body(bytes: &'a [u8], alloc: A) -> Result<(Vec<(u32, ValType), A>, Self), DecodeError> {
         let (runs, rest) = <Vec<(u32, ValType), A> as Readable<'a, A, G>>::read(bytes, alloc)?;
         let instructions = Instructions {
@@ -145,14 +170,24 @@ impl<'a, A: Allocator + Copy, G: Grammar> Instructions<'a, A, G> {
     ///
     /// # Proved
     ///
+    /// After `Ok`: `offset`, `found`, `further`. After an error: `stays`, `none`. In any case: `same`.
+    ///
     /// ```text
     /// ensures offset { IfOk result (λ step. step.offset ≡ self.old.offset) }
-    /// ensures found { IfOk result (λ step. Decodes (instruction table) (padded_of G.grammar) (ahead self.old) (record { op = step.op; arguments = self.new.arguments }) (ahead self.new)) }
-    /// ensures further { IfOk result (λ _. (self.old.offset < self.new.offset) × (self.new.offset ≤ length self.new.bytes)) }
+    /// ensures found { IfOk result
+    ///     (λ step. Decodes (instruction table) (padded_of G.grammar) (ahead self.old)
+    ///         (record { op = step.op; arguments = self.new.arguments }) (ahead self.new)) }
+    /// ensures further { IfOk result
+    ///     (λ _. (self.old.offset < self.new.offset)
+    ///         × (self.new.offset ≤ length self.new.bytes)) }
     /// ensures same { self.new.bytes ≡ self.old.bytes }
     /// ensures stays { IfErr result (λ _. self.new.offset ≡ self.old.offset) }
-    /// ensures none { IfErr result (λ e. e.cause ≢ Memory → Rejects (instruction table) (padded_of G.grammar) (ahead self.old)) }
+    /// ensures none { IfErr result
+    ///     (λ e. e.cause ≢ Memory → Rejects (instruction table) (padded_of G.grammar)
+    ///         (ahead self.old)) }
     /// ```
+    ///
+    /// Definitions: [`Decodes`](crate::definitions::base::decoding::Decodes), [`instruction`](crate::definitions::insn::plain::instruction), [`table`](crate::definitions::insn::table::table), [`padded_of`](crate::definitions::base::numbers::padded_of), [`ahead`](crate::definitions::code::walks::ahead), [`Rejects`](crate::definitions::base::decoding::Rejects). [How to read clauses](crate::definitions).
     fn step(&mut self) -> Result<Step, DecodeError> {
         let offset = self.offset;
         let alloc = *self.args.allocator();
@@ -170,17 +205,29 @@ impl<'a, A: Allocator + Copy, G: Grammar> Instructions<'a, A, G> {
     ///
     /// # Proved
     ///
+    /// After `Ok`: `offset`, `found`, `further`, `end`, `ended`. After an error: `stays`, `none`, `left`. In any case: `same`.
+    ///
     /// ```text
-    /// ensures offset { IfOk result (λ next. IfSome next (λ step. step.offset ≡ self.old.offset)) }
-    /// ensures found { IfOk result (λ next. IfSome next (λ step. Decodes (instruction table) (padded_of G.grammar) (ahead self.old) (record { op = step.op; arguments = self.new.arguments }) (ahead self.new))) }
-    /// ensures further { IfOk result (λ next. IfSome next (λ _. (self.old.offset < self.new.offset) × (self.new.offset ≤ length self.new.bytes))) }
+    /// ensures offset { IfOk result
+    ///     (λ next. IfSome next (λ step. step.offset ≡ self.old.offset)) }
+    /// ensures found { IfOk result
+    ///     (λ next. IfSome next (λ step. Decodes (instruction table) (padded_of G.grammar)
+    ///             (ahead self.old) (record { op = step.op; arguments = self.new.arguments })
+    ///             (ahead self.new))) }
+    /// ensures further { IfOk result
+    ///     (λ next. IfSome next (λ _. (self.old.offset < self.new.offset)
+    ///             × (self.new.offset ≤ length self.new.bytes))) }
     /// ensures end { IfOk result (λ next. next ≡ None → ahead self.old ≡ []) }
     /// ensures ended { IfOk result (λ next. next ≡ None → self.new ≡ self.old) }
     /// ensures same { self.new.bytes ≡ self.old.bytes }
     /// ensures stays { IfErr result (λ _. self.new.offset ≡ self.old.offset) }
-    /// ensures none { IfErr result (λ e. e.cause ≢ Memory → Rejects (instruction table) (padded_of G.grammar) (ahead self.old)) }
+    /// ensures none { IfErr result
+    ///     (λ e. e.cause ≢ Memory → Rejects (instruction table) (padded_of G.grammar)
+    ///         (ahead self.old)) }
     /// ensures left { IfErr result (λ _. ahead self.old ≢ []) }
     /// ```
+    ///
+    /// Definitions: [`Decodes`](crate::definitions::base::decoding::Decodes), [`instruction`](crate::definitions::insn::plain::instruction), [`table`](crate::definitions::insn::table::table), [`padded_of`](crate::definitions::base::numbers::padded_of), [`ahead`](crate::definitions::code::walks::ahead), [`Rejects`](crate::definitions::base::decoding::Rejects). [How to read clauses](crate::definitions).
     pub fn next(&mut self) -> Result<Option<Step>, DecodeError> {
         if self.offset == self.bytes.len() {
             return Ok(None);
@@ -194,16 +241,31 @@ impl<'a, A: Allocator + Copy, G: Grammar> Instructions<'a, A, G> {
     ///
     /// # Proved
     ///
+    /// After `Ok`: `offset`, `found`, `further`, `end`, `ended`. After an error: `stays`, `none`. In any case: `same`.
+    ///
     /// ```text
-    /// ensures offset { IfOk result (λ next. IfSome next (λ step. step.offset ≡ self.old.offset)) }
-    /// ensures found { IfOk result (λ next. IfSome next (λ step. Decodes (such IsNoEnd (instruction table)) (padded_of G.grammar) (ahead self.old) (record { op = step.op; arguments = self.new.arguments }) (ahead self.new))) }
-    /// ensures further { IfOk result (λ next. IfSome next (λ _. (self.old.offset < self.new.offset) × (self.new.offset ≤ length self.new.bytes))) }
-    /// ensures end { IfOk result (λ next. next ≡ None → ahead self.old ≡ 0x0B ∷ drop (self.old.offset + 1) self.old.bytes) }
+    /// ensures offset { IfOk result
+    ///     (λ next. IfSome next (λ step. step.offset ≡ self.old.offset)) }
+    /// ensures found { IfOk result
+    ///     (λ next. IfSome next (λ step. Decodes (such IsNoEnd (instruction table))
+    ///             (padded_of G.grammar) (ahead self.old)
+    ///             (record { op = step.op; arguments = self.new.arguments }) (ahead self.new)))
+    ///     }
+    /// ensures further { IfOk result
+    ///     (λ next. IfSome next (λ _. (self.old.offset < self.new.offset)
+    ///             × (self.new.offset ≤ length self.new.bytes))) }
+    /// ensures end { IfOk result
+    ///     (λ next. next ≡ None → ahead self.old
+    ///         ≡ 0x0B ∷ drop (self.old.offset + 1) self.old.bytes) }
     /// ensures ended { IfOk result (λ next. next ≡ None → self.new ≡ self.old) }
     /// ensures same { self.new.bytes ≡ self.old.bytes }
     /// ensures stays { IfErr result (λ _. self.new.offset ≡ self.old.offset) }
-    /// ensures none { IfErr result (λ e. e.cause ≢ Memory → Rejects expression (padded_of G.grammar) (ahead self.old)) }
+    /// ensures none { IfErr result
+    ///     (λ e. e.cause ≢ Memory → Rejects expression (padded_of G.grammar) (ahead self.old))
+    ///     }
     /// ```
+    ///
+    /// Definitions: [`Decodes`](crate::definitions::base::decoding::Decodes), [`such`](crate::definitions::base::formats::such), [`IsNoEnd`](crate::definitions::code::expressions::IsNoEnd), [`instruction`](crate::definitions::insn::plain::instruction), [`table`](crate::definitions::insn::table::table), [`padded_of`](crate::definitions::base::numbers::padded_of), [`ahead`](crate::definitions::code::walks::ahead), [`Rejects`](crate::definitions::base::decoding::Rejects), [`expression`](crate::definitions::code::expressions::expression). [How to read clauses](crate::definitions).
     pub fn next_before_end(&mut self) -> Result<Option<Step>, DecodeError> {
         let [first, ..] = &self.bytes[self.offset..] else {
             return Err(ReadFault::Ended.at(b""));
@@ -223,6 +285,8 @@ impl<'a, A: Allocator + Copy, G: Grammar> Instructions<'a, A, G> {
     /// ```text
     /// ensures { map argument_view result.now ≡ self.now.arguments }
     /// ```
+    ///
+    /// Definitions: [`argument_view`](crate::definitions::insn::views::argument_view). [How to read clauses](crate::definitions).
     pub fn args(&self) -> &[Arg<A>] {
         &self.args
     }
@@ -234,6 +298,8 @@ impl<'a, A: Allocator + Copy, G: Grammar> Instructions<'a, A, G> {
     /// ```text
     /// ensures { result ≡ self.now.offset }
     /// ```
+    ///
+    /// [How to read clauses](crate::definitions).
     pub fn offset(&self) -> usize {
         self.offset
     }
@@ -245,6 +311,8 @@ impl<'a, A: Allocator + Copy, G: Grammar> Instructions<'a, A, G> {
     /// ```text
     /// ensures { result.now ≡ ahead self.now }
     /// ```
+    ///
+    /// Definitions: [`ahead`](crate::definitions::code::walks::ahead). [How to read clauses](crate::definitions).
     pub fn rest(&self) -> &'a [u8] {
         &self.bytes[self.offset..]
     }

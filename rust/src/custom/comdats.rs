@@ -21,6 +21,8 @@ pub struct ComdatSymbolMembers;
 /// is_member = { IsComdatSymbol }
 /// subsection = { None }
 /// ```
+///
+/// Definitions: [`comdat_symbol_encoding`](crate::definitions::custom::comdats::comdat_symbol_encoding), [`IsComdatSymbol`](crate::definitions::custom::comdats::IsComdatSymbol). [How to read clauses](crate::definitions).
 impl ListKind for ComdatSymbolMembers {
     fn subsection() -> Option<u8> {
         None
@@ -36,6 +38,8 @@ impl<A: Allocator> ComdatSymbols<A> {
     /// ```text
     /// ensures { Adds (kind ∷ unsigned_encoding index) ⊤ self.old self.new result }
     /// ```
+    ///
+    /// Definitions: [`Adds`](crate::definitions::base::calls::Adds), [`unsigned_encoding`](crate::definitions::base::numbers::unsigned_encoding). [How to read clauses](crate::definitions).
     pub fn symbol(&mut self, kind: u8, index: u32) -> Result<()> {
         self.add_record(&(kind, index))
     }
@@ -69,6 +73,8 @@ pub struct ComdatMembers;
 /// is_member = { IsComdat }
 /// subsection = { Some 7 }
 /// ```
+///
+/// Definitions: [`ComdatModel`](crate::definitions::custom::comdats::Comdat), [`comdat_encoding`](crate::definitions::custom::comdats::comdat_encoding), [`IsComdat`](crate::definitions::custom::comdats::IsComdat). [How to read clauses](crate::definitions).
 impl ListKind for ComdatMembers {
     fn subsection() -> Option<u8> {
         Some(7)
@@ -81,8 +87,12 @@ impl<A: Allocator> Comdats<A> {
     /// # Proved
     ///
     /// ```text
-    /// ensures { Adds (size_prefixed_encoding name.now ++ (unsigned_encoding flags ++ list_encoding symbols.now)) (HasEncodableSize name.now) self.old self.new result }
+    /// ensures { Adds (size_prefixed_encoding name.now
+    ///         ++ (unsigned_encoding flags ++ list_encoding symbols.now))
+    ///     (HasEncodableSize name.now) self.old self.new result }
     /// ```
+    ///
+    /// Definitions: [`Adds`](crate::definitions::base::calls::Adds), [`size_prefixed_encoding`](crate::definitions::base::encodings::size_prefixed_encoding), [`unsigned_encoding`](crate::definitions::base::numbers::unsigned_encoding), [`list_encoding`](crate::definitions::custom::lists::list_encoding), [`HasEncodableSize`](crate::definitions::base::encodings::HasEncodableSize). [How to read clauses](crate::definitions).
     pub fn comdat<B: Allocator>(
         &mut self,
         name: &str,
@@ -111,6 +121,8 @@ pub struct ComdatSymbol {
 /// format = { comdat_symbol }
 /// view = { λ symbol. symbol }
 /// ```
+///
+/// Definitions: [`comdat_symbol`](crate::definitions::custom::comdats::comdat_symbol). [How to read clauses](crate::definitions).
 impl Layout for ComdatSymbol {
     fn laws() {}
 }
@@ -146,12 +158,16 @@ pub struct Comdat<'a, A: Allocator = Global> {
 /// format = { comdat }
 /// view = { comdat_view }
 /// ```
+///
+/// Definitions: [`ComdatModel`](crate::definitions::custom::comdats::Comdat), [`comdat`](crate::definitions::custom::comdats::comdat), [`comdat_view`](crate::definitions::custom::comdats::comdat_view). [How to read clauses](crate::definitions).
 impl<'a, A: Allocator> Layout for Comdat<'a, A> {
     /// # Proved
     ///
     /// ```text
     /// ensures { Unambiguous comdat }
     /// ```
+    ///
+    /// Definitions: [`Unambiguous`](crate::definitions::base::decoding::Unambiguous), [`comdat`](crate::definitions::custom::comdats::comdat). [How to read clauses](crate::definitions).
     fn laws() {}
 }
 

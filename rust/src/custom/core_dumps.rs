@@ -37,11 +37,15 @@ impl<A: Allocator> CoreDumpSection<A> {
     ///
     /// # Proved
     ///
+    /// After `Ok`: `is`, `was_encodable`. In any case: `too_long`.
+    ///
     /// ```text
     /// ensures is { IfOk result (λ s. s ≡ marked_encoding name.now) }
     /// ensures was_encodable { IfOk result (λ _. HasEncodableSize name.now) }
     /// ensures too_long { HasEncodableSize name.now → result ≢ Err TooLong }
     /// ```
+    ///
+    /// Definitions: [`marked_encoding`](crate::definitions::custom::core_dumps::marked_encoding), [`HasEncodableSize`](crate::definitions::base::encodings::HasEncodableSize). [How to read clauses](crate::definitions).
     pub fn new(alloc: A, name: &str) -> Result<Self> {
         let mut data = Vec::new(alloc);
         (0x00u8, name).encode(&mut data)?;
@@ -52,10 +56,14 @@ impl<A: Allocator> CoreDumpSection<A> {
     ///
     /// # Proved
     ///
+    /// After `Ok`: `same`. In any case: `memory`.
+    ///
     /// ```text
     /// ensures same { IfOk result (λ s. s ≡ self.now) }
     /// ensures memory { result ≢ Err TooLong }
     /// ```
+    ///
+    /// [How to read clauses](crate::definitions).
     pub fn clone(&self) -> Result<Self>
     where
         A: Copy,
@@ -73,8 +81,11 @@ impl<A: Allocator> CoreDumpSection<A> {
 /// ```text
 /// encoding = { λ s. named_encoding core_name s }
 /// encodable = { λ s. IsEncodableNamed core_name s }
-/// decoding = { λ s. DecodesBack core_section (SaysProcess s) (named_encoding core_name s) }
+/// decoding = { λ s. DecodesBack core_section (SaysProcess s)
+///     (named_encoding core_name s) }
 /// ```
+///
+/// Definitions: [`named_encoding`](crate::definitions::custom::customs::named_encoding), [`core_name`](crate::definitions::custom::core_dumps::core_name), [`IsEncodableNamed`](crate::definitions::custom::customs::IsEncodableNamed), [`DecodesBack`](crate::definitions::base::calls::DecodesBack), [`core_section`](crate::definitions::custom::core_dumps::core_section), [`SaysProcess`](crate::definitions::custom::core_dumps::SaysProcess). [How to read clauses](crate::definitions).
 impl<A: Allocator> Encode for CoreDumpSection<A> {
     fn encode<B: Sink>(&self, sink: &mut B) -> Result<()> {
         let data = self.data.as_slice();
@@ -95,6 +106,8 @@ impl<A: Allocator> Encode for CoreDumpSection<A> {
 /// sized = { λ s bytes encodable pays. named_sized core_name s bytes encodable pays }
 /// decodes_back = { λ s promised. promised }
 /// ```
+///
+/// Definitions: [`number_of`](crate::definitions::base::section_id::number_of), [`core_section`](crate::definitions::custom::core_dumps::core_section), [`SaysProcess`](crate::definitions::custom::core_dumps::SaysProcess), [`NamedPayload`](crate::definitions::custom::customs::NamedPayload), [`core_name`](crate::definitions::custom::core_dumps::core_name), [`named_sized`](crate::definitions::custom::customs::named_sized). [How to read clauses](crate::definitions).
 impl<A: Allocator> Section for CoreDumpSection<A> {
     fn id(&self) -> u8 {
         SectionId::Custom.into()
@@ -127,6 +140,8 @@ pub struct ModuleItems;
 /// Item = { List ℕ }
 /// kind = { module_items }
 /// ```
+///
+/// Definitions: [`module_items`](crate::definitions::custom::core_dumps::module_items). [How to read clauses](crate::definitions).
 impl Kind for ModuleItems {
     fn laws() {}
 }
@@ -139,6 +154,8 @@ impl Kind for ModuleItems {
 /// front_format = { fixed [] (tt {0}) }
 /// counted = { true }
 /// ```
+///
+/// Definitions: [`modules_name`](crate::definitions::custom::core_dumps::modules_name), [`fixed`](crate::definitions::base::formats::fixed). [How to read clauses](crate::definitions).
 impl CustomKind for ModuleItems {
     fn name() -> &'static str {
         "coremodules"
@@ -161,8 +178,11 @@ impl<A: Allocator> CoreDumpModulesSection<A> {
     /// # Proved
     ///
     /// ```text
-    /// ensures { Adds (marked_encoding name.now) (⊤ × HasEncodableSize name.now) self.old self.new result }
+    /// ensures { Adds (marked_encoding name.now)
+    ///     (⊤ × HasEncodableSize name.now) self.old self.new result }
     /// ```
+    ///
+    /// Definitions: [`Adds`](crate::definitions::base::calls::Adds), [`marked_encoding`](crate::definitions::custom::core_dumps::marked_encoding), [`HasEncodableSize`](crate::definitions::base::encodings::HasEncodableSize). [How to read clauses](crate::definitions).
     pub fn module(&mut self, name: &str) -> Result<()> {
         self.add_record(&(0x00u8, name))
     }
@@ -171,10 +191,16 @@ impl<A: Allocator> CoreDumpModulesSection<A> {
     ///
     /// # Proved
     ///
+    /// After `Ok`: `same`. In any case: `memory`.
+    ///
     /// ```text
-    /// ensures same { IfOk result (λ s. (encoding_of s.name ≡ modules_name) × (items_of s.bytes ≡ entries_encoding [] true self.now)) }
+    /// ensures same { IfOk result
+    ///     (λ s. (encoding_of s.name ≡ modules_name)
+    ///         × (items_of s.bytes ≡ entries_encoding [] true self.now)) }
     /// ensures memory { result ≢ Err TooLong }
     /// ```
+    ///
+    /// Definitions: [`encoding_of`](crate::definitions::base::cow::encoding_of), [`modules_name`](crate::definitions::custom::core_dumps::modules_name), [`items_of`](crate::definitions::base::cow::items_of), [`entries_encoding`](crate::definitions::custom::entries::entries_encoding). [How to read clauses](crate::definitions).
     pub fn as_custom<B: Allocator>(&self, alloc: B) -> Result<CustomSection<'_, B>> {
         self.owned(alloc)
     }
@@ -206,6 +232,8 @@ pub struct InstanceItems;
 /// Item = { Instance }
 /// kind = { instance_items }
 /// ```
+///
+/// Definitions: [`Instance`](crate::definitions::custom::core_dumps::Instance), [`instance_items`](crate::definitions::custom::core_dumps::instance_items). [How to read clauses](crate::definitions).
 impl Kind for InstanceItems {
     fn laws() {}
 }
@@ -218,6 +246,8 @@ impl Kind for InstanceItems {
 /// front_format = { fixed [] (tt {0}) }
 /// counted = { true }
 /// ```
+///
+/// Definitions: [`instances_name`](crate::definitions::custom::core_dumps::instances_name), [`fixed`](crate::definitions::base::formats::fixed). [How to read clauses](crate::definitions).
 impl CustomKind for InstanceItems {
     fn name() -> &'static str {
         "coreinstances"
@@ -241,16 +271,26 @@ impl<A: Allocator> CoreDumpInstancesSection<A> {
     /// # Asks
     ///
     /// ```text
-    /// requires memories { HasKnownLength M.into_iter_gives M.IntoIter.can_next M.IntoIter.next_gives M.IntoIter.remaining memories }
-    /// requires globals { HasKnownLength G.into_iter_gives G.IntoIter.can_next G.IntoIter.next_gives G.IntoIter.remaining globals }
+    /// requires memories { HasKnownLength M.into_iter_gives M.IntoIter.can_next
+    ///     M.IntoIter.next_gives M.IntoIter.remaining memories }
+    /// requires globals { HasKnownLength G.into_iter_gives G.IntoIter.can_next
+    ///     G.IntoIter.next_gives G.IntoIter.remaining globals }
     /// ```
+    ///
+    /// Definitions: [`HasKnownLength`](crate::definitions::base::iterators::HasKnownLength). [How to read clauses](crate::definitions).
     ///
     /// # Proved
     ///
     /// ```text
-    /// ensures { AddsTwoLists M.into_iter_gives M.IntoIter.next_gives M.IntoIter.remaining memories G.into_iter_gives G.IntoIter.next_gives G.IntoIter.remaining globals (λ _. ⊤) (λ _. ⊤)
-    ///     (λ xs ys. (0x00 ∷ unsigned_encoding module_index) ++ (vec_encoding unsigned_encoding xs ++ vec_encoding unsigned_encoding ys)) self.old self.new result }
+    /// ensures { AddsTwoLists M.into_iter_gives M.IntoIter.next_gives M.IntoIter.remaining
+    ///     memories G.into_iter_gives G.IntoIter.next_gives G.IntoIter.remaining globals
+    ///     (λ _. ⊤) (λ _. ⊤)
+    ///     (λ xs ys. (0x00 ∷ unsigned_encoding module_index)
+    ///         ++ (vec_encoding unsigned_encoding xs ++ vec_encoding unsigned_encoding ys))
+    ///         self.old self.new result }
     /// ```
+    ///
+    /// Definitions: [`AddsTwoLists`](crate::definitions::custom::adding::AddsTwoLists), [`unsigned_encoding`](crate::definitions::base::numbers::unsigned_encoding), [`vec_encoding`](crate::definitions::base::encodings::vec_encoding). [How to read clauses](crate::definitions).
     pub fn instance<M: IntoIterator<Item = u32>, G: IntoIterator<Item = u32>>(
         &mut self,
         module_index: u32,
@@ -270,10 +310,16 @@ impl<A: Allocator> CoreDumpInstancesSection<A> {
     ///
     /// # Proved
     ///
+    /// After `Ok`: `same`. In any case: `memory`.
+    ///
     /// ```text
-    /// ensures same { IfOk result (λ s. (encoding_of s.name ≡ instances_name) × (items_of s.bytes ≡ entries_encoding [] true self.now)) }
+    /// ensures same { IfOk result
+    ///     (λ s. (encoding_of s.name ≡ instances_name)
+    ///         × (items_of s.bytes ≡ entries_encoding [] true self.now)) }
     /// ensures memory { result ≢ Err TooLong }
     /// ```
+    ///
+    /// Definitions: [`encoding_of`](crate::definitions::base::cow::encoding_of), [`instances_name`](crate::definitions::custom::core_dumps::instances_name), [`items_of`](crate::definitions::base::cow::items_of), [`entries_encoding`](crate::definitions::custom::entries::entries_encoding). [How to read clauses](crate::definitions).
     pub fn as_custom<B: Allocator>(&self, alloc: B) -> Result<CustomSection<'_, B>> {
         self.owned(alloc)
     }
@@ -287,10 +333,16 @@ impl<A: Allocator> CoreDumpInstancesSection<A> {
 ///
 /// # Proved
 ///
+/// After `Ok`: `found`. After an error: `none`.
+///
 /// ```text
 /// ensures found { IfOk result (λ x. core_payload (padded_of G.grammar) bytes.now x.now) }
-/// ensures none { IfErr result (λ e. e.cause ≢ Memory → RejectsWhole core_payload (padded_of G.grammar) bytes.now) }
+/// ensures none { IfErr result
+///     (λ e. e.cause ≢ Memory → RejectsWhole core_payload (padded_of G.grammar) bytes.now)
+///     }
 /// ```
+///
+/// Definitions: [`core_payload`](crate::definitions::custom::core_dumps::core_payload), [`padded_of`](crate::definitions::base::numbers::padded_of), [`RejectsWhole`](crate::definitions::base::continuing::RejectsWhole). [How to read clauses](crate::definitions).
 pub fn read_process<'a, A: Allocator + Copy, G: Grammar>(
     bytes: &'a [u8],
     alloc: A,
@@ -307,12 +359,16 @@ pub fn read_process<'a, A: Allocator + Copy, G: Grammar>(
 /// format = { marked_name }
 /// view = { λ name. name.now }
 /// ```
+///
+/// Definitions: [`marked_name`](crate::definitions::custom::core_dumps::marked_name). [How to read clauses](crate::definitions).
 impl<'a> ItemsAs<&'a str> for ModuleItems {
     /// # Proved
     ///
     /// ```text
     /// ensures { Unambiguous marked_name }
     /// ```
+    ///
+    /// Definitions: [`Unambiguous`](crate::definitions::base::decoding::Unambiguous), [`marked_name`](crate::definitions::custom::core_dumps::marked_name). [How to read clauses](crate::definitions).
     fn unique() {}
 
     fn append_item<B: Sink>(item: &&'a str, sink: &mut B) -> Result<()> {
@@ -335,10 +391,18 @@ impl<'a, A: Allocator + Copy, G: Grammar> DecodesItems<'a, &'a str, A, G> for Mo
 ///
 /// # Proved
 ///
+/// After `Ok`: `found`. After an error: `none`.
+///
 /// ```text
-/// ensures found { IfOk result (λ x. modules_payload (padded_of G.grammar) bytes.now (map (λ name. name.now) x.items)) }
-/// ensures none { IfErr result (λ e. e.cause ≢ Memory → RejectsWhole modules_payload (padded_of G.grammar) bytes.now) }
+/// ensures found { IfOk result
+///     (λ x. modules_payload (padded_of G.grammar) bytes.now
+///         (map (λ name. name.now) x.items)) }
+/// ensures none { IfErr result
+///     (λ e. e.cause ≢ Memory → RejectsWhole modules_payload
+///         (padded_of G.grammar) bytes.now) }
 /// ```
+///
+/// Definitions: [`modules_payload`](crate::definitions::custom::core_dumps::modules_payload), [`padded_of`](crate::definitions::base::numbers::padded_of), [`RejectsWhole`](crate::definitions::base::continuing::RejectsWhole). [How to read clauses](crate::definitions).
 pub fn read_modules<'a, A: Allocator + Copy, G: Grammar>(
     bytes: &'a [u8],
     alloc: A,
@@ -353,6 +417,8 @@ pub fn read_modules<'a, A: Allocator + Copy, G: Grammar>(
 /// format = { instance }
 /// view = { instance_view }
 /// ```
+///
+/// Definitions: [`Instance`](crate::definitions::custom::core_dumps::Instance), [`instance`](crate::definitions::custom::core_dumps::instance), [`instance_view`](crate::definitions::custom::core_dumps::instance_view). [How to read clauses](crate::definitions).
 impl<A: Allocator> ItemsAs<(u32, Vec<u32, A>, Vec<u32, A>)> for InstanceItems {
     fn unique() {}
 
@@ -393,10 +459,18 @@ impl<'a, A: Allocator + Copy, G: Grammar> DecodesItems<'a, (u32, Vec<u32, A>, Ve
 ///
 /// # Proved
 ///
+/// After `Ok`: `found`. After an error: `none`.
+///
 /// ```text
-/// ensures found { IfOk result (λ x. instances_payload (padded_of G.grammar) bytes.now (map instance_view x.items)) }
-/// ensures none { IfErr result (λ e. e.cause ≢ Memory → RejectsWhole instances_payload (padded_of G.grammar) bytes.now) }
+/// ensures found { IfOk result
+///     (λ x. instances_payload (padded_of G.grammar) bytes.now (map instance_view x.items))
+///     }
+/// ensures none { IfErr result
+///     (λ e. e.cause ≢ Memory → RejectsWhole instances_payload
+///         (padded_of G.grammar) bytes.now) }
 /// ```
+///
+/// Definitions: [`instances_payload`](crate::definitions::custom::core_dumps::instances_payload), [`padded_of`](crate::definitions::base::numbers::padded_of), [`instance_view`](crate::definitions::custom::core_dumps::instance_view), [`RejectsWhole`](crate::definitions::base::continuing::RejectsWhole). [How to read clauses](crate::definitions).
 pub fn read_instances<'a, A: Allocator + Copy, G: Grammar>(
     bytes: &'a [u8],
     alloc: A,
@@ -408,11 +482,16 @@ pub fn read_instances<'a, A: Allocator + Copy, G: Grammar>(
 ///
 /// # Proved
 ///
+/// After `Ok`: `ok`. In any case: `front`, `too_long`.
+///
 /// ```text
-/// ensures ok { OnOk result (AppendsMinimal marked_name name.now sink.old.items sink.new.items) }
+/// ensures ok { OnOk result
+///     (AppendsMinimal marked_name name.now sink.old.items sink.new.items) }
 /// ensures front { IsFrontOf sink.old.items sink.new.items }
 /// ensures too_long { HasEncoding marked_name name.now → result ≢ Err TooLong }
 /// ```
+///
+/// Definitions: [`AppendsMinimal`](crate::definitions::base::minimal::AppendsMinimal), [`marked_name`](crate::definitions::custom::core_dumps::marked_name), [`IsFrontOf`](crate::definitions::base::minimal::IsFrontOf), [`HasEncoding`](crate::definitions::base::minimal::HasEncoding). [How to read clauses](crate::definitions).
 pub(crate) fn append_marked<B: Sink>(name: &str, sink: &mut B) -> Result<()> {
     0x00u8.encode(sink)?;
     name.write_minimal(sink)
@@ -423,11 +502,16 @@ pub(crate) fn append_marked<B: Sink>(name: &str, sink: &mut B) -> Result<()> {
 ///
 /// # Proved
 ///
+/// After `Ok`: `ok`. In any case: `front`, `too_long`.
+///
 /// ```text
-/// ensures ok { OnOk result (AppendsMinimal core_payload name.now sink.old.items sink.new.items) }
+/// ensures ok { OnOk result
+///     (AppendsMinimal core_payload name.now sink.old.items sink.new.items) }
 /// ensures front { IsFrontOf sink.old.items sink.new.items }
 /// ensures too_long { HasEncoding core_payload name.now → result ≢ Err TooLong }
 /// ```
+///
+/// Definitions: [`AppendsMinimal`](crate::definitions::base::minimal::AppendsMinimal), [`core_payload`](crate::definitions::custom::core_dumps::core_payload), [`IsFrontOf`](crate::definitions::base::minimal::IsFrontOf), [`HasEncoding`](crate::definitions::base::minimal::HasEncoding). [How to read clauses](crate::definitions).
 fn write_process<B: Sink>(name: &str, sink: &mut B) -> Result<()> {
     "core".encode(sink)?;
     append_marked(name, sink)
@@ -438,11 +522,16 @@ fn write_process<B: Sink>(name: &str, sink: &mut B) -> Result<()> {
 ///
 /// # Proved
 ///
+/// After `Ok`: `ok`. After an error: `err`. In any case: `too_long`.
+///
 /// ```text
-/// ensures ok { OnOk result (AppendsMinimal core_payload name.now sink.old.items sink.new.items) }
+/// ensures ok { OnOk result
+///     (AppendsMinimal core_payload name.now sink.old.items sink.new.items) }
 /// ensures err { OnErr result (sink.new.items ≡ sink.old.items) }
 /// ensures too_long { HasEncoding core_payload name.now → result ≢ Err TooLong }
 /// ```
+///
+/// Definitions: [`AppendsMinimal`](crate::definitions::base::minimal::AppendsMinimal), [`core_payload`](crate::definitions::custom::core_dumps::core_payload), [`HasEncoding`](crate::definitions::base::minimal::HasEncoding). [How to read clauses](crate::definitions).
 pub fn append_process<B: Sink>(name: &str, sink: &mut B) -> Result<()> {
     let start = sink.len();
     let written = write_process(name, sink);
@@ -457,11 +546,18 @@ pub fn append_process<B: Sink>(name: &str, sink: &mut B) -> Result<()> {
 ///
 /// # Proved
 ///
+/// After `Ok`: `ok`. After an error: `err`. In any case: `too_long`.
+///
 /// ```text
-/// ensures ok { OnOk result (AppendsMinimal modules_payload (map (λ n. n.now) names.now) sink.old.items sink.new.items) }
+/// ensures ok { OnOk result
+///     (AppendsMinimal modules_payload
+///         (map (λ n. n.now) names.now) sink.old.items sink.new.items) }
 /// ensures err { OnErr result (sink.new.items ≡ sink.old.items) }
-/// ensures too_long { HasEncoding modules_payload (map (λ n. n.now) names.now) → result ≢ Err TooLong }
+/// ensures too_long { HasEncoding modules_payload (map (λ n. n.now) names.now)
+///     → result ≢ Err TooLong }
 /// ```
+///
+/// Definitions: [`AppendsMinimal`](crate::definitions::base::minimal::AppendsMinimal), [`modules_payload`](crate::definitions::custom::core_dumps::modules_payload), [`HasEncoding`](crate::definitions::base::minimal::HasEncoding). [How to read clauses](crate::definitions).
 pub fn append_modules<B: Sink>(names: &[&str], sink: &mut B) -> Result<()> {
     append_counted::<ModuleItems, &str, _>(names, sink)
 }
@@ -471,11 +567,18 @@ pub fn append_modules<B: Sink>(names: &[&str], sink: &mut B) -> Result<()> {
 ///
 /// # Proved
 ///
+/// After `Ok`: `ok`. After an error: `err`. In any case: `too_long`.
+///
 /// ```text
-/// ensures ok { OnOk result (AppendsMinimal instances_payload (map instance_view instances.now) sink.old.items sink.new.items) }
+/// ensures ok { OnOk result
+///     (AppendsMinimal instances_payload
+///         (map instance_view instances.now) sink.old.items sink.new.items) }
 /// ensures err { OnErr result (sink.new.items ≡ sink.old.items) }
-/// ensures too_long { HasEncoding instances_payload (map instance_view instances.now) → result ≢ Err TooLong }
+/// ensures too_long { HasEncoding instances_payload (map instance_view instances.now)
+///     → result ≢ Err TooLong }
 /// ```
+///
+/// Definitions: [`AppendsMinimal`](crate::definitions::base::minimal::AppendsMinimal), [`instances_payload`](crate::definitions::custom::core_dumps::instances_payload), [`instance_view`](crate::definitions::custom::core_dumps::instance_view), [`HasEncoding`](crate::definitions::base::minimal::HasEncoding). [How to read clauses](crate::definitions).
 pub fn append_instances<A: Allocator, B: Sink>(
     instances: &[(u32, Vec<u32, A>, Vec<u32, A>)],
     sink: &mut B,

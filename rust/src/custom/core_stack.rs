@@ -39,11 +39,15 @@ impl<A: Allocator + Copy> CoreDumpStackSection<A> {
     ///
     /// # Proved
     ///
+    /// After `Ok`: `is`, `was_encodable`. In any case: `too_long`.
+    ///
     /// ```text
     /// ensures is { IfOk result (λ s. s ≡ (marked_encoding thread_name.now, [])) }
     /// ensures was_encodable { IfOk result (λ _. HasEncodableSize thread_name.now) }
     /// ensures too_long { HasEncodableSize thread_name.now → result ≢ Err TooLong }
     /// ```
+    ///
+    /// Definitions: [`marked_encoding`](crate::definitions::custom::core_dumps::marked_encoding), [`HasEncodableSize`](crate::definitions::base::encodings::HasEncodableSize). [How to read clauses](crate::definitions).
     pub fn new(alloc: A, thread_name: &str) -> Result<Self> {
         let mut front = Vec::new(alloc);
         (0x00u8, thread_name).encode(&mut front)?;
@@ -57,10 +61,14 @@ impl<A: Allocator + Copy> CoreDumpStackSection<A> {
     ///
     /// # Proved
     ///
+    /// After `Ok`: `same`. In any case: `memory`.
+    ///
     /// ```text
     /// ensures same { IfOk result (λ s. s ≡ self.now) }
     /// ensures memory { result ≢ Err TooLong }
     /// ```
+    ///
+    /// [How to read clauses](crate::definitions).
     pub fn clone(&self) -> Result<Self> {
         Ok(CoreDumpStackSection {
             front: Vec::from_slice(*self.front.allocator(), &self.front)?,
@@ -77,17 +85,28 @@ impl<A: Allocator> CoreDumpStackSection<A> {
     /// # Asks
     ///
     /// ```text
-    /// requires locals { HasKnownLength L.into_iter_gives L.IntoIter.can_next L.IntoIter.next_gives L.IntoIter.remaining locals }
-    /// requires stack { HasKnownLength S.into_iter_gives S.IntoIter.can_next S.IntoIter.next_gives S.IntoIter.remaining stack }
+    /// requires locals { HasKnownLength L.into_iter_gives L.IntoIter.can_next
+    ///     L.IntoIter.next_gives L.IntoIter.remaining locals }
+    /// requires stack { HasKnownLength S.into_iter_gives S.IntoIter.can_next
+    ///     S.IntoIter.next_gives S.IntoIter.remaining stack }
     /// ```
+    ///
+    /// Definitions: [`HasKnownLength`](crate::definitions::base::iterators::HasKnownLength). [How to read clauses](crate::definitions).
     ///
     /// # Proved
     ///
     /// ```text
-    /// ensures adds { AddsTwoLists L.into_iter_gives L.IntoIter.next_gives L.IntoIter.remaining locals S.into_iter_gives S.IntoIter.next_gives S.IntoIter.remaining stack (λ _. ⊤) (λ _. ⊤)
-    ///     (λ xs ys. (0x00 ∷ (unsigned_encoding instanceidx ++ (unsigned_encoding funcidx ++ unsigned_encoding codeoffset))) ++ (vec_encoding value_encoding xs ++ vec_encoding value_encoding ys)) self.old.1 self.new.1 result }
+    /// ensures adds { AddsTwoLists L.into_iter_gives L.IntoIter.next_gives L.IntoIter.remaining
+    ///     locals S.into_iter_gives S.IntoIter.next_gives S.IntoIter.remaining stack (λ _. ⊤)
+    ///     (λ _. ⊤)
+    ///     (λ xs ys. (0x00 ∷ (unsigned_encoding instanceidx
+    ///                 ++ (unsigned_encoding funcidx ++ unsigned_encoding codeoffset)))
+    ///         ++ (vec_encoding value_encoding xs ++ vec_encoding value_encoding ys))
+    ///         self.old.1 self.new.1 result }
     /// ensures same_thread { self.new.0 ≡ self.old.0 }
     /// ```
+    ///
+    /// Definitions: [`AddsTwoLists`](crate::definitions::custom::adding::AddsTwoLists), [`unsigned_encoding`](crate::definitions::base::numbers::unsigned_encoding), [`vec_encoding`](crate::definitions::base::encodings::vec_encoding), [`value_encoding`](crate::definitions::custom::core_values::value_encoding). [How to read clauses](crate::definitions).
     pub fn frame<
         L: IntoIterator<Item = CoreDumpValue>,
         S: IntoIterator<Item = CoreDumpValue>,
@@ -106,10 +125,16 @@ impl<A: Allocator> CoreDumpStackSection<A> {
     ///
     /// # Proved
     ///
+    /// After `Ok`: `same`. In any case: `memory`.
+    ///
     /// ```text
-    /// ensures same { IfOk result (λ s. (encoding_of s.name ≡ stack_name) × (items_of s.bytes ≡ entries_encoding self.now.0 true self.now.1)) }
+    /// ensures same { IfOk result
+    ///     (λ s. (encoding_of s.name ≡ stack_name)
+    ///         × (items_of s.bytes ≡ entries_encoding self.now.0 true self.now.1)) }
     /// ensures memory { result ≢ Err TooLong }
     /// ```
+    ///
+    /// Definitions: [`encoding_of`](crate::definitions::base::cow::encoding_of), [`stack_name`](crate::definitions::custom::core_stacks::stack_name), [`items_of`](crate::definitions::base::cow::items_of), [`entries_encoding`](crate::definitions::custom::entries::entries_encoding). [How to read clauses](crate::definitions).
     pub fn as_custom<B: Allocator>(&self, alloc: B) -> Result<CustomSection<'_, B>> {
         let data = data_of(alloc, &self.front, true, &self.frames)?;
         Ok(CustomSection {
@@ -127,8 +152,11 @@ impl<A: Allocator> CoreDumpStackSection<A> {
 /// ```text
 /// encoding = { λ s. named_encoding stack_name (entries_encoding s.0 true s.1) }
 /// encodable = { λ s. IsEncodableNamed stack_name (entries_encoding s.0 true s.1) }
-/// decoding = { λ s. DecodesBack stack_section (SaysStack s.0 s.1) (named_encoding stack_name (entries_encoding s.0 true s.1)) }
+/// decoding = { λ s. DecodesBack stack_section (SaysStack s.0 s.1)
+///     (named_encoding stack_name (entries_encoding s.0 true s.1)) }
 /// ```
+///
+/// Definitions: [`named_encoding`](crate::definitions::custom::customs::named_encoding), [`stack_name`](crate::definitions::custom::core_stacks::stack_name), [`entries_encoding`](crate::definitions::custom::entries::entries_encoding), [`IsEncodableNamed`](crate::definitions::custom::customs::IsEncodableNamed), [`DecodesBack`](crate::definitions::base::calls::DecodesBack), [`stack_section`](crate::definitions::custom::core_stacks::stack_section), [`SaysStack`](crate::definitions::custom::core_stacks::SaysStack). [How to read clauses](crate::definitions).
 impl<A: Allocator> Encode for CoreDumpStackSection<A> {
     fn encode<B: Sink>(&self, sink: &mut B) -> Result<()> {
         encode_entries(sink, "corestack", &self.front, true, &self.frames)
@@ -143,9 +171,12 @@ impl<A: Allocator> Encode for CoreDumpStackSection<A> {
 /// format = { stack_section }
 /// says = { λ s. SaysStack s.0 s.1 }
 /// payload = { λ s. NamedPayload stack_name (entries_encoding s.0 true s.1) }
-/// sized = { λ s bytes encodable pays. named_sized stack_name (entries_encoding s.0 true s.1) bytes encodable pays }
+/// sized = { λ s bytes encodable pays. named_sized stack_name
+///     (entries_encoding s.0 true s.1) bytes encodable pays }
 /// decodes_back = { λ s promised. promised }
 /// ```
+///
+/// Definitions: [`number_of`](crate::definitions::base::section_id::number_of), [`StackFrame`](crate::definitions::custom::core_stacks::StackFrame), [`stack_section`](crate::definitions::custom::core_stacks::stack_section), [`SaysStack`](crate::definitions::custom::core_stacks::SaysStack), [`NamedPayload`](crate::definitions::custom::customs::NamedPayload), [`stack_name`](crate::definitions::custom::core_stacks::stack_name), [`entries_encoding`](crate::definitions::custom::entries::entries_encoding), [`named_sized`](crate::definitions::custom::customs::named_sized). [How to read clauses](crate::definitions).
 impl<A: Allocator> Section for CoreDumpStackSection<A> {
     fn id(&self) -> u8 {
         SectionId::Custom.into()
@@ -170,6 +201,8 @@ pub struct CoreFrame<A: Allocator = Global> {
 /// format = { stack_frame }
 /// view = { stack_frame_view }
 /// ```
+///
+/// Definitions: [`StackFrame`](crate::definitions::custom::core_stacks::StackFrame), [`stack_frame`](crate::definitions::custom::core_stacks::stack_frame), [`stack_frame_view`](crate::definitions::custom::core_stacks::stack_frame_view). [How to read clauses](crate::definitions).
 impl<A: Allocator> Layout for CoreFrame<A> {
     fn laws() {}
 }
@@ -204,10 +237,18 @@ impl<'a, A: Allocator + Copy, G: Grammar> Readable<'a, A, G> for CoreFrame<A> {
 ///
 /// # Proved
 ///
+/// After `Ok`: `found`. After an error: `none`.
+///
 /// ```text
-/// ensures found { IfOk result (λ x. stack_payload (padded_of G.grammar) bytes.now (x.0.now, map stack_frame_view x.1.items)) }
-/// ensures none { IfErr result (λ e. e.cause ≢ Memory → RejectsWhole stack_payload (padded_of G.grammar) bytes.now) }
+/// ensures found { IfOk result
+///     (λ x. stack_payload (padded_of G.grammar) bytes.now
+///         (x.0.now, map stack_frame_view x.1.items)) }
+/// ensures none { IfErr result
+///     (λ e. e.cause ≢ Memory → RejectsWhole stack_payload (padded_of G.grammar) bytes.now)
+///     }
 /// ```
+///
+/// Definitions: [`stack_payload`](crate::definitions::custom::core_stacks::stack_payload), [`padded_of`](crate::definitions::base::numbers::padded_of), [`stack_frame_view`](crate::definitions::custom::core_stacks::stack_frame_view), [`RejectsWhole`](crate::definitions::base::continuing::RejectsWhole). [How to read clauses](crate::definitions).
 pub fn read_stack<'a, A: Allocator + Copy, G: Grammar>(
     bytes: &'a [u8],
     alloc: A,
@@ -234,11 +275,19 @@ impl<A: Allocator> Shorten for CoreFrame<A> {
 ///
 /// # Proved
 ///
+/// After `Ok`: `ok`. In any case: `front`, `too_long`.
+///
 /// ```text
-/// ensures ok { OnOk result (AppendsMinimal stack_payload (thread.now, map stack_frame_view frames.now.items) sink.old.items sink.new.items) }
+/// ensures ok { OnOk result
+///     (AppendsMinimal stack_payload
+///         (thread.now, map stack_frame_view frames.now.items) sink.old.items
+///         sink.new.items) }
 /// ensures front { IsFrontOf sink.old.items sink.new.items }
-/// ensures too_long { HasEncoding stack_payload (thread.now, map stack_frame_view frames.now.items) → result ≢ Err TooLong }
+/// ensures too_long { HasEncoding stack_payload
+///     (thread.now, map stack_frame_view frames.now.items) → result ≢ Err TooLong }
 /// ```
+///
+/// Definitions: [`AppendsMinimal`](crate::definitions::base::minimal::AppendsMinimal), [`stack_payload`](crate::definitions::custom::core_stacks::stack_payload), [`stack_frame_view`](crate::definitions::custom::core_stacks::stack_frame_view), [`IsFrontOf`](crate::definitions::base::minimal::IsFrontOf), [`HasEncoding`](crate::definitions::base::minimal::HasEncoding). [How to read clauses](crate::definitions).
 fn write_stack<A: Allocator, B: Sink>(
     thread: &str,
     frames: &Vec<CoreFrame<A>, A>,
@@ -254,11 +303,19 @@ fn write_stack<A: Allocator, B: Sink>(
 ///
 /// # Proved
 ///
+/// After `Ok`: `ok`. After an error: `err`. In any case: `too_long`.
+///
 /// ```text
-/// ensures ok { OnOk result (AppendsMinimal stack_payload (thread.now, map stack_frame_view frames.now.items) sink.old.items sink.new.items) }
+/// ensures ok { OnOk result
+///     (AppendsMinimal stack_payload
+///         (thread.now, map stack_frame_view frames.now.items) sink.old.items
+///         sink.new.items) }
 /// ensures err { OnErr result (sink.new.items ≡ sink.old.items) }
-/// ensures too_long { HasEncoding stack_payload (thread.now, map stack_frame_view frames.now.items) → result ≢ Err TooLong }
+/// ensures too_long { HasEncoding stack_payload
+///     (thread.now, map stack_frame_view frames.now.items) → result ≢ Err TooLong }
 /// ```
+///
+/// Definitions: [`AppendsMinimal`](crate::definitions::base::minimal::AppendsMinimal), [`stack_payload`](crate::definitions::custom::core_stacks::stack_payload), [`stack_frame_view`](crate::definitions::custom::core_stacks::stack_frame_view), [`HasEncoding`](crate::definitions::base::minimal::HasEncoding). [How to read clauses](crate::definitions).
 pub fn append_stack<A: Allocator, B: Sink>(
     thread: &str,
     frames: &Vec<CoreFrame<A>, A>,

@@ -24,6 +24,8 @@ pub enum CoreDumpValue {
 /// encoding = { value_encoding }
 /// encodable = { λ _. ⊤ }
 /// ```
+///
+/// Definitions: [`value_encoding`](crate::definitions::custom::core_values::value_encoding). [How to read clauses](crate::definitions).
 impl Encode for CoreDumpValue {
     fn encode<A: Sink>(&self, sink: &mut A) -> Result<()> {
         match *self {
@@ -43,6 +45,8 @@ impl Encode for CoreDumpValue {
 /// format = { value_format }
 /// view = { λ value. value }
 /// ```
+///
+/// Definitions: [`value_format`](crate::definitions::custom::core_values::value). [How to read clauses](crate::definitions).
 impl Layout for CoreDumpValue {
     fn laws() {}
 }

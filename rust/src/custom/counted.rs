@@ -16,6 +16,8 @@ use crate::base::{DecodeError, Encode, Grammar, ReadFault, Readable, Result};
 /// format: { Mode → List ℕ → Said → Type 0 }
 /// view: { T → Said }
 /// ```
+///
+/// Definitions: [`Mode`](crate::definitions::base::numbers::Mode). [How to read clauses](crate::definitions).
 pub(crate) trait ItemsAs<T>: CustomKind {
     // The item, without its location in memory.
 
@@ -29,6 +31,8 @@ pub(crate) trait ItemsAs<T>: CustomKind {
     /// ```text
     /// ensures { Unambiguous format }
     /// ```
+    ///
+    /// Definitions: [`Unambiguous`](crate::definitions::base::decoding::Unambiguous). [How to read clauses](crate::definitions).
     fn unique();
 
     /// Appends the minimal encoding of the item, if any bytes decode to it. After an error, part of
@@ -36,11 +40,16 @@ pub(crate) trait ItemsAs<T>: CustomKind {
     ///
     /// # Proved
     ///
+    /// After `Ok`: `ok`. In any case: `front`, `too_long`.
+    ///
     /// ```text
-    /// ensures ok { OnOk result (AppendsMinimal format (view item.now) sink.old.items sink.new.items) }
+    /// ensures ok { OnOk result
+    ///     (AppendsMinimal format (view item.now) sink.old.items sink.new.items) }
     /// ensures front { IsFrontOf sink.old.items sink.new.items }
     /// ensures too_long { HasEncoding format (view item.now) → result ≢ Err TooLong }
     /// ```
+    ///
+    /// Definitions: [`AppendsMinimal`](crate::definitions::base::minimal::AppendsMinimal), [`IsFrontOf`](crate::definitions::base::minimal::IsFrontOf), [`HasEncoding`](crate::definitions::base::minimal::HasEncoding). [How to read clauses](crate::definitions).
     fn append_item<B: Sink>(item: &T, sink: &mut B) -> Result<()>;
 }
 
@@ -50,10 +59,16 @@ pub(crate) trait DecodesItems<'a, T, A: Allocator + Copy, G: Grammar>: ItemsAs<T
     ///
     /// # Proved
     ///
+    /// After `Ok`: `found`. After an error: `none`.
+    ///
     /// ```text
-    /// ensures found { IfOk result (λ x. Decodes Self.format (padded_of G.grammar) bytes.now (Self.view x.0) x.1.now) }
-    /// ensures none { IfErr result (λ e. e.cause ≢ Memory → Rejects Self.format (padded_of G.grammar) bytes.now) }
+    /// ensures found { IfOk result
+    ///     (λ x. Decodes Self.format (padded_of G.grammar) bytes.now (Self.view x.0) x.1.now) }
+    /// ensures none { IfErr result
+    ///     (λ e. e.cause ≢ Memory → Rejects Self.format (padded_of G.grammar) bytes.now) }
     /// ```
+    ///
+    /// Definitions: [`Decodes`](crate::definitions::base::decoding::Decodes), [`padded_of`](crate::definitions::base::numbers::padded_of), [`Rejects`](crate::definitions::base::decoding::Rejects). [How to read clauses](crate::definitions).
     fn read_item(bytes: &'a [u8], alloc: A) -> Result<(T, &'a [u8]), DecodeError>;
 }
 
@@ -62,10 +77,17 @@ pub(crate) trait DecodesItems<'a, T, A: Allocator + Copy, G: Grammar>: ItemsAs<T
 ///
 /// # Proved
 ///
+/// After `Ok`: `found`. After an error: `none`.
+///
 /// ```text
-/// ensures found { IfOk result (λ x. Decodes (vec K.format) (padded_of G.grammar) bytes.now (map K.view x.0.items) x.1.now) }
-/// ensures none { IfErr result (λ e. e.cause ≢ Memory → Rejects (vec K.format) (padded_of G.grammar) bytes.now) }
+/// ensures found { IfOk result
+///     (λ x. Decodes (vec K.format) (padded_of G.grammar) bytes.now
+///         (map K.view x.0.items) x.1.now) }
+/// ensures none { IfErr result
+///     (λ e. e.cause ≢ Memory → Rejects (vec K.format) (padded_of G.grammar) bytes.now) }
 /// ```
+///
+/// Definitions: [`Decodes`](crate::definitions::base::decoding::Decodes), [`vec`](crate::definitions::base::formats::vec), [`padded_of`](crate::definitions::base::numbers::padded_of), [`Rejects`](crate::definitions::base::decoding::Rejects). [How to read clauses](crate::definitions).
 fn read_items<'a, K: DecodesItems<'a, T, A, G>, T, A: Allocator + Copy, G: Grammar>(
     bytes: &'a [u8],
     alloc: A,
@@ -85,10 +107,18 @@ fn read_items<'a, K: DecodesItems<'a, T, A, G>, T, A: Allocator + Copy, G: Gramm
 ///
 /// # Proved
 ///
+/// After `Ok`: `found`. After an error: `none`.
+///
 /// ```text
-/// ensures found { IfOk result (λ x. counted_payload K.name K.format (padded_of G.grammar) bytes.now (map K.view x.items)) }
-/// ensures none { IfErr result (λ e. e.cause ≢ Memory → RejectsWhole (counted_payload K.name K.format) (padded_of G.grammar) bytes.now) }
+/// ensures found { IfOk result
+///     (λ x. counted_payload K.name K.format (padded_of G.grammar) bytes.now
+///         (map K.view x.items)) }
+/// ensures none { IfErr result
+///     (λ e. e.cause ≢ Memory → RejectsWhole (counted_payload K.name K.format)
+///         (padded_of G.grammar) bytes.now) }
 /// ```
+///
+/// Definitions: [`counted_payload`](crate::definitions::custom::entries::counted_payload), [`padded_of`](crate::definitions::base::numbers::padded_of), [`RejectsWhole`](crate::definitions::base::continuing::RejectsWhole). [How to read clauses](crate::definitions).
 pub(crate) fn read_counted<
     'a,
     K: DecodesItems<'a, T, A, G>,
@@ -110,11 +140,18 @@ pub(crate) fn read_counted<
 ///
 /// # Proved
 ///
+/// After `Ok`: `ok`. In any case: `front`, `too_long`.
+///
 /// ```text
-/// ensures ok { OnOk result (AppendsMinimal (vec K.format) (map K.view items.now) sink.old.items sink.new.items) }
+/// ensures ok { OnOk result
+///     (AppendsMinimal (vec K.format) (map K.view items.now) sink.old.items sink.new.items)
+///     }
 /// ensures front { IsFrontOf sink.old.items sink.new.items }
-/// ensures too_long { HasEncoding (vec K.format) (map K.view items.now) → result ≢ Err TooLong }
+/// ensures too_long { HasEncoding (vec K.format) (map K.view items.now)
+///     → result ≢ Err TooLong }
 /// ```
+///
+/// Definitions: [`AppendsMinimal`](crate::definitions::base::minimal::AppendsMinimal), [`vec`](crate::definitions::base::formats::vec), [`IsFrontOf`](crate::definitions::base::minimal::IsFrontOf), [`HasEncoding`](crate::definitions::base::minimal::HasEncoding). [How to read clauses](crate::definitions).
 fn append_items<K: ItemsAs<T>, T, B: Sink>(items: &[T], sink: &mut B) -> Result<()> {
     items.len().encode(sink)?;
     for item in items {
@@ -128,11 +165,18 @@ fn append_items<K: ItemsAs<T>, T, B: Sink>(items: &[T], sink: &mut B) -> Result<
 ///
 /// # Proved
 ///
+/// After `Ok`: `ok`. In any case: `front`, `too_long`.
+///
 /// ```text
-/// ensures ok { OnOk result (AppendsMinimal (counted_payload K.name K.format) (map K.view items.now) sink.old.items sink.new.items) }
+/// ensures ok { OnOk result
+///     (AppendsMinimal (counted_payload K.name K.format)
+///         (map K.view items.now) sink.old.items sink.new.items) }
 /// ensures front { IsFrontOf sink.old.items sink.new.items }
-/// ensures too_long { HasEncoding (counted_payload K.name K.format) (map K.view items.now) → result ≢ Err TooLong }
+/// ensures too_long { HasEncoding (counted_payload K.name K.format) (map K.view items.now)
+///     → result ≢ Err TooLong }
 /// ```
+///
+/// Definitions: [`AppendsMinimal`](crate::definitions::base::minimal::AppendsMinimal), [`counted_payload`](crate::definitions::custom::entries::counted_payload), [`IsFrontOf`](crate::definitions::base::minimal::IsFrontOf), [`HasEncoding`](crate::definitions::base::minimal::HasEncoding). [How to read clauses](crate::definitions).
 fn write_counted<K: ItemsAs<T>, T, B: Sink>(items: &[T], sink: &mut B) -> Result<()> {
     K::name().encode(sink)?;
     append_items::<K, T, _>(items, sink)
@@ -143,11 +187,18 @@ fn write_counted<K: ItemsAs<T>, T, B: Sink>(items: &[T], sink: &mut B) -> Result
 ///
 /// # Proved
 ///
+/// After `Ok`: `ok`. After an error: `err`. In any case: `too_long`.
+///
 /// ```text
-/// ensures ok { OnOk result (AppendsMinimal (counted_payload K.name K.format) (map K.view items.now) sink.old.items sink.new.items) }
+/// ensures ok { OnOk result
+///     (AppendsMinimal (counted_payload K.name K.format)
+///         (map K.view items.now) sink.old.items sink.new.items) }
 /// ensures err { OnErr result (sink.new.items ≡ sink.old.items) }
-/// ensures too_long { HasEncoding (counted_payload K.name K.format) (map K.view items.now) → result ≢ Err TooLong }
+/// ensures too_long { HasEncoding (counted_payload K.name K.format) (map K.view items.now)
+///     → result ≢ Err TooLong }
 /// ```
+///
+/// Definitions: [`AppendsMinimal`](crate::definitions::base::minimal::AppendsMinimal), [`counted_payload`](crate::definitions::custom::entries::counted_payload), [`HasEncoding`](crate::definitions::base::minimal::HasEncoding). [How to read clauses](crate::definitions).
 pub(crate) fn append_counted<K: ItemsAs<T>, T, B: Sink>(
     items: &[T],
     sink: &mut B,

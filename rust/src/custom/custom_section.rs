@@ -10,18 +10,30 @@ use crate::base::{CowSlice, CowStr, Encode, Refused, Result, Section, SectionId,
 ///
 /// # Proved
 ///
+/// After `Ok`: `ok`, `reserved`, `was_encodable`. After an error: `err`. In any case: `too_long`, `too_many`, `spare`, `capacity`.
+///
 /// ```text
-/// ensures ok { OnOk result (sink.new.items ≡ sink.old.items ++ (unsigned_encoding (length (size_prefixed_encoding name.now) + size) ++ size_prefixed_encoding name.now)) }
+/// ensures ok { OnOk result
+///     (sink.new.items ≡ sink.old.items
+///         ++ (unsigned_encoding (length (size_prefixed_encoding name.now) + size)
+///             ++ size_prefixed_encoding name.now)) }
 /// ensures reserved { OnOk result (vec_len sink.new + size ≤ vec_capacity sink.new) }
 /// ensures err { OnErr result (sink.new.items ≡ sink.old.items) }
-/// ensures was_encodable { OnOk result (length (size_prefixed_encoding name.now) + size ≤ longest) }
-/// ensures too_long { length (size_prefixed_encoding name.now) + size ≤ longest → result ≢ Err Refused.TooLong }
-/// ensures too_many { longest < length (size_prefixed_encoding name.now) + size → result ≡ Err Refused.TooLong }
+/// ensures was_encodable { OnOk result
+///     (length (size_prefixed_encoding name.now) + size ≤ longest) }
+/// ensures too_long { length (size_prefixed_encoding name.now) + size ≤ longest
+///     → result ≢ Err Refused.TooLong }
+/// ensures too_many { longest < length (size_prefixed_encoding name.now) + size
+///     → result ≡ Err Refused.TooLong }
 /// ensures spare { length (size_prefixed_encoding name.now) + size ≤ longest
-///     → vec_len sink.old + (length (unsigned_encoding (length (size_prefixed_encoding name.now) + size)) + (length (size_prefixed_encoding name.now) + size)) ≤ vec_capacity sink.old
+///     → vec_len sink.old + (length
+///         (unsigned_encoding (length (size_prefixed_encoding name.now) + size))
+///         + (length (size_prefixed_encoding name.now) + size)) ≤ vec_capacity sink.old
 ///     → IsOk result }
 /// ensures capacity { vec_capacity sink.old ≤ vec_capacity sink.new }
 /// ```
+///
+/// Definitions: [`unsigned_encoding`](crate::definitions::base::numbers::unsigned_encoding), [`size_prefixed_encoding`](crate::definitions::base::encodings::size_prefixed_encoding), [`longest`](crate::definitions::base::encodings::longest). [How to read clauses](crate::definitions).
 pub(crate) fn begin_custom<A: Sink>(
     sink: &mut A,
     name: &str,
@@ -67,10 +79,16 @@ impl<'a, A: Allocator + Copy> CustomSection<'a, A> {
     ///
     /// # Proved
     ///
+    /// After `Ok`: `same`. In any case: `memory`.
+    ///
     /// ```text
-    /// ensures same { IfOk result (λ s. (encoding_of s.name ≡ encoding_of self.now.name) × (items_of s.bytes ≡ items_of self.now.bytes)) }
+    /// ensures same { IfOk result
+    ///     (λ s. (encoding_of s.name ≡ encoding_of self.now.name)
+    ///         × (items_of s.bytes ≡ items_of self.now.bytes)) }
     /// ensures memory { result ≢ Err Refused.TooLong }
     /// ```
+    ///
+    /// Definitions: [`encoding_of`](crate::definitions::base::cow::encoding_of), [`items_of`](crate::definitions::base::cow::items_of). [How to read clauses](crate::definitions).
     pub fn clone(&self) -> Result<Self> {
         Ok(CustomSection {
             name: self.name.clone()?,
@@ -87,6 +105,8 @@ impl<'a, A: Allocator + Copy> CustomSection<'a, A> {
 /// eq = { same_section }
 /// laws = { Prim.search (comparing, rules) }
 /// ```
+///
+/// Definitions: [`same_section`](crate::definitions::custom::customs::same_section). [How to read clauses](crate::definitions).
 impl<A: Allocator> PartialEq for CustomSection<'_, A> {
     fn eq(&self, other: &Self) -> bool {
         self.name.as_str().as_bytes() == other.name.as_str().as_bytes()
@@ -99,6 +119,8 @@ impl<A: Allocator> PartialEq for CustomSection<'_, A> {
 /// ```text
 /// laws = { Prim.search (comparing, rules) }
 /// ```
+///
+/// [How to read clauses](crate::definitions).
 impl<A: Allocator> Eq for CustomSection<'_, A> {}
 
 /// Encodes the size prefix, the name and the data.
@@ -108,9 +130,15 @@ impl<A: Allocator> Eq for CustomSection<'_, A> {}
 /// ```text
 /// encoding = { λ s. named_encoding (encoding_of s.name) (items_of s.bytes) }
 /// encodable = { λ s. IsEncodableNamed (encoding_of s.name) (items_of s.bytes) }
-/// overlong = { λ s. longest < length (size_prefixed_encoding (encoding_of s.name)) + length (items_of s.bytes) }
-/// decoding = { λ s. DecodesBack custom (λ said. IsUtf8 (encoding_of s.name) × (said ≡ (encoding_of s.name, items_of s.bytes))) (named_encoding (encoding_of s.name) (items_of s.bytes)) }
+/// overlong = { λ s. longest
+///     < length (size_prefixed_encoding (encoding_of s.name)) + length (items_of s.bytes) }
+/// decoding = { λ s. DecodesBack custom
+///     (λ said. IsUtf8 (encoding_of s.name)
+///         × (said ≡ (encoding_of s.name, items_of s.bytes)))
+///     (named_encoding (encoding_of s.name) (items_of s.bytes)) }
 /// ```
+///
+/// Definitions: [`named_encoding`](crate::definitions::custom::customs::named_encoding), [`encoding_of`](crate::definitions::base::cow::encoding_of), [`items_of`](crate::definitions::base::cow::items_of), [`IsEncodableNamed`](crate::definitions::custom::customs::IsEncodableNamed), [`longest`](crate::definitions::base::encodings::longest), [`size_prefixed_encoding`](crate::definitions::base::encodings::size_prefixed_encoding), [`DecodesBack`](crate::definitions::base::calls::DecodesBack), [`custom`](crate::definitions::base::formats::custom). [How to read clauses](crate::definitions).
 impl<A: Allocator> Encode for CustomSection<'_, A> {
     fn encode<B: Sink>(&self, sink: &mut B) -> Result<()> {
         let bytes = self.bytes.as_slice();
@@ -126,11 +154,15 @@ impl<A: Allocator> Encode for CustomSection<'_, A> {
 /// id_of = { λ _. number_of ids.Custom }
 /// Items = { List ℕ × List ℕ }
 /// format = { custom }
-/// says = { λ s said. IsUtf8 (encoding_of s.name) × (said ≡ (encoding_of s.name, items_of s.bytes)) }
+/// says = { λ s said. IsUtf8 (encoding_of s.name)
+///     × (said ≡ (encoding_of s.name, items_of s.bytes)) }
 /// payload = { λ s. NamedPayload (encoding_of s.name) (items_of s.bytes) }
-/// sized = { λ s bytes encodable pays. named_sized (encoding_of s.name) (items_of s.bytes) bytes encodable pays }
+/// sized = { λ s bytes encodable pays. named_sized (encoding_of s.name)
+///     (items_of s.bytes) bytes encodable pays }
 /// decodes_back = { λ s promised. promised }
 /// ```
+///
+/// Definitions: [`number_of`](crate::definitions::base::section_id::number_of), [`custom`](crate::definitions::base::formats::custom), [`encoding_of`](crate::definitions::base::cow::encoding_of), [`items_of`](crate::definitions::base::cow::items_of), [`NamedPayload`](crate::definitions::custom::customs::NamedPayload), [`named_sized`](crate::definitions::custom::customs::named_sized). [How to read clauses](crate::definitions).
 impl<A: Allocator> Section for CustomSection<'_, A> {
     fn id(&self) -> u8 {
         SectionId::Custom.into()

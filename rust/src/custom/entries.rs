@@ -21,6 +21,8 @@ use crate::base::{CowSlice, CowStr, Encode, EncodeOnce, Kind, Pieces, Result, Se
 /// // Whether the number of entries precedes them.
 /// counted: { Bool }
 /// ```
+///
+/// Definitions: [`Mode`](crate::definitions::base::numbers::Mode). [How to read clauses](crate::definitions).
 pub trait CustomKind: Kind {
     /// Returns the name of the section.
     ///
@@ -29,6 +31,8 @@ pub trait CustomKind: Kind {
     /// ```text
     /// ensures { result.now ≡ name }
     /// ```
+    ///
+    /// [How to read clauses](crate::definitions).
     fn name() -> &'static str;
 
     /// Returns the bytes before the entries.
@@ -38,6 +42,8 @@ pub trait CustomKind: Kind {
     /// ```text
     /// ensures { result.now ≡ front }
     /// ```
+    ///
+    /// [How to read clauses](crate::definitions).
     fn front() -> &'static [u8];
 
     /// Returns `true` if the number of entries precedes them.
@@ -47,6 +53,8 @@ pub trait CustomKind: Kind {
     /// ```text
     /// ensures { result ≡ counted }
     /// ```
+    ///
+    /// [How to read clauses](crate::definitions).
     fn counted() -> bool;
 
     /// Proves three laws: the name is UTF-8, the bytes before the entries encode a value of an
@@ -57,6 +65,8 @@ pub trait CustomKind: Kind {
     /// ```text
     /// ensures { CustomLayoutLaws Self.kind.format name front front_format counted }
     /// ```
+    ///
+    /// Definitions: [`CustomLayoutLaws`](crate::definitions::custom::entries::CustomLayoutLaws). [How to read clauses](crate::definitions).
     fn layout_laws();
 }
 
@@ -80,6 +90,8 @@ impl<K, A: Allocator> CustomEntries<K, A> {
     /// ```text
     /// ensures { result ≡ length self.now }
     /// ```
+    ///
+    /// [How to read clauses](crate::definitions).
     pub fn len(&self) -> u32 {
         self.pieces.len()
     }
@@ -91,6 +103,8 @@ impl<K, A: Allocator> CustomEntries<K, A> {
     /// ```text
     /// ensures { IsTrue result ↔ (length self.now ≡ 0) }
     /// ```
+    ///
+    /// [How to read clauses](crate::definitions).
     pub fn is_empty(&self) -> bool {
         self.pieces.is_empty()
     }
@@ -102,6 +116,8 @@ impl<K, A: Allocator> CustomEntries<K, A> {
     /// ```text
     /// ensures { Adds (T.encoding given.now) (T.encodable given.now) self.old self.new result }
     /// ```
+    ///
+    /// Definitions: [`Adds`](crate::definitions::base::calls::Adds). [How to read clauses](crate::definitions).
     pub(crate) fn add_record<T: Encode>(&mut self, given: &T) -> Result<()> {
         self.pieces.add_encoded(given)
     }
@@ -114,11 +130,15 @@ impl<K, A: Allocator> CustomEntries<K, A> {
     /// requires { T.lawful item }
     /// ```
     ///
+    /// [How to read clauses](crate::definitions).
+    ///
     /// # Proved
     ///
     /// ```text
     /// ensures { AddsOnce (T.gives item) (T.encodable item) self.old self.new result }
     /// ```
+    ///
+    /// Definitions: [`AddsOnce`](crate::definitions::base::once::AddsOnce). [How to read clauses](crate::definitions).
     pub(crate) fn add_once<T: EncodeOnce>(&mut self, item: T) -> Result<()> {
         self.pieces.add_once(item)
     }
@@ -130,6 +150,8 @@ impl<K, A: Allocator> CustomEntries<K, A> {
     /// ```text
     /// ensures { result.now ≡ joined self.now }
     /// ```
+    ///
+    /// Definitions: [`joined`](crate::definitions::base::pieces::joined). [How to read clauses](crate::definitions).
     pub(crate) fn content(&self) -> &[u8] {
         self.pieces.bytes()
     }
@@ -143,6 +165,8 @@ impl<K, A: Allocator + Copy> CustomEntries<K, A> {
     /// ```text
     /// ensures { result ≡ [] }
     /// ```
+    ///
+    /// [How to read clauses](crate::definitions).
     pub fn new(alloc: A) -> Self {
         CustomEntries {
             pieces: Pieces::new(alloc),
@@ -154,10 +178,14 @@ impl<K, A: Allocator + Copy> CustomEntries<K, A> {
     ///
     /// # Proved
     ///
+    /// After `Ok`: `same`. In any case: `memory`.
+    ///
     /// ```text
     /// ensures same { IfOk result (λ section. section ≡ self.now) }
     /// ensures memory { result ≢ Err TooLong }
     /// ```
+    ///
+    /// [How to read clauses](crate::definitions).
     pub fn clone(&self) -> Result<Self> {
         Ok(CustomEntries {
             pieces: self.pieces.clone()?,
@@ -171,10 +199,16 @@ impl<K: CustomKind, A: Allocator> CustomEntries<K, A> {
     ///
     /// # Proved
     ///
+    /// After `Ok`: `same`. In any case: `memory`.
+    ///
     /// ```text
-    /// ensures same { IfOk result (λ s. (encoding_of s.name ≡ K.name) × (items_of s.bytes ≡ entries_encoding K.front K.counted self.now)) }
+    /// ensures same { IfOk result
+    ///     (λ s. (encoding_of s.name ≡ K.name)
+    ///         × (items_of s.bytes ≡ entries_encoding K.front K.counted self.now)) }
     /// ensures memory { result ≢ Err TooLong }
     /// ```
+    ///
+    /// Definitions: [`encoding_of`](crate::definitions::base::cow::encoding_of), [`items_of`](crate::definitions::base::cow::items_of), [`entries_encoding`](crate::definitions::custom::entries::entries_encoding). [How to read clauses](crate::definitions).
     pub(crate) fn owned<B: Allocator>(&self, alloc: B) -> Result<CustomSection<'_, B>> {
         let data = data_of(alloc, K::front(), K::counted(), &self.pieces)?;
         Ok(CustomSection {
@@ -200,6 +234,8 @@ impl Count {
     /// ensures is { result ≡ length (count_encoding self.counted self.number) }
     /// ensures small { result ≤ 5 }
     /// ```
+    ///
+    /// Definitions: [`count_encoding`](crate::definitions::custom::entries::count_encoding). [How to read clauses](crate::definitions).
     fn size(self) -> usize {
         if self.counted {
             encoding_size(self.number)
@@ -217,6 +253,8 @@ impl Count {
 /// encoding = { λ c. count_encoding c.counted c.number }
 /// encodable = { λ _. ⊤ }
 /// ```
+///
+/// Definitions: [`count_encoding`](crate::definitions::custom::entries::count_encoding). [How to read clauses](crate::definitions).
 impl Encode for Count {
     fn encode<A: Sink>(&self, sink: &mut A) -> Result<()> {
         if self.counted {
@@ -233,9 +271,18 @@ impl Encode for Count {
 /// # Proved
 ///
 /// ```text
-/// ensures known { result ≤ longest → result ≡ length front.now + (length (count_encoding count.counted count.number) + length (joined pieces.now)) }
-/// ensures small { length front.now + (length (count_encoding count.counted count.number) + length (joined pieces.now)) ≤ longest → result ≡ length front.now + (length (count_encoding count.counted count.number) + length (joined pieces.now)) }
+/// ensures known { result ≤ longest
+///     → result ≡ length front.now
+///     + (length (count_encoding count.counted count.number) + length (joined pieces.now))
+///     }
+/// ensures small { length front.now
+///     + (length (count_encoding count.counted count.number) + length (joined pieces.now))
+///     ≤ longest → result ≡ length front.now
+///     + (length (count_encoding count.counted count.number) + length (joined pieces.now))
+///     }
 /// ```
+///
+/// Definitions: [`longest`](crate::definitions::base::encodings::longest), [`count_encoding`](crate::definitions::custom::entries::count_encoding), [`joined`](crate::definitions::base::pieces::joined). [How to read clauses](crate::definitions).
 fn data_size<B: Allocator>(front: &[u8], count: Count, pieces: &Pieces<B>) -> usize {
     front
         .len()
@@ -249,10 +296,17 @@ fn data_size<B: Allocator>(front: &[u8], count: Count, pieces: &Pieces<B>) -> us
 /// # Proved
 ///
 /// ```text
-/// ensures appends { Appends (named_encoding name.now (entries_encoding front.now counted pieces.now)) (IsEncodableNamed name.now (entries_encoding front.now counted pieces.now)) sink.old sink.new result }
+/// ensures appends { Appends
+///     (named_encoding name.now (entries_encoding front.now counted pieces.now))
+///     (IsEncodableNamed name.now (entries_encoding front.now counted pieces.now)) sink.old
+///     sink.new result }
 /// ensures few { length pieces.now ≤ longest }
-/// ensures too_many { longest < length (size_prefixed_encoding name.now) + length (entries_encoding front.now counted pieces.now) → result ≡ Err TooLong }
+/// ensures too_many { longest
+///     < length (size_prefixed_encoding name.now)
+///     + length (entries_encoding front.now counted pieces.now) → result ≡ Err TooLong }
 /// ```
+///
+/// Definitions: [`Appends`](crate::definitions::base::calls::Appends), [`named_encoding`](crate::definitions::custom::customs::named_encoding), [`entries_encoding`](crate::definitions::custom::entries::entries_encoding), [`IsEncodableNamed`](crate::definitions::custom::customs::IsEncodableNamed), [`longest`](crate::definitions::base::encodings::longest), [`size_prefixed_encoding`](crate::definitions::base::encodings::size_prefixed_encoding). [How to read clauses](crate::definitions).
 pub(crate) fn encode_entries<A: Sink, B: Allocator>(
     sink: &mut A,
     name: &str,
@@ -276,10 +330,15 @@ pub(crate) fn encode_entries<A: Sink, B: Allocator>(
 ///
 /// # Proved
 ///
+/// After `Ok`: `same`. In any case: `memory`.
+///
 /// ```text
-/// ensures same { IfOk result (λ v. v.items ≡ entries_encoding front.now counted pieces.now) }
+/// ensures same { IfOk result
+///     (λ v. v.items ≡ entries_encoding front.now counted pieces.now) }
 /// ensures memory { result ≢ Err TooLong }
 /// ```
+///
+/// Definitions: [`entries_encoding`](crate::definitions::custom::entries::entries_encoding). [How to read clauses](crate::definitions).
 pub(crate) fn data_of<A: Allocator, B: Allocator>(
     alloc: A,
     front: &[u8],
@@ -301,11 +360,20 @@ pub(crate) fn data_of<A: Allocator, B: Allocator>(
 /// # Defined
 ///
 /// ```text
-/// encoding = { λ section. named_encoding K.name (entries_encoding K.front K.counted section) }
-/// encodable = { λ section. IsEncodableNamed K.name (entries_encoding K.front K.counted section) }
-/// overlong = { λ section. longest < length (size_prefixed_encoding K.name) + length (entries_encoding K.front K.counted section) }
-/// decoding = { λ section. DecodesBackBoth (named_section K.name (entries K.front_format K.counted K.kind.format)) (ContainsItems K.kind section) (ContainsPadded K.kind.format section) (named_encoding K.name (entries_encoding K.front K.counted section)) }
+/// encoding = { λ section. named_encoding K.name
+///     (entries_encoding K.front K.counted section) }
+/// encodable = { λ section. IsEncodableNamed K.name
+///     (entries_encoding K.front K.counted section) }
+/// overlong = { λ section. longest
+///     < length (size_prefixed_encoding K.name)
+///     + length (entries_encoding K.front K.counted section) }
+/// decoding = { λ section. DecodesBackBoth
+///     (named_section K.name (entries K.front_format K.counted K.kind.format))
+///     (ContainsItems K.kind section) (ContainsPadded K.kind.format section)
+///     (named_encoding K.name (entries_encoding K.front K.counted section)) }
 /// ```
+///
+/// Definitions: [`named_encoding`](crate::definitions::custom::customs::named_encoding), [`entries_encoding`](crate::definitions::custom::entries::entries_encoding), [`IsEncodableNamed`](crate::definitions::custom::customs::IsEncodableNamed), [`longest`](crate::definitions::base::encodings::longest), [`size_prefixed_encoding`](crate::definitions::base::encodings::size_prefixed_encoding), [`DecodesBackBoth`](crate::definitions::base::calls::DecodesBackBoth), [`named_section`](crate::definitions::custom::customs::named_section), [`entries`](crate::definitions::custom::entries::entries), [`ContainsItems`](crate::definitions::base::entries::ContainsItems), [`ContainsPadded`](crate::definitions::base::entries::ContainsPadded). [How to read clauses](crate::definitions).
 impl<K: CustomKind, A: Allocator> Encode for CustomEntries<K, A> {
     fn encode<B: Sink>(&self, sink: &mut B) -> Result<()> {
         K::laws();
@@ -321,10 +389,14 @@ impl<K: CustomKind, A: Allocator> Encode for CustomEntries<K, A> {
 /// Items = { List K.Item }
 /// format = { named_section K.name (entries K.front_format K.counted K.kind.format) }
 /// says = { ContainsItems K.kind }
-/// payload = { λ section. NamedPayload K.name (entries_encoding K.front K.counted section) }
-/// sized = { λ section bytes encodable pays. named_sized K.name (entries_encoding K.front K.counted section) bytes encodable pays }
+/// payload = { λ section. NamedPayload K.name
+///     (entries_encoding K.front K.counted section) }
+/// sized = { λ section bytes encodable pays. named_sized K.name
+///     (entries_encoding K.front K.counted section) bytes encodable pays }
 /// decodes_back = { λ section promised. promised.plain }
 /// ```
+///
+/// Definitions: [`number_of`](crate::definitions::base::section_id::number_of), [`named_section`](crate::definitions::custom::customs::named_section), [`entries`](crate::definitions::custom::entries::entries), [`ContainsItems`](crate::definitions::base::entries::ContainsItems), [`NamedPayload`](crate::definitions::custom::customs::NamedPayload), [`entries_encoding`](crate::definitions::custom::entries::entries_encoding), [`named_sized`](crate::definitions::custom::customs::named_sized). [How to read clauses](crate::definitions).
 impl<K: CustomKind, A: Allocator> Section for CustomEntries<K, A> {
     fn id(&self) -> u8 {
         SectionId::Custom.into()

@@ -47,6 +47,8 @@ pub struct BranchHint {
 /// encoding = { hint_encoding }
 /// encodable = { λ _. ⊤ }
 /// ```
+///
+/// Definitions: [`hint_encoding`](crate::definitions::custom::hints::hint_encoding). [How to read clauses](crate::definitions).
 impl Encode for BranchHint {
     fn encode<A: Sink>(&self, sink: &mut A) -> Result<()> {
         (self.branch_func_offset, 0x01u8, self.branch_hint_value).encode(sink)
@@ -60,6 +62,8 @@ impl Encode for BranchHint {
 /// Item = { Hints }
 /// kind = { hint_items }
 /// ```
+///
+/// Definitions: [`Hints`](crate::definitions::custom::hints::Hints), [`hint_items`](crate::definitions::custom::hints::hint_items). [How to read clauses](crate::definitions).
 impl Kind for HintItems {
     fn laws() {}
 }
@@ -72,6 +76,8 @@ impl Kind for HintItems {
 /// front_format = { fixed [] (tt {0}) }
 /// counted = { true }
 /// ```
+///
+/// Definitions: [`hints_name`](crate::definitions::custom::hints::hints_name), [`fixed`](crate::definitions::base::formats::fixed). [How to read clauses](crate::definitions).
 impl CustomKind for HintItems {
     fn name() -> &'static str {
         "metadata.code.branch_hint"
@@ -95,14 +101,21 @@ impl<A: Allocator> BranchHints<A> {
     /// # Asks
     ///
     /// ```text
-    /// requires { HasKnownLength H.into_iter_gives H.IntoIter.can_next H.IntoIter.next_gives H.IntoIter.remaining hints }
+    /// requires { HasKnownLength H.into_iter_gives H.IntoIter.can_next H.IntoIter.next_gives
+    ///     H.IntoIter.remaining hints }
     /// ```
+    ///
+    /// Definitions: [`HasKnownLength`](crate::definitions::base::iterators::HasKnownLength). [How to read clauses](crate::definitions).
     ///
     /// # Proved
     ///
     /// ```text
-    /// ensures { AddsList H.into_iter_gives H.IntoIter.next_gives H.IntoIter.remaining hints (λ _. ⊤) (λ items. unsigned_encoding func ++ vec_encoding hint_encoding items) self.old self.new result }
+    /// ensures { AddsList H.into_iter_gives H.IntoIter.next_gives H.IntoIter.remaining hints
+    ///     (λ _. ⊤) (λ items. unsigned_encoding func ++ vec_encoding hint_encoding items)
+    ///     self.old self.new result }
     /// ```
+    ///
+    /// Definitions: [`AddsList`](crate::definitions::custom::adding::AddsList), [`unsigned_encoding`](crate::definitions::base::numbers::unsigned_encoding), [`vec_encoding`](crate::definitions::base::encodings::vec_encoding), [`hint_encoding`](crate::definitions::custom::hints::hint_encoding). [How to read clauses](crate::definitions).
     pub fn function_hints<H: IntoIterator<Item = BranchHint>>(
         &mut self,
         func: u32,
@@ -127,6 +140,8 @@ struct HintValue(u8);
 /// format = { such (λ b. b < 128) byte }
 /// view = { λ value. value.0 }
 /// ```
+///
+/// Definitions: [`such`](crate::definitions::base::formats::such), [`byte`](crate::definitions::base::formats::byte). [How to read clauses](crate::definitions).
 impl Layout for HintValue {
     fn laws() {}
 }
@@ -148,6 +163,8 @@ impl<'a, A: Allocator + Copy, G: Grammar> Readable<'a, A, G> for HintValue {
 /// format = { hint }
 /// view = { λ hint. hint }
 /// ```
+///
+/// Definitions: [`hint`](crate::definitions::custom::hints::hint). [How to read clauses](crate::definitions).
 impl Layout for BranchHint {
     fn laws() {}
 }
@@ -171,6 +188,8 @@ impl<'a, A: Allocator + Copy, G: Grammar> Readable<'a, A, G> for BranchHint {
 /// format = { hints }
 /// view = { hints_view }
 /// ```
+///
+/// Definitions: [`Hints`](crate::definitions::custom::hints::Hints), [`hints`](crate::definitions::custom::hints::hints), [`hints_view`](crate::definitions::custom::hints::hints_view). [How to read clauses](crate::definitions).
 impl<A: Allocator> ItemsAs<(u32, Vec<BranchHint, A>)> for HintItems {
     fn unique() {}
 
@@ -203,10 +222,17 @@ impl<'a, A: Allocator + Copy, G: Grammar> DecodesItems<'a, (u32, Vec<BranchHint,
 ///
 /// # Proved
 ///
+/// After `Ok`: `found`. After an error: `none`.
+///
 /// ```text
-/// ensures found { IfOk result (λ x. hints_payload (padded_of G.grammar) bytes.now (map hints_view x.items)) }
-/// ensures none { IfErr result (λ e. e.cause ≢ Memory → RejectsWhole hints_payload (padded_of G.grammar) bytes.now) }
+/// ensures found { IfOk result
+///     (λ x. hints_payload (padded_of G.grammar) bytes.now (map hints_view x.items)) }
+/// ensures none { IfErr result
+///     (λ e. e.cause ≢ Memory → RejectsWhole hints_payload (padded_of G.grammar) bytes.now)
+///     }
 /// ```
+///
+/// Definitions: [`hints_payload`](crate::definitions::custom::hints::hints_payload), [`padded_of`](crate::definitions::base::numbers::padded_of), [`hints_view`](crate::definitions::custom::hints::hints_view), [`RejectsWhole`](crate::definitions::base::continuing::RejectsWhole). [How to read clauses](crate::definitions).
 pub fn read_hints<'a, A: Allocator + Copy, G: Grammar>(
     bytes: &'a [u8],
     alloc: A,
@@ -219,11 +245,18 @@ pub fn read_hints<'a, A: Allocator + Copy, G: Grammar>(
 ///
 /// # Proved
 ///
+/// After `Ok`: `ok`. After an error: `err`. In any case: `too_long`.
+///
 /// ```text
-/// ensures ok { OnOk result (AppendsMinimal hints_payload (map hints_view functions.now) sink.old.items sink.new.items) }
+/// ensures ok { OnOk result
+///     (AppendsMinimal hints_payload
+///         (map hints_view functions.now) sink.old.items sink.new.items) }
 /// ensures err { OnErr result (sink.new.items ≡ sink.old.items) }
-/// ensures too_long { HasEncoding hints_payload (map hints_view functions.now) → result ≢ Err TooLong }
+/// ensures too_long { HasEncoding hints_payload (map hints_view functions.now)
+///     → result ≢ Err TooLong }
 /// ```
+///
+/// Definitions: [`AppendsMinimal`](crate::definitions::base::minimal::AppendsMinimal), [`hints_payload`](crate::definitions::custom::hints::hints_payload), [`hints_view`](crate::definitions::custom::hints::hints_view), [`HasEncoding`](crate::definitions::base::minimal::HasEncoding). [How to read clauses](crate::definitions).
 pub fn append_hints<A: Allocator, B: Sink>(
     functions: &[(u32, Vec<BranchHint, A>)],
     sink: &mut B,

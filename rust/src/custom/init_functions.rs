@@ -32,6 +32,8 @@ pub struct InitMembers;
 /// is_member = { IsInit }
 /// subsection = { Some 6 }
 /// ```
+///
+/// Definitions: [`init_encoding`](crate::definitions::custom::init_functions::init_encoding), [`IsInit`](crate::definitions::custom::init_functions::IsInit). [How to read clauses](crate::definitions).
 impl ListKind for InitMembers {
     fn subsection() -> Option<u8> {
         Some(6)
@@ -44,8 +46,11 @@ impl<A: Allocator> InitFunctions<A> {
     /// # Proved
     ///
     /// ```text
-    /// ensures { Adds (unsigned_encoding priority ++ unsigned_encoding symbol) ⊤ self.old self.new result }
+    /// ensures { Adds (unsigned_encoding priority ++ unsigned_encoding symbol) ⊤ self.old
+    ///     self.new result }
     /// ```
+    ///
+    /// Definitions: [`Adds`](crate::definitions::base::calls::Adds), [`unsigned_encoding`](crate::definitions::base::numbers::unsigned_encoding). [How to read clauses](crate::definitions).
     pub fn function(&mut self, priority: u32, symbol: u32) -> Result<()> {
         self.add_record(&(priority, symbol))
     }
@@ -67,6 +72,8 @@ pub struct InitFunction {
 /// format = { init_function }
 /// view = { λ function. function }
 /// ```
+///
+/// Definitions: [`init_function`](crate::definitions::custom::init_functions::init_function). [How to read clauses](crate::definitions).
 impl Layout for InitFunction {
     fn laws() {}
 }

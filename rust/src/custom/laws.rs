@@ -45,6 +45,8 @@
 /// ensures instance_laws { ItemLaws instance_items }
 /// ensures layout_laws { ItemLaws frame_items }
 /// ```
+///
+/// Definitions: [`Unambiguous`](crate::definitions::base::decoding::Unambiguous), [`size_prefixed`](crate::definitions::base::formats::size_prefixed), [`name_payload`](crate::definitions::custom::names::name_payload), [`linking_payload`](crate::definitions::custom::linking::linking_payload), [`object_payload`](crate::definitions::custom::linking::object_payload), [`producers_payload`](crate::definitions::custom::producers::producers_payload), [`hints`](crate::definitions::custom::hints::hints), [`hints_payload`](crate::definitions::custom::hints::hints_payload), [`modules_payload`](crate::definitions::custom::core_dumps::modules_payload), [`instances_payload`](crate::definitions::custom::core_dumps::instances_payload), [`core_payload`](crate::definitions::custom::core_dumps::core_payload), [`stack_payload`](crate::definitions::custom::core_stacks::stack_payload), [`custom`](crate::definitions::base::formats::custom), [`subsection`](crate::definitions::custom::names::subsection), [`link`](crate::definitions::custom::linking::link), [`symbol`](crate::definitions::custom::symbols::symbol), [`full_link`](crate::definitions::custom::linking::full_link), [`full_symbol`](crate::definitions::custom::symbols::full_symbol), [`segment`](crate::definitions::custom::segments::segment), [`init_function`](crate::definitions::custom::init_functions::init_function), [`comdat_symbol`](crate::definitions::custom::comdats::comdat_symbol), [`comdat`](crate::definitions::custom::comdats::comdat), [`field`](crate::definitions::custom::producers::field), [`marked_name`](crate::definitions::custom::core_dumps::marked_name), [`instance`](crate::definitions::custom::core_dumps::instance), [`stack_frame`](crate::definitions::custom::core_stacks::stack_frame), [`value`](crate::definitions::custom::core_values::value), [`ItemLaws`](crate::definitions::base::entries::ItemLaws), [`name_items`](crate::definitions::custom::names::name_items), [`link_items`](crate::definitions::custom::linking::link_items), [`object_items`](crate::definitions::custom::linking::object_items), [`field_items`](crate::definitions::custom::producers::field_items), [`hint_items`](crate::definitions::custom::hints::hint_items), [`module_items`](crate::definitions::custom::core_dumps::module_items), [`instance_items`](crate::definitions::custom::core_dumps::instance_items), [`frame_items`](crate::definitions::custom::core_stacks::frame_items). [How to read clauses](crate::definitions).
 pub fn sections() {}
 
 /// With padded numbers the formats of sections are unambiguous too. A minimal encoding is also an
@@ -64,6 +66,8 @@ pub fn sections() {}
 /// ensures stack { UnambiguousPadded (size_prefixed stack_payload) }
 /// ensures customs { UnambiguousPadded custom }
 /// ```
+///
+/// Definitions: [`UnambiguousPadded`](crate::definitions::base::decoding::UnambiguousPadded), [`size_prefixed`](crate::definitions::base::formats::size_prefixed), [`name_payload`](crate::definitions::custom::names::name_payload), [`linking_payload`](crate::definitions::custom::linking::linking_payload), [`object_payload`](crate::definitions::custom::linking::object_payload), [`producers_payload`](crate::definitions::custom::producers::producers_payload), [`hints`](crate::definitions::custom::hints::hints), [`hints_payload`](crate::definitions::custom::hints::hints_payload), [`modules_payload`](crate::definitions::custom::core_dumps::modules_payload), [`instances_payload`](crate::definitions::custom::core_dumps::instances_payload), [`core_payload`](crate::definitions::custom::core_dumps::core_payload), [`stack_payload`](crate::definitions::custom::core_stacks::stack_payload), [`custom`](crate::definitions::base::formats::custom). [How to read clauses](crate::definitions).
 pub fn padded() {}
 
 /// The items that sections and lists hold, call by call: none at first, and one more after each
@@ -99,6 +103,8 @@ pub fn padded() {}
 /// ensures comdats_encoding { IsVectorOf comdat_encoding IsComdat }
 /// ensures producer_fields_encoding { IsVectorOf producer_encoding IsProducer }
 /// ```
+///
+/// Definitions: [`ContainsMore`](crate::definitions::base::laws::ContainsMore), [`name_items`](crate::definitions::custom::names::name_items), [`link_items`](crate::definitions::custom::linking::link_items), [`object_items`](crate::definitions::custom::linking::object_items), [`field_items`](crate::definitions::custom::producers::field_items), [`hints`](crate::definitions::custom::hints::hints), [`hint_items`](crate::definitions::custom::hints::hint_items), [`module_items`](crate::definitions::custom::core_dumps::module_items), [`instance_items`](crate::definitions::custom::core_dumps::instance_items), [`frame_items`](crate::definitions::custom::core_stacks::frame_items), [`ListMore`](crate::definitions::custom::lists::ListMore), [`naming_encoding`](crate::definitions::custom::names::naming_encoding), [`IsNaming`](crate::definitions::custom::names::IsNaming), [`inside_encoding`](crate::definitions::custom::names::inside_encoding), [`IsInside`](crate::definitions::custom::names::IsInside), [`symbol_encoding`](crate::definitions::custom::symbols::symbol_encoding), [`IsGivenSymbol`](crate::definitions::custom::symbols::IsGivenSymbol), [`IsFullSymbol`](crate::definitions::custom::symbols::IsFullSymbol), [`segment_encoding`](crate::definitions::custom::segments::segment_encoding), [`IsSegment`](crate::definitions::custom::segments::IsSegment), [`init_encoding`](crate::definitions::custom::init_functions::init_encoding), [`IsInit`](crate::definitions::custom::init_functions::IsInit), [`comdat_symbol_encoding`](crate::definitions::custom::comdats::comdat_symbol_encoding), [`IsComdatSymbol`](crate::definitions::custom::comdats::IsComdatSymbol), [`comdat_encoding`](crate::definitions::custom::comdats::comdat_encoding), [`IsComdat`](crate::definitions::custom::comdats::IsComdat), [`producer_encoding`](crate::definitions::custom::producers::producer_encoding), [`IsProducer`](crate::definitions::custom::producers::IsProducer), [`IsVectorOf`](crate::definitions::custom::lists::IsVectorOf). [How to read clauses](crate::definitions).
 pub fn calls() {}
 
 /// The same with padded numbers, for the sections of entries: an entry may be a padded encoding of
@@ -115,6 +121,8 @@ pub fn calls() {}
 /// ensures modules { ContainsMorePadded module_items }
 /// ensures instances { ContainsMorePadded instance_items }
 /// ```
+///
+/// Definitions: [`ContainsMorePadded`](crate::definitions::base::laws::ContainsMorePadded), [`name_items`](crate::definitions::custom::names::name_items), [`link_items`](crate::definitions::custom::linking::link_items), [`object_items`](crate::definitions::custom::linking::object_items), [`field_items`](crate::definitions::custom::producers::field_items), [`hints`](crate::definitions::custom::hints::hints), [`hint_items`](crate::definitions::custom::hints::hint_items), [`module_items`](crate::definitions::custom::core_dumps::module_items), [`instance_items`](crate::definitions::custom::core_dumps::instance_items). [How to read clauses](crate::definitions).
 pub fn padded_calls() {}
 
 /// If a module decodes to ids and payloads, and a section decodes to its items alone, then its
@@ -134,6 +142,8 @@ pub fn padded_calls() {}
 /// ensures stack { DecodesPayloads stack_payload }
 /// ensures customs { DecodesPayloads (pair name any_bytes) }
 /// ```
+///
+/// Definitions: [`DecodesPayloads`](crate::definitions::base::modules::DecodesPayloads), [`name_payload`](crate::definitions::custom::names::name_payload), [`linking_payload`](crate::definitions::custom::linking::linking_payload), [`object_payload`](crate::definitions::custom::linking::object_payload), [`producers_payload`](crate::definitions::custom::producers::producers_payload), [`hints`](crate::definitions::custom::hints::hints), [`hints_payload`](crate::definitions::custom::hints::hints_payload), [`modules_payload`](crate::definitions::custom::core_dumps::modules_payload), [`instances_payload`](crate::definitions::custom::core_dumps::instances_payload), [`core_payload`](crate::definitions::custom::core_dumps::core_payload), [`stack_payload`](crate::definitions::custom::core_stacks::stack_payload), [`pair`](crate::definitions::base::formats::pair), [`name`](crate::definitions::base::formats::name), [`any_bytes`](crate::definitions::base::formats::any_bytes). [How to read clauses](crate::definitions).
 pub fn payloads() {}
 
 /// The same with padded numbers.
@@ -152,6 +162,8 @@ pub fn payloads() {}
 /// ensures stack { DecodesPayloadsPadded stack_payload }
 /// ensures customs { DecodesPayloadsPadded (pair name any_bytes) }
 /// ```
+///
+/// Definitions: [`DecodesPayloadsPadded`](crate::definitions::base::modules::DecodesPayloadsPadded), [`name_payload`](crate::definitions::custom::names::name_payload), [`linking_payload`](crate::definitions::custom::linking::linking_payload), [`object_payload`](crate::definitions::custom::linking::object_payload), [`producers_payload`](crate::definitions::custom::producers::producers_payload), [`hints`](crate::definitions::custom::hints::hints), [`hints_payload`](crate::definitions::custom::hints::hints_payload), [`modules_payload`](crate::definitions::custom::core_dumps::modules_payload), [`instances_payload`](crate::definitions::custom::core_dumps::instances_payload), [`core_payload`](crate::definitions::custom::core_dumps::core_payload), [`stack_payload`](crate::definitions::custom::core_stacks::stack_payload), [`pair`](crate::definitions::base::formats::pair), [`name`](crate::definitions::base::formats::name), [`any_bytes`](crate::definitions::base::formats::any_bytes). [How to read clauses](crate::definitions).
 pub fn padded_payloads() {}
 
 /// In the standard's grammar, a payload encodes the items of a linking section if and only if it
@@ -163,10 +175,15 @@ pub fn padded_payloads() {}
 /// ```text
 /// ensures decoded { IsIncludedIn (linking_payload standard) (object_payload standard) }
 /// ensures encoded { IsIncludedIn (object_payload standard) (linking_payload standard) }
-/// ensures minimal_decoded { IsIncludedIn (linking_payload standard_minimal) (object_payload standard_minimal) }
-/// ensures minimal_encoded { IsIncludedIn (object_payload standard_minimal) (linking_payload standard_minimal) }
-/// ensures built { IsIncludedIn (linking_payload padded_mode) (object_payload padded_mode) }
+/// ensures minimal_decoded { IsIncludedIn (linking_payload standard_minimal)
+///     (object_payload standard_minimal) }
+/// ensures minimal_encoded { IsIncludedIn (object_payload standard_minimal)
+///     (linking_payload standard_minimal) }
+/// ensures built { IsIncludedIn (linking_payload padded_mode)
+///     (object_payload padded_mode) }
 /// ```
+///
+/// Definitions: [`IsIncludedIn`](crate::definitions::base::decoding::IsIncludedIn), [`linking_payload`](crate::definitions::custom::linking::linking_payload), [`standard`](crate::definitions::base::numbers::Mode), [`object_payload`](crate::definitions::custom::linking::object_payload), [`standard_minimal`](crate::definitions::base::numbers::Mode), [`padded_mode`](crate::definitions::base::numbers::Mode). [How to read clauses](crate::definitions).
 pub fn object_linking() {}
 
 /// These two byte sequences encode no section, with padded numbers neither. In that of branch
@@ -175,7 +192,11 @@ pub fn object_linking() {}
 /// # Proved
 ///
 /// ```text
-/// ensures long_value { RejectsAllAfterPadded (size_prefixed hints_payload) (33 ∷ 25 ∷ (hints_name ++ (1 ∷ 0 ∷ 1 ∷ 3 ∷ 1 ∷ 128 ∷ 1 ∷ []))) }
-/// ensures no_name { RejectsAllAfterPadded (size_prefixed linking_payload) (15 ∷ 7 ∷ (linking_name ++ (2 ∷ 8 ∷ 4 ∷ 1 ∷ 0 ∷ 0 ∷ 1 ∷ []))) }
+/// ensures long_value { RejectsAllAfterPadded (size_prefixed hints_payload)
+///     (33 ∷ 25 ∷ (hints_name ++ (1 ∷ 0 ∷ 1 ∷ 3 ∷ 1 ∷ 128 ∷ 1 ∷ []))) }
+/// ensures no_name { RejectsAllAfterPadded (size_prefixed linking_payload)
+///     (15 ∷ 7 ∷ (linking_name ++ (2 ∷ 8 ∷ 4 ∷ 1 ∷ 0 ∷ 0 ∷ 1 ∷ []))) }
 /// ```
+///
+/// Definitions: [`RejectsAllAfterPadded`](crate::definitions::base::laws::RejectsAllAfterPadded), [`size_prefixed`](crate::definitions::base::formats::size_prefixed), [`hints_payload`](crate::definitions::custom::hints::hints_payload), [`hints_name`](crate::definitions::custom::hints::hints_name), [`linking_payload`](crate::definitions::custom::linking::linking_payload), [`linking_name`](crate::definitions::custom::linking::linking_name). [How to read clauses](crate::definitions).
 pub fn rejections() {}

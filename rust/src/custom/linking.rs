@@ -42,6 +42,8 @@ pub struct LinkingItems;
 /// Item = { LinkModel }
 /// kind = { link_items }
 /// ```
+///
+/// Definitions: [`LinkModel`](crate::definitions::custom::linking::LinkItem), [`link_items`](crate::definitions::custom::linking::link_items). [How to read clauses](crate::definitions).
 impl Kind for LinkingItems {
     fn laws() {}
 }
@@ -54,6 +56,8 @@ impl Kind for LinkingItems {
 /// front_format = { just version u32_format }
 /// counted = { false }
 /// ```
+///
+/// Definitions: [`linking_name`](crate::definitions::custom::linking::linking_name), [`version`](crate::definitions::custom::linking::version), [`just`](crate::definitions::base::formats::just), [`u32_format`](crate::definitions::base::formats::u32). [How to read clauses](crate::definitions).
 impl CustomKind for LinkingItems {
     fn name() -> &'static str {
         "linking"
@@ -76,8 +80,11 @@ impl<A: Allocator> LinkingSection<A> {
     /// # Proved
     ///
     /// ```text
-    /// ensures { Adds (subsection_encoding 8 (list_encoding symbols.now)) (HasEncodableSize (list_encoding symbols.now) × ⊤) self.old self.new result }
+    /// ensures { Adds (subsection_encoding 8 (list_encoding symbols.now))
+    ///     (HasEncodableSize (list_encoding symbols.now) × ⊤) self.old self.new result }
     /// ```
+    ///
+    /// Definitions: [`Adds`](crate::definitions::base::calls::Adds), [`subsection_encoding`](crate::definitions::custom::customs::subsection_encoding), [`list_encoding`](crate::definitions::custom::lists::list_encoding), [`HasEncodableSize`](crate::definitions::base::encodings::HasEncodableSize). [How to read clauses](crate::definitions).
     pub fn symbol_table<B: Allocator>(&mut self, symbols: &SymbolTable<B>) -> Result<()> {
         self.add_record(symbols)
     }
@@ -87,8 +94,12 @@ impl<A: Allocator> LinkingSection<A> {
     /// # Proved
     ///
     /// ```text
-    /// ensures { Adds (subsection_encoding 9 (size_prefixed_encoding name.now)) (HasEncodableSize (size_prefixed_encoding name.now) × HasEncodableSize name.now) self.old self.new result }
+    /// ensures { Adds (subsection_encoding 9 (size_prefixed_encoding name.now))
+    ///     (HasEncodableSize (size_prefixed_encoding name.now) × HasEncodableSize name.now)
+    ///     self.old self.new result }
     /// ```
+    ///
+    /// Definitions: [`Adds`](crate::definitions::base::calls::Adds), [`subsection_encoding`](crate::definitions::custom::customs::subsection_encoding), [`size_prefixed_encoding`](crate::definitions::base::encodings::size_prefixed_encoding), [`HasEncodableSize`](crate::definitions::base::encodings::HasEncodableSize). [How to read clauses](crate::definitions).
     pub fn target_arch(&mut self, name: &str) -> Result<()> {
         self.add_record(&Subsection {
             id: 9,
@@ -120,10 +131,18 @@ pub enum LinkItem<'a, A: Allocator = Global> {
 ///
 /// # Proved
 ///
+/// After `Ok`: `found`. After an error: `none`.
+///
 /// ```text
-/// ensures found { IfOk result (λ x. Decodes (size_prefixed (vec T.format)) (padded_of G.grammar) bytes.now (map T.view x.0.items) x.1.now) }
-/// ensures none { IfErr result (λ e. e.cause ≢ Memory → Rejects (size_prefixed (vec T.format)) (padded_of G.grammar) bytes.now) }
+/// ensures found { IfOk result
+///     (λ x. Decodes (size_prefixed (vec T.format)) (padded_of G.grammar) bytes.now
+///         (map T.view x.0.items) x.1.now) }
+/// ensures none { IfErr result
+///     (λ e. e.cause ≢ Memory → Rejects (size_prefixed (vec T.format))
+///         (padded_of G.grammar) bytes.now) }
 /// ```
+///
+/// Definitions: [`Decodes`](crate::definitions::base::decoding::Decodes), [`size_prefixed`](crate::definitions::base::formats::size_prefixed), [`vec`](crate::definitions::base::formats::vec), [`padded_of`](crate::definitions::base::numbers::padded_of), [`Rejects`](crate::definitions::base::decoding::Rejects). [How to read clauses](crate::definitions).
 fn read_vector<'a, T: Readable<'a, A, G>, A: Allocator + Copy, G: Grammar>(
     bytes: &'a [u8],
     alloc: A,
@@ -141,12 +160,16 @@ fn read_vector<'a, T: Readable<'a, A, G>, A: Allocator + Copy, G: Grammar>(
 /// format = { link }
 /// view = { link_view }
 /// ```
+///
+/// Definitions: [`LinkModel`](crate::definitions::custom::linking::LinkItem), [`link`](crate::definitions::custom::linking::link), [`link_view`](crate::definitions::custom::linking::link_view). [How to read clauses](crate::definitions).
 impl<'a, A: Allocator> Layout for LinkItem<'a, A> {
     /// # Proved
     ///
     /// ```text
     /// ensures { Unambiguous link }
     /// ```
+    ///
+    /// Definitions: [`Unambiguous`](crate::definitions::base::decoding::Unambiguous), [`link`](crate::definitions::custom::linking::link). [How to read clauses](crate::definitions).
     fn laws() {}
 }
 
@@ -190,10 +213,18 @@ impl<'a, A: Allocator + Copy + 'a, G: Grammar> Readable<'a, A, G> for LinkItem<'
 ///
 /// # Proved
 ///
+/// After `Ok`: `found`. After an error: `none`.
+///
 /// ```text
-/// ensures found { IfOk result (λ rest. Decodes (just version u32_format) (padded_of G.grammar) bytes.now tt rest.now) }
-/// ensures none { IfErr result (λ e. e.cause ≢ Memory → Rejects (just version u32_format) (padded_of G.grammar) bytes.now) }
+/// ensures found { IfOk result
+///     (λ rest. Decodes (just version u32_format)
+///         (padded_of G.grammar) bytes.now tt rest.now) }
+/// ensures none { IfErr result
+///     (λ e. e.cause ≢ Memory → Rejects (just version u32_format)
+///         (padded_of G.grammar) bytes.now) }
 /// ```
+///
+/// Definitions: [`Decodes`](crate::definitions::base::decoding::Decodes), [`just`](crate::definitions::base::formats::just), [`version`](crate::definitions::custom::linking::version), [`u32_format`](crate::definitions::base::formats::u32), [`padded_of`](crate::definitions::base::numbers::padded_of), [`Rejects`](crate::definitions::base::decoding::Rejects). [How to read clauses](crate::definitions).
 fn after_version<'a, A: Allocator + Copy, G: Grammar>(
     bytes: &'a [u8],
     alloc: A,
@@ -214,10 +245,17 @@ fn after_version<'a, A: Allocator + Copy, G: Grammar>(
 ///
 /// # Proved
 ///
+/// After `Ok`: `found`. After an error: `none`.
+///
 /// ```text
-/// ensures found { IfOk result (λ x. linking_payload (padded_of G.grammar) bytes.now (map link_view x.items)) }
-/// ensures none { IfErr result (λ e. e.cause ≢ Memory → RejectsWhole linking_payload (padded_of G.grammar) bytes.now) }
+/// ensures found { IfOk result
+///     (λ x. linking_payload (padded_of G.grammar) bytes.now (map link_view x.items)) }
+/// ensures none { IfErr result
+///     (λ e. e.cause ≢ Memory → RejectsWhole linking_payload
+///         (padded_of G.grammar) bytes.now) }
 /// ```
+///
+/// Definitions: [`linking_payload`](crate::definitions::custom::linking::linking_payload), [`padded_of`](crate::definitions::base::numbers::padded_of), [`link_view`](crate::definitions::custom::linking::link_view), [`RejectsWhole`](crate::definitions::base::continuing::RejectsWhole). [How to read clauses](crate::definitions).
 pub fn read_links<'a, A: Allocator + Copy + 'a, G: Grammar>(
     bytes: &'a [u8],
     alloc: A,
@@ -232,11 +270,18 @@ pub fn read_links<'a, A: Allocator + Copy + 'a, G: Grammar>(
 ///
 /// # Proved
 ///
+/// After `Ok`: `ok`. In any case: `front`, `too_long`.
+///
 /// ```text
-/// ensures ok { OnOk result (AppendsMinimal (prefixed (id ∷ []) (size_prefixed (vec T.format))) (map T.view items.now.items) sink.old.items sink.new.items) }
+/// ensures ok { OnOk result
+///     (AppendsMinimal (prefixed (id ∷ []) (size_prefixed (vec T.format)))
+///         (map T.view items.now.items) sink.old.items sink.new.items) }
 /// ensures front { IsFrontOf sink.old.items sink.new.items }
-/// ensures too_long { HasEncoding (prefixed (id ∷ []) (size_prefixed (vec T.format))) (map T.view items.now.items) → result ≢ Err TooLong }
+/// ensures too_long { HasEncoding (prefixed (id ∷ []) (size_prefixed (vec T.format)))
+///     (map T.view items.now.items) → result ≢ Err TooLong }
 /// ```
+///
+/// Definitions: [`AppendsMinimal`](crate::definitions::base::minimal::AppendsMinimal), [`prefixed`](crate::definitions::base::formats::prefixed), [`size_prefixed`](crate::definitions::base::formats::size_prefixed), [`vec`](crate::definitions::base::formats::vec), [`IsFrontOf`](crate::definitions::base::minimal::IsFrontOf), [`HasEncoding`](crate::definitions::base::minimal::HasEncoding). [How to read clauses](crate::definitions).
 fn append_vector<T: Shorten, A: Allocator, B: Sink>(
     id: u8,
     items: &Vec<T, A>,
@@ -253,11 +298,18 @@ fn append_vector<T: Shorten, A: Allocator, B: Sink>(
 ///
 /// # Proved
 ///
+/// After `Ok`: `ok`. In any case: `front`, `too_long`.
+///
 /// ```text
-/// ensures ok { OnOk result (AppendsMinimal (prefixed (9 ∷ []) (size_prefixed name_format)) name.now sink.old.items sink.new.items) }
+/// ensures ok { OnOk result
+///     (AppendsMinimal (prefixed (9 ∷ []) (size_prefixed name_format)) name.now
+///         sink.old.items sink.new.items) }
 /// ensures front { IsFrontOf sink.old.items sink.new.items }
-/// ensures too_long { HasEncoding (prefixed (9 ∷ []) (size_prefixed name_format)) name.now → result ≢ Err TooLong }
+/// ensures too_long { HasEncoding (prefixed (9 ∷ []) (size_prefixed name_format)) name.now
+///     → result ≢ Err TooLong }
 /// ```
+///
+/// Definitions: [`AppendsMinimal`](crate::definitions::base::minimal::AppendsMinimal), [`prefixed`](crate::definitions::base::formats::prefixed), [`size_prefixed`](crate::definitions::base::formats::size_prefixed), [`name_format`](crate::definitions::base::formats::name), [`IsFrontOf`](crate::definitions::base::minimal::IsFrontOf), [`HasEncoding`](crate::definitions::base::minimal::HasEncoding). [How to read clauses](crate::definitions).
 fn append_target<B: Sink>(name: &str, sink: &mut B) -> Result<()> {
     9u8.encode(sink)?;
     SizePrefixed(name).write_minimal(sink)
@@ -280,11 +332,18 @@ impl<'a, A: Allocator> Shorten for LinkItem<'a, A> {
 ///
 /// # Proved
 ///
+/// After `Ok`: `ok`. In any case: `front`, `too_long`.
+///
 /// ```text
-/// ensures ok { OnOk result (AppendsMinimal linking_payload (map link_view items.now) sink.old.items sink.new.items) }
+/// ensures ok { OnOk result
+///     (AppendsMinimal linking_payload
+///         (map link_view items.now) sink.old.items sink.new.items) }
 /// ensures front { IsFrontOf sink.old.items sink.new.items }
-/// ensures too_long { HasEncoding linking_payload (map link_view items.now) → result ≢ Err TooLong }
+/// ensures too_long { HasEncoding linking_payload (map link_view items.now)
+///     → result ≢ Err TooLong }
 /// ```
+///
+/// Definitions: [`AppendsMinimal`](crate::definitions::base::minimal::AppendsMinimal), [`linking_payload`](crate::definitions::custom::linking::linking_payload), [`link_view`](crate::definitions::custom::linking::link_view), [`IsFrontOf`](crate::definitions::base::minimal::IsFrontOf), [`HasEncoding`](crate::definitions::base::minimal::HasEncoding). [How to read clauses](crate::definitions).
 fn write_links<A: Allocator, B: Sink>(
     items: &[LinkItem<'_, A>],
     sink: &mut B,
@@ -299,11 +358,18 @@ fn write_links<A: Allocator, B: Sink>(
 ///
 /// # Proved
 ///
+/// After `Ok`: `ok`. After an error: `err`. In any case: `too_long`.
+///
 /// ```text
-/// ensures ok { OnOk result (AppendsMinimal linking_payload (map link_view items.now) sink.old.items sink.new.items) }
+/// ensures ok { OnOk result
+///     (AppendsMinimal linking_payload
+///         (map link_view items.now) sink.old.items sink.new.items) }
 /// ensures err { OnErr result (sink.new.items ≡ sink.old.items) }
-/// ensures too_long { HasEncoding linking_payload (map link_view items.now) → result ≢ Err TooLong }
+/// ensures too_long { HasEncoding linking_payload (map link_view items.now)
+///     → result ≢ Err TooLong }
 /// ```
+///
+/// Definitions: [`AppendsMinimal`](crate::definitions::base::minimal::AppendsMinimal), [`linking_payload`](crate::definitions::custom::linking::linking_payload), [`link_view`](crate::definitions::custom::linking::link_view), [`HasEncoding`](crate::definitions::base::minimal::HasEncoding). [How to read clauses](crate::definitions).
 pub fn append_links<A: Allocator, B: Sink>(
     items: &[LinkItem<'_, A>],
     sink: &mut B,

@@ -18,10 +18,13 @@ use crate::base::{Encode, Pieces, Result, encoding_size};
 /// member_encoding: { Member → List ℕ }
 /// // A property of each member that is added.
 /// is_member: { Member → Type 0 }
-/// // The id of the subsection that a list is encoded as, or none if it is encoded as a vector
+/// // The id of the subsection that a list is encoded as, or none if it is encoded as a
+///     vector
 /// // alone.
 /// subsection: { Option ℕ }
 /// ```
+///
+/// [How to read clauses](crate::definitions).
 pub trait ListKind {
     /// Returns that id.
     ///
@@ -30,6 +33,8 @@ pub trait ListKind {
     /// ```text
     /// ensures { result ≡ subsection }
     /// ```
+    ///
+    /// [How to read clauses](crate::definitions).
     fn subsection() -> Option<u8>;
 }
 
@@ -55,6 +60,8 @@ impl<K: ListKind, A: Allocator> CountedList<K, A> {
     /// ```text
     /// ensures { result ≡ length self.now }
     /// ```
+    ///
+    /// [How to read clauses](crate::definitions).
     pub fn len(&self) -> u32 {
         self.pieces.len()
     }
@@ -66,6 +73,8 @@ impl<K: ListKind, A: Allocator> CountedList<K, A> {
     /// ```text
     /// ensures { IsTrue result ↔ (length self.now ≡ 0) }
     /// ```
+    ///
+    /// [How to read clauses](crate::definitions).
     pub fn is_empty(&self) -> bool {
         self.pieces.is_empty()
     }
@@ -75,14 +84,19 @@ impl<K: ListKind, A: Allocator> CountedList<K, A> {
     /// # Asks
     ///
     /// ```text
-    /// requires { T.encodable given.now → IsEncodingOf K.member_encoding K.is_member (T.encoding given.now) }
+    /// requires { T.encodable given.now
+    ///     → IsEncodingOf K.member_encoding K.is_member (T.encoding given.now) }
     /// ```
+    ///
+    /// Definitions: [`IsEncodingOf`](crate::definitions::custom::lists::IsEncodingOf). [How to read clauses](crate::definitions).
     ///
     /// # Proved
     ///
     /// ```text
     /// ensures { Adds (T.encoding given.now) (T.encodable given.now) self.old self.new result }
     /// ```
+    ///
+    /// Definitions: [`Adds`](crate::definitions::base::calls::Adds). [How to read clauses](crate::definitions).
     pub(crate) fn add_record<T: Encode>(&mut self, given: &T) -> Result<()> {
         self.pieces.add_encoded(given)?;
         Ok(())
@@ -95,6 +109,8 @@ impl<K: ListKind, A: Allocator> CountedList<K, A> {
     /// ```text
     /// ensures { ContainsList K.member_encoding K.is_member self.now }
     /// ```
+    ///
+    /// Definitions: [`ContainsList`](crate::definitions::custom::lists::ContainsList). [How to read clauses](crate::definitions).
     pub fn members_law(&self) {
         let _ = self.pieces.len();
     }
@@ -108,6 +124,8 @@ impl<K: ListKind, A: Allocator + Copy> CountedList<K, A> {
     /// ```text
     /// ensures { result ≡ [] }
     /// ```
+    ///
+    /// [How to read clauses](crate::definitions).
     pub fn new(alloc: A) -> Self {
         CountedList {
             pieces: Pieces::new(alloc),
@@ -119,10 +137,14 @@ impl<K: ListKind, A: Allocator + Copy> CountedList<K, A> {
     ///
     /// # Proved
     ///
+    /// After `Ok`: `same`. In any case: `memory`.
+    ///
     /// ```text
     /// ensures same { IfOk result (λ l. l ≡ self.now) }
     /// ensures memory { result ≢ Err TooLong }
     /// ```
+    ///
+    /// [How to read clauses](crate::definitions).
     pub fn clone(&self) -> Result<Self> {
         Ok(CountedList {
             pieces: self.pieces.clone()?,
@@ -141,6 +163,8 @@ pub(crate) struct Entries<'a, K: ListKind, A: Allocator>(pub &'a CountedList<K, 
 /// encoding = { λ entries. list_encoding entries.0.now }
 /// encodable = { λ _. ⊤ }
 /// ```
+///
+/// Definitions: [`list_encoding`](crate::definitions::custom::lists::list_encoding). [How to read clauses](crate::definitions).
 impl<K: ListKind, A: Allocator> Encode for Entries<'_, K, A> {
     fn encode<B: Sink>(&self, sink: &mut B) -> Result<()> {
         let list = self.0;
@@ -167,6 +191,8 @@ impl<K: ListKind, A: Allocator> Content for Entries<'_, K, A> {
 /// encoding = { listed_encoding K.subsection }
 /// encodable = { IsEncodableList K.subsection }
 /// ```
+///
+/// Definitions: [`listed_encoding`](crate::definitions::custom::lists::listed_encoding), [`IsEncodableList`](crate::definitions::custom::lists::IsEncodableList). [How to read clauses](crate::definitions).
 impl<K: ListKind, A: Allocator> Encode for CountedList<K, A> {
     fn encode<B: Sink>(&self, sink: &mut B) -> Result<()> {
         let entries = Entries(self);

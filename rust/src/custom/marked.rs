@@ -8,10 +8,18 @@ use crate::base::{DecodeError, Grammar, Layout, ReadFault, Readable};
 ///
 /// # Proved
 ///
+/// After `Ok`: `found`. After an error: `none`.
+///
 /// ```text
-/// ensures found { IfOk result (λ x. Decodes (prefixed (mark ∷ []) T.format) (padded_of G.grammar) bytes.now (T.view x.0) x.1.now) }
-/// ensures none { IfErr result (λ e. e.cause ≢ Memory → Rejects (prefixed (mark ∷ []) T.format) (padded_of G.grammar) bytes.now) }
+/// ensures found { IfOk result
+///     (λ x. Decodes (prefixed (mark ∷ []) T.format) (padded_of G.grammar) bytes.now
+///         (T.view x.0) x.1.now) }
+/// ensures none { IfErr result
+///     (λ e. e.cause ≢ Memory → Rejects (prefixed (mark ∷ []) T.format)
+///         (padded_of G.grammar) bytes.now) }
 /// ```
+///
+/// Definitions: [`Decodes`](crate::definitions::base::decoding::Decodes), [`prefixed`](crate::definitions::base::formats::prefixed), [`padded_of`](crate::definitions::base::numbers::padded_of), [`Rejects`](crate::definitions::base::decoding::Rejects). [How to read clauses](crate::definitions).
 pub(crate) fn read_marked<'a, T: Readable<'a, A, G>, A: Allocator + Copy, G: Grammar>(
     mark: u8,
     bytes: &'a [u8],
@@ -36,12 +44,16 @@ pub(crate) struct MarkedName<'a>(pub &'a str);
 /// format = { marked_name }
 /// view = { λ m. m.0.now }
 /// ```
+///
+/// Definitions: [`marked_name`](crate::definitions::custom::core_dumps::marked_name). [How to read clauses](crate::definitions).
 impl<'a> Layout for MarkedName<'a> {
     /// # Proved
     ///
     /// ```text
     /// ensures { Unambiguous marked_name }
     /// ```
+    ///
+    /// Definitions: [`Unambiguous`](crate::definitions::base::decoding::Unambiguous), [`marked_name`](crate::definitions::custom::core_dumps::marked_name). [How to read clauses](crate::definitions).
     fn laws() {}
 }
 

@@ -12,6 +12,8 @@ use crate::base::{DecodeError, Grammar, ReadFault, Readable};
 /// ```text
 /// ensures { result.cause ≡ UnknownTag }
 /// ```
+///
+/// [How to read clauses](crate::definitions).
 fn other_name(name: &str, known: &str, rest: &[u8]) -> DecodeError {
     let mut left = known.as_bytes();
     if left.len() != name.len() {
@@ -30,10 +32,18 @@ fn other_name(name: &str, known: &str, rest: &[u8]) -> DecodeError {
 ///
 /// # Proved
 ///
+/// After `Ok`: `found`. After an error: `none`.
+///
 /// ```text
-/// ensures found { IfOk result (λ rest. Decodes (just name.now name_format) (padded_of G.grammar) bytes.now tt rest.now) }
-/// ensures none { IfErr result (λ e. e.cause ≢ Memory → Rejects (just name.now name_format) (padded_of G.grammar) bytes.now) }
+/// ensures found { IfOk result
+///     (λ rest. Decodes (just name.now name_format)
+///         (padded_of G.grammar) bytes.now tt rest.now) }
+/// ensures none { IfErr result
+///     (λ e. e.cause ≢ Memory → Rejects (just name.now name_format)
+///         (padded_of G.grammar) bytes.now) }
 /// ```
+///
+/// Definitions: [`Decodes`](crate::definitions::base::decoding::Decodes), [`just`](crate::definitions::base::formats::just), [`name_format`](crate::definitions::base::formats::name), [`padded_of`](crate::definitions::base::numbers::padded_of), [`Rejects`](crate::definitions::base::decoding::Rejects). [How to read clauses](crate::definitions).
 pub(crate) fn after_name<'a, A: Allocator + Copy, G: Grammar>(
     name: &str,
     bytes: &'a [u8],

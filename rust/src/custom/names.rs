@@ -26,6 +26,8 @@ pub struct NameMembers;
 /// is_member = { IsNaming }
 /// subsection = { None }
 /// ```
+///
+/// Definitions: [`Naming`](crate::definitions::custom::names::Naming), [`naming_encoding`](crate::definitions::custom::names::naming_encoding), [`IsNaming`](crate::definitions::custom::names::IsNaming). [How to read clauses](crate::definitions).
 impl ListKind for NameMembers {
     fn subsection() -> Option<u8> {
         None
@@ -38,10 +40,45 @@ impl<A: Allocator> NameMap<A> {
     /// # Proved
     ///
     /// ```text
-    /// ensures { Adds (unsigned_encoding index ++ size_prefixed_encoding name.now) (HasEncodableSize name.now) self.old self.new result }
+    /// ensures { Adds (unsigned_encoding index ++ size_prefixed_encoding name.now)
+    ///     (HasEncodableSize name.now) self.old self.new result }
     /// ```
+    ///
+    /// Definitions: [`Adds`](crate::definitions::base::calls::Adds), [`unsigned_encoding`](crate::definitions::base::numbers::unsigned_encoding), [`size_prefixed_encoding`](crate::definitions::base::encodings::size_prefixed_encoding), [`HasEncodableSize`](crate::definitions::base::encodings::HasEncodableSize). [How to read clauses](crate::definitions).
     pub fn append(&mut self, index: u32, name: &str) -> Result<()> {
-        self.add_record(&(index, name))
+        self.add_record(&IndexedName { index, name })
+    }
+}
+
+/// A member of a name map: an index, and its name.
+#[derive(Clone, Copy)]
+struct IndexedName<'a> {
+    index: u32,
+    name: &'a str,
+}
+
+/// Encodes the index, and then the name. An index and a size of one byte each are written after one
+/// test of the spare capacity.
+///
+/// # Defined
+///
+/// ```text
+/// encoding = { λ n. unsigned_encoding n.index ++ size_prefixed_encoding n.name.now }
+/// encodable = { λ n. HasEncodableSize n.name.now }
+/// ```
+///
+/// Definitions: [`unsigned_encoding`](crate::definitions::base::numbers::unsigned_encoding), [`size_prefixed_encoding`](crate::definitions::base::encodings::size_prefixed_encoding), [`HasEncodableSize`](crate::definitions::base::encodings::HasEncodableSize). [How to read clauses](crate::definitions).
+impl Encode for IndexedName<'_> {
+    fn encode<A: Sink>(&self, sink: &mut A) -> Result<()> {
+        let bytes = self.name.as_bytes();
+        let size = bytes.len();
+        if self.index >= 0x80 || size >= 0x80 {
+            return (self.index, self.name).encode(sink);
+        }
+        sink.reserve(size + 2)?;
+        sink.push_both_reserved([self.index as u8, size as u8]);
+        sink.extend_from_slice(bytes).unwrap();
+        Ok(())
     }
 }
 
@@ -61,6 +98,8 @@ pub struct IndirectMembers;
 /// is_member = { IsInside }
 /// subsection = { None }
 /// ```
+///
+/// Definitions: [`Inside`](crate::definitions::custom::names::Inside), [`inside_encoding`](crate::definitions::custom::names::inside_encoding), [`IsInside`](crate::definitions::custom::names::IsInside). [How to read clauses](crate::definitions).
 impl ListKind for IndirectMembers {
     fn subsection() -> Option<u8> {
         None
@@ -73,8 +112,11 @@ impl<A: Allocator> IndirectNameMap<A> {
     /// # Proved
     ///
     /// ```text
-    /// ensures { Adds (unsigned_encoding index ++ list_encoding names.now) ⊤ self.old self.new result }
+    /// ensures { Adds (unsigned_encoding index ++ list_encoding names.now) ⊤ self.old self.new
+    ///     result }
     /// ```
+    ///
+    /// Definitions: [`Adds`](crate::definitions::base::calls::Adds), [`unsigned_encoding`](crate::definitions::base::numbers::unsigned_encoding), [`list_encoding`](crate::definitions::custom::lists::list_encoding). [How to read clauses](crate::definitions).
     pub fn append<B: Allocator>(&mut self, index: u32, names: &NameMap<B>) -> Result<()> {
         names.members_law();
         self.add_record(&(index, Lent(names)))
@@ -111,6 +153,8 @@ pub struct NameItems;
 /// Item = { NameModel }
 /// kind = { name_items }
 /// ```
+///
+/// Definitions: [`NameModel`](crate::definitions::custom::names::NameItem), [`name_items`](crate::definitions::custom::names::name_items). [How to read clauses](crate::definitions).
 impl Kind for NameItems {
     fn laws() {}
 }
@@ -123,6 +167,8 @@ impl Kind for NameItems {
 /// front_format = { fixed [] (tt {0}) }
 /// counted = { false }
 /// ```
+///
+/// Definitions: [`name_name`](crate::definitions::custom::names::name_name), [`fixed`](crate::definitions::base::formats::fixed). [How to read clauses](crate::definitions).
 impl CustomKind for NameItems {
     fn name() -> &'static str {
         "name"
@@ -145,8 +191,11 @@ impl<A: Allocator> NameSection<A> {
     /// # Proved
     ///
     /// ```text
-    /// ensures { Adds (subsection_encoding id (list_encoding names.now)) (HasEncodableSize (list_encoding names.now) × ⊤) self.old self.new result }
+    /// ensures { Adds (subsection_encoding id (list_encoding names.now))
+    ///     (HasEncodableSize (list_encoding names.now) × ⊤) self.old self.new result }
     /// ```
+    ///
+    /// Definitions: [`Adds`](crate::definitions::base::calls::Adds), [`subsection_encoding`](crate::definitions::custom::customs::subsection_encoding), [`list_encoding`](crate::definitions::custom::lists::list_encoding), [`HasEncodableSize`](crate::definitions::base::encodings::HasEncodableSize). [How to read clauses](crate::definitions).
     fn map<B: Allocator>(&mut self, id: u8, names: &NameMap<B>) -> Result<()> {
         let content = &Entries(names);
         self.add_record(&Subsection { id, content })
@@ -157,8 +206,11 @@ impl<A: Allocator> NameSection<A> {
     /// # Proved
     ///
     /// ```text
-    /// ensures { Adds (subsection_encoding id (list_encoding names.now)) (HasEncodableSize (list_encoding names.now) × ⊤) self.old self.new result }
+    /// ensures { Adds (subsection_encoding id (list_encoding names.now))
+    ///     (HasEncodableSize (list_encoding names.now) × ⊤) self.old self.new result }
     /// ```
+    ///
+    /// Definitions: [`Adds`](crate::definitions::base::calls::Adds), [`subsection_encoding`](crate::definitions::custom::customs::subsection_encoding), [`list_encoding`](crate::definitions::custom::lists::list_encoding), [`HasEncodableSize`](crate::definitions::base::encodings::HasEncodableSize). [How to read clauses](crate::definitions).
     fn indirect_map<B: Allocator>(&mut self, id: u8, names: &IndirectNameMap<B>) -> Result<()> {
         let content = &Entries(names);
         self.add_record(&Subsection { id, content })
@@ -169,8 +221,12 @@ impl<A: Allocator> NameSection<A> {
     /// # Proved
     ///
     /// ```text
-    /// ensures { Adds (subsection_encoding 0 (size_prefixed_encoding name.now)) (HasEncodableSize (size_prefixed_encoding name.now) × HasEncodableSize name.now) self.old self.new result }
+    /// ensures { Adds (subsection_encoding 0 (size_prefixed_encoding name.now))
+    ///     (HasEncodableSize (size_prefixed_encoding name.now) × HasEncodableSize name.now)
+    ///     self.old self.new result }
     /// ```
+    ///
+    /// Definitions: [`Adds`](crate::definitions::base::calls::Adds), [`subsection_encoding`](crate::definitions::custom::customs::subsection_encoding), [`size_prefixed_encoding`](crate::definitions::base::encodings::size_prefixed_encoding), [`HasEncodableSize`](crate::definitions::base::encodings::HasEncodableSize). [How to read clauses](crate::definitions).
     pub fn module(&mut self, name: &str) -> Result<()> {
         self.add_record(&Subsection {
             id: 0,
@@ -183,8 +239,11 @@ impl<A: Allocator> NameSection<A> {
     /// # Proved
     ///
     /// ```text
-    /// ensures { Adds (subsection_encoding 1 (list_encoding names.now)) (HasEncodableSize (list_encoding names.now) × ⊤) self.old self.new result }
+    /// ensures { Adds (subsection_encoding 1 (list_encoding names.now))
+    ///     (HasEncodableSize (list_encoding names.now) × ⊤) self.old self.new result }
     /// ```
+    ///
+    /// Definitions: [`Adds`](crate::definitions::base::calls::Adds), [`subsection_encoding`](crate::definitions::custom::customs::subsection_encoding), [`list_encoding`](crate::definitions::custom::lists::list_encoding), [`HasEncodableSize`](crate::definitions::base::encodings::HasEncodableSize). [How to read clauses](crate::definitions).
     pub fn functions<B: Allocator>(&mut self, names: &NameMap<B>) -> Result<()> {
         self.map(1, names)
     }
@@ -194,8 +253,11 @@ impl<A: Allocator> NameSection<A> {
     /// # Proved
     ///
     /// ```text
-    /// ensures { Adds (subsection_encoding 4 (list_encoding names.now)) (HasEncodableSize (list_encoding names.now) × ⊤) self.old self.new result }
+    /// ensures { Adds (subsection_encoding 4 (list_encoding names.now))
+    ///     (HasEncodableSize (list_encoding names.now) × ⊤) self.old self.new result }
     /// ```
+    ///
+    /// Definitions: [`Adds`](crate::definitions::base::calls::Adds), [`subsection_encoding`](crate::definitions::custom::customs::subsection_encoding), [`list_encoding`](crate::definitions::custom::lists::list_encoding), [`HasEncodableSize`](crate::definitions::base::encodings::HasEncodableSize). [How to read clauses](crate::definitions).
     pub fn types<B: Allocator>(&mut self, names: &NameMap<B>) -> Result<()> {
         self.map(4, names)
     }
@@ -205,8 +267,11 @@ impl<A: Allocator> NameSection<A> {
     /// # Proved
     ///
     /// ```text
-    /// ensures { Adds (subsection_encoding 5 (list_encoding names.now)) (HasEncodableSize (list_encoding names.now) × ⊤) self.old self.new result }
+    /// ensures { Adds (subsection_encoding 5 (list_encoding names.now))
+    ///     (HasEncodableSize (list_encoding names.now) × ⊤) self.old self.new result }
     /// ```
+    ///
+    /// Definitions: [`Adds`](crate::definitions::base::calls::Adds), [`subsection_encoding`](crate::definitions::custom::customs::subsection_encoding), [`list_encoding`](crate::definitions::custom::lists::list_encoding), [`HasEncodableSize`](crate::definitions::base::encodings::HasEncodableSize). [How to read clauses](crate::definitions).
     pub fn tables<B: Allocator>(&mut self, names: &NameMap<B>) -> Result<()> {
         self.map(5, names)
     }
@@ -216,8 +281,11 @@ impl<A: Allocator> NameSection<A> {
     /// # Proved
     ///
     /// ```text
-    /// ensures { Adds (subsection_encoding 6 (list_encoding names.now)) (HasEncodableSize (list_encoding names.now) × ⊤) self.old self.new result }
+    /// ensures { Adds (subsection_encoding 6 (list_encoding names.now))
+    ///     (HasEncodableSize (list_encoding names.now) × ⊤) self.old self.new result }
     /// ```
+    ///
+    /// Definitions: [`Adds`](crate::definitions::base::calls::Adds), [`subsection_encoding`](crate::definitions::custom::customs::subsection_encoding), [`list_encoding`](crate::definitions::custom::lists::list_encoding), [`HasEncodableSize`](crate::definitions::base::encodings::HasEncodableSize). [How to read clauses](crate::definitions).
     pub fn memories<B: Allocator>(&mut self, names: &NameMap<B>) -> Result<()> {
         self.map(6, names)
     }
@@ -227,8 +295,11 @@ impl<A: Allocator> NameSection<A> {
     /// # Proved
     ///
     /// ```text
-    /// ensures { Adds (subsection_encoding 7 (list_encoding names.now)) (HasEncodableSize (list_encoding names.now) × ⊤) self.old self.new result }
+    /// ensures { Adds (subsection_encoding 7 (list_encoding names.now))
+    ///     (HasEncodableSize (list_encoding names.now) × ⊤) self.old self.new result }
     /// ```
+    ///
+    /// Definitions: [`Adds`](crate::definitions::base::calls::Adds), [`subsection_encoding`](crate::definitions::custom::customs::subsection_encoding), [`list_encoding`](crate::definitions::custom::lists::list_encoding), [`HasEncodableSize`](crate::definitions::base::encodings::HasEncodableSize). [How to read clauses](crate::definitions).
     pub fn globals<B: Allocator>(&mut self, names: &NameMap<B>) -> Result<()> {
         self.map(7, names)
     }
@@ -238,8 +309,11 @@ impl<A: Allocator> NameSection<A> {
     /// # Proved
     ///
     /// ```text
-    /// ensures { Adds (subsection_encoding 8 (list_encoding names.now)) (HasEncodableSize (list_encoding names.now) × ⊤) self.old self.new result }
+    /// ensures { Adds (subsection_encoding 8 (list_encoding names.now))
+    ///     (HasEncodableSize (list_encoding names.now) × ⊤) self.old self.new result }
     /// ```
+    ///
+    /// Definitions: [`Adds`](crate::definitions::base::calls::Adds), [`subsection_encoding`](crate::definitions::custom::customs::subsection_encoding), [`list_encoding`](crate::definitions::custom::lists::list_encoding), [`HasEncodableSize`](crate::definitions::base::encodings::HasEncodableSize). [How to read clauses](crate::definitions).
     pub fn elements<B: Allocator>(&mut self, names: &NameMap<B>) -> Result<()> {
         self.map(8, names)
     }
@@ -249,8 +323,11 @@ impl<A: Allocator> NameSection<A> {
     /// # Proved
     ///
     /// ```text
-    /// ensures { Adds (subsection_encoding 9 (list_encoding names.now)) (HasEncodableSize (list_encoding names.now) × ⊤) self.old self.new result }
+    /// ensures { Adds (subsection_encoding 9 (list_encoding names.now))
+    ///     (HasEncodableSize (list_encoding names.now) × ⊤) self.old self.new result }
     /// ```
+    ///
+    /// Definitions: [`Adds`](crate::definitions::base::calls::Adds), [`subsection_encoding`](crate::definitions::custom::customs::subsection_encoding), [`list_encoding`](crate::definitions::custom::lists::list_encoding), [`HasEncodableSize`](crate::definitions::base::encodings::HasEncodableSize). [How to read clauses](crate::definitions).
     pub fn data<B: Allocator>(&mut self, names: &NameMap<B>) -> Result<()> {
         self.map(9, names)
     }
@@ -260,8 +337,11 @@ impl<A: Allocator> NameSection<A> {
     /// # Proved
     ///
     /// ```text
-    /// ensures { Adds (subsection_encoding 11 (list_encoding names.now)) (HasEncodableSize (list_encoding names.now) × ⊤) self.old self.new result }
+    /// ensures { Adds (subsection_encoding 11 (list_encoding names.now))
+    ///     (HasEncodableSize (list_encoding names.now) × ⊤) self.old self.new result }
     /// ```
+    ///
+    /// Definitions: [`Adds`](crate::definitions::base::calls::Adds), [`subsection_encoding`](crate::definitions::custom::customs::subsection_encoding), [`list_encoding`](crate::definitions::custom::lists::list_encoding), [`HasEncodableSize`](crate::definitions::base::encodings::HasEncodableSize). [How to read clauses](crate::definitions).
     pub fn tag<B: Allocator>(&mut self, names: &NameMap<B>) -> Result<()> {
         self.tags(names)
     }
@@ -271,8 +351,11 @@ impl<A: Allocator> NameSection<A> {
     /// # Proved
     ///
     /// ```text
-    /// ensures { Adds (subsection_encoding 11 (list_encoding names.now)) (HasEncodableSize (list_encoding names.now) × ⊤) self.old self.new result }
+    /// ensures { Adds (subsection_encoding 11 (list_encoding names.now))
+    ///     (HasEncodableSize (list_encoding names.now) × ⊤) self.old self.new result }
     /// ```
+    ///
+    /// Definitions: [`Adds`](crate::definitions::base::calls::Adds), [`subsection_encoding`](crate::definitions::custom::customs::subsection_encoding), [`list_encoding`](crate::definitions::custom::lists::list_encoding), [`HasEncodableSize`](crate::definitions::base::encodings::HasEncodableSize). [How to read clauses](crate::definitions).
     pub fn tags<B: Allocator>(&mut self, names: &NameMap<B>) -> Result<()> {
         self.map(11, names)
     }
@@ -282,8 +365,11 @@ impl<A: Allocator> NameSection<A> {
     /// # Proved
     ///
     /// ```text
-    /// ensures { Adds (subsection_encoding 2 (list_encoding names.now)) (HasEncodableSize (list_encoding names.now) × ⊤) self.old self.new result }
+    /// ensures { Adds (subsection_encoding 2 (list_encoding names.now))
+    ///     (HasEncodableSize (list_encoding names.now) × ⊤) self.old self.new result }
     /// ```
+    ///
+    /// Definitions: [`Adds`](crate::definitions::base::calls::Adds), [`subsection_encoding`](crate::definitions::custom::customs::subsection_encoding), [`list_encoding`](crate::definitions::custom::lists::list_encoding), [`HasEncodableSize`](crate::definitions::base::encodings::HasEncodableSize). [How to read clauses](crate::definitions).
     pub fn locals<B: Allocator>(&mut self, names: &IndirectNameMap<B>) -> Result<()> {
         self.indirect_map(2, names)
     }
@@ -293,8 +379,11 @@ impl<A: Allocator> NameSection<A> {
     /// # Proved
     ///
     /// ```text
-    /// ensures { Adds (subsection_encoding 3 (list_encoding names.now)) (HasEncodableSize (list_encoding names.now) × ⊤) self.old self.new result }
+    /// ensures { Adds (subsection_encoding 3 (list_encoding names.now))
+    ///     (HasEncodableSize (list_encoding names.now) × ⊤) self.old self.new result }
     /// ```
+    ///
+    /// Definitions: [`Adds`](crate::definitions::base::calls::Adds), [`subsection_encoding`](crate::definitions::custom::customs::subsection_encoding), [`list_encoding`](crate::definitions::custom::lists::list_encoding), [`HasEncodableSize`](crate::definitions::base::encodings::HasEncodableSize). [How to read clauses](crate::definitions).
     pub fn labels<B: Allocator>(&mut self, names: &IndirectNameMap<B>) -> Result<()> {
         self.indirect_map(3, names)
     }
@@ -304,8 +393,11 @@ impl<A: Allocator> NameSection<A> {
     /// # Proved
     ///
     /// ```text
-    /// ensures { Adds (subsection_encoding 10 (list_encoding names.now)) (HasEncodableSize (list_encoding names.now) × ⊤) self.old self.new result }
+    /// ensures { Adds (subsection_encoding 10 (list_encoding names.now))
+    ///     (HasEncodableSize (list_encoding names.now) × ⊤) self.old self.new result }
     /// ```
+    ///
+    /// Definitions: [`Adds`](crate::definitions::base::calls::Adds), [`subsection_encoding`](crate::definitions::custom::customs::subsection_encoding), [`list_encoding`](crate::definitions::custom::lists::list_encoding), [`HasEncodableSize`](crate::definitions::base::encodings::HasEncodableSize). [How to read clauses](crate::definitions).
     pub fn fields<B: Allocator>(&mut self, names: &IndirectNameMap<B>) -> Result<()> {
         self.indirect_map(10, names)
     }
@@ -315,8 +407,11 @@ impl<A: Allocator> NameSection<A> {
     /// # Proved
     ///
     /// ```text
-    /// ensures { Adds (subsection_encoding 12 (list_encoding names.now)) (HasEncodableSize (list_encoding names.now) × ⊤) self.old self.new result }
+    /// ensures { Adds (subsection_encoding 12 (list_encoding names.now))
+    ///     (HasEncodableSize (list_encoding names.now) × ⊤) self.old self.new result }
     /// ```
+    ///
+    /// Definitions: [`Adds`](crate::definitions::base::calls::Adds), [`subsection_encoding`](crate::definitions::custom::customs::subsection_encoding), [`list_encoding`](crate::definitions::custom::lists::list_encoding), [`HasEncodableSize`](crate::definitions::base::encodings::HasEncodableSize). [How to read clauses](crate::definitions).
     pub fn parameters<B: Allocator>(&mut self, names: &IndirectNameMap<B>) -> Result<()> {
         self.indirect_map(12, names)
     }
@@ -326,8 +421,11 @@ impl<A: Allocator> NameSection<A> {
     /// # Proved
     ///
     /// ```text
-    /// ensures { Adds (subsection_encoding 13 (list_encoding names.now)) (HasEncodableSize (list_encoding names.now) × ⊤) self.old self.new result }
+    /// ensures { Adds (subsection_encoding 13 (list_encoding names.now))
+    ///     (HasEncodableSize (list_encoding names.now) × ⊤) self.old self.new result }
     /// ```
+    ///
+    /// Definitions: [`Adds`](crate::definitions::base::calls::Adds), [`subsection_encoding`](crate::definitions::custom::customs::subsection_encoding), [`list_encoding`](crate::definitions::custom::lists::list_encoding), [`HasEncodableSize`](crate::definitions::base::encodings::HasEncodableSize). [How to read clauses](crate::definitions).
     pub fn tag_parameters<B: Allocator>(&mut self, names: &IndirectNameMap<B>) -> Result<()> {
         self.indirect_map(13, names)
     }
@@ -338,8 +436,11 @@ impl<A: Allocator> NameSection<A> {
     /// # Proved
     ///
     /// ```text
-    /// ensures { Adds (subsection_encoding id content.now) (HasEncodableSize content.now × ⊤) self.old self.new result }
+    /// ensures { Adds (subsection_encoding id content.now)
+    ///     (HasEncodableSize content.now × ⊤) self.old self.new result }
     /// ```
+    ///
+    /// Definitions: [`Adds`](crate::definitions::base::calls::Adds), [`subsection_encoding`](crate::definitions::custom::customs::subsection_encoding), [`HasEncodableSize`](crate::definitions::base::encodings::HasEncodableSize). [How to read clauses](crate::definitions).
     pub fn raw(&mut self, id: u8, content: &[u8]) -> Result<()> {
         self.add_record(&Subsection {
             id,
@@ -355,6 +456,8 @@ impl<A: Allocator> NameSection<A> {
     /// ensures name { encoding_of result.name ≡ name_name }
     /// ensures bytes { items_of result.bytes ≡ joined self.now }
     /// ```
+    ///
+    /// Definitions: [`encoding_of`](crate::definitions::base::cow::encoding_of), [`name_name`](crate::definitions::custom::names::name_name), [`items_of`](crate::definitions::base::cow::items_of), [`joined`](crate::definitions::base::pieces::joined). [How to read clauses](crate::definitions).
     pub fn as_custom(&self) -> CustomSection<'_> {
         CustomSection {
             name: CowStr::Borrowed("name"),
@@ -402,6 +505,8 @@ enum NameKind {
 /// ```text
 /// ensures { kind_as result ≡ kind_of_id id }
 /// ```
+///
+/// Definitions: [`kind_as`](crate::definitions::custom::names::kind_as), [`kind_of_id`](crate::definitions::custom::names::name_kind_of). [How to read clauses](crate::definitions).
 fn name_kind_of(id: u8) -> NameKind {
     match id {
         0 => NameKind::Module,
@@ -415,10 +520,17 @@ fn name_kind_of(id: u8) -> NameKind {
 ///
 /// # Proved
 ///
+/// After `Ok`: `found`. After an error: `none`.
+///
 /// ```text
-/// ensures found { IfOk result (λ x. inside (kind_as kind) id (padded_of G.grammar) bytes.now (name_item_view x)) }
-/// ensures none { IfErr result (λ e. e.cause ≢ Memory → RejectsWhole (inside (kind_as kind) id) (padded_of G.grammar) bytes.now) }
+/// ensures found { IfOk result
+///     (λ x. inside (kind_as kind) id (padded_of G.grammar) bytes.now (name_item_view x)) }
+/// ensures none { IfErr result
+///     (λ e. e.cause ≢ Memory → RejectsWhole (inside (kind_as kind) id)
+///         (padded_of G.grammar) bytes.now) }
 /// ```
+///
+/// Definitions: [`inside`](crate::definitions::custom::names::inside), [`kind_as`](crate::definitions::custom::names::kind_as), [`padded_of`](crate::definitions::base::numbers::padded_of), [`name_item_view`](crate::definitions::custom::names::name_item_view), [`RejectsWhole`](crate::definitions::base::continuing::RejectsWhole). [How to read clauses](crate::definitions).
 fn fill_subsection<'a, A: Allocator + Copy + 'a, G: Grammar>(
     kind: NameKind,
     id: u8,
@@ -452,12 +564,16 @@ fn fill_subsection<'a, A: Allocator + Copy + 'a, G: Grammar>(
 /// format = { subsection }
 /// view = { name_item_view }
 /// ```
+///
+/// Definitions: [`NameModel`](crate::definitions::custom::names::NameItem), [`subsection`](crate::definitions::custom::names::subsection), [`name_item_view`](crate::definitions::custom::names::name_item_view). [How to read clauses](crate::definitions).
 impl<'a, A: Allocator> Layout for NameItem<'a, A> {
     /// # Proved
     ///
     /// ```text
     /// ensures { Unambiguous subsection }
     /// ```
+    ///
+    /// Definitions: [`Unambiguous`](crate::definitions::base::decoding::Unambiguous), [`subsection`](crate::definitions::custom::names::subsection). [How to read clauses](crate::definitions).
     fn laws() {}
 }
 
@@ -478,10 +594,17 @@ impl<'a, A: Allocator + Copy + 'a, G: Grammar> Readable<'a, A, G> for NameItem<'
 ///
 /// # Proved
 ///
+/// After `Ok`: `found`. After an error: `none`.
+///
 /// ```text
-/// ensures found { IfOk result (λ x. name_payload (padded_of G.grammar) bytes.now (map name_item_view x.items)) }
-/// ensures none { IfErr result (λ e. e.cause ≢ Memory → RejectsWhole name_payload (padded_of G.grammar) bytes.now) }
+/// ensures found { IfOk result
+///     (λ x. name_payload (padded_of G.grammar) bytes.now (map name_item_view x.items)) }
+/// ensures none { IfErr result
+///     (λ e. e.cause ≢ Memory → RejectsWhole name_payload (padded_of G.grammar) bytes.now)
+///     }
 /// ```
+///
+/// Definitions: [`name_payload`](crate::definitions::custom::names::name_payload), [`padded_of`](crate::definitions::base::numbers::padded_of), [`name_item_view`](crate::definitions::custom::names::name_item_view), [`RejectsWhole`](crate::definitions::base::continuing::RejectsWhole). [How to read clauses](crate::definitions).
 pub fn read_names<'a, A: Allocator + Copy + 'a, G: Grammar>(
     bytes: &'a [u8],
     alloc: A,
@@ -499,6 +622,8 @@ impl<'a, A: Allocator> NameItem<'a, A> {
     /// ```text
     /// ensures { result ≡ id_of (name_item_view self.now) }
     /// ```
+    ///
+    /// Definitions: [`id_of`](crate::definitions::custom::names::id_of), [`name_item_view`](crate::definitions::custom::names::name_item_view). [How to read clauses](crate::definitions).
     fn id(&self) -> u8 {
         match self {
             NameItem::Module(_) => 0,
@@ -512,11 +637,20 @@ impl<'a, A: Allocator> NameItem<'a, A> {
     ///
     /// # Proved
     ///
+    /// After `Ok`: `ok`. In any case: `front`, `too_long`.
+    ///
     /// ```text
-    /// ensures ok { OnOk result (AppendsMinimal (inside (held_by (name_item_view self.now)) (id_of (name_item_view self.now))) (name_item_view self.now) sink.old.items sink.new.items) }
+    /// ensures ok { OnOk result
+    ///     (AppendsMinimal (inside (held_by (name_item_view self.now))
+    ///             (id_of (name_item_view self.now)))
+    ///         (name_item_view self.now) sink.old.items sink.new.items) }
     /// ensures front { IsFrontOf sink.old.items sink.new.items }
-    /// ensures too_long { HasEncoding (inside (held_by (name_item_view self.now)) (id_of (name_item_view self.now))) (name_item_view self.now) → result ≢ Err TooLong }
+    /// ensures too_long { HasEncoding
+    ///     (inside (held_by (name_item_view self.now)) (id_of (name_item_view self.now)))
+    ///     (name_item_view self.now) → result ≢ Err TooLong }
     /// ```
+    ///
+    /// Definitions: [`AppendsMinimal`](crate::definitions::base::minimal::AppendsMinimal), [`inside`](crate::definitions::custom::names::inside), [`held_by`](crate::definitions::custom::names::held_by), [`name_item_view`](crate::definitions::custom::names::name_item_view), [`id_of`](crate::definitions::custom::names::id_of), [`IsFrontOf`](crate::definitions::base::minimal::IsFrontOf), [`HasEncoding`](crate::definitions::base::minimal::HasEncoding). [How to read clauses](crate::definitions).
     fn append_content<B: Sink>(&self, sink: &mut B) -> Result<()> {
         match self {
             NameItem::Module(name) => name.write_minimal(sink),
@@ -544,11 +678,18 @@ impl<'a, A: Allocator> Shorten for NameItem<'a, A> {
 ///
 /// # Proved
 ///
+/// After `Ok`: `ok`. In any case: `front`, `too_long`.
+///
 /// ```text
-/// ensures ok { OnOk result (AppendsMinimal name_payload (map name_item_view items.now) sink.old.items sink.new.items) }
+/// ensures ok { OnOk result
+///     (AppendsMinimal name_payload
+///         (map name_item_view items.now) sink.old.items sink.new.items) }
 /// ensures front { IsFrontOf sink.old.items sink.new.items }
-/// ensures too_long { HasEncoding name_payload (map name_item_view items.now) → result ≢ Err TooLong }
+/// ensures too_long { HasEncoding name_payload (map name_item_view items.now)
+///     → result ≢ Err TooLong }
 /// ```
+///
+/// Definitions: [`AppendsMinimal`](crate::definitions::base::minimal::AppendsMinimal), [`name_payload`](crate::definitions::custom::names::name_payload), [`name_item_view`](crate::definitions::custom::names::name_item_view), [`IsFrontOf`](crate::definitions::base::minimal::IsFrontOf), [`HasEncoding`](crate::definitions::base::minimal::HasEncoding). [How to read clauses](crate::definitions).
 fn write_names<A: Allocator, B: Sink>(
     items: &[NameItem<'_, A>],
     sink: &mut B,
@@ -562,11 +703,18 @@ fn write_names<A: Allocator, B: Sink>(
 ///
 /// # Proved
 ///
+/// After `Ok`: `ok`. After an error: `err`. In any case: `too_long`.
+///
 /// ```text
-/// ensures ok { OnOk result (AppendsMinimal name_payload (map name_item_view items.now) sink.old.items sink.new.items) }
+/// ensures ok { OnOk result
+///     (AppendsMinimal name_payload
+///         (map name_item_view items.now) sink.old.items sink.new.items) }
 /// ensures err { OnErr result (sink.new.items ≡ sink.old.items) }
-/// ensures too_long { HasEncoding name_payload (map name_item_view items.now) → result ≢ Err TooLong }
+/// ensures too_long { HasEncoding name_payload (map name_item_view items.now)
+///     → result ≢ Err TooLong }
 /// ```
+///
+/// Definitions: [`AppendsMinimal`](crate::definitions::base::minimal::AppendsMinimal), [`name_payload`](crate::definitions::custom::names::name_payload), [`name_item_view`](crate::definitions::custom::names::name_item_view), [`HasEncoding`](crate::definitions::base::minimal::HasEncoding). [How to read clauses](crate::definitions).
 pub fn append_names<A: Allocator, B: Sink>(
     items: &[NameItem<'_, A>],
     sink: &mut B,

@@ -46,6 +46,8 @@ pub struct ObjectLinkingItems;
 /// Item = { LinkModel }
 /// kind = { object_items }
 /// ```
+///
+/// Definitions: [`LinkModel`](crate::definitions::custom::linking::LinkItem), [`object_items`](crate::definitions::custom::linking::object_items). [How to read clauses](crate::definitions).
 impl Kind for ObjectLinkingItems {
     fn laws() {}
 }
@@ -58,6 +60,8 @@ impl Kind for ObjectLinkingItems {
 /// front_format = { just version u32_format }
 /// counted = { false }
 /// ```
+///
+/// Definitions: [`linking_name`](crate::definitions::custom::linking::linking_name), [`version`](crate::definitions::custom::linking::version), [`just`](crate::definitions::base::formats::just), [`u32_format`](crate::definitions::base::formats::u32). [How to read clauses](crate::definitions).
 impl CustomKind for ObjectLinkingItems {
     fn name() -> &'static str {
         "linking"
@@ -80,8 +84,11 @@ impl<A: Allocator> ObjectLinking<A> {
     /// # Proved
     ///
     /// ```text
-    /// ensures { Adds (subsection_encoding 5 (list_encoding segments.now)) (HasEncodableSize (list_encoding segments.now) × ⊤) self.old self.new result }
+    /// ensures { Adds (subsection_encoding 5 (list_encoding segments.now))
+    ///     (HasEncodableSize (list_encoding segments.now) × ⊤) self.old self.new result }
     /// ```
+    ///
+    /// Definitions: [`Adds`](crate::definitions::base::calls::Adds), [`subsection_encoding`](crate::definitions::custom::customs::subsection_encoding), [`list_encoding`](crate::definitions::custom::lists::list_encoding), [`HasEncodableSize`](crate::definitions::base::encodings::HasEncodableSize). [How to read clauses](crate::definitions).
     pub fn segments<B: Allocator>(&mut self, segments: &SegmentInfos<B>) -> Result<()> {
         self.add_record(segments)
     }
@@ -91,8 +98,11 @@ impl<A: Allocator> ObjectLinking<A> {
     /// # Proved
     ///
     /// ```text
-    /// ensures { Adds (subsection_encoding 6 (list_encoding functions.now)) (HasEncodableSize (list_encoding functions.now) × ⊤) self.old self.new result }
+    /// ensures { Adds (subsection_encoding 6 (list_encoding functions.now))
+    ///     (HasEncodableSize (list_encoding functions.now) × ⊤) self.old self.new result }
     /// ```
+    ///
+    /// Definitions: [`Adds`](crate::definitions::base::calls::Adds), [`subsection_encoding`](crate::definitions::custom::customs::subsection_encoding), [`list_encoding`](crate::definitions::custom::lists::list_encoding), [`HasEncodableSize`](crate::definitions::base::encodings::HasEncodableSize). [How to read clauses](crate::definitions).
     pub fn init_functions<B: Allocator>(&mut self, functions: &InitFunctions<B>) -> Result<()> {
         self.add_record(functions)
     }
@@ -102,8 +112,11 @@ impl<A: Allocator> ObjectLinking<A> {
     /// # Proved
     ///
     /// ```text
-    /// ensures { Adds (subsection_encoding 7 (list_encoding comdats.now)) (HasEncodableSize (list_encoding comdats.now) × ⊤) self.old self.new result }
+    /// ensures { Adds (subsection_encoding 7 (list_encoding comdats.now))
+    ///     (HasEncodableSize (list_encoding comdats.now) × ⊤) self.old self.new result }
     /// ```
+    ///
+    /// Definitions: [`Adds`](crate::definitions::base::calls::Adds), [`subsection_encoding`](crate::definitions::custom::customs::subsection_encoding), [`list_encoding`](crate::definitions::custom::lists::list_encoding), [`HasEncodableSize`](crate::definitions::base::encodings::HasEncodableSize). [How to read clauses](crate::definitions).
     pub fn comdats<B: Allocator>(&mut self, comdats: &Comdats<B>) -> Result<()> {
         self.add_record(comdats)
     }
@@ -113,8 +126,11 @@ impl<A: Allocator> ObjectLinking<A> {
     /// # Proved
     ///
     /// ```text
-    /// ensures { Adds (subsection_encoding 8 (list_encoding symbols.now)) (HasEncodableSize (list_encoding symbols.now) × ⊤) self.old self.new result }
+    /// ensures { Adds (subsection_encoding 8 (list_encoding symbols.now))
+    ///     (HasEncodableSize (list_encoding symbols.now) × ⊤) self.old self.new result }
     /// ```
+    ///
+    /// Definitions: [`Adds`](crate::definitions::base::calls::Adds), [`subsection_encoding`](crate::definitions::custom::customs::subsection_encoding), [`list_encoding`](crate::definitions::custom::lists::list_encoding), [`HasEncodableSize`](crate::definitions::base::encodings::HasEncodableSize). [How to read clauses](crate::definitions).
     pub fn symbol_table<B: Allocator>(&mut self, symbols: &ObjectSymbols<B>) -> Result<()> {
         self.add_record(symbols)
     }
@@ -124,8 +140,12 @@ impl<A: Allocator> ObjectLinking<A> {
     /// # Proved
     ///
     /// ```text
-    /// ensures { Adds (subsection_encoding 9 (size_prefixed_encoding name.now)) (HasEncodableSize (size_prefixed_encoding name.now) × HasEncodableSize name.now) self.old self.new result }
+    /// ensures { Adds (subsection_encoding 9 (size_prefixed_encoding name.now))
+    ///     (HasEncodableSize (size_prefixed_encoding name.now) × HasEncodableSize name.now)
+    ///     self.old self.new result }
     /// ```
+    ///
+    /// Definitions: [`Adds`](crate::definitions::base::calls::Adds), [`subsection_encoding`](crate::definitions::custom::customs::subsection_encoding), [`size_prefixed_encoding`](crate::definitions::base::encodings::size_prefixed_encoding), [`HasEncodableSize`](crate::definitions::base::encodings::HasEncodableSize). [How to read clauses](crate::definitions).
     pub fn target_arch(&mut self, name: &str) -> Result<()> {
         self.add_record(&Subsection {
             id: 9,

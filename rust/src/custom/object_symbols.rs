@@ -34,6 +34,8 @@ pub struct ObjectSymbolMembers;
 /// is_member = { IsFullSymbol }
 /// subsection = { Some 8 }
 /// ```
+///
+/// Definitions: [`SymbolModel`](crate::definitions::custom::symbols::Symbol), [`symbol_encoding`](crate::definitions::custom::symbols::symbol_encoding), [`IsFullSymbol`](crate::definitions::custom::symbols::IsFullSymbol). [How to read clauses](crate::definitions).
 impl ListKind for ObjectSymbolMembers {
     fn subsection() -> Option<u8> {
         Some(8)
@@ -46,8 +48,12 @@ impl<A: Allocator> ObjectSymbols<A> {
     /// # Proved
     ///
     /// ```text
-    /// ensures { Adds (indexed_encoding kind flags index (optional_encoding (λ n. size_prefixed_encoding n.now) name.entry)) (IfSome name.entry (λ n. HasEncodableSize n.now)) self.old self.new result }
+    /// ensures { Adds (indexed_encoding kind flags index
+    ///         (optional_encoding (λ n. size_prefixed_encoding n.now) name.entry))
+    ///     (IfSome name.entry (λ n. HasEncodableSize n.now)) self.old self.new result }
     /// ```
+    ///
+    /// Definitions: [`Adds`](crate::definitions::base::calls::Adds), [`indexed_encoding`](crate::definitions::custom::symbols::indexed_encoding), [`optional_encoding`](crate::definitions::base::encodings::optional_encoding), [`size_prefixed_encoding`](crate::definitions::base::encodings::size_prefixed_encoding), [`HasEncodableSize`](crate::definitions::base::encodings::HasEncodableSize). [How to read clauses](crate::definitions).
     fn indexed(
         &mut self,
         kind: SymbolKind,
@@ -65,8 +71,12 @@ impl<A: Allocator> ObjectSymbols<A> {
     /// # Proved
     ///
     /// ```text
-    /// ensures { Adds (indexed_encoding kinds.Function flags index (optional_encoding (λ n. size_prefixed_encoding n.now) name.entry)) (IfSome name.entry (λ n. HasEncodableSize n.now)) self.old self.new result }
+    /// ensures { Adds (indexed_encoding kinds.Function flags index
+    ///         (optional_encoding (λ n. size_prefixed_encoding n.now) name.entry))
+    ///     (IfSome name.entry (λ n. HasEncodableSize n.now)) self.old self.new result }
     /// ```
+    ///
+    /// Definitions: [`Adds`](crate::definitions::base::calls::Adds), [`indexed_encoding`](crate::definitions::custom::symbols::indexed_encoding), [`optional_encoding`](crate::definitions::base::encodings::optional_encoding), [`size_prefixed_encoding`](crate::definitions::base::encodings::size_prefixed_encoding), [`HasEncodableSize`](crate::definitions::base::encodings::HasEncodableSize). [How to read clauses](crate::definitions).
     pub fn function(&mut self, flags: u32, index: u32, name: Option<&str>) -> Result<()> {
         self.indexed(SymbolKind::Function, flags, index, name)
     }
@@ -76,8 +86,12 @@ impl<A: Allocator> ObjectSymbols<A> {
     /// # Proved
     ///
     /// ```text
-    /// ensures { Adds (indexed_encoding kinds.Global flags index (optional_encoding (λ n. size_prefixed_encoding n.now) name.entry)) (IfSome name.entry (λ n. HasEncodableSize n.now)) self.old self.new result }
+    /// ensures { Adds (indexed_encoding kinds.Global flags index
+    ///         (optional_encoding (λ n. size_prefixed_encoding n.now) name.entry))
+    ///     (IfSome name.entry (λ n. HasEncodableSize n.now)) self.old self.new result }
     /// ```
+    ///
+    /// Definitions: [`Adds`](crate::definitions::base::calls::Adds), [`indexed_encoding`](crate::definitions::custom::symbols::indexed_encoding), [`optional_encoding`](crate::definitions::base::encodings::optional_encoding), [`size_prefixed_encoding`](crate::definitions::base::encodings::size_prefixed_encoding), [`HasEncodableSize`](crate::definitions::base::encodings::HasEncodableSize). [How to read clauses](crate::definitions).
     pub fn global(&mut self, flags: u32, index: u32, name: Option<&str>) -> Result<()> {
         self.indexed(SymbolKind::Global, flags, index, name)
     }
@@ -87,8 +101,12 @@ impl<A: Allocator> ObjectSymbols<A> {
     /// # Proved
     ///
     /// ```text
-    /// ensures { Adds (indexed_encoding kinds.Tag flags index (optional_encoding (λ n. size_prefixed_encoding n.now) name.entry)) (IfSome name.entry (λ n. HasEncodableSize n.now)) self.old self.new result }
+    /// ensures { Adds (indexed_encoding kinds.Tag flags index
+    ///         (optional_encoding (λ n. size_prefixed_encoding n.now) name.entry))
+    ///     (IfSome name.entry (λ n. HasEncodableSize n.now)) self.old self.new result }
     /// ```
+    ///
+    /// Definitions: [`Adds`](crate::definitions::base::calls::Adds), [`indexed_encoding`](crate::definitions::custom::symbols::indexed_encoding), [`optional_encoding`](crate::definitions::base::encodings::optional_encoding), [`size_prefixed_encoding`](crate::definitions::base::encodings::size_prefixed_encoding), [`HasEncodableSize`](crate::definitions::base::encodings::HasEncodableSize). [How to read clauses](crate::definitions).
     pub fn tag(&mut self, flags: u32, index: u32, name: Option<&str>) -> Result<()> {
         self.indexed(SymbolKind::Tag, flags, index, name)
     }
@@ -98,8 +116,12 @@ impl<A: Allocator> ObjectSymbols<A> {
     /// # Proved
     ///
     /// ```text
-    /// ensures { Adds (indexed_encoding kinds.Table flags index (optional_encoding (λ n. size_prefixed_encoding n.now) name.entry)) (IfSome name.entry (λ n. HasEncodableSize n.now)) self.old self.new result }
+    /// ensures { Adds (indexed_encoding kinds.Table flags index
+    ///         (optional_encoding (λ n. size_prefixed_encoding n.now) name.entry))
+    ///     (IfSome name.entry (λ n. HasEncodableSize n.now)) self.old self.new result }
     /// ```
+    ///
+    /// Definitions: [`Adds`](crate::definitions::base::calls::Adds), [`indexed_encoding`](crate::definitions::custom::symbols::indexed_encoding), [`optional_encoding`](crate::definitions::base::encodings::optional_encoding), [`size_prefixed_encoding`](crate::definitions::base::encodings::size_prefixed_encoding), [`HasEncodableSize`](crate::definitions::base::encodings::HasEncodableSize). [How to read clauses](crate::definitions).
     pub fn table(&mut self, flags: u32, index: u32, name: Option<&str>) -> Result<()> {
         self.indexed(SymbolKind::Table, flags, index, name)
     }
@@ -110,8 +132,12 @@ impl<A: Allocator> ObjectSymbols<A> {
     /// # Proved
     ///
     /// ```text
-    /// ensures { Adds (of_data_encoding flags name.now (optional_encoding definition_encoding definition)) (HasEncodableSize name.now) self.old self.new result }
+    /// ensures { Adds (of_data_encoding flags name.now
+    ///         (optional_encoding definition_encoding definition))
+    ///     (HasEncodableSize name.now) self.old self.new result }
     /// ```
+    ///
+    /// Definitions: [`Adds`](crate::definitions::base::calls::Adds), [`of_data_encoding`](crate::definitions::custom::symbols::of_data_encoding), [`optional_encoding`](crate::definitions::base::encodings::optional_encoding), [`definition_encoding`](crate::definitions::custom::symbols::definition_encoding), [`HasEncodableSize`](crate::definitions::base::encodings::HasEncodableSize). [How to read clauses](crate::definitions).
     pub fn data(
         &mut self,
         flags: u32,
@@ -129,6 +155,8 @@ impl<A: Allocator> ObjectSymbols<A> {
     /// ```text
     /// ensures { Adds (of_section_encoding flags section) ⊤ self.old self.new result }
     /// ```
+    ///
+    /// Definitions: [`Adds`](crate::definitions::base::calls::Adds), [`of_section_encoding`](crate::definitions::custom::symbols::of_section_encoding). [How to read clauses](crate::definitions).
     pub fn section(&mut self, flags: u32, section: u32) -> Result<()> {
         self.add_record(&(0x03u8, flags, section))
     }

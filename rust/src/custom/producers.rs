@@ -23,6 +23,8 @@ pub struct ValueMembers;
 /// is_member = { IsProducer }
 /// subsection = { None }
 /// ```
+///
+/// Definitions: [`Producer`](crate::definitions::custom::producers::Producer), [`producer_encoding`](crate::definitions::custom::producers::producer_encoding), [`IsProducer`](crate::definitions::custom::producers::IsProducer). [How to read clauses](crate::definitions).
 impl ListKind for ValueMembers {
     fn subsection() -> Option<u8> {
         None
@@ -35,8 +37,12 @@ impl<A: Allocator> ProducersField<A> {
     /// # Proved
     ///
     /// ```text
-    /// ensures { Adds (size_prefixed_encoding name.now ++ size_prefixed_encoding version.now) (HasEncodableSize name.now × HasEncodableSize version.now) self.old self.new result }
+    /// ensures { Adds (size_prefixed_encoding name.now ++ size_prefixed_encoding version.now)
+    ///     (HasEncodableSize name.now × HasEncodableSize version.now) self.old self.new result
+    ///     }
     /// ```
+    ///
+    /// Definitions: [`Adds`](crate::definitions::base::calls::Adds), [`size_prefixed_encoding`](crate::definitions::base::encodings::size_prefixed_encoding), [`HasEncodableSize`](crate::definitions::base::encodings::HasEncodableSize). [How to read clauses](crate::definitions).
     pub fn value(&mut self, name: &str, version: &str) -> Result<()> {
         self.add_record(&(name, version))
     }
@@ -70,6 +76,8 @@ pub struct ProducerItems;
 /// Item = { Field }
 /// kind = { field_items }
 /// ```
+///
+/// Definitions: [`Field`](crate::definitions::custom::producers::Field), [`field_items`](crate::definitions::custom::producers::field_items). [How to read clauses](crate::definitions).
 impl Kind for ProducerItems {
     fn laws() {}
 }
@@ -82,6 +90,8 @@ impl Kind for ProducerItems {
 /// front_format = { fixed [] (tt {0}) }
 /// counted = { true }
 /// ```
+///
+/// Definitions: [`producers_name`](crate::definitions::custom::producers::producers_name), [`fixed`](crate::definitions::base::formats::fixed). [How to read clauses](crate::definitions).
 impl CustomKind for ProducerItems {
     fn name() -> &'static str {
         "producers"
@@ -104,8 +114,11 @@ impl<A: Allocator> ProducersSection<A> {
     /// # Proved
     ///
     /// ```text
-    /// ensures { Adds (size_prefixed_encoding name.now ++ list_encoding values.now) (HasEncodableSize name.now × ⊤) self.old self.new result }
+    /// ensures { Adds (size_prefixed_encoding name.now ++ list_encoding values.now)
+    ///     (HasEncodableSize name.now × ⊤) self.old self.new result }
     /// ```
+    ///
+    /// Definitions: [`Adds`](crate::definitions::base::calls::Adds), [`size_prefixed_encoding`](crate::definitions::base::encodings::size_prefixed_encoding), [`list_encoding`](crate::definitions::custom::lists::list_encoding), [`HasEncodableSize`](crate::definitions::base::encodings::HasEncodableSize). [How to read clauses](crate::definitions).
     pub fn field<B: Allocator>(&mut self, name: &str, values: &ProducersField<B>) -> Result<()> {
         self.add_record(&(name, Lent(values)))
     }
@@ -118,12 +131,16 @@ impl<A: Allocator> ProducersSection<A> {
 /// format = { field }
 /// view = { field_view }
 /// ```
+///
+/// Definitions: [`Field`](crate::definitions::custom::producers::Field), [`field`](crate::definitions::custom::producers::field), [`field_view`](crate::definitions::custom::producers::field_view). [How to read clauses](crate::definitions).
 impl<'a, A: Allocator> ItemsAs<(&'a str, Vec<(&'a str, &'a str), A>)> for ProducerItems {
     /// # Proved
     ///
     /// ```text
     /// ensures { Unambiguous field }
     /// ```
+    ///
+    /// Definitions: [`Unambiguous`](crate::definitions::base::decoding::Unambiguous), [`field`](crate::definitions::custom::producers::field). [How to read clauses](crate::definitions).
     fn unique() {}
 
     fn append_item<B: Sink>(
@@ -157,10 +174,17 @@ impl<'a, A: Allocator + Copy + 'a, G: Grammar> DecodesItems<
 ///
 /// # Proved
 ///
+/// After `Ok`: `found`. After an error: `none`.
+///
 /// ```text
-/// ensures found { IfOk result (λ x. producers_payload (padded_of G.grammar) bytes.now (map field_view x.items)) }
-/// ensures none { IfErr result (λ e. e.cause ≢ Memory → RejectsWhole producers_payload (padded_of G.grammar) bytes.now) }
+/// ensures found { IfOk result
+///     (λ x. producers_payload (padded_of G.grammar) bytes.now (map field_view x.items)) }
+/// ensures none { IfErr result
+///     (λ e. e.cause ≢ Memory → RejectsWhole producers_payload
+///         (padded_of G.grammar) bytes.now) }
 /// ```
+///
+/// Definitions: [`producers_payload`](crate::definitions::custom::producers::producers_payload), [`padded_of`](crate::definitions::base::numbers::padded_of), [`field_view`](crate::definitions::custom::producers::field_view), [`RejectsWhole`](crate::definitions::base::continuing::RejectsWhole). [How to read clauses](crate::definitions).
 pub fn read_producers<'a, A: Allocator + Copy + 'a, G: Grammar>(
     bytes: &'a [u8],
     alloc: A,
@@ -173,11 +197,18 @@ pub fn read_producers<'a, A: Allocator + Copy + 'a, G: Grammar>(
 ///
 /// # Proved
 ///
+/// After `Ok`: `ok`. After an error: `err`. In any case: `too_long`.
+///
 /// ```text
-/// ensures ok { OnOk result (AppendsMinimal producers_payload (map field_view fields.now.items) sink.old.items sink.new.items) }
+/// ensures ok { OnOk result
+///     (AppendsMinimal producers_payload
+///         (map field_view fields.now.items) sink.old.items sink.new.items) }
 /// ensures err { OnErr result (sink.new.items ≡ sink.old.items) }
-/// ensures too_long { HasEncoding producers_payload (map field_view fields.now.items) → result ≢ Err TooLong }
+/// ensures too_long { HasEncoding producers_payload (map field_view fields.now.items)
+///     → result ≢ Err TooLong }
 /// ```
+///
+/// Definitions: [`AppendsMinimal`](crate::definitions::base::minimal::AppendsMinimal), [`producers_payload`](crate::definitions::custom::producers::producers_payload), [`field_view`](crate::definitions::custom::producers::field_view), [`HasEncoding`](crate::definitions::base::minimal::HasEncoding). [How to read clauses](crate::definitions).
 pub fn append_producers<'a, A: Allocator, B: Sink>(
     fields: &Vec<(&'a str, Vec<(&'a str, &'a str), A>), A>,
     sink: &mut B,

@@ -26,8 +26,11 @@ pub struct RawCustomSection<'a>(pub &'a [u8]);
 /// ```text
 /// encoding = { λ s. s.0.now }
 /// encodable = { λ _. ⊤ }
-/// decoding = { λ s. DecodesBackBoth custom (custom minimal s.0.now) (custom padded s.0.now) s.0.now }
+/// decoding = { λ s. DecodesBackBoth custom (custom minimal s.0.now)
+///     (custom padded s.0.now) s.0.now }
 /// ```
+///
+/// Definitions: [`DecodesBackBoth`](crate::definitions::base::calls::DecodesBackBoth), [`custom`](crate::definitions::base::formats::custom), [`minimal`](crate::definitions::base::numbers::Mode), [`padded`](crate::definitions::base::numbers::Mode). [How to read clauses](crate::definitions).
 impl Encode for RawCustomSection<'_> {
     fn encode<A: Sink>(&self, sink: &mut A) -> Result<()> {
         sink.extend_from_slice(self.0)?;
@@ -48,6 +51,8 @@ impl Encode for RawCustomSection<'_> {
 /// sized = { λ s bytes encodable pays. pays }
 /// decodes_back = { λ s promised. promised.plain }
 /// ```
+///
+/// Definitions: [`number_of`](crate::definitions::base::section_id::number_of), [`custom`](crate::definitions::base::formats::custom), [`minimal`](crate::definitions::base::numbers::Mode), [`IsSizePrefixed`](crate::definitions::base::encodings::IsSizePrefixed). [How to read clauses](crate::definitions).
 impl Section for RawCustomSection<'_> {
     fn id(&self) -> u8 {
         SectionId::Custom.into()

@@ -32,6 +32,8 @@ pub struct SegmentMembers;
 /// is_member = { IsSegment }
 /// subsection = { Some 5 }
 /// ```
+///
+/// Definitions: [`SegmentModel`](crate::definitions::custom::segments::SegmentInfo), [`segment_encoding`](crate::definitions::custom::segments::segment_encoding), [`IsSegment`](crate::definitions::custom::segments::IsSegment). [How to read clauses](crate::definitions).
 impl ListKind for SegmentMembers {
     fn subsection() -> Option<u8> {
         Some(5)
@@ -44,8 +46,12 @@ impl<A: Allocator> SegmentInfos<A> {
     /// # Proved
     ///
     /// ```text
-    /// ensures { Adds (size_prefixed_encoding name.now ++ (unsigned_encoding alignment ++ unsigned_encoding flags)) (HasEncodableSize name.now) self.old self.new result }
+    /// ensures { Adds (size_prefixed_encoding name.now
+    ///         ++ (unsigned_encoding alignment ++ unsigned_encoding flags))
+    ///     (HasEncodableSize name.now) self.old self.new result }
     /// ```
+    ///
+    /// Definitions: [`Adds`](crate::definitions::base::calls::Adds), [`size_prefixed_encoding`](crate::definitions::base::encodings::size_prefixed_encoding), [`unsigned_encoding`](crate::definitions::base::numbers::unsigned_encoding), [`HasEncodableSize`](crate::definitions::base::encodings::HasEncodableSize). [How to read clauses](crate::definitions).
     pub fn segment(&mut self, name: &str, alignment: u32, flags: u32) -> Result<()> {
         self.add_record(&(name, alignment, flags))
     }
@@ -68,12 +74,16 @@ pub struct SegmentInfo<'a> {
 /// format = { segment }
 /// view = { segment_view }
 /// ```
+///
+/// Definitions: [`SegmentModel`](crate::definitions::custom::segments::SegmentInfo), [`segment`](crate::definitions::custom::segments::segment), [`segment_view`](crate::definitions::custom::segments::segment_view). [How to read clauses](crate::definitions).
 impl<'a> Layout for SegmentInfo<'a> {
     /// # Proved
     ///
     /// ```text
     /// ensures { Unambiguous segment }
     /// ```
+    ///
+    /// Definitions: [`Unambiguous`](crate::definitions::base::decoding::Unambiguous), [`segment`](crate::definitions::custom::segments::segment). [How to read clauses](crate::definitions).
     fn laws() {}
 }
 

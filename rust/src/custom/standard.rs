@@ -8,10 +8,14 @@ use crate::base::{DecodeError, Grammar, ReadFault};
 ///
 /// # Proved
 ///
+/// After `Ok`: `found`. After an error: `none`.
+///
 /// ```text
 /// ensures found { IfOk result (λ _. is_admitted G.grammar ≡ true) }
 /// ensures none { IfErr result (λ _. is_admitted G.grammar ≡ false) }
 /// ```
+///
+/// Definitions: [`is_admitted`](crate::definitions::base::numbers::is_admitted). [How to read clauses](crate::definitions).
 pub(crate) fn require_standard<G: Grammar>(rest: &[u8]) -> Result<(), DecodeError> {
     if G::is_standard() {
         Ok(())

@@ -13,8 +13,11 @@ pub(crate) trait Content: Encode {
     ///
     /// ```text
     /// ensures known { result ≤ longest → result ≡ length (Self.encoding self.now) }
-    /// ensures small { length (Self.encoding self.now) ≤ longest → result ≡ length (Self.encoding self.now) }
+    /// ensures small { length (Self.encoding self.now) ≤ longest
+    ///     → result ≡ length (Self.encoding self.now) }
     /// ```
+    ///
+    /// Definitions: [`longest`](crate::definitions::base::encodings::longest). [How to read clauses](crate::definitions).
     fn size(&self) -> usize;
 }
 
@@ -41,6 +44,8 @@ pub(crate) struct RawContent<'a>(pub &'a [u8]);
 /// encoding = { λ s. s.0.now }
 /// encodable = { λ _. ⊤ }
 /// ```
+///
+/// [How to read clauses](crate::definitions).
 impl Encode for RawContent<'_> {
     fn encode<A: Sink>(&self, sink: &mut A) -> Result<()> {
         sink.extend_from_slice(self.0)?;
@@ -59,8 +64,12 @@ impl Content for RawContent<'_> {
 /// # Proved
 ///
 /// ```text
-/// ensures { Appends (size_prefixed_encoding (T.encoding content.now)) (HasEncodableSize (T.encoding content.now) × T.encodable content.now) sink.old sink.new result }
+/// ensures { Appends (size_prefixed_encoding (T.encoding content.now))
+///     (HasEncodableSize (T.encoding content.now) × T.encodable content.now) sink.old
+///     sink.new result }
 /// ```
+///
+/// Definitions: [`Appends`](crate::definitions::base::calls::Appends), [`size_prefixed_encoding`](crate::definitions::base::encodings::size_prefixed_encoding), [`HasEncodableSize`](crate::definitions::base::encodings::HasEncodableSize). [How to read clauses](crate::definitions).
 fn encode_content<T: Content, A: Sink>(sink: &mut A, content: &T) -> Result<()> {
     let start = sink.len();
     begin_size_prefixed(sink, content.size())?;
@@ -80,10 +89,13 @@ fn encode_content<T: Content, A: Sink>(sink: &mut A, content: &T) -> Result<()> 
 /// ensures same { sink.new.items ≡ sink.old.items }
 /// ensures memory { result ≢ Err TooLong }
 /// ensures spare { size ≤ longest
-///     → vec_len sink.old + (1 + (length (unsigned_encoding size) + size)) ≤ vec_capacity sink.old
+///     → vec_len sink.old + (1 + (length (unsigned_encoding size) + size))
+///         ≤ vec_capacity sink.old
 ///     → IsOk result }
 /// ensures capacity { vec_capacity sink.old ≤ vec_capacity sink.new }
 /// ```
+///
+/// Definitions: [`longest`](crate::definitions::base::encodings::longest), [`unsigned_encoding`](crate::definitions::base::numbers::unsigned_encoding). [How to read clauses](crate::definitions).
 fn reserve_subsection<A: Sink>(sink: &mut A, size: usize) -> Result<()> {
     if let Ok(short) = u32::try_from(size) {
         sink.reserve(size.saturating_add(encoding_size(short)).saturating_add(1))?;
@@ -103,8 +115,11 @@ pub(crate) struct Subsection<'a, T> {
 ///
 /// ```text
 /// encoding = { λ s. subsection_encoding s.id (T.encoding s.content.now) }
-/// encodable = { λ s. HasEncodableSize (T.encoding s.content.now) × T.encodable s.content.now }
+/// encodable = { λ s. HasEncodableSize (T.encoding s.content.now)
+///     × T.encodable s.content.now }
 /// ```
+///
+/// Definitions: [`subsection_encoding`](crate::definitions::custom::customs::subsection_encoding), [`HasEncodableSize`](crate::definitions::base::encodings::HasEncodableSize). [How to read clauses](crate::definitions).
 impl<T: Content> Encode for Subsection<'_, T> {
     fn encode<A: Sink>(&self, sink: &mut A) -> Result<()> {
         reserve_subsection(sink, self.content.size())?;

@@ -34,6 +34,8 @@ pub struct SymbolMembers;
 /// is_member = { IsGivenSymbol }
 /// subsection = { Some 8 }
 /// ```
+///
+/// Definitions: [`SymbolModel`](crate::definitions::custom::symbols::Symbol), [`symbol_encoding`](crate::definitions::custom::symbols::symbol_encoding), [`IsGivenSymbol`](crate::definitions::custom::symbols::IsGivenSymbol). [How to read clauses](crate::definitions).
 impl ListKind for SymbolMembers {
     fn subsection() -> Option<u8> {
         Some(8)
@@ -59,6 +61,8 @@ pub struct DataSymbolDefinition {
 /// encoding = { definition_encoding }
 /// encodable = { λ _. ⊤ }
 /// ```
+///
+/// Definitions: [`definition_encoding`](crate::definitions::custom::symbols::definition_encoding). [How to read clauses](crate::definitions).
 impl Encode for DataSymbolDefinition {
     fn encode<A: Sink>(&self, sink: &mut A) -> Result<()> {
         (self.index, self.offset, self.size).encode(sink)
@@ -82,6 +86,8 @@ pub enum SymbolKind {
 /// encoding = { λ kind. kind_code kind ∷ [] }
 /// encodable = { λ _. ⊤ }
 /// ```
+///
+/// Definitions: [`kind_code`](crate::definitions::custom::symbols::kind_code). [How to read clauses](crate::definitions).
 impl Encode for SymbolKind {
     fn encode<A: Sink>(&self, sink: &mut A) -> Result<()> {
         (*self as u8).encode(sink)
@@ -95,6 +101,8 @@ impl Encode for SymbolKind {
 /// ```text
 /// ensures { IfSome name.entry (λ n. IsUtf8 n.now) }
 /// ```
+///
+/// [How to read clauses](crate::definitions).
 #[inline]
 pub(crate) fn given_name(name: Option<&str>) {
     if let Some(name) = name {
@@ -110,6 +118,8 @@ pub(crate) fn given_name(name: Option<&str>) {
 /// ```text
 /// ensures { IfSome definition IsDefinition }
 /// ```
+///
+/// Definitions: [`IsDefinition`](crate::definitions::custom::symbols::IsDefinition). [How to read clauses](crate::definitions).
 #[inline]
 pub(crate) fn given_definition(definition: Option<DataSymbolDefinition>) {
     if let Some(given) = definition {
@@ -159,11 +169,17 @@ impl<A: Allocator> SymbolTable<A> {
     /// requires { IsBuiltKind kind }
     /// ```
     ///
+    /// Definitions: [`IsBuiltKind`](crate::definitions::custom::symbols::IsBuiltKind). [How to read clauses](crate::definitions).
+    ///
     /// # Proved
     ///
     /// ```text
-    /// ensures { Adds (indexed_encoding kind flags index (optional_encoding (λ n. size_prefixed_encoding n.now) name.entry)) (IfSome name.entry (λ n. HasEncodableSize n.now)) self.old self.new result }
+    /// ensures { Adds (indexed_encoding kind flags index
+    ///         (optional_encoding (λ n. size_prefixed_encoding n.now) name.entry))
+    ///     (IfSome name.entry (λ n. HasEncodableSize n.now)) self.old self.new result }
     /// ```
+    ///
+    /// Definitions: [`Adds`](crate::definitions::base::calls::Adds), [`indexed_encoding`](crate::definitions::custom::symbols::indexed_encoding), [`optional_encoding`](crate::definitions::base::encodings::optional_encoding), [`size_prefixed_encoding`](crate::definitions::base::encodings::size_prefixed_encoding), [`HasEncodableSize`](crate::definitions::base::encodings::HasEncodableSize). [How to read clauses](crate::definitions).
     fn indexed(
         &mut self,
         kind: SymbolKind,
@@ -181,8 +197,12 @@ impl<A: Allocator> SymbolTable<A> {
     /// # Proved
     ///
     /// ```text
-    /// ensures { Adds (indexed_encoding kinds.Function flags index (optional_encoding (λ n. size_prefixed_encoding n.now) name.entry)) (IfSome name.entry (λ n. HasEncodableSize n.now)) self.old self.new result }
+    /// ensures { Adds (indexed_encoding kinds.Function flags index
+    ///         (optional_encoding (λ n. size_prefixed_encoding n.now) name.entry))
+    ///     (IfSome name.entry (λ n. HasEncodableSize n.now)) self.old self.new result }
     /// ```
+    ///
+    /// Definitions: [`Adds`](crate::definitions::base::calls::Adds), [`indexed_encoding`](crate::definitions::custom::symbols::indexed_encoding), [`optional_encoding`](crate::definitions::base::encodings::optional_encoding), [`size_prefixed_encoding`](crate::definitions::base::encodings::size_prefixed_encoding), [`HasEncodableSize`](crate::definitions::base::encodings::HasEncodableSize). [How to read clauses](crate::definitions).
     pub fn function(&mut self, flags: u32, index: u32, name: Option<&str>) -> Result<()> {
         self.indexed(SymbolKind::Function, flags, index, name)
     }
@@ -192,8 +212,12 @@ impl<A: Allocator> SymbolTable<A> {
     /// # Proved
     ///
     /// ```text
-    /// ensures { Adds (indexed_encoding kinds.Global flags index (optional_encoding (λ n. size_prefixed_encoding n.now) name.entry)) (IfSome name.entry (λ n. HasEncodableSize n.now)) self.old self.new result }
+    /// ensures { Adds (indexed_encoding kinds.Global flags index
+    ///         (optional_encoding (λ n. size_prefixed_encoding n.now) name.entry))
+    ///     (IfSome name.entry (λ n. HasEncodableSize n.now)) self.old self.new result }
     /// ```
+    ///
+    /// Definitions: [`Adds`](crate::definitions::base::calls::Adds), [`indexed_encoding`](crate::definitions::custom::symbols::indexed_encoding), [`optional_encoding`](crate::definitions::base::encodings::optional_encoding), [`size_prefixed_encoding`](crate::definitions::base::encodings::size_prefixed_encoding), [`HasEncodableSize`](crate::definitions::base::encodings::HasEncodableSize). [How to read clauses](crate::definitions).
     pub fn global(&mut self, flags: u32, index: u32, name: Option<&str>) -> Result<()> {
         self.indexed(SymbolKind::Global, flags, index, name)
     }
@@ -203,8 +227,12 @@ impl<A: Allocator> SymbolTable<A> {
     /// # Proved
     ///
     /// ```text
-    /// ensures { Adds (indexed_encoding kinds.Table flags index (optional_encoding (λ n. size_prefixed_encoding n.now) name.entry)) (IfSome name.entry (λ n. HasEncodableSize n.now)) self.old self.new result }
+    /// ensures { Adds (indexed_encoding kinds.Table flags index
+    ///         (optional_encoding (λ n. size_prefixed_encoding n.now) name.entry))
+    ///     (IfSome name.entry (λ n. HasEncodableSize n.now)) self.old self.new result }
     /// ```
+    ///
+    /// Definitions: [`Adds`](crate::definitions::base::calls::Adds), [`indexed_encoding`](crate::definitions::custom::symbols::indexed_encoding), [`optional_encoding`](crate::definitions::base::encodings::optional_encoding), [`size_prefixed_encoding`](crate::definitions::base::encodings::size_prefixed_encoding), [`HasEncodableSize`](crate::definitions::base::encodings::HasEncodableSize). [How to read clauses](crate::definitions).
     pub fn table(&mut self, flags: u32, index: u32, name: Option<&str>) -> Result<()> {
         self.indexed(SymbolKind::Table, flags, index, name)
     }
@@ -215,8 +243,12 @@ impl<A: Allocator> SymbolTable<A> {
     /// # Proved
     ///
     /// ```text
-    /// ensures { Adds (of_data_encoding flags name.now (optional_encoding definition_encoding definition)) (HasEncodableSize name.now) self.old self.new result }
+    /// ensures { Adds (of_data_encoding flags name.now
+    ///         (optional_encoding definition_encoding definition))
+    ///     (HasEncodableSize name.now) self.old self.new result }
     /// ```
+    ///
+    /// Definitions: [`Adds`](crate::definitions::base::calls::Adds), [`of_data_encoding`](crate::definitions::custom::symbols::of_data_encoding), [`optional_encoding`](crate::definitions::base::encodings::optional_encoding), [`definition_encoding`](crate::definitions::custom::symbols::definition_encoding), [`HasEncodableSize`](crate::definitions::base::encodings::HasEncodableSize). [How to read clauses](crate::definitions).
     pub fn data(
         &mut self,
         flags: u32,
@@ -273,6 +305,8 @@ pub enum Symbol<'a> {
 /// ```text
 /// ensures { result ≡ flags_name flags }
 /// ```
+///
+/// Definitions: [`flags_name`](crate::definitions::custom::symbols::has_name). [How to read clauses](crate::definitions).
 fn has_name(flags: u32) -> bool {
     let undefined = flags / SymbolTable::WASM_SYM_UNDEFINED % 2 == 1;
     let explicit = flags / SymbolTable::WASM_SYM_EXPLICIT_NAME % 2 == 1;
@@ -286,6 +320,8 @@ fn has_name(flags: u32) -> bool {
 /// ```text
 /// ensures { result ≡ flags_definition flags }
 /// ```
+///
+/// Definitions: [`flags_definition`](crate::definitions::custom::symbols::has_definition). [How to read clauses](crate::definitions).
 fn has_definition(flags: u32) -> bool {
     let undefined = flags / SymbolTable::WASM_SYM_UNDEFINED % 2 == 1;
     !undefined
@@ -295,10 +331,18 @@ fn has_definition(flags: u32) -> bool {
 ///
 /// # Proved
 ///
+/// After `Ok`: `found`. After an error: `none`.
+///
 /// ```text
-/// ensures found { IfOk result (λ x. Decodes (indexed_symbol kind) (padded_of G.grammar) bytes.now (symbol_view x.0) x.1.now) }
-/// ensures none { IfErr result (λ e. e.cause ≢ Memory → Rejects (indexed_symbol kind) (padded_of G.grammar) bytes.now) }
+/// ensures found { IfOk result
+///     (λ x. Decodes (indexed_symbol kind) (padded_of G.grammar) bytes.now
+///         (symbol_view x.0) x.1.now) }
+/// ensures none { IfErr result
+///     (λ e. e.cause ≢ Memory → Rejects (indexed_symbol kind)
+///         (padded_of G.grammar) bytes.now) }
 /// ```
+///
+/// Definitions: [`Decodes`](crate::definitions::base::decoding::Decodes), [`indexed_symbol`](crate::definitions::custom::symbols::indexed_symbol), [`padded_of`](crate::definitions::base::numbers::padded_of), [`symbol_view`](crate::definitions::custom::symbols::symbol_view), [`Rejects`](crate::definitions::base::decoding::Rejects). [How to read clauses](crate::definitions).
 fn read_indexed<'a, A: Allocator + Copy, G: Grammar>(
     kind: SymbolKind,
     bytes: &'a [u8],
@@ -323,6 +367,8 @@ fn read_indexed<'a, A: Allocator + Copy, G: Grammar>(
 /// format = { definition_format }
 /// view = { λ definition. definition }
 /// ```
+///
+/// Definitions: [`definition_format`](crate::definitions::custom::symbols::definition). [How to read clauses](crate::definitions).
 impl Layout for DataSymbolDefinition {
     fn laws() {}
 }
@@ -345,10 +391,18 @@ impl<'a, A: Allocator + Copy, G: Grammar> Readable<'a, A, G> for DataSymbolDefin
 ///
 /// # Proved
 ///
+/// After `Ok`: `found`. After an error: `none`.
+///
 /// ```text
-/// ensures found { IfOk result (λ x. Decodes (optional given definition_format) (padded_of G.grammar) bytes.now x.0 x.1.now) }
-/// ensures none { IfErr result (λ e. e.cause ≢ Memory → Rejects (optional given definition_format) (padded_of G.grammar) bytes.now) }
+/// ensures found { IfOk result
+///     (λ x. Decodes (optional given definition_format)
+///         (padded_of G.grammar) bytes.now x.0 x.1.now) }
+/// ensures none { IfErr result
+///     (λ e. e.cause ≢ Memory → Rejects (optional given definition_format)
+///         (padded_of G.grammar) bytes.now) }
 /// ```
+///
+/// Definitions: [`Decodes`](crate::definitions::base::decoding::Decodes), [`optional`](crate::definitions::base::formats::optional), [`definition_format`](crate::definitions::custom::symbols::definition), [`padded_of`](crate::definitions::base::numbers::padded_of), [`Rejects`](crate::definitions::base::decoding::Rejects). [How to read clauses](crate::definitions).
 fn read_definition<'a, A: Allocator + Copy, G: Grammar>(
     given: bool,
     bytes: &'a [u8],
@@ -366,10 +420,17 @@ fn read_definition<'a, A: Allocator + Copy, G: Grammar>(
 ///
 /// # Proved
 ///
+/// After `Ok`: `found`. After an error: `none`.
+///
 /// ```text
-/// ensures found { IfOk result (λ x. Decodes data_symbol (padded_of G.grammar) bytes.now (symbol_view x.0) x.1.now) }
-/// ensures none { IfErr result (λ e. e.cause ≢ Memory → Rejects data_symbol (padded_of G.grammar) bytes.now) }
+/// ensures found { IfOk result
+///     (λ x. Decodes data_symbol (padded_of G.grammar) bytes.now (symbol_view x.0) x.1.now)
+///     }
+/// ensures none { IfErr result
+///     (λ e. e.cause ≢ Memory → Rejects data_symbol (padded_of G.grammar) bytes.now) }
 /// ```
+///
+/// Definitions: [`Decodes`](crate::definitions::base::decoding::Decodes), [`data_symbol`](crate::definitions::custom::symbols::data_symbol), [`padded_of`](crate::definitions::base::numbers::padded_of), [`symbol_view`](crate::definitions::custom::symbols::symbol_view), [`Rejects`](crate::definitions::base::decoding::Rejects). [How to read clauses](crate::definitions).
 fn read_data<'a, A: Allocator + Copy, G: Grammar>(
     bytes: &'a [u8],
     alloc: A,
@@ -391,10 +452,17 @@ fn read_data<'a, A: Allocator + Copy, G: Grammar>(
 ///
 /// # Proved
 ///
+/// After `Ok`: `found`. After an error: `none`.
+///
 /// ```text
-/// ensures found { IfOk result (λ x. Decodes section_symbol (padded_of G.grammar) bytes.now (symbol_view x.0) x.1.now) }
-/// ensures none { IfErr result (λ e. e.cause ≢ Memory → Rejects section_symbol (padded_of G.grammar) bytes.now) }
+/// ensures found { IfOk result
+///     (λ x. Decodes section_symbol (padded_of G.grammar) bytes.now
+///         (symbol_view x.0) x.1.now) }
+/// ensures none { IfErr result
+///     (λ e. e.cause ≢ Memory → Rejects section_symbol (padded_of G.grammar) bytes.now) }
 /// ```
+///
+/// Definitions: [`Decodes`](crate::definitions::base::decoding::Decodes), [`section_symbol`](crate::definitions::custom::symbols::section_symbol), [`padded_of`](crate::definitions::base::numbers::padded_of), [`symbol_view`](crate::definitions::custom::symbols::symbol_view), [`Rejects`](crate::definitions::base::decoding::Rejects). [How to read clauses](crate::definitions).
 fn read_section<'a, A: Allocator + Copy, G: Grammar>(
     bytes: &'a [u8],
     alloc: A,
@@ -411,12 +479,16 @@ fn read_section<'a, A: Allocator + Copy, G: Grammar>(
 /// format = { symbol }
 /// view = { symbol_view }
 /// ```
+///
+/// Definitions: [`SymbolModel`](crate::definitions::custom::symbols::Symbol), [`symbol`](crate::definitions::custom::symbols::symbol), [`symbol_view`](crate::definitions::custom::symbols::symbol_view). [How to read clauses](crate::definitions).
 impl<'a> Layout for Symbol<'a> {
     /// # Proved
     ///
     /// ```text
     /// ensures { Unambiguous symbol }
     /// ```
+    ///
+    /// Definitions: [`Unambiguous`](crate::definitions::base::decoding::Unambiguous), [`symbol`](crate::definitions::custom::symbols::symbol). [How to read clauses](crate::definitions).
     fn laws() {}
 }
 
@@ -459,11 +531,18 @@ impl<'a, A: Allocator + Copy, G: Grammar> Readable<'a, A, G> for Symbol<'a> {
 ///
 /// # Proved
 ///
+/// After `Ok`: `ok`. In any case: `front`, `too_long`.
+///
 /// ```text
-/// ensures ok { OnOk result (AppendsMinimal (optional (flags_name flags) name_format) (option_map (λ n. n.now) name.entry) sink.old.items sink.new.items) }
+/// ensures ok { OnOk result
+///     (AppendsMinimal (optional (flags_name flags) name_format)
+///         (option_map (λ n. n.now) name.entry) sink.old.items sink.new.items) }
 /// ensures front { IsFrontOf sink.old.items sink.new.items }
-/// ensures too_long { HasEncoding (optional (flags_name flags) name_format) (option_map (λ n. n.now) name.entry) → result ≢ Err TooLong }
+/// ensures too_long { HasEncoding (optional (flags_name flags) name_format)
+///     (option_map (λ n. n.now) name.entry) → result ≢ Err TooLong }
 /// ```
+///
+/// Definitions: [`AppendsMinimal`](crate::definitions::base::minimal::AppendsMinimal), [`optional`](crate::definitions::base::formats::optional), [`flags_name`](crate::definitions::custom::symbols::has_name), [`name_format`](crate::definitions::base::formats::name), [`IsFrontOf`](crate::definitions::base::minimal::IsFrontOf), [`HasEncoding`](crate::definitions::base::minimal::HasEncoding). [How to read clauses](crate::definitions).
 fn append_name<B: Sink>(flags: u32, name: Option<&str>, sink: &mut B) -> Result<()> {
     match name {
         Some(name) => name.write_minimal(sink),
@@ -475,11 +554,20 @@ fn append_name<B: Sink>(flags: u32, name: Option<&str>, sink: &mut B) -> Result<
 ///
 /// # Proved
 ///
+/// After `Ok`: `ok`. In any case: `front`, `too_long`.
+///
 /// ```text
-/// ensures ok { OnOk result (AppendsMinimal (prefixed (kind_code kind ∷ []) (indexed_symbol kind)) (indexed kind flags index (option_map (λ n. n.now) name.entry)) sink.old.items sink.new.items) }
+/// ensures ok { OnOk result
+///     (AppendsMinimal (prefixed (kind_code kind ∷ []) (indexed_symbol kind))
+///         (indexed kind flags index (option_map (λ n. n.now) name.entry)) sink.old.items
+///         sink.new.items) }
 /// ensures front { IsFrontOf sink.old.items sink.new.items }
-/// ensures too_long { HasEncoding (prefixed (kind_code kind ∷ []) (indexed_symbol kind)) (indexed kind flags index (option_map (λ n. n.now) name.entry)) → result ≢ Err TooLong }
+/// ensures too_long { HasEncoding (prefixed (kind_code kind ∷ []) (indexed_symbol kind))
+///     (indexed kind flags index (option_map (λ n. n.now) name.entry))
+///     → result ≢ Err TooLong }
 /// ```
+///
+/// Definitions: [`AppendsMinimal`](crate::definitions::base::minimal::AppendsMinimal), [`prefixed`](crate::definitions::base::formats::prefixed), [`kind_code`](crate::definitions::custom::symbols::kind_code), [`indexed_symbol`](crate::definitions::custom::symbols::indexed_symbol), [`indexed`](crate::definitions::custom::symbols::Symbol), [`IsFrontOf`](crate::definitions::base::minimal::IsFrontOf), [`HasEncoding`](crate::definitions::base::minimal::HasEncoding). [How to read clauses](crate::definitions).
 fn append_indexed<B: Sink>(
     kind: SymbolKind,
     flags: u32,
@@ -497,11 +585,19 @@ fn append_indexed<B: Sink>(
 ///
 /// # Proved
 ///
+/// After `Ok`: `ok`. In any case: `front`, `too_long`.
+///
 /// ```text
-/// ensures ok { OnOk result (AppendsMinimal (optional (flags_definition flags) definition_format) definition sink.old.items sink.new.items) }
+/// ensures ok { OnOk result
+///     (AppendsMinimal (optional (flags_definition flags) definition_format) definition
+///         sink.old.items sink.new.items) }
 /// ensures front { IsFrontOf sink.old.items sink.new.items }
-/// ensures too_long { HasEncoding (optional (flags_definition flags) definition_format) definition → result ≢ Err TooLong }
+/// ensures too_long { HasEncoding
+///     (optional (flags_definition flags) definition_format) definition
+///     → result ≢ Err TooLong }
 /// ```
+///
+/// Definitions: [`AppendsMinimal`](crate::definitions::base::minimal::AppendsMinimal), [`optional`](crate::definitions::base::formats::optional), [`flags_definition`](crate::definitions::custom::symbols::has_definition), [`definition_format`](crate::definitions::custom::symbols::definition), [`IsFrontOf`](crate::definitions::base::minimal::IsFrontOf), [`HasEncoding`](crate::definitions::base::minimal::HasEncoding). [How to read clauses](crate::definitions).
 fn append_definition<B: Sink>(
     flags: u32,
     definition: Option<DataSymbolDefinition>,
@@ -517,11 +613,18 @@ fn append_definition<B: Sink>(
 ///
 /// # Proved
 ///
+/// After `Ok`: `ok`. In any case: `front`, `too_long`.
+///
 /// ```text
-/// ensures ok { OnOk result (AppendsMinimal (prefixed (0x01 ∷ []) data_symbol) (of_data flags name.now definition) sink.old.items sink.new.items) }
+/// ensures ok { OnOk result
+///     (AppendsMinimal (prefixed (0x01 ∷ []) data_symbol)
+///         (of_data flags name.now definition) sink.old.items sink.new.items) }
 /// ensures front { IsFrontOf sink.old.items sink.new.items }
-/// ensures too_long { HasEncoding (prefixed (0x01 ∷ []) data_symbol) (of_data flags name.now definition) → result ≢ Err TooLong }
+/// ensures too_long { HasEncoding (prefixed (0x01 ∷ []) data_symbol)
+///     (of_data flags name.now definition) → result ≢ Err TooLong }
 /// ```
+///
+/// Definitions: [`AppendsMinimal`](crate::definitions::base::minimal::AppendsMinimal), [`prefixed`](crate::definitions::base::formats::prefixed), [`data_symbol`](crate::definitions::custom::symbols::data_symbol), [`of_data`](crate::definitions::custom::symbols::Symbol), [`IsFrontOf`](crate::definitions::base::minimal::IsFrontOf), [`HasEncoding`](crate::definitions::base::minimal::HasEncoding). [How to read clauses](crate::definitions).
 fn append_data<B: Sink>(
     flags: u32,
     name: &str,
@@ -538,11 +641,17 @@ fn append_data<B: Sink>(
 ///
 /// # Proved
 ///
+/// After `Ok`: `ok`. In any case: `front`, `too_long`.
+///
 /// ```text
-/// ensures ok { OnOk result (AppendsMinimal (prefixed (0x03 ∷ []) section_symbol) (of_section flags section) sink.old.items sink.new.items) }
+/// ensures ok { OnOk result
+///     (AppendsMinimal (prefixed (0x03 ∷ []) section_symbol)
+///         (of_section flags section) sink.old.items sink.new.items) }
 /// ensures front { IsFrontOf sink.old.items sink.new.items }
 /// ensures too_long { result ≢ Err TooLong }
 /// ```
+///
+/// Definitions: [`AppendsMinimal`](crate::definitions::base::minimal::AppendsMinimal), [`prefixed`](crate::definitions::base::formats::prefixed), [`section_symbol`](crate::definitions::custom::symbols::section_symbol), [`of_section`](crate::definitions::custom::symbols::Symbol), [`IsFrontOf`](crate::definitions::base::minimal::IsFrontOf). [How to read clauses](crate::definitions).
 fn append_section<B: Sink>(flags: u32, section: u32, sink: &mut B) -> Result<()> {
     0x03u8.encode(sink)?;
     flags.write_minimal(sink)?;

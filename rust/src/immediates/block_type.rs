@@ -24,6 +24,8 @@ pub enum BlockType {
 /// encoding = { block_encoding }
 /// encodable = { λ _. ⊤ }
 /// ```
+///
+/// Definitions: [`block_encoding`](crate::definitions::immediates::immediates::block_encoding). [How to read clauses](crate::definitions).
 impl Encode for BlockType {
     fn encode<A: Sink>(&self, sink: &mut A) -> Result<()> {
         match *self {
@@ -38,10 +40,16 @@ impl Encode for BlockType {
 ///
 /// # Proved
 ///
+/// After `Ok`: `found`. After an error: `none`.
+///
 /// ```text
-/// ensures found { IfOk result (λ x. Decodes block_type (padded_of G.grammar) bytes.now x.0 x.1.now) }
-/// ensures none { IfErr result (λ e. e.cause ≢ Memory → Rejects block_type (padded_of G.grammar) bytes.now) }
+/// ensures found { IfOk result
+///     (λ x. Decodes block_type (padded_of G.grammar) bytes.now x.0 x.1.now) }
+/// ensures none { IfErr result
+///     (λ e. e.cause ≢ Memory → Rejects block_type (padded_of G.grammar) bytes.now) }
 /// ```
+///
+/// Definitions: [`Decodes`](crate::definitions::base::decoding::Decodes), [`block_type`](crate::definitions::immediates::immediate_formats::block_type), [`padded_of`](crate::definitions::base::numbers::padded_of), [`Rejects`](crate::definitions::base::decoding::Rejects). [How to read clauses](crate::definitions).
 #[inline(never)]
 fn read_any_block<'a, A: Allocator + Copy, G: Grammar>(
     bytes: &'a [u8],
@@ -68,6 +76,8 @@ fn read_any_block<'a, A: Allocator + Copy, G: Grammar>(
 /// format = { block_type }
 /// view = { λ b. b }
 /// ```
+///
+/// Definitions: [`block_type`](crate::definitions::immediates::immediate_formats::block_type). [How to read clauses](crate::definitions).
 impl Layout for BlockType {
     fn laws() {}
 }

@@ -29,6 +29,8 @@ pub enum Handle {
 /// encoding = { catch_encoding }
 /// encodable = { λ _. ⊤ }
 /// ```
+///
+/// Definitions: [`catch_encoding`](crate::definitions::immediates::immediates::catch_encoding). [How to read clauses](crate::definitions).
 impl Encode for Catch {
     fn encode<A: Sink>(&self, sink: &mut A) -> Result<()> {
         match *self {
@@ -48,6 +50,8 @@ impl Encode for Catch {
 /// encoding = { handle_encoding }
 /// encodable = { λ _. ⊤ }
 /// ```
+///
+/// Definitions: [`handle_encoding`](crate::definitions::immediates::immediates::handle_encoding). [How to read clauses](crate::definitions).
 impl Encode for Handle {
     fn encode<A: Sink>(&self, sink: &mut A) -> Result<()> {
         match *self {
@@ -64,6 +68,8 @@ impl Encode for Handle {
 /// format = { catch_format }
 /// view = { λ c. c }
 /// ```
+///
+/// Definitions: [`catch_format`](crate::definitions::immediates::immediate_formats::catch). [How to read clauses](crate::definitions).
 impl Layout for Catch {
     fn laws() {}
 }
@@ -100,6 +106,8 @@ impl<'a, A: Allocator + Copy, G: Grammar> Readable<'a, A, G> for Catch {
 /// format = { handle_format }
 /// view = { λ h. h }
 /// ```
+///
+/// Definitions: [`handle_format`](crate::definitions::immediates::immediate_formats::handle). [How to read clauses](crate::definitions).
 impl Layout for Handle {
     fn laws() {}
 }

@@ -19,6 +19,8 @@ impl Ieee32 {
     /// ```text
     /// ensures { result.bits ≡ bits }
     /// ```
+    ///
+    /// [How to read clauses](crate::definitions).
     pub const fn new(bits: u32) -> Self {
         Ieee32 { bits }
     }
@@ -30,6 +32,8 @@ impl Ieee32 {
     /// ```text
     /// ensures { result ≡ self.bits }
     /// ```
+    ///
+    /// [How to read clauses](crate::definitions).
     pub const fn bits(self) -> u32 {
         self.bits
     }
@@ -43,6 +47,8 @@ impl Ieee32 {
 /// encoding = { λ float. little_endian_encoding 4 float.bits }
 /// encodable = { λ _. ⊤ }
 /// ```
+///
+/// Definitions: [`little_endian_encoding`](crate::definitions::base::encodings::little_endian_encoding). [How to read clauses](crate::definitions).
 impl Encode for Ieee32 {
     fn encode<A: Sink>(&self, sink: &mut A) -> Result<()> {
         let bytes: [u8; 4] = self.bits.to_le_bytes();
@@ -64,6 +70,8 @@ impl Ieee64 {
     /// ```text
     /// ensures { result.bits ≡ bits }
     /// ```
+    ///
+    /// [How to read clauses](crate::definitions).
     pub const fn new(bits: u64) -> Self {
         Ieee64 { bits }
     }
@@ -75,6 +83,8 @@ impl Ieee64 {
     /// ```text
     /// ensures { result ≡ self.bits }
     /// ```
+    ///
+    /// [How to read clauses](crate::definitions).
     pub const fn bits(self) -> u64 {
         self.bits
     }
@@ -88,6 +98,8 @@ impl Ieee64 {
 /// encoding = { λ float. little_endian_encoding 8 float.bits }
 /// encodable = { λ _. ⊤ }
 /// ```
+///
+/// Definitions: [`little_endian_encoding`](crate::definitions::base::encodings::little_endian_encoding). [How to read clauses](crate::definitions).
 impl Encode for Ieee64 {
     fn encode<A: Sink>(&self, sink: &mut A) -> Result<()> {
         let bytes: [u8; 8] = self.bits.to_le_bytes();
@@ -104,6 +116,8 @@ impl Encode for Ieee64 {
 /// format = { little_endian 4 }
 /// view = { λ float. float.bits }
 /// ```
+///
+/// Definitions: [`little_endian`](crate::definitions::base::formats::little_endian). [How to read clauses](crate::definitions).
 impl Layout for Ieee32 {
     fn laws() {}
 }
@@ -126,6 +140,8 @@ impl<'a, A: Allocator + Copy, G: Grammar> Readable<'a, A, G> for Ieee32 {
 /// format = { little_endian 8 }
 /// view = { λ float. float.bits }
 /// ```
+///
+/// Definitions: [`little_endian`](crate::definitions::base::formats::little_endian). [How to read clauses](crate::definitions).
 impl Layout for Ieee64 {
     fn laws() {}
 }

@@ -51,6 +51,8 @@ pub enum Ordering {
 /// ```text
 /// is_default = { λ target. target ≡ targets.Memory 0 }
 /// ```
+///
+/// [How to read clauses](crate::definitions).
 impl Default for MemArgTarget {
     fn default() -> Self {
         Self::Memory(0)
@@ -65,6 +67,8 @@ impl MemArgTarget {
     /// ```text
     /// ensures { result ≡ index_of self }
     /// ```
+    ///
+    /// Definitions: [`index_of`](crate::definitions::immediates::immediates::index_of). [How to read clauses](crate::definitions).
     #[inline]
     fn index(self) -> Option<u32> {
         match self {
@@ -83,6 +87,8 @@ impl MemArgTarget {
 /// encoding = { λ ordering. ordering_code ordering ∷ [] }
 /// encodable = { λ _. ⊤ }
 /// ```
+///
+/// Definitions: [`ordering_code`](crate::definitions::immediates::immediates::ordering_code). [How to read clauses](crate::definitions).
 impl Encode for Ordering {
     fn encode<A: Sink>(&self, sink: &mut A) -> Result<()> {
         (*self as u8).encode(sink)
@@ -97,6 +103,8 @@ impl Encode for Ordering {
 /// encoding = { λ ordering. mem_ordering_code ordering ∷ [] }
 /// encodable = { λ _. ⊤ }
 /// ```
+///
+/// Definitions: [`mem_ordering_code`](crate::definitions::immediates::immediates::mem_ordering_code). [How to read clauses](crate::definitions).
 impl Encode for MemArgOrdering {
     fn encode<A: Sink>(&self, sink: &mut A) -> Result<()> {
         let byte: u8 = match *self {
@@ -117,6 +125,8 @@ impl MemArg {
     /// ```text
     /// ensures { result ≡ mem_flags self }
     /// ```
+    ///
+    /// Definitions: [`mem_flags`](crate::definitions::immediates::immediates::mem_flags). [How to read clauses](crate::definitions).
     #[inline]
     fn flags(self) -> u32 {
         let ordering = if self.ordering.is_some() { 0x10 } else { 0 };
@@ -135,6 +145,8 @@ impl MemArg {
     /// ```text
     /// ensures { Appends (mem_arg_encoding self.now) ⊤ sink.old sink.new result }
     /// ```
+    ///
+    /// Definitions: [`Appends`](crate::definitions::base::calls::Appends), [`mem_arg_encoding`](crate::definitions::immediates::immediates::mem_arg_encoding). [How to read clauses](crate::definitions).
     #[inline(never)]
     fn encode_all<A: Sink>(&self, sink: &mut A) -> Result<()> {
         let flags = self.flags();
@@ -156,6 +168,8 @@ impl MemArg {
 /// encoding = { mem_arg_encoding }
 /// encodable = { λ _. ⊤ }
 /// ```
+///
+/// Definitions: [`mem_arg_encoding`](crate::definitions::immediates::immediates::mem_arg_encoding). [How to read clauses](crate::definitions).
 impl Encode for MemArg {
     #[inline]
     fn encode<A: Sink>(&self, sink: &mut A) -> Result<()> {
@@ -172,8 +186,11 @@ impl Encode for MemArg {
 /// # Proved
 ///
 /// ```text
-/// ensures { Appends (unsigned_encoding flags ++ unsigned_encoding offset) ⊤ sink.old sink.new result }
+/// ensures { Appends (unsigned_encoding flags ++ unsigned_encoding offset) ⊤ sink.old
+///     sink.new result }
 /// ```
+///
+/// Definitions: [`Appends`](crate::definitions::base::calls::Appends), [`unsigned_encoding`](crate::definitions::base::numbers::unsigned_encoding). [How to read clauses](crate::definitions).
 #[inline]
 fn encode_plain<A: Sink>(flags: u32, offset: u64, sink: &mut A) -> Result<()> {
     if flags < 0x80 && offset < 0x80 && sink.capacity() - sink.len() >= 2 {
@@ -192,12 +209,17 @@ fn encode_plain<A: Sink>(flags: u32, offset: u64, sink: &mut A) -> Result<()> {
 /// requires spare { vec_len sink.old + 2 ≤ vec_capacity sink.old }
 /// ```
 ///
+/// [How to read clauses](crate::definitions).
+///
 /// # Proved
 ///
 /// ```text
-/// ensures items { sink.new.items ≡ sink.old.items ++ (unsigned_encoding first ++ unsigned_encoding second) }
+/// ensures items { sink.new.items
+///     ≡ sink.old.items ++ (unsigned_encoding first ++ unsigned_encoding second) }
 /// ensures capacity { vec_capacity sink.new ≡ vec_capacity sink.old }
 /// ```
+///
+/// Definitions: [`unsigned_encoding`](crate::definitions::base::numbers::unsigned_encoding). [How to read clauses](crate::definitions).
 #[inline]
 fn put_two_bytes<A: Sink>(first: u8, second: u8, sink: &mut A) {
     sink.push_both_reserved([first, second]);
@@ -210,6 +232,8 @@ fn put_two_bytes<A: Sink>(first: u8, second: u8, sink: &mut A) {
 /// format = { ordering_format }
 /// view = { λ o. o }
 /// ```
+///
+/// Definitions: [`ordering_format`](crate::definitions::immediates::immediate_formats::ordering_format). [How to read clauses](crate::definitions).
 impl Layout for Ordering {
     fn laws() {}
 }
@@ -232,6 +256,8 @@ impl<'a, A: Allocator + Copy, G: Grammar> Readable<'a, A, G> for Ordering {
 /// format = { mem_ordering }
 /// view = { λ o. o }
 /// ```
+///
+/// Definitions: [`mem_ordering`](crate::definitions::immediates::immediate_formats::mem_ordering). [How to read clauses](crate::definitions).
 impl Layout for MemArgOrdering {
     fn laws() {}
 }
@@ -248,14 +274,23 @@ impl<'a, A: Allocator + Copy, G: Grammar> Readable<'a, A, G> for MemArgOrdering 
     }
 }
 
-/// Decodes the index of an array type, or of a memory other than 0, as the flags select.
+/// Decodes the index of an array type or of a memory, as the flags select. Memory 0 has an index
+/// in the standard's grammar alone.
 ///
 /// # Proved
 ///
+/// After `Ok`: `found`. After an error: `none`.
+///
 /// ```text
-/// ensures found { IfOk result (λ x. Decodes (target_of array other) (padded_of G.grammar) bytes.now x.0 x.1.now) }
-/// ensures none { IfErr result (λ e. e.cause ≢ Memory → Rejects (target_of array other) (padded_of G.grammar) bytes.now) }
+/// ensures found { IfOk result
+///     (λ x. Decodes (target_of G.grammar array other)
+///         (padded_of G.grammar) bytes.now x.0 x.1.now) }
+/// ensures none { IfErr result
+///     (λ e. e.cause ≢ Memory → Rejects (target_of G.grammar array other)
+///         (padded_of G.grammar) bytes.now) }
 /// ```
+///
+/// Definitions: [`Decodes`](crate::definitions::base::decoding::Decodes), [`target_of`](crate::definitions::immediates::immediate_formats::target_of), [`padded_of`](crate::definitions::base::numbers::padded_of), [`Rejects`](crate::definitions::base::decoding::Rejects). [How to read clauses](crate::definitions).
 fn read_target<'a, A: Allocator + Copy, G: Grammar>(
     array: bool,
     other: bool,
@@ -271,7 +306,7 @@ fn read_target<'a, A: Allocator + Copy, G: Grammar>(
         }
         (false, true) => {
             let (index, rest) = <u32 as Readable<'a, A, G>>::read(bytes, alloc)?;
-            if index == 0 {
+            if index == 0 && !G::is_standard() {
                 return Err(ReadFault::UnknownTag.just_before(rest));
             }
             Ok((MemArgTarget::Memory(index), rest))
@@ -283,10 +318,16 @@ fn read_target<'a, A: Allocator + Copy, G: Grammar>(
 ///
 /// # Proved
 ///
+/// After `Ok`: `found`. After an error: `none`.
+///
 /// ```text
-/// ensures found { IfOk result (λ x. Decodes mem_arg (padded_of G.grammar) bytes.now x.0 x.1.now) }
-/// ensures none { IfErr result (λ e. e.cause ≢ Memory → Rejects mem_arg (padded_of G.grammar) bytes.now) }
+/// ensures found { IfOk result
+///     (λ x. Decodes mem_arg (padded_of G.grammar) bytes.now x.0 x.1.now) }
+/// ensures none { IfErr result
+///     (λ e. e.cause ≢ Memory → Rejects mem_arg (padded_of G.grammar) bytes.now) }
 /// ```
+///
+/// Definitions: [`Decodes`](crate::definitions::base::decoding::Decodes), [`mem_arg`](crate::definitions::immediates::immediate_formats::mem_arg), [`padded_of`](crate::definitions::base::numbers::padded_of), [`Rejects`](crate::definitions::base::decoding::Rejects). [How to read clauses](crate::definitions).
 #[inline(never)]
 fn read_any_memory<'a, A: Allocator + Copy, G: Grammar>(
     bytes: &'a [u8],
@@ -326,6 +367,8 @@ fn read_any_memory<'a, A: Allocator + Copy, G: Grammar>(
 /// format = { mem_arg }
 /// view = { λ m. m }
 /// ```
+///
+/// Definitions: [`mem_arg`](crate::definitions::immediates::immediate_formats::mem_arg). [How to read clauses](crate::definitions).
 impl Layout for MemArg {
     fn laws() {}
 }

@@ -23,6 +23,8 @@ impl Aggregate {
     /// ```text
     /// ensures { result ≡ Op.Prefixed 0xFB (aggregate_number self) }
     /// ```
+    ///
+    /// Definitions: [`aggregate_number`](crate::definitions::insn::aggregate::aggregate_number). [How to read clauses](crate::definitions).
     pub fn op(self) -> Op {
         Op::Prefixed(0xFB, self as u32)
     }

@@ -42,10 +42,18 @@ pub enum Arg<A: Allocator = Global> {
 ///
 /// # Proved
 ///
+/// After `Ok`: `found`. After an error: `none`.
+///
 /// ```text
-/// ensures found { IfOk result (λ x. Decodes (part parts.Unsigned) (padded_of G.grammar) bytes.now (argument_view x.0) x.1.now) }
-/// ensures none { IfErr result (λ e. e.cause ≢ Memory → Rejects (part parts.Unsigned) (padded_of G.grammar) bytes.now) }
+/// ensures found { IfOk result
+///     (λ x. Decodes (part parts.Unsigned) (padded_of G.grammar) bytes.now
+///         (argument_view x.0) x.1.now) }
+/// ensures none { IfErr result
+///     (λ e. e.cause ≢ Memory → Rejects (part parts.Unsigned)
+///         (padded_of G.grammar) bytes.now) }
 /// ```
+///
+/// Definitions: [`Decodes`](crate::definitions::base::decoding::Decodes), [`part`](crate::definitions::insn::plain::part), [`padded_of`](crate::definitions::base::numbers::padded_of), [`argument_view`](crate::definitions::insn::views::argument_view), [`Rejects`](crate::definitions::base::decoding::Rejects). [How to read clauses](crate::definitions).
 #[inline(always)]
 pub(crate) fn read_unsigned<'a, A: Allocator + Copy, G: Grammar>(
     bytes: &'a [u8],
@@ -59,10 +67,18 @@ pub(crate) fn read_unsigned<'a, A: Allocator + Copy, G: Grammar>(
 ///
 /// # Proved
 ///
+/// After `Ok`: `found`. After an error: `none`.
+///
 /// ```text
-/// ensures found { IfOk result (λ x. Decodes (part parts.Signed32) (padded_of G.grammar) bytes.now (argument_view x.0) x.1.now) }
-/// ensures none { IfErr result (λ e. e.cause ≢ Memory → Rejects (part parts.Signed32) (padded_of G.grammar) bytes.now) }
+/// ensures found { IfOk result
+///     (λ x. Decodes (part parts.Signed32) (padded_of G.grammar) bytes.now
+///         (argument_view x.0) x.1.now) }
+/// ensures none { IfErr result
+///     (λ e. e.cause ≢ Memory → Rejects (part parts.Signed32)
+///         (padded_of G.grammar) bytes.now) }
 /// ```
+///
+/// Definitions: [`Decodes`](crate::definitions::base::decoding::Decodes), [`part`](crate::definitions::insn::plain::part), [`padded_of`](crate::definitions::base::numbers::padded_of), [`argument_view`](crate::definitions::insn::views::argument_view), [`Rejects`](crate::definitions::base::decoding::Rejects). [How to read clauses](crate::definitions).
 #[inline(always)]
 pub(crate) fn read_signed32<'a, A: Allocator + Copy, G: Grammar>(
     bytes: &'a [u8],
@@ -76,10 +92,18 @@ pub(crate) fn read_signed32<'a, A: Allocator + Copy, G: Grammar>(
 ///
 /// # Proved
 ///
+/// After `Ok`: `found`. After an error: `none`.
+///
 /// ```text
-/// ensures found { IfOk result (λ x. Decodes (part parts.Signed64) (padded_of G.grammar) bytes.now (argument_view x.0) x.1.now) }
-/// ensures none { IfErr result (λ e. e.cause ≢ Memory → Rejects (part parts.Signed64) (padded_of G.grammar) bytes.now) }
+/// ensures found { IfOk result
+///     (λ x. Decodes (part parts.Signed64) (padded_of G.grammar) bytes.now
+///         (argument_view x.0) x.1.now) }
+/// ensures none { IfErr result
+///     (λ e. e.cause ≢ Memory → Rejects (part parts.Signed64)
+///         (padded_of G.grammar) bytes.now) }
 /// ```
+///
+/// Definitions: [`Decodes`](crate::definitions::base::decoding::Decodes), [`part`](crate::definitions::insn::plain::part), [`padded_of`](crate::definitions::base::numbers::padded_of), [`argument_view`](crate::definitions::insn::views::argument_view), [`Rejects`](crate::definitions::base::decoding::Rejects). [How to read clauses](crate::definitions).
 #[inline(always)]
 pub(crate) fn read_signed64<'a, A: Allocator + Copy, G: Grammar>(
     bytes: &'a [u8],
@@ -93,10 +117,18 @@ pub(crate) fn read_signed64<'a, A: Allocator + Copy, G: Grammar>(
 ///
 /// # Proved
 ///
+/// After `Ok`: `found`. After an error: `none`.
+///
 /// ```text
-/// ensures found { IfOk result (λ x. Decodes (part parts.Float32) (padded_of G.grammar) bytes.now (argument_view x.0) x.1.now) }
-/// ensures none { IfErr result (λ e. e.cause ≢ Memory → Rejects (part parts.Float32) (padded_of G.grammar) bytes.now) }
+/// ensures found { IfOk result
+///     (λ x. Decodes (part parts.Float32) (padded_of G.grammar) bytes.now
+///         (argument_view x.0) x.1.now) }
+/// ensures none { IfErr result
+///     (λ e. e.cause ≢ Memory → Rejects (part parts.Float32)
+///         (padded_of G.grammar) bytes.now) }
 /// ```
+///
+/// Definitions: [`Decodes`](crate::definitions::base::decoding::Decodes), [`part`](crate::definitions::insn::plain::part), [`padded_of`](crate::definitions::base::numbers::padded_of), [`argument_view`](crate::definitions::insn::views::argument_view), [`Rejects`](crate::definitions::base::decoding::Rejects). [How to read clauses](crate::definitions).
 #[inline(never)]
 fn read_float32<'a, A: Allocator + Copy, G: Grammar>(
     bytes: &'a [u8],
@@ -110,10 +142,18 @@ fn read_float32<'a, A: Allocator + Copy, G: Grammar>(
 ///
 /// # Proved
 ///
+/// After `Ok`: `found`. After an error: `none`.
+///
 /// ```text
-/// ensures found { IfOk result (λ x. Decodes (part parts.Float64) (padded_of G.grammar) bytes.now (argument_view x.0) x.1.now) }
-/// ensures none { IfErr result (λ e. e.cause ≢ Memory → Rejects (part parts.Float64) (padded_of G.grammar) bytes.now) }
+/// ensures found { IfOk result
+///     (λ x. Decodes (part parts.Float64) (padded_of G.grammar) bytes.now
+///         (argument_view x.0) x.1.now) }
+/// ensures none { IfErr result
+///     (λ e. e.cause ≢ Memory → Rejects (part parts.Float64)
+///         (padded_of G.grammar) bytes.now) }
 /// ```
+///
+/// Definitions: [`Decodes`](crate::definitions::base::decoding::Decodes), [`part`](crate::definitions::insn::plain::part), [`padded_of`](crate::definitions::base::numbers::padded_of), [`argument_view`](crate::definitions::insn::views::argument_view), [`Rejects`](crate::definitions::base::decoding::Rejects). [How to read clauses](crate::definitions).
 #[inline(never)]
 fn read_float64<'a, A: Allocator + Copy, G: Grammar>(
     bytes: &'a [u8],
@@ -127,10 +167,18 @@ fn read_float64<'a, A: Allocator + Copy, G: Grammar>(
 ///
 /// # Proved
 ///
+/// After `Ok`: `found`. After an error: `none`.
+///
 /// ```text
-/// ensures found { IfOk result (λ x. Decodes (part parts.Vector) (padded_of G.grammar) bytes.now (argument_view x.0) x.1.now) }
-/// ensures none { IfErr result (λ e. e.cause ≢ Memory → Rejects (part parts.Vector) (padded_of G.grammar) bytes.now) }
+/// ensures found { IfOk result
+///     (λ x. Decodes (part parts.Vector) (padded_of G.grammar) bytes.now
+///         (argument_view x.0) x.1.now) }
+/// ensures none { IfErr result
+///     (λ e. e.cause ≢ Memory → Rejects (part parts.Vector)
+///         (padded_of G.grammar) bytes.now) }
 /// ```
+///
+/// Definitions: [`Decodes`](crate::definitions::base::decoding::Decodes), [`part`](crate::definitions::insn::plain::part), [`padded_of`](crate::definitions::base::numbers::padded_of), [`argument_view`](crate::definitions::insn::views::argument_view), [`Rejects`](crate::definitions::base::decoding::Rejects). [How to read clauses](crate::definitions).
 #[inline(never)]
 fn read_vector<'a, A: Allocator + Copy, G: Grammar>(
     bytes: &'a [u8],
@@ -144,10 +192,18 @@ fn read_vector<'a, A: Allocator + Copy, G: Grammar>(
 ///
 /// # Proved
 ///
+/// After `Ok`: `found`. After an error: `none`.
+///
 /// ```text
-/// ensures found { IfOk result (λ x. Decodes (part parts.Memory) (padded_of G.grammar) bytes.now (argument_view x.0) x.1.now) }
-/// ensures none { IfErr result (λ e. e.cause ≢ Memory → Rejects (part parts.Memory) (padded_of G.grammar) bytes.now) }
+/// ensures found { IfOk result
+///     (λ x. Decodes (part parts.Memory) (padded_of G.grammar) bytes.now
+///         (argument_view x.0) x.1.now) }
+/// ensures none { IfErr result
+///     (λ e. e.cause ≢ Memory → Rejects (part parts.Memory)
+///         (padded_of G.grammar) bytes.now) }
 /// ```
+///
+/// Definitions: [`Decodes`](crate::definitions::base::decoding::Decodes), [`part`](crate::definitions::insn::plain::part), [`padded_of`](crate::definitions::base::numbers::padded_of), [`argument_view`](crate::definitions::insn::views::argument_view), [`Rejects`](crate::definitions::base::decoding::Rejects). [How to read clauses](crate::definitions).
 #[inline(always)]
 pub(crate) fn read_memory<'a, A: Allocator + Copy, G: Grammar>(
     bytes: &'a [u8],
@@ -161,10 +217,18 @@ pub(crate) fn read_memory<'a, A: Allocator + Copy, G: Grammar>(
 ///
 /// # Proved
 ///
+/// After `Ok`: `found`. After an error: `none`.
+///
 /// ```text
-/// ensures found { IfOk result (λ x. Decodes (part parts.Lane) (padded_of G.grammar) bytes.now (argument_view x.0) x.1.now) }
-/// ensures none { IfErr result (λ e. e.cause ≢ Memory → Rejects (part parts.Lane) (padded_of G.grammar) bytes.now) }
+/// ensures found { IfOk result
+///     (λ x. Decodes (part parts.Lane) (padded_of G.grammar) bytes.now
+///         (argument_view x.0) x.1.now) }
+/// ensures none { IfErr result
+///     (λ e. e.cause ≢ Memory → Rejects (part parts.Lane) (padded_of G.grammar) bytes.now)
+///     }
 /// ```
+///
+/// Definitions: [`Decodes`](crate::definitions::base::decoding::Decodes), [`part`](crate::definitions::insn::plain::part), [`padded_of`](crate::definitions::base::numbers::padded_of), [`argument_view`](crate::definitions::insn::views::argument_view), [`Rejects`](crate::definitions::base::decoding::Rejects). [How to read clauses](crate::definitions).
 fn read_lane<'a, A: Allocator + Copy, G: Grammar>(
     bytes: &'a [u8],
     alloc: A,
@@ -177,10 +241,18 @@ fn read_lane<'a, A: Allocator + Copy, G: Grammar>(
 ///
 /// # Proved
 ///
+/// After `Ok`: `found`. After an error: `none`.
+///
 /// ```text
-/// ensures found { IfOk result (λ x. Decodes (part parts.Lanes) (padded_of G.grammar) bytes.now (argument_view x.0) x.1.now) }
-/// ensures none { IfErr result (λ e. e.cause ≢ Memory → Rejects (part parts.Lanes) (padded_of G.grammar) bytes.now) }
+/// ensures found { IfOk result
+///     (λ x. Decodes (part parts.Lanes) (padded_of G.grammar) bytes.now
+///         (argument_view x.0) x.1.now) }
+/// ensures none { IfErr result
+///     (λ e. e.cause ≢ Memory → Rejects (part parts.Lanes) (padded_of G.grammar) bytes.now)
+///     }
 /// ```
+///
+/// Definitions: [`Decodes`](crate::definitions::base::decoding::Decodes), [`part`](crate::definitions::insn::plain::part), [`padded_of`](crate::definitions::base::numbers::padded_of), [`argument_view`](crate::definitions::insn::views::argument_view), [`Rejects`](crate::definitions::base::decoding::Rejects). [How to read clauses](crate::definitions).
 #[inline(never)]
 fn read_lanes<'a, A: Allocator + Copy, G: Grammar>(
     bytes: &'a [u8],
@@ -194,10 +266,18 @@ fn read_lanes<'a, A: Allocator + Copy, G: Grammar>(
 ///
 /// # Proved
 ///
+/// After `Ok`: `found`. After an error: `none`.
+///
 /// ```text
-/// ensures found { IfOk result (λ x. Decodes (part parts.Block) (padded_of G.grammar) bytes.now (argument_view x.0) x.1.now) }
-/// ensures none { IfErr result (λ e. e.cause ≢ Memory → Rejects (part parts.Block) (padded_of G.grammar) bytes.now) }
+/// ensures found { IfOk result
+///     (λ x. Decodes (part parts.Block) (padded_of G.grammar) bytes.now
+///         (argument_view x.0) x.1.now) }
+/// ensures none { IfErr result
+///     (λ e. e.cause ≢ Memory → Rejects (part parts.Block) (padded_of G.grammar) bytes.now)
+///     }
 /// ```
+///
+/// Definitions: [`Decodes`](crate::definitions::base::decoding::Decodes), [`part`](crate::definitions::insn::plain::part), [`padded_of`](crate::definitions::base::numbers::padded_of), [`argument_view`](crate::definitions::insn::views::argument_view), [`Rejects`](crate::definitions::base::decoding::Rejects). [How to read clauses](crate::definitions).
 #[inline(always)]
 pub(crate) fn read_block<'a, A: Allocator + Copy, G: Grammar>(
     bytes: &'a [u8],
@@ -211,10 +291,18 @@ pub(crate) fn read_block<'a, A: Allocator + Copy, G: Grammar>(
 ///
 /// # Proved
 ///
+/// After `Ok`: `found`. After an error: `none`.
+///
 /// ```text
-/// ensures found { IfOk result (λ x. Decodes (part parts.Heap) (padded_of G.grammar) bytes.now (argument_view x.0) x.1.now) }
-/// ensures none { IfErr result (λ e. e.cause ≢ Memory → Rejects (part parts.Heap) (padded_of G.grammar) bytes.now) }
+/// ensures found { IfOk result
+///     (λ x. Decodes (part parts.Heap) (padded_of G.grammar) bytes.now
+///         (argument_view x.0) x.1.now) }
+/// ensures none { IfErr result
+///     (λ e. e.cause ≢ Memory → Rejects (part parts.Heap) (padded_of G.grammar) bytes.now)
+///     }
 /// ```
+///
+/// Definitions: [`Decodes`](crate::definitions::base::decoding::Decodes), [`part`](crate::definitions::insn::plain::part), [`padded_of`](crate::definitions::base::numbers::padded_of), [`argument_view`](crate::definitions::insn::views::argument_view), [`Rejects`](crate::definitions::base::decoding::Rejects). [How to read clauses](crate::definitions).
 #[inline(never)]
 fn read_heap<'a, A: Allocator + Copy, G: Grammar>(
     bytes: &'a [u8],
@@ -228,10 +316,18 @@ fn read_heap<'a, A: Allocator + Copy, G: Grammar>(
 ///
 /// # Proved
 ///
+/// After `Ok`: `found`. After an error: `none`.
+///
 /// ```text
-/// ensures found { IfOk result (λ x. Decodes (part parts.Ordering) (padded_of G.grammar) bytes.now (argument_view x.0) x.1.now) }
-/// ensures none { IfErr result (λ e. e.cause ≢ Memory → Rejects (part parts.Ordering) (padded_of G.grammar) bytes.now) }
+/// ensures found { IfOk result
+///     (λ x. Decodes (part parts.Ordering) (padded_of G.grammar) bytes.now
+///         (argument_view x.0) x.1.now) }
+/// ensures none { IfErr result
+///     (λ e. e.cause ≢ Memory → Rejects (part parts.Ordering)
+///         (padded_of G.grammar) bytes.now) }
 /// ```
+///
+/// Definitions: [`Decodes`](crate::definitions::base::decoding::Decodes), [`part`](crate::definitions::insn::plain::part), [`padded_of`](crate::definitions::base::numbers::padded_of), [`argument_view`](crate::definitions::insn::views::argument_view), [`Rejects`](crate::definitions::base::decoding::Rejects). [How to read clauses](crate::definitions).
 #[inline(never)]
 fn read_ordering<'a, A: Allocator + Copy, G: Grammar>(
     bytes: &'a [u8],
@@ -245,10 +341,18 @@ fn read_ordering<'a, A: Allocator + Copy, G: Grammar>(
 ///
 /// # Proved
 ///
+/// After `Ok`: `found`. After an error: `none`.
+///
 /// ```text
-/// ensures found { IfOk result (λ x. Decodes (part parts.Labels) (padded_of G.grammar) bytes.now (argument_view x.0) x.1.now) }
-/// ensures none { IfErr result (λ e. e.cause ≢ Memory → Rejects (part parts.Labels) (padded_of G.grammar) bytes.now) }
+/// ensures found { IfOk result
+///     (λ x. Decodes (part parts.Labels) (padded_of G.grammar) bytes.now
+///         (argument_view x.0) x.1.now) }
+/// ensures none { IfErr result
+///     (λ e. e.cause ≢ Memory → Rejects (part parts.Labels)
+///         (padded_of G.grammar) bytes.now) }
 /// ```
+///
+/// Definitions: [`Decodes`](crate::definitions::base::decoding::Decodes), [`part`](crate::definitions::insn::plain::part), [`padded_of`](crate::definitions::base::numbers::padded_of), [`argument_view`](crate::definitions::insn::views::argument_view), [`Rejects`](crate::definitions::base::decoding::Rejects). [How to read clauses](crate::definitions).
 #[inline(never)]
 fn read_labels<'a, A: Allocator + Copy, G: Grammar>(
     bytes: &'a [u8],
@@ -262,10 +366,18 @@ fn read_labels<'a, A: Allocator + Copy, G: Grammar>(
 ///
 /// # Proved
 ///
+/// After `Ok`: `found`. After an error: `none`.
+///
 /// ```text
-/// ensures found { IfOk result (λ x. Decodes (part parts.Catches) (padded_of G.grammar) bytes.now (argument_view x.0) x.1.now) }
-/// ensures none { IfErr result (λ e. e.cause ≢ Memory → Rejects (part parts.Catches) (padded_of G.grammar) bytes.now) }
+/// ensures found { IfOk result
+///     (λ x. Decodes (part parts.Catches) (padded_of G.grammar) bytes.now
+///         (argument_view x.0) x.1.now) }
+/// ensures none { IfErr result
+///     (λ e. e.cause ≢ Memory → Rejects (part parts.Catches)
+///         (padded_of G.grammar) bytes.now) }
 /// ```
+///
+/// Definitions: [`Decodes`](crate::definitions::base::decoding::Decodes), [`part`](crate::definitions::insn::plain::part), [`padded_of`](crate::definitions::base::numbers::padded_of), [`argument_view`](crate::definitions::insn::views::argument_view), [`Rejects`](crate::definitions::base::decoding::Rejects). [How to read clauses](crate::definitions).
 #[inline(never)]
 fn read_catches<'a, A: Allocator + Copy, G: Grammar>(
     bytes: &'a [u8],
@@ -279,10 +391,18 @@ fn read_catches<'a, A: Allocator + Copy, G: Grammar>(
 ///
 /// # Proved
 ///
+/// After `Ok`: `found`. After an error: `none`.
+///
 /// ```text
-/// ensures found { IfOk result (λ x. Decodes (part parts.Types) (padded_of G.grammar) bytes.now (argument_view x.0) x.1.now) }
-/// ensures none { IfErr result (λ e. e.cause ≢ Memory → Rejects (part parts.Types) (padded_of G.grammar) bytes.now) }
+/// ensures found { IfOk result
+///     (λ x. Decodes (part parts.Types) (padded_of G.grammar) bytes.now
+///         (argument_view x.0) x.1.now) }
+/// ensures none { IfErr result
+///     (λ e. e.cause ≢ Memory → Rejects (part parts.Types) (padded_of G.grammar) bytes.now)
+///     }
 /// ```
+///
+/// Definitions: [`Decodes`](crate::definitions::base::decoding::Decodes), [`part`](crate::definitions::insn::plain::part), [`padded_of`](crate::definitions::base::numbers::padded_of), [`argument_view`](crate::definitions::insn::views::argument_view), [`Rejects`](crate::definitions::base::decoding::Rejects). [How to read clauses](crate::definitions).
 #[inline(never)]
 fn read_types<'a, A: Allocator + Copy, G: Grammar>(
     bytes: &'a [u8],
@@ -296,10 +416,18 @@ fn read_types<'a, A: Allocator + Copy, G: Grammar>(
 ///
 /// # Proved
 ///
+/// After `Ok`: `found`. After an error: `none`.
+///
 /// ```text
-/// ensures found { IfOk result (λ x. Decodes (part parts.Handles) (padded_of G.grammar) bytes.now (argument_view x.0) x.1.now) }
-/// ensures none { IfErr result (λ e. e.cause ≢ Memory → Rejects (part parts.Handles) (padded_of G.grammar) bytes.now) }
+/// ensures found { IfOk result
+///     (λ x. Decodes (part parts.Handles) (padded_of G.grammar) bytes.now
+///         (argument_view x.0) x.1.now) }
+/// ensures none { IfErr result
+///     (λ e. e.cause ≢ Memory → Rejects (part parts.Handles)
+///         (padded_of G.grammar) bytes.now) }
 /// ```
+///
+/// Definitions: [`Decodes`](crate::definitions::base::decoding::Decodes), [`part`](crate::definitions::insn::plain::part), [`padded_of`](crate::definitions::base::numbers::padded_of), [`argument_view`](crate::definitions::insn::views::argument_view), [`Rejects`](crate::definitions::base::decoding::Rejects). [How to read clauses](crate::definitions).
 #[inline(never)]
 fn read_handles<'a, A: Allocator + Copy, G: Grammar>(
     bytes: &'a [u8],
@@ -313,10 +441,18 @@ fn read_handles<'a, A: Allocator + Copy, G: Grammar>(
 ///
 /// # Proved
 ///
+/// After `Ok`: `found`. After an error: `none`.
+///
 /// ```text
-/// ensures found { IfOk result (λ x. Decodes (part parts.Flag) (padded_of G.grammar) bytes.now (argument_view x.0) x.1.now) }
-/// ensures none { IfErr result (λ e. e.cause ≢ Memory → Rejects (part parts.Flag) (padded_of G.grammar) bytes.now) }
+/// ensures found { IfOk result
+///     (λ x. Decodes (part parts.Flag) (padded_of G.grammar) bytes.now
+///         (argument_view x.0) x.1.now) }
+/// ensures none { IfErr result
+///     (λ e. e.cause ≢ Memory → Rejects (part parts.Flag) (padded_of G.grammar) bytes.now)
+///     }
 /// ```
+///
+/// Definitions: [`Decodes`](crate::definitions::base::decoding::Decodes), [`part`](crate::definitions::insn::plain::part), [`padded_of`](crate::definitions::base::numbers::padded_of), [`argument_view`](crate::definitions::insn::views::argument_view), [`Rejects`](crate::definitions::base::decoding::Rejects). [How to read clauses](crate::definitions).
 fn read_flag<'a, A: Allocator + Copy, G: Grammar>(
     bytes: &'a [u8],
     alloc: A,
@@ -334,10 +470,17 @@ fn read_flag<'a, A: Allocator + Copy, G: Grammar>(
 ///
 /// # Proved
 ///
+/// After `Ok`: `found`. After an error: `none`.
+///
 /// ```text
-/// ensures found { IfOk result (λ x. Decodes (part wanted) (padded_of G.grammar) bytes.now (argument_view x.0) x.1.now) }
-/// ensures none { IfErr result (λ e. e.cause ≢ Memory → Rejects (part wanted) (padded_of G.grammar) bytes.now) }
+/// ensures found { IfOk result
+///     (λ x. Decodes (part wanted) (padded_of G.grammar) bytes.now
+///         (argument_view x.0) x.1.now) }
+/// ensures none { IfErr result
+///     (λ e. e.cause ≢ Memory → Rejects (part wanted) (padded_of G.grammar) bytes.now) }
 /// ```
+///
+/// Definitions: [`Decodes`](crate::definitions::base::decoding::Decodes), [`part`](crate::definitions::insn::plain::part), [`padded_of`](crate::definitions::base::numbers::padded_of), [`argument_view`](crate::definitions::insn::views::argument_view), [`Rejects`](crate::definitions::base::decoding::Rejects). [How to read clauses](crate::definitions).
 pub(crate) fn read_part<'a, A: Allocator + Copy, G: Grammar>(
     wanted: Part,
     bytes: &'a [u8],
@@ -373,12 +516,22 @@ pub(crate) fn read_part<'a, A: Allocator + Copy, G: Grammar>(
 /// requires { args.old.items ≡ [] }
 /// ```
 ///
+/// [How to read clauses](crate::definitions).
+///
 /// # Proved
 ///
+/// After `Ok`: `found`. After an error: `none`.
+///
 /// ```text
-/// ensures found { IfOk result (λ rest. Decodes (arguments wanted.now) (padded_of G.grammar) bytes.now (map argument_view args.new.items) rest.now) }
-/// ensures none { IfErr result (λ e. e.cause ≢ Memory → Rejects (arguments wanted.now) (padded_of G.grammar) bytes.now) }
+/// ensures found { IfOk result
+///     (λ rest. Decodes (arguments wanted.now) (padded_of G.grammar) bytes.now
+///         (map argument_view args.new.items) rest.now) }
+/// ensures none { IfErr result
+///     (λ e. e.cause ≢ Memory → Rejects (arguments wanted.now)
+///         (padded_of G.grammar) bytes.now) }
 /// ```
+///
+/// Definitions: [`Decodes`](crate::definitions::base::decoding::Decodes), [`arguments`](crate::definitions::insn::plain::arguments), [`padded_of`](crate::definitions::base::numbers::padded_of), [`argument_view`](crate::definitions::insn::views::argument_view), [`Rejects`](crate::definitions::base::decoding::Rejects). [How to read clauses](crate::definitions).
 fn read_parts<'a, A: Allocator + Copy, G: Grammar>(
     wanted: &[Part],
     bytes: &'a [u8],
@@ -399,10 +552,18 @@ fn read_parts<'a, A: Allocator + Copy, G: Grammar>(
 ///
 /// # Proved
 ///
+/// After `Ok`: `found`. After an error: `none`.
+///
 /// ```text
-/// ensures found { IfOk result (λ x. Decodes (arguments (parts_of shape)) (padded_of G.grammar) bytes.now (map argument_view x.0.items) x.1.now) }
-/// ensures none { IfErr result (λ e. e.cause ≢ Memory → Rejects (arguments (parts_of shape)) (padded_of G.grammar) bytes.now) }
+/// ensures found { IfOk result
+///     (λ x. Decodes (arguments (parts_of shape)) (padded_of G.grammar) bytes.now
+///         (map argument_view x.0.items) x.1.now) }
+/// ensures none { IfErr result
+///     (λ e. e.cause ≢ Memory → Rejects (arguments (parts_of shape))
+///         (padded_of G.grammar) bytes.now) }
 /// ```
+///
+/// Definitions: [`Decodes`](crate::definitions::base::decoding::Decodes), [`arguments`](crate::definitions::insn::plain::arguments), [`parts_of`](crate::definitions::insn::parts::parts_of), [`padded_of`](crate::definitions::base::numbers::padded_of), [`argument_view`](crate::definitions::insn::views::argument_view), [`Rejects`](crate::definitions::base::decoding::Rejects). [How to read clauses](crate::definitions).
 #[inline(never)]
 fn read_any<'a, A: Allocator + Copy, G: Grammar>(
     shape: Shape,
@@ -419,10 +580,15 @@ fn read_any<'a, A: Allocator + Copy, G: Grammar>(
 ///
 /// # Proved
 ///
+/// After `Ok`: `listed`. After an error: `refused`.
+///
 /// ```text
-/// ensures listed { IfOk result (λ x. (x.0.items ≡ read.entry.0 ∷ []) × (x.1.now ≡ read.entry.1.now)) }
+/// ensures listed { IfOk result
+///     (λ x. (x.0.items ≡ read.entry.0 ∷ []) × (x.1.now ≡ read.entry.1.now)) }
 /// ensures refused { IfErr result (λ e. e.cause ≡ Memory) }
 /// ```
+///
+/// [How to read clauses](crate::definitions).
 #[inline(always)]
 fn list_one<'a, A: Allocator + Copy>(
     alloc: A,
@@ -439,10 +605,18 @@ fn list_one<'a, A: Allocator + Copy>(
 ///
 /// # Proved
 ///
+/// After `Ok`: `found`. After an error: `none`.
+///
 /// ```text
-/// ensures found { IfOk result (λ x. Decodes (arguments (parts_of shape)) (padded_of G.grammar) bytes.now (map argument_view x.0.items) x.1.now) }
-/// ensures none { IfErr result (λ e. e.cause ≢ Memory → Rejects (arguments (parts_of shape)) (padded_of G.grammar) bytes.now) }
+/// ensures found { IfOk result
+///     (λ x. Decodes (arguments (parts_of shape)) (padded_of G.grammar) bytes.now
+///         (map argument_view x.0.items) x.1.now) }
+/// ensures none { IfErr result
+///     (λ e. e.cause ≢ Memory → Rejects (arguments (parts_of shape))
+///         (padded_of G.grammar) bytes.now) }
 /// ```
+///
+/// Definitions: [`Decodes`](crate::definitions::base::decoding::Decodes), [`arguments`](crate::definitions::insn::plain::arguments), [`parts_of`](crate::definitions::insn::parts::parts_of), [`padded_of`](crate::definitions::base::numbers::padded_of), [`argument_view`](crate::definitions::insn::views::argument_view), [`Rejects`](crate::definitions::base::decoding::Rejects). [How to read clauses](crate::definitions).
 #[inline]
 pub(crate) fn read_arguments<'a, A: Allocator + Copy, G: Grammar>(
     shape: Shape,
@@ -464,10 +638,18 @@ pub(crate) fn read_arguments<'a, A: Allocator + Copy, G: Grammar>(
 ///
 /// # Proved
 ///
+/// After `Ok`: `found`. After an error: `none`.
+///
 /// ```text
-/// ensures found { IfOk result (λ rest. Decodes (arguments (parts_of shape)) (padded_of G.grammar) bytes.now (map argument_view args.new.items) rest.now) }
-/// ensures none { IfErr result (λ e. e.cause ≢ Memory → Rejects (arguments (parts_of shape)) (padded_of G.grammar) bytes.now) }
+/// ensures found { IfOk result
+///     (λ rest. Decodes (arguments (parts_of shape)) (padded_of G.grammar) bytes.now
+///         (map argument_view args.new.items) rest.now) }
+/// ensures none { IfErr result
+///     (λ e. e.cause ≢ Memory → Rejects (arguments (parts_of shape))
+///         (padded_of G.grammar) bytes.now) }
 /// ```
+///
+/// Definitions: [`Decodes`](crate::definitions::base::decoding::Decodes), [`arguments`](crate::definitions::insn::plain::arguments), [`parts_of`](crate::definitions::insn::parts::parts_of), [`padded_of`](crate::definitions::base::numbers::padded_of), [`argument_view`](crate::definitions::insn::views::argument_view), [`Rejects`](crate::definitions::base::decoding::Rejects). [How to read clauses](crate::definitions).
 #[inline(never)]
 fn read_any_into<'a, A: Allocator + Copy, G: Grammar>(
     shape: Shape,
@@ -479,14 +661,35 @@ fn read_any_into<'a, A: Allocator + Copy, G: Grammar>(
     read_parts::<A, G>(shape.parts(), bytes, alloc, args)
 }
 
-/// Makes the decoded argument the only one of the list, and returns the remaining bytes.
+/// Drops the arguments of the list. One without arguments takes no call.
 ///
 /// # Proved
 ///
 /// ```text
-/// ensures kept { IfOk result (λ rest. (args.new.items ≡ read.entry.0 ∷ []) × (rest.now ≡ read.entry.1.now)) }
+/// ensures { args.new.items ≡ [] }
+/// ```
+///
+/// [How to read clauses](crate::definitions).
+#[inline(always)]
+fn drop_all<A: Allocator + Copy>(args: &mut Vec<Arg<A>, A>) {
+    if !args.is_empty() {
+        args.clear();
+    }
+}
+
+/// Makes the decoded argument the only one of the list, and returns the remaining bytes.
+///
+/// # Proved
+///
+/// After `Ok`: `kept`. After an error: `refused`.
+///
+/// ```text
+/// ensures kept { IfOk result
+///     (λ rest. (args.new.items ≡ read.entry.0 ∷ []) × (rest.now ≡ read.entry.1.now)) }
 /// ensures refused { IfErr result (λ e. e.cause ≡ Memory) }
 /// ```
+///
+/// [How to read clauses](crate::definitions).
 #[inline(always)]
 fn keep_one<'a, A: Allocator + Copy>(
     args: &mut Vec<Arg<A>, A>,
@@ -497,7 +700,7 @@ fn keep_one<'a, A: Allocator + Copy>(
         *one = arg;
         return Ok(rest);
     }
-    args.clear();
+    drop_all(args);
     args.push(arg)?;
     Ok(rest)
 }
@@ -507,10 +710,18 @@ fn keep_one<'a, A: Allocator + Copy>(
 ///
 /// # Proved
 ///
+/// After `Ok`: `found`. After an error: `none`.
+///
 /// ```text
-/// ensures found { IfOk result (λ rest. Decodes (arguments (parts_of shape)) (padded_of G.grammar) bytes.now (map argument_view args.new.items) rest.now) }
-/// ensures none { IfErr result (λ e. e.cause ≢ Memory → Rejects (arguments (parts_of shape)) (padded_of G.grammar) bytes.now) }
+/// ensures found { IfOk result
+///     (λ rest. Decodes (arguments (parts_of shape)) (padded_of G.grammar) bytes.now
+///         (map argument_view args.new.items) rest.now) }
+/// ensures none { IfErr result
+///     (λ e. e.cause ≢ Memory → Rejects (arguments (parts_of shape))
+///         (padded_of G.grammar) bytes.now) }
 /// ```
+///
+/// Definitions: [`Decodes`](crate::definitions::base::decoding::Decodes), [`arguments`](crate::definitions::insn::plain::arguments), [`parts_of`](crate::definitions::insn::parts::parts_of), [`padded_of`](crate::definitions::base::numbers::padded_of), [`argument_view`](crate::definitions::insn::views::argument_view), [`Rejects`](crate::definitions::base::decoding::Rejects). [How to read clauses](crate::definitions).
 #[inline]
 pub(crate) fn read_arguments_into<'a, A: Allocator + Copy, G: Grammar>(
     shape: Shape,
@@ -520,7 +731,7 @@ pub(crate) fn read_arguments_into<'a, A: Allocator + Copy, G: Grammar>(
 ) -> Result<&'a [u8], DecodeError> {
     match shape {
         Shape::Nothing => {
-            args.clear();
+            drop_all(args);
             Ok(bytes)
         }
         Shape::U => keep_one(args, read_unsigned::<A, G>(bytes, alloc)?),
@@ -536,11 +747,16 @@ pub(crate) fn read_arguments_into<'a, A: Allocator + Copy, G: Grammar>(
 ///
 /// # Proved
 ///
+/// After `Ok`: `ok`. After an error: `err`. In any case: `too_long`.
+///
 /// ```text
-/// ensures ok { OnOk result (sink.new.items ≡ sink.old.items ++ argument_encoding (argument_view arg.now)) }
+/// ensures ok { OnOk result
+///     (sink.new.items ≡ sink.old.items ++ argument_encoding (argument_view arg.now)) }
 /// ensures err { OnErr result (sink.new.items ≡ sink.old.items) }
 /// ensures too_long { IsWellFormedArgument (argument_view arg.now) → result ≢ Err TooLong }
 /// ```
+///
+/// Definitions: [`argument_encoding`](crate::definitions::insn::arguments::argument_encoding), [`argument_view`](crate::definitions::insn::views::argument_view), [`IsWellFormedArgument`](crate::definitions::insn::plain::IsWellFormedArgument). [How to read clauses](crate::definitions).
 fn append_argument<A: Allocator, B: Sink>(arg: &Arg<A>, sink: &mut B) -> Result<()> {
     match arg {
         Arg::U32(n) => n.encode(sink),
@@ -567,11 +783,17 @@ fn append_argument<A: Allocator, B: Sink>(arg: &Arg<A>, sink: &mut B) -> Result<
 ///
 /// # Proved
 ///
+/// After `Ok`: `ok`. In any case: `front`, `too_long`.
+///
 /// ```text
-/// ensures ok { OnOk result (sink.new.items ≡ sink.old.items ++ flat_map (λ a. argument_encoding (argument_view a)) args.now) }
+/// ensures ok { OnOk result
+///     (sink.new.items ≡ sink.old.items
+///         ++ flat_map (λ a. argument_encoding (argument_view a)) args.now) }
 /// ensures front { IsFrontOf sink.old.items sink.new.items }
 /// ensures too_long { AreWellFormed (map argument_view args.now) → result ≢ Err TooLong }
 /// ```
+///
+/// Definitions: [`argument_encoding`](crate::definitions::insn::arguments::argument_encoding), [`argument_view`](crate::definitions::insn::views::argument_view), [`IsFrontOf`](crate::definitions::base::minimal::IsFrontOf), [`AreWellFormed`](crate::definitions::insn::plain::AreWellFormed). [How to read clauses](crate::definitions).
 pub(crate) fn append_arguments<A: Allocator, B: Sink>(
     args: &[Arg<A>],
     sink: &mut B,
@@ -586,10 +808,17 @@ pub(crate) fn append_arguments<A: Allocator, B: Sink>(
 ///
 /// # Proved
 ///
+/// After `Ok`: `found`. After an error: `none`.
+///
 /// ```text
-/// ensures found { IfOk result (λ rest. (x : Argument) × Decodes (part wanted) (padded_of G.grammar) bytes.now x rest.now) }
-/// ensures none { IfErr result (λ e. e.cause ≢ Memory → Rejects (part wanted) (padded_of G.grammar) bytes.now) }
+/// ensures found { IfOk result
+///     (λ rest. (x : Argument) × Decodes (part wanted)
+///         (padded_of G.grammar) bytes.now x rest.now) }
+/// ensures none { IfErr result
+///     (λ e. e.cause ≢ Memory → Rejects (part wanted) (padded_of G.grammar) bytes.now) }
 /// ```
+///
+/// Definitions: [`Argument`](crate::definitions::insn::arguments::Argument), [`Decodes`](crate::definitions::base::decoding::Decodes), [`part`](crate::definitions::insn::plain::part), [`padded_of`](crate::definitions::base::numbers::padded_of), [`Rejects`](crate::definitions::base::decoding::Rejects). [How to read clauses](crate::definitions).
 fn skip_part<'a, A: Allocator + Copy, G: Grammar>(
     wanted: Part,
     bytes: &'a [u8],
@@ -623,10 +852,18 @@ fn skip_part<'a, A: Allocator + Copy, G: Grammar>(
 ///
 /// # Proved
 ///
+/// After `Ok`: `found`. After an error: `none`.
+///
 /// ```text
-/// ensures found { IfOk result (λ rest. (xs : List Argument) × Decodes (arguments wanted.now) (padded_of G.grammar) bytes.now xs rest.now) }
-/// ensures none { IfErr result (λ e. e.cause ≢ Memory → Rejects (arguments wanted.now) (padded_of G.grammar) bytes.now) }
+/// ensures found { IfOk result
+///     (λ rest. (xs : List Argument)
+///         × Decodes (arguments wanted.now) (padded_of G.grammar) bytes.now xs rest.now) }
+/// ensures none { IfErr result
+///     (λ e. e.cause ≢ Memory → Rejects (arguments wanted.now)
+///         (padded_of G.grammar) bytes.now) }
 /// ```
+///
+/// Definitions: [`Argument`](crate::definitions::insn::arguments::Argument), [`Decodes`](crate::definitions::base::decoding::Decodes), [`arguments`](crate::definitions::insn::plain::arguments), [`padded_of`](crate::definitions::base::numbers::padded_of), [`Rejects`](crate::definitions::base::decoding::Rejects). [How to read clauses](crate::definitions).
 fn skip_parts<'a, A: Allocator + Copy, G: Grammar>(
     wanted: &[Part],
     bytes: &'a [u8],
@@ -643,10 +880,19 @@ fn skip_parts<'a, A: Allocator + Copy, G: Grammar>(
 ///
 /// # Proved
 ///
+/// After `Ok`: `found`. After an error: `none`.
+///
 /// ```text
-/// ensures found { IfOk result (λ rest. (xs : List Argument) × Decodes (arguments (parts_of shape)) (padded_of G.grammar) bytes.now xs rest.now) }
-/// ensures none { IfErr result (λ e. e.cause ≢ Memory → Rejects (arguments (parts_of shape)) (padded_of G.grammar) bytes.now) }
+/// ensures found { IfOk result
+///     (λ rest. (xs : List Argument)
+///         × Decodes (arguments (parts_of shape))
+///         (padded_of G.grammar) bytes.now xs rest.now) }
+/// ensures none { IfErr result
+///     (λ e. e.cause ≢ Memory → Rejects (arguments (parts_of shape))
+///         (padded_of G.grammar) bytes.now) }
 /// ```
+///
+/// Definitions: [`Argument`](crate::definitions::insn::arguments::Argument), [`Decodes`](crate::definitions::base::decoding::Decodes), [`arguments`](crate::definitions::insn::plain::arguments), [`parts_of`](crate::definitions::insn::parts::parts_of), [`padded_of`](crate::definitions::base::numbers::padded_of), [`Rejects`](crate::definitions::base::decoding::Rejects). [How to read clauses](crate::definitions).
 #[inline(never)]
 fn skip_any<'a, A: Allocator + Copy, G: Grammar>(
     shape: Shape,
@@ -661,10 +907,19 @@ fn skip_any<'a, A: Allocator + Copy, G: Grammar>(
 ///
 /// # Proved
 ///
+/// After `Ok`: `found`. After an error: `none`.
+///
 /// ```text
-/// ensures found { IfOk result (λ rest. (xs : List Argument) × Decodes (arguments (parts_of shape)) (padded_of G.grammar) bytes.now xs rest.now) }
-/// ensures none { IfErr result (λ e. e.cause ≢ Memory → Rejects (arguments (parts_of shape)) (padded_of G.grammar) bytes.now) }
+/// ensures found { IfOk result
+///     (λ rest. (xs : List Argument)
+///         × Decodes (arguments (parts_of shape))
+///         (padded_of G.grammar) bytes.now xs rest.now) }
+/// ensures none { IfErr result
+///     (λ e. e.cause ≢ Memory → Rejects (arguments (parts_of shape))
+///         (padded_of G.grammar) bytes.now) }
 /// ```
+///
+/// Definitions: [`Argument`](crate::definitions::insn::arguments::Argument), [`Decodes`](crate::definitions::base::decoding::Decodes), [`arguments`](crate::definitions::insn::plain::arguments), [`parts_of`](crate::definitions::insn::parts::parts_of), [`padded_of`](crate::definitions::base::numbers::padded_of), [`Rejects`](crate::definitions::base::decoding::Rejects). [How to read clauses](crate::definitions).
 #[inline]
 pub(crate) fn skip_arguments<'a, A: Allocator + Copy, G: Grammar>(
     shape: Shape,

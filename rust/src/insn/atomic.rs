@@ -240,6 +240,8 @@ impl Atomic {
     /// ```text
     /// ensures { result ≡ (atomic_row self).op }
     /// ```
+    ///
+    /// Definitions: [`atomic_row`](crate::definitions::insn::atomic::atomic_row). [How to read clauses](crate::definitions).
     pub fn op(self) -> Op {
         match self {
             Atomic::MemoryAtomicNotify(..) => Op::Prefixed(0xFE, 0x00),
@@ -354,8 +356,11 @@ impl Atomic {
     /// # Proved
     ///
     /// ```text
-    /// ensures { Appends (arguments_encoding (atomic_row self).arguments) (arguments_encodable (atomic_row self).arguments) sink.old sink.new result }
+    /// ensures { Appends (arguments_encoding (atomic_row self).arguments)
+    ///     (arguments_encodable (atomic_row self).arguments) sink.old sink.new result }
     /// ```
+    ///
+    /// Definitions: [`Appends`](crate::definitions::base::calls::Appends), [`arguments_encoding`](crate::definitions::insn::arguments::arguments_encoding), [`atomic_row`](crate::definitions::insn::atomic::atomic_row), [`arguments_encodable`](crate::definitions::insn::arguments::arguments_encodable). [How to read clauses](crate::definitions).
     pub(crate) fn encode_arguments<A: Sink>(self, sink: &mut A) -> Result<()> {
         match self {
             Atomic::MemoryAtomicNotify(a)

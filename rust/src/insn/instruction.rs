@@ -243,6 +243,8 @@ pub enum Instruction<'a, A: Allocator = Global> {
 /// ```text
 /// ensures { result ≡ cast_flag_of from to }
 /// ```
+///
+/// Definitions: [`cast_flag_of`](crate::definitions::insn::instructions::cast_flag_of). [How to read clauses](crate::definitions).
 fn cast_flag(from: RefType, to: RefType) -> u8 {
     u8::from(from.nullable) + 2 * u8::from(to.nullable)
 }
@@ -255,8 +257,12 @@ fn cast_flag(from: RefType, to: RefType) -> u8 {
 /// # Proved
 ///
 /// ```text
-/// ensures { Appends (vec_encoding unsigned_encoding labels.now ++ unsigned_encoding default) (IsEncodableVec (λ _. ⊤) labels.now × ⊤) sink.old sink.new result }
+/// ensures { Appends (vec_encoding unsigned_encoding labels.now
+///         ++ unsigned_encoding default)
+///     (IsEncodableVec (λ _. ⊤) labels.now × ⊤) sink.old sink.new result }
 /// ```
+///
+/// Definitions: [`Appends`](crate::definitions::base::calls::Appends), [`vec_encoding`](crate::definitions::base::encodings::vec_encoding), [`unsigned_encoding`](crate::definitions::base::numbers::unsigned_encoding), [`IsEncodableVec`](crate::definitions::base::encodings::IsEncodableVec). [How to read clauses](crate::definitions).
 #[inline(never)]
 fn encode_labels<A: Sink>(labels: &[u32], default: u32, sink: &mut A) -> Result<()> {
     (labels, default).encode(sink)
@@ -267,8 +273,11 @@ fn encode_labels<A: Sink>(labels: &[u32], default: u32, sink: &mut A) -> Result<
 /// # Proved
 ///
 /// ```text
-/// ensures { Appends (block_encoding block_type ++ vec_encoding catch_encoding catches.now) (⊤ × IsEncodableVec (λ _. ⊤) catches.now) sink.old sink.new result }
+/// ensures { Appends (block_encoding block_type ++ vec_encoding catch_encoding catches.now)
+///     (⊤ × IsEncodableVec (λ _. ⊤) catches.now) sink.old sink.new result }
 /// ```
+///
+/// Definitions: [`Appends`](crate::definitions::base::calls::Appends), [`block_encoding`](crate::definitions::immediates::immediates::block_encoding), [`vec_encoding`](crate::definitions::base::encodings::vec_encoding), [`catch_encoding`](crate::definitions::immediates::immediates::catch_encoding), [`IsEncodableVec`](crate::definitions::base::encodings::IsEncodableVec). [How to read clauses](crate::definitions).
 #[inline(never)]
 fn encode_try_table<A: Sink>(
     block_type: BlockType,
@@ -283,8 +292,11 @@ fn encode_try_table<A: Sink>(
 /// # Proved
 ///
 /// ```text
-/// ensures { Appends (unsigned_encoding index ++ vec_encoding handle_encoding handles.now) (⊤ × IsEncodableVec (λ _. ⊤) handles.now) sink.old sink.new result }
+/// ensures { Appends (unsigned_encoding index ++ vec_encoding handle_encoding handles.now)
+///     (⊤ × IsEncodableVec (λ _. ⊤) handles.now) sink.old sink.new result }
 /// ```
+///
+/// Definitions: [`Appends`](crate::definitions::base::calls::Appends), [`unsigned_encoding`](crate::definitions::base::numbers::unsigned_encoding), [`vec_encoding`](crate::definitions::base::encodings::vec_encoding), [`handle_encoding`](crate::definitions::immediates::immediates::handle_encoding), [`IsEncodableVec`](crate::definitions::base::encodings::IsEncodableVec). [How to read clauses](crate::definitions).
 #[inline(never)]
 fn encode_resume<A: Sink>(index: u32, handles: &[Handle], sink: &mut A) -> Result<()> {
     (index, handles).encode(sink)
@@ -295,8 +307,12 @@ fn encode_resume<A: Sink>(index: u32, handles: &[Handle], sink: &mut A) -> Resul
 /// # Proved
 ///
 /// ```text
-/// ensures { Appends (unsigned_encoding index ++ (unsigned_encoding tag ++ vec_encoding handle_encoding handles.now)) (⊤ × ⊤ × IsEncodableVec (λ _. ⊤) handles.now) sink.old sink.new result }
+/// ensures { Appends (unsigned_encoding index
+///         ++ (unsigned_encoding tag ++ vec_encoding handle_encoding handles.now))
+///     (⊤ × ⊤ × IsEncodableVec (λ _. ⊤) handles.now) sink.old sink.new result }
 /// ```
+///
+/// Definitions: [`Appends`](crate::definitions::base::calls::Appends), [`unsigned_encoding`](crate::definitions::base::numbers::unsigned_encoding), [`vec_encoding`](crate::definitions::base::encodings::vec_encoding), [`handle_encoding`](crate::definitions::immediates::immediates::handle_encoding), [`IsEncodableVec`](crate::definitions::base::encodings::IsEncodableVec). [How to read clauses](crate::definitions).
 #[inline(never)]
 fn encode_resume_throw<A: Sink>(
     index: u32,
@@ -312,8 +328,13 @@ fn encode_resume_throw<A: Sink>(
 /// # Proved
 ///
 /// ```text
-/// ensures { Appends (cast_flag_of from to ∷ [] ++ (unsigned_encoding label ++ (heap_encoding from.heap_type ++ heap_encoding to.heap_type))) (⊤ × ⊤ × (⊤ × ⊤)) sink.old sink.new result }
+/// ensures { Appends (cast_flag_of from to ∷ []
+///         ++ (unsigned_encoding label
+///             ++ (heap_encoding from.heap_type ++ heap_encoding to.heap_type)))
+///     (⊤ × ⊤ × (⊤ × ⊤)) sink.old sink.new result }
 /// ```
+///
+/// Definitions: [`Appends`](crate::definitions::base::calls::Appends), [`cast_flag_of`](crate::definitions::insn::instructions::cast_flag_of), [`unsigned_encoding`](crate::definitions::base::numbers::unsigned_encoding), [`heap_encoding`](crate::definitions::base::types::heap_encoding). [How to read clauses](crate::definitions).
 #[inline(never)]
 fn encode_cast<A: Sink>(
     label: u32,
@@ -332,6 +353,8 @@ impl<'a, A: Allocator> Instruction<'a, A> {
     /// ```text
     /// ensures { result ≡ (row_of self.now).op }
     /// ```
+    ///
+    /// Definitions: [`row_of`](crate::definitions::insn::instructions::row_of). [How to read clauses](crate::definitions).
     pub fn op(&self) -> Op {
         match self {
             Instruction::Unreachable => Op::Byte(0x00),
@@ -470,8 +493,11 @@ impl<'a, A: Allocator> Instruction<'a, A> {
     /// # Proved
     ///
     /// ```text
-    /// ensures { Appends (arguments_encoding (row_of self.now).arguments) (arguments_encodable (row_of self.now).arguments) sink.old sink.new result }
+    /// ensures { Appends (arguments_encoding (row_of self.now).arguments)
+    ///     (arguments_encodable (row_of self.now).arguments) sink.old sink.new result }
     /// ```
+    ///
+    /// Definitions: [`Appends`](crate::definitions::base::calls::Appends), [`arguments_encoding`](crate::definitions::insn::arguments::arguments_encoding), [`row_of`](crate::definitions::insn::instructions::row_of), [`arguments_encodable`](crate::definitions::insn::arguments::arguments_encodable). [How to read clauses](crate::definitions).
     fn encode_arguments<B: Sink>(&self, sink: &mut B) -> Result<()> {
         match self {
             Instruction::Block(a)
@@ -693,10 +719,14 @@ impl<'a, A: Allocator + Copy> Instruction<'a, A> {
     ///
     /// # Proved
     ///
+    /// After `Ok`: `ok`. In any case: `err`.
+    ///
     /// ```text
     /// ensures ok { IfOk result (λ i. row_of i ≡ row_of self.now) }
     /// ensures err { result ≢ Err Refused.TooLong }
     /// ```
+    ///
+    /// Definitions: [`row_of`](crate::definitions::insn::instructions::row_of). [How to read clauses](crate::definitions).
     pub fn clone(&self) -> Result<Self> {
         Ok(match self {
             Instruction::Unreachable => Instruction::Unreachable,
@@ -749,10 +779,14 @@ impl<'a, A: Allocator + Copy> Instruction<'a, A> {
     ///
     /// # Proved
     ///
+    /// After `Ok`: `ok`. In any case: `err`.
+    ///
     /// ```text
     /// ensures ok { IfOk result (λ i. row_of i ≡ row_of self.now) }
     /// ensures err { result ≢ Err Refused.TooLong }
     /// ```
+    ///
+    /// Definitions: [`row_of`](crate::definitions::insn::instructions::row_of). [How to read clauses](crate::definitions).
     fn clone_access(&self) -> Result<Self> {
         Ok(match self {
             Instruction::LocalGet(a) => Instruction::LocalGet(*a),
@@ -796,10 +830,14 @@ impl<'a, A: Allocator + Copy> Instruction<'a, A> {
     ///
     /// # Proved
     ///
+    /// After `Ok`: `ok`. In any case: `err`.
+    ///
     /// ```text
     /// ensures ok { IfOk result (λ i. row_of i ≡ row_of self.now) }
     /// ensures err { result ≢ Err Refused.TooLong }
     /// ```
+    ///
+    /// Definitions: [`row_of`](crate::definitions::insn::instructions::row_of). [How to read clauses](crate::definitions).
     fn clone_reference(&self) -> Result<Self> {
         Ok(match self {
             Instruction::I32Const(a) => Instruction::I32Const(*a),
@@ -860,10 +898,14 @@ impl<'a, A: Allocator + Copy> Instruction<'a, A> {
     ///
     /// # Proved
     ///
+    /// After `Ok`: `ok`. In any case: `err`.
+    ///
     /// ```text
     /// ensures ok { IfOk result (λ i. row_of i ≡ row_of self.now) }
     /// ensures err { result ≢ Err Refused.TooLong }
     /// ```
+    ///
+    /// Definitions: [`row_of`](crate::definitions::insn::instructions::row_of). [How to read clauses](crate::definitions).
     fn clone_aggregate(&self) -> Result<Self> {
         Ok(match self {
             Instruction::StructNew(a) => Instruction::StructNew(*a),
@@ -999,10 +1041,14 @@ impl<'a, A: Allocator + Copy> Instruction<'a, A> {
     ///
     /// # Proved
     ///
+    /// After `Ok`: `ok`. In any case: `err`.
+    ///
     /// ```text
     /// ensures ok { IfOk result (λ i. row_of i ≡ row_of self.now) }
     /// ensures err { result ≢ Err Refused.TooLong }
     /// ```
+    ///
+    /// Definitions: [`row_of`](crate::definitions::insn::instructions::row_of). [How to read clauses](crate::definitions).
     fn clone_bulk(&self) -> Result<Self> {
         Ok(match self {
             Instruction::MemoryInit { data_index, mem } => Instruction::MemoryInit {
@@ -1052,6 +1098,8 @@ impl<'a, A: Allocator + Copy> Instruction<'a, A> {
 /// encodable = { IsEncodableInstruction }
 /// decoding = { DecodesInstruction }
 /// ```
+///
+/// Definitions: [`instruction_encoding`](crate::definitions::insn::instructions::instruction_encoding), [`IsEncodableInstruction`](crate::definitions::insn::instructions::IsEncodableInstruction), [`DecodesInstruction`](crate::definitions::insn::instructions::DecodesInstruction). [How to read clauses](crate::definitions).
 impl<'a, A: Allocator> Encode for Instruction<'a, A> {
     fn encode<B: Sink>(&self, sink: &mut B) -> Result<()> {
         let start = sink.len();

@@ -23,6 +23,8 @@ use crate::alloc::Allocator;
 /// ensures table { IsOpcodeTable table }
 /// ensures apart { BeginsNoOther }
 /// ```
+///
+/// Definitions: [`Unambiguous`](crate::definitions::base::decoding::Unambiguous), [`opcode`](crate::definitions::insn::plain::opcode), [`HasMinimalEncodings`](crate::definitions::base::decoding::HasMinimalEncodings), [`IsOpcode`](crate::definitions::insn::plain::IsOpcode), [`op_encoding`](crate::definitions::insn::opcodes::op_encoding), [`table`](crate::definitions::insn::table::table), [`IsOpcodeTable`](crate::definitions::insn::table::IsOpcodeTable), [`BeginsNoOther`](crate::definitions::insn::table::BeginsNoOther). [How to read clauses](crate::definitions).
 pub fn opcodes() {}
 
 /// Each instruction is a row of the table, with one immediate for each immediate of the row's
@@ -33,6 +35,8 @@ pub fn opcodes() {}
 /// ```text
 /// ensures { (i : Instruction A) → IsRow table (row_of i) }
 /// ```
+///
+/// Definitions: [`IsRow`](crate::definitions::insn::table::IsRow), [`table`](crate::definitions::insn::table::table), [`row_of`](crate::definitions::insn::instructions::row_of). [How to read clauses](crate::definitions).
 pub fn rows<A: Allocator>() {}
 
 /// The cases of the enums and the rows of the table correspond one to one: in the table's order,
@@ -45,6 +49,8 @@ pub fn rows<A: Allocator>() {}
 /// ensures rows { (given : Given A) → AreRows (all_cases given) table }
 /// ensures each { (i : Instruction A) → IsCase i }
 /// ```
+///
+/// Definitions: [`Given`](crate::definitions::insn::cases::Given), [`AreRows`](crate::definitions::insn::cases::AreRows), [`all_cases`](crate::definitions::insn::cases::all_cases), [`table`](crate::definitions::insn::table::table), [`IsCase`](crate::definitions::insn::cases::IsCase). [How to read clauses](crate::definitions).
 pub fn cases<A: Allocator>() {}
 
 /// The format of instructions over the table is unambiguous. The encoding of a well-formed
@@ -58,6 +64,8 @@ pub fn cases<A: Allocator>() {}
 /// ensures plain { (i : Instruction A) → DecodesInstruction i }
 /// ensures one_encoding { (i j : Instruction A) → HaveOneEncoding i j }
 /// ```
+///
+/// Definitions: [`Unambiguous`](crate::definitions::base::decoding::Unambiguous), [`instruction`](crate::definitions::insn::plain::instruction), [`table`](crate::definitions::insn::table::table), [`DecodesInstruction`](crate::definitions::insn::instructions::DecodesInstruction), [`HaveOneEncoding`](crate::definitions::insn::instructions::HaveOneEncoding). [How to read clauses](crate::definitions).
 pub fn instructions<A: Allocator>() {}
 
 /// With padded numbers the formats are unambiguous too.
@@ -69,6 +77,8 @@ pub fn instructions<A: Allocator>() {}
 /// ensures instruction { UnambiguousPadded (instruction table) }
 /// ensures list { UnambiguousWholePadded (members (instruction table)) }
 /// ```
+///
+/// Definitions: [`opcode`](crate::definitions::insn::plain::opcode), [`UnambiguousPadded`](crate::definitions::base::decoding::UnambiguousPadded), [`instruction`](crate::definitions::insn::plain::instruction), [`table`](crate::definitions::insn::table::table), [`UnambiguousWholePadded`](crate::definitions::base::decoding::UnambiguousWholePadded), [`members`](crate::definitions::base::formats::members). [How to read clauses](crate::definitions).
 pub fn padded() {}
 
 /// Lists of instructions that occupy all of the bytes are unambiguous.
@@ -78,6 +88,8 @@ pub fn padded() {}
 /// ```text
 /// ensures { UnambiguousWhole (members (instruction table)) }
 /// ```
+///
+/// Definitions: [`UnambiguousWhole`](crate::definitions::base::decoding::UnambiguousWhole), [`members`](crate::definitions::base::formats::members), [`instruction`](crate::definitions::insn::plain::instruction), [`table`](crate::definitions::insn::table::table). [How to read clauses](crate::definitions).
 pub fn lists() {}
 
 /// An instruction is well-formed if its alignments are below 16 and its lists can be counted. A
@@ -88,6 +100,8 @@ pub fn lists() {}
 /// ```text
 /// ensures { IsWellFormedWhereAligned instruction.now }
 /// ```
+///
+/// Definitions: [`IsWellFormedWhereAligned`](crate::definitions::insn::instructions::IsWellFormedWhereAligned). [How to read clauses](crate::definitions).
 pub fn plain_instruction<A: Allocator>(instruction: &Instruction<'_, A>) {
     arguments_ranged(instruction);
 }
@@ -99,6 +113,8 @@ pub fn plain_instruction<A: Allocator>(instruction: &Instruction<'_, A>) {
 /// ```text
 /// ensures { All IsWellFormedWhereAligned instructions.now }
 /// ```
+///
+/// Definitions: [`IsWellFormedWhereAligned`](crate::definitions::insn::instructions::IsWellFormedWhereAligned). [How to read clauses](crate::definitions).
 pub fn plain_instructions<A: Allocator>(instructions: &[Instruction<'_, A>]) {
     for instruction in instructions {
         plain_instruction(instruction);

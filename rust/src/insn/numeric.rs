@@ -145,6 +145,8 @@ impl Numeric {
     /// ```text
     /// ensures { result ≡ Op.Byte (numeric_number self) }
     /// ```
+    ///
+    /// Definitions: [`numeric_number`](crate::definitions::insn::numeric::numeric_number). [How to read clauses](crate::definitions).
     pub fn op(self) -> Op {
         Op::Byte(self as u8)
     }

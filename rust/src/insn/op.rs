@@ -70,6 +70,8 @@ pub enum Shape {
 /// encoding = { op_encoding }
 /// encodable = { λ _. ⊤ }
 /// ```
+///
+/// Definitions: [`op_encoding`](crate::definitions::insn::opcodes::op_encoding). [How to read clauses](crate::definitions).
 impl Encode for Op {
     #[inline(always)]
     fn encode<A: Sink>(&self, sink: &mut A) -> Result<()> {
@@ -84,10 +86,16 @@ impl Encode for Op {
 ///
 /// # Proved
 ///
+/// After `Ok`: `found`. After an error: `none`.
+///
 /// ```text
-/// ensures found { IfOk result (λ x. Decodes opcode (padded_of G.grammar) bytes.now x.0 x.1.now) }
-/// ensures none { IfErr result (λ e. e.cause ≢ Memory → Rejects opcode (padded_of G.grammar) bytes.now) }
+/// ensures found { IfOk result
+///     (λ x. Decodes opcode (padded_of G.grammar) bytes.now x.0 x.1.now) }
+/// ensures none { IfErr result
+///     (λ e. e.cause ≢ Memory → Rejects opcode (padded_of G.grammar) bytes.now) }
 /// ```
+///
+/// Definitions: [`Decodes`](crate::definitions::base::decoding::Decodes), [`opcode`](crate::definitions::insn::plain::opcode), [`padded_of`](crate::definitions::base::numbers::padded_of), [`Rejects`](crate::definitions::base::decoding::Rejects). [How to read clauses](crate::definitions).
 #[inline]
 pub(crate) fn read_op<'a, A: Allocator + Copy, G: Grammar>(
     bytes: &'a [u8],

@@ -50,6 +50,8 @@ impl Shape {
     /// ```text
     /// ensures { result.now ≡ parts_of self }
     /// ```
+    ///
+    /// Definitions: [`parts_of`](crate::definitions::insn::parts::parts_of). [How to read clauses](crate::definitions).
     pub fn parts(self) -> &'static [Part] {
         match self {
             Shape::Nothing => &[],

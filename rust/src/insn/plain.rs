@@ -22,6 +22,8 @@ pub struct Plain<A: Allocator = Global> {
 /// format = { instruction table }
 /// view = { plain_view }
 /// ```
+///
+/// Definitions: [`PlainInstruction`](crate::definitions::insn::plain::Plain), [`instruction`](crate::definitions::insn::plain::instruction), [`table`](crate::definitions::insn::table::table), [`plain_view`](crate::definitions::insn::views::plain_view). [How to read clauses](crate::definitions).
 impl<A: Allocator> Layout for Plain<A> {
     fn laws() {}
 }
@@ -42,10 +44,18 @@ impl<'a, A: Allocator + Copy, G: Grammar> Readable<'a, A, G> for Plain<A> {
 ///
 /// # Proved
 ///
+/// After `Ok`: `found`. After an error: `none`.
+///
 /// ```text
-/// ensures found { IfOk result (λ x. Decodes (instruction table) (padded_of G.grammar) bytes.now (record { op = x.0; arguments = map argument_view args.new.items }) x.1.now) }
-/// ensures none { IfErr result (λ e. e.cause ≢ Memory → Rejects (instruction table) (padded_of G.grammar) bytes.now) }
+/// ensures found { IfOk result
+///     (λ x. Decodes (instruction table) (padded_of G.grammar) bytes.now
+///         (record { op = x.0; arguments = map argument_view args.new.items }) x.1.now) }
+/// ensures none { IfErr result
+///     (λ e. e.cause ≢ Memory → Rejects (instruction table)
+///         (padded_of G.grammar) bytes.now) }
 /// ```
+///
+/// Definitions: [`Decodes`](crate::definitions::base::decoding::Decodes), [`instruction`](crate::definitions::insn::plain::instruction), [`table`](crate::definitions::insn::table::table), [`padded_of`](crate::definitions::base::numbers::padded_of), [`argument_view`](crate::definitions::insn::views::argument_view), [`Rejects`](crate::definitions::base::decoding::Rejects). [How to read clauses](crate::definitions).
 pub fn read_instruction_into<'a, A: Allocator + Copy, G: Grammar>(
     bytes: &'a [u8],
     alloc: A,
@@ -63,11 +73,20 @@ pub fn read_instruction_into<'a, A: Allocator + Copy, G: Grammar>(
 ///
 /// # Proved
 ///
+/// After `Ok`: `ok`. In any case: `front`, `too_long`.
+///
 /// ```text
-/// ensures ok { OnOk result (AppendsMinimal (instruction table) (record { op = op; arguments = map argument_view args.now }) sink.old.items sink.new.items) }
+/// ensures ok { OnOk result
+///     (AppendsMinimal (instruction table)
+///         (record { op = op; arguments = map argument_view args.now }) sink.old.items
+///         sink.new.items) }
 /// ensures front { IsFrontOf sink.old.items sink.new.items }
-/// ensures too_long { HasEncoding (instruction table) (record { op = op; arguments = map argument_view args.now }) → result ≢ Err TooLong }
+/// ensures too_long { HasEncoding (instruction table)
+///     (record { op = op; arguments = map argument_view args.now })
+///     → result ≢ Err TooLong }
 /// ```
+///
+/// Definitions: [`AppendsMinimal`](crate::definitions::base::minimal::AppendsMinimal), [`instruction`](crate::definitions::insn::plain::instruction), [`table`](crate::definitions::insn::table::table), [`argument_view`](crate::definitions::insn::views::argument_view), [`IsFrontOf`](crate::definitions::base::minimal::IsFrontOf), [`HasEncoding`](crate::definitions::base::minimal::HasEncoding). [How to read clauses](crate::definitions).
 pub fn append_instruction<A: Allocator, B: Sink>(
     op: Op,
     args: &[Arg<A>],

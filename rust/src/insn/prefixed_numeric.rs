@@ -29,6 +29,8 @@ impl PrefixedNumeric {
     /// ```text
     /// ensures { result ≡ Op.Prefixed 0xFC (prefixed_numeric_number self) }
     /// ```
+    ///
+    /// Definitions: [`prefixed_numeric_number`](crate::definitions::insn::prefixed_numeric::prefixed_numeric_number). [How to read clauses](crate::definitions).
     pub fn op(self) -> Op {
         Op::Prefixed(0xFC, self as u32)
     }

@@ -17,6 +17,8 @@ use crate::immediates::{BlockType, Catch, Handle, Ieee32, Ieee64, MemArg};
 /// // The numbers in the value are in the range of their types.
 /// in_range: { Self → Type 0 }
 /// ```
+///
+/// [How to read clauses](crate::definitions).
 trait Ranged: Copy {
     /// Proves the property. The function does nothing.
     ///
@@ -25,6 +27,8 @@ trait Ranged: Copy {
     /// ```text
     /// ensures { in_range self }
     /// ```
+    ///
+    /// [How to read clauses](crate::definitions).
     fn ranged(self);
 }
 
@@ -33,6 +37,8 @@ trait Ranged: Copy {
 /// ```text
 /// in_range = { λ n. n < 2 ^ 32 }
 /// ```
+///
+/// [How to read clauses](crate::definitions).
 impl Ranged for u32 {
     fn ranged(self) {}
 }
@@ -42,6 +48,8 @@ impl Ranged for u32 {
 /// ```text
 /// in_range = { IsSigned32InRange }
 /// ```
+///
+/// Definitions: [`IsSigned32InRange`](crate::definitions::base::laws::IsSigned32InRange). [How to read clauses](crate::definitions).
 impl Ranged for i32 {
     fn ranged(self) {}
 }
@@ -51,6 +59,8 @@ impl Ranged for i32 {
 /// ```text
 /// in_range = { IsSigned64InRange }
 /// ```
+///
+/// Definitions: [`IsSigned64InRange`](crate::definitions::base::laws::IsSigned64InRange). [How to read clauses](crate::definitions).
 impl Ranged for i64 {
     fn ranged(self) {}
 }
@@ -60,6 +70,8 @@ impl Ranged for i64 {
 /// ```text
 /// in_range = { λ float. float.bits < 2 ^ 32 }
 /// ```
+///
+/// [How to read clauses](crate::definitions).
 impl Ranged for Ieee32 {
     fn ranged(self) {}
 }
@@ -69,6 +81,8 @@ impl Ranged for Ieee32 {
 /// ```text
 /// in_range = { λ float. float.bits < 2 ^ 64 }
 /// ```
+///
+/// [How to read clauses](crate::definitions).
 impl Ranged for Ieee64 {
     fn ranged(self) {}
 }
@@ -78,6 +92,8 @@ impl Ranged for Ieee64 {
 /// ```text
 /// in_range = { IsHeap }
 /// ```
+///
+/// Definitions: [`IsHeap`](crate::definitions::base::types::IsHeap). [How to read clauses](crate::definitions).
 impl Ranged for HeapType {
     fn ranged(self) {}
 }
@@ -87,6 +103,8 @@ impl Ranged for HeapType {
 /// ```text
 /// in_range = { IsVal }
 /// ```
+///
+/// Definitions: [`IsVal`](crate::definitions::base::types::IsVal). [How to read clauses](crate::definitions).
 impl Ranged for ValType {
     fn ranged(self) {}
 }
@@ -96,6 +114,8 @@ impl Ranged for ValType {
 /// ```text
 /// in_range = { IsWellFormedBlock }
 /// ```
+///
+/// Definitions: [`IsWellFormedBlock`](crate::definitions::immediates::immediate_formats::IsWellFormedBlock). [How to read clauses](crate::definitions).
 impl Ranged for BlockType {
     fn ranged(self) {}
 }
@@ -105,6 +125,8 @@ impl Ranged for BlockType {
 /// ```text
 /// in_range = { IsWellFormedCatch }
 /// ```
+///
+/// Definitions: [`IsWellFormedCatch`](crate::definitions::immediates::immediate_formats::IsWellFormedCatch). [How to read clauses](crate::definitions).
 impl Ranged for Catch {
     fn ranged(self) {}
 }
@@ -114,6 +136,8 @@ impl Ranged for Catch {
 /// ```text
 /// in_range = { IsWellFormedHandle }
 /// ```
+///
+/// Definitions: [`IsWellFormedHandle`](crate::definitions::immediates::immediate_formats::IsWellFormedHandle). [How to read clauses](crate::definitions).
 impl Ranged for Handle {
     fn ranged(self) {}
 }
@@ -125,6 +149,8 @@ impl Ranged for Handle {
 /// ```text
 /// in_range = { λ m. m.align < 16 → IsWellFormedMemory m }
 /// ```
+///
+/// Definitions: [`IsWellFormedMemory`](crate::definitions::immediates::immediate_formats::IsWellFormedMemory). [How to read clauses](crate::definitions).
 impl Ranged for MemArg {
     fn ranged(self) {}
 }
@@ -132,8 +158,11 @@ impl Ranged for MemArg {
 /// # Defined
 ///
 /// ```text
-/// in_range = { λ i. HaveSmallAlignments (vector_immediate_row i).arguments → AreWellFormed (vector_immediate_row i).arguments }
+/// in_range = { λ i. HaveSmallAlignments (vector_immediate_row i).arguments
+///     → AreWellFormed (vector_immediate_row i).arguments }
 /// ```
+///
+/// Definitions: [`HaveSmallAlignments`](crate::definitions::insn::plain::HaveSmallAlignments), [`vector_immediate_row`](crate::definitions::insn::vector_immediate::vector_immediate_row), [`AreWellFormed`](crate::definitions::insn::plain::AreWellFormed). [How to read clauses](crate::definitions).
 impl Ranged for VectorImmediate {
     fn ranged(self) {}
 }
@@ -141,8 +170,11 @@ impl Ranged for VectorImmediate {
 /// # Defined
 ///
 /// ```text
-/// in_range = { λ i. HaveSmallAlignments (atomic_row i).arguments → AreWellFormed (atomic_row i).arguments }
+/// in_range = { λ i. HaveSmallAlignments (atomic_row i).arguments
+///     → AreWellFormed (atomic_row i).arguments }
 /// ```
+///
+/// Definitions: [`HaveSmallAlignments`](crate::definitions::insn::plain::HaveSmallAlignments), [`atomic_row`](crate::definitions::insn::atomic::atomic_row), [`AreWellFormed`](crate::definitions::insn::plain::AreWellFormed). [How to read clauses](crate::definitions).
 impl Ranged for Atomic {
     fn ranged(self) {
         match self {
@@ -379,6 +411,8 @@ impl Ranged for Atomic {
 /// ```text
 /// ensures { All T.in_range items.now }
 /// ```
+///
+/// [How to read clauses](crate::definitions).
 fn each_ranged<T: Ranged>(items: &[T]) {
     for item in items {
         item.ranged();
@@ -390,8 +424,11 @@ fn each_ranged<T: Ranged>(items: &[T]) {
 /// # Proved
 ///
 /// ```text
-/// ensures { AreWellFormed (flag (cast_flag_of from to) ∷ unsigned label ∷ heap from.heap_type ∷ heap to.heap_type ∷ []) }
+/// ensures { AreWellFormed (flag (cast_flag_of from to) ∷ unsigned label
+///         ∷ heap from.heap_type ∷ heap to.heap_type ∷ []) }
 /// ```
+///
+/// Definitions: [`AreWellFormed`](crate::definitions::insn::plain::AreWellFormed), [`flag`](crate::definitions::insn::arguments::Argument), [`cast_flag_of`](crate::definitions::insn::instructions::cast_flag_of), [`unsigned`](crate::definitions::insn::arguments::Argument), [`heap`](crate::definitions::insn::arguments::Argument). [How to read clauses](crate::definitions).
 fn cast_ranged(label: u32, from: RefType, to: RefType) {
     from.heap_type.ranged();
     to.heap_type.ranged();
@@ -404,6 +441,8 @@ fn cast_ranged(label: u32, from: RefType, to: RefType) {
 /// ```text
 /// ensures { IsWellFormedWhereAligned instruction.now }
 /// ```
+///
+/// Definitions: [`IsWellFormedWhereAligned`](crate::definitions::insn::instructions::IsWellFormedWhereAligned). [How to read clauses](crate::definitions).
 pub(crate) fn arguments_ranged<A: Allocator>(instruction: &Instruction<'_, A>) {
     match instruction {
         Instruction::Block(a) | Instruction::Loop(a) | Instruction::If(a) | Instruction::Try(a) =>

@@ -15,18 +15,25 @@ use crate::immediates::{BlockType, Ieee32, Ieee64, MemArg};
 /// ```text
 /// // `written`: the bytes in the buffer.
 /// written: { Self → List ℕ }
-/// // `has_spare_capacity`: the buffer has spare capacity for this many bytes. A buffer may leave
+/// // `has_spare_capacity`: the buffer has spare capacity for this many bytes. A buffer may
+///     leave
 /// // this unspecified.
 /// has_spare_capacity: { Self → ℕ → Type 0 } = { λ _ _. ⊥ }
 /// ```
+///
+/// [How to read clauses](crate::definitions).
 pub trait Buffer {
     /// Appends the encoding of the value. On an error, the bytes are unchanged.
     ///
     /// # Proved
     ///
     /// ```text
-    /// ensures { Writes (E.encoding value.now) (E.encodable value.now) (has_spare_capacity self.old (length (E.encoding value.now))) (written self.old) (written self.new) result }
+    /// ensures { Writes (E.encoding value.now) (E.encodable value.now)
+    ///     (has_spare_capacity self.old (length (E.encoding value.now))) (written self.old)
+    ///     (written self.new) result }
     /// ```
+    ///
+    /// Definitions: [`Writes`](crate::definitions::insn::sink::Writes). [How to read clauses](crate::definitions).
     fn append<E: Encode>(&mut self, value: &E) -> Result<()>;
 
     /// Appends a value, the elements as a vector, and another value. On an error, the bytes are
@@ -36,14 +43,22 @@ pub trait Buffer {
     /// # Asks
     ///
     /// ```text
-    /// requires { HasKnownLength V.into_iter_gives V.IntoIter.can_next V.IntoIter.next_gives V.IntoIter.remaining elements }
+    /// requires { HasKnownLength V.into_iter_gives V.IntoIter.can_next V.IntoIter.next_gives
+    ///     V.IntoIter.remaining elements }
     /// ```
+    ///
+    /// Definitions: [`HasKnownLength`](crate::definitions::base::iterators::HasKnownLength). [How to read clauses](crate::definitions).
     ///
     /// # Proved
     ///
     /// ```text
-    /// ensures { WritesVec V.into_iter_gives V.IntoIter.next_gives V.IntoIter.remaining T.encodable T.encoding elements (S.encodable before.now × U.encodable after.now) (S.encoding before.now) (U.encoding after.now) (written self.old) (written self.new) result }
+    /// ensures { WritesVec V.into_iter_gives V.IntoIter.next_gives V.IntoIter.remaining
+    ///     T.encodable T.encoding elements (S.encodable before.now × U.encodable after.now)
+    ///     (S.encoding before.now) (U.encoding after.now) (written self.old)
+    ///     (written self.new) result }
     /// ```
+    ///
+    /// Definitions: [`WritesVec`](crate::definitions::insn::sink::WritesVec). [How to read clauses](crate::definitions).
     fn append_vec<S: Encode, T: Encode, V: IntoIterator<Item = T>, U: Encode>(
         &mut self,
         before: &S,
@@ -62,6 +77,8 @@ pub trait Buffer {
 /// written = { λ bytes. bytes.items }
 /// has_spare_capacity = { λ bytes n. vec_len bytes + n ≤ vec_capacity bytes }
 /// ```
+///
+/// [How to read clauses](crate::definitions).
 impl<A: Sink> Buffer for A {
     fn append<E: Encode>(&mut self, value: &E) -> Result<()> {
         value.encode(self)
@@ -113,6 +130,8 @@ impl<'a, B: Buffer> InstructionSink<'a, B> {
     /// ensures same_reference { result.sink.ghost_name ≡ sink.entry.ghost_name }
     /// ensures same { result.sink.now ≡ sink.old }
     /// ```
+    ///
+    /// [How to read clauses](crate::definitions).
     pub fn new(sink: &'a mut B) -> Self {
         InstructionSink { sink }
     }
@@ -123,8 +142,12 @@ impl<'a, B: Buffer> InstructionSink<'a, B> {
     ///
     /// ```text
     /// ensures same_reference { self.new.sink.ghost_name ≡ self.old.sink.ghost_name }
-    /// ensures writes { Writes (E.encoding value.now) (E.encodable value.now) (B.has_spare_capacity self.old.sink.now (length (E.encoding value.now))) (B.written self.old.sink.now) (B.written self.new.sink.now) result }
+    /// ensures writes { Writes (E.encoding value.now) (E.encodable value.now)
+    ///     (B.has_spare_capacity self.old.sink.now (length (E.encoding value.now)))
+    ///     (B.written self.old.sink.now) (B.written self.new.sink.now) result }
     /// ```
+    ///
+    /// Definitions: [`Writes`](crate::definitions::insn::sink::Writes). [How to read clauses](crate::definitions).
     fn emit<E: Encode>(&mut self, value: &E) -> Result<()> {
         self.sink.append(value)
     }
@@ -135,8 +158,12 @@ impl<'a, B: Buffer> InstructionSink<'a, B> {
     ///
     /// ```text
     /// ensures same_reference { self.new.sink.ghost_name ≡ self.old.sink.ghost_name }
-    /// ensures writes { Writes (op_encoding op) ⊤ (B.has_spare_capacity self.old.sink.now (length (op_encoding op))) (B.written self.old.sink.now) (B.written self.new.sink.now) result }
+    /// ensures writes { Writes (op_encoding op) ⊤
+    ///     (B.has_spare_capacity self.old.sink.now (length (op_encoding op)))
+    ///     (B.written self.old.sink.now) (B.written self.new.sink.now) result }
     /// ```
+    ///
+    /// Definitions: [`Writes`](crate::definitions::insn::sink::Writes), [`op_encoding`](crate::definitions::insn::opcodes::op_encoding). [How to read clauses](crate::definitions).
     pub fn op(&mut self, op: Op) -> Result<()> {
         self.emit(&op)
     }
@@ -147,8 +174,11 @@ impl<'a, B: Buffer> InstructionSink<'a, B> {
     ///
     /// ```text
     /// ensures same_reference { self.new.sink.ghost_name ≡ self.old.sink.ghost_name }
-    /// ensures writes { WritesInstruction B.written B.has_spare_capacity Instruction.Unreachable self.old.sink.now self.new.sink.now result }
+    /// ensures writes { WritesInstruction B.written B.has_spare_capacity
+    ///     Instruction.Unreachable self.old.sink.now self.new.sink.now result }
     /// ```
+    ///
+    /// Definitions: [`WritesInstruction`](crate::definitions::insn::sink::WritesInstruction). [How to read clauses](crate::definitions).
     pub fn unreachable(&mut self) -> Result<()> {
         self.emit(&0x00u8)
     }
@@ -159,8 +189,11 @@ impl<'a, B: Buffer> InstructionSink<'a, B> {
     ///
     /// ```text
     /// ensures same_reference { self.new.sink.ghost_name ≡ self.old.sink.ghost_name }
-    /// ensures writes { WritesInstruction B.written B.has_spare_capacity Instruction.Nop self.old.sink.now self.new.sink.now result }
+    /// ensures writes { WritesInstruction B.written B.has_spare_capacity Instruction.Nop
+    ///     self.old.sink.now self.new.sink.now result }
     /// ```
+    ///
+    /// Definitions: [`WritesInstruction`](crate::definitions::insn::sink::WritesInstruction). [How to read clauses](crate::definitions).
     pub fn nop(&mut self) -> Result<()> {
         self.emit(&0x01u8)
     }
@@ -171,8 +204,11 @@ impl<'a, B: Buffer> InstructionSink<'a, B> {
     ///
     /// ```text
     /// ensures same_reference { self.new.sink.ghost_name ≡ self.old.sink.ghost_name }
-    /// ensures writes { WritesInstruction B.written B.has_spare_capacity (Instruction.Block block_type) self.old.sink.now self.new.sink.now result }
+    /// ensures writes { WritesInstruction B.written B.has_spare_capacity
+    ///     (Instruction.Block block_type) self.old.sink.now self.new.sink.now result }
     /// ```
+    ///
+    /// Definitions: [`WritesInstruction`](crate::definitions::insn::sink::WritesInstruction). [How to read clauses](crate::definitions).
     pub fn block(&mut self, block_type: BlockType) -> Result<()> {
         self.emit(&(0x02u8, block_type))
     }
@@ -183,8 +219,11 @@ impl<'a, B: Buffer> InstructionSink<'a, B> {
     ///
     /// ```text
     /// ensures same_reference { self.new.sink.ghost_name ≡ self.old.sink.ghost_name }
-    /// ensures writes { WritesInstruction B.written B.has_spare_capacity (Instruction.Loop block_type) self.old.sink.now self.new.sink.now result }
+    /// ensures writes { WritesInstruction B.written B.has_spare_capacity
+    ///     (Instruction.Loop block_type) self.old.sink.now self.new.sink.now result }
     /// ```
+    ///
+    /// Definitions: [`WritesInstruction`](crate::definitions::insn::sink::WritesInstruction). [How to read clauses](crate::definitions).
     pub fn loop_(&mut self, block_type: BlockType) -> Result<()> {
         self.emit(&(0x03u8, block_type))
     }
@@ -195,8 +234,11 @@ impl<'a, B: Buffer> InstructionSink<'a, B> {
     ///
     /// ```text
     /// ensures same_reference { self.new.sink.ghost_name ≡ self.old.sink.ghost_name }
-    /// ensures writes { WritesInstruction B.written B.has_spare_capacity (Instruction.If block_type) self.old.sink.now self.new.sink.now result }
+    /// ensures writes { WritesInstruction B.written B.has_spare_capacity
+    ///     (Instruction.If block_type) self.old.sink.now self.new.sink.now result }
     /// ```
+    ///
+    /// Definitions: [`WritesInstruction`](crate::definitions::insn::sink::WritesInstruction). [How to read clauses](crate::definitions).
     pub fn if_(&mut self, block_type: BlockType) -> Result<()> {
         self.emit(&(0x04u8, block_type))
     }
@@ -207,8 +249,11 @@ impl<'a, B: Buffer> InstructionSink<'a, B> {
     ///
     /// ```text
     /// ensures same_reference { self.new.sink.ghost_name ≡ self.old.sink.ghost_name }
-    /// ensures writes { WritesInstruction B.written B.has_spare_capacity Instruction.Else self.old.sink.now self.new.sink.now result }
+    /// ensures writes { WritesInstruction B.written B.has_spare_capacity Instruction.Else
+    ///     self.old.sink.now self.new.sink.now result }
     /// ```
+    ///
+    /// Definitions: [`WritesInstruction`](crate::definitions::insn::sink::WritesInstruction). [How to read clauses](crate::definitions).
     pub fn else_(&mut self) -> Result<()> {
         self.emit(&0x05u8)
     }
@@ -219,8 +264,11 @@ impl<'a, B: Buffer> InstructionSink<'a, B> {
     ///
     /// ```text
     /// ensures same_reference { self.new.sink.ghost_name ≡ self.old.sink.ghost_name }
-    /// ensures writes { WritesInstruction B.written B.has_spare_capacity Instruction.End self.old.sink.now self.new.sink.now result }
+    /// ensures writes { WritesInstruction B.written B.has_spare_capacity Instruction.End
+    ///     self.old.sink.now self.new.sink.now result }
     /// ```
+    ///
+    /// Definitions: [`WritesInstruction`](crate::definitions::insn::sink::WritesInstruction). [How to read clauses](crate::definitions).
     pub fn end(&mut self) -> Result<()> {
         self.emit(&0x0Bu8)
     }
@@ -231,8 +279,11 @@ impl<'a, B: Buffer> InstructionSink<'a, B> {
     ///
     /// ```text
     /// ensures same_reference { self.new.sink.ghost_name ≡ self.old.sink.ghost_name }
-    /// ensures writes { WritesInstruction B.written B.has_spare_capacity (Instruction.Br label) self.old.sink.now self.new.sink.now result }
+    /// ensures writes { WritesInstruction B.written B.has_spare_capacity
+    ///     (Instruction.Br label) self.old.sink.now self.new.sink.now result }
     /// ```
+    ///
+    /// Definitions: [`WritesInstruction`](crate::definitions::insn::sink::WritesInstruction). [How to read clauses](crate::definitions).
     pub fn br(&mut self, label: u32) -> Result<()> {
         self.emit(&(0x0Cu8, label))
     }
@@ -243,8 +294,11 @@ impl<'a, B: Buffer> InstructionSink<'a, B> {
     ///
     /// ```text
     /// ensures same_reference { self.new.sink.ghost_name ≡ self.old.sink.ghost_name }
-    /// ensures writes { WritesInstruction B.written B.has_spare_capacity (Instruction.BrIf label) self.old.sink.now self.new.sink.now result }
+    /// ensures writes { WritesInstruction B.written B.has_spare_capacity
+    ///     (Instruction.BrIf label) self.old.sink.now self.new.sink.now result }
     /// ```
+    ///
+    /// Definitions: [`WritesInstruction`](crate::definitions::insn::sink::WritesInstruction). [How to read clauses](crate::definitions).
     pub fn br_if(&mut self, label: u32) -> Result<()> {
         self.emit(&(0x0Du8, label))
     }
@@ -254,15 +308,22 @@ impl<'a, B: Buffer> InstructionSink<'a, B> {
     /// # Asks
     ///
     /// ```text
-    /// requires { HasKnownLength V.into_iter_gives V.IntoIter.can_next V.IntoIter.next_gives V.IntoIter.remaining labels }
+    /// requires { HasKnownLength V.into_iter_gives V.IntoIter.can_next V.IntoIter.next_gives
+    ///     V.IntoIter.remaining labels }
     /// ```
+    ///
+    /// Definitions: [`HasKnownLength`](crate::definitions::base::iterators::HasKnownLength). [How to read clauses](crate::definitions).
     ///
     /// # Proved
     ///
     /// ```text
     /// ensures same_reference { self.new.sink.ghost_name ≡ self.old.sink.ghost_name }
-    /// ensures writes { WritesLabels V.into_iter_gives V.IntoIter.next_gives V.IntoIter.remaining labels default (B.written self.old.sink.now) (B.written self.new.sink.now) result }
+    /// ensures writes { WritesLabels V.into_iter_gives V.IntoIter.next_gives
+    ///     V.IntoIter.remaining labels default (B.written self.old.sink.now)
+    ///     (B.written self.new.sink.now) result }
     /// ```
+    ///
+    /// Definitions: [`WritesLabels`](crate::definitions::insn::sink::WritesLabels). [How to read clauses](crate::definitions).
     pub fn br_table<V: IntoIterator<Item = u32>>(&mut self, labels: V, default: u32) -> Result<()>
     where
         V::IntoIter: ExactSizeIterator,
@@ -276,8 +337,11 @@ impl<'a, B: Buffer> InstructionSink<'a, B> {
     ///
     /// ```text
     /// ensures same_reference { self.new.sink.ghost_name ≡ self.old.sink.ghost_name }
-    /// ensures writes { WritesInstruction B.written B.has_spare_capacity Instruction.Return self.old.sink.now self.new.sink.now result }
+    /// ensures writes { WritesInstruction B.written B.has_spare_capacity Instruction.Return
+    ///     self.old.sink.now self.new.sink.now result }
     /// ```
+    ///
+    /// Definitions: [`WritesInstruction`](crate::definitions::insn::sink::WritesInstruction). [How to read clauses](crate::definitions).
     pub fn return_(&mut self) -> Result<()> {
         self.emit(&0x0Fu8)
     }
@@ -288,8 +352,11 @@ impl<'a, B: Buffer> InstructionSink<'a, B> {
     ///
     /// ```text
     /// ensures same_reference { self.new.sink.ghost_name ≡ self.old.sink.ghost_name }
-    /// ensures writes { WritesInstruction B.written B.has_spare_capacity (Instruction.Call function_index) self.old.sink.now self.new.sink.now result }
+    /// ensures writes { WritesInstruction B.written B.has_spare_capacity
+    ///     (Instruction.Call function_index) self.old.sink.now self.new.sink.now result }
     /// ```
+    ///
+    /// Definitions: [`WritesInstruction`](crate::definitions::insn::sink::WritesInstruction). [How to read clauses](crate::definitions).
     pub fn call(&mut self, function_index: u32) -> Result<()> {
         self.emit(&(0x10u8, function_index))
     }
@@ -300,8 +367,12 @@ impl<'a, B: Buffer> InstructionSink<'a, B> {
     ///
     /// ```text
     /// ensures same_reference { self.new.sink.ghost_name ≡ self.old.sink.ghost_name }
-    /// ensures writes { WritesInstruction B.written B.has_spare_capacity (Instruction.CallIndirect type_index table_index) self.old.sink.now self.new.sink.now result }
+    /// ensures writes { WritesInstruction B.written B.has_spare_capacity
+    ///     (Instruction.CallIndirect type_index table_index) self.old.sink.now
+    ///     self.new.sink.now result }
     /// ```
+    ///
+    /// Definitions: [`WritesInstruction`](crate::definitions::insn::sink::WritesInstruction). [How to read clauses](crate::definitions).
     pub fn call_indirect(&mut self, table_index: u32, type_index: u32) -> Result<()> {
         self.emit(&(0x11u8, type_index, table_index))
     }
@@ -312,8 +383,11 @@ impl<'a, B: Buffer> InstructionSink<'a, B> {
     ///
     /// ```text
     /// ensures same_reference { self.new.sink.ghost_name ≡ self.old.sink.ghost_name }
-    /// ensures writes { WritesInstruction B.written B.has_spare_capacity Instruction.Drop self.old.sink.now self.new.sink.now result }
+    /// ensures writes { WritesInstruction B.written B.has_spare_capacity Instruction.Drop
+    ///     self.old.sink.now self.new.sink.now result }
     /// ```
+    ///
+    /// Definitions: [`WritesInstruction`](crate::definitions::insn::sink::WritesInstruction). [How to read clauses](crate::definitions).
     pub fn drop_(&mut self) -> Result<()> {
         self.emit(&0x1Au8)
     }
@@ -324,8 +398,11 @@ impl<'a, B: Buffer> InstructionSink<'a, B> {
     ///
     /// ```text
     /// ensures same_reference { self.new.sink.ghost_name ≡ self.old.sink.ghost_name }
-    /// ensures writes { WritesInstruction B.written B.has_spare_capacity Instruction.Select self.old.sink.now self.new.sink.now result }
+    /// ensures writes { WritesInstruction B.written B.has_spare_capacity Instruction.Select
+    ///     self.old.sink.now self.new.sink.now result }
     /// ```
+    ///
+    /// Definitions: [`WritesInstruction`](crate::definitions::insn::sink::WritesInstruction). [How to read clauses](crate::definitions).
     pub fn select(&mut self) -> Result<()> {
         self.emit(&0x1Bu8)
     }
@@ -336,8 +413,11 @@ impl<'a, B: Buffer> InstructionSink<'a, B> {
     ///
     /// ```text
     /// ensures same_reference { self.new.sink.ghost_name ≡ self.old.sink.ghost_name }
-    /// ensures writes { WritesInstruction B.written B.has_spare_capacity (Instruction.TypedSelect ty) self.old.sink.now self.new.sink.now result }
+    /// ensures writes { WritesInstruction B.written B.has_spare_capacity
+    ///     (Instruction.TypedSelect ty) self.old.sink.now self.new.sink.now result }
     /// ```
+    ///
+    /// Definitions: [`WritesInstruction`](crate::definitions::insn::sink::WritesInstruction). [How to read clauses](crate::definitions).
     pub fn typed_select(&mut self, ty: ValType) -> Result<()> {
         self.emit(&(0x1Cu8, slice::from_ref(&ty)))
     }
@@ -348,8 +428,12 @@ impl<'a, B: Buffer> InstructionSink<'a, B> {
     ///
     /// ```text
     /// ensures same_reference { self.new.sink.ghost_name ≡ self.old.sink.ghost_name }
-    /// ensures writes { WritesInstruction B.written B.has_spare_capacity (Instruction.TypedSelectMulti (CowSlice.Borrowed types.entry)) self.old.sink.now self.new.sink.now result }
+    /// ensures writes { WritesInstruction B.written B.has_spare_capacity
+    ///     (Instruction.TypedSelectMulti (CowSlice.Borrowed types.entry)) self.old.sink.now
+    ///     self.new.sink.now result }
     /// ```
+    ///
+    /// Definitions: [`WritesInstruction`](crate::definitions::insn::sink::WritesInstruction). [How to read clauses](crate::definitions).
     pub fn typed_select_multi(&mut self, types: &[ValType]) -> Result<()> {
         self.emit(&(0x1Cu8, types))
     }
@@ -360,8 +444,11 @@ impl<'a, B: Buffer> InstructionSink<'a, B> {
     ///
     /// ```text
     /// ensures same_reference { self.new.sink.ghost_name ≡ self.old.sink.ghost_name }
-    /// ensures writes { WritesInstruction B.written B.has_spare_capacity (Instruction.LocalGet index) self.old.sink.now self.new.sink.now result }
+    /// ensures writes { WritesInstruction B.written B.has_spare_capacity
+    ///     (Instruction.LocalGet index) self.old.sink.now self.new.sink.now result }
     /// ```
+    ///
+    /// Definitions: [`WritesInstruction`](crate::definitions::insn::sink::WritesInstruction). [How to read clauses](crate::definitions).
     pub fn local_get(&mut self, index: u32) -> Result<()> {
         self.emit(&(0x20u8, index))
     }
@@ -372,8 +459,11 @@ impl<'a, B: Buffer> InstructionSink<'a, B> {
     ///
     /// ```text
     /// ensures same_reference { self.new.sink.ghost_name ≡ self.old.sink.ghost_name }
-    /// ensures writes { WritesInstruction B.written B.has_spare_capacity (Instruction.LocalSet index) self.old.sink.now self.new.sink.now result }
+    /// ensures writes { WritesInstruction B.written B.has_spare_capacity
+    ///     (Instruction.LocalSet index) self.old.sink.now self.new.sink.now result }
     /// ```
+    ///
+    /// Definitions: [`WritesInstruction`](crate::definitions::insn::sink::WritesInstruction). [How to read clauses](crate::definitions).
     pub fn local_set(&mut self, index: u32) -> Result<()> {
         self.emit(&(0x21u8, index))
     }
@@ -384,8 +474,11 @@ impl<'a, B: Buffer> InstructionSink<'a, B> {
     ///
     /// ```text
     /// ensures same_reference { self.new.sink.ghost_name ≡ self.old.sink.ghost_name }
-    /// ensures writes { WritesInstruction B.written B.has_spare_capacity (Instruction.LocalTee index) self.old.sink.now self.new.sink.now result }
+    /// ensures writes { WritesInstruction B.written B.has_spare_capacity
+    ///     (Instruction.LocalTee index) self.old.sink.now self.new.sink.now result }
     /// ```
+    ///
+    /// Definitions: [`WritesInstruction`](crate::definitions::insn::sink::WritesInstruction). [How to read clauses](crate::definitions).
     pub fn local_tee(&mut self, index: u32) -> Result<()> {
         self.emit(&(0x22u8, index))
     }
@@ -396,8 +489,11 @@ impl<'a, B: Buffer> InstructionSink<'a, B> {
     ///
     /// ```text
     /// ensures same_reference { self.new.sink.ghost_name ≡ self.old.sink.ghost_name }
-    /// ensures writes { WritesInstruction B.written B.has_spare_capacity (Instruction.GlobalGet index) self.old.sink.now self.new.sink.now result }
+    /// ensures writes { WritesInstruction B.written B.has_spare_capacity
+    ///     (Instruction.GlobalGet index) self.old.sink.now self.new.sink.now result }
     /// ```
+    ///
+    /// Definitions: [`WritesInstruction`](crate::definitions::insn::sink::WritesInstruction). [How to read clauses](crate::definitions).
     pub fn global_get(&mut self, index: u32) -> Result<()> {
         self.emit(&(0x23u8, index))
     }
@@ -408,8 +504,11 @@ impl<'a, B: Buffer> InstructionSink<'a, B> {
     ///
     /// ```text
     /// ensures same_reference { self.new.sink.ghost_name ≡ self.old.sink.ghost_name }
-    /// ensures writes { WritesInstruction B.written B.has_spare_capacity (Instruction.GlobalSet index) self.old.sink.now self.new.sink.now result }
+    /// ensures writes { WritesInstruction B.written B.has_spare_capacity
+    ///     (Instruction.GlobalSet index) self.old.sink.now self.new.sink.now result }
     /// ```
+    ///
+    /// Definitions: [`WritesInstruction`](crate::definitions::insn::sink::WritesInstruction). [How to read clauses](crate::definitions).
     pub fn global_set(&mut self, index: u32) -> Result<()> {
         self.emit(&(0x24u8, index))
     }
@@ -420,8 +519,11 @@ impl<'a, B: Buffer> InstructionSink<'a, B> {
     ///
     /// ```text
     /// ensures same_reference { self.new.sink.ghost_name ≡ self.old.sink.ghost_name }
-    /// ensures writes { WritesInstruction B.written B.has_spare_capacity (Instruction.I32Load memarg) self.old.sink.now self.new.sink.now result }
+    /// ensures writes { WritesInstruction B.written B.has_spare_capacity
+    ///     (Instruction.I32Load memarg) self.old.sink.now self.new.sink.now result }
     /// ```
+    ///
+    /// Definitions: [`WritesInstruction`](crate::definitions::insn::sink::WritesInstruction). [How to read clauses](crate::definitions).
     pub fn i32_load(&mut self, memarg: MemArg) -> Result<()> {
         self.emit(&(0x28u8, memarg))
     }
@@ -432,8 +534,11 @@ impl<'a, B: Buffer> InstructionSink<'a, B> {
     ///
     /// ```text
     /// ensures same_reference { self.new.sink.ghost_name ≡ self.old.sink.ghost_name }
-    /// ensures writes { WritesInstruction B.written B.has_spare_capacity (Instruction.I32Store memarg) self.old.sink.now self.new.sink.now result }
+    /// ensures writes { WritesInstruction B.written B.has_spare_capacity
+    ///     (Instruction.I32Store memarg) self.old.sink.now self.new.sink.now result }
     /// ```
+    ///
+    /// Definitions: [`WritesInstruction`](crate::definitions::insn::sink::WritesInstruction). [How to read clauses](crate::definitions).
     pub fn i32_store(&mut self, memarg: MemArg) -> Result<()> {
         self.emit(&(0x36u8, memarg))
     }
@@ -444,8 +549,11 @@ impl<'a, B: Buffer> InstructionSink<'a, B> {
     ///
     /// ```text
     /// ensures same_reference { self.new.sink.ghost_name ≡ self.old.sink.ghost_name }
-    /// ensures writes { WritesInstruction B.written B.has_spare_capacity (Instruction.MemorySize memory) self.old.sink.now self.new.sink.now result }
+    /// ensures writes { WritesInstruction B.written B.has_spare_capacity
+    ///     (Instruction.MemorySize memory) self.old.sink.now self.new.sink.now result }
     /// ```
+    ///
+    /// Definitions: [`WritesInstruction`](crate::definitions::insn::sink::WritesInstruction). [How to read clauses](crate::definitions).
     pub fn memory_size(&mut self, memory: u32) -> Result<()> {
         self.emit(&(0x3Fu8, memory))
     }
@@ -456,8 +564,11 @@ impl<'a, B: Buffer> InstructionSink<'a, B> {
     ///
     /// ```text
     /// ensures same_reference { self.new.sink.ghost_name ≡ self.old.sink.ghost_name }
-    /// ensures writes { WritesInstruction B.written B.has_spare_capacity (Instruction.MemoryGrow memory) self.old.sink.now self.new.sink.now result }
+    /// ensures writes { WritesInstruction B.written B.has_spare_capacity
+    ///     (Instruction.MemoryGrow memory) self.old.sink.now self.new.sink.now result }
     /// ```
+    ///
+    /// Definitions: [`WritesInstruction`](crate::definitions::insn::sink::WritesInstruction). [How to read clauses](crate::definitions).
     pub fn memory_grow(&mut self, memory: u32) -> Result<()> {
         self.emit(&(0x40u8, memory))
     }
@@ -468,8 +579,11 @@ impl<'a, B: Buffer> InstructionSink<'a, B> {
     ///
     /// ```text
     /// ensures same_reference { self.new.sink.ghost_name ≡ self.old.sink.ghost_name }
-    /// ensures writes { WritesInstruction B.written B.has_spare_capacity (Instruction.I32Const value) self.old.sink.now self.new.sink.now result }
+    /// ensures writes { WritesInstruction B.written B.has_spare_capacity
+    ///     (Instruction.I32Const value) self.old.sink.now self.new.sink.now result }
     /// ```
+    ///
+    /// Definitions: [`WritesInstruction`](crate::definitions::insn::sink::WritesInstruction). [How to read clauses](crate::definitions).
     pub fn i32_const(&mut self, value: i32) -> Result<()> {
         self.emit(&(0x41u8, value))
     }
@@ -480,8 +594,11 @@ impl<'a, B: Buffer> InstructionSink<'a, B> {
     ///
     /// ```text
     /// ensures same_reference { self.new.sink.ghost_name ≡ self.old.sink.ghost_name }
-    /// ensures writes { WritesInstruction B.written B.has_spare_capacity (Instruction.I64Const value) self.old.sink.now self.new.sink.now result }
+    /// ensures writes { WritesInstruction B.written B.has_spare_capacity
+    ///     (Instruction.I64Const value) self.old.sink.now self.new.sink.now result }
     /// ```
+    ///
+    /// Definitions: [`WritesInstruction`](crate::definitions::insn::sink::WritesInstruction). [How to read clauses](crate::definitions).
     pub fn i64_const(&mut self, value: i64) -> Result<()> {
         self.emit(&(0x42u8, value))
     }
@@ -492,8 +609,11 @@ impl<'a, B: Buffer> InstructionSink<'a, B> {
     ///
     /// ```text
     /// ensures same_reference { self.new.sink.ghost_name ≡ self.old.sink.ghost_name }
-    /// ensures writes { WritesInstruction B.written B.has_spare_capacity (Instruction.F32Const value) self.old.sink.now self.new.sink.now result }
+    /// ensures writes { WritesInstruction B.written B.has_spare_capacity
+    ///     (Instruction.F32Const value) self.old.sink.now self.new.sink.now result }
     /// ```
+    ///
+    /// Definitions: [`WritesInstruction`](crate::definitions::insn::sink::WritesInstruction). [How to read clauses](crate::definitions).
     pub fn f32_const(&mut self, value: Ieee32) -> Result<()> {
         self.emit(&(0x43u8, value))
     }
@@ -504,8 +624,11 @@ impl<'a, B: Buffer> InstructionSink<'a, B> {
     ///
     /// ```text
     /// ensures same_reference { self.new.sink.ghost_name ≡ self.old.sink.ghost_name }
-    /// ensures writes { WritesInstruction B.written B.has_spare_capacity (Instruction.F64Const value) self.old.sink.now self.new.sink.now result }
+    /// ensures writes { WritesInstruction B.written B.has_spare_capacity
+    ///     (Instruction.F64Const value) self.old.sink.now self.new.sink.now result }
     /// ```
+    ///
+    /// Definitions: [`WritesInstruction`](crate::definitions::insn::sink::WritesInstruction). [How to read clauses](crate::definitions).
     pub fn f64_const(&mut self, value: Ieee64) -> Result<()> {
         self.emit(&(0x44u8, value))
     }
@@ -516,8 +639,12 @@ impl<'a, B: Buffer> InstructionSink<'a, B> {
     ///
     /// ```text
     /// ensures same_reference { self.new.sink.ghost_name ≡ self.old.sink.ghost_name }
-    /// ensures writes { WritesInstruction B.written B.has_spare_capacity (Instruction.VectorImmediate (VectorImmediate.V128Const value)) self.old.sink.now self.new.sink.now result }
+    /// ensures writes { WritesInstruction B.written B.has_spare_capacity
+    ///     (Instruction.VectorImmediate (VectorImmediate.V128Const value)) self.old.sink.now
+    ///     self.new.sink.now result }
     /// ```
+    ///
+    /// Definitions: [`WritesInstruction`](crate::definitions::insn::sink::WritesInstruction). [How to read clauses](crate::definitions).
     pub fn v128_const(&mut self, value: i128) -> Result<()> {
         self.emit(&(0xFDu8, 12u32, vector_bytes(value)))
     }
@@ -528,8 +655,11 @@ impl<'a, B: Buffer> InstructionSink<'a, B> {
     ///
     /// ```text
     /// ensures same_reference { self.new.sink.ghost_name ≡ self.old.sink.ghost_name }
-    /// ensures writes { WritesInstruction B.written B.has_spare_capacity (Instruction.Numeric Numeric.I32Eqz) self.old.sink.now self.new.sink.now result }
+    /// ensures writes { WritesInstruction B.written B.has_spare_capacity
+    ///     (Instruction.Numeric Numeric.I32Eqz) self.old.sink.now self.new.sink.now result }
     /// ```
+    ///
+    /// Definitions: [`WritesInstruction`](crate::definitions::insn::sink::WritesInstruction). [How to read clauses](crate::definitions).
     pub fn i32_eqz(&mut self) -> Result<()> {
         self.emit(&0x45u8)
     }
@@ -540,8 +670,11 @@ impl<'a, B: Buffer> InstructionSink<'a, B> {
     ///
     /// ```text
     /// ensures same_reference { self.new.sink.ghost_name ≡ self.old.sink.ghost_name }
-    /// ensures writes { WritesInstruction B.written B.has_spare_capacity (Instruction.Numeric Numeric.I32Add) self.old.sink.now self.new.sink.now result }
+    /// ensures writes { WritesInstruction B.written B.has_spare_capacity
+    ///     (Instruction.Numeric Numeric.I32Add) self.old.sink.now self.new.sink.now result }
     /// ```
+    ///
+    /// Definitions: [`WritesInstruction`](crate::definitions::insn::sink::WritesInstruction). [How to read clauses](crate::definitions).
     pub fn i32_add(&mut self) -> Result<()> {
         self.emit(&0x6Au8)
     }
@@ -552,8 +685,11 @@ impl<'a, B: Buffer> InstructionSink<'a, B> {
     ///
     /// ```text
     /// ensures same_reference { self.new.sink.ghost_name ≡ self.old.sink.ghost_name }
-    /// ensures writes { WritesInstruction B.written B.has_spare_capacity (Instruction.Numeric Numeric.I32Sub) self.old.sink.now self.new.sink.now result }
+    /// ensures writes { WritesInstruction B.written B.has_spare_capacity
+    ///     (Instruction.Numeric Numeric.I32Sub) self.old.sink.now self.new.sink.now result }
     /// ```
+    ///
+    /// Definitions: [`WritesInstruction`](crate::definitions::insn::sink::WritesInstruction). [How to read clauses](crate::definitions).
     pub fn i32_sub(&mut self) -> Result<()> {
         self.emit(&0x6Bu8)
     }
@@ -564,8 +700,11 @@ impl<'a, B: Buffer> InstructionSink<'a, B> {
     ///
     /// ```text
     /// ensures same_reference { self.new.sink.ghost_name ≡ self.old.sink.ghost_name }
-    /// ensures writes { WritesInstruction B.written B.has_spare_capacity (Instruction.Numeric Numeric.I32Mul) self.old.sink.now self.new.sink.now result }
+    /// ensures writes { WritesInstruction B.written B.has_spare_capacity
+    ///     (Instruction.Numeric Numeric.I32Mul) self.old.sink.now self.new.sink.now result }
     /// ```
+    ///
+    /// Definitions: [`WritesInstruction`](crate::definitions::insn::sink::WritesInstruction). [How to read clauses](crate::definitions).
     pub fn i32_mul(&mut self) -> Result<()> {
         self.emit(&0x6Cu8)
     }
@@ -576,8 +715,11 @@ impl<'a, B: Buffer> InstructionSink<'a, B> {
     ///
     /// ```text
     /// ensures same_reference { self.new.sink.ghost_name ≡ self.old.sink.ghost_name }
-    /// ensures writes { WritesInstruction B.written B.has_spare_capacity (Instruction.Numeric Numeric.I64Add) self.old.sink.now self.new.sink.now result }
+    /// ensures writes { WritesInstruction B.written B.has_spare_capacity
+    ///     (Instruction.Numeric Numeric.I64Add) self.old.sink.now self.new.sink.now result }
     /// ```
+    ///
+    /// Definitions: [`WritesInstruction`](crate::definitions::insn::sink::WritesInstruction). [How to read clauses](crate::definitions).
     pub fn i64_add(&mut self) -> Result<()> {
         self.emit(&0x7Cu8)
     }
@@ -588,8 +730,11 @@ impl<'a, B: Buffer> InstructionSink<'a, B> {
     ///
     /// ```text
     /// ensures same_reference { self.new.sink.ghost_name ≡ self.old.sink.ghost_name }
-    /// ensures writes { WritesInstruction B.written B.has_spare_capacity (Instruction.Numeric Numeric.I64Sub) self.old.sink.now self.new.sink.now result }
+    /// ensures writes { WritesInstruction B.written B.has_spare_capacity
+    ///     (Instruction.Numeric Numeric.I64Sub) self.old.sink.now self.new.sink.now result }
     /// ```
+    ///
+    /// Definitions: [`WritesInstruction`](crate::definitions::insn::sink::WritesInstruction). [How to read clauses](crate::definitions).
     pub fn i64_sub(&mut self) -> Result<()> {
         self.emit(&0x7Du8)
     }
@@ -600,8 +745,11 @@ impl<'a, B: Buffer> InstructionSink<'a, B> {
     ///
     /// ```text
     /// ensures same_reference { self.new.sink.ghost_name ≡ self.old.sink.ghost_name }
-    /// ensures writes { WritesInstruction B.written B.has_spare_capacity (Instruction.Numeric Numeric.I64Mul) self.old.sink.now self.new.sink.now result }
+    /// ensures writes { WritesInstruction B.written B.has_spare_capacity
+    ///     (Instruction.Numeric Numeric.I64Mul) self.old.sink.now self.new.sink.now result }
     /// ```
+    ///
+    /// Definitions: [`WritesInstruction`](crate::definitions::insn::sink::WritesInstruction). [How to read clauses](crate::definitions).
     pub fn i64_mul(&mut self) -> Result<()> {
         self.emit(&0x7Eu8)
     }
@@ -612,8 +760,11 @@ impl<'a, B: Buffer> InstructionSink<'a, B> {
     ///
     /// ```text
     /// ensures same_reference { self.new.sink.ghost_name ≡ self.old.sink.ghost_name }
-    /// ensures writes { WritesInstruction B.written B.has_spare_capacity (Instruction.RefNull ty) self.old.sink.now self.new.sink.now result }
+    /// ensures writes { WritesInstruction B.written B.has_spare_capacity
+    ///     (Instruction.RefNull ty) self.old.sink.now self.new.sink.now result }
     /// ```
+    ///
+    /// Definitions: [`WritesInstruction`](crate::definitions::insn::sink::WritesInstruction). [How to read clauses](crate::definitions).
     pub fn ref_null(&mut self, ty: HeapType) -> Result<()> {
         self.emit(&(0xD0u8, ty))
     }
@@ -624,8 +775,11 @@ impl<'a, B: Buffer> InstructionSink<'a, B> {
     ///
     /// ```text
     /// ensures same_reference { self.new.sink.ghost_name ≡ self.old.sink.ghost_name }
-    /// ensures writes { WritesInstruction B.written B.has_spare_capacity Instruction.RefIsNull self.old.sink.now self.new.sink.now result }
+    /// ensures writes { WritesInstruction B.written B.has_spare_capacity Instruction.RefIsNull
+    ///     self.old.sink.now self.new.sink.now result }
     /// ```
+    ///
+    /// Definitions: [`WritesInstruction`](crate::definitions::insn::sink::WritesInstruction). [How to read clauses](crate::definitions).
     pub fn ref_is_null(&mut self) -> Result<()> {
         self.emit(&0xD1u8)
     }
@@ -636,8 +790,11 @@ impl<'a, B: Buffer> InstructionSink<'a, B> {
     ///
     /// ```text
     /// ensures same_reference { self.new.sink.ghost_name ≡ self.old.sink.ghost_name }
-    /// ensures writes { WritesInstruction B.written B.has_spare_capacity (Instruction.RefFunc function_index) self.old.sink.now self.new.sink.now result }
+    /// ensures writes { WritesInstruction B.written B.has_spare_capacity
+    ///     (Instruction.RefFunc function_index) self.old.sink.now self.new.sink.now result }
     /// ```
+    ///
+    /// Definitions: [`WritesInstruction`](crate::definitions::insn::sink::WritesInstruction). [How to read clauses](crate::definitions).
     pub fn ref_func(&mut self, function_index: u32) -> Result<()> {
         self.emit(&(0xD2u8, function_index))
     }

@@ -120,6 +120,8 @@ static AFTER_FE: [Run; 8] = [
 /// ```text
 /// ensures { result ≡ shape_in runs.now number }
 /// ```
+///
+/// Definitions: [`shape_in`](crate::definitions::insn::table::shape_in). [How to read clauses](crate::definitions).
 #[inline(never)]
 fn find_shape(runs: &[Run], number: u32) -> Option<Shape> {
     runs.iter()
@@ -134,6 +136,8 @@ fn find_shape(runs: &[Run], number: u32) -> Option<Shape> {
 /// ```text
 /// ensures { result ≡ shape_of table (Byte byte) }
 /// ```
+///
+/// Definitions: [`shape_of`](crate::definitions::insn::plain::shape_of), [`table`](crate::definitions::insn::table::table). [How to read clauses](crate::definitions).
 #[inline]
 fn byte_shape(byte: u8) -> Option<Shape> {
     ONE_BYTE[usize::from(byte)]
@@ -147,6 +151,8 @@ impl Op {
     /// ```text
     /// ensures { result ≡ shape_of table self }
     /// ```
+    ///
+    /// Definitions: [`shape_of`](crate::definitions::insn::plain::shape_of), [`table`](crate::definitions::insn::table::table). [How to read clauses](crate::definitions).
     #[inline]
     pub fn shape(self) -> Option<Shape> {
         match self {

@@ -235,6 +235,8 @@ impl Vector {
     /// ```text
     /// ensures { result ≡ Op.Prefixed 0xFD (vector_number self) }
     /// ```
+    ///
+    /// Definitions: [`vector_number`](crate::definitions::insn::vector::vector_number). [How to read clauses](crate::definitions).
     pub fn op(self) -> Op {
         Op::Prefixed(0xFD, self as u32)
     }

@@ -13,6 +13,8 @@ use crate::immediates::{Lane, MemArg};
 /// ```text
 /// ensures { result ≡ vector_encoding value }
 /// ```
+///
+/// Definitions: [`vector_encoding`](crate::definitions::immediates::immediates::vector_encoding). [How to read clauses](crate::definitions).
 pub(crate) fn vector_bytes(value: i128) -> [u8; 16] {
     value.to_le_bytes()
 }
@@ -68,6 +70,8 @@ impl VectorImmediate {
     /// ```text
     /// ensures { result ≡ (vector_immediate_row self).op }
     /// ```
+    ///
+    /// Definitions: [`vector_immediate_row`](crate::definitions::insn::vector_immediate::vector_immediate_row). [How to read clauses](crate::definitions).
     pub fn op(self) -> Op {
         match self {
             VectorImmediate::V128Load(..) => Op::Prefixed(0xFD, 0),
@@ -116,8 +120,12 @@ impl VectorImmediate {
     /// # Proved
     ///
     /// ```text
-    /// ensures { Appends (arguments_encoding (vector_immediate_row self).arguments) (arguments_encodable (vector_immediate_row self).arguments) sink.old sink.new result }
+    /// ensures { Appends (arguments_encoding (vector_immediate_row self).arguments)
+    ///     (arguments_encodable (vector_immediate_row self).arguments) sink.old sink.new result
+    ///     }
     /// ```
+    ///
+    /// Definitions: [`Appends`](crate::definitions::base::calls::Appends), [`arguments_encoding`](crate::definitions::insn::arguments::arguments_encoding), [`vector_immediate_row`](crate::definitions::insn::vector_immediate::vector_immediate_row), [`arguments_encodable`](crate::definitions::insn::arguments::arguments_encodable). [How to read clauses](crate::definitions).
     pub(crate) fn encode_arguments<A: Sink>(self, sink: &mut A) -> Result<()> {
         match self {
             VectorImmediate::V128Load(a)

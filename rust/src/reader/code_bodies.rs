@@ -45,14 +45,21 @@ impl<'a, A: Allocator + Copy> Section<'a, A> {
     ///
     /// # Proved
     ///
+    /// After `Ok`: `id`, `found`, `end`. After an error: `none`, `from`, `within`.
+    ///
     /// ```text
     /// ensures id { IfOk result (λ _. self.now.section.id ≡ 10) }
-    /// ensures found { IfOk result (λ it. Decodes u32 padded self.now.section.payload it.left it.rest) }
+    /// ensures found { IfOk result
+    ///     (λ it. Decodes u32 padded self.now.section.payload it.left it.rest) }
     /// ensures end { IfOk result (λ it. it.end ≡ end_of self.now) }
-    /// ensures none { IfErr result (λ e. e.cause ≢ Memory → (self.now.section.id ≢ 10) ⊎ Rejects u32 padded self.now.section.payload) }
+    /// ensures none { IfErr result
+    ///     (λ e. e.cause ≢ Memory → (self.now.section.id ≢ 10)
+    ///         ⊎ Rejects u32 padded self.now.section.payload) }
     /// ensures from { IfErr result (λ e. self.now.offset ≤ e.offset) }
     /// ensures within { IfErr result (λ e. e.offset ≤ end_of self.now) }
     /// ```
+    ///
+    /// Definitions: [`Decodes`](crate::definitions::base::decoding::Decodes), [`u32`](crate::definitions::base::formats::u32), [`padded`](crate::definitions::base::numbers::Mode), [`end_of`](crate::definitions::reader::iterating::end_of), [`Rejects`](crate::definitions::base::decoding::Rejects). [How to read clauses](crate::definitions).
     pub fn bodies(&self) -> Result<Bodies<'a, A>, ReadError> {
         if self.id() != 10 {
             return Err(ReadError {
@@ -83,6 +90,8 @@ impl<'a, A: Allocator + Copy> Bodies<'a, A> {
     /// ```text
     /// ensures { result ≡ self.now.left }
     /// ```
+    ///
+    /// [How to read clauses](crate::definitions).
     pub fn left(&self) -> u32 {
         self.left
     }
@@ -95,6 +104,8 @@ impl<'a, A: Allocator + Copy> Bodies<'a, A> {
     /// ensures error { result ≡ Some (Err error) }
     /// ensures ended { self.new ≡ record { left = 0; rest = []; end = self.old.end } }
     /// ```
+    ///
+    /// [How to read clauses](crate::definitions).
     fn fail(&mut self, error: ReadError) -> Option<Result<CodeBody<'a, A>, ReadError>> {
         self.left = 0;
         self.rest = b"";
@@ -108,6 +119,8 @@ impl<'a, A: Allocator + Copy> Bodies<'a, A> {
 /// next_gives = { NextBody }
 /// remaining = { λ it. at_most (it.left + length it.rest) }
 /// ```
+///
+/// Definitions: [`NextBody`](crate::definitions::reader::iterating::NextBody). [How to read clauses](crate::definitions).
 impl<'a, A: Allocator + Copy> Iterator for Bodies<'a, A> {
     type Item = Result<CodeBody<'a, A>, ReadError>;
 
@@ -155,6 +168,8 @@ impl<'a, A: Allocator + Copy> CodeBody<'a, A> {
     /// ```text
     /// ensures { result ≡ self.now.offset }
     /// ```
+    ///
+    /// [How to read clauses](crate::definitions).
     pub fn offset(&self) -> usize {
         self.offset
     }
@@ -166,6 +181,8 @@ impl<'a, A: Allocator + Copy> CodeBody<'a, A> {
     /// ```text
     /// ensures { result.now ≡ self.now.bytes }
     /// ```
+    ///
+    /// [How to read clauses](crate::definitions).
     pub fn bytes(&self) -> &'a [u8] {
         self.bytes
     }
@@ -180,15 +197,23 @@ impl<'a, A: Allocator + Copy> CodeBody<'a, A> {
     ///
     /// # Proved
     ///
+    /// After `Ok`: `found`, `same`, `inside`, `before`. After an error: `none`, `from`, `within`.
+    ///
     /// ```text
-    /// ensures found { IfOk result (λ x. Decodes (vec (pair u32 val_type)) standard self.now.bytes x.0.items (ahead_in x.1)) }
+    /// ensures found { IfOk result
+    ///     (λ x. Decodes (vec (pair u32 val_type)) standard self.now.bytes x.0.items
+    ///         (ahead_in x.1)) }
     /// ensures same { IfOk result (λ x. x.1.bytes ≡ self.now.bytes) }
     /// ensures inside { IfOk result (λ x. x.1.offset ≤ length self.now.bytes) }
     /// ensures before { IfOk result (λ x. x.1.arguments ≡ []) }
-    /// ensures none { IfErr result (λ e. e.cause ≢ Memory → RejectsWhole body standard self.now.bytes) }
+    /// ensures none { IfErr result
+    ///     (λ e. e.cause ≢ Memory → RejectsWhole body standard self.now.bytes) }
     /// ensures from { IfErr result (λ e. self.now.offset ≤ e.offset) }
-    /// ensures within { IfErr result (λ e. e.offset ≤ self.now.offset + length self.now.bytes) }
+    /// ensures within { IfErr result
+    ///     (λ e. e.offset ≤ self.now.offset + length self.now.bytes) }
     /// ```
+    ///
+    /// Definitions: [`Decodes`](crate::definitions::base::decoding::Decodes), [`vec`](crate::definitions::base::formats::vec), [`pair`](crate::definitions::base::formats::pair), [`u32`](crate::definitions::base::formats::u32), [`val_type`](crate::definitions::base::types::val_type), [`standard`](crate::definitions::base::numbers::Mode), [`ahead_in`](crate::definitions::code::walks::ahead), [`RejectsWhole`](crate::definitions::base::continuing::RejectsWhole), [`body`](crate::definitions::code::bodies::body). [How to read clauses](crate::definitions).
     pub fn instructions(
         &self,
     ) -> Result<(Vec<(u32, ValType), A>, Instructions<'a, A, Standard>), ReadError> {
@@ -207,6 +232,8 @@ impl<'a, A: Allocator + Copy> CodeBody<'a, A> {
     /// ensures from { self.now.offset ≤ result.offset }
     /// ensures within { result.offset ≤ self.now.offset + length self.now.bytes }
     /// ```
+    ///
+    /// [How to read clauses](crate::definitions).
     pub fn locate(&self, error: DecodeError) -> ReadError {
         let size = self.bytes.len();
         ReadError::located(error, size, self.offset + size)

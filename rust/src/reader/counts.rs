@@ -8,10 +8,18 @@ use crate::base::{DecodeError, Grammar, ReadFault, Skip, skip_many};
 ///
 /// # Proved
 ///
+/// After `Ok`: `found`. After an error: `none`.
+///
 /// ```text
-/// ensures found { IfOk result (λ count. (xs : List P.Value) × vec P.format (padded_of G.grammar) bytes.now xs × (count ≡ Some (length xs))) }
-/// ensures none { IfErr result (λ e. e.cause ≢ Memory → RejectsWhole (vec P.format) (padded_of G.grammar) bytes.now) }
+/// ensures found { IfOk result
+///     (λ count. (xs : List P.Value) × vec P.format (padded_of G.grammar) bytes.now xs
+///         × (count ≡ Some (length xs))) }
+/// ensures none { IfErr result
+///     (λ e. e.cause ≢ Memory → RejectsWhole (vec P.format)
+///         (padded_of G.grammar) bytes.now) }
 /// ```
+///
+/// Definitions: [`vec`](crate::definitions::base::formats::vec), [`padded_of`](crate::definitions::base::numbers::padded_of), [`RejectsWhole`](crate::definitions::base::continuing::RejectsWhole). [How to read clauses](crate::definitions).
 pub(crate) fn count_skipped<'a, P: Skip<'a, A, G>, A: Allocator + Copy, G: Grammar>(
     bytes: &'a [u8],
     alloc: A,

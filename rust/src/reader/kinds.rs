@@ -59,6 +59,8 @@ impl SectionKind {
     /// ```text
     /// ensures { result ≡ kind_numbered number }
     /// ```
+    ///
+    /// Definitions: [`kind_numbered`](crate::definitions::reader::kinds::kind_numbered). [How to read clauses](crate::definitions).
     pub fn numbered(number: u32) -> Option<SectionKind> {
         match number {
             0 => Some(SectionKind::Bodies),
@@ -141,6 +143,8 @@ pub enum Items<'a, A: Allocator = Global> {
 /// ```text
 /// ensures { result ≡ kind_among_ids id }
 /// ```
+///
+/// Definitions: [`kind_among_ids`](crate::definitions::reader::kinds::kind_of_id). [How to read clauses](crate::definitions).
 pub(crate) fn kind_of_id(id: u8) -> SectionKind {
     match id {
         0 => SectionKind::Custom,
@@ -167,6 +171,8 @@ pub(crate) fn kind_of_id(id: u8) -> SectionKind {
 /// ```text
 /// ensures { result ≡ kind_named name.now }
 /// ```
+///
+/// Definitions: [`kind_named`](crate::definitions::reader::kinds::kind_named). [How to read clauses](crate::definitions).
 pub(crate) fn kind_of_name(name: &str) -> SectionKind {
     match name {
         "name" => SectionKind::Names,
@@ -185,10 +191,17 @@ pub(crate) fn kind_of_name(name: &str) -> SectionKind {
 ///
 /// # Proved
 ///
+/// After `Ok`: `found`. After an error: `none`.
+///
 /// ```text
-/// ensures found { IfOk result (λ x. content kind (padded_of G.grammar) bytes.now (contents_of x)) }
-/// ensures none { IfErr result (λ e. e.cause ≢ Memory → RejectsWhole (content kind) (padded_of G.grammar) bytes.now) }
+/// ensures found { IfOk result
+///     (λ x. content kind (padded_of G.grammar) bytes.now (contents_of x)) }
+/// ensures none { IfErr result
+///     (λ e. e.cause ≢ Memory → RejectsWhole (content kind)
+///         (padded_of G.grammar) bytes.now) }
 /// ```
+///
+/// Definitions: [`content`](crate::definitions::reader::kinds::content), [`padded_of`](crate::definitions::base::numbers::padded_of), [`contents_of`](crate::definitions::reader::kinds::contents_of), [`RejectsWhole`](crate::definitions::base::continuing::RejectsWhole). [How to read clauses](crate::definitions).
 pub(crate) fn read_content<'a, A: Allocator + Copy + 'a, G: Grammar>(
     kind: SectionKind,
     bytes: &'a [u8],
@@ -250,10 +263,18 @@ pub(crate) fn read_content<'a, A: Allocator + Copy + 'a, G: Grammar>(
 ///
 /// # Proved
 ///
+/// After `Ok`: `found`. After an error: `none`.
+///
 /// ```text
-/// ensures found { IfOk result (λ number. (x : Contents) × content kind (padded_of G.grammar) bytes.now x × (number ≡ number_in x)) }
-/// ensures none { IfErr result (λ e. e.cause ≢ Memory → RejectsWhole (content kind) (padded_of G.grammar) bytes.now) }
+/// ensures found { IfOk result
+///     (λ number. (x : Contents) × content kind (padded_of G.grammar) bytes.now x
+///         × (number ≡ number_in x)) }
+/// ensures none { IfErr result
+///     (λ e. e.cause ≢ Memory → RejectsWhole (content kind)
+///         (padded_of G.grammar) bytes.now) }
 /// ```
+///
+/// Definitions: [`Contents`](crate::definitions::reader::kinds::Contents), [`content`](crate::definitions::reader::kinds::content), [`padded_of`](crate::definitions::base::numbers::padded_of), [`number_in`](crate::definitions::reader::kinds::number_in), [`RejectsWhole`](crate::definitions::base::continuing::RejectsWhole). [How to read clauses](crate::definitions).
 pub(crate) fn read_number<'a, A: Allocator + Copy, G: Grammar>(
     kind: SectionKind,
     bytes: &'a [u8],
@@ -287,10 +308,18 @@ pub(crate) fn read_number<'a, A: Allocator + Copy, G: Grammar>(
 ///
 /// # Proved
 ///
+/// After `Ok`: `ok`. After an error: `err`. In any case: `too_long`.
+///
 /// ```text
-/// ensures ok { OnOk result (AppendsMinimal (content kinds.Custom) (Custom (name.now, bytes.now)) sink.old.items sink.new.items) }
+/// ensures ok { OnOk result
+///     (AppendsMinimal (content kinds.Custom)
+///         (Custom (name.now, bytes.now)) sink.old.items sink.new.items) }
 /// ensures err { OnErr result (sink.new.items ≡ sink.old.items) }
+/// ensures too_long { HasEncoding (content kinds.Custom) (Custom (name.now, bytes.now))
+///     → result ≢ Err TooLong }
 /// ```
+///
+/// Definitions: [`AppendsMinimal`](crate::definitions::base::minimal::AppendsMinimal), [`content`](crate::definitions::reader::kinds::content), [`Custom`](crate::definitions::reader::kinds::Contents), [`HasEncoding`](crate::definitions::base::minimal::HasEncoding). [How to read clauses](crate::definitions).
 fn append_custom<B: Sink>(name: &str, bytes: &[u8], sink: &mut B) -> Result<()> {
     let start = sink.len();
     name.append_minimal(sink)?;
@@ -326,10 +355,18 @@ fn append_custom<B: Sink>(name: &str, bytes: &[u8], sink: &mut B) -> Result<()> 
 ///
 /// # Proved
 ///
+/// After `Ok`: `ok`. After an error: `err`. In any case: `too_long`.
+///
 /// ```text
-/// ensures ok { OnOk result (AppendsMinimal (content (kind_in (contents_of items.now))) (contents_of items.now) sink.old.items sink.new.items) }
+/// ensures ok { OnOk result
+///     (AppendsMinimal (content (kind_in (contents_of items.now)))
+///         (contents_of items.now) sink.old.items sink.new.items) }
 /// ensures err { OnErr result (sink.new.items ≡ sink.old.items) }
+/// ensures too_long { HasEncoding (content (kind_in (contents_of items.now)))
+///     (contents_of items.now) → result ≢ Err TooLong }
 /// ```
+///
+/// Definitions: [`AppendsMinimal`](crate::definitions::base::minimal::AppendsMinimal), [`content`](crate::definitions::reader::kinds::content), [`kind_in`](crate::definitions::reader::kinds::kind_in), [`contents_of`](crate::definitions::reader::kinds::contents_of), [`HasEncoding`](crate::definitions::base::minimal::HasEncoding). [How to read clauses](crate::definitions).
 pub fn encode_items<A: Allocator, B: Sink>(
     items: &Items<'_, A>,
     sink: &mut B,

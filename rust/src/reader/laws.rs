@@ -10,6 +10,8 @@
 /// ```text
 /// ensures { HaveOneEncoding }
 /// ```
+///
+/// Definitions: [`HaveOneEncoding`](crate::definitions::reader::sections::HaveOneEncoding). [How to read clauses](crate::definitions).
 pub fn encodings() {}
 
 /// Bytes are a module with exactly one listing, or stop being a module at exactly one section.
@@ -19,6 +21,8 @@ pub fn encodings() {}
 /// ```text
 /// ensures { HaveOneListing }
 /// ```
+///
+/// Definitions: [`HaveOneListing`](crate::definitions::reader::modules::HaveOneListing). [How to read clauses](crate::definitions).
 pub fn modules() {}
 
 /// Minimizing is idempotent: a minimized module can be minimized again, to the same bytes, unless
@@ -29,4 +33,6 @@ pub fn modules() {}
 /// ```text
 /// ensures { IsIdempotent }
 /// ```
+///
+/// Definitions: [`IsIdempotent`](crate::definitions::reader::shortening::IsIdempotent). [How to read clauses](crate::definitions).
 pub fn shortened() {}

@@ -4,18 +4,26 @@
 use crate::vec::{Sink, Vec};
 use crate::reader::kinds::{SectionKind, encode_items, read_content};
 use crate::alloc::Allocator;
-use crate::base::{DecodeError, Padded, ReadFault, Readable, Shorten, encode_size_prefixed};
+use crate::base::{DecodeError, Padded, ReadFault, Readable, Shorten, prefix_size_since};
 use crate::code::shorten_body;
 
 /// Appends the minimal encoding of a vector of bodies that occupies all of the bytes. It keeps none
-/// of them.
+/// of them. After an error, the old bytes are still the front of the sink.
 ///
 /// # Proved
 ///
+/// After `Ok`: `found`. After an error: `none`. In any case: `front`.
+///
 /// ```text
-/// ensures found { OnOk result ((xs : List Body) × vec (size_prefixed body) padded bytes.now xs × AppendsMinimal (vec (size_prefixed body)) xs sink.old.items sink.new.items) }
-/// ensures none { IfErr result (λ e. e.cause ≢ Memory → RejectsWhole (vec (size_prefixed body)) padded bytes.now) }
+/// ensures found { OnOk result
+///     ((xs : List Body) × vec (size_prefixed body) padded bytes.now xs
+///         × AppendsMinimal (vec (size_prefixed body)) xs sink.old.items sink.new.items) }
+/// ensures front { IsFrontOf sink.old.items sink.new.items }
+/// ensures none { IfErr result
+///     (λ e. e.cause ≢ Memory → RejectsWhole (vec (size_prefixed body)) padded bytes.now) }
 /// ```
+///
+/// Definitions: [`Body`](crate::definitions::code::bodies::Body), [`vec`](crate::definitions::base::formats::vec), [`size_prefixed`](crate::definitions::base::formats::size_prefixed), [`body`](crate::definitions::code::bodies::body), [`padded`](crate::definitions::base::numbers::Mode), [`AppendsMinimal`](crate::definitions::base::minimal::AppendsMinimal), [`IsFrontOf`](crate::definitions::base::minimal::IsFrontOf), [`RejectsWhole`](crate::definitions::base::continuing::RejectsWhole). [How to read clauses](crate::definitions).
 fn shorten_bodies<A: Allocator + Copy, B: Sink>(
     bytes: &[u8],
     alloc: A,
@@ -35,14 +43,23 @@ fn shorten_bodies<A: Allocator + Copy, B: Sink>(
     }
 }
 
-/// Appends the minimal encoding of the payload of a section of this kind.
+/// Appends the minimal encoding of the payload of a section of this kind. After an error, the old
+/// bytes are still the front of the sink.
 ///
 /// # Proved
 ///
+/// After `Ok`: `found`. After an error: `none`. In any case: `front`.
+///
 /// ```text
-/// ensures found { OnOk result ((x : Contents) × content kind padded bytes.now x × AppendsMinimal (content kind) x sink.old.items sink.new.items) }
-/// ensures none { IfErr result (λ e. e.cause ≢ Memory → RejectsWhole (content kind) padded bytes.now) }
+/// ensures found { OnOk result
+///     ((x : Contents) × content kind padded bytes.now x
+///         × AppendsMinimal (content kind) x sink.old.items sink.new.items) }
+/// ensures front { IsFrontOf sink.old.items sink.new.items }
+/// ensures none { IfErr result
+///     (λ e. e.cause ≢ Memory → RejectsWhole (content kind) padded bytes.now) }
 /// ```
+///
+/// Definitions: [`Contents`](crate::definitions::reader::kinds::Contents), [`content`](crate::definitions::reader::kinds::content), [`padded`](crate::definitions::base::numbers::Mode), [`AppendsMinimal`](crate::definitions::base::minimal::AppendsMinimal), [`IsFrontOf`](crate::definitions::base::minimal::IsFrontOf), [`RejectsWhole`](crate::definitions::base::continuing::RejectsWhole). [How to read clauses](crate::definitions).
 fn shorten_content<A: Allocator + Copy, B: Sink>(
     kind: SectionKind,
     bytes: &[u8],
@@ -57,6 +74,35 @@ fn shorten_content<A: Allocator + Copy, B: Sink>(
             Ok(())
         }
     }
+}
+
+/// Appends the minimal encoding of a section of this kind, whose payload these bytes are. After an
+/// error, the old bytes are still the front of the sink.
+///
+/// # Proved
+///
+/// After `Ok`: `found`. After an error: `none`. In any case: `front`.
+///
+/// ```text
+/// ensures found { OnOk result
+///     ((x : Contents) × content kind padded bytes.now x
+///         × AppendsMinimal (section kind) x sink.old.items sink.new.items) }
+/// ensures front { IsFrontOf sink.old.items sink.new.items }
+/// ensures none { IfErr result
+///     (λ e. e.cause ≢ Memory → RejectsWhole (content kind) padded bytes.now) }
+/// ```
+///
+/// Definitions: [`Contents`](crate::definitions::reader::kinds::Contents), [`content`](crate::definitions::reader::kinds::content), [`padded`](crate::definitions::base::numbers::Mode), [`AppendsMinimal`](crate::definitions::base::minimal::AppendsMinimal), [`section`](crate::definitions::reader::sections::section), [`IsFrontOf`](crate::definitions::base::minimal::IsFrontOf), [`RejectsWhole`](crate::definitions::base::continuing::RejectsWhole). [How to read clauses](crate::definitions).
+fn shorten_sized<A: Allocator + Copy, B: Sink>(
+    kind: SectionKind,
+    bytes: &[u8],
+    alloc: A,
+    sink: &mut B,
+) -> Result<(), DecodeError> {
+    let start = sink.len();
+    shorten_content(kind, bytes, alloc, sink)?;
+    prefix_size_since(sink, start)?;
+    Ok(())
 }
 
 /// Appends the minimal encoding of the section at the front, and returns the section's length in
@@ -79,11 +125,17 @@ fn shorten_content<A: Allocator + Copy, B: Sink>(
 ///
 /// # Proved
 ///
+/// After `Ok`: `ok`. After an error: `err`, `none`.
+///
 /// ```text
-/// ensures ok { IfOk result (λ n. Shortens kind bytes.now n sink.old.items sink.new.items) }
+/// ensures ok { IfOk result
+///     (λ n. Shortens kind bytes.now n sink.old.items sink.new.items) }
 /// ensures err { OnErr result (sink.new.items ≡ sink.old.items) }
-/// ensures none { IfErr result (λ e. e ≢ Memory → Rejects (section kind) padded bytes.now) }
+/// ensures none { IfErr result
+///     (λ e. e ≢ Memory → Rejects (section kind) padded bytes.now) }
 /// ```
+///
+/// Definitions: [`Shortens`](crate::definitions::reader::sections::Shortens), [`Rejects`](crate::definitions::base::decoding::Rejects), [`section`](crate::definitions::reader::sections::section), [`padded`](crate::definitions::base::numbers::Mode). [How to read clauses](crate::definitions).
 pub fn shorten<A: Allocator + Copy>(
     kind: SectionKind,
     bytes: &[u8],
@@ -96,11 +148,17 @@ pub fn shorten<A: Allocator + Copy>(
 ///
 /// # Proved
 ///
+/// After `Ok`: `ok`. After an error: `err`, `none`.
+///
 /// ```text
-/// ensures ok { IfOk result (λ n. Shortens kind bytes.now n sink.old.items sink.new.items) }
+/// ensures ok { IfOk result
+///     (λ n. Shortens kind bytes.now n sink.old.items sink.new.items) }
 /// ensures err { OnErr result (sink.new.items ≡ sink.old.items) }
-/// ensures none { IfErr result (λ e. e ≢ Memory → Rejects (section kind) padded bytes.now) }
+/// ensures none { IfErr result
+///     (λ e. e ≢ Memory → Rejects (section kind) padded bytes.now) }
 /// ```
+///
+/// Definitions: [`Shortens`](crate::definitions::reader::sections::Shortens), [`Rejects`](crate::definitions::base::decoding::Rejects), [`section`](crate::definitions::reader::sections::section), [`padded`](crate::definitions::base::numbers::Mode). [How to read clauses](crate::definitions).
 pub(crate) fn shorten_in<A: Allocator + Copy, B: Sink>(
     alloc: A,
     kind: SectionKind,
@@ -108,8 +166,12 @@ pub(crate) fn shorten_in<A: Allocator + Copy, B: Sink>(
     sink: &mut B,
 ) -> Result<usize, ReadFault> {
     let (sized, rest) = <&[u8] as Readable<'_, A, Padded>>::read(bytes, alloc)?;
-    let mut content = Vec::with_capacity(alloc, sized.len())?;
-    shorten_content(kind, sized, alloc, &mut content)?;
-    encode_size_prefixed(sink, &content)?;
-    Ok(bytes.len() - rest.len())
+    let start = sink.len();
+    match shorten_sized(kind, sized, alloc, sink) {
+        Ok(()) => Ok(bytes.len() - rest.len()),
+        Err(error) => {
+            sink.truncate(start);
+            Err(error.cause())
+        }
+    }
 }

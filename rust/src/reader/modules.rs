@@ -25,11 +25,15 @@ pub struct Listed {
 ///
 /// # Proved
 ///
+/// After `Ok`: `found`. After an error: `none`, `cause`.
+///
 /// ```text
 /// ensures found { IfOk result (λ rest. bytes.now ≡ header ++ rest.now) }
 /// ensures none { IfErr result (λ _. Rejects (fixed header (tt {0})) padded bytes.now) }
 /// ensures cause { IfErr result (λ e. (e ≡ Ended) ⊎ (e ≡ UnknownTag)) }
 /// ```
+///
+/// Definitions: [`header`](crate::definitions::base::formats::header), [`Rejects`](crate::definitions::base::decoding::Rejects), [`fixed`](crate::definitions::base::formats::fixed), [`padded`](crate::definitions::base::numbers::Mode). [How to read clauses](crate::definitions).
 pub(crate) fn read_header(bytes: &[u8]) -> Result<&[u8], ReadFault> {
     match bytes.split_first_chunk::<8>() {
         None => Err(ReadFault::Ended),
@@ -47,10 +51,21 @@ pub(crate) fn read_header(bytes: &[u8]) -> Result<&[u8], ReadFault> {
 ///
 /// # Proved
 ///
+/// After `Ok`: `found`. After an error: `none`.
+///
 /// ```text
-/// ensures found { IfOk result (λ line. (x : Contents) × content (kind_of_id section.now.section.id) padded section.now.section.payload x × (line ≡ line_of (section.now.section.id, (length section.now.section.payload, x)))) }
-/// ensures none { IfErr result (λ e. e ≢ Memory → RejectsWhole (content (kind_of_id section.now.section.id)) padded section.now.section.payload) }
+/// ensures found { IfOk result
+///     (λ line. (x : Contents) × content
+///         (kind_of_id section.now.section.id) padded section.now.section.payload x
+///         × (line ≡ line_of (section.now.section.id,
+///                 (length section.now.section.payload, x)))) }
+/// ensures none { IfErr result
+///     (λ e. e ≢ Memory → RejectsWhole
+///         (content (kind_of_id section.now.section.id)) padded
+///         section.now.section.payload) }
 /// ```
+///
+/// Definitions: [`Contents`](crate::definitions::reader::kinds::Contents), [`content`](crate::definitions::reader::kinds::content), [`kind_of_id`](crate::definitions::reader::kinds::kind_of_id), [`padded`](crate::definitions::base::numbers::Mode), [`line_of`](crate::definitions::reader::modules::line_of), [`RejectsWhole`](crate::definitions::base::continuing::RejectsWhole). [How to read clauses](crate::definitions).
 fn line_of<A: Allocator + Copy>(section: &Section<'_, A>) -> Result<Listed, ReadFault> {
     let id = section.id();
     let items = read_number::<A, Padded>(kind_of_id(id), section.payload(), section.allocator())?;
@@ -69,11 +84,16 @@ fn line_of<A: Allocator + Copy>(section: &Section<'_, A>) -> Result<Listed, Read
 ///
 /// # Proved
 ///
+/// After `Ok`: `found`. After an error: `none`, `header`.
+///
 /// ```text
 /// ensures found { IfOk result (λ lines. HasLines bytes.now lines.items) }
 /// ensures none { IfErr result (λ e. e.1 ≢ Memory → StopsAt bytes.now e.0) }
-/// ensures header { IfErr result (λ e. e.0 ≡ 0 → e.1 ≢ Memory → (e.1 ≡ Ended) ⊎ (e.1 ≡ UnknownTag)) }
+/// ensures header { IfErr result
+///     (λ e. e.0 ≡ 0 → e.1 ≢ Memory → (e.1 ≡ Ended) ⊎ (e.1 ≡ UnknownTag)) }
 /// ```
+///
+/// Definitions: [`HasLines`](crate::definitions::reader::modules::HasLines), [`StopsAt`](crate::definitions::reader::modules::StopsAt), [`header`](crate::definitions::base::formats::header). [How to read clauses](crate::definitions).
 pub fn list_module<'a, A: Allocator + Copy>(
     alloc: A,
     bytes: &'a [u8],

@@ -27,10 +27,16 @@ pub struct Outlined<'a> {
 ///
 /// # Proved
 ///
+/// After `Ok`: `found`. After an error: `memory`.
+///
 /// ```text
-/// ensures found { IfOk result (λ count. IsCount (section_kind_of section.now.section) section.now.section.payload count) }
+/// ensures found { IfOk result
+///     (λ count. IsCount (section_kind_of section.now.section) section.now.section.payload
+///         count) }
 /// ensures memory { IfErr result (λ e. e ≡ Memory) }
 /// ```
+///
+/// Definitions: [`IsCount`](crate::definitions::reader::outlines::IsCount), [`section_kind_of`](crate::definitions::reader::outlines::section_kind_of). [How to read clauses](crate::definitions).
 fn count<A: Allocator + Copy>(section: &Section<'_, A>) -> Result<Option<u32>, ReadFault> {
     match section.count() {
         Ok(count) => Ok(count),
@@ -43,10 +49,15 @@ fn count<A: Allocator + Copy>(section: &Section<'_, A>) -> Result<Option<u32>, R
 ///
 /// # Proved
 ///
+/// After `Ok`: `found`. After an error: `memory`.
+///
 /// ```text
-/// ensures found { IfOk result (λ line. IsOutline section.now.offset section.now.section line) }
+/// ensures found { IfOk result
+///     (λ line. IsOutline section.now.offset section.now.section line) }
 /// ensures memory { IfErr result (λ e. e ≡ Memory) }
 /// ```
+///
+/// Definitions: [`IsOutline`](crate::definitions::reader::outlines::IsOutline). [How to read clauses](crate::definitions).
 fn line_of<'a, A: Allocator + Copy>(section: &Section<'a, A>) -> Result<Outlined<'a>, ReadFault> {
     let items = count(section)?;
     Ok(Outlined {
@@ -71,11 +82,16 @@ fn line_of<'a, A: Allocator + Copy>(section: &Section<'a, A>) -> Result<Outlined
 ///
 /// # Proved
 ///
+/// After `Ok`: `found`. After an error: `none`, `no_module`.
+///
 /// ```text
 /// ensures found { IfOk result (λ lines. HasOutline bytes.now lines.items) }
 /// ensures none { IfErr result (λ e. e.1 ≢ Memory → EndsAt bytes.now e.0) }
-/// ensures no_module { IfErr result (λ e. e.1 ≢ Memory → RejectsWhole wasm_module padded bytes.now) }
+/// ensures no_module { IfErr result
+///     (λ e. e.1 ≢ Memory → RejectsWhole wasm_module padded bytes.now) }
 /// ```
+///
+/// Definitions: [`HasOutline`](crate::definitions::reader::outlines::HasOutline), [`EndsAt`](crate::definitions::reader::outlines::EndsAt), [`RejectsWhole`](crate::definitions::base::continuing::RejectsWhole), [`wasm_module`](crate::definitions::base::formats::wasm_module), [`padded`](crate::definitions::base::numbers::Mode). [How to read clauses](crate::definitions).
 pub fn outline<'a, A: Allocator + Copy>(
     alloc: A,
     bytes: &'a [u8],

@@ -42,6 +42,8 @@ impl ReadError {
     /// requires { size ≤ end }
     /// ```
     ///
+    /// [How to read clauses](crate::definitions).
+    ///
     /// # Proved
     ///
     /// ```text
@@ -49,10 +51,12 @@ impl ReadError {
     /// ensures from { end ≤ result.offset + size }
     /// ensures within { result.offset ≤ end }
     /// ```
+    ///
+    /// [How to read clauses](crate::definitions).
     pub(crate) fn located(error: DecodeError, size: usize, end: usize) -> ReadError {
-        let left = size.min(error.left as usize);
+        let left = size.min(error.left() as usize);
         ReadError {
-            cause: error.cause,
+            cause: error.cause(),
             offset: end - left,
         }
     }

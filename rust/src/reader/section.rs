@@ -19,10 +19,15 @@ use crate::base::{Padded, ReadFault, Readable};
 ///
 /// # Proved
 ///
+/// After `Ok`: `found`. After an error: `none`.
+///
 /// ```text
 /// ensures found { IfOk result (λ x. Takes kind bytes.now (contents_of x.0) x.1) }
-/// ensures none { IfErr result (λ e. e ≢ Memory → Rejects (section kind) padded bytes.now) }
+/// ensures none { IfErr result
+///     (λ e. e ≢ Memory → Rejects (section kind) padded bytes.now) }
 /// ```
+///
+/// Definitions: [`Takes`](crate::definitions::reader::sections::Takes), [`contents_of`](crate::definitions::reader::kinds::contents_of), [`Rejects`](crate::definitions::base::decoding::Rejects), [`section`](crate::definitions::reader::sections::section), [`padded`](crate::definitions::base::numbers::Mode). [How to read clauses](crate::definitions).
 pub fn read_section<'a, A: Allocator + Copy + 'a>(
     alloc: A,
     kind: SectionKind,

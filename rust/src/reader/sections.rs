@@ -17,6 +17,8 @@ use crate::base::{ReadFault, Standard};
 /// ```text
 /// ensures { result ≤ length bytes.now }
 /// ```
+///
+/// [How to read clauses](crate::definitions).
 fn common_length(bytes: &[u8], other: &[u8]) -> usize {
     let mut count = 0;
     while count < bytes.len() && count < other.len() && bytes[count] == other[count] {
@@ -59,6 +61,8 @@ impl<'a, A: Allocator + Copy> Sections<'a, A> {
     ///
     /// # Proved
     ///
+    /// After `Ok`: `found`, `offset`, `same`. After an error: `none`, `cause`, `within`.
+    ///
     /// ```text
     /// ensures found { IfOk result (λ it. module.now ≡ header ++ ahead it) }
     /// ensures offset { IfOk result (λ it. it.offset ≡ length header) }
@@ -67,6 +71,8 @@ impl<'a, A: Allocator + Copy> Sections<'a, A> {
     /// ensures cause { IfErr result (λ e. (e.cause ≡ Ended) ⊎ (e.cause ≡ UnknownTag)) }
     /// ensures within { IfErr result (λ e. e.offset ≤ length module.now) }
     /// ```
+    ///
+    /// Definitions: [`header`](crate::definitions::base::formats::header), [`ahead`](crate::definitions::reader::iterating::ahead), [`Rejects`](crate::definitions::base::decoding::Rejects), [`fixed`](crate::definitions::base::formats::fixed), [`padded`](crate::definitions::base::numbers::Mode). [How to read clauses](crate::definitions).
     pub fn new(alloc: A, module: &'a [u8]) -> Result<Self, ReadError> {
         match read_header(module) {
             Ok(rest) => Ok(Sections {
@@ -93,6 +99,8 @@ impl<'a, A: Allocator + Copy> Sections<'a, A> {
     /// ```text
     /// ensures { result ≡ self.now.offset }
     /// ```
+    ///
+    /// [How to read clauses](crate::definitions).
     pub fn offset(&self) -> usize {
         self.offset
     }
@@ -104,6 +112,8 @@ impl<'a, A: Allocator + Copy> Sections<'a, A> {
 /// next_gives = { NextSection }
 /// remaining = { λ it. at_most (length (ahead it)) }
 /// ```
+///
+/// Definitions: [`NextSection`](crate::definitions::reader::iterating::NextSection), [`ahead`](crate::definitions::reader::iterating::ahead). [How to read clauses](crate::definitions).
 impl<'a, A: Allocator + Copy> Iterator for Sections<'a, A> {
     type Item = Result<Section<'a, A>, ReadError>;
 
@@ -159,6 +169,8 @@ impl<'a, A: Allocator + Copy> Section<'a, A> {
     /// ```text
     /// ensures { section_of result.now ≡ self.now.section }
     /// ```
+    ///
+    /// Definitions: [`section_of`](crate::definitions::reader::outlines::section_of). [How to read clauses](crate::definitions).
     pub(crate) fn standing(&self) -> &Standing<'a> {
         &self.standing
     }
@@ -170,6 +182,8 @@ impl<'a, A: Allocator + Copy> Section<'a, A> {
     /// ```text
     /// ensures { result ≡ self.now.section.id }
     /// ```
+    ///
+    /// [How to read clauses](crate::definitions).
     pub fn id(&self) -> u8 {
         self.standing.id
     }
@@ -182,6 +196,8 @@ impl<'a, A: Allocator + Copy> Section<'a, A> {
     /// ```text
     /// ensures { result ≡ known_kind_of self.now.section }
     /// ```
+    ///
+    /// Definitions: [`known_kind_of`](crate::definitions::reader::iterating::known_kind_of). [How to read clauses](crate::definitions).
     pub fn kind(&self) -> Option<SectionKind> {
         if self.standing.id < 14 {
             Some(self.standing.kind())
@@ -197,6 +213,8 @@ impl<'a, A: Allocator + Copy> Section<'a, A> {
     /// ```text
     /// ensures { option_map (λ n. n.now) result ≡ self.now.section.name }
     /// ```
+    ///
+    /// [How to read clauses](crate::definitions).
     pub fn name(&self) -> Option<&'a str> {
         self.standing.name
     }
@@ -208,6 +226,8 @@ impl<'a, A: Allocator + Copy> Section<'a, A> {
     /// ```text
     /// ensures { result ≡ self.now.offset }
     /// ```
+    ///
+    /// [How to read clauses](crate::definitions).
     pub fn offset(&self) -> usize {
         self.offset
     }
@@ -219,6 +239,8 @@ impl<'a, A: Allocator + Copy> Section<'a, A> {
     /// ```text
     /// ensures { result.now ≡ bytes_of self.now.section }
     /// ```
+    ///
+    /// Definitions: [`bytes_of`](crate::definitions::reader::outlines::bytes_of). [How to read clauses](crate::definitions).
     pub fn bytes(&self) -> &'a [u8] {
         self.bytes
     }
@@ -232,6 +254,8 @@ impl<'a, A: Allocator + Copy> Section<'a, A> {
     /// ensures end { result.end ≡ end_of self.now }
     /// ensures after { self.now.offset < result.start }
     /// ```
+    ///
+    /// Definitions: [`end_of`](crate::definitions::reader::iterating::end_of). [How to read clauses](crate::definitions).
     pub fn range(&self) -> Range<usize> {
         let end = self.offset + self.bytes.len();
         end - self.standing.payload.len()..end
@@ -245,6 +269,8 @@ impl<'a, A: Allocator + Copy> Section<'a, A> {
     /// ensures value { result.now ≡ self.now.section.payload }
     /// ensures size { length result.now < 2 ^ 32 }
     /// ```
+    ///
+    /// [How to read clauses](crate::definitions).
     pub fn payload(&self) -> &'a [u8] {
         self.standing.payload
     }
@@ -259,11 +285,21 @@ impl<'a, A: Allocator + Copy> Section<'a, A> {
     ///
     /// # Proved
     ///
+    /// After `Ok`: `found`. After an error: `none`, `within`.
+    ///
     /// ```text
-    /// ensures found { IfOk result (λ number. (x : Contents) × content (section_kind_of self.now.section) standard self.now.section.payload x × (number ≡ number_in x)) }
-    /// ensures none { IfErr result (λ e. e.cause ≢ Memory → RejectsWhole (content (section_kind_of self.now.section)) standard self.now.section.payload) }
+    /// ensures found { IfOk result
+    ///     (λ number. (x : Contents)
+    ///         × content (section_kind_of self.now.section) standard self.now.section.payload x
+    ///         × (number ≡ number_in x)) }
+    /// ensures none { IfErr result
+    ///     (λ e. e.cause ≢ Memory → RejectsWhole
+    ///         (content (section_kind_of self.now.section)) standard self.now.section.payload)
+    ///     }
     /// ensures within { IfErr result (λ e. IsInPayload self.now e.offset) }
     /// ```
+    ///
+    /// Definitions: [`Contents`](crate::definitions::reader::kinds::Contents), [`content`](crate::definitions::reader::kinds::content), [`section_kind_of`](crate::definitions::reader::outlines::section_kind_of), [`standard`](crate::definitions::base::numbers::Mode), [`number_in`](crate::definitions::reader::kinds::number_in), [`RejectsWhole`](crate::definitions::base::continuing::RejectsWhole), [`IsInPayload`](crate::definitions::reader::iterating::IsInPayload). [How to read clauses](crate::definitions).
     pub fn count(&self) -> Result<Option<u32>, ReadError> {
         match read_number::<A, Standard>(self.standing.kind(), self.standing.payload, self.alloc) {
             Ok(number) => Ok(number),
@@ -285,11 +321,20 @@ impl<'a, A: Allocator + Copy> Section<'a, A> {
     ///
     /// # Proved
     ///
+    /// After `Ok`: `found`. After an error: `none`, `within`.
+    ///
     /// ```text
-    /// ensures found { IfOk result (λ x. content (section_kind_of self.now.section) standard self.now.section.payload (contents_of x)) }
-    /// ensures none { IfErr result (λ e. e.cause ≢ Memory → RejectsWhole (content (section_kind_of self.now.section)) standard self.now.section.payload) }
+    /// ensures found { IfOk result
+    ///     (λ x. content (section_kind_of self.now.section) standard self.now.section.payload
+    ///         (contents_of x)) }
+    /// ensures none { IfErr result
+    ///     (λ e. e.cause ≢ Memory → RejectsWhole
+    ///         (content (section_kind_of self.now.section)) standard self.now.section.payload)
+    ///     }
     /// ensures within { IfErr result (λ e. IsInPayload self.now e.offset) }
     /// ```
+    ///
+    /// Definitions: [`content`](crate::definitions::reader::kinds::content), [`section_kind_of`](crate::definitions::reader::outlines::section_kind_of), [`standard`](crate::definitions::base::numbers::Mode), [`contents_of`](crate::definitions::reader::kinds::contents_of), [`RejectsWhole`](crate::definitions::base::continuing::RejectsWhole), [`IsInPayload`](crate::definitions::reader::iterating::IsInPayload). [How to read clauses](crate::definitions).
     pub fn items(&self) -> Result<Items<'a, A>, ReadError>
     where
         A: 'a,

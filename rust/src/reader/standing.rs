@@ -25,6 +25,8 @@ impl Standing<'_> {
     /// ```text
     /// ensures { result ≡ kind_of_section (section_of self.now) }
     /// ```
+    ///
+    /// Definitions: [`kind_of_section`](crate::definitions::reader::outlines::section_kind_of), [`section_of`](crate::definitions::reader::outlines::section_of). [How to read clauses](crate::definitions).
     pub(crate) fn kind(&self) -> SectionKind {
         match self.name {
             Some(name) => kind_of_name(name),
@@ -38,10 +40,15 @@ impl Standing<'_> {
 ///
 /// # Proved
 ///
+/// After `Ok`: `found`. After an error: `memory`.
+///
 /// ```text
-/// ensures found { IfOk result (λ name. IsNameOf id payload.now (option_map (λ n. n.now) name)) }
+/// ensures found { IfOk result
+///     (λ name. IsNameOf id payload.now (option_map (λ n. n.now) name)) }
 /// ensures memory { IfErr result (λ e. e.cause ≡ Memory) }
 /// ```
+///
+/// Definitions: [`IsNameOf`](crate::definitions::reader::outlines::IsNameOf). [How to read clauses](crate::definitions).
 fn read_name<'a, A: Allocator + Copy>(
     id: u8,
     payload: &'a [u8],
@@ -52,7 +59,7 @@ fn read_name<'a, A: Allocator + Copy>(
     }
     match <&'a str as Readable<'a, A, Padded>>::read(payload, alloc) {
         Ok((name, _)) => Ok(Some(name)),
-        Err(error) if error.cause == ReadFault::Memory => Err(error),
+        Err(error) if error.cause() == ReadFault::Memory => Err(error),
         Err(_) => Ok(None),
     }
 }
@@ -62,11 +69,16 @@ fn read_name<'a, A: Allocator + Copy>(
 ///
 /// # Proved
 ///
+/// After `Ok`: `found`, `split`. After an error: `none`.
+///
 /// ```text
 /// ensures found { IfOk result (λ x. IsSection (section_of x.0)) }
 /// ensures split { IfOk result (λ x. bytes.now ≡ bytes_of (section_of x.0) ++ x.1.now) }
-/// ensures none { IfErr result (λ e. e.cause ≢ Memory → Rejects any_section padded bytes.now) }
+/// ensures none { IfErr result
+///     (λ e. e.cause ≢ Memory → Rejects any_section padded bytes.now) }
 /// ```
+///
+/// Definitions: [`IsSection`](crate::definitions::reader::outlines::IsSection), [`section_of`](crate::definitions::reader::outlines::section_of), [`bytes_of`](crate::definitions::reader::outlines::bytes_of), [`Rejects`](crate::definitions::base::decoding::Rejects), [`any_section`](crate::definitions::base::formats::any_section), [`padded`](crate::definitions::base::numbers::Mode). [How to read clauses](crate::definitions).
 pub(crate) fn read_standing<'a, A: Allocator + Copy>(
     bytes: &'a [u8],
     alloc: A,

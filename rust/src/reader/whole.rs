@@ -74,6 +74,8 @@ pub(crate) enum How {
 /// ```text
 /// ensures { result ≡ names_code_offsets name.now }
 /// ```
+///
+/// Definitions: [`names_code_offsets`](crate::definitions::reader::shortening::names_code_offsets). [How to read clauses](crate::definitions).
 fn has_code_offsets(name: &str) -> bool {
     let bytes = name.as_bytes();
     name == "linking"
@@ -90,6 +92,8 @@ fn has_code_offsets(name: &str) -> bool {
 /// ```text
 /// ensures { result ≡ target_named name.now }
 /// ```
+///
+/// Definitions: [`target_named`](crate::definitions::reader::shortening::target_named). [How to read clauses](crate::definitions).
 fn target_named(name: &str) -> Option<Target> {
     if name.as_bytes().starts_with(b"reloc.") {
         Some(Target::Relocated)
@@ -110,6 +114,8 @@ impl Target {
     /// ```text
     /// ensures { Decides result (IsLedInto self id) }
     /// ```
+    ///
+    /// Definitions: [`IsLedInto`](crate::definitions::reader::shortening::IsLedInto). [How to read clauses](crate::definitions).
     fn leads_into(self, id: u8) -> bool {
         match self {
             Target::CodeAndData | Target::Module => id == 10 || id == 11,
@@ -125,6 +131,8 @@ impl Target {
     /// ```text
     /// ensures { Decides result (IsPlaced self id) }
     /// ```
+    ///
+    /// Definitions: [`IsPlaced`](crate::definitions::reader::shortening::IsPlaced). [How to read clauses](crate::definitions).
     fn leads_to_place(self, id: u8) -> bool {
         match self {
             Target::CodeAndData | Target::Relocated => false,
@@ -141,6 +149,8 @@ impl Target {
     /// ```text
     /// ensures { AreMoved result self id is_changed is_level }
     /// ```
+    ///
+    /// Definitions: [`AreMoved`](crate::definitions::reader::shortening::AreMoved). [How to read clauses](crate::definitions).
     fn loses(self, id: u8, is_changed: bool, is_level: bool) -> bool {
         (is_changed && self.leads_into(id)) || (!is_level && self.leads_to_place(id))
     }
@@ -154,6 +164,8 @@ impl Standing<'_> {
     /// ```text
     /// ensures { result ≡ target_of (section_of self.now).name }
     /// ```
+    ///
+    /// Definitions: [`target_of`](crate::definitions::reader::shortening::target_of), [`section_of`](crate::definitions::reader::outlines::section_of). [How to read clauses](crate::definitions).
     fn target(&self) -> Option<Target> {
         match self.name {
             Some(name) => target_named(name),
@@ -168,6 +180,8 @@ impl Standing<'_> {
     /// ```text
     /// ensures { Decides result (target_of (section_of self.now).name ≡ Some target) }
     /// ```
+    ///
+    /// Definitions: [`target_of`](crate::definitions::reader::shortening::target_of), [`section_of`](crate::definitions::reader::outlines::section_of). [How to read clauses](crate::definitions).
     fn is_into(&self, target: Target) -> bool {
         match (self.target(), target) {
             (Some(Target::CodeAndData), Target::CodeAndData)
@@ -187,13 +201,21 @@ impl Standing<'_> {
 /// requires { IsSection (section_of section.now) }
 /// ```
 ///
+/// Definitions: [`IsSection`](crate::definitions::reader::outlines::IsSection), [`section_of`](crate::definitions::reader::outlines::section_of). [How to read clauses](crate::definitions).
+///
 /// # Proved
 ///
+/// After `Ok`: `ok`. After an error: `err`, `memory`.
+///
 /// ```text
-/// ensures ok { IfOk result (λ how. (encoding : List ℕ) × IsEncodingFor how (section_of section.now) encoding × (sink.new.items ≡ sink.old.items ++ encoding)) }
+/// ensures ok { IfOk result
+///     (λ how. (encoding : List ℕ) × IsEncodingFor how (section_of section.now) encoding
+///         × (sink.new.items ≡ sink.old.items ++ encoding)) }
 /// ensures err { OnErr result (sink.new.items ≡ sink.old.items) }
 /// ensures memory { IfErr result (λ e. e ≡ Memory) }
 /// ```
+///
+/// Definitions: [`IsEncodingFor`](crate::definitions::reader::shortening::IsEncodingFor), [`section_of`](crate::definitions::reader::outlines::section_of). [How to read clauses](crate::definitions).
 fn append_size_prefixed<A: Allocator + Copy, B: Sink>(
     alloc: A,
     section: &Standing<'_>,
@@ -216,6 +238,8 @@ fn append_size_prefixed<A: Allocator + Copy, B: Sink>(
 /// ```text
 /// ensures { result ≡ leaves_out offsets (contains_offsets (section_of section.now).name) }
 /// ```
+///
+/// Definitions: [`leaves_out`](crate::definitions::reader::shortening::leaves_out), [`contains_offsets`](crate::definitions::reader::shortening::contains_offsets), [`section_of`](crate::definitions::reader::outlines::section_of). [How to read clauses](crate::definitions).
 fn is_left_out(section: &Standing<'_>, offsets: Offsets) -> bool {
     match offsets {
         Offsets::Refuse => false,
@@ -230,6 +254,8 @@ fn is_left_out(section: &Standing<'_>, offsets: Offsets) -> bool {
 /// ```text
 /// ensures { IsChange result (section_of section.now) encoding.now }
 /// ```
+///
+/// Definitions: [`IsChange`](crate::definitions::reader::shortening::IsChange), [`section_of`](crate::definitions::reader::outlines::section_of). [How to read clauses](crate::definitions).
 fn is_changed(section: &Standing<'_>, encoding: &[u8]) -> bool {
     encoding != section.sized
 }
@@ -250,13 +276,21 @@ struct Written {
 /// requires { IsSection (section_of section.now) }
 /// ```
 ///
+/// Definitions: [`IsSection`](crate::definitions::reader::outlines::IsSection), [`section_of`](crate::definitions::reader::outlines::section_of). [How to read clauses](crate::definitions).
+///
 /// # Proved
 ///
+/// After `Ok`: `ok`. After an error: `err`, `memory`.
+///
 /// ```text
-/// ensures ok { IfOk result (λ x. GainsSection offsets (section_of section.now) x.how x.is_changed sink.old.items sink.new.items) }
+/// ensures ok { IfOk result
+///     (λ x. GainsSection offsets
+///         (section_of section.now) x.how x.is_changed sink.old.items sink.new.items) }
 /// ensures err { OnErr result (sink.new.items ≡ sink.old.items) }
 /// ensures memory { IfErr result (λ e. e ≡ Memory) }
 /// ```
+///
+/// Definitions: [`GainsSection`](crate::definitions::reader::shortening::GainsSection), [`section_of`](crate::definitions::reader::outlines::section_of). [How to read clauses](crate::definitions).
 fn append_section<A: Allocator + Copy, B: Sink>(
     alloc: A,
     section: &Standing<'_>,
@@ -326,6 +360,8 @@ impl How {
     /// ensures value { result ≡ keeps self }
     /// ensures bound { result ≤ 1 }
     /// ```
+    ///
+    /// Definitions: [`keeps`](crate::definitions::reader::shortening::keeps). [How to read clauses](crate::definitions).
     fn keeps(self) -> usize {
         match self {
             How::Kept => 1,
@@ -341,6 +377,8 @@ impl How {
 /// ```text
 /// ensures { result ≡ first_of found is_such number }
 /// ```
+///
+/// Definitions: [`first_of`](crate::definitions::reader::shortening::first_of). [How to read clauses](crate::definitions).
 fn first_holder(found: Option<usize>, is_such: bool, number: usize) -> Option<usize> {
     match found {
         Some(found) => Some(found),
@@ -356,6 +394,8 @@ fn first_holder(found: Option<usize>, is_such: bool, number: usize) -> Option<us
 /// ```text
 /// ensures { result ≡ earlier a b }
 /// ```
+///
+/// Definitions: [`earlier`](crate::definitions::reader::shortening::earlier). [How to read clauses](crate::definitions).
 fn earlier(a: Option<usize>, b: Option<usize>) -> Option<usize> {
     match (a, b) {
         (Some(first), Some(second)) => Some(first.min(second)),
@@ -370,8 +410,14 @@ impl Found {
     /// # Proved
     ///
     /// ```text
-    /// ensures { (ws : List Rewrite) (w : Rewrite) → HasFound target ws self → length ws + 1 ≡ number → section_of section.now ≡ w.section → IsChange is_changed w.section w.encoding → Decides is_level (size_before ws ≡ size_after ws) → HasFound target (ws ++ w ∷ []) result }
+    /// ensures { (ws : List Rewrite) (w : Rewrite) → HasFound target ws self
+    ///     → length ws + 1 ≡ number → section_of section.now ≡ w.section
+    ///     → IsChange is_changed w.section w.encoding
+    ///     → Decides is_level (size_before ws ≡ size_after ws)
+    ///     → HasFound target (ws ++ w ∷ []) result }
     /// ```
+    ///
+    /// Definitions: [`Rewrite`](crate::definitions::reader::shortening::Rewrite), [`HasFound`](crate::definitions::reader::shortening::HasFound), [`section_of`](crate::definitions::reader::outlines::section_of), [`IsChange`](crate::definitions::reader::shortening::IsChange), [`size_before`](crate::definitions::reader::shortening::size_before), [`size_after`](crate::definitions::reader::shortening::size_after). [How to read clauses](crate::definitions).
     fn and(
         self,
         target: Target,
@@ -394,6 +440,8 @@ impl Found {
     /// ```text
     /// ensures { result ≡ lost self }
     /// ```
+    ///
+    /// Definitions: [`lost`](crate::definitions::reader::shortening::lost). [How to read clauses](crate::definitions).
     fn lost(self) -> Option<usize> {
         if self.is_moved { self.holder } else { None }
     }
@@ -409,12 +457,20 @@ impl Tally {
     /// requires { self.sections + 1 < 2 ^ 64 × self.kept ≤ self.sections }
     /// ```
     ///
+    /// [How to read clauses](crate::definitions).
+    ///
     /// # Proved
     ///
     /// ```text
-    /// ensures tallied { (ws : List Rewrite) (w : Rewrite) → HasTally ws self → section_of section.now ≡ w.section → written.how ≡ w.how → IsChange written.is_changed w.section w.encoding → Decides is_level (size_before ws ≡ size_after ws) → HasTally (ws ++ w ∷ []) result }
+    /// ensures tallied { (ws : List Rewrite) (w : Rewrite) → HasTally ws self
+    ///     → section_of section.now ≡ w.section → written.how ≡ w.how
+    ///     → IsChange written.is_changed w.section w.encoding
+    ///     → Decides is_level (size_before ws ≡ size_after ws)
+    ///     → HasTally (ws ++ w ∷ []) result }
     /// ensures kept { result.kept ≤ result.sections }
     /// ```
+    ///
+    /// Definitions: [`Rewrite`](crate::definitions::reader::shortening::Rewrite), [`HasTally`](crate::definitions::reader::shortening::HasTally), [`section_of`](crate::definitions::reader::outlines::section_of), [`IsChange`](crate::definitions::reader::shortening::IsChange), [`size_before`](crate::definitions::reader::shortening::size_before), [`size_after`](crate::definitions::reader::shortening::size_after). [How to read clauses](crate::definitions).
     fn and(self, section: &Standing<'_>, written: Written, is_level: bool) -> Tally {
         let sections = self.sections + 1;
         let is_changed = written.is_changed;
@@ -443,6 +499,8 @@ impl Tally {
     /// ```text
     /// ensures { result ≡ lost_at offsets self }
     /// ```
+    ///
+    /// Definitions: [`lost_at`](crate::definitions::reader::shortening::lost_at). [How to read clauses](crate::definitions).
     fn lost_at(self, offsets: Offsets) -> Option<usize> {
         match offsets {
             Offsets::Refuse => earlier(
@@ -461,6 +519,8 @@ impl Tally {
 /// ```text
 /// ensures { Decides result (a ≡ b) }
 /// ```
+///
+/// [How to read clauses](crate::definitions).
 fn is_same(a: usize, b: usize) -> bool {
     a == b
 }
@@ -474,13 +534,22 @@ fn is_same(a: usize, b: usize) -> bool {
 /// requires { length (ahead sections) < 2 ^ 64 }
 /// ```
 ///
+/// Definitions: [`ahead`](crate::definitions::reader::iterating::ahead). [How to read clauses](crate::definitions).
+///
 /// # Proved
 ///
+/// After `Ok`: `ok`. After an error: `none`. In any case: `front`.
+///
 /// ```text
-/// ensures ok { IfOk result (λ tally. Rewrites offsets (ahead sections.entry) [] sink.old.items sink.new.items tally) }
+/// ensures ok { IfOk result
+///     (λ tally. Rewrites offsets (ahead sections.entry)
+///         [] sink.old.items sink.new.items tally) }
 /// ensures front { IsFrontOf sink.old.items sink.new.items }
-/// ensures none { IfErr result (λ e. e.1 ≢ Memory → StopsAfter (ahead sections.entry) e.0) }
+/// ensures none { IfErr result
+///     (λ e. e.1 ≢ Memory → StopsAfter (ahead sections.entry) e.0) }
 /// ```
+///
+/// Definitions: [`Rewrites`](crate::definitions::reader::shortening::Rewrites), [`ahead`](crate::definitions::reader::iterating::ahead), [`IsFrontOf`](crate::definitions::base::minimal::IsFrontOf), [`StopsAfter`](crate::definitions::reader::shortening::StopsAfter). [How to read clauses](crate::definitions).
 fn append_sections<A: Allocator + Copy, B: Sink>(
     alloc: A,
     mut sections: Sections<'_, A>,
@@ -510,10 +579,14 @@ fn append_sections<A: Allocator + Copy, B: Sink>(
 ///
 /// # Proved
 ///
+/// After `Ok`: `ok`. After an error: `err`.
+///
 /// ```text
 /// ensures ok { OnOk result (sink.new.items ≡ sink.old.items ++ header) }
 /// ensures err { OnErr result (sink.new.items ≡ sink.old.items) }
 /// ```
+///
+/// Definitions: [`header`](crate::definitions::base::formats::header). [How to read clauses](crate::definitions).
 fn begin_module<A: Sink>(spare: usize, sink: &mut A) -> Result<(), AllocError> {
     sink.reserve(spare)?;
     sink.extend_from_slice(&HEADER)
@@ -524,11 +597,16 @@ fn begin_module<A: Sink>(spare: usize, sink: &mut A) -> Result<(), AllocError> {
 ///
 /// # Proved
 ///
+/// After `Ok`: `ok`. After an error: `why`. In any case: `front`.
+///
 /// ```text
-/// ensures ok { IfOk result (λ kept. ShortensModule offsets bytes.now kept sink.old.items sink.new.items) }
+/// ensures ok { IfOk result
+///     (λ kept. ShortensModule offsets bytes.now kept sink.old.items sink.new.items) }
 /// ensures front { IsFrontOf sink.old.items sink.new.items }
 /// ensures why { IfErr result (λ fault. Explains offsets bytes.now fault) }
 /// ```
+///
+/// Definitions: [`ShortensModule`](crate::definitions::reader::shortening::ShortensModule), [`IsFrontOf`](crate::definitions::base::minimal::IsFrontOf), [`Explains`](crate::definitions::reader::shortening::Explains). [How to read clauses](crate::definitions).
 fn append_module<A: Allocator + Copy, B: Sink>(
     alloc: A,
     bytes: &[u8],
@@ -582,11 +660,16 @@ fn append_module<A: Allocator + Copy, B: Sink>(
 ///
 /// # Proved
 ///
+/// After `Ok`: `ok`. After an error: `err`, `why`.
+///
 /// ```text
-/// ensures ok { IfOk result (λ kept. ShortensModule offsets bytes.now kept sink.old.items sink.new.items) }
+/// ensures ok { IfOk result
+///     (λ kept. ShortensModule offsets bytes.now kept sink.old.items sink.new.items) }
 /// ensures err { OnErr result (sink.new.items ≡ sink.old.items) }
 /// ensures why { IfErr result (λ fault. Explains offsets bytes.now fault) }
 /// ```
+///
+/// Definitions: [`ShortensModule`](crate::definitions::reader::shortening::ShortensModule), [`Explains`](crate::definitions::reader::shortening::Explains). [How to read clauses](crate::definitions).
 pub fn shorten_module<A: Allocator + Copy, B: Sink>(
     alloc: A,
     bytes: &[u8],

@@ -6,7 +6,8 @@ use crate::base::Refused;
 /// The cause of an error in a recipe.
 #[derive(Clone, Copy, PartialEq, Eq, Debug)]
 pub enum RecipeCause {
-    /// The first word of the line is not a command, or the kind of an export is unknown.
+    /// The first word of the line is not a command, or the kind of an export or an import is
+    /// unknown.
     UnknownCommand,
     /// A word that should be a number is not one in range.
     BadNumber,
@@ -18,6 +19,12 @@ pub enum RecipeCause {
     Memory,
     /// A count or a size of the module would exceed 4294967295.
     TooLong,
+    /// The line has words after those of the command. Version 1 ignores them.
+    SurplusWord,
+    /// A word that should be a value type is not one.
+    UnknownType,
+    /// No body is after the last locals.
+    UnusedLocals,
 }
 
 /// The error of a recipe, with the number of its line, counted from 1; 0 for an error after the
@@ -33,6 +40,8 @@ pub struct RecipeFault {
 /// ```text
 /// from_gives = { λ refused cause. cause ≡ cause_of refused }
 /// ```
+///
+/// Definitions: [`cause_of`](crate::definitions::recipe::steps::cause_of). [How to read clauses](crate::definitions).
 impl From<Refused> for RecipeCause {
     fn from(refused: Refused) -> RecipeCause {
         match refused {
@@ -49,6 +58,8 @@ impl From<Refused> for RecipeCause {
 /// ```text
 /// from_gives = { λ refused fault. (fault.line ≡ 0) × (fault.cause ≡ cause_of refused) }
 /// ```
+///
+/// Definitions: [`cause_of`](crate::definitions::recipe::steps::cause_of). [How to read clauses](crate::definitions).
 impl From<Refused> for RecipeFault {
     fn from(refused: Refused) -> RecipeFault {
         RecipeFault {
@@ -67,6 +78,9 @@ impl ::core::fmt::Display for RecipeCause {
             Self::MissingWord => f.write_str("missing word"),
             Self::Memory => f.write_str("out of memory"),
             Self::TooLong => f.write_str("too long"),
+            Self::SurplusWord => f.write_str("surplus word"),
+            Self::UnknownType => f.write_str("unknown type"),
+            Self::UnusedLocals => f.write_str("locals without a body"),
         }
     }
 }

@@ -12,9 +12,14 @@ use crate::reader::{Listed, list_module};
 ///
 /// # Proved
 ///
+/// After `Ok`:
+///
 /// ```text
-/// ensures { OnOk result (string_bytes text.new ≡ string_bytes text.old ++ line_of section.now) }
+/// ensures { OnOk result (string_bytes text.new
+///         ≡ string_bytes text.old ++ line_of section.now) }
 /// ```
+///
+/// Definitions: [`line_of`](crate::definitions::recipe::listings::line_of). [How to read clauses](crate::definitions).
 fn push_line<A: Allocator>(text: &mut String<A>, section: &Listed) -> Result<(), AllocError> {
     let id = section.id;
     let size = section.size;
@@ -28,9 +33,13 @@ fn push_line<A: Allocator>(text: &mut String<A>, section: &Listed) -> Result<(),
 ///
 /// # Proved
 ///
+/// After `Ok`:
+///
 /// ```text
 /// ensures { IfOk result (λ text. string_bytes text ≡ listing_of sections.now) }
 /// ```
+///
+/// Definitions: [`listing_of`](crate::definitions::recipe::listings::listing_of). [How to read clauses](crate::definitions).
 fn lines<A: Allocator>(alloc: A, sections: &[Listed]) -> Result<String<A>, AllocError> {
     let mut text = String::new(alloc);
     for section in sections {
@@ -46,6 +55,8 @@ fn lines<A: Allocator>(alloc: A, sections: &[Listed]) -> Result<String<A>, Alloc
 /// ```text
 /// ensures { DropsBlanks text.now result.now }
 /// ```
+///
+/// Definitions: [`DropsBlanks`](crate::definitions::recipe::listings::DropsBlanks). [How to read clauses](crate::definitions).
 fn without_end(text: &[u8]) -> &[u8] {
     let mut text = text;
     while let [front @ .., b' ' | b'\r' | b'\n'] = text {
@@ -58,10 +69,14 @@ fn without_end(text: &[u8]) -> &[u8] {
 ///
 /// # Proved
 ///
+/// After `Ok`: `bytes`. After an error: `usage`.
+///
 /// ```text
 /// ensures bytes { IfOk result (λ bytes. IsHexText text.now bytes.items) }
 /// ensures usage { IfErr result (λ trouble. trouble ≢ Usage) }
 /// ```
+///
+/// Definitions: [`IsHexText`](crate::definitions::recipe::listings::IsHexText). [How to read clauses](crate::definitions).
 fn hex_bytes<A: Allocator>(alloc: A, text: &[u8]) -> Result<Vec<u8, A>, Trouble> {
     if str::from_utf8(text).is_err() {
         return Err(Trouble::NotText);
@@ -76,10 +91,14 @@ fn hex_bytes<A: Allocator>(alloc: A, text: &[u8]) -> Result<Vec<u8, A>, Trouble>
 ///
 /// # Proved
 ///
+/// After `Ok`: `listed`. After an error: `usage`.
+///
 /// ```text
 /// ensures listed { IfOk result (λ lines. Lists text.now (string_bytes lines)) }
 /// ensures usage { IfErr result (λ trouble. trouble ≢ Usage) }
 /// ```
+///
+/// Definitions: [`Lists`](crate::definitions::recipe::listings::Lists). [How to read clauses](crate::definitions).
 pub(crate) fn listing<A: Allocator + Copy>(alloc: A, text: &[u8]) -> Result<String<A>, Trouble> {
     let bytes = hex_bytes(alloc, text)?;
     let sections = list_module(alloc, &bytes).map_err(|(number, fault)| Trouble::Section {

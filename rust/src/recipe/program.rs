@@ -28,6 +28,8 @@ pub(crate) enum Trouble {
 /// ```text
 /// from_gives = { λ _ trouble. IsLateRefusal trouble }
 /// ```
+///
+/// Definitions: [`IsLateRefusal`](crate::definitions::recipe::program::IsLateRefusal). [How to read clauses](crate::definitions).
 impl From<AllocError> for Trouble {
     fn from(_e: AllocError) -> Trouble {
         Trouble::Recipe(RecipeFault {
@@ -44,6 +46,8 @@ impl From<AllocError> for Trouble {
 /// ```text
 /// ensures { result ≡ troubles.Section 0 faults.Memory }
 /// ```
+///
+/// [How to read clauses](crate::definitions).
 pub(crate) fn unlisted() -> Trouble {
     Trouble::Section {
         number: 0,
@@ -68,6 +72,8 @@ enum Unread {
 /// ```text
 /// from_gives = { λ _ unread. unread ≡ Memory }
 /// ```
+///
+/// [How to read clauses](crate::definitions).
 impl From<AllocError> for Unread {
     fn from(_e: AllocError) -> Unread {
         Unread::Memory
@@ -79,10 +85,15 @@ impl From<AllocError> for Unread {
 ///
 /// # Proved
 ///
+/// After `Ok`: `bytes`, `end`.
+///
 /// ```text
-/// ensures bytes { IfOk result (λ bytes. Consumes (R.remaining input.old) (R.remaining input.new) bytes.items) }
+/// ensures bytes { IfOk result
+///     (λ bytes. Consumes (R.remaining input.old) (R.remaining input.new) bytes.items) }
 /// ensures end { IfOk result (λ _. IsAtEnd (R.remaining input.new)) }
 /// ```
+///
+/// [How to read clauses](crate::definitions).
 fn read_to_end<A: Allocator, R: Read>(alloc: A, input: &mut R) -> Result<Vec<u8, A>, Unread> {
     let mut bytes = Vec::new(alloc);
     let mut chunk = [0; READ_SIZE];
@@ -102,12 +113,16 @@ fn read_to_end<A: Allocator, R: Read>(alloc: A, input: &mut R) -> Result<Vec<u8,
 ///
 /// # Proved
 ///
+/// After `Ok`: `text`, `good`, `line`. After an error: `usage`.
+///
 /// ```text
 /// ensures text { IfOk result (λ _. IsUtf8 recipe.now) }
-/// ensures good { IfOk result (λ _. All IsGood (lines_of recipe.now)) }
+/// ensures good { IfOk result (λ _. All (IsGood First) (lines_of recipe.now)) }
 /// ensures line { IfOk result (λ line. string_bytes line ≡ hex_line_of recipe.now) }
 /// ensures usage { IfErr result (λ trouble. trouble ≢ troubles.Usage) }
 /// ```
+///
+/// Definitions: [`IsGood`](crate::definitions::recipe::recipe::IsGood), [`lines_of`](crate::definitions::recipe::lines::lines_of), [`hex_line_of`](crate::definitions::recipe::program::hex_line_of). [How to read clauses](crate::definitions).
 fn hex_line<A: Allocator + Copy>(alloc: A, recipe: &[u8]) -> Result<String<A>, Trouble> {
     let text = str::from_utf8(recipe).map_err(|_| Trouble::NotText)?;
     let module = assemble(alloc, text).map_err(Trouble::Recipe)?;
@@ -121,13 +136,20 @@ fn hex_line<A: Allocator + Copy>(alloc: A, recipe: &[u8]) -> Result<String<A>, T
 ///
 /// # Proved
 ///
+/// After `Ok`: `text`, `good`, `line`, `end`. After an error: `usage`.
+///
 /// ```text
 /// ensures text { IfOk result (λ _. IfSome (I.remaining input.old) IsUtf8) }
-/// ensures good { IfOk result (λ _. IfSome (I.remaining input.old) (λ text. All IsGood (lines_of text))) }
-/// ensures line { IfOk result (λ line. IfSome (I.remaining input.old) (λ text. string_bytes line ≡ hex_line_of text)) }
+/// ensures good { IfOk result
+///     (λ _. IfSome (I.remaining input.old) (λ text. All (IsGood First) (lines_of text))) }
+/// ensures line { IfOk result
+///     (λ line. IfSome (I.remaining input.old)
+///         (λ text. string_bytes line ≡ hex_line_of text)) }
 /// ensures end { IfOk result (λ _. IsAtEnd (I.remaining input.new)) }
 /// ensures usage { IfErr result (λ trouble. trouble ≢ troubles.Usage) }
 /// ```
+///
+/// Definitions: [`IsGood`](crate::definitions::recipe::recipe::IsGood), [`lines_of`](crate::definitions::recipe::lines::lines_of), [`hex_line_of`](crate::definitions::recipe::program::hex_line_of). [How to read clauses](crate::definitions).
 fn answer_to_recipe<A: Allocator + Copy, I: Read>(
     alloc: A,
     input: &mut I,
@@ -143,11 +165,17 @@ fn answer_to_recipe<A: Allocator + Copy, I: Read>(
 ///
 /// # Proved
 ///
+/// After `Ok`: `listed`, `end`. After an error: `usage`.
+///
 /// ```text
-/// ensures listed { IfOk result (λ lines. IfSome (I.remaining input.old) (λ text. Lists text (string_bytes lines))) }
+/// ensures listed { IfOk result
+///     (λ lines. IfSome (I.remaining input.old) (λ text. Lists text (string_bytes lines)))
+///     }
 /// ensures end { IfOk result (λ _. IsAtEnd (I.remaining input.new)) }
 /// ensures usage { IfErr result (λ trouble. trouble ≢ troubles.Usage) }
 /// ```
+///
+/// Definitions: [`Lists`](crate::definitions::recipe::listings::Lists). [How to read clauses](crate::definitions).
 fn answer_to_module<A: Allocator + Copy, I: Read>(
     alloc: A,
     input: &mut I,
@@ -166,6 +194,8 @@ fn answer_to_module<A: Allocator + Copy, I: Read>(
 /// ```text
 /// ensures { IsTrue result ↔ AsksToRead args.now }
 /// ```
+///
+/// Definitions: [`AsksToRead`](crate::definitions::recipe::listings::AsksToRead). [How to read clauses](crate::definitions).
 fn asks_to_read<A: Allocator>(args: &[String<A>]) -> bool {
     let [word] = args else {
         return false;
@@ -177,15 +207,28 @@ fn asks_to_read<A: Allocator>(args: &[String<A>]) -> bool {
 ///
 /// # Proved
 ///
+/// After `Ok`: `args`, `end`. After an error: `usage`. In any case: `text`, `good`, `line`, `listed`.
+///
 /// ```text
 /// ensures args { IfOk result (λ _. (length args.now ≡ 0) ⊎ AsksToRead args.now) }
-/// ensures text { length args.now ≡ 0 → IfOk result (λ _. IfSome (I.remaining input.old) IsUtf8) }
-/// ensures good { length args.now ≡ 0 → IfOk result (λ _. IfSome (I.remaining input.old) (λ text. All IsGood (lines_of text))) }
-/// ensures line { length args.now ≡ 0 → IfOk result (λ line. IfSome (I.remaining input.old) (λ text. string_bytes line ≡ hex_line_of text)) }
-/// ensures listed { AsksToRead args.now → IfOk result (λ lines. IfSome (I.remaining input.old) (λ text. Lists text (string_bytes lines))) }
+/// ensures text { length args.now ≡ 0
+///     → IfOk result (λ _. IfSome (I.remaining input.old) IsUtf8) }
+/// ensures good { length args.now ≡ 0
+///     → IfOk result (λ _. IfSome (I.remaining input.old)
+///         (λ text. All (IsGood First) (lines_of text))) }
+/// ensures line { length args.now ≡ 0
+///     → IfOk result (λ line. IfSome (I.remaining input.old)
+///         (λ text. string_bytes line ≡ hex_line_of text)) }
+/// ensures listed { AsksToRead args.now
+///     → IfOk result (λ lines. IfSome (I.remaining input.old)
+///         (λ text. Lists text (string_bytes lines))) }
 /// ensures end { IfOk result (λ _. IsAtEnd (I.remaining input.new)) }
-/// ensures usage { IfErr result (λ trouble. trouble ≡ troubles.Usage → ((length args.now ≡ 0) ⊎ AsksToRead args.now) → ⊥) }
+/// ensures usage { IfErr result
+///     (λ trouble. trouble ≡ troubles.Usage → ((length args.now ≡ 0) ⊎ AsksToRead args.now)
+///         → ⊥) }
 /// ```
+///
+/// Definitions: [`AsksToRead`](crate::definitions::recipe::listings::AsksToRead), [`IsGood`](crate::definitions::recipe::recipe::IsGood), [`lines_of`](crate::definitions::recipe::lines::lines_of), [`hex_line_of`](crate::definitions::recipe::program::hex_line_of), [`Lists`](crate::definitions::recipe::listings::Lists). [How to read clauses](crate::definitions).
 fn answer<A: Allocator + Copy, I: Read>(
     alloc: A,
     args: &[String<A>],
@@ -208,6 +251,8 @@ fn answer<A: Allocator + Copy, I: Read>(
 /// ensures out { result ≡ 0 → Appends (O.contents out.old) (O.contents out.new) text.now }
 /// ensures status { result ≤ 1 }
 /// ```
+///
+/// [How to read clauses](crate::definitions).
 fn write_text<O: Write>(out: &mut O, text: &[u8]) -> u8 {
     match out.write_all(text) {
         Ok(()) => 0,
@@ -224,6 +269,8 @@ fn write_text<O: Write>(out: &mut O, text: &[u8]) -> u8 {
 /// ensures usage { result ≡ 2 → trouble.now ≡ troubles.Usage }
 /// ensures status { (1 ≤ result) × (result ≤ 2) }
 /// ```
+///
+/// [How to read clauses](crate::definitions).
 fn report<E: Write>(err: &mut E, trouble: &Trouble) -> u8 {
     match writeln!(err, "{trouble}") {
         Ok(()) if matches!(trouble, Trouble::Usage) => 2,
@@ -239,20 +286,37 @@ fn report<E: Write>(err: &mut E, trouble: &Trouble) -> u8 {
 ///
 /// ```text
 /// ensures args { result ≡ 0 → (length args.now ≡ 0) ⊎ AsksToRead args.now }
-/// ensures text { length args.now ≡ 0 → result ≡ 0 → IfSome (I.remaining input.old) IsUtf8 }
-/// ensures good { length args.now ≡ 0 → result ≡ 0 → IfSome (I.remaining input.old) (λ text. All IsGood (lines_of text)) }
-/// ensures out { length args.now ≡ 0 → result ≡ 0 → IfSome (I.remaining input.old) (λ text. Appends (O.contents out.old) (O.contents out.new) (hex_line_of text)) }
-/// ensures listed { AsksToRead args.now → result ≡ 0 → IfSome (I.remaining input.old) (λ text. (lines : List ℕ) × Lists text lines × Appends (O.contents out.old) (O.contents out.new) lines) }
+/// ensures text { length args.now ≡ 0 → result ≡ 0
+///     → IfSome (I.remaining input.old) IsUtf8 }
+/// ensures good { length args.now ≡ 0 → result ≡ 0
+///     → IfSome (I.remaining input.old) (λ text. All (IsGood First) (lines_of text)) }
+/// ensures out { length args.now ≡ 0 → result ≡ 0
+///     → IfSome (I.remaining input.old)
+///     (λ text. Appends (O.contents out.old) (O.contents out.new) (hex_line_of text)) }
+/// ensures listed { AsksToRead args.now → result ≡ 0
+///     → IfSome (I.remaining input.old)
+///     (λ text. (lines : List ℕ) × Lists text lines
+///         × Appends (O.contents out.old) (O.contents out.new) lines) }
 /// ensures end { result ≡ 0 → IsAtEnd (I.remaining input.new) }
 /// ensures err { result ≡ 0 → Keeps (E.contents err.old) (E.contents err.new) }
 /// ensures usage { result ≡ 2 → ((length args.now ≡ 0) ⊎ AsksToRead args.now) → ⊥ }
 /// ensures kept { result ≡ 2 → Keeps (O.contents out.old) (O.contents out.new) }
-/// ensures unasked { (((length args.now ≡ 0) ⊎ AsksToRead args.now) → ⊥) → Keeps (O.contents out.old) (O.contents out.new) }
-/// ensures unread { (IsAtEnd (I.remaining input.new) → ⊥) → Keeps (O.contents out.old) (O.contents out.new) }
-/// ensures faulty { length args.now ≡ 0 → IfSome (I.remaining input.old) (λ text. (IsUtf8 text → All IsGood (lines_of text) → ⊥) → Keeps (O.contents out.old) (O.contents out.new)) }
-/// ensures unlisted { AsksToRead args.now → IfSome (I.remaining input.old) (λ text. ((lines : List ℕ) → Lists text lines → ⊥) → Keeps (O.contents out.old) (O.contents out.new)) }
+/// ensures unasked { (((length args.now ≡ 0) ⊎ AsksToRead args.now) → ⊥)
+///     → Keeps (O.contents out.old) (O.contents out.new) }
+/// ensures unread { (IsAtEnd (I.remaining input.new) → ⊥)
+///     → Keeps (O.contents out.old) (O.contents out.new) }
+/// ensures faulty { length args.now ≡ 0
+///     → IfSome (I.remaining input.old)
+///     (λ text. (IsUtf8 text → All (IsGood First) (lines_of text) → ⊥)
+///         → Keeps (O.contents out.old) (O.contents out.new)) }
+/// ensures unlisted { AsksToRead args.now
+///     → IfSome (I.remaining input.old)
+///     (λ text. ((lines : List ℕ) → Lists text lines → ⊥)
+///         → Keeps (O.contents out.old) (O.contents out.new)) }
 /// ensures status { result ≤ 2 }
 /// ```
+///
+/// Definitions: [`AsksToRead`](crate::definitions::recipe::listings::AsksToRead), [`IsGood`](crate::definitions::recipe::recipe::IsGood), [`lines_of`](crate::definitions::recipe::lines::lines_of), [`hex_line_of`](crate::definitions::recipe::program::hex_line_of), [`Lists`](crate::definitions::recipe::listings::Lists). [How to read clauses](crate::definitions).
 pub fn run<A: Allocator + Copy, I: Read, O: Write, E: Write>(
     alloc: A,
     args: &[String<A>],

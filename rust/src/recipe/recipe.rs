@@ -3,97 +3,32 @@
 
 use crate::vec::Vec;
 use crate::recipe::fault::{RecipeCause, RecipeFault};
+use crate::recipe::numbers::{hex_bytes, index, indices, signed};
+use crate::recipe::types::{entity, limits_in, val_type};
+use crate::recipe::version::{Version, header, line_at};
 use crate::recipe::words::Words;
-use crate::hex::FromHexError;
 use crate::alloc::Allocator;
-use crate::base::{Encode, Module, Pieces, RawSection, Result, SectionId, ValType};
-use crate::code::{CodeSection, ConstExpr, Function};
+use crate::base::{CowSlice, Encode, Module, Pieces, RawSection, Result, SectionId, ValType};
+use crate::code::{CodeSection, ConstExpr};
 use crate::custom::NameSection;
-use crate::sections::{CountedSection, DataSection, ExportKind, ExportSection, FunctionSection, GlobalSection, GlobalType, ItemKind, MemorySection, MemoryType, StartSection};
+use crate::sections::{CountedSection, DataSection, ElementSection, Elements, ExportKind, ExportSection, FunctionSection, GlobalSection, GlobalType, ImportSection, ItemKind, MemorySection, StartSection, TableSection};
 
 /// The sections to which the lines so far have added items.
 pub(crate) struct Recipe<A: Allocator> {
     types: Pieces<A>,
+    imports: ImportSection<A>,
     functions: FunctionSection<A>,
+    tables: TableSection<A>,
     memories: MemorySection<A>,
     globals: GlobalSection<A>,
     exports: ExportSection<A>,
     start: Option<u32>,
+    elements: ElementSection<A>,
+    /// Encoded runs of locals, of the next body.
+    locals: Pieces<A>,
     code: CodeSection<A>,
     segments: DataSection<A>,
     names: NameSection<A>,
-}
-
-/// Decodes a word of hexadecimal digits.
-///
-/// # Proved
-///
-/// ```text
-/// ensures ok { IfOk result (λ bytes. decode_of word.now ≡ Ok bytes.items) }
-/// ensures err { IfErr result (λ cause. (cause ≡ RecipeCause.Memory) ⊎ ((cause ≡ RecipeCause.BadHex) × IsErr (decode_of word.now))) }
-/// ```
-fn hex_bytes<A: Allocator>(alloc: A, word: &str) -> Result<Vec<u8, A>, RecipeCause> {
-    crate::hex::decode(alloc, word).map_err(|e| match e {
-        FromHexError::OutOfMemory => RecipeCause::Memory,
-        _ => RecipeCause::BadHex,
-    })
-}
-
-/// Returns the word unless it begins with a plus sign, which `parse` accepts and a number of a
-/// recipe does not have.
-///
-/// # Proved
-///
-/// ```text
-/// ensures { MatchResult result (λ same. (same.now ≡ word.now) × (get_or word.now 0 0 ≢ 43)) (λ cause. (cause ≡ RecipeCause.BadNumber) × (get_or word.now 0 0 ≡ 43)) }
-/// ```
-fn numeral(word: &str) -> Result<&str, RecipeCause> {
-    if word.starts_with('+') {
-        return Err(RecipeCause::BadNumber);
-    }
-    Ok(word)
-}
-
-/// Parses a word of decimal digits as a number of 64 bits.
-///
-/// # Proved
-///
-/// ```text
-/// ensures { MatchResult result (λ n. decimal_of 64 word.now ≡ Some n) (λ cause. (cause ≡ RecipeCause.BadNumber) × (decimal_of 64 word.now ≡ None)) }
-/// ```
-fn number(word: &str) -> Result<u64, RecipeCause> {
-    let Ok(n) = numeral(word)?.parse() else {
-        return Err(RecipeCause::BadNumber);
-    };
-    Ok(n)
-}
-
-/// Parses a word of decimal digits as a number of 32 bits.
-///
-/// # Proved
-///
-/// ```text
-/// ensures { MatchResult result (λ n. decimal_of 32 word.now ≡ Some n) (λ cause. (cause ≡ RecipeCause.BadNumber) × (decimal_of 32 word.now ≡ None)) }
-/// ```
-fn index(word: &str) -> Result<u32, RecipeCause> {
-    let Ok(n) = u32::try_from(number(word)?) else {
-        return Err(RecipeCause::BadNumber);
-    };
-    Ok(n)
-}
-
-/// Parses a word of decimal digits, negative after `-`, as a signed number of 32 bits.
-///
-/// # Proved
-///
-/// ```text
-/// ensures { MatchResult result (λ n. signed_of word.now ≡ Some n) (λ cause. (cause ≡ RecipeCause.BadNumber) × (signed_of word.now ≡ None)) }
-/// ```
-fn signed(word: &str) -> Result<i32, RecipeCause> {
-    let Ok(value) = numeral(word)?.parse() else {
-        return Err(RecipeCause::BadNumber);
-    };
-    Ok(value)
 }
 
 /// Returns the kind of export that a word names.
@@ -103,6 +38,8 @@ fn signed(word: &str) -> Result<i32, RecipeCause> {
 /// ```text
 /// ensures { result ≡ export_kind_of word.now }
 /// ```
+///
+/// Definitions: [`export_kind_of`](crate::definitions::recipe::recipe::export_kind_of). [How to read clauses](crate::definitions).
 fn export_kind(word: &str) -> Option<ExportKind> {
     match word {
         "func" => Some(ExportKind::Func),
@@ -119,8 +56,11 @@ fn export_kind(word: &str) -> Option<ExportKind> {
 /// # Proved
 ///
 /// ```text
-/// ensures { Puts (section_of K.section_id section.now) (IsEncodableSection section.now) target.old target.new result }
+/// ensures { Puts (section_of K.section_id section.now)
+///     (IsEncodableSection section.now) target.old target.new result }
 /// ```
+///
+/// Definitions: [`Puts`](crate::definitions::recipe::steps::Puts), [`section_of`](crate::definitions::recipe::recipe::section_of), [`IsEncodableSection`](crate::definitions::base::pieces::IsEncodableSection). [How to read clauses](crate::definitions).
 fn put_counted<K: ItemKind, A: Allocator, B: Allocator>(
     section: &CountedSection<K, A>,
     target: &mut Module<B>,
@@ -131,18 +71,46 @@ fn put_counted<K: ItemKind, A: Allocator, B: Allocator>(
     target.section(section)
 }
 
-/// Returns a function without locals, with these instructions.
+/// Returns the number of the pieces, and the pieces.
 ///
 /// # Proved
 ///
+/// After `Ok`: `ok`, `few`. In any case: `memory`.
+///
 /// ```text
-/// ensures ok { IfOk result (λ function. function ≡ 0 ∷ instructions.items) }
+/// ensures ok { IfOk result
+///     (λ bytes. bytes.items ≡ unsigned_encoding (length pieces.now) ++ joined pieces.now)
+///     }
+/// ensures few { OnOk result (length pieces.now ≤ longest) }
 /// ensures memory { result ≢ Err refusals.TooLong }
 /// ```
-fn function_of<A: Allocator>(alloc: A, instructions: Vec<u8, A>) -> Result<Function<A>> {
-    let mut function = Function::new(alloc, [])?;
-    function.raw(instructions)?;
-    Ok(function)
+///
+/// Definitions: [`unsigned_encoding`](crate::definitions::base::numbers::unsigned_encoding), [`joined`](crate::definitions::base::pieces::joined), [`longest`](crate::definitions::base::encodings::longest). [How to read clauses](crate::definitions).
+fn counted<A: Allocator>(alloc: A, pieces: &Pieces<A>) -> Result<Vec<u8, A>> {
+    let mut bytes = Vec::new(alloc);
+    pieces.len().encode(&mut bytes)?;
+    bytes.extend_from_slice(pieces.bytes())?;
+    Ok(bytes)
+}
+
+/// Returns a function's body: the runs of locals, and the instructions.
+///
+/// # Proved
+///
+/// After `Ok`: `ok`. In any case: `memory`.
+///
+/// ```text
+/// ensures ok { IfOk result
+///     (λ body. body.items ≡ (unsigned_encoding (length runs.now) ++ joined runs.now)
+///         ++ instructions.now) }
+/// ensures memory { result ≢ Err refusals.TooLong }
+/// ```
+///
+/// Definitions: [`unsigned_encoding`](crate::definitions::base::numbers::unsigned_encoding), [`joined`](crate::definitions::base::pieces::joined). [How to read clauses](crate::definitions).
+fn body_of<A: Allocator>(alloc: A, runs: &Pieces<A>, instructions: &[u8]) -> Result<Vec<u8, A>> {
+    let mut body = counted(alloc, runs)?;
+    body.extend_from_slice(instructions)?;
+    Ok(body)
 }
 
 /// Adds bytes at this offset of memory 0.
@@ -150,8 +118,11 @@ fn function_of<A: Allocator>(alloc: A, instructions: Vec<u8, A>) -> Result<Funct
 /// # Proved
 ///
 /// ```text
-/// ensures { Adds (active_encoding 0 offset.now bytes.items) (HasEncodableSize bytes.items) segments.old segments.new result }
+/// ensures { Adds (active_encoding 0 offset.now bytes.items)
+///     (HasEncodableSize bytes.items) segments.old segments.new result }
 /// ```
+///
+/// Definitions: [`Adds`](crate::definitions::base::calls::Adds), [`active_encoding`](crate::definitions::sections::data_segments::active_encoding), [`HasEncodableSize`](crate::definitions::base::encodings::HasEncodableSize). [How to read clauses](crate::definitions).
 fn add_data<A: Allocator>(
     segments: &mut DataSection<A>,
     offset: &ConstExpr<A>,
@@ -166,14 +137,20 @@ impl<A: Allocator + Copy> Recipe<A> {
     /// ```text
     /// ensures { IsEmpty result }
     /// ```
+    ///
+    /// Definitions: [`IsEmpty`](crate::definitions::recipe::steps::IsEmpty). [How to read clauses](crate::definitions).
     fn new(alloc: A) -> Self {
         Recipe {
             types: Pieces::new(alloc),
+            imports: ImportSection::new(alloc),
             functions: FunctionSection::new(alloc),
+            tables: TableSection::new(alloc),
             memories: MemorySection::new(alloc),
             globals: GlobalSection::new(alloc),
             exports: ExportSection::new(alloc),
             start: None,
+            elements: ElementSection::new(alloc),
+            locals: Pieces::new(alloc),
             code: CodeSection::new(alloc),
             segments: DataSection::new(alloc),
             names: NameSection::new(alloc),
@@ -185,10 +162,12 @@ impl<A: Allocator + Copy> Recipe<A> {
     /// # Proved
     ///
     /// ```text
-    /// ensures { Follows (entry_of line.now) self.old self.new result }
+    /// ensures { Follows (entry_of version line.now) self.old self.new result }
     /// ```
-    fn read_line(&mut self, alloc: A, line: &str) -> Result<(), RecipeCause> {
-        let mut words = Words::new(line);
+    ///
+    /// Definitions: [`Follows`](crate::definitions::recipe::steps::Follows), [`entry_of`](crate::definitions::recipe::recipe::entry_of). [How to read clauses](crate::definitions).
+    fn read_line(&mut self, alloc: A, version: Version, line: &str) -> Result<(), RecipeCause> {
+        let mut words = Words::new(version, line);
         let Some(command) = words.next() else {
             return Ok(());
         };
@@ -202,22 +181,66 @@ impl<A: Allocator + Copy> Recipe<A> {
             "body" => self.read_body(alloc, words),
             "data" => self.read_data(alloc, words),
             "name" => self.read_name(words),
-            _ => Err(RecipeCause::UnknownCommand),
+            _ => self.read_second(alloc, version, command, words),
         }
     }
 
-    /// Parses the lines of a recipe into sections without items.
+    /// Parses a line of a command that version 1 does not have.
     ///
     /// # Proved
     ///
     /// ```text
-    /// ensures { IsEmpty self.old → MatchResult result (λ _. ContainsLines (lines_of lines.now) self.new) (λ fault. Explains lines.now fault.line fault.cause) }
+    /// ensures { words.entry.version ≡ version
+    ///     → Follows (second_entry version command.now
+    ///         (counted_words version words.entry.rest.now)) self.old self.new result }
     /// ```
-    fn read_lines(&mut self, alloc: A, lines: &str) -> Result<(), RecipeFault> {
+    ///
+    /// Definitions: [`Follows`](crate::definitions::recipe::steps::Follows), [`second_entry`](crate::definitions::recipe::recipe::second_entry), [`counted_words`](crate::definitions::recipe::lines::counted_words). [How to read clauses](crate::definitions).
+    fn read_second(
+        &mut self,
+        alloc: A,
+        version: Version,
+        command: &str,
+        words: Words<'_>,
+    ) -> Result<(), RecipeCause> {
+        if version == Version::First {
+            return Err(RecipeCause::UnknownCommand);
+        }
+        match command {
+            "import" => self.read_import(words),
+            "table" => self.read_table(words),
+            "elem" => self.read_elem(alloc, words),
+            "locals" => self.read_locals(words),
+            _ => Err(RecipeCause::UnknownCommand),
+        }
+    }
+
+    /// Parses the lines of a recipe into sections without items. The line of the index `header`
+    /// adds nothing.
+    ///
+    /// # Proved
+    ///
+    /// ```text
+    /// ensures { IsEmpty self.old
+    ///     → MatchResult result (λ _. ContainsLines (version_with header)
+    ///         (lines_with header (lines_of lines.now)) self.new)
+    ///     (λ fault. Explains (version_with header)
+    ///         (lines_with header (lines_of lines.now)) fault.line fault.cause) }
+    /// ```
+    ///
+    /// Definitions: [`IsEmpty`](crate::definitions::recipe::steps::IsEmpty), [`ContainsLines`](crate::definitions::recipe::steps::ContainsLines), [`version_with`](crate::definitions::recipe::lines::version_with), [`lines_with`](crate::definitions::recipe::lines::lines_with), [`lines_of`](crate::definitions::recipe::lines::lines_of), [`Explains`](crate::definitions::recipe::steps::Explains). [How to read clauses](crate::definitions).
+    fn read_lines(
+        &mut self,
+        alloc: A,
+        header: Option<usize>,
+        lines: &str,
+    ) -> Result<(), RecipeFault> {
+        let version = Version::with_header(header);
         let mut number = 0;
         for line in lines.split('\n') {
+            let text = line_at(header, number, line);
             number += 1;
-            if let Err(cause) = self.read_line(alloc, without_return(line)) {
+            if let Err(cause) = self.read_line(alloc, version, text) {
                 return Err(RecipeFault {
                     line: number,
                     cause,
@@ -230,10 +253,15 @@ impl<A: Allocator + Copy> Recipe<A> {
     /// # Proved
     ///
     /// ```text
-    /// ensures { Follows (type_entry (words_of words.entry.rest.now)) self.old self.new result }
+    /// ensures { Follows (type_entry words.entry.version
+    ///         (counted_words words.entry.version words.entry.rest.now)) self.old self.new
+    ///     result }
     /// ```
+    ///
+    /// Definitions: [`Follows`](crate::definitions::recipe::steps::Follows), [`type_entry`](crate::definitions::recipe::recipe::type_entry), [`counted_words`](crate::definitions::recipe::lines::counted_words). [How to read clauses](crate::definitions).
     fn read_type(&mut self, alloc: A, mut words: Words<'_>) -> Result<(), RecipeCause> {
-        let word = words.next().ok_or(RecipeCause::MissingWord)?;
+        let word = words.needed()?;
+        words.end()?;
         let item = hex_bytes(alloc, word)?;
         self.types.add(&item)?;
         Ok(())
@@ -242,10 +270,15 @@ impl<A: Allocator + Copy> Recipe<A> {
     /// # Proved
     ///
     /// ```text
-    /// ensures { Follows (function_entry (words_of words.entry.rest.now)) self.old self.new result }
+    /// ensures { Follows (function_entry words.entry.version
+    ///         (counted_words words.entry.version words.entry.rest.now)) self.old self.new
+    ///     result }
     /// ```
+    ///
+    /// Definitions: [`Follows`](crate::definitions::recipe::steps::Follows), [`function_entry`](crate::definitions::recipe::recipe::function_entry), [`counted_words`](crate::definitions::recipe::lines::counted_words). [How to read clauses](crate::definitions).
     fn read_function(&mut self, mut words: Words<'_>) -> Result<(), RecipeCause> {
-        let word = words.next().ok_or(RecipeCause::MissingWord)?;
+        let word = words.needed()?;
+        words.end()?;
         let type_index = index(word)?;
         self.functions.function(type_index)?;
         Ok(())
@@ -254,28 +287,29 @@ impl<A: Allocator + Copy> Recipe<A> {
     /// # Proved
     ///
     /// ```text
-    /// ensures { Follows (memory_entry (words_of words.entry.rest.now)) self.old self.new result }
+    /// ensures { Follows (memory_entry words.entry.version
+    ///         (counted_words words.entry.version words.entry.rest.now)) self.old self.new
+    ///     result }
     /// ```
-    fn read_memory(&mut self, mut words: Words<'_>) -> Result<(), RecipeCause> {
-        let word = words.next().ok_or(RecipeCause::MissingWord)?;
-        let memory = MemoryType {
-            minimum: number(word)?,
-            maximum: None,
-            memory64: false,
-            shared: false,
-            page_size_log2: None,
-        };
-        self.memories.memory(memory)?;
+    ///
+    /// Definitions: [`Follows`](crate::definitions::recipe::steps::Follows), [`memory_entry`](crate::definitions::recipe::recipe::memory_entry), [`counted_words`](crate::definitions::recipe::lines::counted_words). [How to read clauses](crate::definitions).
+    fn read_memory(&mut self, words: Words<'_>) -> Result<(), RecipeCause> {
+        self.memories.memory(limits_in(words)?.memory())?;
         Ok(())
     }
 
     /// # Proved
     ///
     /// ```text
-    /// ensures { Follows (global_entry (words_of words.entry.rest.now)) self.old self.new result }
+    /// ensures { Follows (global_entry words.entry.version
+    ///         (counted_words words.entry.version words.entry.rest.now)) self.old self.new
+    ///     result }
     /// ```
+    ///
+    /// Definitions: [`Follows`](crate::definitions::recipe::steps::Follows), [`global_entry`](crate::definitions::recipe::recipe::global_entry), [`counted_words`](crate::definitions::recipe::lines::counted_words). [How to read clauses](crate::definitions).
     fn read_global(&mut self, alloc: A, mut words: Words<'_>) -> Result<(), RecipeCause> {
-        let word = words.next().ok_or(RecipeCause::MissingWord)?;
+        let word = words.needed()?;
+        words.end()?;
         let init = ConstExpr::i32_const(alloc, signed(word)?)?;
         let global_type = GlobalType {
             val_type: ValType::I32,
@@ -289,12 +323,17 @@ impl<A: Allocator + Copy> Recipe<A> {
     /// # Proved
     ///
     /// ```text
-    /// ensures { Follows (export_entry (words_of words.entry.rest.now)) self.old self.new result }
+    /// ensures { Follows (export_entry words.entry.version
+    ///         (counted_words words.entry.version words.entry.rest.now)) self.old self.new
+    ///     result }
     /// ```
+    ///
+    /// Definitions: [`Follows`](crate::definitions::recipe::steps::Follows), [`export_entry`](crate::definitions::recipe::recipe::export_entry), [`counted_words`](crate::definitions::recipe::lines::counted_words). [How to read clauses](crate::definitions).
     fn read_export(&mut self, mut words: Words<'_>) -> Result<(), RecipeCause> {
-        let name = words.next().ok_or(RecipeCause::MissingWord)?;
-        let kind = words.next().ok_or(RecipeCause::MissingWord)?;
-        let word = words.next().ok_or(RecipeCause::MissingWord)?;
+        let name = words.needed()?;
+        let kind = words.needed()?;
+        let word = words.needed()?;
+        words.end()?;
         let kind = export_kind(kind).ok_or(RecipeCause::UnknownCommand)?;
         let exported = index(word)?;
         self.exports.export(name, kind, exported)?;
@@ -306,35 +345,53 @@ impl<A: Allocator + Copy> Recipe<A> {
     /// # Proved
     ///
     /// ```text
-    /// ensures { Follows (start_entry (words_of words.entry.rest.now)) self.old self.new result }
+    /// ensures { Follows (start_entry words.entry.version
+    ///         (counted_words words.entry.version words.entry.rest.now)) self.old self.new
+    ///     result }
     /// ```
+    ///
+    /// Definitions: [`Follows`](crate::definitions::recipe::steps::Follows), [`start_entry`](crate::definitions::recipe::recipe::start_entry), [`counted_words`](crate::definitions::recipe::lines::counted_words). [How to read clauses](crate::definitions).
     fn read_start(&mut self, mut words: Words<'_>) -> Result<(), RecipeCause> {
-        let word = words.next().ok_or(RecipeCause::MissingWord)?;
+        let word = words.needed()?;
+        words.end()?;
         self.start = Some(index(word)?);
         Ok(())
     }
 
+    /// Parses the instructions of a function, which gets the locals since the last one.
+    ///
     /// # Proved
     ///
     /// ```text
-    /// ensures { Follows (body_entry (words_of words.entry.rest.now)) self.old self.new result }
+    /// ensures { Follows (body_entry words.entry.version
+    ///         (counted_words words.entry.version words.entry.rest.now)) self.old self.new
+    ///     result }
     /// ```
+    ///
+    /// Definitions: [`Follows`](crate::definitions::recipe::steps::Follows), [`body_entry`](crate::definitions::recipe::recipe::body_entry), [`counted_words`](crate::definitions::recipe::lines::counted_words). [How to read clauses](crate::definitions).
     fn read_body(&mut self, alloc: A, mut words: Words<'_>) -> Result<(), RecipeCause> {
-        let word = words.next().ok_or(RecipeCause::MissingWord)?;
+        let word = words.needed()?;
+        words.end()?;
         let instructions = hex_bytes(alloc, word)?;
-        let function = function_of(alloc, instructions)?;
-        self.code.function(&function)?;
+        let body = body_of(alloc, &self.locals, &instructions)?;
+        self.code.raw(&body)?;
+        self.locals = Pieces::new(alloc);
         Ok(())
     }
 
     /// # Proved
     ///
     /// ```text
-    /// ensures { Follows (data_entry (words_of words.entry.rest.now)) self.old self.new result }
+    /// ensures { Follows (data_entry words.entry.version
+    ///         (counted_words words.entry.version words.entry.rest.now)) self.old self.new
+    ///     result }
     /// ```
+    ///
+    /// Definitions: [`Follows`](crate::definitions::recipe::steps::Follows), [`data_entry`](crate::definitions::recipe::recipe::data_entry), [`counted_words`](crate::definitions::recipe::lines::counted_words). [How to read clauses](crate::definitions).
     fn read_data(&mut self, alloc: A, mut words: Words<'_>) -> Result<(), RecipeCause> {
-        let place = words.next().ok_or(RecipeCause::MissingWord)?;
-        let word = words.next().ok_or(RecipeCause::MissingWord)?;
+        let place = words.needed()?;
+        let word = words.needed()?;
+        words.end()?;
         let offset = ConstExpr::i32_const(alloc, signed(place)?)?;
         let bytes = hex_bytes(alloc, word)?;
         add_data(&mut self.segments, &offset, bytes)?;
@@ -346,8 +403,11 @@ impl<A: Allocator + Copy> Recipe<A> {
     /// # Proved
     ///
     /// ```text
-    /// ensures { Follows (name_entry (without_spaces words.entry.rest.now)) self.old self.new result }
+    /// ensures { Follows (name_entry (without_spaces words.entry.rest.now)) self.old self.new
+    ///     result }
     /// ```
+    ///
+    /// Definitions: [`Follows`](crate::definitions::recipe::steps::Follows), [`name_entry`](crate::definitions::recipe::recipe::name_entry), [`without_spaces`](crate::definitions::recipe::lines::without_spaces). [How to read clauses](crate::definitions).
     fn read_name(&mut self, words: Words<'_>) -> Result<(), RecipeCause> {
         let name = words.rest();
         if name.is_empty() {
@@ -357,31 +417,106 @@ impl<A: Allocator + Copy> Recipe<A> {
         Ok(())
     }
 
+    /// # Proved
+    ///
+    /// ```text
+    /// ensures { Follows (import_entry words.entry.version
+    ///         (counted_words words.entry.version words.entry.rest.now)) self.old self.new
+    ///     result }
+    /// ```
+    ///
+    /// Definitions: [`Follows`](crate::definitions::recipe::steps::Follows), [`import_entry`](crate::definitions::recipe::recipe::import_entry), [`counted_words`](crate::definitions::recipe::lines::counted_words). [How to read clauses](crate::definitions).
+    fn read_import(&mut self, mut words: Words<'_>) -> Result<(), RecipeCause> {
+        let from = words.needed()?;
+        let name = words.needed()?;
+        let kind = words.needed()?;
+        let ty = entity(kind, words)?;
+        self.imports.import(from, name, ty)?;
+        Ok(())
+    }
+
+    /// # Proved
+    ///
+    /// ```text
+    /// ensures { Follows (table_entry words.entry.version
+    ///         (counted_words words.entry.version words.entry.rest.now)) self.old self.new
+    ///     result }
+    /// ```
+    ///
+    /// Definitions: [`Follows`](crate::definitions::recipe::steps::Follows), [`table_entry`](crate::definitions::recipe::recipe::table_entry), [`counted_words`](crate::definitions::recipe::lines::counted_words). [How to read clauses](crate::definitions).
+    fn read_table(&mut self, words: Words<'_>) -> Result<(), RecipeCause> {
+        self.tables.table(limits_in(words)?.table())?;
+        Ok(())
+    }
+
+    /// Parses references to functions, at an offset of table 0.
+    ///
+    /// # Proved
+    ///
+    /// ```text
+    /// ensures { Follows (elem_entry (counted_words words.entry.version words.entry.rest.now))
+    ///     self.old self.new result }
+    /// ```
+    ///
+    /// Definitions: [`Follows`](crate::definitions::recipe::steps::Follows), [`elem_entry`](crate::definitions::recipe::recipe::elem_entry), [`counted_words`](crate::definitions::recipe::lines::counted_words). [How to read clauses](crate::definitions).
+    fn read_elem(&mut self, alloc: A, mut words: Words<'_>) -> Result<(), RecipeCause> {
+        let place = words.needed()?;
+        let first = words.needed()?;
+        let offset = ConstExpr::i32_const(alloc, signed(place)?)?;
+        let functions = indices(alloc, first, words)?;
+        let elements = Elements::Functions(CowSlice::Owned(functions));
+        self.elements.active(None, &offset, elements)?;
+        Ok(())
+    }
+
+    /// Parses a run of locals, which the next body gets.
+    ///
+    /// # Proved
+    ///
+    /// ```text
+    /// ensures { Follows (locals_entry words.entry.version
+    ///         (counted_words words.entry.version words.entry.rest.now)) self.old self.new
+    ///     result }
+    /// ```
+    ///
+    /// Definitions: [`Follows`](crate::definitions::recipe::steps::Follows), [`locals_entry`](crate::definitions::recipe::recipe::locals_entry), [`counted_words`](crate::definitions::recipe::lines::counted_words). [How to read clauses](crate::definitions).
+    fn read_locals(&mut self, mut words: Words<'_>) -> Result<(), RecipeCause> {
+        let count = words.needed()?;
+        let ty = words.needed()?;
+        words.end()?;
+        let run = (index(count)?, val_type(ty).ok_or(RecipeCause::UnknownType)?);
+        self.locals.add_encoded(&run)?;
+        Ok(())
+    }
+
     /// Appends the type section to the module: the number of types, and the types.
     ///
     /// # Proved
     ///
     /// ```text
-    /// ensures { Puts (section_of 1 self.now.types) (IsEncodableSection self.now.types) target.old target.new result }
+    /// ensures { Puts (section_of 1 self.now.types)
+    ///     (IsEncodableSection self.now.types) target.old target.new result }
     /// ```
+    ///
+    /// Definitions: [`Puts`](crate::definitions::recipe::steps::Puts), [`section_of`](crate::definitions::recipe::recipe::section_of), [`IsEncodableSection`](crate::definitions::base::pieces::IsEncodableSection). [How to read clauses](crate::definitions).
     fn put_types(&self, alloc: A, target: &mut Module<A>) -> Result<()> {
         if self.types.is_empty() {
             return Ok(());
         }
-        let mut content = Vec::new(alloc);
-        self.types.len().encode(&mut content)?;
-        content.extend_from_slice(self.types.bytes())?;
         target.section(&RawSection {
             id: SectionId::Types.into(),
-            bytes: &content,
+            bytes: &counted(alloc, &self.types)?,
         })
     }
 
     /// # Proved
     ///
     /// ```text
-    /// ensures { Puts (start_of (start_items self.now.start)) (All HasEncodableSize (start_items self.now.start)) target.old target.new result }
+    /// ensures { Puts (start_of (start_items self.now.start))
+    ///     (All HasEncodableSize (start_items self.now.start)) target.old target.new result }
     /// ```
+    ///
+    /// Definitions: [`Puts`](crate::definitions::recipe::steps::Puts), [`start_of`](crate::definitions::recipe::recipe::start_of), [`start_items`](crate::definitions::recipe::steps::start_items), [`HasEncodableSize`](crate::definitions::base::encodings::HasEncodableSize). [How to read clauses](crate::definitions).
     fn put_start(&self, target: &mut Module<A>) -> Result<()> {
         match self.start {
             Some(function_index) => target.section(&StartSection { function_index }),
@@ -392,8 +527,11 @@ impl<A: Allocator + Copy> Recipe<A> {
     /// # Proved
     ///
     /// ```text
-    /// ensures { Puts (section_of 10 self.now.code) (IsEncodableSection self.now.code) target.old target.new result }
+    /// ensures { Puts (section_of 10 self.now.code)
+    ///     (IsEncodableSection self.now.code) target.old target.new result }
     /// ```
+    ///
+    /// Definitions: [`Puts`](crate::definitions::recipe::steps::Puts), [`section_of`](crate::definitions::recipe::recipe::section_of), [`IsEncodableSection`](crate::definitions::base::pieces::IsEncodableSection). [How to read clauses](crate::definitions).
     fn put_code(&self, target: &mut Module<A>) -> Result<()> {
         if self.code.is_empty() {
             return Ok(());
@@ -404,8 +542,11 @@ impl<A: Allocator + Copy> Recipe<A> {
     /// # Proved
     ///
     /// ```text
-    /// ensures { Puts (names_of self.now.names) (AreEncodableNames self.now.names) target.old target.new result }
+    /// ensures { Puts (names_of self.now.names)
+    ///     (AreEncodableNames self.now.names) target.old target.new result }
     /// ```
+    ///
+    /// Definitions: [`Puts`](crate::definitions::recipe::steps::Puts), [`names_of`](crate::definitions::recipe::recipe::names_of), [`AreEncodableNames`](crate::definitions::recipe::recipe::AreEncodableNames). [How to read clauses](crate::definitions).
     fn put_names(&self, target: &mut Module<A>) -> Result<()> {
         match self.names.len() {
             0 => Ok(()),
@@ -418,15 +559,21 @@ impl<A: Allocator + Copy> Recipe<A> {
     /// # Proved
     ///
     /// ```text
-    /// ensures { Puts (listed self.now) (AreEncodableSections self.now) target.old target.new result }
+    /// ensures { Puts (listed self.now)
+    ///     (AreEncodableSections self.now) target.old target.new result }
     /// ```
+    ///
+    /// Definitions: [`Puts`](crate::definitions::recipe::steps::Puts), [`listed`](crate::definitions::recipe::steps::listed), [`AreEncodableSections`](crate::definitions::recipe::steps::AreEncodableSections). [How to read clauses](crate::definitions).
     fn put_sections(&self, alloc: A, target: &mut Module<A>) -> Result<()> {
         self.put_types(alloc, target)?;
+        put_counted(&self.imports, target)?;
         put_counted(&self.functions, target)?;
+        put_counted(&self.tables, target)?;
         put_counted(&self.memories, target)?;
         put_counted(&self.globals, target)?;
         put_counted(&self.exports, target)?;
         self.put_start(target)?;
+        put_counted(&self.elements, target)?;
         self.put_code(target)?;
         put_counted(&self.segments, target)?;
         self.put_names(target)
@@ -436,42 +583,53 @@ impl<A: Allocator + Copy> Recipe<A> {
     ///
     /// # Proved
     ///
+    /// After `Ok`: `ok`, `was_encodable`. In any case: `too_long`.
+    ///
     /// ```text
     /// ensures ok { IfOk result (λ bytes. bytes.items ≡ module_encoding (listed self.now)) }
     /// ensures was_encodable { OnOk result (AreEncodableSections self.now) }
     /// ensures too_long { AreEncodableSections self.now → result ≢ Err refusals.TooLong }
     /// ```
+    ///
+    /// Definitions: [`module_encoding`](crate::definitions::base::encodings::module_encoding), [`listed`](crate::definitions::recipe::steps::listed), [`AreEncodableSections`](crate::definitions::recipe::steps::AreEncodableSections). [How to read clauses](crate::definitions).
     fn finish(&self, alloc: A) -> Result<Vec<u8, A>> {
         let mut module = Module::new(alloc)?;
         self.put_sections(alloc, &mut module)?;
         Ok(module.finish())
     }
 
-    /// Returns the module of a recipe, whose lines are parsed into sections without items.
+    /// Returns the module of a recipe, whose lines are parsed into sections without items. The
+    /// line of the index `header` adds nothing.
     ///
     /// # Proved
     ///
     /// ```text
-    /// ensures { IsEmpty self.old → MatchResult result (λ bytes. IsModule (lines_of lines.now) self.new bytes.items) (λ fault. Explains lines.now fault.line fault.cause) }
+    /// ensures { IsEmpty self.old
+    ///     → MatchResult result (λ bytes. IsModule (version_with header)
+    ///         (lines_with header (lines_of lines.now)) self.new bytes.items)
+    ///     (λ fault. Explains (version_with header)
+    ///         (lines_with header (lines_of lines.now)) fault.line fault.cause) }
     /// ```
-    fn module_of(&mut self, alloc: A, lines: &str) -> Result<Vec<u8, A>, RecipeFault> {
-        self.read_lines(alloc, lines)?;
+    ///
+    /// Definitions: [`IsEmpty`](crate::definitions::recipe::steps::IsEmpty), [`IsModule`](crate::definitions::recipe::steps::IsModule), [`version_with`](crate::definitions::recipe::lines::version_with), [`lines_with`](crate::definitions::recipe::lines::lines_with), [`lines_of`](crate::definitions::recipe::lines::lines_of), [`Explains`](crate::definitions::recipe::steps::Explains). [How to read clauses](crate::definitions).
+    fn module_of(
+        &mut self,
+        alloc: A,
+        header: Option<usize>,
+        lines: &str,
+    ) -> Result<Vec<u8, A>, RecipeFault> {
+        self.read_lines(alloc, header, lines)?;
+        if !self.locals.is_empty() {
+            return Err(RecipeFault {
+                line: 0,
+                cause: RecipeCause::UnusedLocals,
+            });
+        }
         Ok(self.finish(alloc)?)
     }
 }
 
-/// Returns the line without a carriage return at its end.
-///
-/// # Proved
-///
-/// ```text
-/// ensures { result.now ≡ strip_carriage_return line.now }
-/// ```
-fn without_return(line: &str) -> &str {
-    line.strip_suffix('\r').unwrap_or(line)
-}
-
-/// Assembles the module of a recipe.
+/// Assembles the module of a recipe of version 1.
 ///
 /// Each line is a command and its words:
 ///
@@ -505,14 +663,89 @@ fn without_return(line: &str) -> &str {
 ///
 /// # Proved
 ///
+/// After `Ok`: `good`, `was_encodable`, `value`, `read`. After an error: `fault`.
+///
 /// ```text
-/// ensures good { OnOk result (All IsGood (lines_of lines.now)) }
-/// ensures was_encodable { OnOk result (IsEncodableRecipe (entries_of (lines_of lines.now))) }
-/// ensures value { IfOk result (λ bytes. bytes.items ≡ recipe_module (entries_of (lines_of lines.now))) }
-/// ensures read { IfOk result (λ bytes. DecodesWhole wasm_module bytes.items (sections_of (entries_of (lines_of lines.now)))) }
-/// ensures fault { IfErr result (λ fault. Explains lines.now fault.line fault.cause) }
+/// ensures good { OnOk result (All (IsGood First) (lines_of lines.now)) }
+/// ensures was_encodable { OnOk result
+///     (IsEncodableRecipe (entries_of First (lines_of lines.now))) }
+/// ensures value { IfOk result
+///     (λ bytes. bytes.items ≡ recipe_module (entries_of First (lines_of lines.now))) }
+/// ensures read { IfOk result
+///     (λ bytes. DecodesWhole wasm_module bytes.items
+///         (sections_of (entries_of First (lines_of lines.now)))) }
+/// ensures fault { IfErr result
+///     (λ fault. Explains First (lines_of lines.now) fault.line fault.cause) }
 /// ```
+///
+/// Definitions: [`IsGood`](crate::definitions::recipe::recipe::IsGood), [`lines_of`](crate::definitions::recipe::lines::lines_of), [`IsEncodableRecipe`](crate::definitions::recipe::recipe::IsEncodableRecipe), [`entries_of`](crate::definitions::recipe::recipe::entries_of), [`recipe_module`](crate::definitions::recipe::recipe::recipe_module), [`DecodesWhole`](crate::definitions::base::decoding::DecodesWhole), [`wasm_module`](crate::definitions::base::formats::wasm_module), [`sections_of`](crate::definitions::recipe::recipe::sections_of), [`Explains`](crate::definitions::recipe::steps::Explains). [How to read clauses](crate::definitions).
 pub fn assemble<A: Allocator + Copy>(alloc: A, lines: &str) -> Result<Vec<u8, A>, RecipeFault> {
     let mut recipe = Recipe::new(alloc);
-    recipe.module_of(alloc, lines)
+    recipe.module_of(alloc, None, lines)
+}
+
+/// Assembles the module of a recipe of version 1 or 2.
+///
+/// The recipe is of version 2 if the first line that has a word is `version 2`. A line of a comment
+/// alone has no word. A recipe of version 1 is that of [`assemble`]. In version 2, these commands
+/// are added:
+///
+/// - `memory MIN MAX` adds a memory of at least MIN and at most MAX pages.
+/// - `import MODULE NAME KIND ..` adds an import. After the kind `func` is the index of a type;
+///   after `table` and `memory` are a minimum and, if there is one, a maximum; after `global` is a
+///   type, and `mut` before it if the global is mutable.
+/// - `table MIN` and `table MIN MAX` add a table of function references.
+/// - `elem I N ..` adds references to functions at the offset I of table 0.
+/// - `locals N TYPE` gives the next `body` so many locals, after those of earlier such lines.
+///
+/// Types are `i32`, `i64`, `f32`, `f64`, `v128`, `funcref` and `externref`. A word that begins with
+/// `#` begins a comment, up to the end of the line, but not in the text of `name`. Words after
+/// those of the command are an error.
+///
+/// # Errors
+///
+/// Returns the first line with an error, and its cause; 0 is an error after the last line, also
+/// for `locals` without a body after them.
+///
+/// ```
+/// # use dolzhytik::fallible::recipe::*;
+/// # use dolzhytik::{fallible::*, reader::*};
+/// # fn example(alloc: Global) -> Result<(), Box<dyn std::error::Error>> {
+/// let module = assemble_versioned(alloc, "version 2\nlocals 1 i32\nbody 20000b # local.get 0")?;
+/// # Ok(())
+/// # }
+/// # example(Global).unwrap();
+/// ```
+///
+/// # Proved
+///
+/// After `Ok`: `good`, `used`, `was_encodable`, `value`, `read`. After an error: `fault`.
+///
+/// ```text
+/// ensures good { OnOk result
+///     (All (IsGood (version_of lines.now)) (versioned_lines lines.now)) }
+/// ensures used { OnOk result
+///     (left_locals [] (entries_of (version_of lines.now) (versioned_lines lines.now))
+///         ≡ []) }
+/// ensures was_encodable { OnOk result
+///     (IsEncodableRecipe (entries_of (version_of lines.now) (versioned_lines lines.now)))
+///     }
+/// ensures value { IfOk result
+///     (λ bytes. bytes.items ≡ recipe_module
+///         (entries_of (version_of lines.now) (versioned_lines lines.now))) }
+/// ensures read { IfOk result
+///     (λ bytes. DecodesWhole wasm_module bytes.items
+///         (sections_of (entries_of (version_of lines.now) (versioned_lines lines.now)))) }
+/// ensures fault { IfErr result
+///     (λ fault. Explains (version_of lines.now)
+///         (versioned_lines lines.now) fault.line fault.cause) }
+/// ```
+///
+/// Definitions: [`IsGood`](crate::definitions::recipe::recipe::IsGood), [`version_of`](crate::definitions::recipe::lines::version_of), [`versioned_lines`](crate::definitions::recipe::lines::versioned_lines), [`left_locals`](crate::definitions::recipe::recipe::left_locals), [`entries_of`](crate::definitions::recipe::recipe::entries_of), [`IsEncodableRecipe`](crate::definitions::recipe::recipe::IsEncodableRecipe), [`recipe_module`](crate::definitions::recipe::recipe::recipe_module), [`DecodesWhole`](crate::definitions::base::decoding::DecodesWhole), [`wasm_module`](crate::definitions::base::formats::wasm_module), [`sections_of`](crate::definitions::recipe::recipe::sections_of), [`Explains`](crate::definitions::recipe::steps::Explains). [How to read clauses](crate::definitions).
+pub fn assemble_versioned<A: Allocator + Copy>(
+    alloc: A,
+    lines: &str,
+) -> Result<Vec<u8, A>, RecipeFault> {
+    let mut recipe = Recipe::new(alloc);
+    recipe.module_of(alloc, header(lines), lines)
 }

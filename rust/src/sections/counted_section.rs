@@ -14,6 +14,8 @@ use crate::base::{Counted, Encode, EncodeOnce, Kind, Pieces, Result, Section};
 /// // The id of the section of these items.
 /// section_id: { ℕ }
 /// ```
+///
+/// [How to read clauses](crate::definitions).
 pub trait ItemKind: Kind {
     /// Returns the id of the section of these items.
     ///
@@ -22,6 +24,8 @@ pub trait ItemKind: Kind {
     /// ```text
     /// ensures { result ≡ section_id }
     /// ```
+    ///
+    /// [How to read clauses](crate::definitions).
     fn id() -> u8;
 }
 
@@ -48,6 +52,8 @@ impl<K, A: Allocator> CountedSection<K, A> {
     /// ```text
     /// ensures { result ≡ length self.now }
     /// ```
+    ///
+    /// [How to read clauses](crate::definitions).
     pub fn len(&self) -> u32 {
         self.pieces.len()
     }
@@ -59,6 +65,8 @@ impl<K, A: Allocator> CountedSection<K, A> {
     /// ```text
     /// ensures { IsTrue result ↔ (length self.now ≡ 0) }
     /// ```
+    ///
+    /// [How to read clauses](crate::definitions).
     pub fn is_empty(&self) -> bool {
         self.pieces.is_empty()
     }
@@ -70,6 +78,8 @@ impl<K, A: Allocator> CountedSection<K, A> {
     /// ```text
     /// ensures { option_copied result ≡ slice_get self.now index }
     /// ```
+    ///
+    /// [How to read clauses](crate::definitions).
     pub fn piece(&self, index: u32) -> Option<&[u8]> {
         self.pieces.get(index)
     }
@@ -81,6 +91,8 @@ impl<K, A: Allocator> CountedSection<K, A> {
     /// ```text
     /// ensures { Adds (T.encoding given.now) (T.encodable given.now) self.old self.new result }
     /// ```
+    ///
+    /// Definitions: [`Adds`](crate::definitions::base::calls::Adds). [How to read clauses](crate::definitions).
     pub(crate) fn add_record<T: Encode>(&mut self, given: &T) -> Result<()> {
         self.pieces.add_encoded(given)
     }
@@ -93,11 +105,15 @@ impl<K, A: Allocator> CountedSection<K, A> {
     /// requires { T.lawful item }
     /// ```
     ///
+    /// [How to read clauses](crate::definitions).
+    ///
     /// # Proved
     ///
     /// ```text
     /// ensures { AddsOnce (T.gives item) (T.encodable item) self.old self.new result }
     /// ```
+    ///
+    /// Definitions: [`AddsOnce`](crate::definitions::base::once::AddsOnce). [How to read clauses](crate::definitions).
     pub(crate) fn add_once<T: EncodeOnce>(&mut self, item: T) -> Result<()> {
         self.pieces.add_once(item)
     }
@@ -109,6 +125,8 @@ impl<K, A: Allocator> CountedSection<K, A> {
     /// ```text
     /// ensures { Adds piece.now ⊤ self.old self.new result }
     /// ```
+    ///
+    /// Definitions: [`Adds`](crate::definitions::base::calls::Adds). [How to read clauses](crate::definitions).
     pub(crate) fn add_piece(&mut self, piece: &[u8]) -> Result<()> {
         self.pieces.add(piece)
     }
@@ -122,6 +140,8 @@ impl<K, A: Allocator + Copy> CountedSection<K, A> {
     /// ```text
     /// ensures { result ≡ [] }
     /// ```
+    ///
+    /// [How to read clauses](crate::definitions).
     pub fn new(alloc: A) -> Self {
         CountedSection {
             pieces: Pieces::new(alloc),
@@ -133,10 +153,14 @@ impl<K, A: Allocator + Copy> CountedSection<K, A> {
     ///
     /// # Proved
     ///
+    /// After `Ok`: `same`. In any case: `memory`.
+    ///
     /// ```text
     /// ensures same { IfOk result (λ section. section ≡ self.now) }
     /// ensures memory { result ≢ Err TooLong }
     /// ```
+    ///
+    /// [How to read clauses](crate::definitions).
     pub fn clone(&self) -> Result<Self> {
         Ok(CountedSection {
             pieces: self.pieces.clone()?,
@@ -153,8 +177,12 @@ impl<K, A: Allocator + Copy> CountedSection<K, A> {
 /// encoding = { section_encoding }
 /// encodable = { IsEncodableSection }
 /// overlong = { IsOverlong }
-/// decoding = { λ section. DecodesBackBoth (counted_format K.kind.format) (ContainsItems K.kind section) (ContainsPadded K.kind.format section) (section_encoding section) }
+/// decoding = { λ section. DecodesBackBoth (counted_format K.kind.format)
+///     (ContainsItems K.kind section) (ContainsPadded K.kind.format section)
+///     (section_encoding section) }
 /// ```
+///
+/// Definitions: [`section_encoding`](crate::definitions::base::pieces::section_encoding), [`IsEncodableSection`](crate::definitions::base::pieces::IsEncodableSection), [`IsOverlong`](crate::definitions::base::pieces::IsOverlong), [`DecodesBackBoth`](crate::definitions::base::calls::DecodesBackBoth), [`counted_format`](crate::definitions::base::entries::counted_format), [`ContainsItems`](crate::definitions::base::entries::ContainsItems), [`ContainsPadded`](crate::definitions::base::entries::ContainsPadded). [How to read clauses](crate::definitions).
 impl<K: ItemKind, A: Allocator> Encode for CountedSection<K, A> {
     fn encode<B: Sink>(&self, sink: &mut B) -> Result<()> {
         K::laws();
@@ -173,6 +201,8 @@ impl<K: ItemKind, A: Allocator> Encode for CountedSection<K, A> {
 /// sized = { section_sized }
 /// decodes_back = { λ section promised. promised.plain }
 /// ```
+///
+/// Definitions: [`counted_format`](crate::definitions::base::entries::counted_format), [`ContainsItems`](crate::definitions::base::entries::ContainsItems), [`SectionPayload`](crate::definitions::base::pieces::SectionPayload), [`section_sized`](crate::definitions::base::pieces::section_sized). [How to read clauses](crate::definitions).
 impl<K: ItemKind, A: Allocator> Section for CountedSection<K, A> {
     fn id(&self) -> u8 {
         K::id()
@@ -187,6 +217,8 @@ impl<K: ItemKind, A: Allocator> Section for CountedSection<K, A> {
 /// item_encodable = { T.encodable }
 /// counted = { λ section. refl }
 /// ```
+///
+/// [How to read clauses](crate::definitions).
 impl<K: ItemKind, T: RecordOf<K>, A: Allocator> Counted<T> for CountedSection<K, A> {
     fn add(&mut self, item: &T) -> Result<()> {
         self.add_record(item)

@@ -53,10 +53,14 @@ impl<'a, A: Allocator> DataSegmentMode<'a, A> {
     ///
     /// # Proved
     ///
+    /// After `Ok`: `same`. In any case: `memory`.
+    ///
     /// ```text
     /// ensures same { IfOk result (λ mode. mode ≡ self.now) }
     /// ensures memory { result ≢ Err TooLong }
     /// ```
+    ///
+    /// [How to read clauses](crate::definitions).
     pub fn clone(&self) -> Result<Self> {
         Ok(match self {
             DataSegmentMode::Active {
@@ -76,11 +80,15 @@ impl<'a, D: Clone, A: Allocator> DataSegment<'a, D, A> {
     ///
     /// # Proved
     ///
+    /// After `Ok`: `mode`, `bytes`. In any case: `memory`.
+    ///
     /// ```text
     /// ensures mode { IfOk result (λ segment. segment.mode ≡ self.now.mode) }
     /// ensures bytes { IfOk result (λ segment. D.is_clone self.now.bytes segment.bytes) }
     /// ensures memory { result ≢ Err TooLong }
     /// ```
+    ///
+    /// [How to read clauses](crate::definitions).
     pub fn clone(&self) -> Result<Self> {
         Ok(DataSegment {
             mode: self.mode.clone()?,
@@ -96,6 +104,8 @@ impl<'a, D: Clone, A: Allocator> DataSegment<'a, D, A> {
 /// Item = { DataItem }
 /// kind = { data_items }
 /// ```
+///
+/// Definitions: [`GivenData`](crate::definitions::sections::data_segments::GivenData), [`DataItem`](crate::definitions::sections::data_segments::DataItem), [`data_items`](crate::definitions::sections::data_segments::data_items). [How to read clauses](crate::definitions).
 impl Kind for DataItems {
     fn laws() {}
 }
@@ -105,6 +115,8 @@ impl Kind for DataItems {
 /// ```text
 /// section_id = { number_of ids.Data }
 /// ```
+///
+/// Definitions: [`number_of`](crate::definitions::base::section_id::number_of). [How to read clauses](crate::definitions).
 impl ItemKind for DataItems {
     fn id() -> u8 {
         SectionId::Data.into()
@@ -120,14 +132,20 @@ impl<A: Allocator> DataSection<A> {
     /// # Asks
     ///
     /// ```text
-    /// requires { HasKnownLength D.into_iter_gives D.IntoIter.can_next D.IntoIter.next_gives D.IntoIter.remaining segment.bytes }
+    /// requires { HasKnownLength D.into_iter_gives D.IntoIter.can_next D.IntoIter.next_gives
+    ///     D.IntoIter.remaining segment.bytes }
     /// ```
+    ///
+    /// Definitions: [`HasKnownLength`](crate::definitions::base::iterators::HasKnownLength). [How to read clauses](crate::definitions).
     ///
     /// # Proved
     ///
     /// ```text
-    /// ensures { AddsBytes D.into_iter_gives D.IntoIter.next_gives D.IntoIter.remaining segment.entry.bytes (segment_encoding segment.entry.mode) self.old self.new result }
+    /// ensures { AddsBytes D.into_iter_gives D.IntoIter.next_gives D.IntoIter.remaining
+    ///     segment.entry.bytes (segment_encoding segment.entry.mode) self.old self.new result }
     /// ```
+    ///
+    /// Definitions: [`AddsBytes`](crate::definitions::sections::data_segments::AddsBytes), [`segment_encoding`](crate::definitions::sections::data_segments::segment_encoding). [How to read clauses](crate::definitions).
     pub fn segment<D: IntoIterator<Item = u8>, B: Allocator>(
         &mut self,
         segment: DataSegment<'_, D, B>,
@@ -151,14 +169,20 @@ impl<A: Allocator> DataSection<A> {
     /// # Asks
     ///
     /// ```text
-    /// requires { HasKnownLength D.into_iter_gives D.IntoIter.can_next D.IntoIter.next_gives D.IntoIter.remaining bytes }
+    /// requires { HasKnownLength D.into_iter_gives D.IntoIter.can_next D.IntoIter.next_gives
+    ///     D.IntoIter.remaining bytes }
     /// ```
+    ///
+    /// Definitions: [`HasKnownLength`](crate::definitions::base::iterators::HasKnownLength). [How to read clauses](crate::definitions).
     ///
     /// # Proved
     ///
     /// ```text
-    /// ensures { AddsBytes D.into_iter_gives D.IntoIter.next_gives D.IntoIter.remaining bytes (active_encoding memory_index offset.now) self.old self.new result }
+    /// ensures { AddsBytes D.into_iter_gives D.IntoIter.next_gives D.IntoIter.remaining bytes
+    ///     (active_encoding memory_index offset.now) self.old self.new result }
     /// ```
+    ///
+    /// Definitions: [`AddsBytes`](crate::definitions::sections::data_segments::AddsBytes), [`active_encoding`](crate::definitions::sections::data_segments::active_encoding). [How to read clauses](crate::definitions).
     pub fn active<D: IntoIterator<Item = u8>, B: Allocator>(
         &mut self,
         memory_index: u32,
@@ -181,14 +205,20 @@ impl<A: Allocator> DataSection<A> {
     /// # Asks
     ///
     /// ```text
-    /// requires { HasKnownLength D.into_iter_gives D.IntoIter.can_next D.IntoIter.next_gives D.IntoIter.remaining bytes }
+    /// requires { HasKnownLength D.into_iter_gives D.IntoIter.can_next D.IntoIter.next_gives
+    ///     D.IntoIter.remaining bytes }
     /// ```
+    ///
+    /// Definitions: [`HasKnownLength`](crate::definitions::base::iterators::HasKnownLength). [How to read clauses](crate::definitions).
     ///
     /// # Proved
     ///
     /// ```text
-    /// ensures { AddsBytes D.into_iter_gives D.IntoIter.next_gives D.IntoIter.remaining bytes passive_encoding self.old self.new result }
+    /// ensures { AddsBytes D.into_iter_gives D.IntoIter.next_gives D.IntoIter.remaining bytes
+    ///     passive_encoding self.old self.new result }
     /// ```
+    ///
+    /// Definitions: [`AddsBytes`](crate::definitions::sections::data_segments::AddsBytes), [`passive_encoding`](crate::definitions::sections::data_segments::passive_encoding). [How to read clauses](crate::definitions).
     pub fn passive<D: IntoIterator<Item = u8>>(&mut self, bytes: D) -> Result<()>
     where
         D::IntoIter: ExactSizeIterator,
@@ -203,6 +233,8 @@ impl<A: Allocator> DataSection<A> {
     /// ```text
     /// ensures { Adds segment.now ⊤ self.old self.new result }
     /// ```
+    ///
+    /// Definitions: [`Adds`](crate::definitions::base::calls::Adds). [How to read clauses](crate::definitions).
     pub fn raw(&mut self, segment: &[u8]) -> Result<()> {
         self.add_piece(segment)
     }
@@ -212,15 +244,21 @@ impl<A: Allocator> DataSection<A> {
     /// # Asks
     ///
     /// ```text
-    /// requires length { HasKnownLength D.into_iter_gives D.IntoIter.can_next D.IntoIter.next_gives D.IntoIter.remaining bytes }
+    /// requires length { HasKnownLength D.into_iter_gives D.IntoIter.can_next
+    ///     D.IntoIter.next_gives D.IntoIter.remaining bytes }
     /// requires encodable { S.encodable front }
     /// ```
+    ///
+    /// Definitions: [`HasKnownLength`](crate::definitions::base::iterators::HasKnownLength). [How to read clauses](crate::definitions).
     ///
     /// # Proved
     ///
     /// ```text
-    /// ensures { AddsBytes D.into_iter_gives D.IntoIter.next_gives D.IntoIter.remaining bytes (λ b. S.encoding front ++ size_prefixed_encoding b) self.old self.new result }
+    /// ensures { AddsBytes D.into_iter_gives D.IntoIter.next_gives D.IntoIter.remaining bytes
+    ///     (λ b. S.encoding front ++ size_prefixed_encoding b) self.old self.new result }
     /// ```
+    ///
+    /// Definitions: [`AddsBytes`](crate::definitions::sections::data_segments::AddsBytes), [`size_prefixed_encoding`](crate::definitions::base::encodings::size_prefixed_encoding). [How to read clauses](crate::definitions).
     fn add_bytes<S: Encode, D: IntoIterator<Item = u8>>(
         &mut self,
         front: S,
@@ -252,12 +290,16 @@ struct Bytes<'a>(&'a [u8]);
 /// format = { vec byte }
 /// view = { λ b. b.0.now }
 /// ```
+///
+/// Definitions: [`vec`](crate::definitions::base::formats::vec), [`byte`](crate::definitions::base::formats::byte). [How to read clauses](crate::definitions).
 impl<'a> Layout for Bytes<'a> {
     /// # Proved
     ///
     /// ```text
     /// ensures { Unambiguous (vec byte) }
     /// ```
+    ///
+    /// Definitions: [`Unambiguous`](crate::definitions::base::decoding::Unambiguous), [`vec`](crate::definitions::base::formats::vec), [`byte`](crate::definitions::base::formats::byte). [How to read clauses](crate::definitions).
     fn laws() {}
 }
 
@@ -291,13 +333,32 @@ pub enum Segment<'a, A: Allocator = Global> {
 /// format = { data_item }
 /// view = { segment_view }
 /// ```
+///
+/// Definitions: [`DataItem`](crate::definitions::sections::data_segments::DataItem), [`data_item`](crate::definitions::sections::data_segments::data_item), [`segment_view`](crate::definitions::sections::data_segments::segment_view). [How to read clauses](crate::definitions).
 impl<'a, A: Allocator> Layout for Segment<'a, A> {
     /// # Proved
     ///
     /// ```text
     /// ensures { Unambiguous data_item }
     /// ```
+    ///
+    /// Definitions: [`Unambiguous`](crate::definitions::base::decoding::Unambiguous), [`data_item`](crate::definitions::sections::data_segments::data_item). [How to read clauses](crate::definitions).
     fn laws() {}
+}
+
+/// Returns `true` if the memory may be explicit, after flag 2: memory 0 in the standard's grammar
+/// alone.
+///
+/// # Proved
+///
+/// ```text
+/// ensures { Decides result (HasIndex G.grammar memory) }
+/// ```
+///
+/// Definitions: [`HasIndex`](crate::definitions::immediates::immediate_formats::HasIndex). [How to read clauses](crate::definitions).
+#[inline]
+fn has_index<G: Grammar>(memory: u32) -> bool {
+    memory != 0 || G::is_standard()
 }
 
 impl<'a, A: Allocator + Copy, G: Grammar> Readable<'a, A, G> for Segment<'a, A> {
@@ -326,7 +387,7 @@ impl<'a, A: Allocator + Copy, G: Grammar> Readable<'a, A, G> for Segment<'a, A> 
             }
             2 => {
                 let (memory, rest) = <u32 as Readable<'a, A, G>>::read(rest, alloc)?;
-                if memory == 0 {
+                if !has_index::<G>(memory) {
                     return Err(ReadFault::UnknownTag.just_before(rest));
                 }
                 let ((offset, Bytes(bytes)), rest) = <(Expression<A>, Bytes<'a>) as Readable<
@@ -357,10 +418,17 @@ impl<'a, A: Allocator + Copy, G: Grammar> Readable<'a, A, G> for Segment<'a, A> 
 ///
 /// # Proved
 ///
+/// After `Ok`: `found`. After an error: `none`.
+///
 /// ```text
-/// ensures found { IfOk result (λ x. vec data_item (padded_of G.grammar) bytes.now (map segment_view x.items)) }
-/// ensures none { IfErr result (λ e. e.cause ≢ Memory → RejectsWhole (vec data_item) (padded_of G.grammar) bytes.now) }
+/// ensures found { IfOk result
+///     (λ x. vec data_item (padded_of G.grammar) bytes.now (map segment_view x.items)) }
+/// ensures none { IfErr result
+///     (λ e. e.cause ≢ Memory → RejectsWhole (vec data_item)
+///         (padded_of G.grammar) bytes.now) }
 /// ```
+///
+/// Definitions: [`vec`](crate::definitions::base::formats::vec), [`data_item`](crate::definitions::sections::data_segments::data_item), [`padded_of`](crate::definitions::base::numbers::padded_of), [`segment_view`](crate::definitions::sections::data_segments::segment_view), [`RejectsWhole`](crate::definitions::base::continuing::RejectsWhole). [How to read clauses](crate::definitions).
 pub fn read_segments<'a, A: Allocator + Copy + 'a, G: Grammar>(
     bytes: &'a [u8],
     alloc: A,
@@ -372,11 +440,18 @@ pub fn read_segments<'a, A: Allocator + Copy + 'a, G: Grammar>(
 ///
 /// # Proved
 ///
+/// After `Ok`: `ok`. In any case: `front`, `too_long`.
+///
 /// ```text
-/// ensures ok { OnOk result (AppendsMinimal (pair expression (vec byte)) (instructions_view offset.now, bytes.now) sink.old.items sink.new.items) }
+/// ensures ok { OnOk result
+///     (AppendsMinimal (pair expression (vec byte))
+///         (instructions_view offset.now, bytes.now) sink.old.items sink.new.items) }
 /// ensures front { IsFrontOf sink.old.items sink.new.items }
-/// ensures too_long { HasEncoding (pair expression (vec byte)) (instructions_view offset.now, bytes.now) → result ≢ Err TooLong }
+/// ensures too_long { HasEncoding (pair expression (vec byte))
+///     (instructions_view offset.now, bytes.now) → result ≢ Err TooLong }
 /// ```
+///
+/// Definitions: [`AppendsMinimal`](crate::definitions::base::minimal::AppendsMinimal), [`pair`](crate::definitions::base::formats::pair), [`expression`](crate::definitions::code::expressions::expression), [`vec`](crate::definitions::base::formats::vec), [`byte`](crate::definitions::base::formats::byte), [`instructions_view`](crate::definitions::sections::constants::instructions_view), [`IsFrontOf`](crate::definitions::base::minimal::IsFrontOf), [`HasEncoding`](crate::definitions::base::minimal::HasEncoding). [How to read clauses](crate::definitions).
 fn append_placed<A: Allocator, B: Sink>(
     offset: &Expression<A>,
     bytes: &[u8],
@@ -390,11 +465,19 @@ fn append_placed<A: Allocator, B: Sink>(
 ///
 /// # Proved
 ///
+/// After `Ok`: `ok`. In any case: `front`, `too_long`.
+///
 /// ```text
-/// ensures ok { OnOk result (AppendsMinimal data_item (active memory (instructions_view offset.now) bytes.now) sink.old.items sink.new.items) }
+/// ensures ok { OnOk result
+///     (AppendsMinimal data_item
+///         (active memory (instructions_view offset.now) bytes.now) sink.old.items
+///         sink.new.items) }
 /// ensures front { IsFrontOf sink.old.items sink.new.items }
-/// ensures too_long { HasEncoding data_item (active memory (instructions_view offset.now) bytes.now) → result ≢ Err TooLong }
+/// ensures too_long { HasEncoding data_item
+///     (active memory (instructions_view offset.now) bytes.now) → result ≢ Err TooLong }
 /// ```
+///
+/// Definitions: [`AppendsMinimal`](crate::definitions::base::minimal::AppendsMinimal), [`data_item`](crate::definitions::sections::data_segments::data_item), [`active`](crate::definitions::sections::data_segments::DataItem), [`instructions_view`](crate::definitions::sections::constants::instructions_view), [`IsFrontOf`](crate::definitions::base::minimal::IsFrontOf), [`HasEncoding`](crate::definitions::base::minimal::HasEncoding). [How to read clauses](crate::definitions).
 fn append_active<A: Allocator, B: Sink>(
     memory: u32,
     offset: &Expression<A>,
@@ -441,7 +524,7 @@ impl<'a, A: Allocator + Copy, G: Grammar> Skip<'a, A, G> for Segment<'a, A> {
             }
             2 => {
                 let (memory, rest) = <u32 as Readable<'a, A, G>>::read(rest, alloc)?;
-                if memory == 0 {
+                if !has_index::<G>(memory) {
                     return Err(ReadFault::UnknownTag.just_before(rest));
                 }
                 let rest = <(Expression<A>, Dropped<Bytes<'a>>) as Skip<'a, A, G>>::skip(

@@ -65,10 +65,14 @@ pub struct ElementSegment<'a, A: Allocator = Global> {
 ///
 /// # Proved
 ///
+/// After `Ok`: `same`. In any case: `memory`.
+///
 /// ```text
 /// ensures same { IfOk result (λ v. v.items ≡ expressions.now) }
 /// ensures memory { result ≢ Err TooLong }
 /// ```
+///
+/// [How to read clauses](crate::definitions).
 fn clone_each<A: Allocator + Copy>(
     alloc: A,
     expressions: &[ConstExpr<A>],
@@ -86,10 +90,14 @@ impl<'a, A: Allocator + Copy> Elements<'a, A> {
     ///
     /// # Proved
     ///
+    /// After `Ok`: `same`. In any case: `memory`.
+    ///
     /// ```text
     /// ensures same { IfOk result (λ elements. list_in elements ≡ list_in self.now) }
     /// ensures memory { result ≢ Err TooLong }
     /// ```
+    ///
+    /// Definitions: [`list_in`](crate::definitions::sections::given_elements::list_in). [How to read clauses](crate::definitions).
     pub fn clone(&self) -> Result<Self> {
         match self {
             Elements::Functions(functions) => Ok(Elements::Functions(functions.clone()?)),
@@ -110,10 +118,14 @@ impl<'a, A: Allocator> ElementMode<'a, A> {
     ///
     /// # Proved
     ///
+    /// After `Ok`: `same`. In any case: `memory`.
+    ///
     /// ```text
     /// ensures same { IfOk result (λ mode. mode ≡ self.now) }
     /// ensures memory { result ≢ Err TooLong }
     /// ```
+    ///
+    /// [How to read clauses](crate::definitions).
     pub fn clone(&self) -> Result<Self> {
         Ok(match self {
             ElementMode::Passive => ElementMode::Passive,
@@ -131,10 +143,14 @@ impl<'a, A: Allocator + Copy> ElementSegment<'a, A> {
     ///
     /// # Proved
     ///
+    /// After `Ok`: `same`. In any case: `memory`.
+    ///
     /// ```text
     /// ensures same { IfOk result (λ segment. segment_in segment ≡ segment_in self.now) }
     /// ensures memory { result ≢ Err TooLong }
     /// ```
+    ///
+    /// Definitions: [`segment_in`](crate::definitions::sections::given_elements::segment_in). [How to read clauses](crate::definitions).
     pub fn clone(&self) -> Result<Self> {
         Ok(ElementSegment {
             mode: self.mode.clone()?,
@@ -150,6 +166,8 @@ impl<'a, A: Allocator + Copy> ElementSegment<'a, A> {
 /// ```text
 /// ensures { result ≡ is_funcref ty }
 /// ```
+///
+/// Definitions: [`is_funcref`](crate::definitions::sections::elements::is_funcref). [How to read clauses](crate::definitions).
 fn has_short_form(ty: RefType) -> bool {
     match ty.heap_type {
         HeapType::Abstract {
@@ -167,6 +185,8 @@ fn has_short_form(ty: RefType) -> bool {
 /// ```text
 /// ensures { result ≡ settled_table needed table }
 /// ```
+///
+/// Definitions: [`settled_table`](crate::definitions::sections::elements::settled_table). [How to read clauses](crate::definitions).
 fn named_table(table: Option<u32>, needed: bool) -> Option<u32> {
     match table {
         Some(table) => Some(table),
@@ -183,6 +203,8 @@ impl<A: Allocator> Elements<'_, A> {
     /// ```text
     /// ensures { result ≡ needs_table (list_in self.now) }
     /// ```
+    ///
+    /// Definitions: [`needs_table`](crate::definitions::sections::elements::needs_table), [`list_in`](crate::definitions::sections::given_elements::list_in). [How to read clauses](crate::definitions).
     fn needs_table(&self) -> bool {
         match self {
             Elements::Functions(_) => false,
@@ -198,6 +220,8 @@ impl<A: Allocator> Elements<'_, A> {
     /// ensures is { result ≡ where_set (are_expressions (list_in self.now)) 4 }
     /// ensures small { result ≤ 4 }
     /// ```
+    ///
+    /// Definitions: [`where_set`](crate::definitions::immediates::immediates::where_set), [`are_expressions`](crate::definitions::sections::elements::are_expressions), [`list_in`](crate::definitions::sections::given_elements::list_in). [How to read clauses](crate::definitions).
     fn flag(&self) -> u8 {
         match self {
             Elements::Functions(_) => 0,
@@ -229,9 +253,12 @@ struct TypedElements<'a, 'b, A: Allocator> {
 /// # Defined
 ///
 /// ```text
-/// encoding = { λ t. elements_encoding expression_encoding t.explicit (list_in t.elements.now) }
+/// encoding = { λ t. elements_encoding expression_encoding t.explicit
+///     (list_in t.elements.now) }
 /// encodable = { λ t. AreEncodableElements (list_in t.elements.now) }
 /// ```
+///
+/// Definitions: [`elements_encoding`](crate::definitions::sections::elements::elements_encoding), [`expression_encoding`](crate::definitions::code::expressions::expression_encoding), [`list_in`](crate::definitions::sections::given_elements::list_in), [`AreEncodableElements`](crate::definitions::sections::elements::AreEncodableElements). [How to read clauses](crate::definitions).
 impl<A: Allocator> Encode for TypedElements<'_, '_, A> {
     fn encode<B: Sink>(&self, sink: &mut B) -> Result<()> {
         match (self.elements, self.explicit) {
@@ -255,6 +282,8 @@ impl<A: Allocator> Encode for TypedElements<'_, '_, A> {
 /// encoding = { given_encoding }
 /// encodable = { λ s. AreEncodableElements (list_in s.elements) }
 /// ```
+///
+/// Definitions: [`given_encoding`](crate::definitions::sections::given_elements::given_encoding), [`AreEncodableElements`](crate::definitions::sections::elements::AreEncodableElements), [`list_in`](crate::definitions::sections::given_elements::list_in). [How to read clauses](crate::definitions).
 impl<A: Allocator> Encode for ElementSegment<'_, A> {
     fn encode<B: Sink>(&self, sink: &mut B) -> Result<()> {
         let flag = self.elements.flag();
@@ -288,6 +317,8 @@ impl<A: Allocator> Encode for ElementSegment<'_, A> {
 /// Item = { ElementItem (List Plain) }
 /// kind = { element_items }
 /// ```
+///
+/// Definitions: [`ElementItem`](crate::definitions::sections::elements::ElementItem), [`Stored`](crate::definitions::sections::constants::Stored), [`Plain`](crate::definitions::insn::plain::Plain), [`element_items`](crate::definitions::sections::elements::element_items). [How to read clauses](crate::definitions).
 impl Kind for ElementItems {
     fn laws() {}
 }
@@ -297,6 +328,8 @@ impl Kind for ElementItems {
 /// ```text
 /// section_id = { number_of ids.Element }
 /// ```
+///
+/// Definitions: [`number_of`](crate::definitions::base::section_id::number_of). [How to read clauses](crate::definitions).
 impl ItemKind for ElementItems {
     fn id() -> u8 {
         SectionId::Element.into()
@@ -310,8 +343,11 @@ impl<A: Allocator> ElementSection<A> {
     /// # Proved
     ///
     /// ```text
-    /// ensures { Adds (given_encoding segment.entry) (AreEncodableElements (list_in segment.entry.elements)) self.old self.new result }
+    /// ensures { Adds (given_encoding segment.entry)
+    ///     (AreEncodableElements (list_in segment.entry.elements)) self.old self.new result }
     /// ```
+    ///
+    /// Definitions: [`Adds`](crate::definitions::base::calls::Adds), [`given_encoding`](crate::definitions::sections::given_elements::given_encoding), [`AreEncodableElements`](crate::definitions::sections::elements::AreEncodableElements), [`list_in`](crate::definitions::sections::given_elements::list_in). [How to read clauses](crate::definitions).
     pub fn segment<B: Allocator>(&mut self, segment: ElementSegment<'_, B>) -> Result<()> {
         self.add_record(&segment)
     }
@@ -321,8 +357,12 @@ impl<A: Allocator> ElementSection<A> {
     /// # Proved
     ///
     /// ```text
-    /// ensures { Adds (given_encoding (record { mode = modes.Active table offset.entry; elements = elements.entry })) (AreEncodableElements (list_in elements.entry)) self.old self.new result }
+    /// ensures { Adds (given_encoding
+    ///         (record { mode = modes.Active table offset.entry; elements = elements.entry }))
+    ///     (AreEncodableElements (list_in elements.entry)) self.old self.new result }
     /// ```
+    ///
+    /// Definitions: [`Adds`](crate::definitions::base::calls::Adds), [`given_encoding`](crate::definitions::sections::given_elements::given_encoding), [`AreEncodableElements`](crate::definitions::sections::elements::AreEncodableElements), [`list_in`](crate::definitions::sections::given_elements::list_in). [How to read clauses](crate::definitions).
     pub fn active<'a, B: Allocator>(
         &mut self,
         table: Option<u32>,
@@ -340,8 +380,12 @@ impl<A: Allocator> ElementSection<A> {
     /// # Proved
     ///
     /// ```text
-    /// ensures { Adds (given_encoding (record { mode = modes.Passive; elements = elements.entry })) (AreEncodableElements (list_in elements.entry)) self.old self.new result }
+    /// ensures { Adds (given_encoding
+    ///         (record { mode = modes.Passive; elements = elements.entry }))
+    ///     (AreEncodableElements (list_in elements.entry)) self.old self.new result }
     /// ```
+    ///
+    /// Definitions: [`Adds`](crate::definitions::base::calls::Adds), [`given_encoding`](crate::definitions::sections::given_elements::given_encoding), [`AreEncodableElements`](crate::definitions::sections::elements::AreEncodableElements), [`list_in`](crate::definitions::sections::given_elements::list_in). [How to read clauses](crate::definitions).
     pub fn passive<B: Allocator>(&mut self, elements: Elements<'_, B>) -> Result<()> {
         self.segment(ElementSegment {
             mode: ElementMode::Passive,
@@ -354,8 +398,12 @@ impl<A: Allocator> ElementSection<A> {
     /// # Proved
     ///
     /// ```text
-    /// ensures { Adds (given_encoding (record { mode = modes.Declared; elements = elements.entry })) (AreEncodableElements (list_in elements.entry)) self.old self.new result }
+    /// ensures { Adds (given_encoding
+    ///         (record { mode = modes.Declared; elements = elements.entry }))
+    ///     (AreEncodableElements (list_in elements.entry)) self.old self.new result }
     /// ```
+    ///
+    /// Definitions: [`Adds`](crate::definitions::base::calls::Adds), [`given_encoding`](crate::definitions::sections::given_elements::given_encoding), [`AreEncodableElements`](crate::definitions::sections::elements::AreEncodableElements), [`list_in`](crate::definitions::sections::given_elements::list_in). [How to read clauses](crate::definitions).
     pub fn declared<B: Allocator>(&mut self, elements: Elements<'_, B>) -> Result<()> {
         self.segment(ElementSegment {
             mode: ElementMode::Declared,
@@ -370,6 +418,8 @@ impl<A: Allocator> ElementSection<A> {
     /// ```text
     /// ensures { Adds segment.now ⊤ self.old self.new result }
     /// ```
+    ///
+    /// Definitions: [`Adds`](crate::definitions::base::calls::Adds). [How to read clauses](crate::definitions).
     pub fn raw(&mut self, segment: &[u8]) -> Result<()> {
         self.add_piece(segment)
     }

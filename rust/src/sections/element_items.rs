@@ -22,6 +22,8 @@ impl ElementFlag {
     /// ```text
     /// ensures { result ≡ flag_code (element_flag_view self) }
     /// ```
+    ///
+    /// Definitions: [`flag_code`](crate::definitions::sections::elements::flag_code), [`element_flag_view`](crate::definitions::sections::elements::element_flag_view). [How to read clauses](crate::definitions).
     fn code(self) -> u32 {
         let not_active = if self.not_active { 1 } else { 0 };
         let second = if self.second { 2 } else { 0 };
@@ -36,6 +38,8 @@ impl ElementFlag {
     /// ```text
     /// ensures { result ≡ has_kind (element_flag_view self) }
     /// ```
+    ///
+    /// Definitions: [`has_kind`](crate::definitions::sections::elements::has_kind), [`element_flag_view`](crate::definitions::sections::elements::element_flag_view). [How to read clauses](crate::definitions).
     fn has_kind(self) -> bool {
         self.not_active || self.second
     }
@@ -48,6 +52,8 @@ impl ElementFlag {
 /// format = { numbered flag_code }
 /// view = { element_flag_view }
 /// ```
+///
+/// Definitions: [`FlagModel`](crate::definitions::sections::elements::ElementFlag), [`numbered`](crate::definitions::base::formats::numbered), [`flag_code`](crate::definitions::sections::elements::flag_code), [`element_flag_view`](crate::definitions::sections::elements::element_flag_view). [How to read clauses](crate::definitions).
 impl Layout for ElementFlag {
     fn laws() {}
 }
@@ -103,10 +109,18 @@ pub struct ElementItem<A: Allocator = Global> {
 ///
 /// # Proved
 ///
+/// After `Ok`: `found`. After an error: `none`.
+///
 /// ```text
-/// ensures found { IfOk result (λ x. Decodes (segment_mode (element_flag_view flag)) (padded_of G.grammar) bytes.now (segment_mode_view x.0) x.1.now) }
-/// ensures none { IfErr result (λ e. e.cause ≢ Memory → Rejects (segment_mode (element_flag_view flag)) (padded_of G.grammar) bytes.now) }
+/// ensures found { IfOk result
+///     (λ x. Decodes (segment_mode (element_flag_view flag))
+///         (padded_of G.grammar) bytes.now (segment_mode_view x.0) x.1.now) }
+/// ensures none { IfErr result
+///     (λ e. e.cause ≢ Memory → Rejects (segment_mode (element_flag_view flag))
+///         (padded_of G.grammar) bytes.now) }
 /// ```
+///
+/// Definitions: [`Decodes`](crate::definitions::base::decoding::Decodes), [`segment_mode`](crate::definitions::sections::elements::segment_mode), [`element_flag_view`](crate::definitions::sections::elements::element_flag_view), [`padded_of`](crate::definitions::base::numbers::padded_of), [`segment_mode_view`](crate::definitions::sections::elements::segment_mode_view), [`Rejects`](crate::definitions::base::decoding::Rejects). [How to read clauses](crate::definitions).
 fn read_mode<'a, A: Allocator + Copy, G: Grammar>(
     flag: ElementFlag,
     bytes: &'a [u8],
@@ -134,10 +148,18 @@ fn read_mode<'a, A: Allocator + Copy, G: Grammar>(
 ///
 /// # Proved
 ///
+/// After `Ok`: `found`. After an error: `none`.
+///
 /// ```text
-/// ensures found { IfOk result (λ x. Decodes (elements_as explicit false) (padded_of G.grammar) bytes.now (list_view x.0) x.1.now) }
-/// ensures none { IfErr result (λ e. e.cause ≢ Memory → Rejects (elements_as explicit false) (padded_of G.grammar) bytes.now) }
+/// ensures found { IfOk result
+///     (λ x. Decodes (elements_as explicit false) (padded_of G.grammar) bytes.now
+///         (list_view x.0) x.1.now) }
+/// ensures none { IfErr result
+///     (λ e. e.cause ≢ Memory → Rejects (elements_as explicit false)
+///         (padded_of G.grammar) bytes.now) }
 /// ```
+///
+/// Definitions: [`Decodes`](crate::definitions::base::decoding::Decodes), [`elements_as`](crate::definitions::sections::elements::elements_as), [`padded_of`](crate::definitions::base::numbers::padded_of), [`list_view`](crate::definitions::sections::elements::list_view), [`Rejects`](crate::definitions::base::decoding::Rejects). [How to read clauses](crate::definitions).
 fn read_functions<'a, A: Allocator + Copy, G: Grammar>(
     explicit: bool,
     bytes: &'a [u8],
@@ -159,10 +181,18 @@ fn read_functions<'a, A: Allocator + Copy, G: Grammar>(
 ///
 /// # Proved
 ///
+/// After `Ok`: `found`. After an error: `none`.
+///
 /// ```text
-/// ensures found { IfOk result (λ x. Decodes (elements_as explicit true) (padded_of G.grammar) bytes.now (list_view x.0) x.1.now) }
-/// ensures none { IfErr result (λ e. e.cause ≢ Memory → Rejects (elements_as explicit true) (padded_of G.grammar) bytes.now) }
+/// ensures found { IfOk result
+///     (λ x. Decodes (elements_as explicit true) (padded_of G.grammar) bytes.now
+///         (list_view x.0) x.1.now) }
+/// ensures none { IfErr result
+///     (λ e. e.cause ≢ Memory → Rejects (elements_as explicit true)
+///         (padded_of G.grammar) bytes.now) }
 /// ```
+///
+/// Definitions: [`Decodes`](crate::definitions::base::decoding::Decodes), [`elements_as`](crate::definitions::sections::elements::elements_as), [`padded_of`](crate::definitions::base::numbers::padded_of), [`list_view`](crate::definitions::sections::elements::list_view), [`Rejects`](crate::definitions::base::decoding::Rejects). [How to read clauses](crate::definitions).
 fn read_expressions<'a, A: Allocator + Copy, G: Grammar>(
     explicit: bool,
     bytes: &'a [u8],
@@ -187,10 +217,18 @@ fn read_expressions<'a, A: Allocator + Copy, G: Grammar>(
 ///
 /// # Proved
 ///
+/// After `Ok`: `found`. After an error: `none`.
+///
 /// ```text
-/// ensures found { IfOk result (λ x. Decodes (elements_as explicit of_expressions) (padded_of G.grammar) bytes.now (list_view x.0) x.1.now) }
-/// ensures none { IfErr result (λ e. e.cause ≢ Memory → Rejects (elements_as explicit of_expressions) (padded_of G.grammar) bytes.now) }
+/// ensures found { IfOk result
+///     (λ x. Decodes (elements_as explicit of_expressions) (padded_of G.grammar) bytes.now
+///         (list_view x.0) x.1.now) }
+/// ensures none { IfErr result
+///     (λ e. e.cause ≢ Memory → Rejects (elements_as explicit of_expressions)
+///         (padded_of G.grammar) bytes.now) }
 /// ```
+///
+/// Definitions: [`Decodes`](crate::definitions::base::decoding::Decodes), [`elements_as`](crate::definitions::sections::elements::elements_as), [`padded_of`](crate::definitions::base::numbers::padded_of), [`list_view`](crate::definitions::sections::elements::list_view), [`Rejects`](crate::definitions::base::decoding::Rejects). [How to read clauses](crate::definitions).
 fn read_elements<'a, A: Allocator + Copy, G: Grammar>(
     explicit: bool,
     of_expressions: bool,
@@ -211,6 +249,8 @@ fn read_elements<'a, A: Allocator + Copy, G: Grammar>(
 /// format = { element }
 /// view = { element_view }
 /// ```
+///
+/// Definitions: [`ElementItem`](crate::definitions::sections::elements::ElementItem), [`Plain`](crate::definitions::insn::plain::Plain), [`element`](crate::definitions::sections::elements::element), [`element_view`](crate::definitions::sections::elements::element_view). [How to read clauses](crate::definitions).
 impl<A: Allocator> Layout for ElementItem<A> {
     fn laws() {}
 }
@@ -233,11 +273,18 @@ impl<'a, A: Allocator + Copy, G: Grammar> Readable<'a, A, G> for ElementItem<A> 
 ///
 /// # Proved
 ///
+/// After `Ok`: `ok`. In any case: `front`, `too_long`.
+///
 /// ```text
-/// ensures ok { OnOk result (AppendsMinimal (elements_as explicit false) (functions indices.now.items) sink.old.items sink.new.items) }
+/// ensures ok { OnOk result
+///     (AppendsMinimal (elements_as explicit false)
+///         (functions indices.now.items) sink.old.items sink.new.items) }
 /// ensures front { IsFrontOf sink.old.items sink.new.items }
-/// ensures too_long { HasEncoding (elements_as explicit false) (functions indices.now.items) → result ≢ Err TooLong }
+/// ensures too_long { HasEncoding (elements_as explicit false)
+///     (functions indices.now.items) → result ≢ Err TooLong }
 /// ```
+///
+/// Definitions: [`AppendsMinimal`](crate::definitions::base::minimal::AppendsMinimal), [`elements_as`](crate::definitions::sections::elements::elements_as), [`functions`](crate::definitions::sections::elements::ElementList), [`IsFrontOf`](crate::definitions::base::minimal::IsFrontOf), [`HasEncoding`](crate::definitions::base::minimal::HasEncoding). [How to read clauses](crate::definitions).
 fn append_functions<A: Allocator, B: Sink>(
     explicit: bool,
     indices: &Vec<u32, A>,
@@ -254,11 +301,19 @@ fn append_functions<A: Allocator, B: Sink>(
 ///
 /// # Proved
 ///
+/// After `Ok`: `ok`. In any case: `front`, `too_long`.
+///
 /// ```text
-/// ensures ok { OnOk result (AppendsMinimal (elements_as explicit true) (expressions ty (map instructions_view elements.now.items)) sink.old.items sink.new.items) }
+/// ensures ok { OnOk result
+///     (AppendsMinimal (elements_as explicit true)
+///         (expressions ty (map instructions_view elements.now.items)) sink.old.items
+///         sink.new.items) }
 /// ensures front { IsFrontOf sink.old.items sink.new.items }
-/// ensures too_long { HasEncoding (elements_as explicit true) (expressions ty (map instructions_view elements.now.items)) → result ≢ Err TooLong }
+/// ensures too_long { HasEncoding (elements_as explicit true)
+///     (expressions ty (map instructions_view elements.now.items)) → result ≢ Err TooLong }
 /// ```
+///
+/// Definitions: [`AppendsMinimal`](crate::definitions::base::minimal::AppendsMinimal), [`elements_as`](crate::definitions::sections::elements::elements_as), [`expressions`](crate::definitions::sections::elements::ElementList), [`instructions_view`](crate::definitions::sections::constants::instructions_view), [`IsFrontOf`](crate::definitions::base::minimal::IsFrontOf), [`HasEncoding`](crate::definitions::base::minimal::HasEncoding). [How to read clauses](crate::definitions).
 fn append_expressions<A: Allocator, B: Sink>(
     explicit: bool,
     ty: RefType,
@@ -276,11 +331,22 @@ fn append_expressions<A: Allocator, B: Sink>(
 ///
 /// # Proved
 ///
+/// After `Ok`: `ok`. In any case: `front`, `too_long`.
+///
 /// ```text
-/// ensures ok { OnOk result (AppendsMinimal (segment_mode (record { not_active = false; second = is_given table; expressions = false })) (active table (instructions_view offset.now)) sink.old.items sink.new.items) }
+/// ensures ok { OnOk result
+///     (AppendsMinimal (segment_mode
+///             (record { not_active = false; second = is_given table;
+///                     expressions = false })) (active table
+///             (instructions_view offset.now)) sink.old.items sink.new.items) }
 /// ensures front { IsFrontOf sink.old.items sink.new.items }
-/// ensures too_long { HasEncoding (segment_mode (record { not_active = false; second = is_given table; expressions = false })) (active table (instructions_view offset.now)) → result ≢ Err TooLong }
+/// ensures too_long { HasEncoding
+///     (segment_mode (record { not_active = false; second = is_given table;
+///                 expressions = false })) (active table (instructions_view offset.now))
+///     → result ≢ Err TooLong }
 /// ```
+///
+/// Definitions: [`AppendsMinimal`](crate::definitions::base::minimal::AppendsMinimal), [`segment_mode`](crate::definitions::sections::elements::segment_mode), [`is_given`](crate::definitions::base::formats::is_given), [`active`](crate::definitions::sections::elements::SegmentMode), [`instructions_view`](crate::definitions::sections::constants::instructions_view), [`IsFrontOf`](crate::definitions::base::minimal::IsFrontOf), [`HasEncoding`](crate::definitions::base::minimal::HasEncoding). [How to read clauses](crate::definitions).
 fn append_active<A: Allocator, B: Sink>(
     table: Option<u32>,
     offset: &Expression<A>,
@@ -303,6 +369,8 @@ impl<A: Allocator> ElementItem<A> {
     /// ```text
     /// ensures { element_flag_view result ≡ flag_of (element_view self.now) }
     /// ```
+    ///
+    /// Definitions: [`element_flag_view`](crate::definitions::sections::elements::element_flag_view), [`flag_of`](crate::definitions::sections::elements::flag_of), [`element_view`](crate::definitions::sections::elements::element_view). [How to read clauses](crate::definitions).
     fn flag(&self) -> ElementFlag {
         let not_active = !matches!(self.mode, ElementItemMode::Active { .. });
         let second = match &self.mode {
@@ -322,11 +390,18 @@ impl<A: Allocator> ElementItem<A> {
     ///
     /// # Proved
     ///
+    /// After `Ok`: `ok`. In any case: `front`, `too_long`.
+    ///
     /// ```text
-    /// ensures ok { OnOk result (AppendsMinimal (segment_mode (flag_of (element_view self.now))) (segment_mode_view self.now.mode) sink.old.items sink.new.items) }
+    /// ensures ok { OnOk result
+    ///     (AppendsMinimal (segment_mode (flag_of (element_view self.now)))
+    ///         (segment_mode_view self.now.mode) sink.old.items sink.new.items) }
     /// ensures front { IsFrontOf sink.old.items sink.new.items }
-    /// ensures too_long { HasEncoding (segment_mode (flag_of (element_view self.now))) (segment_mode_view self.now.mode) → result ≢ Err TooLong }
+    /// ensures too_long { HasEncoding (segment_mode (flag_of (element_view self.now)))
+    ///     (segment_mode_view self.now.mode) → result ≢ Err TooLong }
     /// ```
+    ///
+    /// Definitions: [`AppendsMinimal`](crate::definitions::base::minimal::AppendsMinimal), [`segment_mode`](crate::definitions::sections::elements::segment_mode), [`flag_of`](crate::definitions::sections::elements::flag_of), [`element_view`](crate::definitions::sections::elements::element_view), [`segment_mode_view`](crate::definitions::sections::elements::segment_mode_view), [`IsFrontOf`](crate::definitions::base::minimal::IsFrontOf), [`HasEncoding`](crate::definitions::base::minimal::HasEncoding). [How to read clauses](crate::definitions).
     fn append_segment_mode<B: Sink>(&self, sink: &mut B) -> Result<()> {
         match &self.mode {
             ElementItemMode::Passive => Ok(()),
@@ -340,11 +415,19 @@ impl<A: Allocator> ElementItem<A> {
 ///
 /// # Proved
 ///
+/// After `Ok`: `ok`. In any case: `front`, `too_long`.
+///
 /// ```text
-/// ensures ok { OnOk result (AppendsMinimal (elements_as explicit (are_expressions (list_view elements.now))) (list_view elements.now) sink.old.items sink.new.items) }
+/// ensures ok { OnOk result
+///     (AppendsMinimal (elements_as explicit (are_expressions (list_view elements.now)))
+///         (list_view elements.now) sink.old.items sink.new.items) }
 /// ensures front { IsFrontOf sink.old.items sink.new.items }
-/// ensures too_long { HasEncoding (elements_as explicit (are_expressions (list_view elements.now))) (list_view elements.now) → result ≢ Err TooLong }
+/// ensures too_long { HasEncoding
+///     (elements_as explicit (are_expressions (list_view elements.now)))
+///     (list_view elements.now) → result ≢ Err TooLong }
 /// ```
+///
+/// Definitions: [`AppendsMinimal`](crate::definitions::base::minimal::AppendsMinimal), [`elements_as`](crate::definitions::sections::elements::elements_as), [`are_expressions`](crate::definitions::sections::elements::are_expressions), [`list_view`](crate::definitions::sections::elements::list_view), [`IsFrontOf`](crate::definitions::base::minimal::IsFrontOf), [`HasEncoding`](crate::definitions::base::minimal::HasEncoding). [How to read clauses](crate::definitions).
 fn append_elements<A: Allocator, B: Sink>(
     explicit: bool,
     elements: &ElementList<A>,
@@ -369,10 +452,19 @@ impl<A: Allocator> Shorten for ElementItem<A> {
 ///
 /// # Proved
 ///
+/// After `Ok`: `found`. After an error: `none`.
+///
 /// ```text
-/// ensures found { IfOk result (λ rest. (x : SegmentMode (List Plain)) × Decodes (segment_mode (element_flag_view flag)) (padded_of G.grammar) bytes.now x rest.now) }
-/// ensures none { IfErr result (λ e. e.cause ≢ Memory → Rejects (segment_mode (element_flag_view flag)) (padded_of G.grammar) bytes.now) }
+/// ensures found { IfOk result
+///     (λ rest. (x : SegmentMode (List Plain))
+///         × Decodes (segment_mode (element_flag_view flag))
+///         (padded_of G.grammar) bytes.now x rest.now) }
+/// ensures none { IfErr result
+///     (λ e. e.cause ≢ Memory → Rejects (segment_mode (element_flag_view flag))
+///         (padded_of G.grammar) bytes.now) }
 /// ```
+///
+/// Definitions: [`SegmentMode`](crate::definitions::sections::elements::SegmentMode), [`Plain`](crate::definitions::insn::plain::Plain), [`Decodes`](crate::definitions::base::decoding::Decodes), [`segment_mode`](crate::definitions::sections::elements::segment_mode), [`element_flag_view`](crate::definitions::sections::elements::element_flag_view), [`padded_of`](crate::definitions::base::numbers::padded_of), [`Rejects`](crate::definitions::base::decoding::Rejects). [How to read clauses](crate::definitions).
 fn skip_segment_mode<'a, A: Allocator + Copy, G: Grammar>(
     flag: ElementFlag,
     bytes: &'a [u8],
@@ -396,10 +488,19 @@ fn skip_segment_mode<'a, A: Allocator + Copy, G: Grammar>(
 ///
 /// # Proved
 ///
+/// After `Ok`: `found`. After an error: `none`.
+///
 /// ```text
-/// ensures found { IfOk result (λ rest. (x : ListModel (List Plain)) × Decodes (elements_as explicit false) (padded_of G.grammar) bytes.now x rest.now) }
-/// ensures none { IfErr result (λ e. e.cause ≢ Memory → Rejects (elements_as explicit false) (padded_of G.grammar) bytes.now) }
+/// ensures found { IfOk result
+///     (λ rest. (x : ListModel (List Plain))
+///         × Decodes (elements_as explicit false)
+///         (padded_of G.grammar) bytes.now x rest.now) }
+/// ensures none { IfErr result
+///     (λ e. e.cause ≢ Memory → Rejects (elements_as explicit false)
+///         (padded_of G.grammar) bytes.now) }
 /// ```
+///
+/// Definitions: [`ListModel`](crate::definitions::sections::elements::ElementList), [`Plain`](crate::definitions::insn::plain::Plain), [`Decodes`](crate::definitions::base::decoding::Decodes), [`elements_as`](crate::definitions::sections::elements::elements_as), [`padded_of`](crate::definitions::base::numbers::padded_of), [`Rejects`](crate::definitions::base::decoding::Rejects). [How to read clauses](crate::definitions).
 fn skip_functions<'a, A: Allocator + Copy, G: Grammar>(
     explicit: bool,
     bytes: &'a [u8],
@@ -421,10 +522,19 @@ fn skip_functions<'a, A: Allocator + Copy, G: Grammar>(
 ///
 /// # Proved
 ///
+/// After `Ok`: `found`. After an error: `none`.
+///
 /// ```text
-/// ensures found { IfOk result (λ rest. (x : ListModel (List Plain)) × Decodes (elements_as explicit true) (padded_of G.grammar) bytes.now x rest.now) }
-/// ensures none { IfErr result (λ e. e.cause ≢ Memory → Rejects (elements_as explicit true) (padded_of G.grammar) bytes.now) }
+/// ensures found { IfOk result
+///     (λ rest. (x : ListModel (List Plain))
+///         × Decodes (elements_as explicit true)
+///         (padded_of G.grammar) bytes.now x rest.now) }
+/// ensures none { IfErr result
+///     (λ e. e.cause ≢ Memory → Rejects (elements_as explicit true)
+///         (padded_of G.grammar) bytes.now) }
 /// ```
+///
+/// Definitions: [`ListModel`](crate::definitions::sections::elements::ElementList), [`Plain`](crate::definitions::insn::plain::Plain), [`Decodes`](crate::definitions::base::decoding::Decodes), [`elements_as`](crate::definitions::sections::elements::elements_as), [`padded_of`](crate::definitions::base::numbers::padded_of), [`Rejects`](crate::definitions::base::decoding::Rejects). [How to read clauses](crate::definitions).
 fn skip_expressions<'a, A: Allocator + Copy, G: Grammar>(
     explicit: bool,
     bytes: &'a [u8],
@@ -443,10 +553,19 @@ fn skip_expressions<'a, A: Allocator + Copy, G: Grammar>(
 ///
 /// # Proved
 ///
+/// After `Ok`: `found`. After an error: `none`.
+///
 /// ```text
-/// ensures found { IfOk result (λ rest. (x : ListModel (List Plain)) × Decodes (elements_as explicit of_expressions) (padded_of G.grammar) bytes.now x rest.now) }
-/// ensures none { IfErr result (λ e. e.cause ≢ Memory → Rejects (elements_as explicit of_expressions) (padded_of G.grammar) bytes.now) }
+/// ensures found { IfOk result
+///     (λ rest. (x : ListModel (List Plain))
+///         × Decodes (elements_as explicit of_expressions)
+///         (padded_of G.grammar) bytes.now x rest.now) }
+/// ensures none { IfErr result
+///     (λ e. e.cause ≢ Memory → Rejects (elements_as explicit of_expressions)
+///         (padded_of G.grammar) bytes.now) }
 /// ```
+///
+/// Definitions: [`ListModel`](crate::definitions::sections::elements::ElementList), [`Plain`](crate::definitions::insn::plain::Plain), [`Decodes`](crate::definitions::base::decoding::Decodes), [`elements_as`](crate::definitions::sections::elements::elements_as), [`padded_of`](crate::definitions::base::numbers::padded_of), [`Rejects`](crate::definitions::base::decoding::Rejects). [How to read clauses](crate::definitions).
 fn skip_elements<'a, A: Allocator + Copy, G: Grammar>(
     explicit: bool,
     of_expressions: bool,

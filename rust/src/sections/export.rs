@@ -51,6 +51,8 @@ pub struct Export<'a> {
 /// encoding = { λ kind. kind_code kind ∷ [] }
 /// encodable = { λ _. ⊤ }
 /// ```
+///
+/// Definitions: [`kind_code`](crate::definitions::sections::exports::kind_code). [How to read clauses](crate::definitions).
 impl Encode for ExportKind {
     #[inline]
     fn encode<A: Sink>(&self, sink: &mut A) -> Result<()> {
@@ -66,6 +68,8 @@ impl Encode for ExportKind {
 /// encoding = { export_encoding }
 /// encodable = { IsEncodableExport }
 /// ```
+///
+/// Definitions: [`export_encoding`](crate::definitions::sections::exports::export_encoding), [`IsEncodableExport`](crate::definitions::sections::exports::IsEncodableExport). [How to read clauses](crate::definitions).
 impl Encode for Export<'_> {
     #[inline]
     fn encode<A: Sink>(&self, sink: &mut A) -> Result<()> {
@@ -80,6 +84,8 @@ impl Encode for Export<'_> {
 /// Item = { ExportItem }
 /// kind = { export_items }
 /// ```
+///
+/// Definitions: [`ExportItem`](crate::definitions::sections::exports::ExportItem), [`export_items`](crate::definitions::sections::exports::export_items). [How to read clauses](crate::definitions).
 impl Kind for ExportItems {
     fn laws() {}
 }
@@ -89,6 +95,8 @@ impl Kind for ExportItems {
 /// ```text
 /// section_id = { number_of ids.Export }
 /// ```
+///
+/// Definitions: [`number_of`](crate::definitions::base::section_id::number_of). [How to read clauses](crate::definitions).
 impl ItemKind for ExportItems {
     fn id() -> u8 {
         SectionId::Export.into()
@@ -103,8 +111,12 @@ impl<A: Allocator> ExportSection<A> {
     /// # Proved
     ///
     /// ```text
-    /// ensures { Adds (size_prefixed_encoding name.now ++ (kind_code kind ∷ [] ++ unsigned_encoding index)) (HasEncodableSize name.now) self.old self.new result }
+    /// ensures { Adds (size_prefixed_encoding name.now
+    ///         ++ (kind_code kind ∷ [] ++ unsigned_encoding index))
+    ///     (HasEncodableSize name.now) self.old self.new result }
     /// ```
+    ///
+    /// Definitions: [`Adds`](crate::definitions::base::calls::Adds), [`size_prefixed_encoding`](crate::definitions::base::encodings::size_prefixed_encoding), [`kind_code`](crate::definitions::sections::exports::kind_code), [`unsigned_encoding`](crate::definitions::base::numbers::unsigned_encoding), [`HasEncodableSize`](crate::definitions::base::encodings::HasEncodableSize). [How to read clauses](crate::definitions).
     pub fn export(&mut self, name: &str, kind: ExportKind, index: u32) -> Result<()> {
         self.add_record(&Export { name, kind, index })
     }
@@ -117,6 +129,8 @@ impl<A: Allocator> ExportSection<A> {
 /// format = { coded kind_code }
 /// view = { λ kind. kind }
 /// ```
+///
+/// Definitions: [`coded`](crate::definitions::base::formats::coded), [`kind_code`](crate::definitions::sections::exports::kind_code). [How to read clauses](crate::definitions).
 impl Layout for ExportKind {
     fn laws() {}
 }
@@ -142,12 +156,16 @@ impl<'a, A: Allocator + Copy, G: Grammar> Readable<'a, A, G> for ExportKind {
 /// format = { export }
 /// view = { item_of }
 /// ```
+///
+/// Definitions: [`ExportItem`](crate::definitions::sections::exports::ExportItem), [`export`](crate::definitions::sections::exports::export), [`item_of`](crate::definitions::sections::exports::item_of). [How to read clauses](crate::definitions).
 impl<'a> Layout for Export<'a> {
     /// # Proved
     ///
     /// ```text
     /// ensures { Unambiguous export }
     /// ```
+    ///
+    /// Definitions: [`Unambiguous`](crate::definitions::base::decoding::Unambiguous), [`export`](crate::definitions::sections::exports::export). [How to read clauses](crate::definitions).
     fn laws() {}
 }
 

@@ -9,6 +9,8 @@
 /// ensures is { result ≡ where_set set weight }
 /// ensures small { result ≤ weight }
 /// ```
+///
+/// Definitions: [`where_set`](crate::definitions::immediates::immediates::where_set). [How to read clauses](crate::definitions).
 #[inline]
 pub(crate) fn where_set(set: bool, weight: u8) -> u8 {
     if set { weight } else { 0 }

@@ -33,6 +33,8 @@ pub struct FunctionItems;
 /// Item = { ℕ }
 /// kind = { function_items }
 /// ```
+///
+/// Definitions: [`function_items`](crate::definitions::sections::functions::function_items). [How to read clauses](crate::definitions).
 impl Kind for FunctionItems {
     fn laws() {}
 }
@@ -42,6 +44,8 @@ impl Kind for FunctionItems {
 /// ```text
 /// section_id = { number_of ids.Function }
 /// ```
+///
+/// Definitions: [`number_of`](crate::definitions::base::section_id::number_of). [How to read clauses](crate::definitions).
 impl ItemKind for FunctionItems {
     fn id() -> u8 {
         SectionId::Function.into()
@@ -62,6 +66,8 @@ struct TypeIndex {
 /// encoding = { λ given. unsigned_encoding given.index }
 /// encodable = { λ _. ⊤ }
 /// ```
+///
+/// Definitions: [`unsigned_encoding`](crate::definitions::base::numbers::unsigned_encoding). [How to read clauses](crate::definitions).
 impl Encode for TypeIndex {
     #[inline]
     fn encode<A: Sink>(&self, sink: &mut A) -> Result<()> {
@@ -85,6 +91,8 @@ impl<A: Allocator> FunctionSection<A> {
     /// ```text
     /// ensures { Adds (unsigned_encoding type_index) ⊤ self.old self.new result }
     /// ```
+    ///
+    /// Definitions: [`Adds`](crate::definitions::base::calls::Adds), [`unsigned_encoding`](crate::definitions::base::numbers::unsigned_encoding). [How to read clauses](crate::definitions).
     pub fn function(&mut self, type_index: u32) -> Result<()> {
         self.add_record(&TypeIndex { index: type_index })
     }

@@ -46,6 +46,8 @@ impl GlobalType {
     /// ```text
     /// ensures { result ≡ global_code (global_flags self.now) }
     /// ```
+    ///
+    /// Definitions: [`global_code`](crate::definitions::sections::globals::global_code), [`global_flags`](crate::definitions::sections::globals::global_flags). [How to read clauses](crate::definitions).
     #[inline]
     fn flags(&self) -> u8 {
         where_set(self.mutable, 0x01) + where_set(self.shared, 0x02)
@@ -60,6 +62,8 @@ impl GlobalType {
 /// encoding = { global_encoding }
 /// encodable = { λ _. ⊤ }
 /// ```
+///
+/// Definitions: [`global_encoding`](crate::definitions::sections::globals::global_encoding). [How to read clauses](crate::definitions).
 impl Encode for GlobalType {
     #[inline]
     fn encode<A: Sink>(&self, sink: &mut A) -> Result<()> {
@@ -74,6 +78,8 @@ impl Encode for GlobalType {
 /// Item = { GlobalModel }
 /// kind = { global_items }
 /// ```
+///
+/// Definitions: [`GivenGlobal`](crate::definitions::sections::globals::GivenGlobal), [`GlobalModel`](crate::definitions::sections::globals::GlobalItem), [`global_items`](crate::definitions::sections::globals::global_items). [How to read clauses](crate::definitions).
 impl Kind for GlobalItems {
     fn laws() {}
 }
@@ -83,6 +89,8 @@ impl Kind for GlobalItems {
 /// ```text
 /// section_id = { number_of ids.Global }
 /// ```
+///
+/// Definitions: [`number_of`](crate::definitions::base::section_id::number_of). [How to read clauses](crate::definitions).
 impl ItemKind for GlobalItems {
     fn id() -> u8 {
         SectionId::Global.into()
@@ -95,8 +103,11 @@ impl<A: Allocator> GlobalSection<A> {
     /// # Proved
     ///
     /// ```text
-    /// ensures { Adds (global_encoding global_type ++ expression_encoding init.now) ⊤ self.old self.new result }
+    /// ensures { Adds (global_encoding global_type ++ expression_encoding init.now) ⊤ self.old
+    ///     self.new result }
     /// ```
+    ///
+    /// Definitions: [`Adds`](crate::definitions::base::calls::Adds), [`global_encoding`](crate::definitions::sections::globals::global_encoding), [`expression_encoding`](crate::definitions::code::expressions::expression_encoding). [How to read clauses](crate::definitions).
     pub fn global<B: Allocator>(
         &mut self,
         global_type: GlobalType,
@@ -112,6 +123,8 @@ impl<A: Allocator> GlobalSection<A> {
     /// ```text
     /// ensures { Adds global.now ⊤ self.old self.new result }
     /// ```
+    ///
+    /// Definitions: [`Adds`](crate::definitions::base::calls::Adds). [How to read clauses](crate::definitions).
     pub fn raw(&mut self, global: &[u8]) -> Result<()> {
         self.add_piece(global)
     }
@@ -131,6 +144,8 @@ struct GlobalFlags {
 /// format = { coded global_code }
 /// view = { global_flags_view }
 /// ```
+///
+/// Definitions: [`GlobalBits`](crate::definitions::sections::globals::GlobalFlags), [`coded`](crate::definitions::base::formats::coded), [`global_code`](crate::definitions::sections::globals::global_code), [`global_flags_view`](crate::definitions::sections::globals::global_flags_view). [How to read clauses](crate::definitions).
 impl Layout for GlobalFlags {
     fn laws() {}
 }
@@ -156,6 +171,8 @@ impl<'a, A: Allocator + Copy, G: Grammar> Readable<'a, A, G> for GlobalFlags {
 /// format = { global_type }
 /// view = { λ global. global }
 /// ```
+///
+/// Definitions: [`global_type`](crate::definitions::sections::globals::global_type). [How to read clauses](crate::definitions).
 impl Layout for GlobalType {
     fn laws() {}
 }
@@ -188,6 +205,8 @@ pub struct GlobalItem<A: Allocator = Global> {
 /// format = { global_item }
 /// view = { global_view }
 /// ```
+///
+/// Definitions: [`GlobalModel`](crate::definitions::sections::globals::GlobalItem), [`global_item`](crate::definitions::sections::globals::global_item), [`global_view`](crate::definitions::sections::globals::global_view). [How to read clauses](crate::definitions).
 impl<A: Allocator> Layout for GlobalItem<A> {
     fn laws() {}
 }

@@ -48,6 +48,8 @@ pub enum EntityType {
 /// ```text
 /// from_gives = { λ ty entity. entity ≡ entities.Table ty }
 /// ```
+///
+/// [How to read clauses](crate::definitions).
 impl From<TableType> for EntityType {
     fn from(ty: TableType) -> EntityType {
         EntityType::Table(ty)
@@ -59,6 +61,8 @@ impl From<TableType> for EntityType {
 /// ```text
 /// from_gives = { λ ty entity. entity ≡ entities.Memory ty }
 /// ```
+///
+/// [How to read clauses](crate::definitions).
 impl From<MemoryType> for EntityType {
     fn from(ty: MemoryType) -> EntityType {
         EntityType::Memory(ty)
@@ -70,6 +74,8 @@ impl From<MemoryType> for EntityType {
 /// ```text
 /// from_gives = { λ ty entity. entity ≡ entities.Global ty }
 /// ```
+///
+/// [How to read clauses](crate::definitions).
 impl From<GlobalType> for EntityType {
     fn from(ty: GlobalType) -> EntityType {
         EntityType::Global(ty)
@@ -81,6 +87,8 @@ impl From<GlobalType> for EntityType {
 /// ```text
 /// from_gives = { λ ty entity. entity ≡ entities.Tag ty }
 /// ```
+///
+/// [How to read clauses](crate::definitions).
 impl From<TagType> for EntityType {
     fn from(ty: TagType) -> EntityType {
         EntityType::Tag(ty)
@@ -95,6 +103,8 @@ impl From<TagType> for EntityType {
 /// encoding = { entity_encoding }
 /// encodable = { λ _. ⊤ }
 /// ```
+///
+/// Definitions: [`entity_encoding`](crate::definitions::sections::imports::entity_encoding). [How to read clauses](crate::definitions).
 impl Encode for EntityType {
     #[inline]
     fn encode<A: Sink>(&self, sink: &mut A) -> Result<()> {
@@ -147,10 +157,14 @@ impl<A: Allocator + Copy> Imports<'_, A> {
     ///
     /// # Proved
     ///
+    /// After `Ok`: `same`. In any case: `memory`.
+    ///
     /// ```text
     /// ensures same { IfOk result (λ imports. imports_item imports ≡ imports_item self.now) }
     /// ensures memory { result ≢ Err TooLong }
     /// ```
+    ///
+    /// Definitions: [`imports_item`](crate::definitions::sections::imports::imports_item). [How to read clauses](crate::definitions).
     pub fn clone(&self) -> Result<Self> {
         match self {
             Imports::Single(import) => Ok(Imports::Single(*import)),
@@ -175,6 +189,8 @@ impl<A: Allocator + Copy> Imports<'_, A> {
 /// encoding = { λ import. import_encoding (import_item import) }
 /// encodable = { λ import. IsEncodableImport (import_item import) }
 /// ```
+///
+/// Definitions: [`import_encoding`](crate::definitions::sections::imports::import_encoding), [`import_item`](crate::definitions::sections::imports::import_item), [`IsEncodableImport`](crate::definitions::sections::imports::IsEncodableImport). [How to read clauses](crate::definitions).
 impl Encode for Import<'_> {
     #[inline]
     fn encode<A: Sink>(&self, sink: &mut A) -> Result<()> {
@@ -190,6 +206,8 @@ impl Encode for Import<'_> {
 /// encoding = { λ import. named_encoding (compact_item import) }
 /// encodable = { λ import. HasEncodableSize import.name.now }
 /// ```
+///
+/// Definitions: [`named_encoding`](crate::definitions::sections::imports::named_encoding), [`compact_item`](crate::definitions::sections::imports::compact_item), [`HasEncodableSize`](crate::definitions::base::encodings::HasEncodableSize). [How to read clauses](crate::definitions).
 impl Encode for ImportCompact<'_> {
     #[inline]
     fn encode<A: Sink>(&self, sink: &mut A) -> Result<()> {
@@ -206,6 +224,8 @@ impl Encode for ImportCompact<'_> {
 /// encoding = { λ imports. import_encoding (imports_item imports) }
 /// encodable = { λ imports. IsEncodableImport (imports_item imports) }
 /// ```
+///
+/// Definitions: [`import_encoding`](crate::definitions::sections::imports::import_encoding), [`imports_item`](crate::definitions::sections::imports::imports_item), [`IsEncodableImport`](crate::definitions::sections::imports::IsEncodableImport). [How to read clauses](crate::definitions).
 impl<A: Allocator> Encode for Imports<'_, A> {
     #[inline]
     fn encode<B: Sink>(&self, sink: &mut B) -> Result<()> {
@@ -228,6 +248,8 @@ impl<A: Allocator> Encode for Imports<'_, A> {
 /// Item = { ImportItem }
 /// kind = { import_items }
 /// ```
+///
+/// Definitions: [`ImportItem`](crate::definitions::sections::imports::ImportItem), [`import_items`](crate::definitions::sections::imports::import_items). [How to read clauses](crate::definitions).
 impl Kind for ImportItems {
     fn laws() {}
 }
@@ -237,6 +259,8 @@ impl Kind for ImportItems {
 /// ```text
 /// section_id = { number_of ids.Import }
 /// ```
+///
+/// Definitions: [`number_of`](crate::definitions::base::section_id::number_of). [How to read clauses](crate::definitions).
 impl ItemKind for ImportItems {
     fn id() -> u8 {
         SectionId::Import.into()
@@ -251,8 +275,13 @@ impl<A: Allocator> ImportSection<A> {
     /// # Proved
     ///
     /// ```text
-    /// ensures { Adds (size_prefixed_encoding «module».now ++ (size_prefixed_encoding name.now ++ entity_encoding ty)) (HasEncodableSize «module».now × HasEncodableSize name.now) self.old self.new result }
+    /// ensures { Adds (size_prefixed_encoding «module».now
+    ///         ++ (size_prefixed_encoding name.now ++ entity_encoding ty))
+    ///     (HasEncodableSize «module».now × HasEncodableSize name.now) self.old self.new result
+    ///     }
     /// ```
+    ///
+    /// Definitions: [`Adds`](crate::definitions::base::calls::Adds), [`size_prefixed_encoding`](crate::definitions::base::encodings::size_prefixed_encoding), [`entity_encoding`](crate::definitions::sections::imports::entity_encoding), [`HasEncodableSize`](crate::definitions::base::encodings::HasEncodableSize). [How to read clauses](crate::definitions).
     pub fn import(&mut self, module: &str, name: &str, ty: EntityType) -> Result<()> {
         self.add_record(&Import { module, name, ty })
     }
@@ -262,8 +291,11 @@ impl<A: Allocator> ImportSection<A> {
     /// # Proved
     ///
     /// ```text
-    /// ensures { Adds (import_encoding (imports_item imports.entry)) (IsEncodableImport (imports_item imports.entry)) self.old self.new result }
+    /// ensures { Adds (import_encoding (imports_item imports.entry))
+    ///     (IsEncodableImport (imports_item imports.entry)) self.old self.new result }
     /// ```
+    ///
+    /// Definitions: [`Adds`](crate::definitions::base::calls::Adds), [`import_encoding`](crate::definitions::sections::imports::import_encoding), [`imports_item`](crate::definitions::sections::imports::imports_item), [`IsEncodableImport`](crate::definitions::sections::imports::IsEncodableImport). [How to read clauses](crate::definitions).
     pub fn imports(&mut self, imports: Imports<'_, A>) -> Result<()> {
         self.add_record(&imports)
     }
@@ -276,6 +308,8 @@ impl<A: Allocator> ImportSection<A> {
 /// format = { entity }
 /// view = { λ entity. entity }
 /// ```
+///
+/// Definitions: [`entity`](crate::definitions::sections::imports::entity). [How to read clauses](crate::definitions).
 impl Layout for EntityType {
     fn laws() {}
 }
@@ -320,12 +354,16 @@ impl<'a, A: Allocator + Copy, G: Grammar> Readable<'a, A, G> for EntityType {
 /// format = { pair name entity }
 /// view = { compact_item }
 /// ```
+///
+/// Definitions: [`pair`](crate::definitions::base::formats::pair), [`name`](crate::definitions::base::formats::name), [`entity`](crate::definitions::sections::imports::entity), [`compact_item`](crate::definitions::sections::imports::compact_item). [How to read clauses](crate::definitions).
 impl<'a> Layout for ImportCompact<'a> {
     /// # Proved
     ///
     /// ```text
     /// ensures { Unambiguous (pair name entity) }
     /// ```
+    ///
+    /// Definitions: [`Unambiguous`](crate::definitions::base::decoding::Unambiguous), [`pair`](crate::definitions::base::formats::pair), [`name`](crate::definitions::base::formats::name), [`entity`](crate::definitions::sections::imports::entity). [How to read clauses](crate::definitions).
     fn laws() {
         <(&'a str, EntityType) as Layout>::laws();
     }
@@ -344,8 +382,12 @@ impl<'a, A: Allocator + Copy, G: Grammar> Readable<'a, A, G> for ImportCompact<'
 /// # Proved
 ///
 /// ```text
-/// ensures { MatchOption result (Rejects (prefixed (0x00 ∷ []) group) (padded_of G.grammar) bytes.now) (λ x. (bytes.now ≡ 0x00 ∷ x.0 ∷ x.1.now) × (0x7E ≤ x.0)) }
+/// ensures { MatchOption result
+///     (Rejects (prefixed (0x00 ∷ []) group) (padded_of G.grammar) bytes.now)
+///     (λ x. (bytes.now ≡ 0x00 ∷ x.0 ∷ x.1.now) × (0x7E ≤ x.0)) }
 /// ```
+///
+/// Definitions: [`Rejects`](crate::definitions::base::decoding::Rejects), [`prefixed`](crate::definitions::base::formats::prefixed), [`group`](crate::definitions::sections::imports::group), [`padded_of`](crate::definitions::base::numbers::padded_of). [How to read clauses](crate::definitions).
 fn group_kind<G: Grammar>(bytes: &[u8]) -> Option<(u8, &[u8])> {
     match bytes {
         [0x00, kind @ 0x7E..=0xFF, rest @ ..] => Some((*kind, rest)),
@@ -360,12 +402,16 @@ fn group_kind<G: Grammar>(bytes: &[u8]) -> Option<(u8, &[u8])> {
 /// format = { import_format }
 /// view = { imports_item }
 /// ```
+///
+/// Definitions: [`ImportItem`](crate::definitions::sections::imports::ImportItem), [`import_format`](crate::definitions::sections::imports::import_format), [`imports_item`](crate::definitions::sections::imports::imports_item). [How to read clauses](crate::definitions).
 impl<'a, A: Allocator> Layout for Imports<'a, A> {
     /// # Proved
     ///
     /// ```text
     /// ensures { Unambiguous import_format }
     /// ```
+    ///
+    /// Definitions: [`Unambiguous`](crate::definitions::base::decoding::Unambiguous), [`import_format`](crate::definitions::sections::imports::import_format). [How to read clauses](crate::definitions).
     fn laws() {}
 }
 
@@ -405,10 +451,18 @@ impl<'a, A: Allocator + Copy, G: Grammar> Readable<'a, A, G> for Imports<'a, A> 
 ///
 /// # Proved
 ///
+/// After `Ok`: `found`. After an error: `none`.
+///
 /// ```text
-/// ensures found { IfOk result (λ x. vec import_format (padded_of G.grammar) bytes.now (map imports_item x.items)) }
-/// ensures none { IfErr result (λ e. e.cause ≢ Memory → RejectsWhole (vec import_format) (padded_of G.grammar) bytes.now) }
+/// ensures found { IfOk result
+///     (λ x. vec import_format (padded_of G.grammar) bytes.now (map imports_item x.items))
+///     }
+/// ensures none { IfErr result
+///     (λ e. e.cause ≢ Memory → RejectsWhole (vec import_format)
+///         (padded_of G.grammar) bytes.now) }
 /// ```
+///
+/// Definitions: [`vec`](crate::definitions::base::formats::vec), [`import_format`](crate::definitions::sections::imports::import_format), [`padded_of`](crate::definitions::base::numbers::padded_of), [`imports_item`](crate::definitions::sections::imports::imports_item), [`RejectsWhole`](crate::definitions::base::continuing::RejectsWhole). [How to read clauses](crate::definitions).
 pub fn read_imports<'a, A: Allocator + Copy + 'a, G: Grammar>(
     bytes: &'a [u8],
     alloc: A,
@@ -421,11 +475,18 @@ pub fn read_imports<'a, A: Allocator + Copy + 'a, G: Grammar>(
 ///
 /// # Proved
 ///
+/// After `Ok`: `ok`. In any case: `front`, `too_long`.
+///
 /// ```text
-/// ensures ok { OnOk result (AppendsMinimal (vec import_format) (map imports_item imports.now) sink.old.items sink.new.items) }
+/// ensures ok { OnOk result
+///     (AppendsMinimal (vec import_format)
+///         (map imports_item imports.now) sink.old.items sink.new.items) }
 /// ensures front { IsFrontOf sink.old.items sink.new.items }
-/// ensures too_long { HasEncoding (vec import_format) (map imports_item imports.now) → result ≢ Err TooLong }
+/// ensures too_long { HasEncoding (vec import_format) (map imports_item imports.now)
+///     → result ≢ Err TooLong }
 /// ```
+///
+/// Definitions: [`AppendsMinimal`](crate::definitions::base::minimal::AppendsMinimal), [`vec`](crate::definitions::base::formats::vec), [`import_format`](crate::definitions::sections::imports::import_format), [`imports_item`](crate::definitions::sections::imports::imports_item), [`IsFrontOf`](crate::definitions::base::minimal::IsFrontOf), [`HasEncoding`](crate::definitions::base::minimal::HasEncoding). [How to read clauses](crate::definitions).
 fn write_imports<A: Allocator, B: Sink>(
     imports: &[Imports<'_, A>],
     sink: &mut B,
@@ -442,11 +503,18 @@ fn write_imports<A: Allocator, B: Sink>(
 ///
 /// # Proved
 ///
+/// After `Ok`: `ok`. After an error: `err`. In any case: `too_long`.
+///
 /// ```text
-/// ensures ok { OnOk result (AppendsMinimal (vec import_format) (map imports_item imports.now) sink.old.items sink.new.items) }
+/// ensures ok { OnOk result
+///     (AppendsMinimal (vec import_format)
+///         (map imports_item imports.now) sink.old.items sink.new.items) }
 /// ensures err { OnErr result (sink.new.items ≡ sink.old.items) }
-/// ensures too_long { HasEncoding (vec import_format) (map imports_item imports.now) → result ≢ Err TooLong }
+/// ensures too_long { HasEncoding (vec import_format) (map imports_item imports.now)
+///     → result ≢ Err TooLong }
 /// ```
+///
+/// Definitions: [`AppendsMinimal`](crate::definitions::base::minimal::AppendsMinimal), [`vec`](crate::definitions::base::formats::vec), [`import_format`](crate::definitions::sections::imports::import_format), [`imports_item`](crate::definitions::sections::imports::imports_item), [`HasEncoding`](crate::definitions::base::minimal::HasEncoding). [How to read clauses](crate::definitions).
 pub fn append_imports<A: Allocator, B: Sink>(
     imports: &[Imports<'_, A>],
     sink: &mut B,

@@ -41,7 +41,23 @@ use crate::alloc::Allocator;
 /// ensures import_items { ItemLaws import_items }
 /// ensures tag_items { ItemLaws tag_items }
 /// ```
+///
+/// Definitions: [`Unambiguous`](crate::definitions::base::decoding::Unambiguous), [`counted_format`](crate::definitions::base::entries::counted_format), [`u32_format`](crate::definitions::base::formats::u32), [`table_item`](crate::definitions::sections::tables::table_item), [`memory_type`](crate::definitions::sections::memories::memory_type), [`global_item`](crate::definitions::sections::globals::global_item), [`export`](crate::definitions::sections::exports::export), [`element`](crate::definitions::sections::elements::element), [`data_item`](crate::definitions::sections::data_segments::data_item), [`tag_type`](crate::definitions::sections::tags::tag_type), [`import_format`](crate::definitions::sections::imports::import_format), [`entity`](crate::definitions::sections::imports::entity), [`table_type`](crate::definitions::sections::tables::table_type), [`global_type`](crate::definitions::sections::globals::global_type), [`size_prefixed`](crate::definitions::base::formats::size_prefixed), [`function_items`](crate::definitions::sections::functions::function_items), [`ItemLaws`](crate::definitions::base::entries::ItemLaws), [`table_items`](crate::definitions::sections::tables::table_items), [`memory_items`](crate::definitions::sections::memories::memory_items), [`global_items`](crate::definitions::sections::globals::global_items), [`export_items`](crate::definitions::sections::exports::export_items), [`element_items`](crate::definitions::sections::elements::element_items), [`data_items`](crate::definitions::sections::data_segments::data_items), [`import_items`](crate::definitions::sections::imports::import_items), [`tag_items`](crate::definitions::sections::tags::tag_items). [How to read clauses](crate::definitions).
 pub fn sections() {}
+
+/// The standard's grammar also has an active data segment of memory 0 after flag 2. It is the same
+/// segment as the one after flag 0.
+///
+/// # Proved
+///
+/// ```text
+/// ensures { (bytes : List ℕ) (offset : List Plain) (content : List ℕ)
+///     → pair expression (vec byte) standard bytes (offset, content)
+///     → data_item standard (0x02 ∷ 0x00 ∷ bytes) (active 0 offset content) }
+/// ```
+///
+/// Definitions: [`Plain`](crate::definitions::insn::plain::Plain), [`pair`](crate::definitions::base::formats::pair), [`expression`](crate::definitions::code::expressions::expression), [`vec`](crate::definitions::base::formats::vec), [`byte`](crate::definitions::base::formats::byte), [`standard`](crate::definitions::base::numbers::Mode), [`data_item`](crate::definitions::sections::data_segments::data_item), [`active`](crate::definitions::sections::data_segments::DataItem). [How to read clauses](crate::definitions).
+pub fn standard() {}
 
 /// With padded numbers the formats of sections are unambiguous too. A minimal encoding is also an
 /// encoding in this mode.
@@ -63,6 +79,8 @@ pub fn sections() {}
 /// ensures global_types { UnambiguousPadded global_type }
 /// ensures numbers { UnambiguousPadded (size_prefixed u32_format) }
 /// ```
+///
+/// Definitions: [`UnambiguousPadded`](crate::definitions::base::decoding::UnambiguousPadded), [`counted_format`](crate::definitions::base::entries::counted_format), [`u32_format`](crate::definitions::base::formats::u32), [`table_item`](crate::definitions::sections::tables::table_item), [`memory_type`](crate::definitions::sections::memories::memory_type), [`global_item`](crate::definitions::sections::globals::global_item), [`export`](crate::definitions::sections::exports::export), [`element`](crate::definitions::sections::elements::element), [`data_item`](crate::definitions::sections::data_segments::data_item), [`tag_type`](crate::definitions::sections::tags::tag_type), [`import_format`](crate::definitions::sections::imports::import_format), [`entity`](crate::definitions::sections::imports::entity), [`table_type`](crate::definitions::sections::tables::table_type), [`global_type`](crate::definitions::sections::globals::global_type), [`size_prefixed`](crate::definitions::base::formats::size_prefixed). [How to read clauses](crate::definitions).
 pub fn padded() {}
 
 /// The items that sections hold, call by call: none at first, and one more after each call that
@@ -81,6 +99,8 @@ pub fn padded() {}
 /// ensures imports { ContainsMore import_items }
 /// ensures tags { ContainsMore tag_items }
 /// ```
+///
+/// Definitions: [`ContainsMore`](crate::definitions::base::laws::ContainsMore), [`function_items`](crate::definitions::sections::functions::function_items), [`table_items`](crate::definitions::sections::tables::table_items), [`memory_items`](crate::definitions::sections::memories::memory_items), [`global_items`](crate::definitions::sections::globals::global_items), [`export_items`](crate::definitions::sections::exports::export_items), [`element_items`](crate::definitions::sections::elements::element_items), [`data_items`](crate::definitions::sections::data_segments::data_items), [`import_items`](crate::definitions::sections::imports::import_items), [`tag_items`](crate::definitions::sections::tags::tag_items). [How to read clauses](crate::definitions).
 pub fn calls() {}
 
 /// The same with padded numbers: a record may be well-formed but for padded numbers in its
@@ -99,6 +119,8 @@ pub fn calls() {}
 /// ensures imports { ContainsMorePadded import_items }
 /// ensures tags { ContainsMorePadded tag_items }
 /// ```
+///
+/// Definitions: [`ContainsMorePadded`](crate::definitions::base::laws::ContainsMorePadded), [`function_items`](crate::definitions::sections::functions::function_items), [`table_items`](crate::definitions::sections::tables::table_items), [`memory_items`](crate::definitions::sections::memories::memory_items), [`global_items`](crate::definitions::sections::globals::global_items), [`export_items`](crate::definitions::sections::exports::export_items), [`element_items`](crate::definitions::sections::elements::element_items), [`data_items`](crate::definitions::sections::data_segments::data_items), [`import_items`](crate::definitions::sections::imports::import_items), [`tag_items`](crate::definitions::sections::tags::tag_items). [How to read clauses](crate::definitions).
 pub fn padded_calls() {}
 
 /// A call of an element section appends `given_encoding`. It equals the `element_encoding` of each
@@ -107,8 +129,11 @@ pub fn padded_calls() {}
 /// # Proved
 ///
 /// ```text
-/// ensures { (segment : ElementSegment A) (given : ElementItem Stored) → HaveOneEncoding segment given }
+/// ensures { (segment : ElementSegment A) (given : ElementItem Stored)
+///     → HaveOneEncoding segment given }
 /// ```
+///
+/// Definitions: [`ElementItem`](crate::definitions::sections::elements::ElementItem), [`Stored`](crate::definitions::sections::constants::Stored), [`HaveOneEncoding`](crate::definitions::sections::given_elements::HaveOneEncoding). [How to read clauses](crate::definitions).
 pub fn given_elements<A: Allocator>() {}
 
 /// If a module decodes to ids and payloads, and a section decodes to its items alone, then its
@@ -128,6 +153,8 @@ pub fn given_elements<A: Allocator>() {}
 /// ensures tags { DecodesPayloads (vec tag_type) }
 /// ensures numbers { DecodesPayloads u32_format }
 /// ```
+///
+/// Definitions: [`DecodesPayloads`](crate::definitions::base::modules::DecodesPayloads), [`vec`](crate::definitions::base::formats::vec), [`u32_format`](crate::definitions::base::formats::u32), [`table_item`](crate::definitions::sections::tables::table_item), [`memory_type`](crate::definitions::sections::memories::memory_type), [`global_item`](crate::definitions::sections::globals::global_item), [`export`](crate::definitions::sections::exports::export), [`element`](crate::definitions::sections::elements::element), [`data_item`](crate::definitions::sections::data_segments::data_item), [`import_format`](crate::definitions::sections::imports::import_format), [`tag_type`](crate::definitions::sections::tags::tag_type). [How to read clauses](crate::definitions).
 pub fn payloads() {}
 
 /// The same with padded numbers.
@@ -146,6 +173,8 @@ pub fn payloads() {}
 /// ensures tags { DecodesPayloadsPadded (vec tag_type) }
 /// ensures numbers { DecodesPayloadsPadded u32_format }
 /// ```
+///
+/// Definitions: [`DecodesPayloadsPadded`](crate::definitions::base::modules::DecodesPayloadsPadded), [`vec`](crate::definitions::base::formats::vec), [`u32_format`](crate::definitions::base::formats::u32), [`table_item`](crate::definitions::sections::tables::table_item), [`memory_type`](crate::definitions::sections::memories::memory_type), [`global_item`](crate::definitions::sections::globals::global_item), [`export`](crate::definitions::sections::exports::export), [`element`](crate::definitions::sections::elements::element), [`data_item`](crate::definitions::sections::data_segments::data_item), [`import_format`](crate::definitions::sections::imports::import_format), [`tag_type`](crate::definitions::sections::tags::tag_type). [How to read clauses](crate::definitions).
 pub fn padded_payloads() {}
 
 /// These three byte sequences encode no section, with padded numbers neither. In that of globals,
@@ -155,10 +184,16 @@ pub fn padded_payloads() {}
 /// # Proved
 ///
 /// ```text
-/// ensures inner_end { RejectsAllAfterPadded (counted_format global_item) (9 ∷ 1 ∷ 127 ∷ 0 ∷ 65 ∷ 1 ∷ 11 ∷ 65 ∷ 2 ∷ 11 ∷ []) }
-/// ensures named_first_memory { RejectsAllAfterPadded (counted_format data_item) (8 ∷ 1 ∷ 2 ∷ 0 ∷ 65 ∷ 0 ∷ 11 ∷ 1 ∷ 9 ∷ []) }
-/// ensures padded_group { RejectsAllAfterPadded (counted_format import_format) (6 ∷ 1 ∷ 0 ∷ 128 ∷ 0 ∷ 127 ∷ 0 ∷ []) }
+/// ensures inner_end { RejectsAllAfterPadded (counted_format global_item)
+///     (9 ∷ 1 ∷ 127 ∷ 0 ∷ 65 ∷ 1 ∷ 11 ∷ 65 ∷ 2 ∷ 11 ∷ []) }
+/// ensures named_first_memory
+///     { RejectsAllAfterPadded (counted_format data_item)
+///     (8 ∷ 1 ∷ 2 ∷ 0 ∷ 65 ∷ 0 ∷ 11 ∷ 1 ∷ 9 ∷ []) }
+/// ensures padded_group { RejectsAllAfterPadded (counted_format import_format)
+///     (6 ∷ 1 ∷ 0 ∷ 128 ∷ 0 ∷ 127 ∷ 0 ∷ []) }
 /// ```
+///
+/// Definitions: [`RejectsAllAfterPadded`](crate::definitions::base::laws::RejectsAllAfterPadded), [`counted_format`](crate::definitions::base::entries::counted_format), [`global_item`](crate::definitions::sections::globals::global_item), [`data_item`](crate::definitions::sections::data_segments::data_item), [`import_format`](crate::definitions::sections::imports::import_format). [How to read clauses](crate::definitions).
 pub fn rejections() {}
 
 /// Proves that an export is well-formed: its name is UTF-8, and its index is in range. Returns the
@@ -170,6 +205,8 @@ pub fn rejections() {}
 /// ensures plain { IsExport export.now }
 /// ensures index { result ≡ export.now.index }
 /// ```
+///
+/// Definitions: [`IsExport`](crate::definitions::sections::exports::IsExport). [How to read clauses](crate::definitions).
 pub fn plain_export(export: &Export<'_>) -> u32 {
     export.index
 }
@@ -181,6 +218,8 @@ pub fn plain_export(export: &Export<'_>) -> u32 {
 /// ```text
 /// ensures { All IsExport exports.now }
 /// ```
+///
+/// Definitions: [`IsExport`](crate::definitions::sections::exports::IsExport). [How to read clauses](crate::definitions).
 pub fn plain_exports(exports: &[Export<'_>]) {
     for export in exports {
         plain_export(export);
@@ -195,6 +234,8 @@ pub fn plain_exports(exports: &[Export<'_>]) {
 /// ```text
 /// ensures { IsTable table }
 /// ```
+///
+/// Definitions: [`IsTable`](crate::definitions::sections::tables::IsTable). [How to read clauses](crate::definitions).
 pub fn plain_table(table: TableType) {}
 
 /// Proves the same of a memory type.
@@ -204,6 +245,8 @@ pub fn plain_table(table: TableType) {}
 /// ```text
 /// ensures { IsMemory memory }
 /// ```
+///
+/// Definitions: [`IsMemory`](crate::definitions::sections::memories::IsMemory). [How to read clauses](crate::definitions).
 pub fn plain_memory(memory: MemoryType) {}
 
 /// Proves the same of a global type.
@@ -213,6 +256,8 @@ pub fn plain_memory(memory: MemoryType) {}
 /// ```text
 /// ensures { IsGlobal global }
 /// ```
+///
+/// Definitions: [`IsGlobal`](crate::definitions::sections::globals::IsGlobal). [How to read clauses](crate::definitions).
 pub fn plain_global(global: GlobalType) {}
 
 /// Proves the same of the type of an import, whatever its kind.
@@ -222,4 +267,6 @@ pub fn plain_global(global: GlobalType) {}
 /// ```text
 /// ensures { IsEntity entity }
 /// ```
+///
+/// Definitions: [`IsEntity`](crate::definitions::sections::imports::IsEntity). [How to read clauses](crate::definitions).
 pub fn plain_entity(entity: EntityType) {}

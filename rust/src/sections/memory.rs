@@ -47,6 +47,8 @@ impl MemoryType {
     /// ```text
     /// ensures { result ≡ page_exponent self.now.page_size_log2 }
     /// ```
+    ///
+    /// Definitions: [`page_exponent`](crate::definitions::sections::memories::page_exponent). [How to read clauses](crate::definitions).
     pub const fn page_size_log2(&self) -> u32 {
         match self.page_size_log2 {
             Some(exponent) => exponent,
@@ -62,11 +64,15 @@ impl MemoryType {
     /// requires { page_exponent self.now.page_size_log2 < 32 }
     /// ```
     ///
+    /// Definitions: [`page_exponent`](crate::definitions::sections::memories::page_exponent). [How to read clauses](crate::definitions).
+    ///
     /// # Proved
     ///
     /// ```text
     /// ensures { result ≡ 2 ^ page_exponent self.now.page_size_log2 }
     /// ```
+    ///
+    /// Definitions: [`page_exponent`](crate::definitions::sections::memories::page_exponent). [How to read clauses](crate::definitions).
     pub const fn page_size(&self) -> u32 {
         1 << self.page_size_log2()
     }
@@ -79,6 +85,8 @@ impl MemoryType {
     /// ```text
     /// ensures { result ≡ flags_code (memory_flags self.now) }
     /// ```
+    ///
+    /// Definitions: [`flags_code`](crate::definitions::sections::flags::flags_code), [`memory_flags`](crate::definitions::sections::memories::memory_flags). [How to read clauses](crate::definitions).
     #[inline]
     fn flags(&self) -> u8 {
         where_set(self.maximum.is_some(), 0x01)
@@ -96,6 +104,8 @@ impl MemoryType {
 /// encoding = { memory_encoding }
 /// encodable = { λ _. ⊤ }
 /// ```
+///
+/// Definitions: [`memory_encoding`](crate::definitions::sections::memories::memory_encoding). [How to read clauses](crate::definitions).
 impl Encode for MemoryType {
     #[inline]
     fn encode<A: Sink>(&self, sink: &mut A) -> Result<()> {
@@ -112,6 +122,8 @@ impl Encode for MemoryType {
 /// Item = { Memory }
 /// kind = { memory_items }
 /// ```
+///
+/// Definitions: [`memory_items`](crate::definitions::sections::memories::memory_items). [How to read clauses](crate::definitions).
 impl Kind for MemoryItems {
     fn laws() {}
 }
@@ -121,6 +133,8 @@ impl Kind for MemoryItems {
 /// ```text
 /// section_id = { number_of ids.Memory }
 /// ```
+///
+/// Definitions: [`number_of`](crate::definitions::base::section_id::number_of). [How to read clauses](crate::definitions).
 impl ItemKind for MemoryItems {
     fn id() -> u8 {
         SectionId::Memory.into()
@@ -137,6 +151,8 @@ impl<A: Allocator> MemorySection<A> {
     /// ```text
     /// ensures { Adds (memory_encoding memory_type) ⊤ self.old self.new result }
     /// ```
+    ///
+    /// Definitions: [`Adds`](crate::definitions::base::calls::Adds), [`memory_encoding`](crate::definitions::sections::memories::memory_encoding). [How to read clauses](crate::definitions).
     pub fn memory(&mut self, memory_type: MemoryType) -> Result<()> {
         self.add_record(&memory_type)
     }
@@ -158,6 +174,8 @@ pub(crate) struct Flags {
 /// format = { flags_format }
 /// view = { flags_view }
 /// ```
+///
+/// Definitions: [`FlagBits`](crate::definitions::sections::flags::Flags), [`flags_format`](crate::definitions::sections::flags::flags), [`flags_view`](crate::definitions::sections::flags::flags_view). [How to read clauses](crate::definitions).
 impl Layout for Flags {
     fn laws() {}
 }
@@ -185,6 +203,8 @@ impl<'a, A: Allocator + Copy, G: Grammar> Readable<'a, A, G> for Flags {
 /// format = { memory_type }
 /// view = { λ memory. memory }
 /// ```
+///
+/// Definitions: [`memory_type`](crate::definitions::sections::memories::memory_type). [How to read clauses](crate::definitions).
 impl Layout for MemoryType {
     fn laws() {}
 }

@@ -43,10 +43,17 @@ pub struct DataCountSection {
 ///
 /// # Proved
 ///
+/// After `Ok`: `read`. In any case: `appends`.
+///
 /// ```text
-/// ensures appends { Appends (size_prefixed_encoding (unsigned_encoding number)) (HasEncodableSize (unsigned_encoding number)) sink.old sink.new result }
-/// ensures read { OnOk result (DecodesBack (size_prefixed u32_format) (λ said. said ≡ number) (size_prefixed_encoding (unsigned_encoding number))) }
+/// ensures appends { Appends (size_prefixed_encoding (unsigned_encoding number))
+///     (HasEncodableSize (unsigned_encoding number)) sink.old sink.new result }
+/// ensures read { OnOk result
+///     (DecodesBack (size_prefixed u32_format) (λ said. said ≡ number)
+///         (size_prefixed_encoding (unsigned_encoding number))) }
 /// ```
+///
+/// Definitions: [`Appends`](crate::definitions::base::calls::Appends), [`size_prefixed_encoding`](crate::definitions::base::encodings::size_prefixed_encoding), [`unsigned_encoding`](crate::definitions::base::numbers::unsigned_encoding), [`HasEncodableSize`](crate::definitions::base::encodings::HasEncodableSize), [`DecodesBack`](crate::definitions::base::calls::DecodesBack), [`size_prefixed`](crate::definitions::base::formats::size_prefixed), [`u32_format`](crate::definitions::base::formats::u32). [How to read clauses](crate::definitions).
 fn encode_number<A: Sink>(sink: &mut A, number: u32) -> Result<()> {
     begin_size_prefixed(sink, encoding_size(number))?;
     number.encode(sink).unwrap();
@@ -60,8 +67,12 @@ fn encode_number<A: Sink>(sink: &mut A, number: u32) -> Result<()> {
 /// ```text
 /// encoding = { λ s. size_prefixed_encoding (unsigned_encoding s.function_index) }
 /// encodable = { λ s. HasEncodableSize (unsigned_encoding s.function_index) }
-/// decoding = { λ s. DecodesBack (size_prefixed u32_format) (λ index. index ≡ s.function_index) (size_prefixed_encoding (unsigned_encoding s.function_index)) }
+/// decoding = { λ s. DecodesBack (size_prefixed u32_format)
+///     (λ index. index ≡ s.function_index)
+///     (size_prefixed_encoding (unsigned_encoding s.function_index)) }
 /// ```
+///
+/// Definitions: [`size_prefixed_encoding`](crate::definitions::base::encodings::size_prefixed_encoding), [`unsigned_encoding`](crate::definitions::base::numbers::unsigned_encoding), [`HasEncodableSize`](crate::definitions::base::encodings::HasEncodableSize), [`DecodesBack`](crate::definitions::base::calls::DecodesBack), [`size_prefixed`](crate::definitions::base::formats::size_prefixed), [`u32_format`](crate::definitions::base::formats::u32). [How to read clauses](crate::definitions).
 impl Encode for StartSection {
     fn encode<A: Sink>(&self, sink: &mut A) -> Result<()> {
         encode_number(sink, self.function_index)
@@ -76,9 +87,12 @@ impl Encode for StartSection {
 /// format = { size_prefixed u32_format }
 /// says = { λ s index. index ≡ s.function_index }
 /// payload = { λ s bytes. bytes ≡ unsigned_encoding s.function_index }
-/// sized = { λ s bytes encodable pays. raw_sized (unsigned_encoding s.function_index) bytes encodable pays }
+/// sized = { λ s bytes encodable pays. raw_sized
+///     (unsigned_encoding s.function_index) bytes encodable pays }
 /// decodes_back = { λ s promised. promised }
 /// ```
+///
+/// Definitions: [`number_of`](crate::definitions::base::section_id::number_of), [`size_prefixed`](crate::definitions::base::formats::size_prefixed), [`u32_format`](crate::definitions::base::formats::u32), [`unsigned_encoding`](crate::definitions::base::numbers::unsigned_encoding), [`raw_sized`](crate::definitions::base::encodings::raw_sized). [How to read clauses](crate::definitions).
 impl Section for StartSection {
     fn id(&self) -> u8 {
         SectionId::Start.into()
@@ -92,8 +106,11 @@ impl Section for StartSection {
 /// ```text
 /// encoding = { λ s. size_prefixed_encoding (unsigned_encoding s.count) }
 /// encodable = { λ s. HasEncodableSize (unsigned_encoding s.count) }
-/// decoding = { λ s. DecodesBack (size_prefixed u32_format) (λ count. count ≡ s.count) (size_prefixed_encoding (unsigned_encoding s.count)) }
+/// decoding = { λ s. DecodesBack (size_prefixed u32_format) (λ count. count ≡ s.count)
+///     (size_prefixed_encoding (unsigned_encoding s.count)) }
 /// ```
+///
+/// Definitions: [`size_prefixed_encoding`](crate::definitions::base::encodings::size_prefixed_encoding), [`unsigned_encoding`](crate::definitions::base::numbers::unsigned_encoding), [`HasEncodableSize`](crate::definitions::base::encodings::HasEncodableSize), [`DecodesBack`](crate::definitions::base::calls::DecodesBack), [`size_prefixed`](crate::definitions::base::formats::size_prefixed), [`u32_format`](crate::definitions::base::formats::u32). [How to read clauses](crate::definitions).
 impl Encode for DataCountSection {
     fn encode<A: Sink>(&self, sink: &mut A) -> Result<()> {
         encode_number(sink, self.count)
@@ -108,9 +125,12 @@ impl Encode for DataCountSection {
 /// format = { size_prefixed u32_format }
 /// says = { λ s count. count ≡ s.count }
 /// payload = { λ s bytes. bytes ≡ unsigned_encoding s.count }
-/// sized = { λ s bytes encodable pays. raw_sized (unsigned_encoding s.count) bytes encodable pays }
+/// sized = { λ s bytes encodable pays. raw_sized
+///     (unsigned_encoding s.count) bytes encodable pays }
 /// decodes_back = { λ s promised. promised }
 /// ```
+///
+/// Definitions: [`number_of`](crate::definitions::base::section_id::number_of), [`size_prefixed`](crate::definitions::base::formats::size_prefixed), [`u32_format`](crate::definitions::base::formats::u32), [`unsigned_encoding`](crate::definitions::base::numbers::unsigned_encoding), [`raw_sized`](crate::definitions::base::encodings::raw_sized). [How to read clauses](crate::definitions).
 impl Section for DataCountSection {
     fn id(&self) -> u8 {
         SectionId::DataCount.into()

@@ -50,6 +50,8 @@ impl TableType {
     /// ```text
     /// ensures { result ≡ index_type_of self.now.table64 }
     /// ```
+    ///
+    /// Definitions: [`index_type_of`](crate::definitions::sections::tables::index_type_of). [How to read clauses](crate::definitions).
     pub fn index_type(&self) -> ValType {
         if self.table64 {
             ValType::I64
@@ -66,6 +68,8 @@ impl TableType {
     /// ```text
     /// ensures { result ≡ flags_code (table_flags self.now) }
     /// ```
+    ///
+    /// Definitions: [`flags_code`](crate::definitions::sections::flags::flags_code), [`table_flags`](crate::definitions::sections::tables::table_flags). [How to read clauses](crate::definitions).
     #[inline]
     fn flags(&self) -> u8 {
         where_set(self.maximum.is_some(), 0x01)
@@ -82,6 +86,8 @@ impl TableType {
 /// encoding = { table_encoding }
 /// encodable = { λ _. ⊤ }
 /// ```
+///
+/// Definitions: [`table_encoding`](crate::definitions::sections::tables::table_encoding). [How to read clauses](crate::definitions).
 impl Encode for TableType {
     #[inline]
     fn encode<A: Sink>(&self, sink: &mut A) -> Result<()> {
@@ -97,6 +103,8 @@ impl Encode for TableType {
 /// Item = { TableModel }
 /// kind = { table_items }
 /// ```
+///
+/// Definitions: [`GivenTable`](crate::definitions::sections::tables::GivenTable), [`TableModel`](crate::definitions::sections::tables::TableItem), [`table_items`](crate::definitions::sections::tables::table_items). [How to read clauses](crate::definitions).
 impl Kind for TableItems {
     fn laws() {}
 }
@@ -106,6 +114,8 @@ impl Kind for TableItems {
 /// ```text
 /// section_id = { number_of ids.Table }
 /// ```
+///
+/// Definitions: [`number_of`](crate::definitions::base::section_id::number_of). [How to read clauses](crate::definitions).
 impl ItemKind for TableItems {
     fn id() -> u8 {
         SectionId::Table.into()
@@ -122,6 +132,8 @@ impl<A: Allocator> TableSection<A> {
     /// ```text
     /// ensures { Adds (table_encoding table_type) ⊤ self.old self.new result }
     /// ```
+    ///
+    /// Definitions: [`Adds`](crate::definitions::base::calls::Adds), [`table_encoding`](crate::definitions::sections::tables::table_encoding). [How to read clauses](crate::definitions).
     pub fn table(&mut self, table_type: TableType) -> Result<()> {
         self.add_record(&table_type)
     }
@@ -131,8 +143,12 @@ impl<A: Allocator> TableSection<A> {
     /// # Proved
     ///
     /// ```text
-    /// ensures { Adds (before_init ++ (table_encoding table_type ++ expression_encoding init.now)) ⊤ self.old self.new result }
+    /// ensures { Adds (before_init
+    ///         ++ (table_encoding table_type ++ expression_encoding init.now)) ⊤ self.old
+    ///     self.new result }
     /// ```
+    ///
+    /// Definitions: [`Adds`](crate::definitions::base::calls::Adds), [`before_init`](crate::definitions::sections::tables::before_init), [`table_encoding`](crate::definitions::sections::tables::table_encoding), [`expression_encoding`](crate::definitions::code::expressions::expression_encoding). [How to read clauses](crate::definitions).
     pub fn table_with_init<B: Allocator>(
         &mut self,
         table_type: TableType,
@@ -158,6 +174,8 @@ struct Limits {
 /// format = { limits }
 /// view = { limits_view }
 /// ```
+///
+/// Definitions: [`LimitsModel`](crate::definitions::sections::tables::Limits), [`limits`](crate::definitions::sections::tables::limits), [`limits_view`](crate::definitions::sections::tables::limits_view). [How to read clauses](crate::definitions).
 impl Layout for Limits {
     fn laws() {}
 }
@@ -187,6 +205,8 @@ impl<'a, A: Allocator + Copy, G: Grammar> Readable<'a, A, G> for Limits {
 /// format = { table_type }
 /// view = { λ table. table }
 /// ```
+///
+/// Definitions: [`table_type`](crate::definitions::sections::tables::table_type). [How to read clauses](crate::definitions).
 impl Layout for TableType {
     fn laws() {}
 }
@@ -224,6 +244,8 @@ pub struct TableItem<A: Allocator = Global> {
 /// format = { table_item }
 /// view = { table_view }
 /// ```
+///
+/// Definitions: [`TableModel`](crate::definitions::sections::tables::TableItem), [`table_item`](crate::definitions::sections::tables::table_item), [`table_view`](crate::definitions::sections::tables::table_view). [How to read clauses](crate::definitions).
 impl<A: Allocator> Layout for TableItem<A> {
     fn laws() {}
 }

@@ -47,6 +47,8 @@ impl TagKind {
     /// ```text
     /// ensures { result ≡ tag_code self }
     /// ```
+    ///
+    /// Definitions: [`tag_code`](crate::definitions::sections::tags::tag_code). [How to read clauses](crate::definitions).
     #[inline]
     fn byte(self) -> u8 {
         match self {
@@ -63,6 +65,8 @@ impl TagKind {
 /// encoding = { tag_encoding }
 /// encodable = { λ _. ⊤ }
 /// ```
+///
+/// Definitions: [`tag_encoding`](crate::definitions::sections::tags::tag_encoding). [How to read clauses](crate::definitions).
 impl Encode for TagType {
     #[inline]
     fn encode<A: Sink>(&self, sink: &mut A) -> Result<()> {
@@ -77,6 +81,8 @@ impl Encode for TagType {
 /// Item = { Tag }
 /// kind = { tag_items }
 /// ```
+///
+/// Definitions: [`tag_items`](crate::definitions::sections::tags::tag_items). [How to read clauses](crate::definitions).
 impl Kind for TagItems {
     fn laws() {}
 }
@@ -86,6 +92,8 @@ impl Kind for TagItems {
 /// ```text
 /// section_id = { number_of ids.Tag }
 /// ```
+///
+/// Definitions: [`number_of`](crate::definitions::base::section_id::number_of). [How to read clauses](crate::definitions).
 impl ItemKind for TagItems {
     fn id() -> u8 {
         SectionId::Tag.into()
@@ -102,6 +110,8 @@ impl<A: Allocator> TagSection<A> {
     /// ```text
     /// ensures { Adds (tag_encoding tag_type) ⊤ self.old self.new result }
     /// ```
+    ///
+    /// Definitions: [`Adds`](crate::definitions::base::calls::Adds), [`tag_encoding`](crate::definitions::sections::tags::tag_encoding). [How to read clauses](crate::definitions).
     pub fn tag(&mut self, tag_type: TagType) -> Result<()> {
         self.add_record(&tag_type)
     }
@@ -114,6 +124,8 @@ impl<A: Allocator> TagSection<A> {
 /// format = { coded tag_code }
 /// view = { λ kind. kind }
 /// ```
+///
+/// Definitions: [`coded`](crate::definitions::base::formats::coded), [`tag_code`](crate::definitions::sections::tags::tag_code). [How to read clauses](crate::definitions).
 impl Layout for TagKind {
     fn laws() {}
 }
@@ -136,6 +148,8 @@ impl<'a, A: Allocator + Copy, G: Grammar> Readable<'a, A, G> for TagKind {
 /// format = { tag_type }
 /// view = { λ tag. tag }
 /// ```
+///
+/// Definitions: [`tag_type`](crate::definitions::sections::tags::tag_type). [How to read clauses](crate::definitions).
 impl Layout for TagType {
     fn laws() {}
 }

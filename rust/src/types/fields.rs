@@ -16,6 +16,8 @@ struct Mutable(bool);
 /// format = { coded mutable_code }
 /// view = { λ m. m.0 }
 /// ```
+///
+/// Definitions: [`coded`](crate::definitions::base::formats::coded), [`mutable_code`](crate::definitions::types::rec_types::mutable_code). [How to read clauses](crate::definitions).
 impl Layout for Mutable {
     fn laws() {}
 }
@@ -38,6 +40,8 @@ impl<'a, A: Allocator + Copy, G: Grammar> Readable<'a, A, G> for Mutable {
 /// format = { storage_type }
 /// view = { λ ty. ty }
 /// ```
+///
+/// Definitions: [`storage_type`](crate::definitions::types::rec_types::storage_type). [How to read clauses](crate::definitions).
 impl Layout for StorageType {
     fn laws() {}
 }
@@ -63,6 +67,8 @@ impl<'a, A: Allocator + Copy, G: Grammar> Readable<'a, A, G> for StorageType {
 /// format = { field_type }
 /// view = { λ field. field }
 /// ```
+///
+/// Definitions: [`field_type`](crate::definitions::types::rec_types::field_type). [How to read clauses](crate::definitions).
 impl Layout for FieldType {
     fn laws() {}
 }

@@ -28,10 +28,17 @@ pub enum TypeEntry<A: Allocator = Global> {
 ///
 /// # Proved
 ///
+/// After `Ok`: `found`. After an error: `none`.
+///
 /// ```text
-/// ensures found { IfOk result (λ x. Decodes supertypes_and (padded_of G.grammar) bytes.now (x.0.items, composite_in x.1) x.2.now) }
-/// ensures none { IfErr result (λ e. e.cause ≢ Memory → Rejects supertypes_and (padded_of G.grammar) bytes.now) }
+/// ensures found { IfOk result
+///     (λ x. Decodes supertypes_and (padded_of G.grammar) bytes.now
+///         (x.0.items, composite_in x.1) x.2.now) }
+/// ensures none { IfErr result
+///     (λ e. e.cause ≢ Memory → Rejects supertypes_and (padded_of G.grammar) bytes.now) }
 /// ```
+///
+/// Definitions: [`Decodes`](crate::definitions::base::decoding::Decodes), [`supertypes_and`](crate::definitions::types::rec_types::supertypes_and), [`padded_of`](crate::definitions::base::numbers::padded_of), [`composite_in`](crate::definitions::types::given::composite_in), [`Rejects`](crate::definitions::base::decoding::Rejects). [How to read clauses](crate::definitions).
 fn read_supertypes_and<'a, A: Allocator + Copy, G: Grammar>(
     bytes: &'a [u8],
     alloc: A,
@@ -46,10 +53,18 @@ fn read_supertypes_and<'a, A: Allocator + Copy, G: Grammar>(
 ///
 /// # Proved
 ///
+/// After `Ok`: `found`. After an error: `none`.
+///
 /// ```text
-/// ensures found { IfOk result (λ x. Decodes (such (HasFinalPrefix G.grammar) supertypes_and) (padded_of G.grammar) bytes.now (x.0.items, composite_in x.1) x.2.now) }
-/// ensures none { IfErr result (λ e. e.cause ≢ Memory → Rejects (such (HasFinalPrefix G.grammar) supertypes_and) (padded_of G.grammar) bytes.now) }
+/// ensures found { IfOk result
+///     (λ x. Decodes (such (HasFinalPrefix G.grammar) supertypes_and)
+///         (padded_of G.grammar) bytes.now (x.0.items, composite_in x.1) x.2.now) }
+/// ensures none { IfErr result
+///     (λ e. e.cause ≢ Memory → Rejects (such (HasFinalPrefix G.grammar) supertypes_and)
+///         (padded_of G.grammar) bytes.now) }
 /// ```
+///
+/// Definitions: [`Decodes`](crate::definitions::base::decoding::Decodes), [`such`](crate::definitions::base::formats::such), [`HasFinalPrefix`](crate::definitions::types::rec_types::HasFinalPrefix), [`supertypes_and`](crate::definitions::types::rec_types::supertypes_and), [`padded_of`](crate::definitions::base::numbers::padded_of), [`composite_in`](crate::definitions::types::given::composite_in), [`Rejects`](crate::definitions::base::decoding::Rejects). [How to read clauses](crate::definitions).
 fn read_final_and<'a, A: Allocator + Copy, G: Grammar>(
     bytes: &'a [u8],
     alloc: A,
@@ -66,10 +81,17 @@ fn read_final_and<'a, A: Allocator + Copy, G: Grammar>(
 ///
 /// # Proved
 ///
+/// After `Ok`: `found`. After an error: `none`.
+///
 /// ```text
-/// ensures found { IfOk result (λ x. Decodes (after_sub tag) (padded_of G.grammar) bytes.now (sub_view x.0) x.1.now) }
-/// ensures none { IfErr result (λ e. e.cause ≢ Memory → Rejects (after_sub tag) (padded_of G.grammar) bytes.now) }
+/// ensures found { IfOk result
+///     (λ x. Decodes (after_sub tag) (padded_of G.grammar) bytes.now
+///         (sub_view x.0) x.1.now) }
+/// ensures none { IfErr result
+///     (λ e. e.cause ≢ Memory → Rejects (after_sub tag) (padded_of G.grammar) bytes.now) }
 /// ```
+///
+/// Definitions: [`Decodes`](crate::definitions::base::decoding::Decodes), [`after_sub`](crate::definitions::types::rec_types::after_sub), [`padded_of`](crate::definitions::base::numbers::padded_of), [`sub_view`](crate::definitions::types::items::sub_view), [`Rejects`](crate::definitions::base::decoding::Rejects). [How to read clauses](crate::definitions).
 fn read_sub_after<'a, A: Allocator + Copy, G: Grammar>(
     tag: u8,
     bytes: &'a [u8],
@@ -113,6 +135,8 @@ fn read_sub_after<'a, A: Allocator + Copy, G: Grammar>(
 /// format = { sub_type }
 /// view = { sub_view }
 /// ```
+///
+/// Definitions: [`Sub`](crate::definitions::types::rec_types::Sub), [`sub_type`](crate::definitions::types::rec_types::sub_type), [`sub_view`](crate::definitions::types::items::sub_view). [How to read clauses](crate::definitions).
 impl<A: Allocator> Layout for SubItem<A> {
     fn laws() {}
 }
@@ -131,6 +155,8 @@ impl<'a, A: Allocator + Copy, G: Grammar> Readable<'a, A, G> for SubItem<A> {
 /// format = { type_item }
 /// view = { entry_view }
 /// ```
+///
+/// Definitions: [`Entry`](crate::definitions::types::rec_types::TypeItem), [`type_item`](crate::definitions::types::rec_types::type_item), [`entry_view`](crate::definitions::types::items::entry_view). [How to read clauses](crate::definitions).
 impl<A: Allocator> Layout for TypeEntry<A> {
     fn laws() {}
 }
@@ -156,6 +182,8 @@ impl<'a, A: Allocator + Copy, G: Grammar> Readable<'a, A, G> for TypeEntry<A> {
 /// encoding = { λ s. sub_encoding (sub_view s) }
 /// encodable = { IsEncodableSubItem }
 /// ```
+///
+/// Definitions: [`sub_encoding`](crate::definitions::types::rec_types::sub_encoding), [`sub_view`](crate::definitions::types::items::sub_view), [`IsEncodableSubItem`](crate::definitions::types::items::IsEncodableSubItem). [How to read clauses](crate::definitions).
 impl<A: Allocator> Encode for SubItem<A> {
     fn encode<B: Sink>(&self, sink: &mut B) -> Result<()> {
         if !self.is_final {
@@ -186,6 +214,8 @@ impl<A: Allocator> Encode for SubItem<A> {
 /// encoding = { entry_encoding }
 /// encodable = { IsEncodableEntry }
 /// ```
+///
+/// Definitions: [`entry_encoding`](crate::definitions::types::items::entry_encoding), [`IsEncodableEntry`](crate::definitions::types::items::IsEncodableEntry). [How to read clauses](crate::definitions).
 impl<A: Allocator> Encode for TypeEntry<A> {
     fn encode<B: Sink>(&self, sink: &mut B) -> Result<()> {
         match self {

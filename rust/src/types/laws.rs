@@ -16,6 +16,8 @@
 /// ensures storage { Unambiguous storage_type }
 /// ensures items { ItemLaws type_items }
 /// ```
+///
+/// Definitions: [`Unambiguous`](crate::definitions::base::decoding::Unambiguous), [`counted_format`](crate::definitions::base::entries::counted_format), [`type_item`](crate::definitions::types::rec_types::type_item), [`sub_type`](crate::definitions::types::rec_types::sub_type), [`composite_type`](crate::definitions::types::rec_types::composite_type), [`field_type`](crate::definitions::types::rec_types::field_type), [`storage_type`](crate::definitions::types::rec_types::storage_type), [`ItemLaws`](crate::definitions::base::entries::ItemLaws), [`type_items`](crate::definitions::types::rec_types::type_items). [How to read clauses](crate::definitions).
 pub fn types() {}
 
 /// The standard's grammar also has a final type with an empty list of supertypes before its
@@ -24,8 +26,12 @@ pub fn types() {}
 /// # Proved
 ///
 /// ```text
-/// ensures { (bytes : List ℕ) (composite : Composite) → composite_type standard bytes composite → sub_type standard (0x4F ∷ 0x00 ∷ bytes) (alone_of composite) }
+/// ensures { (bytes : List ℕ) (composite : Composite)
+///     → composite_type standard bytes composite
+///     → sub_type standard (0x4F ∷ 0x00 ∷ bytes) (alone_of composite) }
 /// ```
+///
+/// Definitions: [`Composite`](crate::definitions::types::rec_types::Composite), [`composite_type`](crate::definitions::types::rec_types::composite_type), [`standard`](crate::definitions::base::numbers::Mode), [`sub_type`](crate::definitions::types::rec_types::sub_type), [`alone_of`](crate::definitions::types::rec_types::alone_of). [How to read clauses](crate::definitions).
 pub fn standard() {}
 
 /// With padded numbers the formats of type sections and types are unambiguous too. A minimal
@@ -37,6 +43,8 @@ pub fn standard() {}
 /// ensures section { UnambiguousPadded (counted_format type_item) }
 /// ensures item { UnambiguousPadded type_item }
 /// ```
+///
+/// Definitions: [`UnambiguousPadded`](crate::definitions::base::decoding::UnambiguousPadded), [`counted_format`](crate::definitions::base::entries::counted_format), [`type_item`](crate::definitions::types::rec_types::type_item). [How to read clauses](crate::definitions).
 pub fn padded() {}
 
 /// The types that a type section holds, call by call: none at first, and one more after each call
@@ -47,6 +55,8 @@ pub fn padded() {}
 /// ```text
 /// ensures { ContainsMore type_items }
 /// ```
+///
+/// Definitions: [`ContainsMore`](crate::definitions::base::laws::ContainsMore), [`type_items`](crate::definitions::types::rec_types::type_items). [How to read clauses](crate::definitions).
 pub fn calls() {}
 
 /// The types that the entries of a type section encode with padded numbers, call by call.
@@ -56,6 +66,8 @@ pub fn calls() {}
 /// ```text
 /// ensures { ContainsMorePadded type_items }
 /// ```
+///
+/// Definitions: [`ContainsMorePadded`](crate::definitions::base::laws::ContainsMorePadded), [`type_items`](crate::definitions::types::rec_types::type_items). [How to read clauses](crate::definitions).
 pub fn padded_calls() {}
 
 /// If a module decodes to ids and payloads, and a type section decodes to its items alone, then its
@@ -66,6 +78,8 @@ pub fn padded_calls() {}
 /// ```text
 /// ensures { DecodesPayloads (vec type_item) }
 /// ```
+///
+/// Definitions: [`DecodesPayloads`](crate::definitions::base::modules::DecodesPayloads), [`vec`](crate::definitions::base::formats::vec), [`type_item`](crate::definitions::types::rec_types::type_item). [How to read clauses](crate::definitions).
 pub fn payloads() {}
 
 /// The same with padded numbers.
@@ -75,6 +89,8 @@ pub fn payloads() {}
 /// ```text
 /// ensures { DecodesPayloadsPadded (vec type_item) }
 /// ```
+///
+/// Definitions: [`DecodesPayloadsPadded`](crate::definitions::base::modules::DecodesPayloadsPadded), [`vec`](crate::definitions::base::formats::vec), [`type_item`](crate::definitions::types::rec_types::type_item). [How to read clauses](crate::definitions).
 pub fn padded_payloads() {}
 
 /// These three byte sequences encode no type section in the builders' grammar, with padded numbers
@@ -84,8 +100,13 @@ pub fn padded_payloads() {}
 /// # Proved
 ///
 /// ```text
-/// ensures mutability_of_2 { RejectsAllAfterPadded (counted_format type_item) (5 ∷ 1 ∷ 95 ∷ 1 ∷ 127 ∷ 2 ∷ []) }
-/// ensures padded_group { RejectsAllAfterPadded (counted_format type_item) (4 ∷ 1 ∷ 206 ∷ 0 ∷ 0 ∷ []) }
-/// ensures no_supertypes { RejectsAllAfterPadded (counted_format type_item) (5 ∷ 1 ∷ 79 ∷ 0 ∷ 95 ∷ 0 ∷ []) }
+/// ensures mutability_of_2 { RejectsAllAfterPadded (counted_format type_item)
+///     (5 ∷ 1 ∷ 95 ∷ 1 ∷ 127 ∷ 2 ∷ []) }
+/// ensures padded_group { RejectsAllAfterPadded (counted_format type_item)
+///     (4 ∷ 1 ∷ 206 ∷ 0 ∷ 0 ∷ []) }
+/// ensures no_supertypes { RejectsAllAfterPadded (counted_format type_item)
+///     (5 ∷ 1 ∷ 79 ∷ 0 ∷ 95 ∷ 0 ∷ []) }
 /// ```
+///
+/// Definitions: [`RejectsAllAfterPadded`](crate::definitions::base::laws::RejectsAllAfterPadded), [`counted_format`](crate::definitions::base::entries::counted_format), [`type_item`](crate::definitions::types::rec_types::type_item). [How to read clauses](crate::definitions).
 pub fn rejections() {}

@@ -10,10 +10,18 @@ use crate::base::{DecodeError, Grammar, ReadFault, Readable, ValType, read_index
 ///
 /// # Proved
 ///
+/// After `Ok`: `found`. After an error: `none`.
+///
 /// ```text
-/// ensures found { IfOk result (λ x. Decodes (after_shape tag) (padded_of G.grammar) bytes.now (shape_in x.0) x.1.now) }
-/// ensures none { IfErr result (λ e. e.cause ≢ Memory → Rejects (after_shape tag) (padded_of G.grammar) bytes.now) }
+/// ensures found { IfOk result
+///     (λ x. Decodes (after_shape tag) (padded_of G.grammar) bytes.now
+///         (shape_in x.0) x.1.now) }
+/// ensures none { IfErr result
+///     (λ e. e.cause ≢ Memory → Rejects (after_shape tag) (padded_of G.grammar) bytes.now)
+///     }
 /// ```
+///
+/// Definitions: [`Decodes`](crate::definitions::base::decoding::Decodes), [`after_shape`](crate::definitions::types::rec_types::after_shape), [`padded_of`](crate::definitions::base::numbers::padded_of), [`shape_in`](crate::definitions::types::given::shape_in), [`Rejects`](crate::definitions::base::decoding::Rejects). [How to read clauses](crate::definitions).
 fn read_shape_after<'a, A: Allocator + Copy, G: Grammar>(
     tag: u8,
     bytes: &'a [u8],
@@ -51,10 +59,18 @@ fn read_shape_after<'a, A: Allocator + Copy, G: Grammar>(
 ///
 /// # Proved
 ///
+/// After `Ok`: `found`. After an error: `none`.
+///
 /// ```text
-/// ensures found { IfOk result (λ x. Decodes (after_descriptor tag) (padded_of G.grammar) bytes.now (described_view x.0) x.1.now) }
-/// ensures none { IfErr result (λ e. e.cause ≢ Memory → Rejects (after_descriptor tag) (padded_of G.grammar) bytes.now) }
+/// ensures found { IfOk result
+///     (λ x. Decodes (after_descriptor tag) (padded_of G.grammar) bytes.now
+///         (described_view x.0) x.1.now) }
+/// ensures none { IfErr result
+///     (λ e. e.cause ≢ Memory → Rejects (after_descriptor tag)
+///         (padded_of G.grammar) bytes.now) }
 /// ```
+///
+/// Definitions: [`Decodes`](crate::definitions::base::decoding::Decodes), [`after_descriptor`](crate::definitions::types::rec_types::after_descriptor), [`padded_of`](crate::definitions::base::numbers::padded_of), [`described_view`](crate::definitions::types::items::described_view), [`Rejects`](crate::definitions::base::decoding::Rejects). [How to read clauses](crate::definitions).
 fn read_descriptor_after<'a, A: Allocator + Copy, G: Grammar>(
     tag: u8,
     bytes: &'a [u8],
@@ -75,10 +91,18 @@ fn read_descriptor_after<'a, A: Allocator + Copy, G: Grammar>(
 ///
 /// # Proved
 ///
+/// After `Ok`: `found`. After an error: `none`.
+///
 /// ```text
-/// ensures found { IfOk result (λ x. Decodes (after_describes tag) (padded_of G.grammar) bytes.now (describing_view x.0) x.1.now) }
-/// ensures none { IfErr result (λ e. e.cause ≢ Memory → Rejects (after_describes tag) (padded_of G.grammar) bytes.now) }
+/// ensures found { IfOk result
+///     (λ x. Decodes (after_describes tag) (padded_of G.grammar) bytes.now
+///         (describing_view x.0) x.1.now) }
+/// ensures none { IfErr result
+///     (λ e. e.cause ≢ Memory → Rejects (after_describes tag)
+///         (padded_of G.grammar) bytes.now) }
 /// ```
+///
+/// Definitions: [`Decodes`](crate::definitions::base::decoding::Decodes), [`after_describes`](crate::definitions::types::rec_types::after_describes), [`padded_of`](crate::definitions::base::numbers::padded_of), [`describing_view`](crate::definitions::types::items::describing_view), [`Rejects`](crate::definitions::base::decoding::Rejects). [How to read clauses](crate::definitions).
 fn read_describes_after<'a, A: Allocator + Copy, G: Grammar>(
     tag: u8,
     bytes: &'a [u8],
@@ -104,10 +128,18 @@ fn read_describes_after<'a, A: Allocator + Copy, G: Grammar>(
 ///
 /// # Proved
 ///
+/// After `Ok`: `found`. After an error: `none`.
+///
 /// ```text
-/// ensures found { IfOk result (λ x. Decodes (after_composite tag) (padded_of G.grammar) bytes.now (composite_in x.0) x.1.now) }
-/// ensures none { IfErr result (λ e. e.cause ≢ Memory → Rejects (after_composite tag) (padded_of G.grammar) bytes.now) }
+/// ensures found { IfOk result
+///     (λ x. Decodes (after_composite tag) (padded_of G.grammar) bytes.now
+///         (composite_in x.0) x.1.now) }
+/// ensures none { IfErr result
+///     (λ e. e.cause ≢ Memory → Rejects (after_composite tag)
+///         (padded_of G.grammar) bytes.now) }
 /// ```
+///
+/// Definitions: [`Decodes`](crate::definitions::base::decoding::Decodes), [`after_composite`](crate::definitions::types::rec_types::after_composite), [`padded_of`](crate::definitions::base::numbers::padded_of), [`composite_in`](crate::definitions::types::given::composite_in), [`Rejects`](crate::definitions::base::decoding::Rejects). [How to read clauses](crate::definitions).
 pub(crate) fn read_composite_after<'a, A: Allocator + Copy, G: Grammar>(
     tag: u8,
     bytes: &'a [u8],
@@ -143,10 +175,17 @@ pub(crate) fn read_composite_after<'a, A: Allocator + Copy, G: Grammar>(
 ///
 /// # Proved
 ///
+/// After `Ok`: `found`. After an error: `none`.
+///
 /// ```text
-/// ensures found { IfOk result (λ x. Decodes composite_type (padded_of G.grammar) bytes.now (composite_in x.0) x.1.now) }
-/// ensures none { IfErr result (λ e. e.cause ≢ Memory → Rejects composite_type (padded_of G.grammar) bytes.now) }
+/// ensures found { IfOk result
+///     (λ x. Decodes composite_type (padded_of G.grammar) bytes.now
+///         (composite_in x.0) x.1.now) }
+/// ensures none { IfErr result
+///     (λ e. e.cause ≢ Memory → Rejects composite_type (padded_of G.grammar) bytes.now) }
 /// ```
+///
+/// Definitions: [`Decodes`](crate::definitions::base::decoding::Decodes), [`composite_type`](crate::definitions::types::rec_types::composite_type), [`padded_of`](crate::definitions::base::numbers::padded_of), [`composite_in`](crate::definitions::types::given::composite_in), [`Rejects`](crate::definitions::base::decoding::Rejects). [How to read clauses](crate::definitions).
 pub(crate) fn read_composite<'a, A: Allocator + Copy, G: Grammar>(
     bytes: &'a [u8],
     alloc: A,

@@ -41,6 +41,8 @@ pub struct TypeItems;
 /// Item = { Item }
 /// kind = { type_items }
 /// ```
+///
+/// Definitions: [`Item`](crate::definitions::types::rec_types::TypeItem), [`type_items`](crate::definitions::types::rec_types::type_items). [How to read clauses](crate::definitions).
 impl Kind for TypeItems {
     fn laws() {}
 }
@@ -53,6 +55,8 @@ impl<A: Allocator> TypeSection<A> {
     /// ```text
     /// ensures { result ≡ length self.now }
     /// ```
+    ///
+    /// [How to read clauses](crate::definitions).
     pub fn len(&self) -> u32 {
         self.pieces.len()
     }
@@ -64,6 +68,8 @@ impl<A: Allocator> TypeSection<A> {
     /// ```text
     /// ensures { IsTrue result ↔ (length self.now ≡ 0) }
     /// ```
+    ///
+    /// [How to read clauses](crate::definitions).
     pub fn is_empty(&self) -> bool {
         self.pieces.is_empty()
     }
@@ -75,6 +81,8 @@ impl<A: Allocator> TypeSection<A> {
     /// ```text
     /// ensures { option_copied result ≡ slice_get self.now index }
     /// ```
+    ///
+    /// [How to read clauses](crate::definitions).
     pub fn piece(&self, index: u32) -> Option<&[u8]> {
         self.pieces.get(index)
     }
@@ -87,6 +95,8 @@ impl<A: Allocator> TypeSection<A> {
     /// ```text
     /// ensures { Adds entry.now ⊤ self.old self.new result }
     /// ```
+    ///
+    /// Definitions: [`Adds`](crate::definitions::base::calls::Adds). [How to read clauses](crate::definitions).
     pub fn raw(&mut self, entry: &[u8]) -> Result<()> {
         self.pieces.add(entry)
     }
@@ -99,6 +109,8 @@ impl<A: Allocator> TypeSection<A> {
     /// ensures same_reference { result.section.ghost_name ≡ self.entry.ghost_name }
     /// ensures same { result.section.now ≡ self.old }
     /// ```
+    ///
+    /// [How to read clauses](crate::definitions).
     pub fn ty(&mut self) -> CoreTypeEncoder<'_, A> {
         CoreTypeEncoder { section: self }
     }
@@ -112,6 +124,8 @@ impl<A: Allocator + Copy> TypeSection<A> {
     /// ```text
     /// ensures { result ≡ [] }
     /// ```
+    ///
+    /// [How to read clauses](crate::definitions).
     pub fn new(alloc: A) -> Self {
         TypeSection {
             pieces: Pieces::new(alloc),
@@ -122,10 +136,14 @@ impl<A: Allocator + Copy> TypeSection<A> {
     ///
     /// # Proved
     ///
+    /// After `Ok`: `same`. In any case: `memory`.
+    ///
     /// ```text
     /// ensures same { IfOk result (λ section. section ≡ self.now) }
     /// ensures memory { result ≢ Err TooLong }
     /// ```
+    ///
+    /// [How to read clauses](crate::definitions).
     pub fn clone(&self) -> Result<Self> {
         Ok(TypeSection {
             pieces: self.pieces.clone()?,
@@ -141,8 +159,12 @@ impl<A: Allocator + Copy> TypeSection<A> {
 /// encoding = { section_encoding }
 /// encodable = { IsEncodableSection }
 /// overlong = { IsOverlong }
-/// decoding = { λ section. DecodesBackBoth (counted_format type_item) (ContainsTypes section) (ContainsPadded type_item section) (section_encoding section) }
+/// decoding = { λ section. DecodesBackBoth (counted_format type_item)
+///     (ContainsTypes section) (ContainsPadded type_item section)
+///     (section_encoding section) }
 /// ```
+///
+/// Definitions: [`section_encoding`](crate::definitions::base::pieces::section_encoding), [`IsEncodableSection`](crate::definitions::base::pieces::IsEncodableSection), [`IsOverlong`](crate::definitions::base::pieces::IsOverlong), [`DecodesBackBoth`](crate::definitions::base::calls::DecodesBackBoth), [`counted_format`](crate::definitions::base::entries::counted_format), [`type_item`](crate::definitions::types::rec_types::type_item), [`ContainsTypes`](crate::definitions::types::rec_types::ContainsTypes), [`ContainsPadded`](crate::definitions::base::entries::ContainsPadded). [How to read clauses](crate::definitions).
 impl<A: Allocator> Encode for TypeSection<A> {
     fn encode<B: Sink>(&self, sink: &mut B) -> Result<()> {
         TypeItems::laws();
@@ -161,6 +183,8 @@ impl<A: Allocator> Encode for TypeSection<A> {
 /// sized = { section_sized }
 /// decodes_back = { λ section promised. promised.plain }
 /// ```
+///
+/// Definitions: [`number_of`](crate::definitions::base::section_id::number_of), [`Item`](crate::definitions::types::rec_types::TypeItem), [`counted_format`](crate::definitions::base::entries::counted_format), [`type_item`](crate::definitions::types::rec_types::type_item), [`ContainsTypes`](crate::definitions::types::rec_types::ContainsTypes), [`SectionPayload`](crate::definitions::base::pieces::SectionPayload), [`section_sized`](crate::definitions::base::pieces::section_sized). [How to read clauses](crate::definitions).
 impl<A: Allocator> Section for TypeSection<A> {
     fn id(&self) -> u8 {
         SectionId::Types.into()
@@ -177,6 +201,8 @@ impl<A: Allocator> Section for TypeSection<A> {
 /// item_encodable = { IsEncodableEntry }
 /// counted = { λ section. refl }
 /// ```
+///
+/// Definitions: [`entry_encoding`](crate::definitions::types::items::entry_encoding), [`IsEncodableEntry`](crate::definitions::types::items::IsEncodableEntry). [How to read clauses](crate::definitions).
 impl<A: Allocator, B: Allocator> Counted<TypeEntry<B>> for TypeSection<A> {
     fn add(&mut self, item: &TypeEntry<B>) -> Result<()> {
         self.pieces.add_encoded(item)
@@ -196,8 +222,13 @@ impl<'a, A: Allocator> CoreTypeEncoder<'a, A> {
     /// # Proved
     ///
     /// ```text
-    /// ensures { Adds (func_encoding ty.now.params.items ty.now.results.items) (IsEncodableVec (λ _. ⊤) ty.now.params.items × IsEncodableVec (λ _. ⊤) ty.now.results.items) self.entry.section.now self.exit.0.now result }
+    /// ensures { Adds (func_encoding ty.now.params.items ty.now.results.items)
+    ///     (IsEncodableVec (λ _. ⊤) ty.now.params.items
+    ///         × IsEncodableVec (λ _. ⊤) ty.now.results.items) self.entry.section.now
+    ///     self.exit.0.now result }
     /// ```
+    ///
+    /// Definitions: [`Adds`](crate::definitions::base::calls::Adds), [`func_encoding`](crate::definitions::types::rec_types::func_encoding), [`IsEncodableVec`](crate::definitions::base::encodings::IsEncodableVec). [How to read clauses](crate::definitions).
     pub fn func_type<B: Allocator>(self, ty: &FuncType<B>) -> Result<()> {
         let section = self.section;
         section.pieces.add_encoded(ty)
@@ -208,8 +239,12 @@ impl<'a, A: Allocator> CoreTypeEncoder<'a, A> {
     /// # Proved
     ///
     /// ```text
-    /// ensures { Adds (0x5E ∷ field_encoding (record { element_type = ty.now; mutable = mutable })) ⊤ self.entry.section.now self.exit.0.now result }
+    /// ensures { Adds (0x5E ∷ field_encoding
+    ///         (record { element_type = ty.now; mutable = mutable })) ⊤ self.entry.section.now
+    ///     self.exit.0.now result }
     /// ```
+    ///
+    /// Definitions: [`Adds`](crate::definitions::base::calls::Adds), [`field_encoding`](crate::definitions::types::rec_types::field_encoding). [How to read clauses](crate::definitions).
     pub fn array(self, ty: &StorageType, mutable: bool) -> Result<()> {
         let element = FieldType {
             element_type: *ty,
@@ -224,8 +259,11 @@ impl<'a, A: Allocator> CoreTypeEncoder<'a, A> {
     /// # Proved
     ///
     /// ```text
-    /// ensures { Adds (cont_encoding ty.now.0) ⊤ self.entry.section.now self.exit.0.now result }
+    /// ensures { Adds (cont_encoding ty.now.0) ⊤ self.entry.section.now self.exit.0.now result
+    ///     }
     /// ```
+    ///
+    /// Definitions: [`Adds`](crate::definitions::base::calls::Adds), [`cont_encoding`](crate::definitions::types::rec_types::cont_encoding). [How to read clauses](crate::definitions).
     pub fn cont(self, ty: &ContType) -> Result<()> {
         let section = self.section;
         section.pieces.add_encoded(ty)
@@ -236,8 +274,12 @@ impl<'a, A: Allocator> CoreTypeEncoder<'a, A> {
     /// # Proved
     ///
     /// ```text
-    /// ensures { Adds (sub_encoding (sub_in ty.now)) (IsEncodableShape (shape_in ty.now.composite_type.inner)) self.entry.section.now self.exit.0.now result }
+    /// ensures { Adds (sub_encoding (sub_in ty.now))
+    ///     (IsEncodableShape (shape_in ty.now.composite_type.inner)) self.entry.section.now
+    ///     self.exit.0.now result }
     /// ```
+    ///
+    /// Definitions: [`Adds`](crate::definitions::base::calls::Adds), [`sub_encoding`](crate::definitions::types::rec_types::sub_encoding), [`sub_in`](crate::definitions::types::given::sub_in), [`IsEncodableShape`](crate::definitions::types::given::IsEncodableShape), [`shape_in`](crate::definitions::types::given::shape_in). [How to read clauses](crate::definitions).
     pub fn subtype<B: Allocator>(self, ty: &SubType<B>) -> Result<()> {
         let section = self.section;
         section.pieces.add_encoded(ty)
@@ -249,15 +291,23 @@ impl<'a, A: Allocator> CoreTypeEncoder<'a, A> {
     /// # Asks
     ///
     /// ```text
-    /// requires params { HasKnownLength P.into_iter_gives P.IntoIter.can_next P.IntoIter.next_gives P.IntoIter.remaining params }
-    /// requires results { HasKnownLength Q.into_iter_gives Q.IntoIter.can_next Q.IntoIter.next_gives Q.IntoIter.remaining results }
+    /// requires params { HasKnownLength P.into_iter_gives P.IntoIter.can_next
+    ///     P.IntoIter.next_gives P.IntoIter.remaining params }
+    /// requires results { HasKnownLength Q.into_iter_gives Q.IntoIter.can_next
+    ///     Q.IntoIter.next_gives Q.IntoIter.remaining results }
     /// ```
+    ///
+    /// Definitions: [`HasKnownLength`](crate::definitions::base::iterators::HasKnownLength). [How to read clauses](crate::definitions).
     ///
     /// # Proved
     ///
     /// ```text
-    /// ensures { AddsTwoListed P.into_iter_gives P.IntoIter.next_gives P.IntoIter.remaining Q.into_iter_gives Q.IntoIter.next_gives Q.IntoIter.remaining params results func_encoding self.entry.section.now self.exit.0.now result }
+    /// ensures { AddsTwoListed P.into_iter_gives P.IntoIter.next_gives P.IntoIter.remaining
+    ///     Q.into_iter_gives Q.IntoIter.next_gives Q.IntoIter.remaining params results
+    ///     func_encoding self.entry.section.now self.exit.0.now result }
     /// ```
+    ///
+    /// Definitions: [`AddsTwoListed`](crate::definitions::types::calls::AddsTwoListed), [`func_encoding`](crate::definitions::types::rec_types::func_encoding). [How to read clauses](crate::definitions).
     pub fn function<P: IntoIterator<Item = ValType>, Q: IntoIterator<Item = ValType>>(
         self,
         params: P,
@@ -279,14 +329,20 @@ impl<'a, A: Allocator> CoreTypeEncoder<'a, A> {
     /// # Asks
     ///
     /// ```text
-    /// requires { HasKnownLength F.into_iter_gives F.IntoIter.can_next F.IntoIter.next_gives F.IntoIter.remaining fields }
+    /// requires { HasKnownLength F.into_iter_gives F.IntoIter.can_next F.IntoIter.next_gives
+    ///     F.IntoIter.remaining fields }
     /// ```
+    ///
+    /// Definitions: [`HasKnownLength`](crate::definitions::base::iterators::HasKnownLength). [How to read clauses](crate::definitions).
     ///
     /// # Proved
     ///
     /// ```text
-    /// ensures { AddsListed F.into_iter_gives F.IntoIter.next_gives F.IntoIter.remaining (λ _. ⊤) fields struct_encoding self.entry.section.now self.exit.0.now result }
+    /// ensures { AddsListed F.into_iter_gives F.IntoIter.next_gives F.IntoIter.remaining
+    ///     (λ _. ⊤) fields struct_encoding self.entry.section.now self.exit.0.now result }
     /// ```
+    ///
+    /// Definitions: [`AddsListed`](crate::definitions::types::calls::AddsListed), [`struct_encoding`](crate::definitions::types::rec_types::struct_encoding). [How to read clauses](crate::definitions).
     pub fn struct_<F: IntoIterator<Item = FieldType>>(self, fields: F) -> Result<()>
     where
         F::IntoIter: ExactSizeIterator,
@@ -302,14 +358,21 @@ impl<'a, A: Allocator> CoreTypeEncoder<'a, A> {
     /// # Asks
     ///
     /// ```text
-    /// requires { HasKnownLength T.into_iter_gives T.IntoIter.can_next T.IntoIter.next_gives T.IntoIter.remaining types }
+    /// requires { HasKnownLength T.into_iter_gives T.IntoIter.can_next T.IntoIter.next_gives
+    ///     T.IntoIter.remaining types }
     /// ```
+    ///
+    /// Definitions: [`HasKnownLength`](crate::definitions::base::iterators::HasKnownLength). [How to read clauses](crate::definitions).
     ///
     /// # Proved
     ///
     /// ```text
-    /// ensures { AddsListed T.into_iter_gives T.IntoIter.next_gives T.IntoIter.remaining (λ s. IsEncodableShape (shape_in s.composite_type.inner)) types group_encoding self.entry.section.now self.exit.0.now result }
+    /// ensures { AddsListed T.into_iter_gives T.IntoIter.next_gives T.IntoIter.remaining
+    ///     (λ s. IsEncodableShape (shape_in s.composite_type.inner)) types group_encoding
+    ///     self.entry.section.now self.exit.0.now result }
     /// ```
+    ///
+    /// Definitions: [`AddsListed`](crate::definitions::types::calls::AddsListed), [`IsEncodableShape`](crate::definitions::types::given::IsEncodableShape), [`shape_in`](crate::definitions::types::given::shape_in), [`group_encoding`](crate::definitions::types::given::group_encoding). [How to read clauses](crate::definitions).
     pub fn rec<T: IntoIterator<Item = SubType<B>>, B: Allocator>(self, types: T) -> Result<()>
     where
         T::IntoIter: ExactSizeIterator,
@@ -332,10 +395,17 @@ pub(crate) const REC: u8 = 0x4E;
 ///
 /// # Proved
 ///
+/// After `Ok`: `found`. After an error: `none`.
+///
 /// ```text
-/// ensures found { IfOk result (λ x. vec type_item (padded_of G.grammar) bytes.now (map entry_view x.items)) }
-/// ensures none { IfErr result (λ e. e.cause ≢ Memory → RejectsWhole (vec type_item) (padded_of G.grammar) bytes.now) }
+/// ensures found { IfOk result
+///     (λ x. vec type_item (padded_of G.grammar) bytes.now (map entry_view x.items)) }
+/// ensures none { IfErr result
+///     (λ e. e.cause ≢ Memory → RejectsWhole (vec type_item)
+///         (padded_of G.grammar) bytes.now) }
 /// ```
+///
+/// Definitions: [`vec`](crate::definitions::base::formats::vec), [`type_item`](crate::definitions::types::rec_types::type_item), [`padded_of`](crate::definitions::base::numbers::padded_of), [`entry_view`](crate::definitions::types::items::entry_view), [`RejectsWhole`](crate::definitions::base::continuing::RejectsWhole). [How to read clauses](crate::definitions).
 pub fn read_types<'a, A: Allocator + Copy, G: Grammar>(
     bytes: &'a [u8],
     alloc: A,
@@ -348,11 +418,18 @@ pub fn read_types<'a, A: Allocator + Copy, G: Grammar>(
 ///
 /// # Proved
 ///
+/// After `Ok`: `ok`. After an error: `err`. In any case: `too_long`.
+///
 /// ```text
-/// ensures ok { OnOk result (AppendsMinimal (vec type_item) (map entry_view types.now) sink.old.items sink.new.items) }
+/// ensures ok { OnOk result
+///     (AppendsMinimal (vec type_item)
+///         (map entry_view types.now) sink.old.items sink.new.items) }
 /// ensures err { OnErr result (sink.new.items ≡ sink.old.items) }
-/// ensures too_long { HasEncoding (vec type_item) (map entry_view types.now) → result ≢ Err TooLong }
+/// ensures too_long { HasEncoding (vec type_item) (map entry_view types.now)
+///     → result ≢ Err TooLong }
 /// ```
+///
+/// Definitions: [`AppendsMinimal`](crate::definitions::base::minimal::AppendsMinimal), [`vec`](crate::definitions::base::formats::vec), [`type_item`](crate::definitions::types::rec_types::type_item), [`entry_view`](crate::definitions::types::items::entry_view), [`HasEncoding`](crate::definitions::base::minimal::HasEncoding). [How to read clauses](crate::definitions).
 pub fn append_types<A: Allocator, B: Sink>(
     types: &[TypeEntry<A>],
     sink: &mut B,

@@ -79,17 +79,29 @@ impl<A: Allocator + Copy> FuncType<A> {
     /// # Asks
     ///
     /// ```text
-    /// requires params { (it : P.IntoIter) → P.into_iter_gives params it → P.IntoIter.can_next it × IsFinite (P.IntoIter.remaining it) }
-    /// requires results { (it : Q.IntoIter) → Q.into_iter_gives results it → Q.IntoIter.can_next it × IsFinite (Q.IntoIter.remaining it) }
+    /// requires params { (it : P.IntoIter) → P.into_iter_gives params it
+    ///     → P.IntoIter.can_next it × IsFinite (P.IntoIter.remaining it) }
+    /// requires results { (it : Q.IntoIter) → Q.into_iter_gives results it
+    ///     → Q.IntoIter.can_next it × IsFinite (Q.IntoIter.remaining it) }
     /// ```
+    ///
+    /// [How to read clauses](crate::definitions).
     ///
     /// # Proved
     ///
+    /// After `Ok`: `params`, `results`. In any case: `memory`.
+    ///
     /// ```text
-    /// ensures params { IfOk result (λ f. (it : P.IntoIter) × P.into_iter_gives params it × Drains P.IntoIter.next_gives it f.params.items) }
-    /// ensures results { IfOk result (λ f. (it : Q.IntoIter) × Q.into_iter_gives results it × Drains Q.IntoIter.next_gives it f.results.items) }
+    /// ensures params { IfOk result
+    ///     (λ f. (it : P.IntoIter) × P.into_iter_gives params it
+    ///         × Drains P.IntoIter.next_gives it f.params.items) }
+    /// ensures results { IfOk result
+    ///     (λ f. (it : Q.IntoIter) × Q.into_iter_gives results it
+    ///         × Drains Q.IntoIter.next_gives it f.results.items) }
     /// ensures memory { result ≢ Err TooLong }
     /// ```
+    ///
+    /// [How to read clauses](crate::definitions).
     pub fn new<P: IntoIterator<Item = ValType>, Q: IntoIterator<Item = ValType>>(
         alloc: A,
         params: P,
@@ -108,15 +120,24 @@ impl<A: Allocator + Copy> FuncType<A> {
 /// # Asks
 ///
 /// ```text
-/// requires { (it : P.IntoIter) → P.into_iter_gives types it → P.IntoIter.can_next it × IsFinite (P.IntoIter.remaining it) }
+/// requires { (it : P.IntoIter) → P.into_iter_gives types it
+///     → P.IntoIter.can_next it × IsFinite (P.IntoIter.remaining it) }
 /// ```
+///
+/// [How to read clauses](crate::definitions).
 ///
 /// # Proved
 ///
+/// After `Ok`: `all`. In any case: `memory`.
+///
 /// ```text
-/// ensures all { IfOk result (λ v. (it : P.IntoIter) × P.into_iter_gives types it × Drains P.IntoIter.next_gives it v.items) }
+/// ensures all { IfOk result
+///     (λ v. (it : P.IntoIter) × P.into_iter_gives types it
+///         × Drains P.IntoIter.next_gives it v.items) }
 /// ensures memory { result ≢ Err TooLong }
 /// ```
+///
+/// [How to read clauses](crate::definitions).
 fn collected<A: Allocator, P: IntoIterator<Item = ValType>>(
     alloc: A,
     types: P,
@@ -137,6 +158,8 @@ impl<A: Allocator> FuncType<A> {
     /// ensures params { result.params.items ≡ params.items }
     /// ensures results { result.results.items ≡ results.items }
     /// ```
+    ///
+    /// [How to read clauses](crate::definitions).
     pub fn of(params: Vec<ValType, A>, results: Vec<ValType, A>) -> Self {
         FuncType { params, results }
     }
@@ -148,6 +171,8 @@ impl<A: Allocator> FuncType<A> {
     /// ```text
     /// ensures { result.now ≡ self.now.params.items }
     /// ```
+    ///
+    /// [How to read clauses](crate::definitions).
     pub fn params(&self) -> &[ValType] {
         self.params.as_slice()
     }
@@ -159,6 +184,8 @@ impl<A: Allocator> FuncType<A> {
     /// ```text
     /// ensures { result.now ≡ self.now.results.items }
     /// ```
+    ///
+    /// [How to read clauses](crate::definitions).
     pub fn results(&self) -> &[ValType] {
         self.results.as_slice()
     }
@@ -168,10 +195,14 @@ impl<A: Allocator> FuncType<A> {
 ///
 /// # Proved
 ///
+/// After `Ok`: `same`. In any case: `memory`.
+///
 /// ```text
 /// ensures same { IfOk result (λ copies. copies.items ≡ items.now.items) }
 /// ensures memory { result ≢ Err TooLong }
 /// ```
+///
+/// [How to read clauses](crate::definitions).
 fn copied<T: Copy, A: Allocator + Copy>(items: &Vec<T, A>) -> Result<Vec<T, A>> {
     Ok(Vec::from_slice(*items.allocator(), items.as_slice())?)
 }
@@ -181,10 +212,14 @@ impl<A: Allocator + Copy> FuncType<A> {
     ///
     /// # Proved
     ///
+    /// After `Ok`: `same`. In any case: `memory`.
+    ///
     /// ```text
     /// ensures same { IfOk result (λ f. func_in f ≡ func_in self.now) }
     /// ensures memory { result ≢ Err TooLong }
     /// ```
+    ///
+    /// Definitions: [`func_in`](crate::definitions::types::given::func_in). [How to read clauses](crate::definitions).
     pub fn clone(&self) -> Result<Self> {
         Ok(FuncType {
             params: copied(&self.params)?,
@@ -198,10 +233,14 @@ impl<A: Allocator + Copy> StructType<A> {
     ///
     /// # Proved
     ///
+    /// After `Ok`: `same`. In any case: `memory`.
+    ///
     /// ```text
     /// ensures same { IfOk result (λ s. s.fields.items ≡ self.now.fields.items) }
     /// ensures memory { result ≢ Err TooLong }
     /// ```
+    ///
+    /// [How to read clauses](crate::definitions).
     pub fn clone(&self) -> Result<Self> {
         Ok(StructType {
             fields: copied(&self.fields)?,
@@ -214,10 +253,14 @@ impl<A: Allocator + Copy> CompositeInnerType<A> {
     ///
     /// # Proved
     ///
+    /// After `Ok`: `same`. In any case: `memory`.
+    ///
     /// ```text
     /// ensures same { IfOk result (λ inner. shape_in inner ≡ shape_in self.now) }
     /// ensures memory { result ≢ Err TooLong }
     /// ```
+    ///
+    /// Definitions: [`shape_in`](crate::definitions::types::given::shape_in). [How to read clauses](crate::definitions).
     pub fn clone(&self) -> Result<Self> {
         Ok(match self {
             CompositeInnerType::Func(func) => CompositeInnerType::Func(func.clone()?),
@@ -233,10 +276,14 @@ impl<A: Allocator + Copy> CompositeType<A> {
     ///
     /// # Proved
     ///
+    /// After `Ok`: `same`. In any case: `memory`.
+    ///
     /// ```text
     /// ensures same { IfOk result (λ c. composite_in c ≡ composite_in self.now) }
     /// ensures memory { result ≢ Err TooLong }
     /// ```
+    ///
+    /// Definitions: [`composite_in`](crate::definitions::types::given::composite_in). [How to read clauses](crate::definitions).
     pub fn clone(&self) -> Result<Self> {
         Ok(CompositeType {
             inner: self.inner.clone()?,
@@ -252,10 +299,14 @@ impl<A: Allocator + Copy> SubType<A> {
     ///
     /// # Proved
     ///
+    /// After `Ok`: `same`. In any case: `memory`.
+    ///
     /// ```text
     /// ensures same { IfOk result (λ s. sub_in s ≡ sub_in self.now) }
     /// ensures memory { result ≢ Err TooLong }
     /// ```
+    ///
+    /// Definitions: [`sub_in`](crate::definitions::types::given::sub_in). [How to read clauses](crate::definitions).
     pub fn clone(&self) -> Result<Self> {
         Ok(SubType {
             is_final: self.is_final,
@@ -273,6 +324,8 @@ impl<A: Allocator + Copy> SubType<A> {
 /// encoding = { storage_encoding }
 /// encodable = { λ _. ⊤ }
 /// ```
+///
+/// Definitions: [`storage_encoding`](crate::definitions::types::rec_types::storage_encoding). [How to read clauses](crate::definitions).
 impl Encode for StorageType {
     fn encode<A: Sink>(&self, sink: &mut A) -> Result<()> {
         match *self {
@@ -290,6 +343,8 @@ impl Encode for StorageType {
 /// ```text
 /// ensures { result ≡ mutable_code mutable }
 /// ```
+///
+/// Definitions: [`mutable_code`](crate::definitions::types::rec_types::mutable_code). [How to read clauses](crate::definitions).
 #[inline]
 fn mutability(mutable: bool) -> u8 {
     if mutable { 0x01 } else { 0x00 }
@@ -303,6 +358,8 @@ fn mutability(mutable: bool) -> u8 {
 /// encoding = { field_encoding }
 /// encodable = { λ _. ⊤ }
 /// ```
+///
+/// Definitions: [`field_encoding`](crate::definitions::types::rec_types::field_encoding). [How to read clauses](crate::definitions).
 impl Encode for FieldType {
     fn encode<A: Sink>(&self, sink: &mut A) -> Result<()> {
         (self.element_type, mutability(self.mutable)).encode(sink)
@@ -326,6 +383,8 @@ pub(crate) const FUNC: u8 = 0x60;
 /// encoding = { λ a. 0x5E ∷ field_encoding a.0 }
 /// encodable = { λ _. ⊤ }
 /// ```
+///
+/// Definitions: [`field_encoding`](crate::definitions::types::rec_types::field_encoding). [How to read clauses](crate::definitions).
 impl Encode for ArrayType {
     fn encode<A: Sink>(&self, sink: &mut A) -> Result<()> {
         (ARRAY, self.0).encode(sink)
@@ -340,6 +399,8 @@ impl Encode for ArrayType {
 /// encoding = { λ c. 0x5D ∷ signed_encoding (pos c.0) }
 /// encodable = { λ _. ⊤ }
 /// ```
+///
+/// Definitions: [`signed_encoding`](crate::definitions::base::numbers::signed_encoding). [How to read clauses](crate::definitions).
 impl Encode for ContType {
     fn encode<A: Sink>(&self, sink: &mut A) -> Result<()> {
         (CONT, i64::from(self.0)).encode(sink)
@@ -352,8 +413,11 @@ impl Encode for ContType {
 ///
 /// ```text
 /// encoding = { λ f. func_encoding f.params.items f.results.items }
-/// encodable = { λ f. IsEncodableVec (λ _. ⊤) f.params.items × IsEncodableVec (λ _. ⊤) f.results.items }
+/// encodable = { λ f. IsEncodableVec (λ _. ⊤) f.params.items
+///     × IsEncodableVec (λ _. ⊤) f.results.items }
 /// ```
+///
+/// Definitions: [`func_encoding`](crate::definitions::types::rec_types::func_encoding), [`IsEncodableVec`](crate::definitions::base::encodings::IsEncodableVec). [How to read clauses](crate::definitions).
 impl<A: Allocator> Encode for FuncType<A> {
     fn encode<B: Sink>(&self, sink: &mut B) -> Result<()> {
         (FUNC, self.params.as_slice(), self.results.as_slice()).encode(sink)
@@ -368,6 +432,8 @@ impl<A: Allocator> Encode for FuncType<A> {
 /// encoding = { λ s. 0x5F ∷ vec_encoding field_encoding s.fields.items }
 /// encodable = { λ s. IsEncodableVec (λ _. ⊤) s.fields.items }
 /// ```
+///
+/// Definitions: [`vec_encoding`](crate::definitions::base::encodings::vec_encoding), [`field_encoding`](crate::definitions::types::rec_types::field_encoding), [`IsEncodableVec`](crate::definitions::base::encodings::IsEncodableVec). [How to read clauses](crate::definitions).
 impl<A: Allocator> Encode for StructType<A> {
     fn encode<B: Sink>(&self, sink: &mut B) -> Result<()> {
         (STRUCT, self.fields.as_slice()).encode(sink)
@@ -382,6 +448,8 @@ impl<A: Allocator> Encode for StructType<A> {
 /// encoding = { λ c. shape_encoding (shape_in c) }
 /// encodable = { λ c. IsEncodableShape (shape_in c) }
 /// ```
+///
+/// Definitions: [`shape_encoding`](crate::definitions::types::rec_types::shape_encoding), [`shape_in`](crate::definitions::types::given::shape_in), [`IsEncodableShape`](crate::definitions::types::given::IsEncodableShape). [How to read clauses](crate::definitions).
 impl<A: Allocator> Encode for CompositeInnerType<A> {
     fn encode<B: Sink>(&self, sink: &mut B) -> Result<()> {
         match self {
@@ -403,6 +471,8 @@ struct Shared(bool);
 /// encoding = { λ s. shared_encoding s.0 }
 /// encodable = { λ _. ⊤ }
 /// ```
+///
+/// Definitions: [`shared_encoding`](crate::definitions::types::rec_types::shared_encoding). [How to read clauses](crate::definitions).
 impl Encode for Shared {
     fn encode<A: Sink>(&self, sink: &mut A) -> Result<()> {
         if self.0 { 0x65u8.encode(sink) } else { Ok(()) }
@@ -422,6 +492,8 @@ struct Marked {
 /// encoding = { λ m. index_encoding m.byte m.index }
 /// encodable = { λ _. ⊤ }
 /// ```
+///
+/// Definitions: [`index_encoding`](crate::definitions::types::rec_types::index_encoding). [How to read clauses](crate::definitions).
 impl Encode for Marked {
     fn encode<A: Sink>(&self, sink: &mut A) -> Result<()> {
         match self.index {
@@ -439,6 +511,8 @@ impl Encode for Marked {
 /// encoding = { λ c. composite_encoding (composite_in c) }
 /// encodable = { λ c. IsEncodableShape (shape_in c.inner) }
 /// ```
+///
+/// Definitions: [`composite_encoding`](crate::definitions::types::rec_types::composite_encoding), [`composite_in`](crate::definitions::types::given::composite_in), [`IsEncodableShape`](crate::definitions::types::given::IsEncodableShape), [`shape_in`](crate::definitions::types::given::shape_in). [How to read clauses](crate::definitions).
 impl<A: Allocator> Encode for CompositeType<A> {
     fn encode<B: Sink>(&self, sink: &mut B) -> Result<()> {
         let describes = Marked {
@@ -474,6 +548,8 @@ struct Before {
 /// encoding = { λ b. before_encoding b.is_final (listed b.supertype_idx) }
 /// encodable = { λ _. ⊤ }
 /// ```
+///
+/// Definitions: [`before_encoding`](crate::definitions::types::rec_types::before_encoding), [`listed`](crate::definitions::types::given::listed). [How to read clauses](crate::definitions).
 impl Encode for Before {
     fn encode<A: Sink>(&self, sink: &mut A) -> Result<()> {
         let byte: u8 = if self.is_final { 0x4F } else { 0x50 };
@@ -496,6 +572,8 @@ impl Encode for Before {
 /// encoding = { λ s. sub_encoding (sub_in s) }
 /// encodable = { λ s. IsEncodableShape (shape_in s.composite_type.inner) }
 /// ```
+///
+/// Definitions: [`sub_encoding`](crate::definitions::types::rec_types::sub_encoding), [`sub_in`](crate::definitions::types::given::sub_in), [`IsEncodableShape`](crate::definitions::types::given::IsEncodableShape), [`shape_in`](crate::definitions::types::given::shape_in). [How to read clauses](crate::definitions).
 impl<A: Allocator> Encode for SubType<A> {
     fn encode<B: Sink>(&self, sink: &mut B) -> Result<()> {
         let before = Before {

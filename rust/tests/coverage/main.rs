@@ -3,8 +3,17 @@
 #[allow(dead_code, reason = "`main` is not called")]
 #[path = "../../examples/coverage.rs"]
 mod example;
+#[allow(dead_code, unused_imports, clippy::all)]
+#[path = "../examples/mod.rs"]
+#[rustfmt::skip]
+mod examples;
+mod proved;
 mod samples;
 mod sections;
+#[allow(dead_code, unused_imports, clippy::all)]
+#[path = "../test_support/mod.rs"]
+#[rustfmt::skip]
+mod test_support;
 #[path = "../support/tools.rs"]
 mod tools;
 

@@ -63,7 +63,7 @@ fn refused_at(offset: usize) -> ReadError {
 /// ensures ok { OnOk result (DecodesOneMore (λ payload. payload ≡ section.now.section.payload) section.now.section.id module.old module.new) }
 /// ensures memory { IfErr result (λ e. e.cause ≡ Memory) }
 /// ```
-fn copy<A: Allocator + Copy>(
+pub(crate) fn copy<A: Allocator + Copy>(
     section: &Section<'_, A>,
     module: &mut Module<A>,
 ) -> Result<(), ReadError> {

@@ -335,6 +335,33 @@ function 1 "b": type 0, offset 0x2c, size 3
     check(&sections, &["--section=code"], lines);
 }
 
+/// Object files have no name section. Where there is one, its names have precedence.
+#[test]
+fn names_of_symbols() {
+    // The functions `f` and `x`, and the global `g`; function 1 is `b`.
+    let symbols = "03 0000000166 0000010178 0200000167";
+    let linking = custom("linking", &format!("02 08 10 {symbols}"));
+    let name = custom("name", "01 04 01 01 01 62");
+    // `call 0`, `call 1`, `global.get 0`.
+    let code = "0a 0a 01 08 00 1000 1001 2300 0b";
+    let lines = |second: &str| {
+        format!(
+            r#"section 1 (code): offset 0xa, size 10
+
+function 0 "f": offset 0xc, size 8
+ 00000d: 10 00                      | call 0 "f"
+ 00000f: 10 01                      | call 1 "{second}"
+ 000011: 23 00                      | global.get 0 "g"
+ 000013: 0b                         | end
+"#
+        )
+    };
+    let words = ["--section=code"];
+    check(&[code, &linking], &words, &lines("x"));
+    check(&[code, &linking, &name], &words, &lines("b"));
+    check(&[code, &name, &linking], &words, &lines("b"));
+}
+
 // ---- other sections
 
 #[test]

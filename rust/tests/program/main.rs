@@ -1,8 +1,12 @@
 //! Tests of the program `dolzhytik`: each command, each error and each text.
 mod build;
+mod build_id;
 mod completions;
 mod dump;
 mod files;
+mod hints;
+mod keep_code;
+mod linked;
 mod no_module;
 mod outline;
 mod program;
@@ -11,4 +15,6 @@ mod samples;
 mod shorten;
 mod size;
 mod strip;
+#[path = "../support/tools.rs"]
+mod tools;
 mod usage;

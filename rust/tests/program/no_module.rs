@@ -3,7 +3,7 @@ use crate::program::{Answer, Folder};
 use crate::samples::{PADDED, bytes_of, module};
 
 /// Each way to call a command that reads a module, without the file.
-const COMMANDS: [&[&str]; 11] = [
+const COMMANDS: [&[&str]; 13] = [
     &["outline"],
     &["outline", "--why", "--strict", "--json"],
     &["dump"],
@@ -14,7 +14,9 @@ const COMMANDS: [&[&str]; 11] = [
     &["strip", "-o-", "--debug"],
     &["shorten", "-o", "b.wasm"],
     &["shorten", "-o-", "--drop-offsets"],
+    &["shorten", "-o", "b.wasm", "--keep-code"],
     &["shorten", "--dry-run"],
+    &["shorten", "--dry-run", "--build-id=keep"],
 ];
 
 /// Checks the message of each command.

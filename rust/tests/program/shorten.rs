@@ -2,8 +2,9 @@
 use crate::program::{Answer, Folder};
 use crate::samples::{PADDED, SHORT, UNREAD, custom, module};
 
-const REFUSED: &str = "holds offsets that would no longer lead where they do; \
-    --drop-offsets leaves such sections out, and --dry-run prints what that saves";
+const REFUSED: &str = "holds offsets that would become wrong; \
+    --drop-offsets drops such sections, --keep-code keeps code and data byte for byte, \
+    and --dry-run prints what each saves";
 
 #[test]
 fn padded_numbers_get_shorter() {
@@ -111,6 +112,28 @@ fn dry_runs_write_nothing() {
         told("standard input")
     );
     assert_eq!(folder.names(), ["a.wasm"]);
+}
+
+#[test]
+fn dry_runs_as_json() {
+    let folder = Folder::new("dry_json");
+    let [types, functions, ..] = PADDED;
+    let debug = custom(".debug_info", "ff");
+    let sections = [types, functions, &debug];
+    let json = r#"{"before": 43, "after": 21, "sections": [
+  {"section": 1, "kind": "type", "name": null, "before": 13, "after": 9},
+  {"section": 2, "kind": "function", "name": null, "before": 7, "after": 4},
+  {"section": 3, "kind": "custom", "name": ".debug_info", "before": 15, "after": null}
+]}
+"#;
+    let words = ["shorten", "-", "--dry-run", "--json", "--drop-offsets"];
+    let sizes =
+        "43 bytes before, 21 after; sections kept as they were: 0; left out: 1; not written";
+    let told = Answer {
+        out: json.into(),
+        ..Answer::told(&format!("standard input: {sizes}"))
+    };
+    assert_eq!(folder.call(&words, &module(&sections)), told);
 }
 
 #[test]

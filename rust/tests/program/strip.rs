@@ -26,10 +26,16 @@ fn check(sections: &[&str], words: &[&str], left: &[&str], removed: usize) {
 /// Checks that these words are refused for the section of this number and name.
 #[track_caller]
 fn check_refused(sections: &[&str], words: &[&str], number: usize, name: &str) {
+    check_remedy(sections, words, number, name, REFUSED);
+}
+
+/// Checks the reason and the remedy too.
+#[track_caller]
+fn check_remedy(sections: &[&str], words: &[&str], number: usize, name: &str, why: &str) {
     let folder = Folder::new("strip_refused");
     folder.write("a.wasm", module(sections));
     let words = [&["strip", "a.wasm", "-o", "b.wasm"], words].concat();
-    let fault = Answer::fault(&format!("a.wasm: section {number}, {name:?}, {REFUSED}"));
+    let fault = Answer::fault(&format!("a.wasm: section {number}, {name:?}, {why}"));
     assert_eq!(folder.call(&words, b""), fault);
     assert_eq!(folder.names(), ["a.wasm"]);
 }
@@ -117,6 +123,12 @@ fn section_symbols() {
         1,
     );
     check_refused(&[types, &other, code, &linking], &["other"], 4, "linking");
+    // An object file without DWARF needs other indices.
+    let debug = custom(".debug_info", "ff");
+    let sections = [types, &debug, code, &linking];
+    let why = REFUSED.replace("strip it too", "--all strips it too");
+    check_remedy(&sections, &["--debug"], 4, "linking", &why);
+    check(&sections, &["--all"], &[types, code], 2);
     // A subsection and a version that no convention has.
     for data in ["02 04 00", "01 08 04 01 03 00 01"] {
         let unknown = custom("linking", data);

@@ -6,7 +6,7 @@ usage: dolzhytik outline FILE [--why] [--strict] [--json]
        dolzhytik dump FILE [--section NAME|ID].. [--json]
        dolzhytik size FILE [--functions N] [--json]
        dolzhytik strip FILE [--all | --debug | NAME..] [--keep NAME].. -o FILE [--force]
-       dolzhytik shorten FILE (-o FILE | --dry-run) [--drop-offsets] [--force]
+       dolzhytik shorten FILE (-o FILE | --dry-run [--json]) [--drop-offsets | --keep-code] [--build-id keep|drop] [--force]
        dolzhytik build RECIPE -o FILE [--force]
        dolzhytik help [COMMAND]
        dolzhytik --help | --version
@@ -42,6 +42,16 @@ fn errors() {
     check(&twice, "--functions is given twice");
     check(&["size", "a", "--functions", "x"], "not a number: x");
     check(&["size", "a", "--functions=-1"], "not a number: -1");
+    let build_id = |word| ["shorten", "a", "-ob", "--build-id", word];
+    check(
+        &build_id("kept"),
+        "--build-id needs keep or drop, and not kept",
+    );
+    check(&build_id(""), "--build-id needs keep or drop, and not ");
+    let value = "--build-id needs a value";
+    check(&build_id("")[..4], value);
+    let twice = [&build_id("keep")[..], &["--build-id=keep"]].concat();
+    check(&twice, "--build-id is given twice");
 }
 
 #[test]
@@ -85,12 +95,25 @@ fn options_of_other_commands() {
     let functions = ["strip", "a", "-o", "b", "--functions=1"];
     check(&functions, "strip takes no --functions");
     check(&["dump", "a", "--force"], "dump takes no --force");
+    let kept = ["strip", "a", "-ob", "--keep-code"];
+    check(&kept, "strip takes no --keep-code");
+    let build_id = ["strip", "a", "-ob", "--build-id=drop"];
+    check(&build_id, "strip takes no --build-id");
     let dry = ["build", "a", "-ob", "--dry-run"];
     check(&dry, "build takes no --dry-run");
     let two = "strip takes only one of --all, --debug and names";
     check(&["strip", "a", "-ob", "--all", "--debug"], two);
     check(&["strip", "a", "-ob", "--all", "c"], two);
     check(&["strip", "a", "c", "--debug", "-ob"], two);
+    let json = "shorten takes --json only with --dry-run";
+    check(&["shorten", "a", "-ob", "--json"], json);
+    let two = "shorten takes only one of --drop-offsets and --keep-code";
+    let both = ["shorten", "a", "--keep-code", "--drop-offsets", "-ob"];
+    check(&both, two);
+    check(
+        &["shorten", "a", "--keep-code", "--drop-offsets", "--dry-run"],
+        two,
+    );
 }
 
 #[test]
@@ -128,6 +151,8 @@ fn help() {
         "--dry-run ",
         "--json ",
         "--drop-offsets ",
+        "--keep-code ",
+        "--build-id keep|drop ",
     ] {
         assert!(text.contains(&format!("\n{line}")), "{line}");
     }

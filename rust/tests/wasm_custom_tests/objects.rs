@@ -109,7 +109,7 @@ fn decoded() {
     assert_eq!(&rt; sink.as_slice(), &SECTION[1..]);
     let cause = match read_links::<Global, Padded>(&SECTION[1..], rt.alloc()) {
         Ok(_) => None,
-        Err(error) => Some(error.cause),
+        Err(error) => Some(error.cause()),
     };
     assert_eq!(&rt; cause, Some(ReadFault::UnknownTag));
 }

@@ -10,7 +10,7 @@ use dolzhytik::fallible::{read_hints, read_instances, read_links, read_modules, 
 fn place<T>(read: Result<T, DecodeError>) -> (Option<ReadFault>, u32) {
     match read {
         Ok(_) => (None, 0),
-        Err(error) => (Some(error.cause), error.left),
+        Err(error) => (Some(error.cause()), error.left()),
     }
 }
 

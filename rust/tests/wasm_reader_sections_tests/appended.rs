@@ -158,7 +158,7 @@ fn body() {
     check(&rt, &heap, bytes, |sink: &mut Vec<u8, _>| {
         match shorten_body(body, &heap, sink) {
             Ok(()) => Ok(()),
-            Err(error) if error.cause == ReadFault::Memory => Err(Refused::Memory),
+            Err(error) if error.cause() == ReadFault::Memory => Err(Refused::Memory),
             Err(_) => Err(Refused::TooLong),
         }
     });

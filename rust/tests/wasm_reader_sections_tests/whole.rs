@@ -181,7 +181,10 @@ fn smaller_modules() {
     check_bytes(&rt, &once, SHORTEST);
     let mut first = Vec::new(rt.alloc());
     let mut second = Vec::new(rt.alloc());
-    assert_eq!(rt; shortened_twice(rt.alloc(), PADDED, &mut first, &mut second), Ok(1));
+    assert_eq!(rt;
+        shortened_twice(rt.alloc(), PADDED, &mut first, &mut second),
+        Ok(1)
+    );
     check_bytes(&rt, &second, SHORTEST);
 }
 

@@ -22,7 +22,7 @@ fn check_groups(rt: &impl Abort, expected: (u128, u128, u8), left: usize, bytes:
 fn check_no_groups(rt: &impl Abort, cause: ReadFault, bytes: &[u8]) {
     match read_groups(bytes, 2) {
         Ok(_) => panic!(rt; "groups"),
-        Err(error) => assert_eq!(rt; error.cause, cause),
+        Err(error) => assert_eq!(rt; error.cause(), cause),
     }
 }
 

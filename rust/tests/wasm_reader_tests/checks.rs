@@ -34,7 +34,7 @@ fn fault_of<'a, T: Readable<'a, Global, Padded>>(
 ) -> Option<ReadFault> {
     match T::read(bytes, alloc) {
         Ok(_) => None,
-        Err(error) => Some(error.cause),
+        Err(error) => Some(error.cause()),
     }
 }
 

@@ -7,7 +7,8 @@ use crate::host::Abort;
 use dolzhytik::fallible::{AbstractHeapType, HeapType, RefType, ValType};
 use dolzhytik::reader::{Grammar, Padded, ReadFault, Readable, SizePrefixed, Skip, Standard};
 use dolzhytik::reader::Body;
-use dolzhytik::fallible::BlockType;
+use dolzhytik::fallible::{BlockType, MemArg, MemArgTarget};
+use dolzhytik::fallible::Segment;
 
 /// Returns the cause of the error of decoding a `T` in the grammar, and its place.
 fn place_of<'a, T: Readable<'a, Global, G>, G: Grammar>(
@@ -16,7 +17,7 @@ fn place_of<'a, T: Readable<'a, Global, G>, G: Grammar>(
 ) -> Option<(ReadFault, u32)> {
     match T::read(bytes, alloc) {
         Ok(_) => None,
-        Err(error) => Some((error.cause, error.left)),
+        Err(error) => Some((error.cause(), error.left())),
     }
 }
 
@@ -192,4 +193,70 @@ fn standard_bodies() {
     assert_eq!(&rt; rest.map(|rest| rest.len()), Ok(0));
     let rest = <Body as Skip<'_, Global, Padded>>::skip(&bytes, rt.alloc());
     assert!(&rt; rest.is_err());
+}
+
+/// Memory 0 with an index: alignment 2 and bit 6, the index, and the offset.
+#[test]
+fn standard_memory_arguments() {
+    let rt = crate::host::HostRuntime;
+    let alloc = rt.alloc();
+    let bytes = [0x42, 0x00, 0x05, 9];
+    let read = <MemArg as Readable<'_, Global, Standard>>::read(&bytes, alloc);
+    let is_expected = match read {
+        Ok((memory, [9])) => {
+            memory.target == MemArgTarget::Memory(0)
+                && memory.align == 2
+                && memory.offset == 5
+                && memory.ordering.is_none()
+        }
+        _ => false,
+    };
+    assert!(&rt; is_expected);
+    // A padded index, and an ordering after it.
+    let padded = [0x52, 0x80, 0x00, 0x01, 0x05];
+    let read = <MemArg as Readable<'_, Global, Standard>>::read(&padded, alloc);
+    assert!(&rt; read.is_ok());
+    check_place(
+        &rt,
+        place_of::<MemArg, Padded>(alloc, &bytes),
+        ReadFault::UnknownTag,
+        3,
+    );
+    check_both::<MemArg>(&rt, alloc, &[0x62, 0x00, 0x00], ReadFault::UnknownTag, 3);
+    check_place(
+        &rt,
+        place_of::<MemArg, Standard>(alloc, &[0x42, 0x00]),
+        ReadFault::Ended,
+        0,
+    );
+}
+
+/// An active segment of memory 0 after flag 2: the memory, the offset and one byte.
+#[test]
+fn standard_segments() {
+    let rt = crate::host::HostRuntime;
+    let alloc = rt.alloc();
+    let bytes = [0x02, 0x00, 0x41, 0x07, 0x0B, 0x01, 0xAA, 9];
+    let read = <Segment<'_> as Readable<'_, Global, Standard>>::read(&bytes, alloc);
+    let is_expected = match read {
+        Ok((Segment::Active { memory, bytes, .. }, [9])) => memory == 0 && bytes == [0xAA].as_slice(),
+        _ => false,
+    };
+    assert!(&rt; is_expected);
+    let rest = <Segment<'_> as Skip<'_, Global, Standard>>::skip(&bytes, alloc);
+    assert_eq!(&rt; rest.map(|rest| rest.len()), Ok(1));
+    check_place(
+        &rt,
+        place_of::<Segment<'_>, Padded>(alloc, &bytes),
+        ReadFault::UnknownTag,
+        7,
+    );
+    let rest = <Segment<'_> as Skip<'_, Global, Padded>>::skip(&bytes, alloc);
+    assert!(&rt; rest.is_err());
+    check_place(
+        &rt,
+        place_of::<Segment<'_>, Standard>(alloc, &[0x02, 0x00]),
+        ReadFault::Ended,
+        0,
+    );
 }

@@ -29,7 +29,7 @@ fn check_refusals<'a, T: Readable<'a, &'a Refusing<Global>, Padded>>(
         heap.refuse(nth);
         let fault = match T::read(bytes, heap) {
             Ok(_) => None,
-            Err(error) => Some(error.cause),
+            Err(error) => Some(error.cause()),
         };
         if heap.is_waiting() {
             check_read(rt, fault);
@@ -73,7 +73,7 @@ fn walks_of_bodies() {
     heap.refuse(1);
     let refused = match Instructions::of_body(&[1, 1, 0x7F, 0x0B], &heap) {
         Ok(_) => None,
-        Err(error) => Some(error.cause),
+        Err(error) => Some(error.cause()),
     };
     check_cause(&rt, refused, ReadFault::Memory);
 }
@@ -86,7 +86,7 @@ fn check_walk(
     offset: usize,
     expected_offset: usize,
 ) {
-    assert_eq!(rt; given.map_err(|error| error.cause), expected);
+    assert_eq!(rt; given.map_err(|error| error.cause()), expected);
     assert_eq!(rt; offset, expected_offset);
 }
 

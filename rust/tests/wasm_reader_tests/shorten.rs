@@ -101,7 +101,7 @@ fn check_body(rt: &impl Abort, alloc: Global, bytes: &[u8], text: &[u8]) {
         let mut out = Vec::new(&heap);
         let fault = shorten_body(bytes, &heap, &mut out)
             .err()
-            .map(|error| error.cause);
+            .map(|error| error.cause());
         if heap.is_waiting() {
             check_written(rt, fault);
             check_bytes(rt, &out, text);
@@ -128,6 +128,6 @@ fn bodies() {
     let mut out = Vec::new(alloc);
     let fault = shorten_body(&[0, 0x20], alloc, &mut out)
         .err()
-        .map(|error| error.cause);
+        .map(|error| error.cause());
     check_cause(&rt, fault, ReadFault::Ended)
 }

@@ -33,7 +33,7 @@ fn check_none<'a, P: Skip<'a, Heap<'a>, Padded>>(
     heap.refuse_all();
     let fault = match P::skip(bytes, heap) {
         Ok(_) => None,
-        Err(error) => Some(error.cause),
+        Err(error) => Some(error.cause()),
     };
     check_cause(rt, fault, expected);
 }
@@ -71,7 +71,7 @@ fn many() {
     check_left(&rt, rest, 1);
     let short = match skip_many::<Dropped<ValType>, Heap, Padded>(&[2, 0x7F], &heap) {
         Ok(_) => None,
-        Err(error) => Some(error.cause),
+        Err(error) => Some(error.cause()),
     };
     check_cause(&rt, short, ReadFault::Ended);
 }

@@ -29,7 +29,7 @@ fn check_count(rt: &impl Abort, given: usize, expected: usize) {
 
 /// Checks the error of the visitor.
 fn check_stop(rt: &impl Abort, given: Result<Option<Step>, DecodeError>, expected: ReadFault) {
-    assert_eq!(rt; given.map_err(|error| error.cause), Err(expected));
+    assert_eq!(rt; given.map_err(|error| error.cause()), Err(expected));
 }
 
 #[test]

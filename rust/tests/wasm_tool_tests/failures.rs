@@ -6,38 +6,41 @@ use dolzhytik::fallible::Global;
 use std::io::{Read, Write};
 use crate::host::Abort;
 use crate::test_support::{EndlessReader, FailingReader, FailingWriter, Heap, MOST, Refusing};
-use dolzhytik::fallible::recipe::{RecipeCause, RecipeFault, assemble, run};
+use dolzhytik::fallible::recipe::{RecipeCause, RecipeFault, assemble, assemble_versioned, run};
 
 /// A recipe, and the output of the program for it.
 const TEXT: &str = "body 0b";
 
 const MODULE: &[u8] = b"0061736d010000000a040102000b\n";
 
-/// Checks the line of the error of `assemble`, of which one request failed: 1, then 3, and then
-/// none.
-fn check_fault(rt: &impl Abort, last: usize, fault: Option<RecipeFault>) -> usize {
+/// Checks the error of a recipe, one of whose requests failed: it names the line at this position
+/// of the list or the one after it. Returns the position.
+fn check_fault(rt: &impl Abort, lines: &[usize], at: usize, fault: Option<RecipeFault>) -> usize {
     let Some(RecipeFault { line, cause }) = fault else {
         panic!(rt; "a refused request was not told")
     };
     assert_eq!(rt; cause, RecipeCause::Memory);
-    assert!(rt; matches!((last, line), (1, 1) | (1, 3) | (3, 3) | (3, 0) | (0, 0)));
-    line
+    let now = if line == lines[at] { at } else { at + 1 };
+    assert_eq!(rt; lines.get(now), Some(&line), "{lines:?}");
+    now
 }
 
-/// Each request of a recipe of two lines, with an empty one between them, fails in turn.
-fn check_recipe(rt: &impl Abort, alloc: Global, text: &str) {
+/// Each request of a recipe fails in turn: in these lines, and then after the last line.
+fn check_recipe(rt: &impl Abort, alloc: Global, text: &str, lines: &[usize]) {
     let heap = Refusing::new(alloc);
-    let mut last = 1;
+    let mut at = 0;
     for nth in 1..MOST {
         heap.refuse(nth);
-        let fault = assemble(&heap, text).err();
+        let fault = assemble_versioned(&heap, text).err();
         if heap.is_waiting() {
             check_that(rt, fault.is_none());
-            // The sections are written after the last line.
-            check_that(rt, last == 0);
+            check_that(rt, at + 1 == lines.len());
             return;
         }
-        last = check_fault(rt, last, fault);
+        at = check_fault(rt, lines, at, fault);
+        heap.refuse(nth);
+        let first = assemble(&heap, text).err();
+        check_that(rt, lines[0] == 2 || first == fault);
     }
     panic!(rt; "no call was granted")
 }
@@ -45,9 +48,23 @@ fn check_recipe(rt: &impl Abort, alloc: Global, text: &str) {
 #[test]
 fn each_request_refused() {
     let rt = crate::host::HostRuntime;
-    check_recipe(&rt, rt.alloc(), "type 600000\n\nbody 0b");
-    check_recipe(&rt, rt.alloc(), "global -1\n\ndata 8 6869");
-    check_recipe(&rt, rt.alloc(), "name a\n\nname b c");
+    let cases: [(&str, &[usize]); 6] = [
+        ("type 600000\n\nbody 0b", &[1, 3, 0]),
+        ("global -1\n\ndata 8 6869", &[1, 3, 0]),
+        ("name a\n\nname b c", &[1, 3, 0]),
+        (
+            "version 2\nimport a b func 0\nmemory 1 2 # of pages\nbody 0b",
+            &[2, 3, 4, 0],
+        ),
+        (
+            "version 2\ntable 3\nelem 0 0 1 2 3 4 5 6 7 8\nfunc 0",
+            &[2, 3, 4, 0],
+        ),
+        ("version 2\nlocals 2 i64\n\nbody 0b", &[2, 4, 0]),
+    ];
+    for (text, lines) in cases {
+        check_recipe(&rt, rt.alloc(), text, lines);
+    }
 }
 
 /// Checks the exit status and the output of the program: the module, if the status is 0.

@@ -22,3 +22,6 @@ mod listings;
 #[cfg(test)]
 #[rustfmt::skip]
 mod recipes;
+#[cfg(test)]
+#[rustfmt::skip]
+mod versions;

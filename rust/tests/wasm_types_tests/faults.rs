@@ -4,7 +4,7 @@
 use dolzhytik::fallible::Vec;
 use dolzhytik::fallible::Global;
 use crate::host::Abort;
-use dolzhytik::reader::{DecodeError, Grammar, Padded, ReadFault, Standard};
+use dolzhytik::reader::{Grammar, Padded, ReadFault, Standard};
 use dolzhytik::fallible::{append_types, read_types};
 
 type Row = (&'static [u8], ReadFault, u32);
@@ -56,9 +56,9 @@ static EMPTY: [(&'static [u8], u32); 4] = [
 fn check<G: Grammar>(rt: &impl Abort, alloc: Global, bytes: &[u8], cause: ReadFault, left: u32) {
     let found = match read_types::<Global, G>(bytes, alloc) {
         Ok(_) => None,
-        Err(error) => Some(error),
+        Err(error) => Some((error.cause(), error.left())),
     };
-    assert_eq!(rt; found, Some(DecodeError { cause, left }));
+    assert_eq!(rt; found, Some((cause, left)));
 }
 
 #[test]

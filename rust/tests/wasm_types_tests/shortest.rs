@@ -93,7 +93,7 @@ fn check_row(rt: &impl Abort, heap: Heap<'_>, bytes: &[u8], text: &[u8]) {
                 check_read(rt, None, heap.is_waiting());
                 return check_types(rt, heap, &types, text);
             }
-            Err(error) => check_read(rt, Some(error.cause), heap.is_waiting()),
+            Err(error) => check_read(rt, Some(error.cause()), heap.is_waiting()),
         }
     }
     panic!(rt; "no call was granted")

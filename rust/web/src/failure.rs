@@ -44,8 +44,7 @@ impl fmt::Display for Cause<'_> {
             Cause::NoSection(error) => Text(error.cause).fmt(f),
             Cause::NoItems(fault) => Text(*fault).fmt(f),
             Cause::Offsets(_) => f.write_str(
-                "holds offsets that would no longer lead where they do; \
-                 dropOffsets leaves such sections out",
+                "holds offsets that would become wrong; dropOffsets drops such sections",
             ),
             Cause::NotText => f.write_str("not UTF-8"),
             Cause::Recipe(cause) => cause.fmt(f),

@@ -8,5 +8,5 @@ use dolzhytik::reader::{ReadFault, Readable, Standard};
 pub fn read<'a, T: Readable<'a, Global, Standard>>(
     bytes: &'a [u8],
 ) -> Result<(T, &'a [u8]), ReadFault> {
-    T::read(bytes, Global).map_err(|error| error.cause)
+    T::read(bytes, Global).map_err(|error| error.cause())
 }

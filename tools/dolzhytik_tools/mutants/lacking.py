@@ -11,9 +11,14 @@ from .crates import Repository
 from .edits import Edit, edits_of
 from .say import say
 
-# Functions whose type leaves one result: `Refusing::new` has one value of the type parameter, and
-# an instruction that is passed by value is in the range of its type.
-SETTLED = {("test_support", "src/memory.rt", "new"), ("wasm_insn", "src/ranged.rt", "ranged")}
+# Functions whose type leaves one result, or whose contract allows any: `Refusing::new` has one
+# value of the type parameter, an instruction that is passed by value is in the range of its type,
+# and no contract says what `{:?}` writes.
+SETTLED = {
+    ("test_support", "src/memory.rt", "new"),
+    ("wasm_base", "src/fault.rt", "fmt"),
+    ("wasm_insn", "src/ranged.rt", "ranged"),
+}
 # Crates whose results a driver compares with those of its own encoder: their mutants may be in
 # inner/.
 DRIVEN = {"wasm_bench"}

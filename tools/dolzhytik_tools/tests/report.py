@@ -4,6 +4,7 @@ from __future__ import annotations
 import ast
 from collections.abc import Callable, Iterable, Sequence
 
+from ..errors import Stop
 from ..repository import TOP, text_of
 
 
@@ -38,3 +39,12 @@ def run_all(tool: str, tests: Sequence[Callable[[], None]]) -> int:
             print(f"{tool}: {test.__name__}: {error}")
     print(f"{len(tests) - failed} passed, {failed} failed")
     return 1 if failed else 0
+
+
+def stops(call: Callable[..., object], *arguments: object) -> str:
+    """Returns the message with which a call stops."""
+    try:
+        call(*arguments)
+    except Stop as stop:
+        return str(stop)
+    raise AssertionError('nothing stopped')

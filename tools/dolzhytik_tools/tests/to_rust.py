@@ -33,7 +33,7 @@ FORMS = {
     'ghost': [(r'ghost .* [;,]', '')],
     'clause': [(r'(?:requires|ensures) (?:\w+ )?\{.*\}', '')],
     'constant': [('prove', 'assert')],
-    'model': [(r'impl .* Model for .* \{.*\}', '')],
+    'model': [(r'impl (?:.* )?Model for .* \{.*\}', '')],
     'attribute': [(r'# (?:! )?\[ (?:tactic|rattlefmt|cycle) .*\]', ''), (r'# \[ error \( .* \) \]', ''), (r'# \[ unsafe \( no_mangle \) \]', '')],
     'derive': [(DERIVES, DERIVES), (r'# \[ derive \( (?:Drop )?\) \]', '')],
     'drop bound': [(r'\+ Drop', ''), (r': Drop', ''), (r'Drop \+', ''), (r'(?:where )?\w+ (?:: : \w+ )?: Drop ,?', '')],

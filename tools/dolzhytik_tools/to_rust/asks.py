@@ -3,10 +3,11 @@ from __future__ import annotations
 
 from dataclasses import dataclass
 
+from ..definitions.pages import links
 from ..rattle.lexer import is_word
 from .crates import Crate
 from .source import Source
-from .tables import PUBLIC
+from .tables import PUBLIC, READERS
 
 
 def asks(crate: Crate, source: Source) -> list[str]:
@@ -23,9 +24,12 @@ def asked(crate: Crate, source: Source, place: int) -> str:
     visible = [at for at in range(place, function) if source.tokens[at] == 'pub']
     if not (owner.is_public_trait or (visible and source.tokens[source.skip(visible[0] + 1)] != '(')):
         return ''
-    path = '::'.join(part for part in (PUBLIC.get(crate.name, 'fallible'), owner.name, name) if part)
+    module = 'reader' if (owner.name or name) in READERS.get(crate.name, ()) else PUBLIC.get(crate.name, 'fallible')
+    path = '::'.join(part for part in (module, owner.name, name) if part)
     clauses = [' '.join(clause.split()) for clause in source.notes[place]['Asks']]
-    return f'| `{path}` | ' + '<br>'.join(f'`{clause}`' for clause in clauses) + ' |\n'
+    lines = [f'`{clause}`' for clause in clauses] + [links(source.cited[place]['Asks'])]
+    shown = path.replace('fallible::', '', 1)
+    return f'| [`{shown}`](crate::{path}) | {"<br>".join(filter(None, lines))} |\n'
 
 
 @dataclass(frozen=True)

@@ -7,10 +7,14 @@ import sys
 from collections.abc import Iterator, Sequence
 
 from .. import generated_files, widths
+from ..definitions import front
+from ..definitions.library import library
+from ..definitions.pages import pages
 from ..errors import Stop
 from ..repository import TOP, text_of
 from .asks import asks
 from .context import sources
+from .glosses import names_table
 from .tables import LIBRARIES
 from .written import written
 
@@ -20,14 +24,17 @@ ASKS_HEAD = '| call | asks |\n|---|---|\n'
 def generated(top: pathlib.Path = TOP) -> dict[str, str]:
     """Returns the text of each generated file, by its path below rust/."""
     files, rows = {}, []
+    imports = {it.path: it.imports for it in library().files.values()}
     for it in sources(top):
         file = written(it)
         files[it.crate.target(it.relative)] = file.text
         if it.crate.name in LIBRARIES:
             rows += asks(it.crate, file.source)
+            imports[file.path] = [scope.use for scope in file.source.scopes]
     files['src/asks.md'] = ASKS_HEAD + ''.join(rows)
     check_widths(files)
-    return files
+    front.check(imports, front.page())
+    return {**files, **pages(library(), names_table())}
 
 
 @functools.lru_cache(maxsize=None)

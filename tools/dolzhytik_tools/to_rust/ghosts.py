@@ -2,7 +2,10 @@
 from __future__ import annotations
 
 from ..rattle.lexer import is_word
+from .glosses import check_form
 from .source import Source
+from .tables import LIBRARIES
+from .words import cite, parameters
 
 
 def erase_ghosts(source: Source) -> None:
@@ -26,6 +29,7 @@ def define(source: Source, place: int, end: int) -> None:
         sentences = [t[3:].strip() for t in source.tokens[source.with_docs(place):place] if t.startswith('///')]
         member = ' '.join(source.text(source.skip(place + 1), end).split())
         source.note(header, 'Defined', '\n'.join(['// ' + s for s in sentences] + [member]))
+        cite(source, header, 'Defined', member.partition(' ')[2], place, set())
 
 
 def enclosing(source: Source, place: int) -> int | None:
@@ -55,7 +59,11 @@ def erase_clauses(source: Source) -> None:
         while source.tokens[function] != 'fn':
             function -= 1
         heading = 'Asks' if token == 'requires' else 'Proved'
-        source.note(item_start(source, function), heading, clause_text(source, place, end))
+        start, text = item_start(source, function), clause_text(source, place, end)
+        source.note(start, heading, text)
+        if source.crate.name in LIBRARIES:
+            check_form(text, f'{source.path}:{source.line(place)}')
+        cite(source, start, heading, text, place, parameters(source, function, place))
         source.edit(place, end, '', 'clause')
 
 

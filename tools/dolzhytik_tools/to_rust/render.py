@@ -3,17 +3,27 @@ from __future__ import annotations
 
 from typing import Union
 
-from .source import Notes, Source
+from ..definitions.layout import laid_out
+from .glosses import gloss
+from .source import Source
+from .words import line_of_links
 
 
-def documentation(notes: Notes) -> list[str]:
-    """Returns the lines of documentation of clauses."""
-    lines = []
+def documentation(source: Source, place: int) -> list[str]:
+    """Returns the lines of documentation of the clauses before a token: in libraries with words
+    above them, and with links to the definitions that they name."""
+    notes, lines = source.notes[place], []
     for heading in ('Asks', 'Proved', 'Defined'):
-        if heading in notes:
-            code = '\n'.join(notes[heading]).split('\n')
-            lines += ['///', f'/// # {heading}', '///', '/// ```text'] + [f'/// {line}'.rstrip() for line in code] + ['/// ```']
-    return lines
+        if heading not in notes:
+            continue
+        paths = source.cited.get(place, {}).get(heading)
+        text = '\n'.join(notes[heading])
+        above = gloss(notes[heading]) if heading == 'Proved' and paths is not None else ''
+        code = text.split('\n') if paths is None else laid_out(text)
+        lines += ['', f'# {heading}', '', *([above, ''] if above else []), '```text', *code, '```']
+        if paths is not None:
+            lines += ['', line_of_links(paths)]
+    return [f'/// {line}'.rstrip() for line in lines]
 
 
 class Gap:
@@ -32,7 +42,7 @@ def rendered(source: Source) -> str:
     place = 0
     while place < len(source.tokens):
         if place in source.notes:
-            parts += noted(source.notes[place], parts)
+            parts += noted(documentation(source, place), parts)
         if place in inserted:
             parts.append(inserted[place])
         if place in spans:
@@ -44,12 +54,11 @@ def rendered(source: Source) -> str:
     return ''.join(joined(parts))
 
 
-def noted(notes: Notes, parts: list[Part]) -> list[str]:
+def noted(lines: list[str], parts: list[Part]) -> list[str]:
     """Returns documentation, which follows what is there already, and the space before the item."""
     before = [part for part in parts[-4:] if part is not Gap]
     space = parts[-1] if parts and parts[-1] is not Gap and parts[-1].isspace() else '\n'
     indent = space[space.rfind('\n'):]
-    lines = documentation(notes)
     has_docs = any(part.startswith('///') for part in before[-2:])
     out = []
     for line in lines if has_docs else lines[1:]:

@@ -3,11 +3,14 @@ from __future__ import annotations
 
 from collections.abc import Sequence
 from dataclasses import dataclass, field
-from typing import NoReturn
+from typing import TYPE_CHECKING, NoReturn
 
 from ..errors import Stop
 from ..rattle import brackets, lexer
 from .crates import Crate
+
+if TYPE_CHECKING:
+    from .words import Scope
 
 
 @dataclass(frozen=True)
@@ -34,6 +37,10 @@ class Source:
     edits: list[Edit] = field(default_factory=list)
     # Documentation, by the token before which it goes.
     notes: dict[int, Notes] = field(default_factory=dict)
+    # The imports of clauses, and the path of each word of a clause that has a definition, by the
+    # token before which the clause's documentation goes and by its heading.
+    scopes: list[Scope] = field(default_factory=list)
+    cited: dict[int, dict[str, dict[str, str]]] = field(default_factory=dict)
     # Impls of Display.
     errors: list[str] = field(default_factory=list)
     # The module of names that decode, of the root of a library that has such names.

@@ -7,8 +7,10 @@ from .modules import need_features, share_modules, skip_layout, turn_border, tur
 from .paths import turn_links, turn_paths
 from .sinks import turn_pairs, turn_sinks
 from .uses import turn_exports, turn_uses
+from .words import find_scopes
 
 STEPS = [
+    find_scopes,
     erase_marks,
     erase_ghosts,
     erase_models,

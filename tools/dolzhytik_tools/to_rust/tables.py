@@ -98,6 +98,7 @@ KEPT_STD = {
 CORE_STD = {
     'std::cell::Cell',
     'std::default::Default',
+    'std::fmt',
     'std::iter::FusedIterator',
     'std::marker::PhantomData',
     'std::ops::Range',
@@ -122,6 +123,8 @@ PLACES = [
     Place('wasm_immediates/src/floats.rt', 'fn bits(self) -> u64', 'const fn bits(self) -> u64'),
     Place('wasm_sections/src/memory.rt', 'fn page_size_log2(&self)', 'const fn page_size_log2(&self)'),
     Place('wasm_sections/src/memory.rt', 'fn page_size(&self)', 'const fn page_size(&self)'),
+    # Rattle's formatter has the type of its writer.
+    Place('wasm_base/src/fault.rt', 'fmt<W: fmt::Write>(&self, f: &mut fmt::Formatter<W>)', "fmt(&self, f: &mut fmt::Formatter<'_>)"),
     # A clone of an allocator cannot fail.
     Place('wasm_base/src/modules.rt', 'self.bytes.allocator().clone()?', 'self.bytes.allocator().clone()'),
     # A vector with `Clone` is std's.

@@ -66,7 +66,8 @@ class Both:
         if done.returncode == 0:
             return done.stdout.decode(), None
         message = done.stderr.decode().removeprefix(f'dolzhytik: {path}: ').removesuffix('\n')
-        return None, message.replace('--drop-offsets', 'dropOffsets').replace(', and --dry-run prints what that saves', '')
+        more = ', --keep-code keeps code and data byte for byte, and --dry-run prints what each saves'
+        return None, message.replace('--drop-offsets', 'dropOffsets').replace(more, '')
 
     def outline(self, path: pathlib.Path) -> bool:
         """Compares outlines of a module."""

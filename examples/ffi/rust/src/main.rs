@@ -30,6 +30,14 @@ unsafe extern "C" {
         line: *mut u64,
         cause: *mut u32,
     ) -> u64;
+    fn dz_assemble_versioned(
+        recipe: *const u8,
+        recipe_len: usize,
+        out: *mut u8,
+        out_len: usize,
+        line: *mut u64,
+        cause: *mut u32,
+    ) -> u64;
     fn dz_list(
         module: *const u8,
         module_len: usize,
@@ -96,11 +104,14 @@ enum Answer {
     Fault(u64, u32),
 }
 
-fn assembled(recipe: &[u8], room: usize) -> Answer {
+/// `dz_assemble` or `dz_assemble_versioned`.
+type Assembler = unsafe extern "C" fn(*const u8, usize, *mut u8, usize, *mut u64, *mut u32) -> u64;
+
+fn assembled(call: Assembler, recipe: &[u8], room: usize) -> Answer {
     let (mut out, mut line, mut cause) = (vec![0; room], 0, 0);
     // SAFETY: as above.
     let size = unsafe {
-        dz_assemble(
+        call(
             recipe.as_ptr(),
             recipe.len(),
             out.as_mut_ptr(),
@@ -160,7 +171,11 @@ fn list(module: &[u8]) {
 }
 
 fn assemble(recipe: &[u8], room: usize) {
-    match assembled(recipe, room) {
+    assemble_by(dz_assemble, recipe, room);
+}
+
+fn assemble_by(call: Assembler, recipe: &[u8], room: usize) {
+    match assembled(call, recipe, room) {
         Answer::Module(module) => {
             let digits: String = module.iter().map(|byte| format!("{byte:02x}")).collect();
             println!("{digits}");
@@ -295,6 +310,9 @@ fn main() {
     assemble(b"", 256);
     assemble(b"body 0b\nbody zz", 256);
     assemble(b"\xFF", 256);
+    let second = b"version 2\nlocals 1 i32\nbody 20000b # local 0";
+    assemble_by(dz_assemble_versioned, second, 256);
+    assemble_by(dz_assemble_versioned, b"version 2\nfunc 0 1", 256);
     list(b"\0asm\x01\0\0\0\x03\x01\x00\x00\x01\x05");
     list(b"\0asm");
     shorten(FUNCTIONS, b"\x86\x00\x01\x85\x80\x80\x80\x00");

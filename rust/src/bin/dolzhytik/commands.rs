@@ -11,7 +11,7 @@ use crate::sizes::Sizes;
 use crate::strip::{self, Choice, Stripped};
 use crate::words::{Command, Format};
 use dolzhytik::fallible::Global;
-use dolzhytik::fallible::recipe::assemble;
+use dolzhytik::fallible::recipe::assemble_versioned;
 use std::io::{self, Write};
 
 /// Does what was asked for.
@@ -21,9 +21,13 @@ pub fn run(command: Command) -> Result<(), Failure> {
         Command::Shorten {
             input,
             output,
-            offsets,
-        } => shorten::shorten(&input, &output, offsets),
-        Command::SavingsOf { input, offsets } => shorten::dry_run(&input, offsets),
+            choice,
+        } => shorten::shorten(&input, &output, choice),
+        Command::SavingsOf {
+            input,
+            choice,
+            format,
+        } => shorten::dry_run(&input, choice, format),
         Command::Dump {
             input,
             sections,
@@ -73,11 +77,14 @@ fn write_stripped(input: &Input, output: &Output, choice: &Choice) -> Result<(),
     let bytes = input.read()?;
     let progress = Progress::of(bytes.len());
     progress.begin("reading");
-    let Stripped { module, removed } = strip::strip(input, &bytes, choice)?;
+    let Stripped { parts, removed } = strip::strip(input, &bytes, choice)?;
     progress.begin("writing");
-    output.write(&module)?;
+    output.write_parts(&parts)?;
     drop(progress);
-    let (before, after) = (bytes.len(), module.len());
+    let (before, after) = (
+        bytes.len(),
+        parts.iter().map(|part| part.len()).sum::<usize>(),
+    );
     // The module is written, whether or not this can be.
     let _ = writeln!(
         io::stderr(),
@@ -90,6 +97,9 @@ fn write_stripped(input: &Input, output: &Output, choice: &Choice) -> Result<(),
 
 /// The text of a recipe.
 fn text_of<'a>(recipe: &Input, bytes: &'a [u8]) -> Result<&'a str, Failure> {
+    if bytes.starts_with(b"\0asm") {
+        return Err(Failure::Binary(recipe.clone()));
+    }
     str::from_utf8(bytes).map_err(|error| {
         let before = &bytes[..error.valid_up_to()];
         Failure::NotText {
@@ -105,7 +115,8 @@ fn build(recipe: &Input, output: &Output) -> Result<(), Failure> {
     let bytes = recipe.read()?;
     let progress = Progress::of(bytes.len());
     progress.begin("building");
-    let module = assemble(Global, text_of(recipe, &bytes)?).map_err(|fault| Failure::Recipe {
+    let text = text_of(recipe, &bytes)?;
+    let module = assemble_versioned(Global, text).map_err(|fault| Failure::Recipe {
         recipe: recipe.clone(),
         fault,
     })?;

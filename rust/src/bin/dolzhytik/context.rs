@@ -2,7 +2,7 @@
 use crate::cursor::Cursor;
 use crate::sections::Section;
 use dolzhytik::fallible::{CompositeInnerType, EntityType, Imports, SubItem};
-use dolzhytik::reader::{NameItem, ReadError, TypeEntry};
+use dolzhytik::reader::{Items, LinkItem, NameItem, ReadError, Symbol, TypeEntry};
 use std::collections::HashMap;
 
 /// An index space of a module.
@@ -100,6 +100,7 @@ impl<'a> Context<'a> {
                 Ok(())
             }),
             (_, Some("name")) => self.take_names(cursor),
+            (_, Some("linking")) => self.take_symbols(section),
             _ => Ok(()),
         }
     }
@@ -136,12 +137,27 @@ impl<'a> Context<'a> {
         Ok(())
     }
 
+    /// Takes the names of symbols. Those of a name section have precedence.
+    fn take_symbols(&mut self, section: &Section<'a>) -> Result<(), ReadError> {
+        let Items::Linking(items) = section.items()? else {
+            return Ok(());
+        };
+        let symbols = items.iter().filter_map(|item| match item {
+            LinkItem::Symbols(symbols) => Some(symbols.as_slice()),
+            _ => None,
+        });
+        for (entry, name) in symbols.flatten().filter_map(named_entry) {
+            self.names.entry(entry).or_insert(name);
+        }
+        Ok(())
+    }
+
     /// How many entries of the space are imported, which is the index of the first that is not.
     pub fn imported(&self, space: Space) -> u32 {
         self.imported.get(space as usize).copied().unwrap_or(0)
     }
 
-    /// The name of an entry, as the name section has it.
+    /// The name of an entry, as the name section or a symbol has it.
     pub fn name(&self, space: Space, index: u32) -> Option<&'a str> {
         self.names.get(&(space, index)).copied()
     }
@@ -156,6 +172,18 @@ impl<'a> Context<'a> {
         let ty = self.type_of(function)?;
         self.parameters.get(ty as usize).copied()
     }
+}
+
+/// The entry that a symbol names, if it names one.
+fn named_entry<'a>(symbol: &Symbol<'a>) -> Option<((Space, u32), &'a str)> {
+    let (space, index, name) = match *symbol {
+        Symbol::Function { index, name, .. } => (Space::Function, index, name),
+        Symbol::Global { index, name, .. } => (Space::Global, index, name),
+        Symbol::Table { index, name, .. } => (Space::Table, index, name),
+        Symbol::Tag { index, name, .. } => (Space::Tag, index, name),
+        Symbol::DataSymbol { .. } | Symbol::Section { .. } => return None,
+    };
+    Some(((space, index), name?))
 }
 
 /// An import of a group or a single one.

@@ -32,8 +32,8 @@ impl<'a> Cursor<'a> {
     /// Decodes the next value. After an error the cursor stays.
     pub fn read<T: Readable<'a, Global, Standard>>(&mut self) -> Result<T, ReadError> {
         let (value, rest) = T::read(self.rest, Global).map_err(|error| ReadError {
-            cause: error.cause,
-            offset: self.end - self.rest.len().min(error.left as usize),
+            cause: error.cause(),
+            offset: self.end - self.rest.len().min(error.left() as usize),
         })?;
         self.rest = rest;
         Ok(value)

@@ -28,10 +28,17 @@ pub enum Failure {
         input: Input,
         found: Found,
     },
-    /// A section holds offsets that would no longer lead where they do.
+    /// A section holds offsets that would become wrong.
     Offsets(NamedSection),
+    /// This section identifies the module, and no other section is a reason.
+    BuildId(NamedSection),
     /// A section holds indices or offsets that would no longer be right.
-    References(NamedSection),
+    References {
+        section: NamedSection,
+        remedy: &'static str,
+    },
+    /// A branch hint is at no instruction.
+    Hint(BadHint),
     /// A section has no id or size, or does not decode.
     Section(BadSection),
     /// No section of the module has this name or id.
@@ -44,6 +51,8 @@ pub enum Failure {
         input: Input,
         count: usize,
     },
+    /// The file is a binary module or a component, and no recipe.
+    Binary(Input),
     /// A line of the recipe is no text.
     NotText {
         recipe: Input,
@@ -100,6 +109,38 @@ impl fmt::Display for BadSection {
     }
 }
 
+/// A branch hint that is at no instruction.
+#[derive(Debug)]
+pub struct BadHint {
+    pub input: Input,
+    pub number: usize,
+    /// What an outline calls the section.
+    pub section: String,
+    /// The offset of the hint in the file.
+    pub offset: usize,
+    pub function: u32,
+    /// The offset in the function's body.
+    pub at: u32,
+}
+
+impl fmt::Display for BadHint {
+    fn fmt(&self, f: &mut fmt::Formatter<'_>) -> fmt::Result {
+        let BadHint {
+            input,
+            number,
+            section,
+            offset,
+            function,
+            at,
+        } = self;
+        write!(
+            f,
+            "{input}: section {number} ({section}) at offset {offset:#x}: \
+             function {function} has no instruction at offset {at:#x} of its body"
+        )
+    }
+}
+
 impl Failure {
     /// Whether nobody reads what was to be printed.
     pub fn is_closed_pipe(&self) -> bool {
@@ -136,19 +177,28 @@ impl fmt::Display for Failure {
             Failure::NoHeader { input, found } => write!(f, "{input}: {found}"),
             Failure::Offsets(section) => write!(
                 f,
-                "{section} holds offsets that would no longer lead where they do; \
-                 --drop-offsets leaves such sections out, and --dry-run prints what that saves"
+                "{section} holds offsets that would become wrong; \
+                 --drop-offsets drops such sections, --keep-code keeps code and data byte for byte, \
+                 and --dry-run prints what each saves"
             ),
-            Failure::References(section) => write!(
+            Failure::BuildId(section) => write!(
                 f,
-                "{section} holds section indices or offsets that would no longer be right; strip it too"
+                "{section} identifies the module, whose code would change; \
+                 --build-id drop drops it, --build-id keep keeps it, \
+                 and --dry-run prints what each saves"
             ),
+            Failure::References { section, remedy } => write!(
+                f,
+                "{section} holds section indices or offsets that would no longer be right; {remedy}"
+            ),
+            Failure::Hint(hint) => write!(f, "{hint}"),
             Failure::Section(section) => write!(f, "{section}"),
             Failure::NoSection { input, section } => write!(f, "{input}: no section {section}"),
             Failure::Undecoded { input, count } => {
                 let do_not = if *count == 1 { " does" } else { "s do" };
                 write!(f, "{input}: {count} section{do_not} not decode")
             }
+            Failure::Binary(recipe) => write!(f, "{recipe}: a binary module, and no recipe"),
             Failure::NotText { recipe, line } => write!(f, "{recipe}: line {line}: not UTF-8"),
             Failure::Recipe {
                 recipe,

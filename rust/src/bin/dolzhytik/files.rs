@@ -3,7 +3,7 @@ use crate::failure::Failure;
 use std::ffi::OsString;
 use std::fmt;
 use std::fs::{self, File, OpenOptions, Permissions};
-use std::io::{self, ErrorKind, IsTerminal, Read, Write};
+use std::io::{self, BufWriter, ErrorKind, IsTerminal, Read, Write};
 use std::path::{Path, PathBuf};
 use std::process;
 
@@ -93,9 +93,14 @@ impl Output {
 
     /// Writes all bytes. A file has all of them then, or is as it was.
     pub fn write(&self, bytes: &[u8]) -> Result<(), Failure> {
+        self.write_parts(&[bytes])
+    }
+
+    /// Writes the bytes of all parts, one after another.
+    pub fn write_parts(&self, parts: &[&[u8]]) -> Result<(), Failure> {
         let written = match self {
-            Output::Standard | Output::Forced => write_standard(bytes),
-            Output::File(path) => write_file(path, bytes),
+            Output::Standard | Output::Forced => write_all(io::stdout().lock(), parts),
+            Output::File(path) => write_file(path, parts),
         };
         written.map_err(|error| Failure::Unwritten {
             output: self.clone(),
@@ -104,33 +109,33 @@ impl Output {
     }
 }
 
-fn write_standard(bytes: &[u8]) -> io::Result<()> {
-    let mut out = io::stdout().lock();
-    out.write_all(bytes)?;
+fn write_all(out: impl Write, parts: &[&[u8]]) -> io::Result<()> {
+    let mut out = BufWriter::new(out);
+    parts.iter().try_for_each(|part| out.write_all(part))?;
     out.flush()
 }
 
 /// Replaces a file, or makes one; what is none, as a device or a pipe, is written to.
-fn write_file(path: &Path, bytes: &[u8]) -> io::Result<()> {
+fn write_file(path: &Path, parts: &[&[u8]]) -> io::Result<()> {
     match fs::metadata(path) {
         Ok(found) => {
             // Nothing is written yet, but what may not be written is refused here.
-            let mut opened = OpenOptions::new().write(true).open(path)?;
+            let opened = OpenOptions::new().write(true).open(path)?;
             if !found.is_file() {
-                return opened.write_all(bytes);
+                return write_all(opened, parts);
             }
             drop(opened);
-            replace(&fs::canonicalize(path)?, bytes, Some(found.permissions()))
+            replace(&fs::canonicalize(path)?, parts, Some(found.permissions()))
         }
-        Err(error) if error.kind() == ErrorKind::NotFound => replace(path, bytes, None),
+        Err(error) if error.kind() == ErrorKind::NotFound => replace(path, parts, None),
         Err(error) => Err(error),
     }
 }
 
 /// Writes a file beside the path, and gives it that path when it has all bytes.
-fn replace(path: &Path, bytes: &[u8], permissions: Option<Permissions>) -> io::Result<()> {
+fn replace(path: &Path, parts: &[&[u8]], permissions: Option<Permissions>) -> io::Result<()> {
     let (beside, file) = create_beside(path)?;
-    let written = fill(file, bytes, permissions).and_then(|()| fs::rename(&beside, path));
+    let written = fill(&file, parts, permissions).and_then(|()| fs::rename(&beside, path));
     if written.is_err() {
         // What is told is why it was not written.
         let _ = fs::remove_file(&beside);
@@ -138,8 +143,8 @@ fn replace(path: &Path, bytes: &[u8], permissions: Option<Permissions>) -> io::R
     written
 }
 
-fn fill(mut file: File, bytes: &[u8], permissions: Option<Permissions>) -> io::Result<()> {
-    file.write_all(bytes)?;
+fn fill(file: &File, parts: &[&[u8]], permissions: Option<Permissions>) -> io::Result<()> {
+    write_all(file, parts)?;
     if let Some(permissions) = permissions {
         file.set_permissions(permissions)?;
     }

@@ -67,12 +67,17 @@ It fails if a section that stays refers to sections that would be gone or elsewh
     Manual {
         verb: Verb::Shorten,
         name: "shorten",
-        usage: "FILE (-o FILE | --dry-run) [--drop-offsets] [--force]",
-        says: "writes the module with each section in its minimal encoding. A section that does not decode is copied.",
+        usage: "FILE (-o FILE | --dry-run [--json]) [--drop-offsets | --keep-code] [--build-id keep|drop] [--force]",
+        says: "\
+writes the module with each section in its minimal encoding. A section that does not decode is copied. Branch
+hints follow their instructions. It fails if offsets in another custom section would no longer be right.",
         options: &[
             Flag::Output,
             Flag::DryRun,
+            Flag::Json,
             Flag::DropOffsets,
+            Flag::KeepCode,
+            Flag::BuildId,
             Flag::Force,
         ],
     },
@@ -106,6 +111,8 @@ pub enum Flag {
     Strict,
     Json,
     DropOffsets,
+    KeepCode,
+    BuildId,
     DryRun,
     Help,
     Version,
@@ -142,7 +149,7 @@ const fn explained(flag: Flag, long: &'static str, given: Given, says: &'static 
 }
 
 /// The options, in the order of the help.
-pub const OPTIONS: [Explained; 14] = [
+pub const OPTIONS: [Explained; 16] = [
     Explained {
         short: Some("-o"),
         ..explained(
@@ -214,8 +221,23 @@ There may be several. Without it, dump prints all.",
         Given::Alone,
         "\
 drops the custom sections that hold offsets: linking, reloc.*, .debug_*, metadata.code.*,
-external_debug_info, build_id, sourceMappingURL. Without it, shorten fails if offsets in
-one of them would no longer be right.",
+external_debug_info, build_id, sourceMappingURL.",
+    ),
+    explained(
+        Flag::KeepCode,
+        "--keep-code",
+        Given::Alone,
+        "\
+keeps the code and data sections byte for byte, so that offsets into them stay right, and sections that
+relocations or linking name too. With a source map, all sections before the code stay.",
+    ),
+    explained(
+        Flag::BuildId,
+        "--build-id",
+        Given::With("keep|drop"),
+        "\
+whether shorten keeps or drops the section build_id, which identifies the module as it was. Without it,
+build_id is a section that holds offsets.",
     ),
     explained(
         Flag::DryRun,

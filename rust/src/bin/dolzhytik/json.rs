@@ -1,7 +1,8 @@
-//! Outlines and sizes as JSON.
+//! Outlines, sizes and savings as JSON.
 use crate::cause::Text;
 use crate::outline::Row;
 use crate::sections::Section;
+use crate::shorten::{Saving, Savings};
 use crate::sizes::{Function, Sizes};
 use std::fmt::Write;
 
@@ -89,6 +90,27 @@ fn function(function: &Function<'_>) -> String {
         function.index,
         string(function.name),
         function.size,
+    )
+}
+
+fn saving(saving: &Saving<'_>) -> String {
+    let section = &saving.section;
+    format!(
+        "{{\"section\": {}, \"kind\": \"{}\", \"name\": {}, \"before\": {}, \"after\": {}}}",
+        section.number,
+        section.kind_name(),
+        string(section.name()),
+        section.bytes().len(),
+        optional(saving.after),
+    )
+}
+
+/// What minimizing saves. A section that would be dropped has no size after it.
+pub fn savings(savings: &Savings<'_>) -> String {
+    let (before, after) = savings.total();
+    format!(
+        "{{\"before\": {before}, \"after\": {after}, \"sections\": {}}}\n",
+        list(&savings.0, saving),
     )
 }
 

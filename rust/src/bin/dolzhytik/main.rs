@@ -14,6 +14,7 @@ mod json;
 mod names;
 mod outline;
 mod progress;
+mod references;
 mod sections;
 mod shorten;
 mod sizes;

@@ -2,6 +2,7 @@
 use crate::files::{Input, Output};
 use crate::help::{Explained, Flag, Given, Manual, OPTIONS, Verb};
 use crate::outline;
+use crate::shorten::{self, BuildId};
 use crate::strip::{Choice, Selection};
 use dolzhytik::reader::Offsets;
 use std::ffi::OsString;
@@ -30,12 +31,13 @@ pub enum Command {
     Shorten {
         input: Input,
         output: Output,
-        offsets: Offsets,
+        choice: shorten::Choice,
     },
     /// `shorten --dry-run`.
     SavingsOf {
         input: Input,
-        offsets: Offsets,
+        choice: shorten::Choice,
+        format: Format,
     },
     Size {
         input: Input,
@@ -69,8 +71,14 @@ pub enum Usage {
     Twice(&'static str),
     NotANumber(OsString),
     NotUtf8(OsString),
+    /// Neither `keep` nor `drop`.
+    NotABuildId(OsString),
     /// Two of `--all`, `--debug` and names are given.
     TwoSelections,
+    /// `shorten --json` without `--dry-run`.
+    JsonOfModule,
+    /// Code may stay, or the sections that hold offsets into it are dropped.
+    TwoTreatments,
     NoInput(&'static str),
     NoOutput(&'static str),
     WordTooMany(OsString),
@@ -90,6 +98,20 @@ impl fmt::Display for Usage {
             Usage::Twice(option) => write!(f, "{option} is given twice"),
             Usage::NotANumber(word) => write!(f, "not a number: {}", word.display()),
             Usage::NotUtf8(word) => write!(f, "not UTF-8: {}", word.display()),
+            Usage::NotABuildId(word) => {
+                write!(
+                    f,
+                    "--build-id needs keep or drop, and not {}",
+                    word.display()
+                )
+            }
+            Usage::TwoTreatments => {
+                write!(
+                    f,
+                    "shorten takes only one of --drop-offsets and --keep-code"
+                )
+            }
+            Usage::JsonOfModule => write!(f, "shorten takes --json only with --dry-run"),
             Usage::TwoSelections => write!(f, "strip takes only one of --all, --debug and names"),
             Usage::NoInput(command) => write!(f, "{command} needs a file"),
             Usage::NoOutput(command) => write!(f, "{command} needs -o FILE"),
@@ -134,6 +156,17 @@ impl Options {
             Offsets::LeaveOut
         } else {
             Offsets::Refuse
+        }
+    }
+
+    fn build_id(&self) -> Result<Option<BuildId>, Usage> {
+        let Some(word) = self.values(Flag::BuildId).next() else {
+            return Ok(None);
+        };
+        match word.to_str() {
+            Some("keep") => Ok(Some(BuildId::Keep)),
+            Some("drop") => Ok(Some(BuildId::Drop)),
+            _ => Err(Usage::NotABuildId(word)),
         }
     }
 
@@ -205,14 +238,36 @@ impl Words {
     }
 
     fn shorten(&mut self) -> Result<Command, Usage> {
-        let (input, offsets) = (self.input()?, self.options.offsets());
+        let input = self.input()?;
+        let choice = self.shortening()?;
         if self.options.has(Flag::DryRun) {
-            return Ok(Command::SavingsOf { input, offsets });
+            let format = self.options.format();
+            return Ok(Command::SavingsOf {
+                input,
+                choice,
+                format,
+            });
+        }
+        if self.options.has(Flag::Json) {
+            return Err(Usage::JsonOfModule);
         }
         Ok(Command::Shorten {
             input,
-            offsets,
+            choice,
             output: self.output_at_end()?,
+        })
+    }
+
+    /// What becomes of custom sections that depend on other bytes.
+    fn shortening(&self) -> Result<shorten::Choice, Usage> {
+        let (offsets, keeps_code) = (self.options.offsets(), self.options.has(Flag::KeepCode));
+        if keeps_code && offsets == Offsets::LeaveOut {
+            return Err(Usage::TwoTreatments);
+        }
+        Ok(shorten::Choice {
+            offsets,
+            keeps_code,
+            build_id: self.options.build_id()?,
         })
     }
 

@@ -5,6 +5,7 @@ use dolzhytik::fallible::Allocator;
 use dolzhytik::reader::{DecodeError, Padded, Readable, Standard};
 use dolzhytik::fallible::RefType;
 use dolzhytik::fallible::laws::base as laws;
+use dolzhytik::fallible::MemArg;
 
 /// Decodes the byte 69 in the standard's grammar, where it is `exnref`.
 ///
@@ -20,7 +21,22 @@ pub fn exception_reference<A: Allocator + Copy>(alloc: A) -> Result<RefType, Dec
     Ok(ty)
 }
 
-/// Decodes the same byte in the builders' grammar, where it is no type.
+/// Decodes a memory argument that states memory 0, in the standard's grammar: the alignment with
+/// bit 6, the index, and the offset.
+///
+/// # Proved
+///
+/// ```text
+/// ensures { IfOk result (λ memory. memory ≡ memory_0 2 5) }
+/// ```
+pub fn explicit_memory<A: Allocator + Copy>(alloc: A) -> Result<MemArg, DecodeError> {
+    dolzhytik::fallible::laws::immediates::immediates();
+    dolzhytik::fallible::laws::immediates::standard();
+    let (memory, _rest) = <MemArg as Readable<'_, A, Standard>>::read(&[0x42, 0x00, 0x05], alloc)?;
+    Ok(memory)
+}
+
+/// Decodes the byte 69 in the builders' grammar, where it is no type.
 ///
 /// # Proved
 ///

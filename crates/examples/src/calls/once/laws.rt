@@ -38,6 +38,7 @@ pub fn code() {
 
 pub fn sections() {
     wasm_sections::laws::sections();
+    wasm_sections::laws::standard();
     wasm_sections::laws::padded();
     wasm_sections::laws::calls();
     wasm_sections::laws::padded_calls();

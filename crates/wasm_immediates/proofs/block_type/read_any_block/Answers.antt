@@ -1,5 +1,6 @@
-use Rattle.wasm_base.proofs.Words.{arith, fault_stays}
-use Rattle.wasm_immediates.proofs.DecodeImmediates.{block_result_decodes, block_index, block_none, block_no_result, block_empty}
+use Rattle.wasm_base.proofs.Words.{inl, inr, arith, fault_stays}
+use Rattle.wasm_immediates.proofs.DecodeImmediates.{block_result_decodes, block_index, block_none, block_no_result, block_empty, block_no_index}
+use Rattle.wasm_immediates.proofs.block_type.read_any_block.Goals.{in_default-via-then-tag-lt64, in_default-via-else-tag-lt64+else-tag-lt128}
 use Rattle.wasm_immediates.proofs.block_type.read_any_block.Goals as goal
 
 pub returns-in_err-tag-clause-none : goal.returns-in_err-tag-clause-none
@@ -16,3 +17,10 @@ returns-in_ok-index-in_default-clause-found g c = block_index c.args.bytes.now _
 
 pub returns-in-64-clause-found : goal.returns-in-64-clause-found
 returns-in-64-clause-found g c = search (block_empty, c.in_ok-tag.ensures.found, c.in-64.is)
+
+pub returns-in_err-index-in_default-clause-none : goal.returns-in_err-index-in_default-clause-none
+returns-in_err-index-in_default-clause-none g c =
+    fault_stays c.from_residual-in_err-index-in_default.result _ c.from_residual-in_err-index-in_default.ensures.1 λ n. elim c.in_default.branch [
+      | in_default-via-then-tag-lt64 w ↦ block_no_index c.args.bytes.now _ _ c.in_ok-tag.ensures.found (inl (omega arith)) (c.in_err-index-in_default.ensures.none n)
+      | in_default-via-else-tag-lt64+else-tag-lt128 w ↦ block_no_index c.args.bytes.now _ _ c.in_ok-tag.ensures.found (inr (omega arith)) (c.in_err-index-in_default.ensures.none n)
+    ]

@@ -9,13 +9,13 @@ pub returns-then-flags-ge128-clause-none : goal.returns-then-flags-ge128-clause-
 returns-then-flags-ge128-clause-none g c = λ e. memory_unknown c.args.bytes.now _ _ c.in_ok-flags.ensures.found (omega (arith, c.if-flags-ge128.true))
 
 pub returns-in_err-target-clause-none : goal.returns-in_err-target-clause-none
-returns-in_err-target-clause-none g c = fault_stays c.from_residual-in_err-target.result _ c.from_residual-in_err-target.ensures.1 λ n. memory_no_target c.args.bytes.now _ _ c.in_ok-flags.ensures.found (omega (arith, c.if-flags-ge128.false)) (c.in_err-target.ensures.none n)
+returns-in_err-target-clause-none g c = fault_stays c.from_residual-in_err-target.result _ c.from_residual-in_err-target.ensures.1 λ n. memory_no_target _ c.args.bytes.now _ _ c.in_ok-flags.ensures.found (omega (arith, c.if-flags-ge128.false)) (c.in_err-target.ensures.none n)
 
 pub returns-in_err-ordering-clause-none : goal.returns-in_err-ordering-clause-none
-returns-in_err-ordering-clause-none g c = fault_stays c.from_residual-in_err-ordering.result _ c.from_residual-in_err-ordering.ensures.1 λ n. memory_no_ordering c.args.bytes.now _ _ _ _ c.in_ok-flags.ensures.found (omega (arith, c.if-flags-ge128.false)) c.in_ok-target.ensures.found (c.in_err-ordering.ensures.none n)
+returns-in_err-ordering-clause-none g c = fault_stays c.from_residual-in_err-ordering.result _ c.from_residual-in_err-ordering.ensures.1 λ n. memory_no_ordering _ c.args.bytes.now _ _ _ _ c.in_ok-flags.ensures.found (omega (arith, c.if-flags-ge128.false)) c.in_ok-target.ensures.found (c.in_err-ordering.ensures.none n)
 
 pub returns-in_err-offset-clause-none : goal.returns-in_err-offset-clause-none
-returns-in_err-offset-clause-none g c = fault_stays c.from_residual-in_err-offset.result _ c.from_residual-in_err-offset.ensures.1 λ n. memory_no_offset c.args.bytes.now _ _ _ _ _ _ c.in_ok-flags.ensures.found (omega (arith, c.if-flags-ge128.false)) c.in_ok-target.ensures.found c.in_ok-ordering.ensures.found (c.in_err-offset.ensures.none n)
+returns-in_err-offset-clause-none g c = fault_stays c.from_residual-in_err-offset.result _ c.from_residual-in_err-offset.ensures.1 λ n. memory_no_offset _ c.args.bytes.now _ _ _ _ _ _ c.in_ok-flags.ensures.found (omega (arith, c.if-flags-ge128.false)) c.in_ok-target.ensures.found c.in_ok-ordering.ensures.found (c.in_err-offset.ensures.none n)
 
 pub returns-clause-found : goal.returns-clause-found
 returns-clause-found g c = search (memory_decodes, c.in_ok-flags.ensures.found, c.if-flags-ge128.false, c.in_ok-target.ensures.found, c.in_ok-ordering.ensures.found, c.in_ok-offset.ensures.found)

@@ -38,7 +38,8 @@ pub fn references<A: Allocator + Copy>(alloc: A) -> Result<()> {
 }
 
 pub fn functions<A: Allocator + Copy>(alloc: A) -> Result<()> {
-    let function = Function::new_with_locals_types(alloc, [ValType::I32])?;
+    let mut function = Function::new_with_locals_types(alloc, [ValType::I32])?;
+    function.raw([0x0B])?;
     let _ = function.into_raw_body();
     Ok(())
 }

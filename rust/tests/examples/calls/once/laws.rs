@@ -40,6 +40,7 @@ pub fn code() {
 
 pub fn sections() {
     dolzhytik::fallible::laws::sections::sections();
+    dolzhytik::fallible::laws::sections::standard();
     dolzhytik::fallible::laws::sections::padded();
     dolzhytik::fallible::laws::sections::calls();
     dolzhytik::fallible::laws::sections::padded_calls();

@@ -1,6 +1,6 @@
-use Rattle.wasm_base.proofs.Words.{fault_stays}
+use Rattle.wasm_base.proofs.Words.{fault_stays, not_from_Decides}
 use Rattle.wasm_sections.specs.{instructions_view}
-use Rattle.wasm_sections.proofs.DataLaws.{segment_none, first_none, passive_none, passive_decodes, other_no_memory, other_none, other_decodes, first_decodes}
+use Rattle.wasm_sections.proofs.DataLaws.{segment_none, first_none, passive_none, passive_decodes, other_no_memory, other_none, other_zero, other_decodes, first_decodes}
 use Rattle.wasm_sections.proofs.data.SegmentReadable.read.Goals as goal
 
 pub returns-in_err-flag-clause-none : goal.returns-in_err-flag-clause-none
@@ -19,10 +19,13 @@ pub returns-in_err-memory-in-2-clause-none : goal.returns-in_err-memory-in-2-cla
 returns-in_err-memory-in-2-clause-none g c = fault_stays c.from_residual-in_err-memory-in-2.result _ c.from_residual-in_err-memory-in-2.ensures.1 λ n. other_no_memory c.args.bytes.now _ _ c.in_ok-flag.ensures.found c.in-2.is (c.in_err-memory-in-2.ensures.none n)
 
 pub returns-in_err-offset-in-2-clause-none : goal.returns-in_err-offset-in-2-clause-none
-returns-in_err-offset-in-2-clause-none g c = fault_stays c.from_residual-in_err-offset-in-2.result _ c.from_residual-in_err-offset-in-2.ensures.1 λ n. other_none c.args.bytes.now _ _ _ _ c.in_ok-flag.ensures.found c.in-2.is c.in_ok-memory-in-2.ensures.found c.if-memory-eq0.false (c.in_err-offset-in-2.ensures.none n)
+returns-in_err-offset-in-2-clause-none g c = fault_stays c.from_residual-in_err-offset-in-2.result _ c.from_residual-in_err-offset-in-2.ensures.1 λ n. other_none _ c.args.bytes.now _ _ _ _ c.in_ok-flag.ensures.found c.in-2.is c.in_ok-memory-in-2.ensures.found (c.has_index.ensures.0 c.if-not-has_index.false) (c.in_err-offset-in-2.ensures.none n)
 
 pub returns-in_ok-offset-in-2-clause-found : goal.returns-in_ok-offset-in-2-clause-found
-returns-in_ok-offset-in-2-clause-found g c = other_decodes c.args.bytes.now _ _ _ _ _ (instructions_view c.in_ok-offset-in-2.offset) c.in_ok-offset-in-2.field-0-0-1.0.now c.in_ok-flag.ensures.found c.in-2.is c.in_ok-memory-in-2.ensures.found c.if-memory-eq0.false c.in_ok-offset-in-2.ensures.found
+returns-in_ok-offset-in-2-clause-found g c = other_decodes _ c.args.bytes.now _ _ _ _ c.in_ok-flag.ensures.found c.in-2.is c.in_ok-memory-in-2.ensures.found (c.has_index.ensures.0 c.if-not-has_index.false) _ (instructions_view c.in_ok-offset-in-2.offset) c.in_ok-offset-in-2.field-0-0-1.0.now c.in_ok-offset-in-2.ensures.found
 
 pub returns-in_ok-offset-in-0-clause-found : goal.returns-in_ok-offset-in-0-clause-found
 returns-in_ok-offset-in-0-clause-found g c = search (first_decodes, c.in_ok-flag.ensures.found, c.in-0.is, c.in_ok-offset-in-0.ensures.found)
+
+pub returns-then-not-has_index-clause-none : goal.returns-then-not-has_index-clause-none
+returns-then-not-has_index-clause-none g c = λ n. other_zero _ c.args.bytes.now _ _ _ _ c.in_ok-flag.ensures.found c.in-2.is c.in_ok-memory-in-2.ensures.found (not_from_Decides _ c.has_index.ensures c.if-not-has_index.true)

@@ -1,5 +1,5 @@
-use Rattle.wasm_base.proofs.Words.{fault_stays}
-use Rattle.wasm_sections.proofs.DataLaws.{segment_none, first_none, first_decodes, passive_none, passive_decodes, other_no_memory, other_none, other_decodes}
+use Rattle.wasm_base.proofs.Words.{fault_stays, not_from_Decides}
+use Rattle.wasm_sections.proofs.DataLaws.{segment_none, first_none, first_decodes, passive_none, passive_decodes, other_no_memory, other_none, other_zero, other_decodes}
 use Rattle.wasm_sections.proofs.data.SegmentSkip.skip.Goals as goal
 
 pub returns-in_err-flag-clause-none : goal.returns-in_err-flag-clause-none
@@ -23,9 +23,12 @@ pub returns-in_err-memory-in-2-clause-none : goal.returns-in_err-memory-in-2-cla
 returns-in_err-memory-in-2-clause-none g c = fault_stays c.from_residual-in_err-memory-in-2.result _ c.from_residual-in_err-memory-in-2.ensures.1 λ n. other_no_memory c.args.bytes.now _ _ c.in_ok-flag.ensures.found c.in-2.is (c.in_err-memory-in-2.ensures.none n)
 
 pub returns-in_err-rest-in-2-clause-none : goal.returns-in_err-rest-in-2-clause-none
-returns-in_err-rest-in-2-clause-none g c = fault_stays c.from_residual-in_err-rest-in-2.result _ c.from_residual-in_err-rest-in-2.ensures.1 λ n. other_none c.args.bytes.now _ _ _ _ c.in_ok-flag.ensures.found c.in-2.is c.in_ok-memory-in-2.ensures.found c.if-memory-eq0.false (c.in_err-rest-in-2.ensures.none n)
+returns-in_err-rest-in-2-clause-none g c = fault_stays c.from_residual-in_err-rest-in-2.result _ c.from_residual-in_err-rest-in-2.ensures.1 λ n. other_none _ c.args.bytes.now _ _ _ _ c.in_ok-flag.ensures.found c.in-2.is c.in_ok-memory-in-2.ensures.found (c.has_index.ensures.0 c.if-not-has_index.false) (c.in_err-rest-in-2.ensures.none n)
 
 pub returns-in_ok-rest-in-2-clause-found : goal.returns-in_ok-rest-in-2-clause-found
 returns-in_ok-rest-in-2-clause-found g c =
     let x = c.in_ok-rest-in-2.ensures.found in
-    (_, other_decodes c.args.bytes.now _ _ _ _ _ x.0.0 x.0.1 c.in_ok-flag.ensures.found c.in-2.is c.in_ok-memory-in-2.ensures.found c.if-memory-eq0.false x.1)
+    (_, other_decodes _ c.args.bytes.now _ _ _ _ c.in_ok-flag.ensures.found c.in-2.is c.in_ok-memory-in-2.ensures.found (c.has_index.ensures.0 c.if-not-has_index.false) _ x.0.0 x.0.1 x.1)
+
+pub returns-then-not-has_index-clause-none : goal.returns-then-not-has_index-clause-none
+returns-then-not-has_index-clause-none g c = λ n. other_zero _ c.args.bytes.now _ _ _ _ c.in_ok-flag.ensures.found c.in-2.is c.in_ok-memory-in-2.ensures.found (not_from_Decides _ c.has_index.ensures c.if-not-has_index.true)

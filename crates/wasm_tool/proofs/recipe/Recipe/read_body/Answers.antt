@@ -2,5 +2,5 @@ use Rattle.wasm_base.proofs.Words.{arith}
 use Rattle.wasm_tool.proofs.SectionLemmas.{encodable_count, encodable_size_prefixed}
 use Rattle.wasm_tool.proofs.recipe.Recipe.read_body.Goals as goal
 
-pub returns-in_err-function-2 : goal.returns-in_err-function-2
-returns-in_err-function-2 g c = grind (arith, encodable_count, encodable_size_prefixed)
+pub returns-in_err-raw : goal.returns-in_err-raw
+returns-in_err-raw g c = grind (arith, encodable_count, encodable_size_prefixed)

@@ -1,0 +1,688 @@
+-- This file proves that a module whose functions count their calls decodes as `IsCovered` says.
+use Rattle.wasm_base.proofs.Words.{◌≡◌, ◌≢◌, ℕ, zero, suc, ◌+◌, ◌<◌, ◌≤◌, List, [], ◌∷◌, ◌++◌, length, get_or, map, take, take_more, drop, ints, pos, OnOk, val_type, replicate, cond, if◌then◌else◌, Bool, true, false, ◌||◌, ◌==◌, flat_map, Option, Some, None, Result, Ok, Err, refl, sym, ap, ap₂, subst, ◌∙◌, arith, add-one, append_assoc, ◌^◌, codes, IsUtf8, ascii, append-nil}
+use Rattle.wasm_base.proofs.Words.{Mode, map-append, length-append, eqb-true, eq-eqb, ne_eqb, AllByRecursion, AllZip, Format, Decodes, Rejects, RejectsWhole, DecodesWhole, DecodesOneMore, Unambiguous, UnambiguousWhole, minimal, padded, standard}
+use Rattle.wasm_base.proofs.Words.{AreGroups, any_bytes, any_section, header, members, name, pair, size_prefixed, u32, unsigned_encoding, vec, wasm_module, IsEncodableSection, SectionPayload, joined}
+use Rattle.wasm_base.proofs.Words.{members_start, members_step, whole_decodes, decodes_same, u32_in, u32_unambiguous, name_unambiguous, size_prefixed_bytes_unambiguous, size_prefixed_in, size_prefixed_encoding, HasEncodableSize, vec_of_pieces, whole_from_unique}
+use Rattle.wasm_base.proofs.Words.{vec_unambiguous, longest}
+use Rattle.std.proofs.Common.{count_by, decimal, fold}
+use Rattle.std.proofs.lemmas.List.{append_cancel_right}
+use Rattle.std.proofs.lemmas.Fmt.{IsAscii-decimal}
+use Rattle.std.proofs.lemmas.Str.{IsUtf8-append}
+use Rattle.wasm_base.proofs.Std.{IsUtf8-from_ascii}
+use Rattle.wasm_base.proofs.ModuleLaws.{module_whole}
+use Rattle.wasm_code.proofs.Words.{Body, body, normal_encodes, size_prefixed_body_unambiguous, StoresInstructions, expression_encoding}
+use Rattle.wasm_code.proofs.BodyLaws.{runs_unambiguous}
+use Rattle.wasm_code.specs.Bodies.{Run}
+use Rattle.wasm_code.proofs.ExpressionLaws.{members_join, members_one}
+use Rattle.wasm_insn.proofs.Words.{Plain, instruction, table, lists_whole, instruction_encoding}
+use Rattle.wasm_insn.specs.Sink.{appended}
+use Rattle.wasm_insn.specs.declared.instruction.Instruction.{Instruction}
+use Rattle.wasm_insn.specs.declared.instruction.Instruction.TheVariants.{GlobalGet, GlobalSet, I32Const, Numeric}
+use Rattle.wasm_insn.specs.declared.numeric.Numeric.TheVariants.{I32Add}
+use Rattle.wasm_base.specs.declared.refused.Refused.{Refused}
+use Rattle.std.specs.declared.alloc.Global.{Global}
+use Rattle.wasm_sections.proofs.Words.{export, exports_section, global_item, globals_section, import_format, imports_section, prefixed_decodes}
+use Rattle.wasm_sections.proofs.GlobalLaws.{global_item_encodes}
+use Rattle.wasm_sections.specs.Globals.{global_encoding}
+use Rattle.wasm_sections.specs.Words.{ExportItem, GlobalItem, ImportItem}
+use Rattle.wasm_sections.specs.Exports.{export_of}
+use Rattle.wasm_sections.specs.declared.export.ExportKind.TheVariants as exported
+use Rattle.wasm_reader.specs.Words.{Contents, content, number_in, Located, LocatedBody, IsSection, Section, bytes_of, section_kind_of}
+use Rattle.wasm_reader.specs.Iterating.{EndsBodies, GivesBody, GivesSection, Iterating, NextBody, Visiting, ahead}
+use Rattle.wasm_reader.proofs.IteratingLaws.{section_ahead}
+use Rattle.wasm_reader.specs.declared.read_error.ReadError.{ReadError}
+use Rattle.wasm_reader.specs.Kinds.{Bodies, Exports, Globals, Imports}
+use Rattle.wasm_reader.specs.Outlines.{IsNameOf, kind_at}
+use Rattle.wasm_reader.specs.Shortening.{contains_offsets}
+use Rattle.wasm_reader.specs.declared.kinds.SectionKind.TheVariants as kinds
+use Rattle.std.proofs.Common.{IfErr, IsErrAnd}
+use Rattle.wasm_base.specs.declared.fault.ReadFault.TheVariants.{Memory}
+use Rattle.examples.specs.declared.coverage.CoverageError.{CoverageError}
+use Rattle.examples.specs.declared.coverage.CoverageError.TheVariants as errors
+use Rattle.examples.specs.declared.coverage.Numbers.{Numbers}
+use Rattle.examples.specs.declared.coverage.imports.Space.{Space}
+use Rattle.examples.specs.declared.coverage.imports.Space.TheVariants as spaces
+use Rattle.examples.specs.Coverage.{counting, covered_body, covered_bodies, counter, counter_export, counter_exports, names_counter, has_counter, imported, imported_from, payloads_of, AreImports, DecodesOnly, IsKept, row, AreSectionsOf, IsSplit, GainsSections, GainsItems, IsExtended}
+use Rattle.examples.specs.Coverage.{GainsEncoding, IsJoined, EncodeBodies, AddsBody, KeepsSections, HasNumbers, IsMalformed, HasDecoding, IsDecodable, Others, Payloads, sections_of, IsCovered}
+
+-- ---- lists of values
+
+-- The items of a vector, and more.
+pub extended_items : {X : Type 0} (F : Format X) {old items new : List ℕ} {added : ℕ} (xs ys : List X) → IsExtended old added items new → vec F standard old xs → members F standard items ys → length ys ≡ added → vec F standard new (xs ++ ys)
+extended_items F {items = items} {new = new} {added = added} xs ys e h more long =
+    let same = u32_unambiguous.unique standard h.front e.read.front h.back e.rest (length xs) e.count h.first e.read.encodes (sym h.joined ∙ e.read.split) in
+    let number : e.count + added ≡ length (xs ++ ys) = omega (arith, length-append xs ys, same.0, long) in
+    record {
+      front = unsigned_encoding (e.count + added);
+      back = e.rest ++ items;
+      joined = e.is;
+      first = subst (λ n. u32 standard (unsigned_encoding (e.count + added)) n) number (u32_in standard (e.count + added) e.fits);
+      second = members_join F standard e.rest items xs ys (subst (λ s. members F standard s xs) same.2 h.second) more;
+    }
+
+-- A payload that decodes to items decodes to them alone.
+pub decodes_only : {X : Type 0} {F : Format X} {bytes : List ℕ} {x : X} → UnambiguousWhole F → F standard bytes x → DecodesOnly F bytes x
+decodes_only {bytes = bytes} {x = x} laws h = record { decodes = h; only = λ y g. laws.whole standard bytes y x g h }
+
+pub to_standard : {X : Type 0} {F : Format X} (s : List ℕ) (x : X) → Unambiguous F → F minimal s x → F standard s x
+to_standard s x laws h = laws.encodings.included padded standard tt s x (laws.encodings.included minimal padded tt s x h)
+
+-- The encoding of a counter.
+pub counter_encodes : {bytes init : List ℕ} → bytes ≡ global_encoding counter.global_type ++ expression_encoding init → StoresInstructions init counter.init → global_item standard bytes counter
+counter_encodes {bytes = bytes} {init = init} e stored =
+    subst (λ s. global_item standard s counter) (sym e)
+    (to_standard (global_encoding counter.global_type ++ expression_encoding init) counter globals_section.items.unique
+    (global_item_encodes minimal tt (record { global_type = counter.global_type; init = record { bytes = init; instructions = counter.init } }) (record { global_type = tt; init = stored })))
+
+-- Bytes that gain one value after others.
+pub members_gain : {X : Type 0} (F : Format X) {old new : List ℕ} {x : X} (xs : List X) → members F standard old xs → GainsEncoding F x old new → members F standard new (xs ++ x ∷ [])
+members_gain F {old = old} {x = x} xs h g =
+    subst (λ s. members F standard s (xs ++ x ∷ [])) (sym g.added) (members_join F standard old g.encoding xs (x ∷ []) h (members_one F standard g.encoding x g.encodes))
+
+pub replicate_push : {X : Type 0} (n : ℕ) (x : X) → replicate n x ++ x ∷ [] ≡ replicate (n + 1) x
+replicate_push n x = go n ∙ ap (λ k. replicate k x) (sym (add-one n))
+  where
+    go : (k : ℕ) → replicate k x ++ x ∷ [] ≡ replicate (suc k) x
+    go zero = refl
+    go (suc k) = ap (λ l. x ∷ l) (go k)
+
+exports_suc : (n function index : ℕ) → counter_exports function index n ++ counter_export (function + n) (index + n) ∷ [] ≡ counter_exports function index (suc n)
+exports_suc zero function index =
+    let f : function + 0 ≡ function = omega arith in
+    let i : index + 0 ≡ index = omega arith in
+    ap₂ (λ a b. counter_export a b ∷ []) f i
+exports_suc (suc n) function index =
+    let f : function + suc n ≡ suc function + n = omega arith in
+    let i : index + suc n ≡ suc index + n = omega arith in
+    ap (λ l. counter_export function index ∷ l) (ap₂ (λ a b. counter_exports (suc function) (suc index) n ++ counter_export a b ∷ []) f i ∙ exports_suc n (suc function) (suc index))
+
+pub exports_push : (n function index f i : ℕ) → f ≡ function + n → i ≡ index + n → counter_exports function index n ++ counter_export f i ∷ [] ≡ counter_exports function index (n + 1)
+exports_push n function index f i e d =
+    ap₂ (λ a b. counter_exports function index n ++ counter_export a b ∷ []) e d ∙ exports_suc n function index ∙ ap (counter_exports function index) (sym (add-one n))
+
+-- The bytes gain the export of a counter.
+pub export_gained : (function index : ℕ) (old text new : List ℕ) → text ≡ codes "coverage." ++ decimal function → function < 2 ^ 32 → index < 2 ^ 32 → HasEncodableSize text → new ≡ (old ++ size_prefixed_encoding text) ++ (3 ∷ unsigned_encoding index)
+    → GainsEncoding export (counter_export function index) old new
+export_gained function index old text new is small fits encodable e = record {
+  encoding = size_prefixed_encoding text ++ (3 ∷ unsigned_encoding index);
+  added = e ∙ append_assoc old (size_prefixed_encoding text) (3 ∷ unsigned_encoding index);
+  encodes = (
+    (text, (exported.Global, index)),
+    ap (λ t. export_of (t, (exported.Global, index))) is,
+    record {
+      front = size_prefixed_encoding text;
+      back = 3 ∷ unsigned_encoding index;
+      joined = refl;
+      first = (size_prefixed_in standard any_bytes text text encodable refl, subst IsUtf8 (sym is) (IsUtf8-append (codes "coverage.") (decimal function) (ascii refl) (IsUtf8-from_ascii (decimal function) (IsAscii-decimal function (omega arith)))));
+      second = record { front = 3 ∷ []; back = unsigned_encoding index; joined = refl; first = refl; second = u32_in standard index fits };
+    },
+  );
+}
+
+or_true : (b : Bool) → b || true ≡ true
+or_true true = refl
+or_true false = refl
+
+none_join : (es : List ExportItem) (e : ExportItem) → has_counter es ≡ false → names_counter e ≡ false → has_counter (es ++ e ∷ []) ≡ false
+none_join [] e h k = ap (λ b. b || false) k
+none_join (y ∷ es) e h k = go (names_counter y) (has_counter es) (none_join es e) h
+  where
+    go : (a b : Bool) → (b ≡ false → names_counter e ≡ false → has_counter (es ++ e ∷ []) ≡ false) → a || b ≡ false → a || has_counter (es ++ e ∷ []) ≡ false
+    go true b f g = g
+    go false b f g = f g k
+
+-- The exports of a list, and one more.
+pub none_more : {T : Type 0} (view : T → ExportItem) (xs : List T) (i : ℕ) (d : T) → i < length xs → has_counter (map view (take i xs)) ≡ false → names_counter (view (get_or xs i d)) ≡ false → has_counter (map view (take (i + 1) xs)) ≡ false
+none_more view xs i d low before last =
+    ap (λ l. has_counter (map view l)) (take_more xs i d low) ∙ ap has_counter (map-append view (take i xs) (get_or xs i d ∷ [])) ∙ none_join (map view (take i xs)) (view (get_or xs i d)) before last
+
+-- One of the exports names a counter.
+pub some_at : {T : Type 0} (view : T → ExportItem) (xs : List T) (i : ℕ) (d : T) → i < length xs → names_counter (view (get_or xs i d)) ≡ true → has_counter (map view xs) ≡ true
+some_at view [] i d low h = absurd (omega arith)
+some_at view (y ∷ xs) zero d low h = ap (λ b. b || has_counter (map view xs)) h
+some_at view (y ∷ xs) (suc i) d low h = ap (λ b. names_counter (view y) || b) (some_at view xs i d (omega arith) h) ∙ or_true (names_counter (view y))
+
+pub exports_long : (n function index : ℕ) → length (counter_exports function index n) ≡ n
+exports_long zero function index = refl
+exports_long (suc n) function index = ap suc (exports_long n (suc function) (suc index))
+
+pub replicate_long : {X : Type 0} (n : ℕ) (x : X) → length (replicate n x) ≡ n
+replicate_long zero x = refl
+replicate_long (suc n) x = ap suc (replicate_long n x)
+
+pub covered_push : (bodies : List Body) (first : ℕ) (x : Body) → covered_bodies first bodies ++ covered_body (first + length bodies) x ∷ [] ≡ covered_bodies first (bodies ++ x ∷ [])
+covered_push [] first x =
+    let f : first + 0 ≡ first = omega arith in
+    ap (λ n. covered_body n x ∷ []) f
+covered_push (y ∷ bodies) first x =
+    let f : first + suc (length bodies) ≡ suc first + length bodies = omega arith in
+    ap (λ l. covered_body first y ∷ l) (ap (λ n. covered_bodies (suc first) bodies ++ covered_body n x ∷ []) f ∙ covered_push bodies (suc first) x)
+
+-- ---- imports
+
+pub imported_join : (space : Space) (first more : List ImportItem) → imported space (first ++ more) ≡ imported space first + imported space more
+imported_join space [] more = omega arith
+imported_join space (i ∷ first) more =
+    let e = imported_join space first more in
+    omega (arith, e)
+
+-- The entries of a list, and one more.
+pub imported_more : {T : Type 0} (space : Space) (view : T → ImportItem) (xs : List T) (i : ℕ) (x : T) → i < length xs → x ≡ get_or xs i x → imported space (map view (take (i + 1) xs)) ≡ imported space (map view (take i xs)) + imported_from space (view x).imported
+imported_more space view xs i x low e =
+    let f = ap (λ l. imported space (map view l)) (take_more xs i x low) ∙ ap (imported space) (map-append view (take i xs) (get_or xs i x ∷ [])) ∙ imported_join space (map view (take i xs)) (view (get_or xs i x) ∷ [])
+    ∙ ap (λ y. imported space (map view (take i xs)) + (imported_from space (view y).imported + 0)) (sym e) in
+    omega (arith, f)
+
+images_from : {T X : Type 0} (p : X → Bool) (view : T → X) (xs : List T) (n : ℕ) → fold (λ a x. a + cond (p (view x)) 1 0) n xs ≡ fold (λ a x. a + cond (p x) 1 0) n (map view xs)
+images_from p view [] n = refl
+images_from p view (x ∷ xs) n = images_from p view xs (n + cond (p (view x)) 1 0)
+
+-- A count over the images of a list.
+pub counted_images : {T X : Type 0} (p : X → Bool) (view : T → X) (xs : List T) → count_by (λ x. p (view x)) xs ≡ count_by p (map view xs)
+counted_images p view xs = images_from p view xs 0
+
+payloads_push : (id : ℕ) (sections : List (ℕ × List ℕ)) (s : ℕ × List ℕ) → payloads_of id (sections ++ s ∷ []) ≡ payloads_of id sections ++ payloads_of id (s ∷ [])
+payloads_push id [] s = refl
+payloads_push id (t ∷ sections) s = go (t.0 == id) (payloads_push id sections s)
+  where
+    go : (b : Bool) → payloads_of id (sections ++ s ∷ []) ≡ payloads_of id sections ++ payloads_of id (s ∷ [])
+        → (if b then t.1 ∷ payloads_of id (sections ++ s ∷ []) else payloads_of id (sections ++ s ∷ [])) ≡ (if b then t.1 ∷ payloads_of id sections else payloads_of id sections) ++ payloads_of id (s ∷ [])
+    go true e = ap (λ l. t.1 ∷ l) e
+    go false e = e
+
+concat_push : (groups : List (List ImportItem)) (last : List ImportItem) → flat_map (λ items. items) (groups ++ last ∷ []) ≡ flat_map (λ items. items) groups ++ last
+concat_push [] last = append-nil last
+concat_push (g ∷ groups) last = ap (λ l. g ++ l) (concat_push groups last) ∙ sym (append_assoc g (flat_map (λ items. items) groups) last)
+
+zip_push : {X Y : Type 0} (R : X → Y → Type 0) (xs : List X) (ys : List Y) (x : X) (y : Y) → AllZip R xs ys → R x y → AllZip R (xs ++ x ∷ []) (ys ++ y ∷ [])
+zip_push R [] [] x y h g = (g, tt)
+zip_push R [] (z ∷ ys) x y h g = absurd h
+zip_push R (z ∷ xs) [] x y h g = absurd h
+zip_push R (z ∷ xs) (w ∷ ys) x y h g = (h.0, zip_push R xs ys x y h.1 g)
+
+pub imports_none : AreImports [] []
+imports_none = record { of_each = []; decode = tt; joined = refl }
+
+-- A section that is not of imports.
+pub imports_skip : {sections : List (ℕ × List ℕ)} {imports : List ImportItem} (s : ℕ × List ℕ) → AreImports sections imports → s.0 ≢ 2 → AreImports (sections ++ s ∷ []) imports
+imports_skip {sections = sections} s h other =
+    let same = payloads_push 2 sections s ∙ ap (λ b. payloads_of 2 sections ++ (if b then s.1 ∷ [] else [])) (ne_eqb s.0 2 other) ∙ append-nil (payloads_of 2 sections) in
+    record { of_each = h.of_each; decode = subst (λ l. AllZip (vec import_format standard) l h.of_each) (sym same) h.decode; joined = h.joined }
+
+-- A section of imports.
+pub imports_take : {sections : List (ℕ × List ℕ)} {imports : List ImportItem} (last : List ImportItem) (s : ℕ × List ℕ) → AreImports sections imports → s.0 ≡ 2 → vec import_format standard s.1 last → AreImports (sections ++ s ∷ []) (imports ++ last)
+imports_take {sections = sections} last s h is decodes =
+    let same = payloads_push 2 sections s ∙ ap (λ b. payloads_of 2 sections ++ (if b then s.1 ∷ [] else [])) (eq-eqb s.0 2 is) in
+    record {
+      of_each = h.of_each ++ last ∷ [];
+      decode = subst (λ l. AllZip (vec import_format standard) l (h.of_each ++ last ∷ [])) (sym same) (zip_push (vec import_format standard) (payloads_of 2 sections) h.of_each s.1 last h.decode decodes);
+      joined = ap (λ z. z ++ last) h.joined ∙ sym (concat_push h.of_each last);
+    }
+
+zip_same : (payloads : List (List ℕ)) (xs ys : List (List ImportItem)) → AllZip (vec import_format standard) payloads xs → AllZip (vec import_format standard) payloads ys → xs ≡ ys
+zip_same [] [] [] h g = refl
+zip_same [] (x ∷ xs) ys h g = absurd h
+zip_same [] [] (y ∷ ys) h g = absurd g
+zip_same (p ∷ payloads) [] ys h g = absurd h
+zip_same (p ∷ payloads) (x ∷ xs) [] h g = absurd g
+zip_same (p ∷ payloads) (x ∷ xs) (y ∷ ys) h g = ap₂ (λ a b. a ∷ b) (imports_section.whole.whole standard p x y h.0 g.0) (zip_same payloads xs ys h.1 g.1)
+
+-- Sections have one list of imports.
+pub imports_same : {sections : List (ℕ × List ℕ)} {a b : List ImportItem} → AreImports sections a → AreImports sections b → a ≡ b
+imports_same {sections = sections} h g = h.joined ∙ ap (flat_map (λ items. items)) (zip_same (payloads_of 2 sections) h.of_each g.of_each h.decode g.decode) ∙ sym g.joined
+
+-- ---- kinds of sections
+
+-- A section whose id is not 0 has no name.
+pub kind_is : (s : Section) (k : ℕ) → IsSection s → s.id ≡ suc k → section_kind_of s ≡ kind_at (suc k) None
+kind_is s k is e = go s.name is.named
+  where
+    go : (n : Option (List ℕ)) → IsNameOf s.id s.payload n → kind_at s.id n ≡ kind_at (suc k) None
+    go None h = ap (λ i. kind_at i None) e
+    go (Some n) h = absurd (cc (e, h.0))
+
+module _ (s : Section) (is : IsSection s) (x : Contents) (h : content (section_kind_of s) standard s.payload x) where
+  pub globals_in : s.id ≡ 6 → (xs : List GlobalItem) × (Globals xs ≡ x) × vec global_item standard s.payload xs
+  globals_in e = subst (λ k. content k standard s.payload x) (kind_is s 5 is e) h
+
+  pub exports_in : s.id ≡ 7 → (xs : List ExportItem) × (Exports xs ≡ x) × vec export standard s.payload xs
+  exports_in e = subst (λ k. content k standard s.payload x) (kind_is s 6 is e) h
+
+  pub bodies_in : s.id ≡ 10 → (xs : List Body) × (Bodies xs ≡ x) × vec (size_prefixed body) standard s.payload xs
+  bodies_in e = subst (λ k. content k standard s.payload x) (kind_is s 9 is e) h
+
+  pub imports_in : s.id ≡ 2 → (xs : List ImportItem) × (Imports xs ≡ x) × vec import_format standard s.payload xs
+  imports_in e = subst (λ k. content k standard s.payload x) (kind_is s 1 is e) h
+
+module _ (s : Section) (is : IsSection s) where
+  rejected : {X : Type 0} (F : Format X) (say : X → Contents) (k : ℕ) → s.id ≡ suc k → ((m : Mode) (y : X) → F m s.payload y → content (kind_at (suc k) None) m s.payload (say y)) → RejectsWhole (content (section_kind_of s)) standard s.payload → (y : X) → F standard s.payload y → ⊥
+  rejected F say k e into n y h = n.none (say y) (subst (λ kind. content kind standard s.payload (say y)) (sym (kind_is s k is e)) (into standard y h))
+
+  -- A section that its kind rejects does not decode.
+  pub no_imports : RejectsWhole (content (section_kind_of s)) standard s.payload → s.id ≡ 2 → HasDecoding (s.id, s.payload) → ⊥
+  no_imports n e h = rejected (vec import_format) Imports 1 e (λ m y g. (y, refl, g)) n (h.imports e).0 (h.imports e).1
+
+  pub no_globals : RejectsWhole (content (section_kind_of s)) standard s.payload → s.id ≡ 6 → HasDecoding (s.id, s.payload) → ⊥
+  no_globals n e h = rejected (vec global_item) Globals 5 e (λ m y g. (y, refl, g)) n (h.globals e).0 (h.globals e).1
+
+  pub no_exports : RejectsWhole (content (section_kind_of s)) standard s.payload → s.id ≡ 7 → HasDecoding (s.id, s.payload) → ⊥
+  no_exports n e h = rejected (vec export) Exports 6 e (λ m y g. (y, refl, g)) n (h.exports e).0 (h.exports e).1
+
+  pub no_bodies : RejectsWhole (content (section_kind_of s)) standard s.payload → s.id ≡ 10 → HasDecoding (s.id, s.payload) → ⊥
+  no_bodies n e h = rejected (vec (size_prefixed body)) Bodies 9 e (λ m y g. (y, refl, g)) n (h.bodies e).0 (h.bodies e).1
+
+-- The imports of a decoded section.
+pub imports_number : (s : Section) (is : IsSection s) (space : Space) (n : ℕ) (xs : List ImportItem) (x : Contents) → content (section_kind_of s) standard s.payload x → x ≡ Imports xs → n ≡ imported space xs → s.id ≡ 2 → (imports : List ImportItem) × vec import_format standard s.payload imports × (n ≡ imported space imports)
+imports_number s is space n xs x h same counted e =
+    let items = imports_in s is x h e in
+    let both : xs ≡ items.0 = cc in
+    (items.0, items.2, counted ∙ ap (imported space) both)
+
+-- The exports of a decoded section.
+pub exports_decoded : (s : Section) (is : IsSection s) (xs : List ExportItem) (x : Contents) → content (section_kind_of s) standard s.payload x → x ≡ Exports xs → has_counter xs ≡ false → s.id ≡ 7 → (exports : List ExportItem) × vec export standard s.payload exports × (has_counter exports ≡ false)
+exports_decoded s is xs x h same free e =
+    let items = exports_in s is x h e in
+    let both : items.0 ≡ xs = cc in
+    (items.0, items.2, ap has_counter both ∙ free)
+
+-- The number of globals, and that of bodies.
+pub globals_number : (s : Section) (is : IsSection s) (x : Contents) (n : ℕ) → content (section_kind_of s) standard s.payload x → number_in x ≡ Some n → s.id ≡ 6 → (xs : List GlobalItem) × vec global_item standard s.payload xs × (n ≡ length xs)
+globals_number s is x n h counted e =
+    let items = globals_in s is x h e in
+    let long : Some (length items.0) ≡ Some n = ap number_in items.1 ∙ counted in
+    (items.0, items.2, cc)
+
+pub bodies_number : (s : Section) (is : IsSection s) (x : Contents) (n : ℕ) → content (section_kind_of s) standard s.payload x → number_in x ≡ Some n → s.id ≡ 10 → (xs : List Body) × vec (size_prefixed body) standard s.payload xs × (n ≡ length xs)
+bodies_number s is x n h counted e =
+    let items = bodies_in s is x h e in
+    let long : Some (length items.0) ≡ Some n = ap number_in items.1 ∙ counted in
+    (items.0, items.2, cc)
+
+-- ---- bodies
+
+abbrev pub encoding_of : Instruction Global → List ℕ
+encoding_of i = instruction_encoding i
+
+-- The four instructions that count.
+abbrev counting_encoding : ℕ → List ℕ
+counting_encoding index = encoding_of (GlobalGet index) ++ (encoding_of (I32Const (pos 1)) ++ (encoding_of (Numeric I32Add) ++ encoding_of (GlobalSet index)))
+
+counting_encodes : (index : ℕ) → index < 2 ^ 32 → members (instruction table) standard (counting_encoding index) (counting index)
+counting_encodes index fits =
+    let get = normal_encodes {A = Global} (GlobalGet index) (fits, tt) in
+    let one = normal_encodes {A = Global} (I32Const (pos 1)) ((omega (arith, ints), omega (arith, ints)), tt) in
+    let add = normal_encodes {A = Global} (Numeric I32Add) tt in
+    let set = normal_encodes {A = Global} (GlobalSet index) (fits, tt) in
+    let last = members_one (instruction table) minimal (encoding_of (GlobalSet index)) _ set in
+    let all : members (instruction table) minimal (counting_encoding index) (counting index) = (encoding_of (GlobalGet index), _, refl, get, (encoding_of (I32Const (pos 1)), _, refl, one, (encoding_of (Numeric I32Add), encoding_of (GlobalSet index), refl, add, last))) in
+    lists_whole.encodings.included padded standard tt (counting_encoding index) (counting index) (lists_whole.encodings.included minimal padded tt (counting_encoding index) (counting index) all)
+
+-- The calls that append them.
+pub counting_gained : (index : ℕ) (old start first second third last new : List ℕ) (result : Result (Unit {0}) Refused) → index < 2 ^ 32 → start ≡ old → first ≡ start ++ encoding_of (GlobalGet index) → second ≡ first ++ encoding_of (I32Const (pos 1)) → third ≡ second ++ encoding_of (Numeric I32Add)
+    → last ≡ appended result third (encoding_of (GlobalSet index)) → new ≡ last → OnOk result (GainsEncoding (members (instruction table)) (counting index) old new)
+counting_gained index old start first second third last new (Ok u) fits same a b c d e =
+    let get = encoding_of (GlobalGet index) in
+    let one = encoding_of (I32Const (pos 1)) in
+    let add = encoding_of (Numeric I32Add) in
+    let set = encoding_of (GlobalSet index) in
+    record {
+      encoding = counting_encoding index;
+      added = e ∙ d ∙ ap (λ s. s ++ set) (c ∙ ap (λ s. s ++ add) (b ∙ ap (λ s. s ++ one) (a ∙ ap (λ s. s ++ get) same)))
+          ∙ append_assoc ((old ++ get) ++ one) add set ∙ append_assoc (old ++ get) one (add ++ set) ∙ append_assoc old get (one ++ (add ++ set));
+      encodes = counting_encodes index fits;
+    }
+counting_gained index old start first second third last new (Err f) fits same a b c d e = tt
+
+-- The locals, these instructions and the code.
+pub joined_as : (locals : List ℕ) (index : ℕ) (code : List ℕ) {old between new : List ℕ} → old ≡ locals → GainsEncoding (members (instruction table)) (counting index) old between → new ≡ between ++ code → IsJoined locals index code new
+joined_as locals index code a h b = record { added = h.encoding; is = b ∙ ap (λ s. s ++ code) (h.added ∙ ap (λ s. s ++ h.encoding) a) ∙ append_assoc locals h.encoding code; encodes = h.encodes }
+
+-- A body that begins with them.
+pub covered_encodes : (bytes locals rest : List ℕ) (runs : List Run) (index : ℕ) (new : List ℕ) (x : Body) → Decodes (vec (pair u32 val_type)) standard bytes runs rest → bytes ≡ locals ++ rest → IsJoined locals index rest new → body standard bytes x → body standard new (covered_body index x)
+covered_encodes bytes locals rest runs index new x d e j h =
+    let parts = h.2 in
+    let same = decodes_same runs_unambiguous d (record { front = parts.front; split = parts.joined; encodes = parts.first }) in
+    let front = append_cancel_right locals parts.front rest (sym e ∙ parts.joined ∙ ap (λ s. parts.front ++ s) (sym same.1)) in (
+      (h.0.0, counting index ++ h.0.1),
+      ap (covered_body index) h.1,
+      record {
+        front = parts.front;
+        back = j.added ++ parts.back;
+        joined = j.is ∙ ap₂ (λ a b. a ++ (j.added ++ b)) front same.1;
+        first = parts.first;
+        second = members_join (instruction table) standard j.added parts.back (counting index) h.0.1 j.encodes parts.second;
+      },
+    )
+
+groups_some : (s : List ℕ) → AreGroups s → 0 < length s
+groups_some [] h = absurd h
+groups_some (b ∷ s) h = omega arith
+
+-- Size-prefixed bytes are not empty.
+prefixed_some : {X : Type 0} (F : Format X) (s : List ℕ) (x : X) → size_prefixed F standard s x → 0 < length s
+prefixed_some F s x h = omega (arith, ap length h.joined, length-append h.front h.content, groups_some h.front h.size.groups)
+
+-- No bodies are left at the end.
+pub none_left : (bodies : List Body) → members (size_prefixed body) standard [] bodies → bodies ≡ []
+none_left [] h = refl
+none_left (x ∷ bodies) h = absurd (omega (arith, ap length h.2, length-append h.0 h.1, prefixed_some body h.0 x h.3))
+
+-- A result of `next` that is an error, or a body.
+pub given_error : {old new : Visiting} {r : Result LocatedBody ReadError} {e : ReadError} → r ≡ Err e → NextBody old (Some r) new → EndsBodies old e new
+given_error {old = old} {new = new} e h = subst (λ z. NextBody old (Some z) new) e h
+
+pub given_body : {old new : Visiting} {r : Result LocatedBody ReadError} {b : LocatedBody} → r ≡ Ok b → NextBody old (Some r) new → GivesBody old b new
+given_body {old = old} {new = new} e h = subst (λ z. NextBody old (Some z) new) e h
+
+given_some : {old new : Visiting} {b : LocatedBody} (g : GivesBody old b new) → 0 < length g.decodes.front
+given_some {b = b} g = prefixed_some any_bytes g.decodes.front b.bytes (size_prefixed_bytes_unambiguous.encodings.included padded standard tt g.decodes.front b.bytes g.decodes.encodes)
+
+-- Fewer bytes are left after a body.
+pub body_shrinks : {old new : Visiting} {b : LocatedBody} → GivesBody old b new → length new.rest < length old.rest
+body_shrinks {new = new} g = omega (arith, ap length g.decodes.split, length-append g.decodes.front new.rest, given_some g)
+
+-- The next of the bodies has the bytes that the iterator returns.
+pub record HasNext (todo : List Body) (bytes rest : List ℕ) : Type 0 where
+  pub x : Body
+  pub others : List Body
+  pub is : todo ≡ x ∷ others
+  pub decodes : body standard bytes x
+  pub left : members (size_prefixed body) standard rest others
+
+pub next_body : {old new : Visiting} {b : LocatedBody} (todo : List Body) → GivesBody old b new → members (size_prefixed body) standard old.rest todo → HasNext todo b.bytes new.rest
+next_body {old = old} {new = new} {b = b} [] g h = absurd (omega (arith, ap length (sym h ∙ g.decodes.split), length-append g.decodes.front new.rest, given_some g))
+next_body {old = old} {new = new} {b = b} (x ∷ others) g h =
+    let given = size_prefixed_bytes_unambiguous.encodings.included padded standard tt g.decodes.front b.bytes g.decodes.encodes in
+    let sized = h.3 in
+    let same = size_prefixed_bytes_unambiguous.unique standard h.0 g.decodes.front h.1 new.rest sized.content b.bytes (record { front = sized.front; content = sized.content; joined = sized.joined; size = sized.size; encodes = refl }) given (sym h.2 ∙ g.decodes.split) in
+    record {
+      x = x;
+      others = others;
+      is = refl;
+      decodes = subst (λ s. body standard s x) same.0 sized.encodes;
+      left = subst (λ s. members (size_prefixed body) standard s others) same.2 h.4;
+    }
+
+-- The iterator has given some of the bodies, and the code section has these, covered.
+pub record HasCovered (first : ℕ) (bodies : List Body) (it : Visiting) (entries : List (List ℕ)) (next : ℕ) : Type 0 where
+  pub done : List Body
+  pub todo : List Body
+  pub all : bodies ≡ done ++ todo
+  pub number : it.left ≡ length todo
+  pub rest : members (size_prefixed body) standard it.rest todo
+  pub encode : EncodeBodies entries (covered_bodies first done)
+  pub counter : next ≡ first + length done
+
+pub covered_none : {payload : List ℕ} {it : Visiting} {entries : List (List ℕ)} (first : ℕ) (bodies : List Body) → Decodes u32 padded payload it.left it.rest → vec (size_prefixed body) standard payload bodies → entries ≡ [] → HasCovered first bodies it entries first
+covered_none {it = it} first bodies d h e =
+    let read = u32_unambiguous.encodings.included padded standard tt d.front it.left d.encodes in
+    let same = u32_unambiguous.unique standard d.front h.front it.rest h.back it.left (length bodies) read h.first (sym d.split ∙ h.joined) in
+    record {
+      done = [];
+      todo = bodies;
+      all = refl;
+      number = same.0;
+      rest = subst (λ s. members (size_prefixed body) standard s bodies) (sym same.2) h.second;
+      encode = subst (λ es. EncodeBodies es []) (sym e) tt;
+      counter = omega arith;
+    }
+
+pub covered_more : {first : ℕ} {bodies : List Body} {old new : Visiting} {b : LocatedBody} {before after : List (List ℕ)} {next : ℕ} (more : ℕ) → HasCovered first bodies old before next → GivesBody old b new
+    → ((x : Body) → body standard b.bytes x → AddsBody (covered_body next x) before after) → more ≡ next + 1 → HasCovered first bodies new after more
+covered_more {first = first} {bodies = bodies} {before = before} {after = after} {next = next} more h g adds step =
+    let n = next_body h.todo g h.rest in
+    let added = adds n.x n.decodes in
+    record {
+      done = h.done ++ n.x ∷ [];
+      todo = n.others;
+      all = h.all ∙ ap (λ l. h.done ++ l) n.is ∙ sym (append_assoc h.done (n.x ∷ []) n.others);
+      number = omega (arith, h.number, g.left, ap length n.is);
+      rest = n.left;
+      encode = subst (λ es. EncodeBodies es (covered_bodies first (h.done ++ n.x ∷ []))) (sym added.is)
+          (subst (λ xs. EncodeBodies (before ++ added.entry ∷ []) xs) (ap (λ i. covered_bodies first h.done ++ covered_body i n.x ∷ []) h.counter ∙ covered_push h.done first n.x)
+          (zip_push (size_prefixed body standard) before (covered_bodies first h.done) added.entry (covered_body next n.x) h.encode added.encodes));
+      counter = omega (arith, step, h.counter, length-append h.done (n.x ∷ []));
+    }
+
+pub covered_all : {first : ℕ} {bodies : List Body} {it : Visiting} {entries : List (List ℕ)} {next : ℕ} → HasCovered first bodies it entries next → it.rest ≡ [] → EncodeBodies entries (covered_bodies first bodies)
+covered_all {first = first} {entries = entries} h e =
+    let none = none_left h.todo (subst (λ s. members (size_prefixed body) standard s h.todo) e h.rest) in
+    subst (λ bodies. EncodeBodies entries (covered_bodies first bodies)) (sym (h.all ∙ ap (λ l. h.done ++ l) none ∙ append-nil h.done)) h.encode
+
+-- A padded number, as the standard admits it.
+as_padded : {s : List ℕ} {n : ℕ} → u32 standard s n → u32 padded s n
+as_padded h = record { groups = h.groups; total = h.total; range = h.range; size = h.size }
+
+-- The number of bodies decodes.
+pub no_number : {payload : List ℕ} (bodies : List Body) → vec (size_prefixed body) standard payload bodies → Rejects u32 padded payload → ⊥
+no_number bodies h n = n.none (length bodies) h.back (record { front = h.front; split = h.joined; encodes = as_padded h.first })
+
+-- The iterator fails only without memory.
+pub no_error : {first : ℕ} {bodies : List Body} {old new : Visiting} {e : ReadError} {entries : List (List ℕ)} {next : ℕ} → HasCovered first bodies old entries next → EndsBodies old e new → e.cause ≢ Memory → ⊥
+no_error {old = old} h ends other = go h.todo h.number h.rest
+  where
+    go : (todo : List Body) → old.left ≡ length todo → members (size_prefixed body) standard old.rest todo → ⊥
+    go [] e rest = ends.more e rest
+    go (x ∷ others) e rest = (ends.none other (λ z. omega (arith, e, z))).none rest.3.content rest.1 (record {
+      front = rest.0;
+      split = rest.2;
+      encodes = record { front = rest.3.front; content = rest.3.content; joined = rest.3.joined; size = as_padded rest.3.size; encodes = refl };
+    })
+
+-- Each body that it returns decodes.
+pub no_body : {first : ℕ} {bodies : List Body} {old new : Visiting} {b : LocatedBody} {entries : List (List ℕ)} {next : ℕ} → HasCovered first bodies old entries next → GivesBody old b new → RejectsWhole body standard b.bytes → ⊥
+no_body h g n =
+    let next = next_body h.todo g h.rest in
+    n.none next.x next.decodes
+
+-- ---- modules
+
+pub gains_none : {bytes : List ℕ} → GainsSections [] bytes bytes
+gains_none {bytes = bytes} = record { for_each = λ sections h. subst (λ z. DecodesWhole wasm_module bytes z) (sym (append-nil sections)) h }
+
+pub gains_then : {first more : List (ℕ × List ℕ)} {old between new : List ℕ} → GainsSections first old between → GainsSections more between new → GainsSections (first ++ more) old new
+gains_then {first = first} {more = more} {new = new} g h = record { for_each = λ sections d. subst (λ z. DecodesWhole wasm_module new z) (append_assoc sections first more) (h.for_each (sections ++ first) (g.for_each sections d)) }
+
+pub gains_one : {id : ℕ} {old new : List ℕ} {Payload : List ℕ → Type 0} (payload : List ℕ) → DecodesOneMore Payload id old new → Payload payload → GainsSections ((id, payload) ∷ []) old new
+gains_one payload more is = record { for_each = λ sections d. more.for_each sections payload d is }
+
+all_push : {X : Type 0} (P : X → Type 0) (xs : List X) (x : X) → AllByRecursion P xs → P x → AllByRecursion P (xs ++ x ∷ [])
+all_push P [] x h p = (p, tt)
+all_push P (y ∷ xs) x h p = (h.0, all_push P xs x h.1 p)
+
+-- A list of sections, from the iterator.
+pub record HasFound (start rest : List ℕ) (found : List Located) : Type 0 where
+  pub read : Decodes (members any_section) padded start (map row found) rest
+  pub each : AllByRecursion (λ s. IsSection s.section) found
+
+pub found_none : (start : List ℕ) (found : List Located) → found ≡ [] → HasFound start start found
+found_none start found e = subst (λ l. HasFound start start l) (sym e) (record { read = members_start any_section padded start; each = tt })
+
+pub found_more : {start : List ℕ} {old new : Iterating} (found : List Located) {after : List Located} {s : Located} → HasFound start (ahead old) found → GivesSection old s new → after ≡ found ++ s ∷ [] → HasFound start (ahead new) after
+found_more {start = start} {new = new} found {s = s} h g e =
+    subst (λ l. HasFound start (ahead new) l) (sym e)
+    (record {
+      read = subst (λ l. Decodes (members any_section) padded start l (ahead new)) (sym (map-append row found (s ∷ []))) (members_step any_section h.read (section_ahead g));
+      each = all_push (λ t. IsSection t.section) found s h.each g.is_section;
+    })
+
+pub found_all : {start rest : List ℕ} {found : List Located} (bytes : List ℕ) → bytes ≡ header ++ start → HasFound start rest found → rest ≡ [] → AreSectionsOf bytes found
+found_all {rest = rest} {found = found} bytes e h l = record { read = whole_decodes wasm_module bytes rest (map row found) (prefixed_decodes header (members any_section) e h.read) (ap length l); each = h.each }
+
+-- A section of the items of the old one, and more.
+pub gains_extended : {X : Type 0} (F : Format X) {id added : ℕ} {payload items encoded old_payload new_payload old new : List ℕ} → UnambiguousWhole (vec F) → (xs ys : List X) → IsExtended payload added items old_payload → items ≡ encoded → new_payload ≡ old_payload
+    → vec F standard payload xs → members F standard encoded ys → length ys ≡ added → GainsSections ((id, new_payload) ∷ []) old new → GainsItems id (vec F) (xs ++ ys) old new
+gains_extended F {payload = payload} {encoded = encoded} {new_payload = new_payload} laws xs ys e same is h more long gains = record {
+  payload = new_payload;
+  decodes = decodes_only laws (subst (λ s. vec F standard s (xs ++ ys)) (sym is) (extended_items F xs ys e h (subst (λ s. members F standard s ys) (sym same) more) long));
+  gains = gains;
+}
+
+-- A call that gains something gains a section of these exports.
+pub add_found : {P : Type 0} {id : ℕ} {payload old new : List ℕ} (more : List ExportItem) (r : Result (Unit {0}) CoverageError) (xs : List ExportItem) → vec export standard payload xs → has_counter xs ≡ false → OnOk r P → (P → GainsItems id (vec export) (xs ++ more) old new)
+    → OnOk r ((ys : List ExportItem) × vec export standard payload ys × (has_counter ys ≡ false) × GainsItems id (vec export) (ys ++ more) old new)
+add_found more (Ok u) xs h free p gains = (xs, h, free, gains p)
+add_found more (Err e) xs h free p gains = tt
+
+-- A vector begins with its count.
+pub no_count : {X : Type 0} {F : Format X} {payload : List ℕ} {xs : List X} → vec F standard payload xs → Rejects u32 standard payload → ⊥
+no_count {xs = xs} h n = n.none (length xs) h.back (record { front = h.front; split = h.joined; encodes = h.first })
+
+-- A split list of sections.
+pub rows_split : {id : ℕ} {sections before after : List Located} {found : Located} → IsSplit id sections before found after → map row sections ≡ map row before ++ (id, found.section.payload) ∷ map row after
+rows_split {before = before} {after = after} {found = found} h =
+    ap (map row) h.is ∙ map-append row before (found ∷ after) ∙ ap (λ i. map row before ++ (i, found.section.payload) ∷ map row after) h.has_id
+
+all_parts : {X : Type 0} (P : X → Type 0) (before : List X) (x : X) (after : List X) → AllByRecursion P (before ++ x ∷ after) → AllByRecursion P before × P x × AllByRecursion P after
+all_parts P [] x after h = (tt, h.0, h.1)
+all_parts P (y ∷ before) x after h =
+    let parts = all_parts P before x after h.1 in
+    ((h.0, parts.0), parts.1, parts.2)
+
+pub all_split : (P : Located → Type 0) {id : ℕ} {sections before after : List Located} {found : Located} → IsSplit id sections before found after → AllByRecursion P sections → AllByRecursion P before × P found × AllByRecursion P after
+all_split P {before = before} {after = after} {found = found} h each = all_parts P before found after (subst (λ l. AllByRecursion P l) h.is each)
+
+-- ---- the whole
+
+-- One of the members has what all have.
+pub each_at : {X : Type 0} (P : X → Type 0) (xs : List X) (i : ℕ) (x : X) → AllByRecursion P xs → i < length xs → x ≡ get_or xs i x → P x
+each_at P [] i x h low e = absurd (omega arith)
+each_at P (y ∷ xs) zero x h low e = subst P (sym e) h.0
+each_at P (y ∷ xs) (suc i) x h low e = each_at P xs i x h.1 (omega arith) e
+
+-- What all images have, the members have.
+pub of_images : {X Y : Type 0} (P : Y → Type 0) (view : X → Y) (xs : List X) → AllByRecursion P (map view xs) → AllByRecursion (λ x. P (view x)) xs
+of_images P view [] h = tt
+of_images P view (x ∷ xs) h = (h.0, of_images P view xs h.1)
+
+-- A section that `keep` accepts.
+pub is_kept : (s : Located) → IsSection s.section → s.section.id ≢ 6 → s.section.id ≢ 7 → s.section.id ≢ 10 → contains_offsets s.section.name ≡ false → IsKept (row s)
+is_kept s is globals exports code none = record { no_globals = globals; no_exports = exports; no_code = code; no_offsets = λ n rest e d. go n rest e d s.section.name is.named none }
+  where
+    go : (n rest : List ℕ) → s.section.id ≡ 0 → Decodes name padded s.section.payload n rest → (m : Option (List ℕ)) → IsNameOf s.section.id s.section.payload m → contains_offsets m ≡ false → contains_offsets (Some n) ≡ false
+    go n rest e d None h f = absurd ((h e).none n rest d)
+    go n rest e d (Some m) h f = ap (λ z. contains_offsets (Some z)) (decodes_same name_unambiguous d h.2).0 ∙ f
+
+pub keeps_none : {bytes : List ℕ} → KeepsSections [] bytes bytes
+keeps_none = record { kept = tt; gains = gains_none }
+
+pub keeps_more : {old between new : List ℕ} (sections : List (ℕ × List ℕ)) (s : ℕ × List ℕ) → KeepsSections sections old between → IsKept s × GainsSections (s ∷ []) between new → KeepsSections (sections ++ s ∷ []) old new
+keeps_more sections s h one = record { kept = all_push IsKept sections s h.kept one.0; gains = gains_then h.gains one.1 }
+
+-- A list of rows with one more.
+pub rows_more : (sections : List Located) (i : ℕ) (s : Located) → i < length sections → s ≡ get_or sections i s → map row (take (i + 1) sections) ≡ map row (take i sections) ++ row s ∷ []
+rows_more sections i s low e =
+    ap (map row) (take_more sections i s low) ∙ map-append row (take i sections) (get_or sections i s ∷ []) ∙ ap (λ z. map row (take i sections) ++ row z ∷ []) (sym e)
+
+-- The payload of a code section of these entries.
+pub code_payload : (entries : List (List ℕ)) (bodies : List Body) → IsEncodableSection entries → EncodeBodies entries bodies → DecodesOnly (vec (size_prefixed body)) (unsigned_encoding (length entries) ++ joined entries) bodies
+code_payload entries bodies encodable h = decodes_only (whole_from_unique (vec_unambiguous size_prefixed_body_unambiguous)) (vec_of_pieces standard (size_prefixed body) entries bodies encodable.count h)
+
+module _ {bytes : List ℕ} {sections before between middle after first_rest second_rest : List Located} {globals exports code : Located} {n : Numbers}
+    (has : AreSectionsOf bytes sections) (at_globals : IsSplit 6 sections before globals first_rest) (at_exports : IsSplit 7 first_rest between exports second_rest) (at_code : IsSplit 10 second_rest middle code after)
+    (numbers : HasNumbers (map row sections) globals.section.payload code.section.payload n) where
+  abbrev others : Others
+  others = record { before = map row before; between = map row between; middle = map row middle; after = map row after }
+
+  abbrev old_payloads : Payloads
+  old_payloads = record { globals = globals.section.payload; exports = exports.section.payload; code = code.section.payload }
+
+  same_rows : map row sections ≡ sections_of others old_payloads
+  same_rows =
+      rows_split at_globals
+      ∙ ap (λ l. map row before ++ (6, globals.section.payload) ∷ l) (rows_split at_exports ∙ ap (λ l. map row between ++ (7, exports.section.payload) ∷ l) (rows_split at_code))
+
+  -- The module decodes as `IsCovered` says.
+  pub is_covered : {start m1 m2 m3 m4 m5 m6 new : List ℕ} (items : List ExportItem) → vec export standard exports.section.payload items → has_counter items ≡ false → DecodesWhole wasm_module start []
+      → KeepsSections (map row before) start m1 → GainsItems 6 (vec global_item) (numbers.global_items ++ replicate n.bodies counter) m1 m2
+      → KeepsSections (map row between) m2 m3 → GainsItems 7 (vec export) (items ++ counter_exports n.function n.counter n.bodies) m3 m4
+      → KeepsSections (map row middle) m4 m5 → GainsItems 10 (vec (size_prefixed body)) (covered_bodies n.counter numbers.bodies) m5 m6
+      → KeepsSections (map row after) m6 new → IsCovered bytes new
+  is_covered {new = new} items exported free empty b g w e m c a = record {
+    others = others;
+    old_payloads = old_payloads;
+    new_payloads = record { globals = g.payload; exports = e.payload; code = c.payload };
+    items = record { imports = numbers.imports; globals = numbers.global_items; exports = items; bodies = numbers.bodies };
+    kept = record { before = b.kept; between = w.kept; middle = m.kept; after = a.kept };
+    read = subst (λ l. wasm_module padded bytes l) same_rows has.read;
+    has_items = record { imports = subst (λ l. AreImports l numbers.imports) same_rows numbers.are_imports; globals = numbers.globals_read; exports = exported; bodies = numbers.bodies_read };
+    new_names = free;
+    written = (gains_then b.gains (gains_then g.gains (gains_then w.gains (gains_then e.gains (gains_then m.gains (gains_then c.gains a.gains)))))).for_each [] empty;
+    has_counters = record {
+      globals = subst (λ k. DecodesOnly (vec global_item) g.payload (numbers.global_items ++ replicate k counter)) numbers.number g.decodes;
+      exports = subst (λ k. DecodesOnly (vec export) e.payload (items ++ counter_exports (imported spaces.Functions numbers.imports) (imported spaces.Globals numbers.imports + length numbers.global_items) k)) numbers.number
+          (subst (λ k. DecodesOnly (vec export) e.payload (items ++ counter_exports (imported spaces.Functions numbers.imports) k n.bodies)) numbers.counter
+          (subst (λ k. DecodesOnly (vec export) e.payload (items ++ counter_exports k n.counter n.bodies)) numbers.function e.decodes));
+      bodies = subst (λ k. DecodesOnly (vec (size_prefixed body)) c.payload (covered_bodies k numbers.bodies)) numbers.counter c.decodes;
+    };
+  }
+
+abbrev AreAll : List Located → Type 0
+AreAll sections = AllByRecursion (λ s. IsSection s.section) sections
+
+-- The clauses of the calls that `covered` makes, one after another.
+pub covered_result : {bytes start m1 m2 m3 m4 m5 m6 m7 new : List ℕ} {found list again before between middle after first_rest second_rest : List Located} {globals exports code : Located} {n : Numbers}
+    → AreSectionsOf bytes found → list ≡ found → again ≡ found → IsSplit 6 list before globals first_rest → IsSplit 7 first_rest between exports second_rest → IsSplit 10 second_rest middle code after
+    → (AreAll again → IsSection globals.section → globals.section.id ≡ 6 → IsSection code.section → code.section.id ≡ 10 → HasNumbers (map row again) globals.section.payload code.section.payload n)
+    → DecodesWhole wasm_module start []
+    → (AreAll before → KeepsSections (map row before) start m1)
+    → ((xs : List GlobalItem) → vec global_item standard globals.section.payload xs → GainsItems 6 (vec global_item) (xs ++ replicate n.bodies counter) m1 m2)
+    → (AreAll between → KeepsSections (map row between) m2 m3)
+    → (IsSection exports.section → exports.section.id ≡ 7 → (xs : List ExportItem) × vec export standard exports.section.payload xs × (has_counter xs ≡ false) × GainsItems 7 (vec export) (xs ++ counter_exports n.function n.counter n.bodies) m3 m4)
+    → (AreAll middle → KeepsSections (map row middle) m4 m5)
+    → ((xs : List Body) → vec (size_prefixed body) standard code.section.payload xs → GainsItems 10 (vec (size_prefixed body)) (covered_bodies n.counter xs) m5 m6)
+    → (AreAll after → KeepsSections (map row after) m6 m7)
+    → new ≡ m7 → IsCovered bytes new
+covered_result {bytes = bytes} {before = before} {first_rest = first_rest} {globals = globals} has same twice at_globals at_exports at_code numbered empty b g w e m c a finish =
+    let listed = subst (λ l. AreSectionsOf bytes l) (sym same) has in
+    let all_again = subst (λ l. AreSectionsOf bytes l) (sym twice) has in
+    let first = all_split (λ s. IsSection s.section) at_globals listed.each in
+    let second = all_split (λ s. IsSection s.section) at_exports first.2 in
+    let third = all_split (λ s. IsSection s.section) at_code second.2 in
+    let numbers = numbered all_again.each first.1 at_globals.has_id third.1 at_code.has_id in
+    let exports = e second.1 at_exports.has_id in
+    subst (λ s. IsCovered bytes s) (sym finish)
+    (is_covered all_again (subst (λ l. IsSplit 6 l before globals first_rest) (same ∙ sym twice) at_globals) at_exports at_code numbers exports.0 exports.1 exports.2 empty (b first.0) (g numbers.global_items numbers.globals_read) (w second.0) exports.3 (m third.0) (c numbers.bodies numbers.bodies_read) (a third.2))
+
+-- ---- errors
+
+-- The cause of an error implies the same when a call propagates the error.
+pub error_stays : {T P : Type 0} (r : Result T CoverageError) (e : CoverageError) → IsErrAnd r (λ y. y ≡ e) → (IsMalformed e → P) → IfErr r (λ y. IsMalformed y → P)
+error_stays (Ok x) e h p = elim h [ ]
+error_stays {P = P} (Err y) e h p = subst (λ z. IsMalformed z → P) (sym h) p
+
+-- The error of a reader, as an error of `covered`.
+pub read_stays : {T P : Type 0} (r : Result T CoverageError) (e : ReadError) → IsErrAnd r (λ y. y ≡ errors.Read e) → (e.cause ≢ Memory → P) → IfErr r (λ y. IsMalformed y → P)
+read_stays r e h p = error_stays r (errors.Read e) h p
+
+-- The sections of a module that decodes.
+pub record HaveDecodings (sections : List Located) (globals exports code : Located) : Type 0 where
+  pub each : AllByRecursion (λ s. IsSection s.section) sections
+  pub decode : AllByRecursion HasDecoding (map row sections)
+  pub globals_is : IsSection globals.section
+  pub exports_is : IsSection exports.section
+  pub code_is : IsSection code.section
+  pub globals_decode : HasDecoding (row globals)
+  pub exports_decode : HasDecoding (row exports)
+  pub code_decodes : HasDecoding (row code)
+
+pub all_decode : {bytes : List ℕ} {found list again before between middle after first_rest second_rest : List Located} {globals exports code : Located}
+    → IsDecodable bytes → AreSectionsOf bytes found → list ≡ found → again ≡ found → IsSplit 6 list before globals first_rest → IsSplit 7 first_rest between exports second_rest → IsSplit 10 second_rest middle code after → HaveDecodings again globals exports code
+all_decode {bytes = bytes} {found = found} decodable has same twice at_globals at_exports at_code =
+    let decode = subst (λ l. AllByRecursion HasDecoding l) (module_whole.whole padded bytes decodable.sections (map row found) decodable.read has.read) decodable.each in
+    let first = all_split (λ s. IsSection s.section) at_globals (subst AreAll (sym same) has.each) in
+    let second = all_split (λ s. IsSection s.section) at_exports first.2 in
+    let third = all_split (λ s. IsSection s.section) at_code second.2 in
+    let one = all_split (λ s. HasDecoding (row s)) at_globals (subst (λ l. AllByRecursion (λ s. HasDecoding (row s)) l) (sym same) (of_images HasDecoding row found decode)) in
+    let two = all_split (λ s. HasDecoding (row s)) at_exports one.2 in
+    let three = all_split (λ s. HasDecoding (row s)) at_code two.2 in
+    record {
+      each = subst AreAll (sym twice) has.each;
+      decode = subst (λ l. AllByRecursion HasDecoding (map row l)) (sym twice) decode;
+      globals_is = first.1;
+      exports_is = second.1;
+      code_is = third.1;
+      globals_decode = one.1;
+      exports_decode = two.1;
+      code_decodes = three.1;
+    }

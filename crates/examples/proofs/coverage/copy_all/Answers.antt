@@ -1,0 +1,14 @@
+use Rattle.wasm_base.proofs.Words.{sym, subst}
+use Rattle.wasm_reader.specs.Words.{IsSection}
+use Rattle.examples.specs.Coverage.{KeepsSections, row}
+use Rattle.examples.proofs.CoverageLaws.{each_at, keeps_more, rows_more}
+use Rattle.examples.proofs.coverage.copy_all.Goals as goal
+
+pub loop-section-preserved : goal.loop-section-preserved
+loop-section-preserved g c = λ each.
+    let s = c.section-item.result in
+    let list = c.args.sections.now in
+    let i = c.loop-section.section-index in
+    let is = each_at (λ t. IsSection t.section) list i s each c.loop-section-test.true c.section-item.is in
+    subst (λ l. KeepsSections l c.args.new.now c.keep.new.new) (sym (rows_more list i s c.loop-section-test.true c.section-item.is))
+    (keeps_more _ (row s) (c.loop-section.invariant each) (c.in_ok-keep.ensures.found is))

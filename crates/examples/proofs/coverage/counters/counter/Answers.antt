@@ -1,0 +1,12 @@
+use Rattle.wasm_base.proofs.Words.{arith, ints, ap, ◌∙◌, ◌++◌, ◌≡◌}
+use Rattle.wasm_code.proofs.Words.{one_constant, expression_encoding}
+use Rattle.wasm_sections.specs.Words.{global_encoding}
+use Rattle.examples.specs.Coverage.{counter}
+use Rattle.examples.proofs.CoverageLaws.{counter_encodes}
+use Rattle.examples.proofs.coverage.counters.counter.Goals as goal
+
+pub returns : goal.returns
+returns g c =
+    let init = c.in_ok-init.init in
+    let typed = c.in_ok-encode.ensures.appends.ok ∙ ap (λ s. s ++ global_encoding counter.global_type) c.new-bytes.ensures.items in
+    counter_encodes {init = init} (c.in_ok-encode-2.ensures.appends.ok ∙ ap (λ s. s ++ expression_encoding init) typed) (one_constant c.in_ok-init.ensures.stores ((omega (arith, ints), omega (arith, ints)), tt))

@@ -1,0 +1,7 @@
+use Rattle.wasm_base.proofs.Words.{members, standard}
+use Rattle.wasm_sections.proofs.Words.{export}
+use Rattle.examples.specs.Coverage.{counter_exports}
+use Rattle.examples.proofs.coverage.counters.exports.Given as goal
+
+abbrev pub invariant-loop-i : goal.invariant-loop-i
+invariant-loop-i g l = members export standard l.bytes.items (counter_exports l.function l.index l.i)

@@ -1,0 +1,9 @@
+use Rattle.wasm_base.proofs.Words.{◌≡◌, List, map, take, AllByRecursion}
+use Rattle.wasm_reader.specs.Words.{IsSection}
+use Rattle.wasm_sections.specs.Words.{ImportItem}
+use Rattle.examples.specs.Coverage.{AreImports, imported, row}
+use Rattle.examples.proofs.coverage.imports.imported.Given as goal
+
+abbrev pub invariant-loop-section : goal.invariant-loop-section
+invariant-loop-section g l =
+    AllByRecursion (λ s. IsSection s.section) l.sections → (imports : List ImportItem) × AreImports (map row (take l.section-index l.sections)) imports × (l.count ≡ imported l.space imports)

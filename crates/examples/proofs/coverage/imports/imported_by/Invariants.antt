@@ -1,0 +1,7 @@
+use Rattle.wasm_base.proofs.Words.{◌≡◌, map, take}
+use Rattle.wasm_sections.specs.Words.{imports_item}
+use Rattle.examples.specs.Coverage.{imported}
+use Rattle.examples.proofs.coverage.imports.imported_by.Given as goal
+
+abbrev pub invariant-loop-entry : goal.invariant-loop-entry
+invariant-loop-entry g l = l.count ≡ imported l.space (map imports_item (take l.entry-index l.entries))

@@ -1,0 +1,275 @@
+-- This file defines a module whose functions count their calls: each function that the module
+-- defines has a counter, to which it adds 1 before its own instructions.
+use Rattle.std.specs.Prelude.{◌≡◌, ◌≢◌, ℕ, zero, suc, ◌+◌, ◌<◌, ◌^◌, List, [], ◌∷◌, ◌++◌, length, map, nat_eq, ◌||◌, replicate, codes, decimal, count_by, flat_map, pos, Bool, true, false, ◌==◌, if◌then◌else◌, Some}
+use Rattle.std.specs.List.{AllByRecursion, AllZip, starts_with}
+use Rattle.std.specs.declared.alloc.Global.{Global}
+use Rattle.wasm_base.specs.Words.{Format, Decodes, DecodesWhole, padded, standard, name, u32, vec, size_prefixed, wasm_module, number_of, members, unsigned_encoding}
+use Rattle.wasm_base.specs.declared.types.ValType.TheVariants.{I32}
+use Rattle.wasm_code.specs.Words.{Body, body, normal_row}
+use Rattle.wasm_insn.specs.Words.{Plain, instruction, table}
+use Rattle.wasm_insn.specs.declared.instruction.Instruction.TheVariants.{GlobalGet, GlobalSet, I32Const, Numeric}
+use Rattle.wasm_insn.specs.declared.numeric.Numeric.TheVariants.{I32Add}
+use Rattle.wasm_reader.specs.Iterating.{Located}
+use Rattle.wasm_reader.specs.Outlines.{IsSection}
+use Rattle.wasm_reader.specs.Shortening.{contains_offsets}
+use Rattle.wasm_sections.specs.Words.{ExportItem, export, GlobalItem, global_item, ImportItem, import_format}
+use Rattle.wasm_sections.specs.Imports.{Imported, single, named, alike}
+use Rattle.wasm_sections.specs.declared.import.EntityType.{EntityType}
+use Rattle.wasm_base.specs.declared.fault.ReadFault.TheVariants.{Memory}
+use Rattle.examples.specs.declared.coverage.CoverageError.{CoverageError}
+use Rattle.examples.specs.declared.coverage.Numbers.{Numbers}
+use Rattle.examples.specs.declared.coverage.imports.Space.{Space}
+use Rattle.examples.specs.declared.coverage.imports.Space.TheVariants.{Functions, Globals}
+use Rattle.wasm_base.specs.declared.section_id.SectionId.TheVariants as ids
+use Rattle.wasm_sections.specs.declared.export.ExportKind.TheVariants as exported
+use Rattle.wasm_sections.specs.declared.import.EntityType.TheVariants as entities
+use Rattle.examples.specs.declared.coverage.CoverageError.TheVariants as errors
+
+-- ---- bodies
+
+-- The instructions that add 1 to this counter.
+abbrev pub counting : ℕ → List Plain
+counting index =
+    normal_row {A = Global} (GlobalGet index) ∷ normal_row {A = Global} (I32Const (pos 1)) ∷ normal_row {A = Global} (Numeric I32Add) ∷ normal_row {A = Global} (GlobalSet index)
+    ∷ []
+
+-- The body with these instructions before its own.
+abbrev pub covered_body : ℕ → Body → Body
+covered_body index x = record { runs = x.runs; code = counting index ++ x.code }
+
+-- The bodies, which count in `first` and the globals after it, one each.
+abbrev pub covered_bodies : ℕ → List Body → List Body
+covered_bodies first [] = []
+covered_bodies first (x ∷ bodies) = covered_body first x ∷ covered_bodies (suc first) bodies
+
+-- ---- counters
+
+-- A counter: a mutable global of 32 bits, initially 0.
+abbrev pub counter : GlobalItem
+counter = record { global_type = record { val_type = I32; mutable = true; shared = false }; init = normal_row {A = Global} (I32Const (pos 0)) ∷ [] }
+
+-- The export of a counter as `coverage.N`, where N is the index of its function.
+abbrev pub counter_export : (function index : ℕ) → ExportItem
+counter_export function index = record { name = codes "coverage." ++ decimal function; kind = exported.Global; index = index }
+
+-- The exports of this many counters, for this function and those after it.
+abbrev pub counter_exports : (function index number : ℕ) → List ExportItem
+counter_exports function index zero = []
+counter_exports function index (suc number) = counter_export function index ∷ counter_exports (suc function) (suc index) number
+
+-- Whether the name of an export begins as those of counters.
+abbrev pub names_counter : ExportItem → Bool
+names_counter e = starts_with nat_eq e.name (codes "coverage.")
+
+-- Whether the name of any of the exports does.
+abbrev pub has_counter : List ExportItem → Bool
+has_counter [] = false
+has_counter (e ∷ exports) = names_counter e || has_counter exports
+
+-- ---- imports
+
+-- Whether the entity has an index among functions, or among globals.
+abbrev pub is_in : Space → EntityType → Bool
+is_in Functions (entities.Function index) = true
+is_in Functions (entities.FunctionExact index) = true
+is_in Globals (entities.Global ty) = true
+is_in _ _ = false
+
+-- How many such entities are imported from a module.
+abbrev pub imported_from : Space → Imported → ℕ
+imported_from space (single n ty) = if is_in space ty then 1 else 0
+imported_from space (named items) = count_by (λ i. is_in space i.1) items
+imported_from space (alike ty names) = if is_in space ty then length names else 0
+
+-- How many such entities are imported.
+abbrev pub imported : Space → List ImportItem → ℕ
+imported space [] = 0
+imported space (i ∷ imports) = imported_from space i.imported + imported space imports
+
+-- The payloads of the sections of this id. A section is its id and its payload.
+abbrev pub payloads_of : ℕ → List (ℕ × List ℕ) → List (List ℕ)
+payloads_of id [] = []
+payloads_of id (s ∷ sections) = if s.0 == id then s.1 ∷ payloads_of id sections else payloads_of id sections
+
+-- The import sections decode to these items, one section after another.
+pub record AreImports (sections : List (ℕ × List ℕ)) (imports : List ImportItem) : Type 0 where
+  pub of_each : List (List ImportItem)
+  pub decode : AllZip (vec import_format standard) (payloads_of (number_of ids.Import) sections) of_each
+  pub joined : imports ≡ flat_map (λ items. items) of_each
+
+-- ---- modules
+
+-- The sections of a module that has sections of globals, exports and code, in this order: those
+-- before the globals, between these, and after the code.
+pub record Others : Type 0 where
+  pub before : List (ℕ × List ℕ)
+  pub between : List (ℕ × List ℕ)
+  pub middle : List (ℕ × List ℕ)
+  pub after : List (ℕ × List ℕ)
+
+-- The payloads of the sections of globals, exports and code.
+pub record Payloads : Type 0 where
+  pub globals : List ℕ
+  pub exports : List ℕ
+  pub code : List ℕ
+
+-- All sections of the module.
+abbrev pub sections_of : Others → Payloads → List (ℕ × List ℕ)
+sections_of others payloads =
+    others.before ++ (number_of ids.Global, payloads.globals) ∷ (others.between ++ (number_of ids.Export, payloads.exports) ∷ (others.middle ++ (number_of ids.Code, payloads.code) ∷ others.after))
+
+-- The section is of no globals, exports or code, and no custom section that holds offsets into the
+-- code, by its name.
+pub record IsKept (s : ℕ × List ℕ) : Type 0 where
+  pub no_globals : s.0 ≢ number_of ids.Global
+  pub no_exports : s.0 ≢ number_of ids.Export
+  pub no_code : s.0 ≢ number_of ids.Code
+  pub no_offsets : (n rest : List ℕ) → s.0 ≡ number_of ids.Custom → Decodes name padded s.1 n rest → contains_offsets (Some n) ≡ false
+
+-- All of them are.
+pub record AreKept (others : Others) : Type 0 where
+  pub before : AllByRecursion IsKept others.before
+  pub between : AllByRecursion IsKept others.between
+  pub middle : AllByRecursion IsKept others.middle
+  pub after : AllByRecursion IsKept others.after
+
+-- The bytes as a whole decode to these items, and to no others. All encodings that the standard
+-- admits are decoded.
+pub record DecodesOnly {X : Type 0} (F : Format X) (bytes : List ℕ) (x : X) : Type 0 where
+  pub decodes : F standard bytes x
+  pub only : (y : X) → F standard bytes y → y ≡ x
+
+-- The items of a module that bear on its counters.
+pub record Items : Type 0 where
+  pub imports : List ImportItem
+  pub globals : List GlobalItem
+  pub exports : List ExportItem
+  pub bodies : List Body
+
+-- The index of the first counter: it follows the imported globals and those of the module.
+abbrev pub first_counter : Items → ℕ
+first_counter items = imported Globals items.imports + length items.globals
+
+-- The module of the old bytes has these items.
+pub record HasItems (others : Others) (payloads : Payloads) (items : Items) : Type 0 where
+  pub imports : AreImports (sections_of others payloads) items.imports
+  pub globals : vec global_item standard payloads.globals items.globals
+  pub exports : vec export standard payloads.exports items.exports
+  pub bodies : vec (size_prefixed body) standard payloads.code items.bodies
+
+-- The payloads have a counter and an export more for each body, and the covered bodies.
+pub record HasCounters (payloads : Payloads) (items : Items) : Type 0 where
+  pub globals : DecodesOnly (vec global_item) payloads.globals (items.globals ++ replicate (length items.bodies) counter)
+  pub exports : DecodesOnly (vec export) payloads.exports (items.exports ++ counter_exports (imported Functions items.imports) (first_counter items) (length items.bodies))
+  pub bodies : DecodesOnly (vec (size_prefixed body)) payloads.code (covered_bodies (first_counter items) items.bodies)
+
+-- The bytes are a module with sections of globals, exports and code, and the new bytes are the same
+-- module but for the counters. Other sections have the same payloads.
+pub record IsCovered (bytes new : List ℕ) : Type 0 where
+  pub others : Others
+  pub old_payloads : Payloads
+  pub new_payloads : Payloads
+  pub items : Items
+  pub kept : AreKept others
+  pub read : wasm_module padded bytes (sections_of others old_payloads)
+  pub has_items : HasItems others old_payloads items
+  pub new_names : has_counter items.exports ≡ false
+  pub written : DecodesWhole wasm_module new (sections_of others new_payloads)
+  pub has_counters : HasCounters new_payloads items
+
+-- ---- errors
+
+-- The error is that of a decoder, and not of an allocation.
+abbrev pub IsMalformed : CoverageError → Type 0
+IsMalformed (errors.Read e) = e.cause ≢ Memory
+IsMalformed (errors.Missing id) = ⊥
+IsMalformed (errors.Misplaced offset) = ⊥
+IsMalformed (errors.Offsets offset) = ⊥
+IsMalformed (errors.Taken offset) = ⊥
+IsMalformed (errors.TooLong offset) = ⊥
+
+-- If the section is of imports, globals, exports or code, it decodes to items.
+pub record HasDecoding (s : ℕ × List ℕ) : Type 0 where
+  pub imports : s.0 ≡ number_of ids.Import → (items : List ImportItem) × vec import_format standard s.1 items
+  pub globals : s.0 ≡ number_of ids.Global → (items : List GlobalItem) × vec global_item standard s.1 items
+  pub exports : s.0 ≡ number_of ids.Export → (items : List ExportItem) × vec export standard s.1 items
+  pub bodies : s.0 ≡ number_of ids.Code → (items : List Body) × vec (size_prefixed body) standard s.1 items
+
+-- The bytes are a module whose sections of imports, globals, exports and code decode.
+pub record IsDecodable (bytes : List ℕ) : Type 0 where
+  pub sections : List (ℕ × List ℕ)
+  pub read : wasm_module padded bytes sections
+  pub each : AllByRecursion HasDecoding sections
+
+-- ---- calls
+
+-- The id and the payload of a section.
+abbrev pub row : Located → ℕ × List ℕ
+row s = (s.section.id, s.section.payload)
+
+-- The bytes are a module of these sections.
+pub record AreSectionsOf (bytes : List ℕ) (sections : List Located) : Type 0 where
+  pub read : wasm_module padded bytes (map row sections)
+  pub each : AllByRecursion (λ s. IsSection s.section) sections
+
+-- The list is `before`, then `found`, a section of this id, then `after`.
+pub record IsSplit (id : ℕ) (sections before : List Located) (found : Located) (after : List Located) : Type 0 where
+  pub is : sections ≡ before ++ found ∷ after
+  pub has_id : found.section.id ≡ id
+
+-- If the old bytes decode to some sections alone, the new bytes decode to these and more.
+pub record GainsSections (more : List (ℕ × List ℕ)) (old new : List ℕ) : Type 0 where
+  pub for_each : (sections : List (ℕ × List ℕ)) → DecodesWhole wasm_module old sections → DecodesWhole wasm_module new (sections ++ more)
+
+-- The module gains a section of this id, which decodes to these items.
+pub record GainsItems {X : Type 0} (id : ℕ) (F : Format X) (items : X) (old new : List ℕ) : Type 0 where
+  pub payload : List ℕ
+  pub decodes : DecodesOnly F payload items
+  pub gains : GainsSections ((id, payload) ∷ []) old new
+
+-- The new payload has `added` to the count of the old one, and these bytes at its end.
+pub record IsExtended (old : List ℕ) (added : ℕ) (items new : List ℕ) : Type 0 where
+  pub count : ℕ
+  pub rest : List ℕ
+  pub read : Decodes u32 standard old count rest
+  pub fits : count + added < 2 ^ 32
+  pub is : new ≡ unsigned_encoding (count + added) ++ (rest ++ items)
+
+-- The bytes gain an encoding of this value.
+pub record GainsEncoding {X : Type 0} (F : Format X) (x : X) (old new : List ℕ) : Type 0 where
+  pub encoding : List ℕ
+  pub added : new ≡ old ++ encoding
+  pub encodes : F standard encoding x
+
+-- The entries of a code section encode these bodies, one each.
+abbrev pub EncodeBodies : List (List ℕ) → List Body → Type 0
+EncodeBodies entries bodies = AllZip (size_prefixed body standard) entries bodies
+
+-- The code section gains this body.
+pub record AddsBody (x : Body) (old new : List (List ℕ)) : Type 0 where
+  pub entry : List ℕ
+  pub is : new ≡ old ++ entry ∷ []
+  pub encodes : size_prefixed body standard entry x
+
+-- The new body is the locals, instructions that add 1 to the counter, and the code.
+pub record IsJoined (locals : List ℕ) (index : ℕ) (code new : List ℕ) : Type 0 where
+  pub added : List ℕ
+  pub is : new ≡ locals ++ (added ++ code)
+  pub encodes : members (instruction table) standard added (counting index)
+
+-- All sections are kept, and the module gains them.
+pub record KeepsSections (sections : List (ℕ × List ℕ)) (old new : List ℕ) : Type 0 where
+  pub kept : AllByRecursion IsKept sections
+  pub gains : GainsSections sections old new
+
+-- The numbers are those of a module of these sections, which has such globals and such code.
+pub record HasNumbers (sections : List (ℕ × List ℕ)) (globals code : List ℕ) (n : Numbers) : Type 0 where
+  pub imports : List ImportItem
+  pub global_items : List GlobalItem
+  pub bodies : List Body
+  pub are_imports : AreImports sections imports
+  pub globals_read : vec global_item standard globals global_items
+  pub bodies_read : vec (size_prefixed body) standard code bodies
+  pub function : n.function ≡ imported Functions imports
+  pub counter : n.counter ≡ imported Globals imports + length global_items
+  pub number : n.bodies ≡ length bodies

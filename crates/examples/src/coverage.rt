@@ -1,0 +1,369 @@
+// A module whose functions count their calls.
+ghost use Rattle.std.specs.Prelude.{◌≡◌, ◌≢◌, ◌++◌, List, [], ◌∷◌, length, map, replicate, false, Some, IfOk, IfErr, OnOk};
+ghost use Rattle.std.specs.List.{AllByRecursion};
+ghost use Rattle.wasm_base.specs.Continuing.{RejectsWhole};
+ghost use Rattle.wasm_base.specs.Decoding.{Rejects};
+ghost use Rattle.wasm_base.specs.Formats.{size_prefixed, u32, vec, wasm_module};
+ghost use Rattle.wasm_base.specs.Numbers.{padded, standard};
+ghost use Rattle.wasm_code.specs.Bodies.{Body, body};
+ghost use Rattle.wasm_reader.specs.Kinds.{Contents, content, number_in};
+ghost use Rattle.wasm_reader.specs.Outlines.{IsSection, section_kind_of};
+ghost use Rattle.wasm_reader.specs.Shortening.{contains_offsets};
+ghost use Rattle.wasm_sections.specs.Exports.{ExportItem, export, item_of};
+ghost use Rattle.wasm_sections.specs.Globals.{GlobalItem, global_item};
+ghost use Rattle.examples.specs.Coverage.{
+  counter,
+  counter_exports,
+  covered_bodies,
+  has_counter,
+  row,
+  AreSectionsOf,
+  GainsItems,
+  GainsSections,
+  HasDecoding,
+  HasNumbers,
+  IsCovered,
+  IsDecodable,
+  IsKept,
+  IsMalformed,
+  IsSplit,
+  KeepsSections,
+};
+ghost use Rattle.examples.specs.declared.coverage.CoverageError.TheVariants.{Read};
+
+mod bodies;
+mod counters;
+mod imports;
+
+use crate::stripped::copy;
+use bodies::covered_code;
+use counters::{counters, exports as exports_of, extended};
+use imports::{Space, imported};
+use std::alloc::Allocator;
+use wasm_base::{Module, RawSection, ReadFault, Refused};
+use wasm_reader::{Items, ReadError, Section, Sections};
+use wasm_sections::Export;
+
+/// The error of [`covered`].
+#[derive(Clone, Copy, PartialEq, Eq, Debug)]
+pub enum CoverageError {
+    /// The bytes are no module, a section does not decode, or an allocation failed.
+    Read(ReadError),
+    /// No section of this id follows those that should be before it.
+    Missing { id: u8 },
+    /// The section at this offset repeats one of globals, exports or code, or is out of order.
+    Misplaced { offset: usize },
+    /// The custom section at this offset holds offsets into the code, which would become wrong.
+    Offsets { offset: usize },
+    /// The exports at this offset have a name that begins with `coverage.` already.
+    Taken { offset: usize },
+    /// With the counters, the section at this offset would have a count, a length or an index above
+    /// 4294967295.
+    TooLong { offset: usize },
+}
+
+impl From<ReadError> for CoverageError {
+    ghost from_gives = { λ error covered. covered ≡ Read error };
+
+    fn from(error: ReadError) -> CoverageError {
+        CoverageError::Read(error)
+    }
+}
+
+/// Returns the error of a call that failed at the section of this offset.
+fn refused_at(refused: Refused, offset: usize) -> CoverageError
+    ensures { IsMalformed result → ⊥ }
+{
+    match refused {
+        Refused::Memory => CoverageError::Read(ReadError {
+            cause: ReadFault::Memory,
+            offset,
+        }),
+        Refused::TooLong => CoverageError::TooLong { offset },
+    }
+}
+
+/// Returns the module with a counter for each function that it defines, a global that is exported
+/// as `coverage.N` for the function of index N. Each function first adds 1 to its counter. Other
+/// sections keep their payloads.
+///
+/// # Errors
+///
+/// The module must have sections of globals, exports and code, in this order and once each. It must
+/// have no custom section that holds offsets into the code, and no export of such a name.
+pub fn covered<A: Allocator + Copy>(bytes: &[u8], alloc: A) -> Result<Vec<u8, A>, CoverageError>
+    ensures found { IfOk result (λ new. IsCovered bytes.now new.items) }
+    ensures none { IfErr result (λ e. IsMalformed e → IsDecodable bytes.now → ⊥) }
+{
+    let sections = sections_of(bytes, alloc)?;
+    let (before, globals, rest) = split(&sections, 6)?;
+    let (between, exports, rest) = split(rest, 7)?;
+    let (middle, code, after) = split(rest, 10)?;
+    let numbers = numbers_of(&sections, globals, code)?;
+    let mut new = match Module::new(alloc) {
+        Ok(module) => module,
+        Err(refused) => return Err(refused_at(refused, 0)),
+    };
+    copy_all(before, &mut new)?;
+    add_globals(globals, numbers, alloc, &mut new)?;
+    copy_all(between, &mut new)?;
+    add_exports(exports, numbers, alloc, &mut new)?;
+    copy_all(middle, &mut new)?;
+    add_code(code, numbers, alloc, &mut new)?;
+    copy_all(after, &mut new)?;
+    Ok(new.finish())
+}
+
+/// Returns the sections of a module.
+fn sections_of<A: Allocator + Copy>(
+    bytes: &[u8],
+    alloc: A,
+) -> Result<Vec<Section<'_, A>, A>, CoverageError>
+    ensures found { IfOk result (λ found. AreSectionsOf bytes.now found.items) }
+    ensures none { IfErr result (λ e. IsMalformed e → RejectsWhole wasm_module padded bytes.now) }
+{
+    let mut sections = Sections::new(alloc, bytes)?;
+    let mut found = Vec::new(alloc);
+    loop {
+        let section = match sections.next() {
+            None => return Ok(found),
+            Some(section) => section?,
+        };
+        let offset = section.offset();
+        match found.push(section) {
+            Ok(()) => {}
+            Err(_) => return Err(refused_at(Refused::Memory, offset)),
+        }
+    }
+}
+
+/// Returns the sections before one of this id, that section, and those after it.
+fn split<'s, 'a, A: Allocator + Copy>(
+    sections: &'s [Section<'a, A>],
+    id: u8,
+) -> Result<
+    (
+        &'s [Section<'a, A>],
+        &'s Section<'a, A>,
+        &'s [Section<'a, A>],
+    ),
+    CoverageError,
+>
+    ensures found { IfOk result (λ x. IsSplit id sections.now x.0.now x.1.now x.2.now) }
+    ensures none { IfErr result (λ e. IsMalformed e → ⊥) }
+{
+    let mut at = 0;
+    while at < sections.len() {
+        let section = &sections[at];
+        if section.id() == id {
+            return Ok((&sections[..at], section, &sections[at + 1..]));
+        }
+        at += 1;
+    }
+    Err(CoverageError::Missing { id })
+}
+
+/// The numbers of a module that its counters depend on.
+#[derive(Clone, Copy)]
+struct Numbers {
+    /// The index of the first function that the module defines.
+    function: u32,
+    /// The index of the first counter.
+    counter: u32,
+    /// The number of functions that the module defines.
+    bodies: u32,
+}
+
+/// Returns the number of items of a section.
+fn number_of<A: Allocator + Copy>(section: &Section<'_, A>) -> Result<u32, CoverageError>
+    ensures found { IfOk result (λ n. (x : Contents) × content (section_kind_of section.now.section) standard section.now.section.payload x × (number_in x ≡ Some n)) }
+    ensures none { IfErr result (λ e. IsMalformed e → RejectsWhole (content (section_kind_of section.now.section)) standard section.now.section.payload) }
+{
+    match section.count()? {
+        Some(number) => Ok(number),
+        None => Err(CoverageError::Misplaced {
+            offset: section.offset(),
+        }),
+    }
+}
+
+/// Returns the numbers of a module, from all its sections and those of globals and code.
+fn numbers_of<A: Allocator + Copy>(
+    sections: &[Section<'_, A>],
+    globals: &Section<'_, A>,
+    code: &Section<'_, A>,
+) -> Result<Numbers, CoverageError>
+    ensures found { AllByRecursion (λ s. IsSection s.section) sections.now → IsSection globals.now.section → globals.now.section.id ≡ 6 → IsSection code.now.section → code.now.section.id ≡ 10 → IfOk result (λ n. HasNumbers (map row sections.now) globals.now.section.payload code.now.section.payload n) }
+    ensures none { AllByRecursion (λ s. IsSection s.section) sections.now → IsSection globals.now.section → IsSection code.now.section → IfErr result (λ e. IsMalformed e → AllByRecursion HasDecoding (map row sections.now) → globals.now.section.id ≡ 6 → HasDecoding (row globals.now) → code.now.section.id ≡ 10 → HasDecoding (row code.now) → ⊥) }
+{
+    let function = imported(sections, Space::Functions)?;
+    let imported_globals = imported(sections, Space::Globals)?;
+    let offset = globals.offset();
+    let Some(counter) = imported_globals.checked_add(number_of(globals)?) else {
+        return Err(CoverageError::TooLong { offset });
+    };
+    let bodies = number_of(code)?;
+    Ok(Numbers {
+        function,
+        counter,
+        bodies,
+    })
+}
+
+/// Appends the sections as they are.
+fn copy_all<A: Allocator + Copy>(
+    sections: &[Section<'_, A>],
+    new: &mut Module<A>,
+) -> Result<(), CoverageError>
+    ensures found { AllByRecursion (λ s. IsSection s.section) sections.now → OnOk result (KeepsSections (map row sections.now) new.old new.new) }
+    ensures none { IfErr result (λ e. IsMalformed e → ⊥) }
+{
+    for section in sections {
+        keep(section, new)?;
+    }
+    Ok(())
+}
+
+/// Appends a section as it is, which must be none of globals, exports and code, and hold no
+/// offsets.
+fn keep<A: Allocator + Copy>(
+    section: &Section<'_, A>,
+    new: &mut Module<A>,
+) -> Result<(), CoverageError>
+    ensures found { IsSection section.now.section → OnOk result (IsKept (row section.now) × GainsSections (row section.now ∷ []) new.old new.new) }
+    ensures none { IfErr result (λ e. IsMalformed e → ⊥) }
+{
+    let offset = section.offset();
+    let id = section.id();
+    if id == 6 || id == 7 || id == 10 {
+        return Err(CoverageError::Misplaced { offset });
+    }
+    if holds_offsets(section) {
+        return Err(CoverageError::Offsets { offset });
+    }
+    copy(section, new)?;
+    Ok(())
+}
+
+/// Returns `true` if the section is a custom section whose name says that it holds offsets.
+fn holds_offsets<A: Allocator + Copy>(section: &Section<'_, A>) -> bool
+    ensures { result ≡ contains_offsets section.now.section.name }
+{
+    match section.name() {
+        Some(name) => is_of_offsets(name),
+        None => false,
+    }
+}
+
+/// Returns `true` if a custom section of this name holds offsets into the code.
+fn is_of_offsets(name: &str) -> bool
+    ensures { result ≡ contains_offsets (Some name.now) }
+{
+    let bytes = name.as_bytes();
+    bytes.starts_with(b"reloc.")
+        || name == "sourceMappingURL"
+        || name == "linking"
+        || name == "external_debug_info"
+        || name == "build_id"
+        || bytes.starts_with(b".debug_")
+        || bytes.starts_with(b"metadata.code.")
+}
+
+/// Appends a section of this payload, which replaces that at the offset.
+fn add_payload<A: Allocator>(
+    id: u8,
+    payload: &[u8],
+    offset: usize,
+    new: &mut Module<A>,
+) -> Result<(), CoverageError>
+    ensures found { OnOk result (GainsSections ((id, payload.now) ∷ []) new.old new.new) }
+    ensures none { IfErr result (λ e. IsMalformed e → ⊥) }
+{
+    match new.section(&RawSection { id, bytes: payload }) {
+        Ok(()) => Ok(()),
+        Err(refused) => Err(refused_at(refused, offset)),
+    }
+}
+
+/// Appends the globals, and a counter for each body.
+fn add_globals<A: Allocator + Copy>(
+    section: &Section<'_, A>,
+    numbers: Numbers,
+    alloc: A,
+    new: &mut Module<A>,
+) -> Result<(), CoverageError>
+    ensures found { (globals : List GlobalItem) → vec global_item standard section.now.section.payload globals → OnOk result (GainsItems 6 (vec global_item) (globals ++ replicate numbers.bodies counter) new.old new.new) }
+    ensures none { IfErr result (λ e. IsMalformed e → Rejects u32 standard section.now.section.payload) }
+{
+    let offset = section.offset();
+    let added = match counters(numbers.bodies, alloc) {
+        Ok(added) => added,
+        Err(refused) => return Err(refused_at(refused, offset)),
+    };
+    let payload = extended(section, numbers.bodies, &added, alloc)?;
+    add_payload(6, &payload, offset, new)
+}
+
+/// Returns `true` if an export has a name that begins as the names of counters.
+fn has_counter(exports: &[Export<'_>]) -> bool
+    ensures { result ≡ has_counter (map item_of exports.now) }
+{
+    for export in exports {
+        if export.name.as_bytes().starts_with(b"coverage.") {
+            return true;
+        }
+    }
+    false
+}
+
+/// Decodes the exports, whose names must not begin as those of counters.
+fn check_exports<A: Allocator + Copy>(section: &Section<'_, A>) -> Result<(), CoverageError>
+    ensures found { IsSection section.now.section → section.now.section.id ≡ 7 → OnOk result ((exports : List ExportItem) × vec export standard section.now.section.payload exports × (has_counter exports ≡ false)) }
+    ensures none { IfErr result (λ e. IsMalformed e → RejectsWhole (content (section_kind_of section.now.section)) standard section.now.section.payload) }
+{
+    let offset = section.offset();
+    let Items::Exports(exports) = section.items()? else {
+        return Err(CoverageError::Misplaced { offset });
+    };
+    if has_counter(&exports) {
+        return Err(CoverageError::Taken { offset });
+    }
+    Ok(())
+}
+
+/// Appends the exports, and that of the counter of each body.
+fn add_exports<A: Allocator + Copy>(
+    section: &Section<'_, A>,
+    numbers: Numbers,
+    alloc: A,
+    new: &mut Module<A>,
+) -> Result<(), CoverageError>
+    ensures found { IsSection section.now.section → section.now.section.id ≡ 7 → OnOk result ((exports : List ExportItem) × vec export standard section.now.section.payload exports × (has_counter exports ≡ false) × GainsItems 7 (vec export) (exports ++ counter_exports numbers.function numbers.counter numbers.bodies) new.old new.new) }
+    ensures none { IsSection section.now.section → section.now.section.id ≡ 7 → IfErr result (λ e. IsMalformed e → HasDecoding (row section.now) → ⊥) }
+{
+    let offset = section.offset();
+    check_exports(section)?;
+    let added = match exports_of(numbers.function, numbers.counter, numbers.bodies, alloc) {
+        Ok(added) => added,
+        Err(refused) => return Err(refused_at(refused, offset)),
+    };
+    let payload = extended(section, numbers.bodies, &added, alloc)?;
+    add_payload(7, &payload, offset, new)
+}
+
+/// Appends the code section of the covered bodies.
+fn add_code<A: Allocator + Copy>(
+    section: &Section<'_, A>,
+    numbers: Numbers,
+    alloc: A,
+    new: &mut Module<A>,
+) -> Result<(), CoverageError>
+    ensures found { (bodies : List Body) → vec (size_prefixed body) standard section.now.section.payload bodies → OnOk result (GainsItems 10 (vec (size_prefixed body)) (covered_bodies numbers.counter bodies) new.old new.new) }
+    ensures none { section.now.section.id ≡ 10 → IfErr result (λ e. IsMalformed e → HasDecoding (row section.now) → ⊥) }
+{
+    let code = covered_code(section, numbers.counter, alloc)?;
+    match new.section(&code) {
+        Ok(()) => Ok(()),
+        Err(refused) => Err(refused_at(refused, section.offset())),
+    }
+}

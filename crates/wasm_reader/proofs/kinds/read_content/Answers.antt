@@ -1,0 +1,27 @@
+use Rattle.wasm_base.proofs.Words.{fault_stays}
+use Rattle.wasm_reader.proofs.KindLaws.{functions_read, names_read, linking_read, producers_read, hints_read, core_modules_read, core_instances_read, core_stack_read}
+use Rattle.wasm_reader.proofs.kinds.read_content.Goals as goal
+
+pub returns-in_err-read_whole-in-Functions-clause-none : goal.returns-in_err-read_whole-in-Functions-clause-none
+returns-in_err-read_whole-in-Functions-clause-none g c = fault_stays c.from_residual-in_err-read_whole-in-Functions.result _ c.from_residual-in_err-read_whole-in-Functions.ensures.1 λ n. (functions_read _ c.args.kind c.args.bytes.now c.in-Functions.is).0 (c.in_err-read_whole-in-Functions.ensures.none n)
+
+pub returns-in_err-read_names-in-Names-clause-none : goal.returns-in_err-read_names-in-Names-clause-none
+returns-in_err-read_names-in-Names-clause-none g c = fault_stays c.from_residual-in_err-read_names-in-Names.result _ c.from_residual-in_err-read_names-in-Names.ensures.1 λ n. (names_read _ c.args.kind c.args.bytes.now c.in-Names.is).0 (c.in_err-read_names-in-Names.ensures.none n)
+
+pub returns-in_err-read_links-in-Linking-clause-none : goal.returns-in_err-read_links-in-Linking-clause-none
+returns-in_err-read_links-in-Linking-clause-none g c = fault_stays c.from_residual-in_err-read_links-in-Linking.result _ c.from_residual-in_err-read_links-in-Linking.ensures.1 λ n. (linking_read _ c.args.kind c.args.bytes.now c.in-Linking.is).0 (c.in_err-read_links-in-Linking.ensures.none n)
+
+pub returns-in_err-read_producers-in-Producers-clause-none : goal.returns-in_err-read_producers-in-Producers-clause-none
+returns-in_err-read_producers-in-Producers-clause-none g c = fault_stays c.from_residual-in_err-read_producers-in-Producers.result _ c.from_residual-in_err-read_producers-in-Producers.ensures.1 λ n. (producers_read _ c.args.kind c.args.bytes.now c.in-Producers.is).0 (c.in_err-read_producers-in-Producers.ensures.none n)
+
+pub returns-in_err-read_hints-in-Hints-clause-none : goal.returns-in_err-read_hints-in-Hints-clause-none
+returns-in_err-read_hints-in-Hints-clause-none g c = fault_stays c.from_residual-in_err-read_hints-in-Hints.result _ c.from_residual-in_err-read_hints-in-Hints.ensures.1 λ n. (hints_read _ c.args.kind c.args.bytes.now c.in-Hints.is).0 (c.in_err-read_hints-in-Hints.ensures.none n)
+
+pub returns-in_err-read_modules-in-CoreModules-clause-none : goal.returns-in_err-read_modules-in-CoreModules-clause-none
+returns-in_err-read_modules-in-CoreModules-clause-none g c = fault_stays c.from_residual-in_err-read_modules-in-CoreModules.result _ c.from_residual-in_err-read_modules-in-CoreModules.ensures.1 λ n. (core_modules_read _ c.args.kind c.args.bytes.now c.in-CoreModules.is).0 (c.in_err-read_modules-in-CoreModules.ensures.none n)
+
+pub returns-in_err-read_instances-in-CoreInstances-clause-none : goal.returns-in_err-read_instances-in-CoreInstances-clause-none
+returns-in_err-read_instances-in-CoreInstances-clause-none g c = fault_stays c.from_residual-in_err-read_instances-in-CoreInstances.result _ c.from_residual-in_err-read_instances-in-CoreInstances.ensures.1 λ n. (core_instances_read _ c.args.kind c.args.bytes.now c.in-CoreInstances.is).0 (c.in_err-read_instances-in-CoreInstances.ensures.none n)
+
+pub returns-in_err-thread-in-CoreStack-clause-none : goal.returns-in_err-thread-in-CoreStack-clause-none
+returns-in_err-thread-in-CoreStack-clause-none g c = fault_stays c.from_residual-in_err-thread-in-CoreStack.result _ c.from_residual-in_err-thread-in-CoreStack.ensures.1 λ n. (core_stack_read _ c.args.kind c.args.bytes.now c.in-CoreStack.is).0 (c.in_err-thread-in-CoreStack.ensures.none n)

@@ -1,0 +1,11 @@
+use Rattle.wasm_base.proofs.Words.{◌≡◌, length}
+use Rattle.wasm_tool.specs.{lines_of}
+use Rattle.wasm_tool.proofs.VersionLemmas.{IsHeaderAfter}
+use Rattle.wasm_tool.proofs.version.header.Given as goal
+
+abbrev pub invariant-loop-line : goal.invariant-loop-line
+invariant-loop-line l = record {
+  steps : (goal.iterator-loop-line).can_next l.line-iterator × (goal.iterator-loop-line).is_finite l.line-iterator;
+  index : l.index ≡ length l.yielded;
+  after : IsHeaderAfter (lines_of l.lines) l.index;
+}

@@ -1,0 +1,2134 @@
+// Written by tools/to-rust from crates/wasm_custom/specs: change that.
+//! Custom sections.
+//!
+//! The contracts of [`wasm_custom`](https://github.com/dolzhytik/dolzhytik/blob/main/crates/wasm_custom/README.md) name these definitions.
+
+/// Calls that add an entry whose items iterators yield.
+///
+/// [How to read definitions](super). The file is [`Adding.antt`](https://github.com/dolzhytik/dolzhytik/blob/main/crates/wasm_custom/specs/Adding.antt).
+pub trait adding {
+    /// The builder gains one entry of the items that the iterator yields, or the call returns an error and changes nothing. It returns `TooLong` if there are too many items, and never if all items fit and items and entries are few enough.
+    ///
+    /// ```text
+    /// pub record AddsList {U S T : Type 0} (becomes : U → S → Type 0)
+    ///     (gives : S → Option T → S → Type 0) (remaining : S → Count) (elements : U)
+    ///     (Encodable : T → Type 0) (encoding : List T → List ℕ)
+    ///     (old new : List (List ℕ)) (result : Result (Unit {0}) Refused) : Type 0 where
+    ///   pub ok : OnOk result ((it : S) × (items : List T) × becomes elements it
+    ///       × Drains gives it items × IsEncodableVec Encodable items
+    ///       × (new ≡ old ++ encoding items ∷ []))
+    ///   pub err : OnErr result (new ≡ old)
+    ///   pub counted : OnOk result (length old < longest)
+    ///   pub too_long : ((it : S) → becomes elements it → size (remaining it) ≤ longest)
+    ///       → ((it left : S) (xs : List T) → becomes elements it → Yields gives it xs left
+    ///       → All Encodable xs) → length old < longest → result ≢ Err TooLong
+    ///   pub too_many : ((it : S) → becomes elements it → longest < size (remaining it))
+    ///       → result ≡ Err TooLong
+    /// ```
+    ///
+    /// Definitions: [`IsEncodableVec`](super::base::encodings::IsEncodableVec), [`longest`](super::base::encodings::longest).
+    type AddsList;
+    /// The same for an entry of two lists.
+    ///
+    /// ```text
+    /// pub record AddsTwoLists {U S V R T W : Type 0} (becomes : U → S → Type 0)
+    ///     (gives : S → Option T → S → Type 0) (remaining : S → Count) (first : U)
+    ///     (turns : V → R → Type 0) (hands : R → Option W → R → Type 0) (left : R → Count)
+    ///         (second : V) (Encodable : T → Type 0) (Suits : W → Type 0)
+    ///         (encoding : List T → List W → List ℕ)
+    ///     (old new : List (List ℕ)) (result : Result (Unit {0}) Refused) : Type 0 where
+    ///   pub ok : OnOk result ((it : S) × (xs : List T) × (jt : R) × (ys : List W)
+    ///       × becomes first it × Drains gives it xs × IsEncodableVec Encodable xs
+    ///       × turns second jt × Drains hands jt ys × IsEncodableVec Suits ys
+    ///       × (new ≡ old ++ encoding xs ys ∷ []))
+    ///   pub err : OnErr result (new ≡ old)
+    ///   pub counted : OnOk result (length old < longest)
+    ///   pub too_long : ((it : S) → becomes first it → size (remaining it) ≤ longest)
+    ///       → ((jt : R) → turns second jt → size (left jt) ≤ longest)
+    ///       → ((it end : S) (xs : List T) → becomes first it → Yields gives it xs end
+    ///           → All Encodable xs) → ((jt end : R) (ys : List W) → turns second jt
+    ///           → Yields hands jt ys end → All Suits ys)
+    ///       → length old < longest → result ≢ Err TooLong
+    ///   pub too_many : ((it : S) → becomes first it → longest < size (remaining it))
+    ///       → result ≡ Err TooLong
+    ///   pub too_many_then : ((jt : R) → turns second jt → longest < size (left jt))
+    ///       → result ≡ Err TooLong
+    /// ```
+    ///
+    /// Definitions: [`IsEncodableVec`](super::base::encodings::IsEncodableVec), [`longest`](super::base::encodings::longest).
+    type AddsTwoLists;
+}
+
+/// The COMDAT groups of a linking section, their encoding and their format. Tool conventions, Linking, Linking Metadata Section, `WASM_COMDAT_INFO`.
+///
+/// [How to read definitions](super). The file is [`Comdats.antt`](https://github.com/dolzhytik/dolzhytik/blob/main/crates/wasm_custom/specs/Comdats.antt).
+pub trait comdats {
+    /// The encoding of a member of a group: the byte of its kind, and its index.
+    ///
+    /// ```text
+    /// abbrev pub comdat_symbol_encoding : ComdatSymbol → List ℕ
+    /// comdat_symbol_encoding s = s.kind ∷ unsigned_encoding s.index
+    /// ```
+    ///
+    /// Definitions: [`unsigned_encoding`](super::base::numbers::unsigned_encoding).
+    type comdat_symbol_encoding;
+    /// The index of the member is in range.
+    ///
+    /// ```text
+    /// abbrev pub IsComdatSymbol : ComdatSymbol → Type 0
+    /// IsComdatSymbol s = s.index < 2 ^ 32
+    /// ```
+    type IsComdatSymbol;
+    /// The member of this kind and this index.
+    ///
+    /// ```text
+    /// abbrev pub comdat_symbol_of : ℕ × ℕ → ComdatSymbol
+    /// comdat_symbol_of parts = record { kind = parts.0; index = parts.1 }
+    /// ```
+    type comdat_symbol_of;
+    /// A member of a group: a byte for its kind, and an index.
+    ///
+    /// ```text
+    /// abbrev pub comdat_symbol : Format ComdatSymbol
+    /// comdat_symbol = mapped comdat_symbol_of (pair byte u32)
+    /// ```
+    ///
+    /// Definitions: [`Format`](super::base::formats::Format), [`mapped`](super::base::formats::mapped), [`comdat_symbol_of`](comdats::comdat_symbol_of), [`pair`](super::base::formats::pair), [`byte`](super::base::formats::byte), [`u32`](super::base::formats::u32).
+    type comdat_symbol;
+    /// The pieces are the encodings of these members.
+    ///
+    /// ```text
+    /// abbrev pub AreComdatSymbols : List (List ℕ) → List ComdatSymbol → Type 0
+    /// AreComdatSymbols = IsListOf comdat_symbol_encoding IsComdatSymbol
+    /// ```
+    ///
+    /// Definitions: [`IsListOf`](lists::IsListOf), [`comdat_symbol_encoding`](comdats::comdat_symbol_encoding), [`IsComdatSymbol`](comdats::IsComdatSymbol).
+    type AreComdatSymbols;
+    /// A group: its name, its flags, and its members.
+    ///
+    /// ```text
+    /// pub record Comdat : Type 0 where
+    ///   pub name : List ℕ
+    ///   pub flags : ℕ
+    ///   pub symbols : List ComdatSymbol
+    /// ```
+    type Comdat;
+    /// The encoding of a group: its name, its flags, and the vector of its members.
+    ///
+    /// ```text
+    /// abbrev pub comdat_encoding : Comdat → List ℕ
+    /// comdat_encoding c = size_prefixed_encoding c.name
+    ///     ++ (unsigned_encoding c.flags ++ vec_encoding comdat_symbol_encoding c.symbols)
+    /// ```
+    ///
+    /// Definitions: [`Comdat`](comdats::Comdat), [`size_prefixed_encoding`](super::base::encodings::size_prefixed_encoding), [`unsigned_encoding`](super::base::numbers::unsigned_encoding), [`vec_encoding`](super::base::encodings::vec_encoding), [`comdat_symbol_encoding`](comdats::comdat_symbol_encoding).
+    type comdat_encoding;
+    /// The group is well-formed: its name is UTF-8 of at most 2^32 - 1 bytes, its flags are in range, and its members are well-formed and at most 2^32 - 1.
+    ///
+    /// ```text
+    /// pub record IsComdat (c : Comdat) : Type 0 where
+    ///   pub name : IsEncodableName c.name
+    ///   pub flags : c.flags < 2 ^ 32
+    ///   pub symbols : IsEncodableVec IsComdatSymbol c.symbols
+    /// ```
+    ///
+    /// Definitions: [`Comdat`](comdats::Comdat), [`IsEncodableName`](super::base::laws::IsEncodableName), [`IsEncodableVec`](super::base::encodings::IsEncodableVec), [`IsComdatSymbol`](comdats::IsComdatSymbol).
+    type IsComdat;
+    /// The group of this name, these flags and these members.
+    ///
+    /// ```text
+    /// abbrev pub comdat_of : List ℕ × (ℕ × List ComdatSymbol) → Comdat
+    /// comdat_of parts = record { name = parts.0; flags = parts.1.0; symbols = parts.1.1 }
+    /// ```
+    ///
+    /// Definitions: [`Comdat`](comdats::Comdat).
+    type comdat_of;
+    /// A group: a name, flags, and a vector of members.
+    ///
+    /// ```text
+    /// abbrev pub comdat : Format Comdat
+    /// comdat = mapped comdat_of (pair name (pair u32 (vec comdat_symbol)))
+    /// ```
+    ///
+    /// Definitions: [`Format`](super::base::formats::Format), [`Comdat`](comdats::Comdat), [`mapped`](super::base::formats::mapped), [`comdat_of`](comdats::comdat_of), [`pair`](super::base::formats::pair), [`name`](super::base::formats::name), [`u32`](super::base::formats::u32), [`vec`](super::base::formats::vec), [`comdat_symbol`](comdats::comdat_symbol).
+    type comdat;
+    /// The pieces are the encodings of these groups.
+    ///
+    /// ```text
+    /// abbrev pub AreComdats : List (List ℕ) → List Comdat → Type 0
+    /// AreComdats = IsListOf comdat_encoding IsComdat
+    /// ```
+    ///
+    /// Definitions: [`Comdat`](comdats::Comdat), [`IsListOf`](lists::IsListOf), [`comdat_encoding`](comdats::comdat_encoding), [`IsComdat`](comdats::IsComdat).
+    type AreComdats;
+    /// The view of a decoded group.
+    ///
+    /// ```text
+    /// abbrev pub comdat_view : {A : Type 0} → read.Comdat A → Comdat
+    /// comdat_view c = record { name = c.name.now; flags = c.flags; symbols = c.symbols.items }
+    /// ```
+    ///
+    /// Definitions: [`Comdat`](comdats::Comdat).
+    type comdat_view;
+}
+
+/// The process, modules and instances of a core dump, their encodings and their formats. Tool conventions, Coredump.
+///
+/// - Names of processes, modules and threads: [`marked_encoding`](core_dumps::marked_encoding), [`marked_name`](core_dumps::marked_name), [`core_name`](core_dumps::core_name), [`core_section`](core_dumps::core_section), [`SaysProcess`](core_dumps::SaysProcess), [`IsModule`](core_dumps::IsModule), [`module_items`](core_dumps::module_items), [`modules_name`](core_dumps::modules_name).
+/// - Instances: [`Instance`](core_dumps::Instance), [`instance_encoding`](core_dumps::instance_encoding), [`IsInstance`](core_dumps::IsInstance), [`instance_of`](core_dumps::instance_of), [`instance`](core_dumps::instance), [`instance_items`](core_dumps::instance_items), [`instances_name`](core_dumps::instances_name).
+/// - Sections of a core dump: [`ContainsModules`](core_dumps::ContainsModules), [`ContainsInstances`](core_dumps::ContainsInstances), [`core_payload`](core_dumps::core_payload), [`modules_payload`](core_dumps::modules_payload), [`instances_payload`](core_dumps::instances_payload), [`core_decoding`](core_dumps::core_decoding), [`modules_decoding`](core_dumps::modules_decoding), [`instances_decoding`](core_dumps::instances_decoding).
+/// - Decoded instances: [`instance_view`](core_dumps::instance_view).
+///
+/// [How to read definitions](super). The file is [`CoreDumps.antt`](https://github.com/dolzhytik/dolzhytik/blob/main/crates/wasm_custom/specs/CoreDumps.antt).
+pub trait core_dumps {
+    /// The encoding of such a name: the byte 00, then the name.
+    ///
+    /// ```text
+    /// abbrev pub marked_encoding : List ℕ → List ℕ
+    /// marked_encoding n = 0x00 ∷ size_prefixed_encoding n
+    /// ```
+    ///
+    /// Definitions: [`size_prefixed_encoding`](super::base::encodings::size_prefixed_encoding).
+    type marked_encoding;
+    /// The name of a process, a module or a thread: the byte 00, then a name.
+    ///
+    /// ```text
+    /// abbrev pub marked_name : Format (List ℕ)
+    /// marked_name = prefixed (0x00 ∷ []) name
+    /// ```
+    ///
+    /// Definitions: [`Format`](super::base::formats::Format), [`prefixed`](super::base::formats::prefixed), [`name`](super::base::formats::name).
+    type marked_name;
+    /// The section name `core`.
+    ///
+    /// ```text
+    /// abbrev pub core_name : List ℕ
+    /// core_name = codes "core"
+    /// ```
+    type core_name;
+    /// The section of the process, which is its name.
+    ///
+    /// ```text
+    /// abbrev pub core_section : Format (List ℕ)
+    /// core_section = named_section core_name marked_name
+    /// ```
+    ///
+    /// Definitions: [`Format`](super::base::formats::Format), [`named_section`](customs::named_section), [`core_name`](core_dumps::core_name), [`marked_name`](core_dumps::marked_name).
+    type core_section;
+    /// The payload is the byte 00 and this name of the process, which is UTF-8.
+    ///
+    /// ```text
+    /// abbrev pub SaysProcess : List ℕ → List ℕ → Type 0
+    /// SaysProcess content n = IsUtf8 n × (content ≡ marked_encoding n)
+    /// ```
+    ///
+    /// Definitions: [`marked_encoding`](core_dumps::marked_encoding).
+    type SaysProcess;
+    /// The name is well-formed: UTF-8 of at most 2^32 - 1 bytes.
+    ///
+    /// ```text
+    /// abbrev pub IsModule : List ℕ → Type 0
+    /// IsModule = IsEncodableName
+    /// ```
+    ///
+    /// Definitions: [`IsEncodableName`](super::base::laws::IsEncodableName).
+    type IsModule;
+    /// The kind of modules of a core dump.
+    ///
+    /// ```text
+    /// abbrev pub module_items : Kind (List ℕ) (List ℕ)
+    /// module_items = record { encoding = marked_encoding; IsWellFormed = IsModule;
+    ///     IsWellFormedPadded = IsModule; normal_form = λ n. n; format = marked_name }
+    /// ```
+    ///
+    /// Definitions: [`Kind`](super::base::entries::Kind), [`marked_encoding`](core_dumps::marked_encoding), [`IsModule`](core_dumps::IsModule), [`marked_name`](core_dumps::marked_name).
+    type module_items;
+    /// The section name `coremodules`.
+    ///
+    /// ```text
+    /// abbrev pub modules_name : List ℕ
+    /// modules_name = codes "coremodules"
+    /// ```
+    type modules_name;
+    /// An instance: the index of its module, its memories and its globals.
+    ///
+    /// ```text
+    /// pub record Instance : Type 0 where
+    ///   pub module_index : ℕ
+    ///   pub memories : List ℕ
+    ///   pub globals : List ℕ
+    /// ```
+    type Instance;
+    /// The encoding of an instance: the byte 00, the index of its module, and the vectors of its memories and globals.
+    ///
+    /// ```text
+    /// abbrev pub instance_encoding : Instance → List ℕ
+    /// instance_encoding i = (0x00 ∷ unsigned_encoding i.module_index)
+    ///     ++ (vec_encoding unsigned_encoding i.memories
+    ///     ++ vec_encoding unsigned_encoding i.globals)
+    /// ```
+    ///
+    /// Definitions: [`Instance`](core_dumps::Instance), [`unsigned_encoding`](super::base::numbers::unsigned_encoding), [`vec_encoding`](super::base::encodings::vec_encoding).
+    type instance_encoding;
+    /// The instance is well-formed: its numbers are in range, and its lists have at most 2^32 - 1 members.
+    ///
+    /// ```text
+    /// pub record IsInstance (i : Instance) : Type 0 where
+    ///   pub module_index : i.module_index < 2 ^ 32
+    ///   pub memories : IsEncodableVec (IsUnsignedInRange 32) i.memories
+    ///   pub globals : IsEncodableVec (IsUnsignedInRange 32) i.globals
+    /// ```
+    ///
+    /// Definitions: [`Instance`](core_dumps::Instance), [`IsEncodableVec`](super::base::encodings::IsEncodableVec), [`IsUnsignedInRange`](super::base::laws::IsUnsignedInRange).
+    type IsInstance;
+    /// The instance of this module, these memories and these globals.
+    ///
+    /// ```text
+    /// abbrev pub instance_of : ℕ × (List ℕ × List ℕ) → Instance
+    /// instance_of parts = record
+    ///     { module_index = parts.0; memories = parts.1.0; globals = parts.1.1 }
+    /// ```
+    ///
+    /// Definitions: [`Instance`](core_dumps::Instance).
+    type instance_of;
+    /// An instance: the byte 00, the index of its module, a vector of memories, and a vector of globals.
+    ///
+    /// ```text
+    /// abbrev pub instance : Format Instance
+    /// instance = mapped instance_of
+    ///     (prefixed (0x00 ∷ []) (pair u32 (pair (vec u32) (vec u32))))
+    /// ```
+    ///
+    /// Definitions: [`Format`](super::base::formats::Format), [`Instance`](core_dumps::Instance), [`mapped`](super::base::formats::mapped), [`instance_of`](core_dumps::instance_of), [`prefixed`](super::base::formats::prefixed), [`pair`](super::base::formats::pair), [`u32`](super::base::formats::u32), [`vec`](super::base::formats::vec).
+    type instance;
+    /// The kind of instances of a core dump.
+    ///
+    /// ```text
+    /// abbrev pub instance_items : Kind Instance Instance
+    /// instance_items = record { encoding = instance_encoding; IsWellFormed = IsInstance;
+    ///     IsWellFormedPadded = IsInstance; normal_form = λ instance. instance;
+    ///     format = instance }
+    /// ```
+    ///
+    /// Definitions: [`Kind`](super::base::entries::Kind), [`Instance`](core_dumps::Instance), [`instance_encoding`](core_dumps::instance_encoding), [`IsInstance`](core_dumps::IsInstance).
+    type instance_items;
+    /// The section name `coreinstances`.
+    ///
+    /// ```text
+    /// abbrev pub instances_name : List ℕ
+    /// instances_name = codes "coreinstances"
+    /// ```
+    type instances_name;
+    /// The pieces encode these module names.
+    ///
+    /// ```text
+    /// abbrev pub ContainsModules : List (List ℕ) → List (List ℕ) → Type 0
+    /// ContainsModules = ContainsItems module_items
+    /// ```
+    ///
+    /// Definitions: [`ContainsItems`](super::base::entries::ContainsItems), [`module_items`](core_dumps::module_items).
+    type ContainsModules;
+    /// The pieces encode these instances.
+    ///
+    /// ```text
+    /// abbrev pub ContainsInstances : List (List ℕ) → List Instance → Type 0
+    /// ContainsInstances = ContainsItems instance_items
+    /// ```
+    ///
+    /// Definitions: [`Instance`](core_dumps::Instance), [`ContainsItems`](super::base::entries::ContainsItems), [`instance_items`](core_dumps::instance_items).
+    type ContainsInstances;
+    /// The payload of the section of the process: the section name, the byte 00 and the name of the process.
+    ///
+    /// ```text
+    /// abbrev pub core_payload : Format (List ℕ)
+    /// core_payload = named_payload core_name marked_name
+    /// ```
+    ///
+    /// Definitions: [`Format`](super::base::formats::Format), [`named_payload`](customs::named_payload), [`core_name`](core_dumps::core_name), [`marked_name`](core_dumps::marked_name).
+    type core_payload;
+    /// The payload of the section of modules: the section name, and a vector of names, each after the byte 00.
+    ///
+    /// ```text
+    /// abbrev pub modules_payload : Format (List (List ℕ))
+    /// modules_payload = counted_payload modules_name marked_name
+    /// ```
+    ///
+    /// Definitions: [`Format`](super::base::formats::Format), [`counted_payload`](entries::counted_payload), [`modules_name`](core_dumps::modules_name), [`marked_name`](core_dumps::marked_name).
+    type modules_payload;
+    /// The payload of the section of instances: the section name, and a vector of instances.
+    ///
+    /// ```text
+    /// abbrev pub instances_payload : Format (List Instance)
+    /// instances_payload = counted_payload instances_name instance
+    /// ```
+    ///
+    /// Definitions: [`Format`](super::base::formats::Format), [`Instance`](core_dumps::Instance), [`counted_payload`](entries::counted_payload), [`instances_name`](core_dumps::instances_name), [`instance`](core_dumps::instance).
+    type instances_payload;
+    /// The section that decodes to the process of this name.
+    ///
+    /// ```text
+    /// abbrev pub core_decoding : List ℕ → SectionDecoding
+    /// core_decoding n = decoding_as core_payload n
+    /// ```
+    ///
+    /// Definitions: [`SectionDecoding`](super::base::modules::SectionDecoding), [`decoding_as`](customs::decoding_as), [`core_payload`](core_dumps::core_payload).
+    type core_decoding;
+    /// The section that decodes to the modules of these names.
+    ///
+    /// ```text
+    /// abbrev pub modules_decoding : List (List ℕ) → SectionDecoding
+    /// modules_decoding names = decoding_as modules_payload names
+    /// ```
+    ///
+    /// Definitions: [`SectionDecoding`](super::base::modules::SectionDecoding), [`decoding_as`](customs::decoding_as), [`modules_payload`](core_dumps::modules_payload).
+    type modules_decoding;
+    /// The section that decodes to these instances.
+    ///
+    /// ```text
+    /// abbrev pub instances_decoding : List Instance → SectionDecoding
+    /// instances_decoding instances = decoding_as instances_payload instances
+    /// ```
+    ///
+    /// Definitions: [`Instance`](core_dumps::Instance), [`SectionDecoding`](super::base::modules::SectionDecoding), [`decoding_as`](customs::decoding_as), [`instances_payload`](core_dumps::instances_payload).
+    type instances_decoding;
+    /// The view of a decoded instance.
+    ///
+    /// ```text
+    /// abbrev pub instance_view : {A : Type 0} → ℕ × Vec ℕ A × Vec ℕ A → Instance
+    /// instance_view i = record
+    ///     { module_index = i.0; memories = i.1.items; globals = i.2.items }
+    /// ```
+    ///
+    /// Definitions: [`Instance`](core_dumps::Instance).
+    type instance_view;
+}
+
+/// The stacks of a core dump, their encoding and their format. Tool conventions, Coredump.
+///
+/// - The section of a stack: [`stack_payload`](core_stacks::stack_payload), [`stack_decoding`](core_stacks::stack_decoding).
+/// - Decoded frames: [`stack_frame_view`](core_stacks::stack_frame_view).
+///
+/// [How to read definitions](super). The file is [`CoreStacks.antt`](https://github.com/dolzhytik/dolzhytik/blob/main/crates/wasm_custom/specs/CoreStacks.antt).
+pub trait core_stacks {
+    /// A stack frame: its code location, its locals, and its part of the stack.
+    ///
+    /// ```text
+    /// pub record StackFrame : Type 0 where
+    ///   pub instance : ℕ
+    ///   pub function : ℕ
+    ///   pub offset : ℕ
+    ///   pub locals : List CoreDumpValue
+    ///   pub stack : List CoreDumpValue
+    /// ```
+    type StackFrame;
+    /// The encoding of a stack frame: the byte 00, its code location, and the vectors of its locals and of its part of the stack.
+    ///
+    /// ```text
+    /// abbrev pub frame_entry : StackFrame → List ℕ
+    /// frame_entry f = (0x00 ∷ (unsigned_encoding f.instance
+    ///         ++ (unsigned_encoding f.function ++ unsigned_encoding f.offset)))
+    ///     ++ (vec_encoding value_encoding f.locals ++ vec_encoding value_encoding f.stack)
+    /// ```
+    ///
+    /// Definitions: [`StackFrame`](core_stacks::StackFrame), [`unsigned_encoding`](super::base::numbers::unsigned_encoding), [`vec_encoding`](super::base::encodings::vec_encoding), [`value_encoding`](core_values::value_encoding).
+    type frame_entry;
+    /// The stack frame is well-formed: its numbers and values are in range, and its lists have at most 2^32 - 1 members.
+    ///
+    /// ```text
+    /// pub record IsFrame (f : StackFrame) : Type 0 where
+    ///   pub instance : f.instance < 2 ^ 32
+    ///   pub function : f.function < 2 ^ 32
+    ///   pub offset : f.offset < 2 ^ 32
+    ///   pub locals : IsEncodableVec IsValue f.locals
+    ///   pub stack : IsEncodableVec IsValue f.stack
+    /// ```
+    ///
+    /// Definitions: [`StackFrame`](core_stacks::StackFrame), [`IsEncodableVec`](super::base::encodings::IsEncodableVec), [`IsValue`](core_values::IsValue).
+    type IsFrame;
+    /// A code location: the instance, the function, and the offset in the function.
+    ///
+    /// ```text
+    /// abbrev pub CodeLocation : Type 0
+    /// CodeLocation = ℕ × (ℕ × ℕ)
+    /// ```
+    type CodeLocation;
+    /// The stack frame at this location, with these locals and this part of the stack.
+    ///
+    /// ```text
+    /// abbrev pub stack_frame_of
+    ///     : CodeLocation × (List CoreDumpValue × List CoreDumpValue) → StackFrame
+    /// stack_frame_of p = record
+    ///     { instance = p.0.0; function = p.0.1.0; offset = p.0.1.1; locals = p.1.0;
+    ///     stack = p.1.1 }
+    /// ```
+    ///
+    /// Definitions: [`CodeLocation`](core_stacks::CodeLocation), [`StackFrame`](core_stacks::StackFrame).
+    type stack_frame_of;
+    /// A stack frame: the byte 00, its code location, and the vectors of its locals and of its part of the stack.
+    ///
+    /// ```text
+    /// abbrev pub stack_frame : Format StackFrame
+    /// stack_frame = mapped stack_frame_of
+    ///     (pair (prefixed (0x00 ∷ []) (pair u32 (pair u32 u32)))
+    ///     (pair (vec value) (vec value)))
+    /// ```
+    ///
+    /// Definitions: [`Format`](super::base::formats::Format), [`StackFrame`](core_stacks::StackFrame), [`mapped`](super::base::formats::mapped), [`stack_frame_of`](core_stacks::stack_frame_of), [`pair`](super::base::formats::pair), [`prefixed`](super::base::formats::prefixed), [`u32`](super::base::formats::u32), [`vec`](super::base::formats::vec), [`value`](core_values::value).
+    type stack_frame;
+    /// The kind of stack frames.
+    ///
+    /// ```text
+    /// abbrev pub frame_items : Kind StackFrame StackFrame
+    /// frame_items = record { encoding = frame_entry; IsWellFormed = IsFrame;
+    ///     IsWellFormedPadded = IsFrame; normal_form = λ frame. frame; format = stack_frame }
+    /// ```
+    ///
+    /// Definitions: [`Kind`](super::base::entries::Kind), [`StackFrame`](core_stacks::StackFrame), [`frame_entry`](core_stacks::frame_entry), [`IsFrame`](core_stacks::IsFrame), [`stack_frame`](core_stacks::stack_frame).
+    type frame_items;
+    /// The section name `corestack`.
+    ///
+    /// ```text
+    /// abbrev pub stack_name : List ℕ
+    /// stack_name = codes "corestack"
+    /// ```
+    type stack_name;
+    /// The section of a stack: the name of its thread, and its frames.
+    ///
+    /// ```text
+    /// abbrev pub stack_section : Format (List ℕ × List StackFrame)
+    /// stack_section = named_section stack_name (pair marked_name (vec stack_frame))
+    /// ```
+    ///
+    /// Definitions: [`Format`](super::base::formats::Format), [`StackFrame`](core_stacks::StackFrame), [`named_section`](customs::named_section), [`stack_name`](core_stacks::stack_name), [`pair`](super::base::formats::pair), [`marked_name`](core_dumps::marked_name), [`vec`](super::base::formats::vec), [`stack_frame`](core_stacks::stack_frame).
+    type stack_section;
+    /// The front is the byte 00 and this name of the thread, which is UTF-8, and the pieces encode these frames.
+    ///
+    /// ```text
+    /// abbrev pub SaysStack : List ℕ → List (List ℕ) → List ℕ × List StackFrame → Type 0
+    /// SaysStack front frames said = IsUtf8 said.0 × (front ≡ marked_encoding said.0)
+    ///     × ContainsItems frame_items frames said.1
+    /// ```
+    ///
+    /// Definitions: [`StackFrame`](core_stacks::StackFrame), [`marked_encoding`](core_dumps::marked_encoding), [`ContainsItems`](super::base::entries::ContainsItems), [`frame_items`](core_stacks::frame_items).
+    type SaysStack;
+    /// The payload of the section: the section name, the name of the thread after the byte 00, and a vector of frames.
+    ///
+    /// ```text
+    /// abbrev pub stack_payload : Format (List ℕ × List StackFrame)
+    /// stack_payload = named_payload stack_name (pair marked_name (vec stack_frame))
+    /// ```
+    ///
+    /// Definitions: [`Format`](super::base::formats::Format), [`StackFrame`](core_stacks::StackFrame), [`named_payload`](customs::named_payload), [`stack_name`](core_stacks::stack_name), [`pair`](super::base::formats::pair), [`marked_name`](core_dumps::marked_name), [`vec`](super::base::formats::vec), [`stack_frame`](core_stacks::stack_frame).
+    type stack_payload;
+    /// The section that decodes to the stack of the thread of this name, with these frames.
+    ///
+    /// ```text
+    /// abbrev pub stack_decoding : List ℕ → List StackFrame → SectionDecoding
+    /// stack_decoding n frames = decoding_as stack_payload (n, frames)
+    /// ```
+    ///
+    /// Definitions: [`StackFrame`](core_stacks::StackFrame), [`SectionDecoding`](super::base::modules::SectionDecoding), [`decoding_as`](customs::decoding_as), [`stack_payload`](core_stacks::stack_payload).
+    type stack_decoding;
+    /// The view of a decoded stack frame.
+    ///
+    /// ```text
+    /// abbrev pub stack_frame_view : {A : Type 0} → CoreFrame A → StackFrame
+    /// stack_frame_view f = record
+    ///     { instance = f.instanceidx; function = f.funcidx; offset = f.codeoffset;
+    ///     locals = f.locals.items; stack = f.stack.items }
+    /// ```
+    ///
+    /// Definitions: [`StackFrame`](core_stacks::StackFrame).
+    type stack_frame_view;
+}
+
+/// The values of a core dump, their encoding and their format. Tool conventions, Coredump.
+///
+/// [How to read definitions](super). The file is [`CoreValues.antt`](https://github.com/dolzhytik/dolzhytik/blob/main/crates/wasm_custom/specs/CoreValues.antt).
+pub trait core_values {
+    /// The encoding of a value: 01 if it is missing, else the byte of its type and its number. Floats have a fixed width.
+    ///
+    /// ```text
+    /// abbrev pub value_encoding : CoreDumpValue → List ℕ
+    /// value_encoding Missing = 0x01 ∷ []
+    /// value_encoding (I32 v) = 0x7F ∷ signed_encoding v
+    /// value_encoding (I64 v) = 0x7E ∷ signed_encoding v
+    /// value_encoding (F32 v) = 0x7D ∷ little_endian_encoding 4 v.bits
+    /// value_encoding (F64 v) = 0x7C ∷ little_endian_encoding 8 v.bits
+    /// ```
+    ///
+    /// Definitions: [`signed_encoding`](super::base::numbers::signed_encoding), [`little_endian_encoding`](super::base::encodings::little_endian_encoding).
+    type value_encoding;
+    /// The value is well-formed: its number is in range.
+    ///
+    /// ```text
+    /// abbrev pub IsValue : CoreDumpValue → Type 0
+    /// IsValue Missing = Unit {0}
+    /// IsValue (I32 v) = IsSigned32InRange v
+    /// IsValue (I64 v) = IsSigned64InRange v
+    /// IsValue (F32 v) = v.bits < 256 ^ 4
+    /// IsValue (F64 v) = v.bits < 256 ^ 8
+    /// ```
+    ///
+    /// Definitions: [`IsSigned32InRange`](super::base::laws::IsSigned32InRange), [`IsSigned64InRange`](super::base::laws::IsSigned64InRange).
+    type IsValue;
+    /// The `f32` value with these bits.
+    ///
+    /// ```text
+    /// abbrev pub f32_of : ℕ → CoreDumpValue
+    /// f32_of bits = F32 (record { bits = bits })
+    /// ```
+    type f32_of;
+    /// The `f64` value with these bits.
+    ///
+    /// ```text
+    /// abbrev pub f64_of : ℕ → CoreDumpValue
+    /// f64_of bits = F64 (record { bits = bits })
+    /// ```
+    type f64_of;
+    /// The formats of a value by its first byte: nothing after 01, a number after the byte of a type.
+    ///
+    /// ```text
+    /// abbrev pub value_tags : List (ℕ × Format CoreDumpValue)
+    /// value_tags = (0x01, fixed [] Missing) ∷ (0x7F, mapped I32 s32) ∷ (0x7E, mapped I64 s64)
+    ///     ∷ (0x7D, mapped f32_of (little_endian 4)) ∷ (0x7C, mapped f64_of (little_endian 8))
+    ///     ∷ []
+    /// ```
+    ///
+    /// Definitions: [`Format`](super::base::formats::Format), [`fixed`](super::base::formats::fixed), [`mapped`](super::base::formats::mapped), [`s32`](super::base::formats::s32), [`s64`](super::base::formats::s64), [`f32_of`](core_values::f32_of), [`little_endian`](super::base::formats::little_endian), [`f64_of`](core_values::f64_of).
+    type value_tags;
+    /// A value: 01 if it is missing, or the byte of its type and its number.
+    ///
+    /// ```text
+    /// abbrev pub value : Format CoreDumpValue
+    /// value = tagged byte (choice value_tags (λ b. impossible))
+    /// ```
+    ///
+    /// Definitions: [`Format`](super::base::formats::Format), [`tagged`](super::base::formats::tagged), [`byte`](super::base::formats::byte), [`choice`](super::base::formats::choice), [`value_tags`](core_values::value_tags), [`impossible`](super::base::formats::impossible).
+    type value;
+}
+
+/// Custom sections: a size-prefixed name and data. Core specification, Binary Format, Modules, Custom Section.
+///
+/// [How to read definitions](super). The file is [`Customs.antt`](https://github.com/dolzhytik/dolzhytik/blob/main/crates/wasm_custom/specs/Customs.antt).
+pub trait customs {
+    /// The payload of a custom section of this name, whose data encode a value of `F`.
+    ///
+    /// ```text
+    /// abbrev pub named_payload : {X : Type 0} → List ℕ → Format X → Format X
+    /// named_payload n F = after n name F
+    /// ```
+    ///
+    /// Definitions: [`Format`](super::base::formats::Format), [`after`](super::base::formats::after), [`name`](super::base::formats::name).
+    type named_payload;
+    /// The custom section of this name, without its id, whose data encode a value of `F`.
+    ///
+    /// ```text
+    /// abbrev pub named_section : {X : Type 0} → List ℕ → Format X → Format X
+    /// named_section n F = size_prefixed (named_payload n F)
+    /// ```
+    ///
+    /// Definitions: [`Format`](super::base::formats::Format), [`size_prefixed`](super::base::formats::size_prefixed), [`named_payload`](customs::named_payload).
+    type named_section;
+    /// The encoding of the custom section of this name and these data, without its id.
+    ///
+    /// ```text
+    /// unfoldable pub named_encoding : List ℕ → List ℕ → List ℕ
+    /// named_encoding n content = size_prefixed_encoding (size_prefixed_encoding n ++ content)
+    /// ```
+    ///
+    /// Definitions: [`size_prefixed_encoding`](super::base::encodings::size_prefixed_encoding).
+    type named_encoding;
+    /// The size of the custom section is at most 2^32 - 1.
+    ///
+    /// ```text
+    /// abbrev pub IsEncodableNamed : List ℕ → List ℕ → Type 0
+    /// IsEncodableNamed n content = HasEncodableSize (size_prefixed_encoding n ++ content)
+    /// ```
+    ///
+    /// Definitions: [`HasEncodableSize`](super::base::encodings::HasEncodableSize), [`size_prefixed_encoding`](super::base::encodings::size_prefixed_encoding).
+    type IsEncodableNamed;
+    /// The payload of a custom section: its name and its data.
+    ///
+    /// ```text
+    /// abbrev pub NamedPayload : List ℕ → List ℕ → List ℕ → Type 0
+    /// NamedPayload n content bytes = bytes ≡ size_prefixed_encoding n ++ content
+    /// ```
+    ///
+    /// Definitions: [`size_prefixed_encoding`](super::base::encodings::size_prefixed_encoding).
+    type NamedPayload;
+    /// The encoding of a custom section that fits is its size-prefixed payload.
+    ///
+    /// ```text
+    /// pub named_sized : (n content bytes : List ℕ) → IsEncodableNamed n content
+    ///     → NamedPayload n content bytes → IsSizePrefixed (named_encoding n content) bytes
+    /// unfolding named_encoding
+    /// named_sized n content bytes encodable e = record
+    ///     { is = ap size_prefixed_encoding (sym e);
+    ///     encodable = subst HasEncodableSize (sym e) encodable }
+    /// ```
+    ///
+    /// Definitions: [`IsEncodableNamed`](customs::IsEncodableNamed), [`NamedPayload`](customs::NamedPayload), [`IsSizePrefixed`](super::base::encodings::IsSizePrefixed), [`named_encoding`](customs::named_encoding), [`size_prefixed_encoding`](super::base::encodings::size_prefixed_encoding), [`HasEncodableSize`](super::base::encodings::HasEncodableSize).
+    type named_sized;
+    /// Whether two sections have the same name and the same data.
+    ///
+    /// ```text
+    /// abbrev pub same_section : {A : Type 0} → CustomSection A → CustomSection A → Bool
+    /// same_section s t = bytes_eq (encoding_of s.name) (encoding_of t.name) && bytes_eq
+    ///     (items_of s.bytes) (items_of t.bytes)
+    /// ```
+    ///
+    /// Definitions: [`encoding_of`](super::base::cow::encoding_of), [`items_of`](super::base::cow::items_of).
+    type same_section;
+    /// The encoding of a subsection: an id, then the size-prefixed content.
+    ///
+    /// ```text
+    /// abbrev pub subsection_encoding : ℕ → List ℕ → List ℕ
+    /// subsection_encoding id content = id ∷ size_prefixed_encoding content
+    /// ```
+    ///
+    /// Definitions: [`size_prefixed_encoding`](super::base::encodings::size_prefixed_encoding).
+    type subsection_encoding;
+    /// The custom section whose payload decodes to `x`.
+    ///
+    /// ```text
+    /// abbrev pub decoding_as : {X : Type 0} → Format X → X → SectionDecoding
+    /// decoding_as F x = decoding_of (number_of ids.Custom) F x
+    /// ```
+    ///
+    /// Definitions: [`Format`](super::base::formats::Format), [`SectionDecoding`](super::base::modules::SectionDecoding), [`decoding_of`](super::base::modules::decoding_of), [`number_of`](super::base::section_id::number_of).
+    type decoding_as;
+    /// The custom section that decodes to this name and these data.
+    ///
+    /// ```text
+    /// abbrev pub custom_decoding : List ℕ → List ℕ → SectionDecoding
+    /// custom_decoding n content = decoding_as (pair name any_bytes) (n, content)
+    /// ```
+    ///
+    /// Definitions: [`SectionDecoding`](super::base::modules::SectionDecoding), [`decoding_as`](customs::decoding_as), [`pair`](super::base::formats::pair), [`name`](super::base::formats::name), [`any_bytes`](super::base::formats::any_bytes).
+    type custom_decoding;
+}
+
+/// Custom sections that are a list of entries.
+///
+/// [How to read definitions](super). The file is [`Entries.antt`](https://github.com/dolzhytik/dolzhytik/blob/main/crates/wasm_custom/specs/Entries.antt).
+pub trait entries {
+    /// The count, if the entries are counted.
+    ///
+    /// ```text
+    /// abbrev pub count_encoding : Bool → ℕ → List ℕ
+    /// count_encoding counted n = cond counted (unsigned_encoding n) []
+    /// ```
+    ///
+    /// Definitions: [`unsigned_encoding`](super::base::numbers::unsigned_encoding).
+    type count_encoding;
+    /// The data of a section: a front, the number of entries if they are counted, and the entries.
+    ///
+    /// ```text
+    /// abbrev pub entries_encoding : List ℕ → Bool → List (List ℕ) → List ℕ
+    /// entries_encoding front counted pieces = front
+    ///     ++ (count_encoding counted (length pieces) ++ joined pieces)
+    /// ```
+    ///
+    /// Definitions: [`count_encoding`](entries::count_encoding), [`joined`](super::base::pieces::joined).
+    type entries_encoding;
+    /// The items: a vector if they are counted, or one after another up to the last byte.
+    ///
+    /// ```text
+    /// abbrev pub listing : {Item : Type 0} → Bool → Format Item → Format (List Item)
+    /// listing counted F = when counted (vec F) (members F)
+    /// ```
+    ///
+    /// Definitions: [`Format`](super::base::formats::Format), [`when`](super::base::formats::when), [`vec`](super::base::formats::vec), [`members`](super::base::formats::members).
+    type listing;
+    /// The data of a section of items, after a front that carries no value.
+    ///
+    /// ```text
+    /// abbrev pub entries : {Item : Type 0} → Format (Unit {0}) → Bool → Format Item
+    ///     → Format (List Item)
+    /// entries front counted F = tagged front (λ u. listing counted F)
+    /// ```
+    ///
+    /// Definitions: [`Format`](super::base::formats::Format), [`tagged`](super::base::formats::tagged), [`listing`](entries::listing).
+    type entries;
+    /// The payload of a section: this name, and a vector of items.
+    ///
+    /// ```text
+    /// abbrev pub counted_payload : {Item : Type 0} → List ℕ → Format Item → Format (List Item)
+    /// counted_payload n F = named_payload n (entries (fixed [] (tt {0})) true F)
+    /// ```
+    ///
+    /// Definitions: [`Format`](super::base::formats::Format), [`named_payload`](customs::named_payload), [`entries`](entries::entries), [`fixed`](super::base::formats::fixed).
+    type counted_payload;
+    /// The laws of a kind of custom section, in addition to those of its items. Its name is UTF-8, and its front is encoded in an unambiguous format. If items are not counted, none of them is empty.
+    ///
+    /// ```text
+    /// pub record CustomLayoutLaws {Item : Type 0} (F : Format Item) (name front : List ℕ)
+    ///     (front_format : Format (Unit {0})) (counted : Bool) : Type 0 where
+    ///   pub name_utf8 : IsUtf8 name
+    ///   pub front_unique : Unambiguous front_format
+    ///   pub front_encodes : front_format minimal front (tt {0})
+    ///   pub begins : counted ≡ false → BeginsWith (λ b. Unit {0}) F
+    /// ```
+    ///
+    /// Definitions: [`Format`](super::base::formats::Format), [`Unambiguous`](super::base::decoding::Unambiguous), [`minimal`](super::base::numbers::Mode), [`BeginsWith`](super::base::decoding::BeginsWith).
+    type CustomLayoutLaws;
+}
+
+/// Branch hints, their encoding and their format. Branch hinting, section `metadata.code.branch_hint`.
+///
+/// - The section of branch hints: [`ContainsHints`](hints::ContainsHints), [`hints_payload`](hints::hints_payload), [`hints_decoding`](hints::hints_decoding).
+/// - Decoded hints: [`hints_view`](hints::hints_view).
+///
+/// [How to read definitions](super). The file is [`Hints.antt`](https://github.com/dolzhytik/dolzhytik/blob/main/crates/wasm_custom/specs/Hints.antt).
+pub trait hints {
+    /// The encoding of a branch hint: the offset of the branch, the size 01 of the value, and the value.
+    ///
+    /// ```text
+    /// abbrev pub hint_encoding : BranchHint → List ℕ
+    /// hint_encoding h = unsigned_encoding h.branch_func_offset
+    ///     ++ (0x01 ∷ unsigned_encoding h.branch_hint_value)
+    /// ```
+    ///
+    /// Definitions: [`unsigned_encoding`](super::base::numbers::unsigned_encoding).
+    type hint_encoding;
+    /// The branch hint is well-formed: its offset is below 2^32, and its value is below 128, so that it has one byte.
+    ///
+    /// ```text
+    /// pub record IsHint (h : BranchHint) : Type 0 where
+    ///   pub offset : h.branch_func_offset < 2 ^ 32
+    ///   pub value : h.branch_hint_value < 128
+    /// ```
+    type IsHint;
+    /// A function index, and the hints of the function's branches.
+    ///
+    /// ```text
+    /// abbrev pub Hints : Type 0
+    /// Hints = ℕ × List BranchHint
+    /// ```
+    type Hints;
+    /// The encoding of a function's hints: its index, and their vector.
+    ///
+    /// ```text
+    /// abbrev pub hints_encoding : Hints → List ℕ
+    /// hints_encoding h = unsigned_encoding h.0 ++ vec_encoding hint_encoding h.1
+    /// ```
+    ///
+    /// Definitions: [`Hints`](hints::Hints), [`unsigned_encoding`](super::base::numbers::unsigned_encoding), [`vec_encoding`](super::base::encodings::vec_encoding), [`hint_encoding`](hints::hint_encoding).
+    type hints_encoding;
+    /// The function's hints are well-formed: its index is below 2^32, and its hints are well-formed and at most 2^32 - 1.
+    ///
+    /// ```text
+    /// abbrev pub AreHints : Hints → Type 0
+    /// AreHints h = (h.0 < 2 ^ 32) × IsEncodableVec IsHint h.1
+    /// ```
+    ///
+    /// Definitions: [`Hints`](hints::Hints), [`IsEncodableVec`](super::base::encodings::IsEncodableVec), [`IsHint`](hints::IsHint).
+    type AreHints;
+    /// The branch hint of this offset and this value.
+    ///
+    /// ```text
+    /// abbrev pub hint_of : ℕ × ℕ → BranchHint
+    /// hint_of parts = record { branch_func_offset = parts.0; branch_hint_value = parts.1 }
+    /// ```
+    type hint_of;
+    /// A branch hint: an offset, the fixed byte 01, and a byte below 128, the value.
+    ///
+    /// ```text
+    /// abbrev pub hint : Format BranchHint
+    /// hint = mapped hint_of (pair u32 (prefixed (0x01 ∷ []) (such (λ b. b < 128) byte)))
+    /// ```
+    ///
+    /// Definitions: [`Format`](super::base::formats::Format), [`mapped`](super::base::formats::mapped), [`hint_of`](hints::hint_of), [`pair`](super::base::formats::pair), [`u32`](super::base::formats::u32), [`prefixed`](super::base::formats::prefixed), [`such`](super::base::formats::such), [`byte`](super::base::formats::byte).
+    type hint;
+    /// A function's hints: its index, and a vector of branch hints.
+    ///
+    /// ```text
+    /// abbrev pub hints : Format Hints
+    /// hints = pair u32 (vec hint)
+    /// ```
+    ///
+    /// Definitions: [`Format`](super::base::formats::Format), [`Hints`](hints::Hints), [`pair`](super::base::formats::pair), [`u32`](super::base::formats::u32), [`vec`](super::base::formats::vec), [`hint`](hints::hint).
+    type hints;
+    /// The kind of functions with their branch hints.
+    ///
+    /// ```text
+    /// abbrev pub hint_items : Kind Hints Hints
+    /// hint_items = record { encoding = hints_encoding; IsWellFormed = AreHints;
+    ///     IsWellFormedPadded = AreHints; normal_form = λ hints. hints; format = hints }
+    /// ```
+    ///
+    /// Definitions: [`Kind`](super::base::entries::Kind), [`Hints`](hints::Hints), [`hints_encoding`](hints::hints_encoding), [`AreHints`](hints::AreHints).
+    type hint_items;
+    /// The section name `metadata.code.branch_hint`.
+    ///
+    /// ```text
+    /// abbrev pub hints_name : List ℕ
+    /// hints_name = codes "metadata.code.branch_hint"
+    /// ```
+    type hints_name;
+    /// The pieces encode these functions with their hints.
+    ///
+    /// ```text
+    /// abbrev pub ContainsHints : List (List ℕ) → List Hints → Type 0
+    /// ContainsHints = ContainsItems hint_items
+    /// ```
+    ///
+    /// Definitions: [`Hints`](hints::Hints), [`ContainsItems`](super::base::entries::ContainsItems), [`hint_items`](hints::hint_items).
+    type ContainsHints;
+    /// The payload of the section: its name, and a vector of functions with their hints.
+    ///
+    /// ```text
+    /// abbrev pub hints_payload : Format (List Hints)
+    /// hints_payload = counted_payload hints_name hints
+    /// ```
+    ///
+    /// Definitions: [`Format`](super::base::formats::Format), [`Hints`](hints::Hints), [`counted_payload`](entries::counted_payload), [`hints_name`](hints::hints_name), [`hints`](hints::hints).
+    type hints_payload;
+    /// The section that decodes to the branch hints of these functions.
+    ///
+    /// ```text
+    /// abbrev pub hints_decoding : List Hints → SectionDecoding
+    /// hints_decoding functions = decoding_as hints_payload functions
+    /// ```
+    ///
+    /// Definitions: [`Hints`](hints::Hints), [`SectionDecoding`](super::base::modules::SectionDecoding), [`decoding_as`](customs::decoding_as), [`hints_payload`](hints::hints_payload).
+    type hints_decoding;
+    /// The view of a function's decoded hints.
+    ///
+    /// ```text
+    /// abbrev pub hints_view : {A : Type 0} → ℕ × Vec BranchHint A → Hints
+    /// hints_view h = (h.0, h.1.items)
+    /// ```
+    ///
+    /// Definitions: [`Hints`](hints::Hints).
+    type hints_view;
+}
+
+/// The init functions of a linking section, their encoding and their format. Tool conventions, Linking, Linking Metadata Section, `WASM_INIT_FUNCS`.
+///
+/// [How to read definitions](super). The file is [`InitFunctions.antt`](https://github.com/dolzhytik/dolzhytik/blob/main/crates/wasm_custom/specs/InitFunctions.antt).
+pub trait init_functions {
+    /// The encoding of an init function: its priority, and the index of its symbol.
+    ///
+    /// ```text
+    /// abbrev pub init_encoding : InitFunction → List ℕ
+    /// init_encoding f = unsigned_encoding f.priority ++ unsigned_encoding f.symbol
+    /// ```
+    ///
+    /// Definitions: [`unsigned_encoding`](super::base::numbers::unsigned_encoding).
+    type init_encoding;
+    /// The numbers of the init function are in range.
+    ///
+    /// ```text
+    /// pub record IsInit (f : InitFunction) : Type 0 where
+    ///   pub priority : f.priority < 2 ^ 32
+    ///   pub symbol : f.symbol < 2 ^ 32
+    /// ```
+    type IsInit;
+    /// The init function of this priority and this symbol.
+    ///
+    /// ```text
+    /// abbrev pub init_of : ℕ × ℕ → InitFunction
+    /// init_of parts = record { priority = parts.0; symbol = parts.1 }
+    /// ```
+    type init_of;
+    /// An init function: a priority, and the index of a symbol.
+    ///
+    /// ```text
+    /// abbrev pub init_function : Format InitFunction
+    /// init_function = mapped init_of (pair u32 u32)
+    /// ```
+    ///
+    /// Definitions: [`Format`](super::base::formats::Format), [`mapped`](super::base::formats::mapped), [`init_of`](init_functions::init_of), [`pair`](super::base::formats::pair), [`u32`](super::base::formats::u32).
+    type init_function;
+    /// The pieces are the encodings of these init functions.
+    ///
+    /// ```text
+    /// abbrev pub AreInits : List (List ℕ) → List InitFunction → Type 0
+    /// AreInits = IsListOf init_encoding IsInit
+    /// ```
+    ///
+    /// Definitions: [`IsListOf`](lists::IsListOf), [`init_encoding`](init_functions::init_encoding), [`IsInit`](init_functions::IsInit).
+    type AreInits;
+}
+
+/// The linking section, its encoding and its format. Tool conventions, Linking, Linking Metadata Section.
+///
+/// - The linking section: [`ContainsLinks`](linking::ContainsLinks), [`linking_payload`](linking::linking_payload), [`linking_decoding`](linking::linking_decoding).
+/// - The linking section of an object file: [`ContainsObjectLinks`](linking::ContainsObjectLinks), [`object_payload`](linking::object_payload), [`object_decoding`](linking::object_decoding).
+/// - Decoded subsections: [`link_view`](linking::link_view).
+///
+/// [How to read definitions](super). The file is [`Linking.antt`](https://github.com/dolzhytik/dolzhytik/blob/main/crates/wasm_custom/specs/Linking.antt).
+pub trait linking {
+    /// A subsection: segments, init functions, COMDAT groups, a symbol table, or the architecture of the target, which is not in the tool conventions.
+    ///
+    /// ```text
+    /// pub data LinkItem : Type 0 where
+    ///   Segments : List SegmentInfo → LinkItem
+    ///   InitFunctions : List InitFunction → LinkItem
+    ///   Comdats : List Comdat → LinkItem
+    ///   Symbols : List Symbol → LinkItem
+    ///   Target : List ℕ → LinkItem
+    /// ```
+    ///
+    /// Definitions: [`SegmentInfo`](segments::SegmentInfo), [`Comdat`](comdats::Comdat), [`Symbol`](symbols::Symbol).
+    type LinkItem;
+    /// The encoding of a subsection: its id, from 5 for segments to 9 for the architecture, and its size-prefixed content.
+    ///
+    /// ```text
+    /// abbrev pub link_encoding : LinkItem → List ℕ
+    /// link_encoding (Segments segments) = subsection_encoding 5
+    ///     (vec_encoding segment_encoding segments)
+    /// link_encoding (InitFunctions functions) = subsection_encoding 6
+    ///     (vec_encoding init_encoding functions)
+    /// link_encoding (Comdats comdats) = subsection_encoding 7
+    ///     (vec_encoding comdat_encoding comdats)
+    /// link_encoding (Symbols symbols) = subsection_encoding 8
+    ///     (vec_encoding symbol_encoding symbols)
+    /// link_encoding (Target n) = subsection_encoding 9 (size_prefixed_encoding n)
+    /// ```
+    ///
+    /// Definitions: [`LinkItem`](linking::LinkItem), [`Segments`](linking::LinkItem), [`subsection_encoding`](customs::subsection_encoding), [`vec_encoding`](super::base::encodings::vec_encoding), [`segment_encoding`](segments::segment_encoding), [`InitFunctions`](linking::LinkItem), [`init_encoding`](init_functions::init_encoding), [`Comdats`](linking::LinkItem), [`comdat_encoding`](comdats::comdat_encoding), [`Symbols`](linking::LinkItem), [`symbol_encoding`](symbols::symbol_encoding), [`Target`](linking::LinkItem), [`size_prefixed_encoding`](super::base::encodings::size_prefixed_encoding).
+    type link_encoding;
+    /// The subsection of a `LinkingSection` is well-formed: its symbols are well-formed and at most 2^32 - 1, or its name is UTF-8. No other subsection is one of a `LinkingSection`.
+    ///
+    /// ```text
+    /// abbrev pub IsLink : LinkItem → Type 0
+    /// IsLink (Symbols symbols) = IsEncodableVec IsSymbol symbols
+    /// IsLink (Target n) = IsUtf8 n
+    /// IsLink _ = ⊥
+    /// ```
+    ///
+    /// Definitions: [`LinkItem`](linking::LinkItem), [`Symbols`](linking::LinkItem), [`IsEncodableVec`](super::base::encodings::IsEncodableVec), [`IsSymbol`](symbols::IsSymbol), [`Target`](linking::LinkItem).
+    type IsLink;
+    /// The subsection of an `ObjectLinking` is well-formed: its items are well-formed and at most 2^32 - 1, or its name is UTF-8.
+    ///
+    /// ```text
+    /// abbrev pub IsObjectLink : LinkItem → Type 0
+    /// IsObjectLink (Segments segments) = IsEncodableVec IsSegment segments
+    /// IsObjectLink (InitFunctions functions) = IsEncodableVec IsInit functions
+    /// IsObjectLink (Comdats comdats) = IsEncodableVec IsComdat comdats
+    /// IsObjectLink (Symbols symbols) = IsEncodableVec IsObjectSymbol symbols
+    /// IsObjectLink (Target n) = IsUtf8 n
+    /// ```
+    ///
+    /// Definitions: [`LinkItem`](linking::LinkItem), [`Segments`](linking::LinkItem), [`IsEncodableVec`](super::base::encodings::IsEncodableVec), [`IsSegment`](segments::IsSegment), [`InitFunctions`](linking::LinkItem), [`IsInit`](init_functions::IsInit), [`Comdats`](linking::LinkItem), [`IsComdat`](comdats::IsComdat), [`Symbols`](linking::LinkItem), [`IsObjectSymbol`](symbols::IsObjectSymbol), [`Target`](linking::LinkItem).
+    type IsObjectLink;
+    /// The formats of a subsection by its id, as the builders' grammar has them: a symbol table after 8, the name of an architecture after 9.
+    ///
+    /// ```text
+    /// abbrev pub link_tags : List (ℕ × Format LinkItem)
+    /// link_tags = (8, mapped Symbols (size_prefixed (vec built_symbol)))
+    ///     ∷ (9, mapped Target (size_prefixed name)) ∷ []
+    /// ```
+    ///
+    /// Definitions: [`Format`](super::base::formats::Format), [`LinkItem`](linking::LinkItem), [`mapped`](super::base::formats::mapped), [`Symbols`](linking::LinkItem), [`size_prefixed`](super::base::formats::size_prefixed), [`vec`](super::base::formats::vec), [`built_symbol`](symbols::built_symbol), [`Target`](linking::LinkItem), [`name`](super::base::formats::name).
+    type link_tags;
+    /// A subsection of the builders' grammar: an id, then its size-prefixed content.
+    ///
+    /// ```text
+    /// abbrev pub built_link : Format LinkItem
+    /// built_link = tagged byte (choice link_tags (λ b. impossible))
+    /// ```
+    ///
+    /// Definitions: [`Format`](super::base::formats::Format), [`LinkItem`](linking::LinkItem), [`tagged`](super::base::formats::tagged), [`byte`](super::base::formats::byte), [`choice`](super::base::formats::choice), [`link_tags`](linking::link_tags), [`impossible`](super::base::formats::impossible).
+    type built_link;
+    /// The formats of a subsection by its id, as the tool conventions have them: segments after 5, init functions after 6, COMDAT groups after 7, a table of symbols of all kinds after 8, and the name of an architecture after 9.
+    ///
+    /// ```text
+    /// abbrev pub full_link_tags : List (ℕ × Format LinkItem)
+    /// full_link_tags =
+    ///     (5, mapped Segments (size_prefixed (vec segment))) ∷
+    ///     (6, mapped InitFunctions (size_prefixed (vec init_function))) ∷
+    ///     (7, mapped Comdats (size_prefixed (vec comdat))) ∷
+    ///     (8, mapped Symbols (size_prefixed (vec full_symbol))) ∷
+    ///     (9, mapped Target (size_prefixed name)) ∷
+    ///     []
+    /// ```
+    ///
+    /// Definitions: [`Format`](super::base::formats::Format), [`LinkItem`](linking::LinkItem), [`mapped`](super::base::formats::mapped), [`Segments`](linking::LinkItem), [`size_prefixed`](super::base::formats::size_prefixed), [`vec`](super::base::formats::vec), [`segment`](segments::segment), [`InitFunctions`](linking::LinkItem), [`init_function`](init_functions::init_function), [`Comdats`](linking::LinkItem), [`comdat`](comdats::comdat), [`Symbols`](linking::LinkItem), [`full_symbol`](symbols::full_symbol), [`Target`](linking::LinkItem), [`name`](super::base::formats::name).
+    type full_link_tags;
+    /// A subsection of any kind: an id, then its size-prefixed content.
+    ///
+    /// ```text
+    /// abbrev pub full_link : Format LinkItem
+    /// full_link = tagged byte (choice full_link_tags (λ b. impossible))
+    /// ```
+    ///
+    /// Definitions: [`Format`](super::base::formats::Format), [`LinkItem`](linking::LinkItem), [`tagged`](super::base::formats::tagged), [`byte`](super::base::formats::byte), [`choice`](super::base::formats::choice), [`full_link_tags`](linking::full_link_tags), [`impossible`](super::base::formats::impossible).
+    type full_link;
+    /// A subsection: in the standard's grammar of any kind, and in the builders' of two kinds.
+    ///
+    /// ```text
+    /// abbrev pub link : Format LinkItem
+    /// link = by_mode built_link full_link full_link
+    /// ```
+    ///
+    /// Definitions: [`Format`](super::base::formats::Format), [`LinkItem`](linking::LinkItem), [`by_mode`](super::base::formats::by_mode), [`built_link`](linking::built_link), [`full_link`](linking::full_link).
+    type link;
+    /// The kind of subsections of a linking section.
+    ///
+    /// ```text
+    /// abbrev pub link_items : Kind LinkItem LinkItem
+    /// link_items = record { encoding = link_encoding; IsWellFormed = IsLink;
+    ///     IsWellFormedPadded = IsLink; normal_form = λ item. item; format = link }
+    /// ```
+    ///
+    /// Definitions: [`Kind`](super::base::entries::Kind), [`LinkItem`](linking::LinkItem), [`link_encoding`](linking::link_encoding), [`IsLink`](linking::IsLink), [`link`](linking::link).
+    type link_items;
+    /// The kind of subsections of the linking section of an object file: all those of the tool conventions.
+    ///
+    /// ```text
+    /// abbrev pub object_items : Kind LinkItem LinkItem
+    /// object_items = record { encoding = link_encoding; IsWellFormed = IsObjectLink;
+    ///     IsWellFormedPadded = IsObjectLink; normal_form = λ item. item; format = full_link }
+    /// ```
+    ///
+    /// Definitions: [`Kind`](super::base::entries::Kind), [`LinkItem`](linking::LinkItem), [`link_encoding`](linking::link_encoding), [`IsObjectLink`](linking::IsObjectLink), [`full_link`](linking::full_link).
+    type object_items;
+    /// The section name `linking`.
+    ///
+    /// ```text
+    /// abbrev pub linking_name : List ℕ
+    /// linking_name = codes "linking"
+    /// ```
+    type linking_name;
+    /// The version before the subsections of a linking section.
+    ///
+    /// ```text
+    /// abbrev pub version : ℕ
+    /// version = 2
+    /// ```
+    type version;
+    /// The pieces encode these subsections.
+    ///
+    /// ```text
+    /// abbrev pub ContainsLinks : List (List ℕ) → List LinkItem → Type 0
+    /// ContainsLinks = ContainsItems link_items
+    /// ```
+    ///
+    /// Definitions: [`LinkItem`](linking::LinkItem), [`ContainsItems`](super::base::entries::ContainsItems), [`link_items`](linking::link_items).
+    type ContainsLinks;
+    /// The payload of a linking section: its name, the version and its subsections.
+    ///
+    /// ```text
+    /// abbrev pub linking_payload : Format (List LinkItem)
+    /// linking_payload = named_payload linking_name (entries (just version u32) false link)
+    /// ```
+    ///
+    /// Definitions: [`Format`](super::base::formats::Format), [`LinkItem`](linking::LinkItem), [`named_payload`](customs::named_payload), [`linking_name`](linking::linking_name), [`entries`](entries::entries), [`just`](super::base::formats::just), [`version`](linking::version), [`u32`](super::base::formats::u32), [`link`](linking::link).
+    type linking_payload;
+    /// The linking section that decodes to these subsections.
+    ///
+    /// ```text
+    /// abbrev pub linking_decoding : List LinkItem → SectionDecoding
+    /// linking_decoding subsections = decoding_as linking_payload subsections
+    /// ```
+    ///
+    /// Definitions: [`LinkItem`](linking::LinkItem), [`SectionDecoding`](super::base::modules::SectionDecoding), [`decoding_as`](customs::decoding_as), [`linking_payload`](linking::linking_payload).
+    type linking_decoding;
+    /// The pieces encode these subsections, of any kinds.
+    ///
+    /// ```text
+    /// abbrev pub ContainsObjectLinks : List (List ℕ) → List LinkItem → Type 0
+    /// ContainsObjectLinks = ContainsItems object_items
+    /// ```
+    ///
+    /// Definitions: [`LinkItem`](linking::LinkItem), [`ContainsItems`](super::base::entries::ContainsItems), [`object_items`](linking::object_items).
+    type ContainsObjectLinks;
+    /// The payload of a linking section of an object file: its name, the version and subsections of any kinds. In the standard's grammar it is that of every linking section.
+    ///
+    /// ```text
+    /// abbrev pub object_payload : Format (List LinkItem)
+    /// object_payload = named_payload linking_name (entries (just version u32) false full_link)
+    /// ```
+    ///
+    /// Definitions: [`Format`](super::base::formats::Format), [`LinkItem`](linking::LinkItem), [`named_payload`](customs::named_payload), [`linking_name`](linking::linking_name), [`entries`](entries::entries), [`just`](super::base::formats::just), [`version`](linking::version), [`u32`](super::base::formats::u32), [`full_link`](linking::full_link).
+    type object_payload;
+    /// The linking section of an object file that decodes to these subsections.
+    ///
+    /// ```text
+    /// abbrev pub object_decoding : List LinkItem → SectionDecoding
+    /// object_decoding subsections = decoding_as object_payload subsections
+    /// ```
+    ///
+    /// Definitions: [`LinkItem`](linking::LinkItem), [`SectionDecoding`](super::base::modules::SectionDecoding), [`decoding_as`](customs::decoding_as), [`object_payload`](linking::object_payload).
+    type object_decoding;
+    /// The view of a decoded subsection.
+    ///
+    /// ```text
+    /// abbrev pub link_view : {A : Type 0} → read.LinkItem A → LinkItem
+    /// link_view (items.Segments segments) = Segments (map segment_view segments.items)
+    /// link_view (items.InitFunctions functions) = InitFunctions functions.items
+    /// link_view (items.Comdats comdats) = Comdats (map comdat_view comdats.items)
+    /// link_view (items.Symbols symbols) = Symbols (map symbol_view symbols.items)
+    /// link_view (items.Arch n) = Target n.now
+    /// ```
+    ///
+    /// Definitions: [`LinkItem`](linking::LinkItem), [`Segments`](linking::LinkItem), [`segment_view`](segments::segment_view), [`InitFunctions`](linking::LinkItem), [`Comdats`](linking::LinkItem), [`comdat_view`](comdats::comdat_view), [`Symbols`](linking::LinkItem), [`symbol_view`](symbols::symbol_view), [`Target`](linking::LinkItem).
+    type link_view;
+}
+
+/// Lists that are one argument of a call, as name maps and symbol tables are.
+///
+/// [How to read definitions](super). The file is [`Lists.antt`](https://github.com/dolzhytik/dolzhytik/blob/main/crates/wasm_custom/specs/Lists.antt).
+pub trait lists {
+    /// The encoding of a list's entries: their count and the entries.
+    ///
+    /// ```text
+    /// unfoldable pub list_encoding : List (List ℕ) → List ℕ
+    /// list_encoding pieces = unsigned_encoding (length pieces) ++ joined pieces
+    /// ```
+    ///
+    /// Definitions: [`unsigned_encoding`](super::base::numbers::unsigned_encoding), [`joined`](super::base::pieces::joined).
+    type list_encoding;
+    /// The encoding of a list: the vector of its entries, by itself or as a subsection of this id.
+    ///
+    /// ```text
+    /// abbrev pub listed_encoding : Option ℕ → List (List ℕ) → List ℕ
+    /// listed_encoding None pieces = list_encoding pieces
+    /// listed_encoding (Some id) pieces = subsection_encoding id (list_encoding pieces)
+    /// ```
+    ///
+    /// Definitions: [`list_encoding`](lists::list_encoding), [`subsection_encoding`](customs::subsection_encoding).
+    type listed_encoding;
+    /// The size of a subsection is at most 2^32 - 1. A list by itself always fits.
+    ///
+    /// ```text
+    /// abbrev pub IsEncodableList : Option ℕ → List (List ℕ) → Type 0
+    /// IsEncodableList None pieces = ⊤
+    /// IsEncodableList (Some id) pieces = HasEncodableSize (list_encoding pieces) × ⊤
+    /// ```
+    ///
+    /// Definitions: [`HasEncodableSize`](super::base::encodings::HasEncodableSize), [`list_encoding`](lists::list_encoding).
+    type IsEncodableList;
+    /// The pieces are the encodings of these members, one each. There are at most 2^32 - 1 members, and each has the property.
+    ///
+    /// ```text
+    /// pub record IsListOf {X : Type 0} (encoding : X → List ℕ) (Is : X → Type 0)
+    ///     (pieces : List (List ℕ)) (xs : List X) : Type 0 where
+    ///   pub held : pieces ≡ map encoding xs
+    ///   pub encodable : IsEncodableVec Is xs
+    /// ```
+    ///
+    /// Definitions: [`IsEncodableVec`](super::base::encodings::IsEncodableVec).
+    type IsListOf;
+    /// The pieces are the encodings of some members with the property.
+    ///
+    /// ```text
+    /// pub record ContainsList {X : Type 0} (encoding : X → List ℕ) (Is : X → Type 0)
+    ///     (pieces : List (List ℕ)) : Type 0 where
+    ///   pub list : List X
+    ///   pub is : IsListOf encoding Is pieces list
+    /// ```
+    ///
+    /// Definitions: [`IsListOf`](lists::IsListOf).
+    type ContainsList;
+    /// The bytes are the encoding of some member with the property.
+    ///
+    /// ```text
+    /// pub record IsEncodingOf {X : Type 0} (encoding : X → List ℕ) (Is : X → Type 0)
+    ///     (piece : List ℕ) : Type 0 where
+    ///   pub member : X
+    ///   pub is : piece ≡ encoding member
+    ///   pub encodable : Is member
+    /// ```
+    type IsEncodingOf;
+    /// The encoding of a list that holds members is the vector of these members.
+    ///
+    /// ```text
+    /// pub record IsVectorOf {X : Type 0} (encoding : X → List ℕ) (Is : X → Type 0)
+    ///     : Type 0 where
+    ///   pub is : (pieces : List (List ℕ)) (xs : List X) → IsListOf encoding Is pieces xs
+    ///       → list_encoding pieces ≡ vec_encoding encoding xs
+    /// ```
+    ///
+    /// Definitions: [`IsListOf`](lists::IsListOf), [`list_encoding`](lists::list_encoding), [`vec_encoding`](super::base::encodings::vec_encoding).
+    type IsVectorOf;
+    /// A list without entries holds no members. An entry that is the encoding of a member adds this member, if the list is not full.
+    ///
+    /// ```text
+    /// pub record ListMore {X : Type 0} (encoding : X → List ℕ) (Is : X → Type 0)
+    ///     : Type 0 where
+    ///   pub none : IsListOf encoding Is [] []
+    ///   pub given : (pieces : List (List ℕ)) (xs : List X) (x : X)
+    ///       → IsListOf encoding Is pieces xs → length pieces < longest → Is x
+    ///       → IsListOf encoding Is (pieces ++ encoding x ∷ []) (xs ++ x ∷ [])
+    /// ```
+    ///
+    /// Definitions: [`IsListOf`](lists::IsListOf), [`longest`](super::base::encodings::longest).
+    type ListMore;
+    /// The bytes of an optional name.
+    ///
+    /// ```text
+    /// abbrev pub given_name : Option (Bor (List ℕ)) → Option (List ℕ)
+    /// given_name None = None
+    /// given_name (Some n) = Some n.now
+    /// ```
+    type given_name;
+}
+
+/// The name section, its encoding and its format. Core specification, Appendix, Custom Sections, Name Section.
+///
+/// - Subsections: [`NameItem`](names::NameItem), [`NameKind`](names::NameKind), [`is_one_of`](names::is_one_of), [`map_ids`](names::map_ids), [`indirect_ids`](names::indirect_ids), [`name_kind_of`](names::name_kind_of), [`after_id`](names::after_id), [`subsection`](names::subsection).
+/// - Encodings: [`name_encoding`](names::name_encoding), [`IsName`](names::IsName), [`name_items`](names::name_items), [`name_name`](names::name_name).
+/// - The name section: [`AreNamings`](names::AreNamings), [`AreInsides`](names::AreInsides), [`ContainsNames`](names::ContainsNames), [`name_payload`](names::name_payload), [`name_decoding`](names::name_decoding).
+/// - Decoded subsections: [`kind_as`](names::kind_as), [`inside`](names::inside), [`names_view`](names::names_view), [`inside_view`](names::inside_view), [`name_item_view`](names::name_item_view), [`id_of`](names::id_of), [`held_by`](names::held_by).
+///
+/// [How to read definitions](super). The file is [`Names.antt`](https://github.com/dolzhytik/dolzhytik/blob/main/crates/wasm_custom/specs/Names.antt).
+pub trait names {
+    /// A name association: an index and its name.
+    ///
+    /// ```text
+    /// abbrev pub Naming : Type 0
+    /// Naming = ℕ × List ℕ
+    /// ```
+    type Naming;
+    /// An indirect name association: an index, and the names of what is inside it.
+    ///
+    /// ```text
+    /// abbrev pub Inside : Type 0
+    /// Inside = ℕ × List Naming
+    /// ```
+    ///
+    /// Definitions: [`Naming`](names::Naming).
+    type Inside;
+    /// The encoding of a name association: the index, and the name.
+    ///
+    /// ```text
+    /// abbrev pub naming_encoding : Naming → List ℕ
+    /// naming_encoding n = unsigned_encoding n.0 ++ size_prefixed_encoding n.1
+    /// ```
+    ///
+    /// Definitions: [`Naming`](names::Naming), [`unsigned_encoding`](super::base::numbers::unsigned_encoding), [`size_prefixed_encoding`](super::base::encodings::size_prefixed_encoding).
+    type naming_encoding;
+    /// The encoding of an indirect name association: the index, and a name map.
+    ///
+    /// ```text
+    /// abbrev pub inside_encoding : Inside → List ℕ
+    /// inside_encoding i = unsigned_encoding i.0 ++ vec_encoding naming_encoding i.1
+    /// ```
+    ///
+    /// Definitions: [`Inside`](names::Inside), [`unsigned_encoding`](super::base::numbers::unsigned_encoding), [`vec_encoding`](super::base::encodings::vec_encoding), [`naming_encoding`](names::naming_encoding).
+    type inside_encoding;
+    /// The name association is well-formed: its index is below 2^32, and its name is UTF-8 of at most 2^32 - 1 bytes.
+    ///
+    /// ```text
+    /// abbrev pub IsNaming : Naming → Type 0
+    /// IsNaming n = (n.0 < 2 ^ 32) × IsEncodableName n.1
+    /// ```
+    ///
+    /// Definitions: [`Naming`](names::Naming), [`IsEncodableName`](super::base::laws::IsEncodableName).
+    type IsNaming;
+    /// The indirect name association is well-formed: its index is below 2^32, and its names are well-formed and at most 2^32 - 1.
+    ///
+    /// ```text
+    /// abbrev pub IsInside : Inside → Type 0
+    /// IsInside i = (i.0 < 2 ^ 32) × IsEncodableVec IsNaming i.1
+    /// ```
+    ///
+    /// Definitions: [`Inside`](names::Inside), [`IsEncodableVec`](super::base::encodings::IsEncodableVec), [`IsNaming`](names::IsNaming).
+    type IsInside;
+    /// A name association: an index and a name.
+    ///
+    /// ```text
+    /// abbrev pub naming : Format Naming
+    /// naming = pair u32 name
+    /// ```
+    ///
+    /// Definitions: [`Format`](super::base::formats::Format), [`Naming`](names::Naming), [`pair`](super::base::formats::pair), [`u32`](super::base::formats::u32), [`name`](super::base::formats::name).
+    type naming;
+    /// A name map: a vector of name associations.
+    ///
+    /// ```text
+    /// abbrev pub name_map : Format (List Naming)
+    /// name_map = vec naming
+    /// ```
+    ///
+    /// Definitions: [`Format`](super::base::formats::Format), [`Naming`](names::Naming), [`vec`](super::base::formats::vec), [`naming`](names::naming).
+    type name_map;
+    /// An indirect name map: a vector of indices with a name map each.
+    ///
+    /// ```text
+    /// abbrev pub indirect_map : Format (List Inside)
+    /// indirect_map = vec (pair u32 name_map)
+    /// ```
+    ///
+    /// Definitions: [`Format`](super::base::formats::Format), [`Inside`](names::Inside), [`vec`](super::base::formats::vec), [`pair`](super::base::formats::pair), [`u32`](super::base::formats::u32), [`name_map`](names::name_map).
+    type indirect_map;
+    /// A subsection: the name of the module, a name map or an indirect name map with its id, or the bytes of another id.
+    ///
+    /// ```text
+    /// pub data NameItem : Type 0 where
+    ///   Module : List ℕ → NameItem
+    ///   Map : ℕ → List Naming → NameItem
+    ///   Indirect : ℕ → List Inside → NameItem
+    ///   Other : ℕ → List ℕ → NameItem
+    /// ```
+    ///
+    /// Definitions: [`Naming`](names::Naming), [`Inside`](names::Inside).
+    type NameItem;
+    /// The kind of a subsection's content.
+    ///
+    /// ```text
+    /// pub data NameKind : Type 0 where
+    ///   of_module : NameKind
+    ///   of_map : NameKind
+    ///   of_indirect : NameKind
+    ///   of_other : NameKind
+    /// ```
+    type NameKind;
+    /// Whether the id is in the list.
+    ///
+    /// ```text
+    /// abbrev pub is_one_of : List ℕ → ℕ → Bool
+    /// is_one_of [] id = false
+    /// is_one_of (i ∷ is) id = cond (id == i) true (is_one_of is id)
+    /// ```
+    type is_one_of;
+    /// The ids of name maps: functions, types, tables, memories, globals, elements, data, tags. The core specification has 1, 4 and 11.
+    ///
+    /// ```text
+    /// abbrev pub map_ids : List ℕ
+    /// map_ids = 1 ∷ 4 ∷ 5 ∷ 6 ∷ 7 ∷ 8 ∷ 9 ∷ 11 ∷ []
+    /// ```
+    type map_ids;
+    /// The ids of indirect name maps: locals, labels, fields, parameters, parameters of tags. The core specification has 2 and 10.
+    ///
+    /// ```text
+    /// abbrev pub indirect_ids : List ℕ
+    /// indirect_ids = 2 ∷ 3 ∷ 10 ∷ 12 ∷ 13 ∷ []
+    /// ```
+    type indirect_ids;
+    /// The kind of the content of a subsection, by its id.
+    ///
+    /// ```text
+    /// abbrev pub name_kind_of : ℕ → NameKind
+    /// name_kind_of id = cond (id == 0) of_module
+    ///     (cond (is_one_of map_ids id) of_map
+    ///     (cond (is_one_of indirect_ids id) of_indirect of_other))
+    /// ```
+    ///
+    /// Definitions: [`NameKind`](names::NameKind), [`of_module`](names::NameKind), [`is_one_of`](names::is_one_of), [`map_ids`](names::map_ids), [`of_map`](names::NameKind), [`indirect_ids`](names::indirect_ids), [`of_indirect`](names::NameKind), [`of_other`](names::NameKind).
+    type name_kind_of;
+    /// The format of the bytes after the id of a subsection with this kind of content.
+    ///
+    /// ```text
+    /// abbrev pub after_id : NameKind → ℕ → Format NameItem
+    /// after_id of_module id = mapped Module (size_prefixed name)
+    /// after_id of_map id = mapped (Map id) (size_prefixed name_map)
+    /// after_id of_indirect id = mapped (Indirect id) (size_prefixed indirect_map)
+    /// after_id of_other id = mapped (Other id) (size_prefixed any_bytes)
+    /// ```
+    ///
+    /// Definitions: [`NameKind`](names::NameKind), [`Format`](super::base::formats::Format), [`NameItem`](names::NameItem), [`of_module`](names::NameKind), [`mapped`](super::base::formats::mapped), [`Module`](names::NameItem), [`size_prefixed`](super::base::formats::size_prefixed), [`name`](super::base::formats::name), [`of_map`](names::NameKind), [`Map`](names::NameItem), [`name_map`](names::name_map), [`of_indirect`](names::NameKind), [`Indirect`](names::NameItem), [`indirect_map`](names::indirect_map), [`of_other`](names::NameKind), [`Other`](names::NameItem), [`any_bytes`](super::base::formats::any_bytes).
+    type after_id;
+    /// A subsection: an id, then its size-prefixed content.
+    ///
+    /// ```text
+    /// abbrev pub subsection : Format NameItem
+    /// subsection = tagged byte (λ id. after_id (name_kind_of id) id)
+    /// ```
+    ///
+    /// Definitions: [`Format`](super::base::formats::Format), [`NameItem`](names::NameItem), [`tagged`](super::base::formats::tagged), [`byte`](super::base::formats::byte), [`after_id`](names::after_id), [`name_kind_of`](names::name_kind_of).
+    type subsection;
+    /// The encoding of a subsection: its id, then its size-prefixed content.
+    ///
+    /// ```text
+    /// abbrev pub name_encoding : NameItem → List ℕ
+    /// name_encoding (Module n) = subsection_encoding 0 (size_prefixed_encoding n)
+    /// name_encoding (Map id names) = subsection_encoding id
+    ///     (vec_encoding naming_encoding names)
+    /// name_encoding (Indirect id names) = subsection_encoding id
+    ///     (vec_encoding inside_encoding names)
+    /// name_encoding (Other id content) = subsection_encoding id content
+    /// ```
+    ///
+    /// Definitions: [`NameItem`](names::NameItem), [`Module`](names::NameItem), [`subsection_encoding`](customs::subsection_encoding), [`size_prefixed_encoding`](super::base::encodings::size_prefixed_encoding), [`Map`](names::NameItem), [`vec_encoding`](super::base::encodings::vec_encoding), [`naming_encoding`](names::naming_encoding), [`Indirect`](names::NameItem), [`inside_encoding`](names::inside_encoding), [`Other`](names::NameItem).
+    type name_encoding;
+    /// The subsection is well-formed: its id is one of its kind of content, names are UTF-8, indices are below 2^32, and name maps fit.
+    ///
+    /// ```text
+    /// abbrev pub IsName : NameItem → Type 0
+    /// IsName (Module n) = IsUtf8 n
+    /// IsName (Map id names) = (name_kind_of id ≡ of_map) × IsEncodableVec IsNaming names
+    /// IsName (Indirect id names) = (name_kind_of id ≡ of_indirect)
+    ///     × IsEncodableVec IsInside names
+    /// IsName (Other id content) = name_kind_of id ≡ of_other
+    /// ```
+    ///
+    /// Definitions: [`NameItem`](names::NameItem), [`Module`](names::NameItem), [`Map`](names::NameItem), [`name_kind_of`](names::name_kind_of), [`of_map`](names::NameKind), [`IsEncodableVec`](super::base::encodings::IsEncodableVec), [`IsNaming`](names::IsNaming), [`Indirect`](names::NameItem), [`of_indirect`](names::NameKind), [`IsInside`](names::IsInside), [`Other`](names::NameItem), [`of_other`](names::NameKind).
+    type IsName;
+    /// The kind of subsections of a name section.
+    ///
+    /// ```text
+    /// abbrev pub name_items : Kind NameItem NameItem
+    /// name_items = record { encoding = name_encoding; IsWellFormed = IsName;
+    ///     IsWellFormedPadded = IsName; normal_form = λ item. item; format = subsection }
+    /// ```
+    ///
+    /// Definitions: [`Kind`](super::base::entries::Kind), [`NameItem`](names::NameItem), [`name_encoding`](names::name_encoding), [`IsName`](names::IsName), [`subsection`](names::subsection).
+    type name_items;
+    /// The section name [`name`](super::base::formats::name).
+    ///
+    /// ```text
+    /// abbrev pub name_name : List ℕ
+    /// name_name = codes "name"
+    /// ```
+    type name_name;
+    /// The pieces are the encodings of these name associations.
+    ///
+    /// ```text
+    /// abbrev pub AreNamings : List (List ℕ) → List Naming → Type 0
+    /// AreNamings = IsListOf naming_encoding IsNaming
+    /// ```
+    ///
+    /// Definitions: [`Naming`](names::Naming), [`IsListOf`](lists::IsListOf), [`naming_encoding`](names::naming_encoding), [`IsNaming`](names::IsNaming).
+    type AreNamings;
+    /// The pieces are the encodings of these indices with their name maps.
+    ///
+    /// ```text
+    /// abbrev pub AreInsides : List (List ℕ) → List Inside → Type 0
+    /// AreInsides = IsListOf inside_encoding IsInside
+    /// ```
+    ///
+    /// Definitions: [`Inside`](names::Inside), [`IsListOf`](lists::IsListOf), [`inside_encoding`](names::inside_encoding), [`IsInside`](names::IsInside).
+    type AreInsides;
+    /// The pieces encode these subsections.
+    ///
+    /// ```text
+    /// abbrev pub ContainsNames : List (List ℕ) → List NameItem → Type 0
+    /// ContainsNames = ContainsItems name_items
+    /// ```
+    ///
+    /// Definitions: [`NameItem`](names::NameItem), [`ContainsItems`](super::base::entries::ContainsItems), [`name_items`](names::name_items).
+    type ContainsNames;
+    /// The payload of a name section: its name, and its subsections.
+    ///
+    /// ```text
+    /// abbrev pub name_payload : Format (List NameItem)
+    /// name_payload = named_payload name_name (entries (fixed [] (tt {0})) false subsection)
+    /// ```
+    ///
+    /// Definitions: [`Format`](super::base::formats::Format), [`NameItem`](names::NameItem), [`named_payload`](customs::named_payload), [`name_name`](names::name_name), [`entries`](entries::entries), [`fixed`](super::base::formats::fixed), [`subsection`](names::subsection).
+    type name_payload;
+    /// The name section that decodes to these subsections.
+    ///
+    /// ```text
+    /// abbrev pub name_decoding : List NameItem → SectionDecoding
+    /// name_decoding subsections = decoding_as name_payload subsections
+    /// ```
+    ///
+    /// Definitions: [`NameItem`](names::NameItem), [`SectionDecoding`](super::base::modules::SectionDecoding), [`decoding_as`](customs::decoding_as), [`name_payload`](names::name_payload).
+    type name_decoding;
+    /// The kind of a subsection's content, as the code has it.
+    ///
+    /// ```text
+    /// abbrev pub kind_as : read_kind.NameKind → NameKind
+    /// kind_as kinds.Module = of_module
+    /// kind_as kinds.Map = of_map
+    /// kind_as kinds.Indirect = of_indirect
+    /// kind_as kinds.Other = of_other
+    /// ```
+    ///
+    /// Definitions: [`NameKind`](names::NameKind), [`of_module`](names::NameKind), [`of_map`](names::NameKind), [`of_indirect`](names::NameKind), [`of_other`](names::NameKind).
+    type kind_as;
+    /// The format of a subsection's content of this kind.
+    ///
+    /// ```text
+    /// abbrev pub inside : NameKind → ℕ → Format NameItem
+    /// inside of_module id = mapped Module name
+    /// inside of_map id = mapped (Map id) name_map
+    /// inside of_indirect id = mapped (Indirect id) indirect_map
+    /// inside of_other id = mapped (Other id) any_bytes
+    /// ```
+    ///
+    /// Definitions: [`NameKind`](names::NameKind), [`Format`](super::base::formats::Format), [`NameItem`](names::NameItem), [`of_module`](names::NameKind), [`mapped`](super::base::formats::mapped), [`Module`](names::NameItem), [`name`](super::base::formats::name), [`of_map`](names::NameKind), [`Map`](names::NameItem), [`name_map`](names::name_map), [`of_indirect`](names::NameKind), [`Indirect`](names::NameItem), [`indirect_map`](names::indirect_map), [`of_other`](names::NameKind), [`Other`](names::NameItem), [`any_bytes`](super::base::formats::any_bytes).
+    type inside;
+    /// The view of a decoded name map.
+    ///
+    /// ```text
+    /// abbrev pub names_view : List (ℕ × Bor (List ℕ)) → List Naming
+    /// names_view = map (λ n. (n.0, n.1.now))
+    /// ```
+    ///
+    /// Definitions: [`Naming`](names::Naming).
+    type names_view;
+    /// The view of a decoded indirect name association.
+    ///
+    /// ```text
+    /// abbrev pub inside_view : {A : Type 0} → ℕ × Vec (ℕ × Bor (List ℕ)) A → Inside
+    /// inside_view i = (i.0, names_view i.1.items)
+    /// ```
+    ///
+    /// Definitions: [`Inside`](names::Inside), [`names_view`](names::names_view).
+    type inside_view;
+    /// The view of a decoded subsection.
+    ///
+    /// ```text
+    /// abbrev pub name_item_view : {A : Type 0} → read.NameItem A → NameItem
+    /// name_item_view (items.Module n) = Module n.now
+    /// name_item_view (items.Map id ns) = Map id (names_view ns.items)
+    /// name_item_view (items.Indirect id ms) = Indirect id (map inside_view ms.items)
+    /// name_item_view (items.Other id bytes) = Other id bytes.now
+    /// ```
+    ///
+    /// Definitions: [`NameItem`](names::NameItem), [`Module`](names::NameItem), [`Map`](names::NameItem), [`names_view`](names::names_view), [`Indirect`](names::NameItem), [`inside_view`](names::inside_view), [`Other`](names::NameItem).
+    type name_item_view;
+    /// The id of a subsection.
+    ///
+    /// ```text
+    /// abbrev pub id_of : NameItem → ℕ
+    /// id_of (Module n) = 0
+    /// id_of (Map id ns) = id
+    /// id_of (Indirect id ms) = id
+    /// id_of (Other id bytes) = id
+    /// ```
+    ///
+    /// Definitions: [`NameItem`](names::NameItem), [`Module`](names::NameItem), [`Map`](names::NameItem), [`Indirect`](names::NameItem), [`Other`](names::NameItem).
+    type id_of;
+    /// The kind of a subsection's content.
+    ///
+    /// ```text
+    /// abbrev pub held_by : NameItem → NameKind
+    /// held_by (Module n) = of_module
+    /// held_by (Map id ns) = of_map
+    /// held_by (Indirect id ms) = of_indirect
+    /// held_by (Other id bytes) = of_other
+    /// ```
+    ///
+    /// Definitions: [`NameItem`](names::NameItem), [`NameKind`](names::NameKind), [`Module`](names::NameItem), [`of_module`](names::NameKind), [`Map`](names::NameItem), [`of_map`](names::NameKind), [`Indirect`](names::NameItem), [`of_indirect`](names::NameKind), [`Other`](names::NameItem), [`of_other`](names::NameKind).
+    type held_by;
+}
+
+/// The producers section, its encoding and its format. Tool conventions, Producers Section.
+///
+/// - The producers section: [`AreProducers`](producers::AreProducers), [`ContainsFields`](producers::ContainsFields), [`producers_payload`](producers::producers_payload), [`producers_decoding`](producers::producers_decoding).
+/// - Decoded fields: [`field_view`](producers::field_view).
+///
+/// [How to read definitions](super). The file is [`Producers.antt`](https://github.com/dolzhytik/dolzhytik/blob/main/crates/wasm_custom/specs/Producers.antt).
+pub trait producers {
+    /// A versioned name: a name and its version.
+    ///
+    /// ```text
+    /// abbrev pub Producer : Type 0
+    /// Producer = List ℕ × List ℕ
+    /// ```
+    type Producer;
+    /// The encoding of a versioned name: the name and the version.
+    ///
+    /// ```text
+    /// abbrev pub producer_encoding : Producer → List ℕ
+    /// producer_encoding v = size_prefixed_encoding v.0 ++ size_prefixed_encoding v.1
+    /// ```
+    ///
+    /// Definitions: [`Producer`](producers::Producer), [`size_prefixed_encoding`](super::base::encodings::size_prefixed_encoding).
+    type producer_encoding;
+    /// The name and the version are UTF-8 of at most 2^32 - 1 bytes.
+    ///
+    /// ```text
+    /// abbrev pub IsProducer : Producer → Type 0
+    /// IsProducer v = IsEncodableName v.0 × IsEncodableName v.1
+    /// ```
+    ///
+    /// Definitions: [`Producer`](producers::Producer), [`IsEncodableName`](super::base::laws::IsEncodableName).
+    type IsProducer;
+    /// A field: its name and its values.
+    ///
+    /// ```text
+    /// abbrev pub Field : Type 0
+    /// Field = List ℕ × List Producer
+    /// ```
+    ///
+    /// Definitions: [`Producer`](producers::Producer).
+    type Field;
+    /// The encoding of a field: its name, and the vector of its values.
+    ///
+    /// ```text
+    /// abbrev pub field_encoding : Field → List ℕ
+    /// field_encoding f = size_prefixed_encoding f.0 ++ vec_encoding producer_encoding f.1
+    /// ```
+    ///
+    /// Definitions: [`Field`](producers::Field), [`size_prefixed_encoding`](super::base::encodings::size_prefixed_encoding), [`vec_encoding`](super::base::encodings::vec_encoding), [`producer_encoding`](producers::producer_encoding).
+    type field_encoding;
+    /// The field is well-formed: names and versions are UTF-8 of at most 2^32 - 1 bytes, and there are at most 2^32 - 1 values.
+    ///
+    /// ```text
+    /// abbrev pub IsField : Field → Type 0
+    /// IsField f = IsEncodableName f.0 × IsEncodableVec IsProducer f.1
+    /// ```
+    ///
+    /// Definitions: [`Field`](producers::Field), [`IsEncodableName`](super::base::laws::IsEncodableName), [`IsEncodableVec`](super::base::encodings::IsEncodableVec), [`IsProducer`](producers::IsProducer).
+    type IsField;
+    /// A versioned name: a name and a version, which is encoded as a name too.
+    ///
+    /// ```text
+    /// abbrev pub producer : Format Producer
+    /// producer = pair name name
+    /// ```
+    ///
+    /// Definitions: [`Format`](super::base::formats::Format), [`Producer`](producers::Producer), [`pair`](super::base::formats::pair), [`name`](super::base::formats::name).
+    type producer;
+    /// A field: a name, and a vector of versioned names.
+    ///
+    /// ```text
+    /// abbrev pub field : Format Field
+    /// field = pair name (vec producer)
+    /// ```
+    ///
+    /// Definitions: [`Format`](super::base::formats::Format), [`Field`](producers::Field), [`pair`](super::base::formats::pair), [`name`](super::base::formats::name), [`vec`](super::base::formats::vec), [`producer`](producers::producer).
+    type field;
+    /// The kind of fields of a producers section.
+    ///
+    /// ```text
+    /// abbrev pub field_items : Kind Field Field
+    /// field_items = record { encoding = field_encoding; IsWellFormed = IsField;
+    ///     IsWellFormedPadded = IsField; normal_form = λ field. field; format = field }
+    /// ```
+    ///
+    /// Definitions: [`Kind`](super::base::entries::Kind), [`Field`](producers::Field), [`field_encoding`](producers::field_encoding), [`IsField`](producers::IsField).
+    type field_items;
+    /// The section name `producers`.
+    ///
+    /// ```text
+    /// abbrev pub producers_name : List ℕ
+    /// producers_name = codes "producers"
+    /// ```
+    type producers_name;
+    /// The pieces are the encodings of these versioned names.
+    ///
+    /// ```text
+    /// abbrev pub AreProducers : List (List ℕ) → List Producer → Type 0
+    /// AreProducers = IsListOf producer_encoding IsProducer
+    /// ```
+    ///
+    /// Definitions: [`Producer`](producers::Producer), [`IsListOf`](lists::IsListOf), [`producer_encoding`](producers::producer_encoding), [`IsProducer`](producers::IsProducer).
+    type AreProducers;
+    /// The pieces encode these fields.
+    ///
+    /// ```text
+    /// abbrev pub ContainsFields : List (List ℕ) → List Field → Type 0
+    /// ContainsFields = ContainsItems field_items
+    /// ```
+    ///
+    /// Definitions: [`Field`](producers::Field), [`ContainsItems`](super::base::entries::ContainsItems), [`field_items`](producers::field_items).
+    type ContainsFields;
+    /// The payload of a producers section: its name, and a vector of fields.
+    ///
+    /// ```text
+    /// abbrev pub producers_payload : Format (List Field)
+    /// producers_payload = counted_payload producers_name field
+    /// ```
+    ///
+    /// Definitions: [`Format`](super::base::formats::Format), [`Field`](producers::Field), [`counted_payload`](entries::counted_payload), [`producers_name`](producers::producers_name), [`field`](producers::field).
+    type producers_payload;
+    /// The producers section that decodes to these fields.
+    ///
+    /// ```text
+    /// abbrev pub producers_decoding : List Field → SectionDecoding
+    /// producers_decoding fields = decoding_as producers_payload fields
+    /// ```
+    ///
+    /// Definitions: [`Field`](producers::Field), [`SectionDecoding`](super::base::modules::SectionDecoding), [`decoding_as`](customs::decoding_as), [`producers_payload`](producers::producers_payload).
+    type producers_decoding;
+    /// The view of a decoded field.
+    ///
+    /// ```text
+    /// abbrev pub field_view : {A : Type 0}
+    ///     → Bor (List ℕ) × Vec (Bor (List ℕ) × Bor (List ℕ)) A → Field
+    /// field_view f = (f.0.now, map (λ v. (v.0.now, v.1.now)) f.1.items)
+    /// ```
+    ///
+    /// Definitions: [`Field`](producers::Field).
+    type field_view;
+}
+
+/// The segment information of a linking section, its encoding and its format. Tool conventions, Linking, Linking Metadata Section, `WASM_SEGMENT_INFO`.
+///
+/// [How to read definitions](super). The file is [`Segments.antt`](https://github.com/dolzhytik/dolzhytik/blob/main/crates/wasm_custom/specs/Segments.antt).
+pub trait segments {
+    /// A data segment: its name, the exponent of its alignment, and its flags.
+    ///
+    /// ```text
+    /// pub record SegmentInfo : Type 0 where
+    ///   pub name : List ℕ
+    ///   pub alignment : ℕ
+    ///   pub flags : ℕ
+    /// ```
+    type SegmentInfo;
+    /// The encoding of a segment: its name, the exponent of its alignment, and its flags.
+    ///
+    /// ```text
+    /// abbrev pub segment_encoding : SegmentInfo → List ℕ
+    /// segment_encoding s = size_prefixed_encoding s.name
+    ///     ++ (unsigned_encoding s.alignment ++ unsigned_encoding s.flags)
+    /// ```
+    ///
+    /// Definitions: [`SegmentInfo`](segments::SegmentInfo), [`size_prefixed_encoding`](super::base::encodings::size_prefixed_encoding), [`unsigned_encoding`](super::base::numbers::unsigned_encoding).
+    type segment_encoding;
+    /// The segment is well-formed: its name is UTF-8 of at most 2^32 - 1 bytes, and its numbers are in range.
+    ///
+    /// ```text
+    /// pub record IsSegment (s : SegmentInfo) : Type 0 where
+    ///   pub name : IsEncodableName s.name
+    ///   pub alignment : s.alignment < 2 ^ 32
+    ///   pub flags : s.flags < 2 ^ 32
+    /// ```
+    ///
+    /// Definitions: [`SegmentInfo`](segments::SegmentInfo), [`IsEncodableName`](super::base::laws::IsEncodableName).
+    type IsSegment;
+    /// The segment of this name, this exponent of its alignment, and these flags.
+    ///
+    /// ```text
+    /// abbrev pub segment_of : List ℕ × (ℕ × ℕ) → SegmentInfo
+    /// segment_of parts = record { name = parts.0; alignment = parts.1.0; flags = parts.1.1 }
+    /// ```
+    ///
+    /// Definitions: [`SegmentInfo`](segments::SegmentInfo).
+    type segment_of;
+    /// A segment: a name, the exponent of its alignment, and flags.
+    ///
+    /// ```text
+    /// abbrev pub segment : Format SegmentInfo
+    /// segment = mapped segment_of (pair name (pair u32 u32))
+    /// ```
+    ///
+    /// Definitions: [`Format`](super::base::formats::Format), [`SegmentInfo`](segments::SegmentInfo), [`mapped`](super::base::formats::mapped), [`segment_of`](segments::segment_of), [`pair`](super::base::formats::pair), [`name`](super::base::formats::name), [`u32`](super::base::formats::u32).
+    type segment;
+    /// The pieces are the encodings of these segments.
+    ///
+    /// ```text
+    /// abbrev pub AreSegments : List (List ℕ) → List SegmentInfo → Type 0
+    /// AreSegments = IsListOf segment_encoding IsSegment
+    /// ```
+    ///
+    /// Definitions: [`SegmentInfo`](segments::SegmentInfo), [`IsListOf`](lists::IsListOf), [`segment_encoding`](segments::segment_encoding), [`IsSegment`](segments::IsSegment).
+    type AreSegments;
+    /// The view of a decoded segment.
+    ///
+    /// ```text
+    /// abbrev pub segment_view : read.SegmentInfo → SegmentInfo
+    /// segment_view s = record { name = s.name.now; alignment = s.alignment; flags = s.flags }
+    /// ```
+    ///
+    /// Definitions: [`SegmentInfo`](segments::SegmentInfo).
+    type segment_view;
+}
+
+/// The symbols of a linking section, their encoding and their format. Tool conventions, Linking, Linking Metadata Section.
+///
+/// - Decoded symbols: [`symbol_view`](symbols::symbol_view).
+///
+/// [How to read definitions](super). The file is [`Symbols.antt`](https://github.com/dolzhytik/dolzhytik/blob/main/crates/wasm_custom/specs/Symbols.antt).
+pub trait symbols {
+    /// The byte for the kind of a symbol with an index.
+    ///
+    /// ```text
+    /// abbrev pub kind_code : SymbolKind → ℕ
+    /// kind_code Function = 0x00
+    /// kind_code Global = 0x02
+    /// kind_code Tag = 0x04
+    /// kind_code Table = 0x05
+    /// ```
+    type kind_code;
+    /// A symbol: a kind, flags, an index and an optional name; for data, flags, a name and an optional definition; for a section, flags and its index.
+    ///
+    /// ```text
+    /// pub data Symbol : Type 0 where
+    ///   indexed : SymbolKind → ℕ → ℕ → Option (List ℕ) → Symbol
+    ///   of_data : ℕ → List ℕ → Option DataSymbolDefinition → Symbol
+    ///   of_section : ℕ → ℕ → Symbol
+    /// ```
+    type Symbol;
+    /// Whether a symbol with an index has a name: bit 4 (undefined) of its flags is clear, or bit 6 (explicit name) is set.
+    ///
+    /// ```text
+    /// abbrev pub has_name : ℕ → Bool
+    /// has_name flags = not (cond (bit 4 flags) (not (bit 6 flags)) false)
+    /// ```
+    ///
+    /// Definitions: [`bit`](super::immediates::immediate_formats::bit).
+    type has_name;
+    /// Whether a data symbol has a definition: bit 4 (undefined) of its flags is clear.
+    ///
+    /// ```text
+    /// abbrev pub has_definition : ℕ → Bool
+    /// has_definition flags = not (bit 4 flags)
+    /// ```
+    ///
+    /// Definitions: [`bit`](super::immediates::immediate_formats::bit).
+    type has_definition;
+    /// The encoding of a data definition: the index of a data segment, an offset in it, and a size.
+    ///
+    /// ```text
+    /// abbrev pub definition_encoding : DataSymbolDefinition → List ℕ
+    /// definition_encoding d = unsigned_encoding d.index
+    ///     ++ (unsigned_encoding d.offset ++ unsigned_encoding d.size)
+    /// ```
+    ///
+    /// Definitions: [`unsigned_encoding`](super::base::numbers::unsigned_encoding).
+    type definition_encoding;
+    /// The encoding of a symbol with an index: its kind, flags and index, and the bytes of its name, if any.
+    ///
+    /// ```text
+    /// abbrev pub indexed_encoding : SymbolKind → ℕ → ℕ → List ℕ → List ℕ
+    /// indexed_encoding kind flags index named = kind_code kind
+    ///     ∷ (unsigned_encoding flags ++ (unsigned_encoding index ++ named))
+    /// ```
+    ///
+    /// Definitions: [`kind_code`](symbols::kind_code), [`unsigned_encoding`](super::base::numbers::unsigned_encoding).
+    type indexed_encoding;
+    /// The encoding of a data symbol: 01, its flags, its name, and the bytes of its definition, if any.
+    ///
+    /// ```text
+    /// abbrev pub of_data_encoding : ℕ → List ℕ → List ℕ → List ℕ
+    /// of_data_encoding flags n defined = 0x01
+    ///     ∷ (unsigned_encoding flags ++ (size_prefixed_encoding n ++ defined))
+    /// ```
+    ///
+    /// Definitions: [`unsigned_encoding`](super::base::numbers::unsigned_encoding), [`size_prefixed_encoding`](super::base::encodings::size_prefixed_encoding).
+    type of_data_encoding;
+    /// The encoding of a section symbol: 03, its flags, and the index of the section.
+    ///
+    /// ```text
+    /// abbrev pub of_section_encoding : ℕ → ℕ → List ℕ
+    /// of_section_encoding flags index = 0x03
+    ///     ∷ (unsigned_encoding flags ++ unsigned_encoding index)
+    /// ```
+    ///
+    /// Definitions: [`unsigned_encoding`](super::base::numbers::unsigned_encoding).
+    type of_section_encoding;
+    /// The encoding of a symbol, with its name or definition if it has one.
+    ///
+    /// ```text
+    /// abbrev pub symbol_encoding : Symbol → List ℕ
+    /// symbol_encoding (indexed kind flags index n) = indexed_encoding kind flags index
+    ///     (optional_encoding size_prefixed_encoding n)
+    /// symbol_encoding (of_data flags n d) = of_data_encoding flags n
+    ///     (optional_encoding definition_encoding d)
+    /// symbol_encoding (of_section flags index) = of_section_encoding flags index
+    /// ```
+    ///
+    /// Definitions: [`Symbol`](symbols::Symbol), [`indexed`](symbols::Symbol), [`indexed_encoding`](symbols::indexed_encoding), [`optional_encoding`](super::base::encodings::optional_encoding), [`size_prefixed_encoding`](super::base::encodings::size_prefixed_encoding), [`of_data`](symbols::Symbol), [`of_data_encoding`](symbols::of_data_encoding), [`definition_encoding`](symbols::definition_encoding), [`of_section`](symbols::Symbol), [`of_section_encoding`](symbols::of_section_encoding).
+    type symbol_encoding;
+    /// The numbers of the definition are below 2^32.
+    ///
+    /// ```text
+    /// pub record IsDefinition (d : DataSymbolDefinition) : Type 0 where
+    ///   pub index : d.index < 2 ^ 32
+    ///   pub offset : d.offset < 2 ^ 32
+    ///   pub size : d.size < 2 ^ 32
+    /// ```
+    type IsDefinition;
+    /// The numbers are in range, and a name is UTF-8 of at most 2^32 - 1 bytes.
+    ///
+    /// ```text
+    /// abbrev pub IsFullSymbol : Symbol → Type 0
+    /// IsFullSymbol (indexed kind flags index n) = (flags < 2 ^ 32) × (index < 2 ^ 32)
+    ///     × IfSome n IsEncodableName
+    /// IsFullSymbol (of_data flags n d) = (flags < 2 ^ 32) × IsEncodableName n
+    ///     × IfSome d IsDefinition
+    /// IsFullSymbol (of_section flags index) = (flags < 2 ^ 32) × (index < 2 ^ 32)
+    /// ```
+    ///
+    /// Definitions: [`Symbol`](symbols::Symbol), [`indexed`](symbols::Symbol), [`IsEncodableName`](super::base::laws::IsEncodableName), [`of_data`](symbols::Symbol), [`IsDefinition`](symbols::IsDefinition), [`of_section`](symbols::Symbol).
+    type IsFullSymbol;
+    /// The kind is one of the builders' grammar: any but a tag.
+    ///
+    /// ```text
+    /// abbrev pub IsBuiltKind : SymbolKind → Type 0
+    /// IsBuiltKind Tag = ⊥
+    /// IsBuiltKind _ = Unit {0}
+    /// ```
+    type IsBuiltKind;
+    /// The same for a symbol of a `SymbolTable`, which is neither a tag nor a section.
+    ///
+    /// ```text
+    /// abbrev pub IsGivenSymbol : Symbol → Type 0
+    /// IsGivenSymbol (indexed Tag flags index n) = ⊥
+    /// IsGivenSymbol (of_section flags index) = ⊥
+    /// IsGivenSymbol symbol = IsFullSymbol symbol
+    /// ```
+    ///
+    /// Definitions: [`Symbol`](symbols::Symbol), [`indexed`](symbols::Symbol), [`of_section`](symbols::Symbol), [`IsFullSymbol`](symbols::IsFullSymbol).
+    type IsGivenSymbol;
+    /// The name, or for data the definition, is there exactly if the flags say so.
+    ///
+    /// ```text
+    /// abbrev pub IsAsFlagged : Symbol → Type 0
+    /// IsAsFlagged (indexed kind flags index n) = is_given n ≡ has_name flags
+    /// IsAsFlagged (of_data flags n d) = is_given d ≡ has_definition flags
+    /// IsAsFlagged (of_section flags index) = Unit {0}
+    /// ```
+    ///
+    /// Definitions: [`Symbol`](symbols::Symbol), [`indexed`](symbols::Symbol), [`is_given`](super::base::formats::is_given), [`has_name`](symbols::has_name), [`of_data`](symbols::Symbol), [`has_definition`](symbols::has_definition), [`of_section`](symbols::Symbol).
+    type IsAsFlagged;
+    /// The symbol of a `SymbolTable` is well-formed: its numbers and names are valid, and it is as its flags say.
+    ///
+    /// ```text
+    /// abbrev pub IsSymbol : Symbol → Type 0
+    /// IsSymbol symbol = IsGivenSymbol symbol × IsAsFlagged symbol
+    /// ```
+    ///
+    /// Definitions: [`Symbol`](symbols::Symbol), [`IsGivenSymbol`](symbols::IsGivenSymbol), [`IsAsFlagged`](symbols::IsAsFlagged).
+    type IsSymbol;
+    /// The symbol of any kind is well-formed: its numbers and names are valid, and it is as its flags say.
+    ///
+    /// ```text
+    /// abbrev pub IsObjectSymbol : Symbol → Type 0
+    /// IsObjectSymbol symbol = IsFullSymbol symbol × IsAsFlagged symbol
+    /// ```
+    ///
+    /// Definitions: [`Symbol`](symbols::Symbol), [`IsFullSymbol`](symbols::IsFullSymbol), [`IsAsFlagged`](symbols::IsAsFlagged).
+    type IsObjectSymbol;
+    /// The definition in this data segment, at this offset and of this size.
+    ///
+    /// ```text
+    /// abbrev pub definition_of : ℕ × (ℕ × ℕ) → DataSymbolDefinition
+    /// definition_of parts = record { index = parts.0; offset = parts.1.0; size = parts.1.1 }
+    /// ```
+    type definition_of;
+    /// A data definition: the index of a data segment, an offset in it, and a size.
+    ///
+    /// ```text
+    /// abbrev pub definition : Format DataSymbolDefinition
+    /// definition = mapped definition_of (pair u32 (pair u32 u32))
+    /// ```
+    ///
+    /// Definitions: [`Format`](super::base::formats::Format), [`mapped`](super::base::formats::mapped), [`definition_of`](symbols::definition_of), [`pair`](super::base::formats::pair), [`u32`](super::base::formats::u32).
+    type definition;
+    /// The symbol of this kind and these flags, an index and an optional name.
+    ///
+    /// ```text
+    /// abbrev pub indexed_of : SymbolKind → ℕ → ℕ × Option (List ℕ) → Symbol
+    /// indexed_of kind flags parts = indexed kind flags parts.0 parts.1
+    /// ```
+    ///
+    /// Definitions: [`Symbol`](symbols::Symbol), [`indexed`](symbols::Symbol).
+    type indexed_of;
+    /// The data symbol of these flags, a name and an optional definition.
+    ///
+    /// ```text
+    /// abbrev pub data_of : ℕ → List ℕ × Option DataSymbolDefinition → Symbol
+    /// data_of flags parts = of_data flags parts.0 parts.1
+    /// ```
+    ///
+    /// Definitions: [`Symbol`](symbols::Symbol), [`of_data`](symbols::Symbol).
+    type data_of;
+    /// The bytes after the kind of a symbol with an index: flags, the index, and a name if the flags say so.
+    ///
+    /// ```text
+    /// abbrev pub indexed_symbol : SymbolKind → Format Symbol
+    /// indexed_symbol kind = tagged u32
+    ///     (λ flags. mapped (indexed_of kind flags)
+    ///     (pair u32 (optional (has_name flags) name)))
+    /// ```
+    ///
+    /// Definitions: [`Format`](super::base::formats::Format), [`Symbol`](symbols::Symbol), [`tagged`](super::base::formats::tagged), [`u32`](super::base::formats::u32), [`mapped`](super::base::formats::mapped), [`indexed_of`](symbols::indexed_of), [`pair`](super::base::formats::pair), [`optional`](super::base::formats::optional), [`has_name`](symbols::has_name), [`name`](super::base::formats::name).
+    type indexed_symbol;
+    /// The bytes after the kind of a data symbol: flags, a name, and a definition if the flags say so.
+    ///
+    /// ```text
+    /// abbrev pub data_symbol : Format Symbol
+    /// data_symbol = tagged u32
+    ///     (λ flags. mapped (data_of flags)
+    ///     (pair name (optional (has_definition flags) definition)))
+    /// ```
+    ///
+    /// Definitions: [`Format`](super::base::formats::Format), [`Symbol`](symbols::Symbol), [`tagged`](super::base::formats::tagged), [`u32`](super::base::formats::u32), [`mapped`](super::base::formats::mapped), [`data_of`](symbols::data_of), [`pair`](super::base::formats::pair), [`name`](super::base::formats::name), [`optional`](super::base::formats::optional), [`has_definition`](symbols::has_definition), [`definition`](symbols::definition).
+    type data_symbol;
+    /// The bytes after the kind of a section symbol: flags, and the index of the section.
+    ///
+    /// ```text
+    /// abbrev pub section_symbol : Format Symbol
+    /// section_symbol = tagged u32 (λ flags. mapped (of_section flags) u32)
+    /// ```
+    ///
+    /// Definitions: [`Format`](super::base::formats::Format), [`Symbol`](symbols::Symbol), [`tagged`](super::base::formats::tagged), [`u32`](super::base::formats::u32), [`mapped`](super::base::formats::mapped), [`of_section`](symbols::Symbol).
+    type section_symbol;
+    /// The formats of a symbol by the byte of its kind, as the builders' grammar has them: 00 is a function, 01 data, 02 a global, 05 a table.
+    ///
+    /// ```text
+    /// abbrev pub symbol_tags : List (ℕ × Format Symbol)
+    /// symbol_tags = (0x00, indexed_symbol Function) ∷ (0x01, data_symbol)
+    ///     ∷ (0x02, indexed_symbol Global) ∷ (0x05, indexed_symbol Table) ∷ []
+    /// ```
+    ///
+    /// Definitions: [`Format`](super::base::formats::Format), [`Symbol`](symbols::Symbol), [`indexed_symbol`](symbols::indexed_symbol), [`data_symbol`](symbols::data_symbol).
+    type symbol_tags;
+    /// A symbol of the builders' grammar: a kind, flags, and the fields that these select.
+    ///
+    /// ```text
+    /// abbrev pub built_symbol : Format Symbol
+    /// built_symbol = tagged byte (choice symbol_tags (λ b. impossible))
+    /// ```
+    ///
+    /// Definitions: [`Format`](super::base::formats::Format), [`Symbol`](symbols::Symbol), [`tagged`](super::base::formats::tagged), [`byte`](super::base::formats::byte), [`choice`](super::base::formats::choice), [`symbol_tags`](symbols::symbol_tags), [`impossible`](super::base::formats::impossible).
+    type built_symbol;
+    /// The formats of a symbol by the byte of its kind, as the tool conventions have them: 03 is a section, 04 a tag, and the others are those of the builders' grammar.
+    ///
+    /// ```text
+    /// abbrev pub full_symbol_tags : List (ℕ × Format Symbol)
+    /// full_symbol_tags = (0x00, indexed_symbol Function) ∷ (0x01, data_symbol)
+    ///     ∷ (0x02, indexed_symbol Global) ∷ (0x03, section_symbol)
+    ///     ∷ (0x04, indexed_symbol Tag) ∷ (0x05, indexed_symbol Table) ∷ []
+    /// ```
+    ///
+    /// Definitions: [`Format`](super::base::formats::Format), [`Symbol`](symbols::Symbol), [`indexed_symbol`](symbols::indexed_symbol), [`data_symbol`](symbols::data_symbol), [`section_symbol`](symbols::section_symbol).
+    type full_symbol_tags;
+    /// A symbol of any kind.
+    ///
+    /// ```text
+    /// abbrev pub full_symbol : Format Symbol
+    /// full_symbol = tagged byte (choice full_symbol_tags (λ b. impossible))
+    /// ```
+    ///
+    /// Definitions: [`Format`](super::base::formats::Format), [`Symbol`](symbols::Symbol), [`tagged`](super::base::formats::tagged), [`byte`](super::base::formats::byte), [`choice`](super::base::formats::choice), [`full_symbol_tags`](symbols::full_symbol_tags), [`impossible`](super::base::formats::impossible).
+    type full_symbol;
+    /// A symbol: in the standard's grammar of any kind, and in the builders' of four kinds.
+    ///
+    /// ```text
+    /// abbrev pub symbol : Format Symbol
+    /// symbol = by_mode built_symbol full_symbol full_symbol
+    /// ```
+    ///
+    /// Definitions: [`Format`](super::base::formats::Format), [`Symbol`](symbols::Symbol), [`by_mode`](super::base::formats::by_mode), [`built_symbol`](symbols::built_symbol), [`full_symbol`](symbols::full_symbol).
+    type symbol;
+    /// The pieces are the encodings of these symbols.
+    ///
+    /// ```text
+    /// abbrev pub AreSymbols : List (List ℕ) → List Symbol → Type 0
+    /// AreSymbols = IsListOf symbol_encoding IsGivenSymbol
+    /// ```
+    ///
+    /// Definitions: [`Symbol`](symbols::Symbol), [`IsListOf`](lists::IsListOf), [`symbol_encoding`](symbols::symbol_encoding), [`IsGivenSymbol`](symbols::IsGivenSymbol).
+    type AreSymbols;
+    /// The pieces are the encodings of these symbols, of any kinds.
+    ///
+    /// ```text
+    /// abbrev pub AreObjectSymbols : List (List ℕ) → List Symbol → Type 0
+    /// AreObjectSymbols = IsListOf symbol_encoding IsFullSymbol
+    /// ```
+    ///
+    /// Definitions: [`Symbol`](symbols::Symbol), [`IsListOf`](lists::IsListOf), [`symbol_encoding`](symbols::symbol_encoding), [`IsFullSymbol`](symbols::IsFullSymbol).
+    type AreObjectSymbols;
+    /// The view of a decoded symbol.
+    ///
+    /// ```text
+    /// abbrev pub symbol_view : read.Symbol → Symbol
+    /// symbol_view (items.Function flags index n) = indexed Function flags index
+    ///     (option_map (λ n. n.now) n)
+    /// symbol_view (items.Global flags index n) = indexed Global flags index
+    ///     (option_map (λ n. n.now) n)
+    /// symbol_view (items.Table flags index n) = indexed Table flags index
+    ///     (option_map (λ n. n.now) n)
+    /// symbol_view (items.DataSymbol flags n d) = of_data flags n.now d
+    /// symbol_view (items.Section flags index) = of_section flags index
+    /// symbol_view (items.Tag flags index n) = indexed Tag flags index
+    ///     (option_map (λ n. n.now) n)
+    /// ```
+    ///
+    /// Definitions: [`Symbol`](symbols::Symbol), [`indexed`](symbols::Symbol), [`of_data`](symbols::Symbol), [`of_section`](symbols::Symbol).
+    type symbol_view;
+}
