@@ -648,7 +648,7 @@ const minimizing = {
     const error = thrown(() => library.minimize(WITH_OFFSETS));
     await page.choose(fileOf('offsets.wasm', WITH_OFFSETS));
     const [message, option] = error.message.split('; ');
-    assert.equal(option, 'dropOffsets leaves such sections out');
+    assert.equal(option, 'dropOffsets drops such sections');
     await page.untilText('saving', `Not minimized: ${message}`);
     assert.equal(await page.run(isMinimized), false);
     await showSavings(page);

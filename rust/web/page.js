@@ -803,7 +803,7 @@ function saySaving(text, isError = false) {
 }
 
 /** A message without its option of `minimize`, which is a checkbox here. */
-const withoutOption = (message) => message.replace(/; dropOffsets leaves such sections out$/, '');
+const withoutOption = (message) => message.replace(/; dropOffsets drops such sections$/, '');
 
 async function minimize() {
   const asked = file;
