@@ -3,8 +3,8 @@
 A function is proved from its own body and proof files, from the contracts of its callees, and from
 definitions and lemmas. So the checksum covers exactly
 - the mutant, and the mutated function with its proof files, and those of its cycle;
-- its crate's definitions, lemmas, line of crates.txt, and sources without comments, blank lines,
-  `#[inline]` and the bodies of other functions;
+- its crate's line of crates.txt, its definitions and lemmas, and its sources without `#[inline]` and
+  the bodies of other functions, all without comments and blank lines;
 - the same of each crate below;
 - the kit's logic, and the code that reads what a check prints (judging.py).
 If a mutant changes a constant, a table, a definition or several places, the checksum covers all bodies
@@ -55,6 +55,12 @@ def bare(source: str) -> str:
     return "\n".join(it for it in lines if not SPEED.fullmatch(it))
 
 
+def proof_text(path: str) -> str:
+    """Returns a file of definitions or proofs without blank lines, and lines that are comments."""
+    lines = map(str.rstrip, text_of(path).split("\n"))
+    return "\n".join(it for it in lines if it and not it.lstrip().startswith("--"))
+
+
 def interface(path: str, source: str) -> str:
     """Returns a source without comments, blank lines and the bodies of functions."""
     parts, at = [], 0
@@ -77,13 +83,13 @@ def sum_of_interface(top: str) -> str:
         found.append((path, interface(path.removeprefix(f"{top}/"), text_of(path))))
     for path in [*files_below(f"{top}/specs"), *files_below(f"{top}/proofs")]:
         if os.path.basename(path) not in OF_FUNCTION:
-            found.append((path, text_of(path)))
+            found.append((path, proof_text(path)))
     return checksum([(path.removeprefix(top), text) for path, text in found])
 
 
 def whole(top: str) -> list[str]:
     """Returns the sources and proof files of a crate, for a mutant of no single function."""
-    return [bare(text_of(it)) for it in files_below(f"{top}/src")] + [text_of(it) for it in files_below(f"{top}/proofs")]
+    return [bare(text_of(it)) for it in files_below(f"{top}/src")] + [proof_text(it) for it in files_below(f"{top}/proofs")]
 
 
 @functools.lru_cache(maxsize=None)
@@ -105,7 +111,7 @@ def of_function(top: str, function: Function) -> list[str]:
         others = [source for it, source in members if it != function]
         names |= {cycle[1], *(it.name for it, _ in members)}
     proofs = [it for it in files_below(f"{top}/proofs") if os.path.basename(os.path.dirname(it)).lstrip("+") in names]
-    return [own, *others, *map(text_of, proofs)]
+    return [own, *others, *map(proof_text, proofs)]
 
 
 @functools.lru_cache(maxsize=None)

@@ -56,20 +56,21 @@ def reads_files_of_edits() -> bool:
 # the mutant's checksum must change.
 SMALL_FILES = {
     "low/src/lib.rt": "/// Adds one.\npub fn one(n: u32) -> u32\n    ensures { result ≡ n + 1 }\n{\n    n + 1\n}\n",
-    "low/specs/Lib.antt": "abbrev Low := 1\n",
-    "low/proofs/one/Answers.antt": "-- one\n",
-    "low/proofs/Laws.antt": "-- a lemma\n",
+    "low/specs/Lib.antt": "-- A number.\nabbrev Low := 1\n",
+    "low/proofs/one/Answers.antt": "one\n",
+    "low/proofs/Laws.antt": "a lemma\n",
     "top/src/lib.rt": "const STEP: u32 = 1;\n\n#[cycle(sums)]\npub fn add(n: u32) -> u32\n    ensures { result ≡ n }\n{\n    n\n}\n\nfn other(n: u32) -> u32 {\n    n // same\n}\n\n#[cycle(sums)]\nfn more(n: u32) -> u32 {\n    add(n)\n}\n",
-    "top/proofs/add/Answers.antt": "-- add\n",
-    "top/proofs/other/Answers.antt": "-- other\n",
-    "top/proofs/+sums/Answers.antt": "-- sums\n",
-    "top/proofs/Laws.antt": "-- a lemma\n",
+    "top/proofs/add/Answers.antt": "add\n",
+    "top/proofs/other/Answers.antt": "other\n",
+    "top/proofs/+sums/Answers.antt": "sums\n",
+    "top/proofs/Laws.antt": "a lemma\n",
 }
 SMALL_CHANGES = [
     ("low/src/lib.rt", "    n + 1\n", "    1 + n\n", False),
     ("low/src/lib.rt", "/// Adds one.", "/// Adds 1.", False),
     ("low/src/lib.rt", "≡ n + 1", "≡ 1 + n", True),
     ("low/specs/Lib.antt", "1", "2", True),
+    ("low/specs/Lib.antt", "A number", "One", False),
     ("low/proofs/one/Answers.antt", "one", "two", False),
     ("low/proofs/Laws.antt", "lemma", "law", True),
     ("top/src/lib.rt", "// same", "// the same", False),
