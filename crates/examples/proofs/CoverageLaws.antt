@@ -43,7 +43,7 @@ use Rattle.examples.specs.declared.coverage.Numbers.{Numbers}
 use Rattle.examples.specs.declared.coverage.imports.Space.{Space}
 use Rattle.examples.specs.declared.coverage.imports.Space.TheVariants as spaces
 use Rattle.examples.specs.Coverage.{counting, covered_body, covered_bodies, counter, counter_export, counter_exports, names_counter, has_counter, imported, imported_from, payloads_of, AreImports, DecodesOnly, IsKept, row, AreSectionsOf, IsSplit, GainsSections, GainsItems, IsExtended}
-use Rattle.examples.specs.Coverage.{GainsEncoding, IsJoined, EncodeBodies, AddsBody, KeepsSections, HasNumbers, IsMalformed, HasDecoding, IsDecodable, Others, Payloads, sections_of, IsCovered}
+use Rattle.examples.specs.Coverage.{GainsEncoding, IsJoined, EncodeBodies, AddsBody, KeepsSections, HasNumbers, IsMalformed, HasDecoding, IsDecodable, Others, Payloads, sections_of, HasNone, IsCoverable, IsCovered, IsUnfit}
 
 -- ---- lists of values
 
@@ -593,20 +593,23 @@ module _ {bytes : List ℕ} {sections before between middle after first_rest sec
       ∙ ap (λ l. map row before ++ (6, globals.section.payload) ∷ l) (rows_split at_exports ∙ ap (λ l. map row between ++ (7, exports.section.payload) ∷ l) (rows_split at_code))
 
   -- The module decodes as `IsCovered` says.
-  pub is_covered : {start m1 m2 m3 m4 m5 m6 new : List ℕ} (items : List ExportItem) → vec export standard exports.section.payload items → has_counter items ≡ false → DecodesWhole wasm_module start []
+  pub is_covered : {start m1 m2 m3 m4 m5 m6 new : List ℕ} → length bytes < 2 ^ 28 → (items : List ExportItem) → vec export standard exports.section.payload items → has_counter items ≡ false → DecodesWhole wasm_module start []
       → KeepsSections (map row before) start m1 → GainsItems 6 (vec global_item) (numbers.global_items ++ replicate n.bodies counter) m1 m2
       → KeepsSections (map row between) m2 m3 → GainsItems 7 (vec export) (items ++ counter_exports n.function n.counter n.bodies) m3 m4
       → KeepsSections (map row middle) m4 m5 → GainsItems 10 (vec (size_prefixed body)) (covered_bodies n.counter numbers.bodies) m5 m6
       → KeepsSections (map row after) m6 new → IsCovered bytes new
-  is_covered {new = new} items exported free empty b g w e m c a = record {
-    others = others;
-    old_payloads = old_payloads;
-    new_payloads = record { globals = g.payload; exports = e.payload; code = c.payload };
-    items = record { imports = numbers.imports; globals = numbers.global_items; exports = items; bodies = numbers.bodies };
-    kept = record { before = b.kept; between = w.kept; middle = m.kept; after = a.kept };
-    read = subst (λ l. wasm_module padded bytes l) same_rows has.read;
-    has_items = record { imports = subst (λ l. AreImports l numbers.imports) same_rows numbers.are_imports; globals = numbers.globals_read; exports = exported; bodies = numbers.bodies_read };
-    new_names = free;
+  is_covered {new = new} short items exported free empty b g w e m c a = record {
+    old = record {
+      short = short;
+      others = others;
+      payloads = old_payloads;
+      items = record { imports = numbers.imports; globals = numbers.global_items; exports = items; bodies = numbers.bodies };
+      kept = record { before = b.kept; between = w.kept; middle = m.kept; after = a.kept };
+      read = subst (λ l. wasm_module padded bytes l) same_rows has.read;
+      has_items = record { imports = subst (λ l. AreImports l numbers.imports) same_rows numbers.are_imports; globals = numbers.globals_read; exports = exported; bodies = numbers.bodies_read };
+      new_names = free;
+    };
+    payloads = record { globals = g.payload; exports = e.payload; code = c.payload };
     written = (gains_then b.gains (gains_then g.gains (gains_then w.gains (gains_then e.gains (gains_then m.gains (gains_then c.gains a.gains)))))).for_each [] empty;
     has_counters = record {
       globals = subst (λ k. DecodesOnly (vec global_item) g.payload (numbers.global_items ++ replicate k counter)) numbers.number g.decodes;
@@ -622,7 +625,7 @@ AreAll sections = AllByRecursion (λ s. IsSection s.section) sections
 
 -- The clauses of the calls that `covered` makes, one after another.
 pub covered_result : {bytes start m1 m2 m3 m4 m5 m6 m7 new : List ℕ} {found list again before between middle after first_rest second_rest : List Located} {globals exports code : Located} {n : Numbers}
-    → AreSectionsOf bytes found → list ≡ found → again ≡ found → IsSplit 6 list before globals first_rest → IsSplit 7 first_rest between exports second_rest → IsSplit 10 second_rest middle code after
+    → length bytes < 2 ^ 28 → AreSectionsOf bytes found → list ≡ found → again ≡ found → IsSplit 6 list before globals first_rest → IsSplit 7 first_rest between exports second_rest → IsSplit 10 second_rest middle code after
     → (AreAll again → IsSection globals.section → globals.section.id ≡ 6 → IsSection code.section → code.section.id ≡ 10 → HasNumbers (map row again) globals.section.payload code.section.payload n)
     → DecodesWhole wasm_module start []
     → (AreAll before → KeepsSections (map row before) start m1)
@@ -633,7 +636,7 @@ pub covered_result : {bytes start m1 m2 m3 m4 m5 m6 m7 new : List ℕ} {found li
     → ((xs : List Body) → vec (size_prefixed body) standard code.section.payload xs → GainsItems 10 (vec (size_prefixed body)) (covered_bodies n.counter xs) m5 m6)
     → (AreAll after → KeepsSections (map row after) m6 m7)
     → new ≡ m7 → IsCovered bytes new
-covered_result {bytes = bytes} {before = before} {first_rest = first_rest} {globals = globals} has same twice at_globals at_exports at_code numbered empty b g w e m c a finish =
+covered_result {bytes = bytes} {before = before} {first_rest = first_rest} {globals = globals} short has same twice at_globals at_exports at_code numbered empty b g w e m c a finish =
     let listed = subst (λ l. AreSectionsOf bytes l) (sym same) has in
     let all_again = subst (λ l. AreSectionsOf bytes l) (sym twice) has in
     let first = all_split (λ s. IsSection s.section) at_globals listed.each in
@@ -642,7 +645,7 @@ covered_result {bytes = bytes} {before = before} {first_rest = first_rest} {glob
     let numbers = numbered all_again.each first.1 at_globals.has_id third.1 at_code.has_id in
     let exports = e second.1 at_exports.has_id in
     subst (λ s. IsCovered bytes s) (sym finish)
-    (is_covered all_again (subst (λ l. IsSplit 6 l before globals first_rest) (same ∙ sym twice) at_globals) at_exports at_code numbers exports.0 exports.1 exports.2 empty (b first.0) (g numbers.global_items numbers.globals_read) (w second.0) exports.3 (m third.0) (c numbers.bodies numbers.bodies_read) (a third.2))
+    (is_covered all_again (subst (λ l. IsSplit 6 l before globals first_rest) (same ∙ sym twice) at_globals) at_exports at_code numbers short exports.0 exports.1 exports.2 empty (b first.0) (g numbers.global_items numbers.globals_read) (w second.0) exports.3 (m third.0) (c numbers.bodies numbers.bodies_read) (a third.2))
 
 -- ---- errors
 
@@ -686,3 +689,111 @@ all_decode {bytes = bytes} {found = found} decodable has same twice at_globals a
       exports_decode = two.1;
       code_decodes = three.1;
     }
+
+-- ---- a module that cannot be covered
+
+-- Such an error implies the same when a call propagates it.
+pub unfit_stays : {T P : Type 0} (r : Result T CoverageError) (e : CoverageError) → IsErrAnd r (λ y. y ≡ e) → (IsUnfit e → P) → IfErr r (λ y. IsUnfit y → P)
+unfit_stays (Ok x) e h p = elim h [ ]
+unfit_stays {P = P} (Err y) e h p = subst (λ z. IsUnfit z → P) (sym h) p
+
+-- No section of a longer list has the id, if none of the list has, and the next one has not.
+pub none_more_of : (id : ℕ) (sections : List Located) (i : ℕ) (s : Located) → i < length sections → s ≡ get_or sections i s → HasNone id (take i sections) → s.section.id ≢ id → HasNone id (take (i + 1) sections)
+none_more_of id sections i s low e before other =
+    subst (HasNone id) (sym (take_more sections i s low)) (all_push (λ t. t.section.id ≢ id) (take i sections) (get_or sections i s) before (subst (λ t. t.section.id ≢ id) e other))
+
+-- What all members have, the images have.
+to_images : {X Y : Type 0} (P : Y → Type 0) (view : X → Y) (xs : List X) → AllByRecursion (λ x. P (view x)) xs → AllByRecursion P (map view xs)
+to_images P view [] h = tt
+to_images P view (x ∷ xs) h = (h.0, to_images P view xs h.1)
+
+all_map : {X : Type 0} {P Q : X → Type 0} (f : (x : X) → P x → Q x) (xs : List X) → AllByRecursion P xs → AllByRecursion Q xs
+all_map f [] h = tt
+all_map f (x ∷ xs) h = (f x h.0, all_map f xs h.1)
+
+-- Two splits of one list at its first section of an id.
+record SameSplit (before again : List (ℕ × List ℕ)) (payload other : List ℕ) (after rest : List (ℕ × List ℕ)) : Type 0 where
+  fronts : before ≡ again
+  payloads : payload ≡ other
+  backs : after ≡ rest
+
+split_same : (id : ℕ) (before again : List (ℕ × List ℕ)) {payload other : List ℕ} {after rest : List (ℕ × List ℕ)} → AllByRecursion (λ s. s.0 ≢ id) before → AllByRecursion (λ s. s.0 ≢ id) again
+    → before ++ (id, payload) ∷ after ≡ again ++ (id, other) ∷ rest → SameSplit before again payload other after rest
+split_same id [] [] h g e = record { fronts = refl; payloads = cc; backs = cc }
+split_same id [] (s ∷ again) h g e =
+    let is : s ≡ (id, _) = cc in
+    absurd (g.0 (ap (λ t. t.0) is))
+split_same id (s ∷ before) [] h g e =
+    let is : s ≡ (id, _) = cc in
+    absurd (h.0 (ap (λ t. t.0) is))
+split_same id (s ∷ before) (t ∷ again) {after = after} {rest = rest} h g e =
+    let heads : s ≡ t = cc in
+    let tails = split_same id before again {after = after} {rest = rest} h.1 g.1 cc in
+    record { fronts = ap₂ (λ a b. a ∷ b) heads tails.fronts; payloads = tails.payloads; backs = tails.backs }
+
+-- The rows of a split list of sections, and another split of them.
+rows_same : {id : ℕ} {sections before after : List Located} {found : Located} {again rest : List (ℕ × List ℕ)} {other : List ℕ} → IsSplit id sections before found after → AllByRecursion (λ s. s.0 ≢ id) again
+    → map row sections ≡ again ++ (id, other) ∷ rest → SameSplit (map row before) again found.section.payload other (map row after) rest
+rows_same {id = id} {before = before} {again = again} at none e = split_same id (map row before) again (to_images (λ s. s.0 ≢ id) row before at.first) none (sym (rows_split at) ∙ e)
+
+-- A list with a section of the id.
+some_of : (id : ℕ) {sections : List Located} (before : List (ℕ × List ℕ)) {payload : List ℕ} {after : List (ℕ × List ℕ)} → map row sections ≡ before ++ (id, payload) ∷ after → HasNone id sections → ⊥
+some_of id {sections = sections} before {payload = payload} {after = after} e none =
+    (all_parts (λ s. s.0 ≢ id) before (id, payload) after (subst (AllByRecursion (λ s. s.0 ≢ id)) e (to_images (λ s. s.0 ≢ id) row sections none))).1 refl
+
+-- A section with offsets is not kept.
+pub not_kept : (s : Located) → IsSection s.section → contains_offsets s.section.name ≡ true → IsKept (row s) → ⊥
+not_kept s is some kept = go s.section.name is.named some
+  where
+    go : (m : Option (List ℕ)) → IsNameOf s.section.id s.section.payload m → contains_offsets m ≡ true → ⊥
+    go None h f = elim f [ ]
+    go (Some n) h f =
+        let both : false ≡ true = sym (kept.no_offsets n h.1 h.0 h.2) ∙ f in
+        elim both [ ]
+
+-- The exports of a section that is decoded.
+pub exports_are : (s : Section) (is : IsSection s) (xs : List ExportItem) (x : Contents) → content (section_kind_of s) standard s.payload x → x ≡ Exports xs → has_counter xs ≡ true → s.id ≡ 7 → (exports : List ExportItem) → vec export standard s.payload exports → has_counter exports ≡ true
+exports_are s is xs x h same taken e exports d =
+    let items = exports_in s is x h e in
+    let both : items.0 ≡ xs = cc in
+    ap has_counter (exports_section.whole.whole standard s.payload exports items.0 d items.2 ∙ both) ∙ taken
+
+module _ {bytes : List ℕ} {found list : List Located} (c : IsCoverable bytes) (has : AreSectionsOf bytes found) (same : list ≡ found) where
+  all_rows : map row list ≡ sections_of c.others c.payloads
+  all_rows = ap (map row) same ∙ sym (module_whole.whole padded bytes (sections_of c.others c.payloads) (map row found) c.read has.read)
+
+  pub no_first : HasNone 6 list → ⊥
+  no_first none = some_of 6 c.others.before all_rows none
+
+  module _ {before first_rest : List Located} {globals : Located} (at_globals : IsSplit 6 list before globals first_rest) where
+    first_same : SameSplit (map row before) c.others.before globals.section.payload c.payloads.globals (map row first_rest) (c.others.between ++ (7, c.payloads.exports) ∷ (c.others.middle ++ (10, c.payloads.code) ∷ c.others.after))
+    first_same = rows_same at_globals (all_map (λ s k. k.no_globals) c.others.before c.kept.before) all_rows
+
+    pub no_second : HasNone 7 first_rest → ⊥
+    no_second none = some_of 7 c.others.between first_same.backs none
+
+    module _ {between second_rest : List Located} {exports : Located} (at_exports : IsSplit 7 first_rest between exports second_rest) where
+      second_same : SameSplit (map row between) c.others.between exports.section.payload c.payloads.exports (map row second_rest) (c.others.middle ++ (10, c.payloads.code) ∷ c.others.after)
+      second_same = rows_same at_exports (all_map (λ s k. k.no_exports) c.others.between c.kept.between) first_same.backs
+
+      pub no_third : HasNone 10 second_rest → ⊥
+      no_third none = some_of 10 c.others.middle second_same.backs none
+
+      -- The exports have no such names.
+      pub not_taken : ((xs : List ExportItem) → vec export standard exports.section.payload xs → has_counter xs ≡ true) → ⊥
+      not_taken taken =
+          let both : false ≡ true = sym c.new_names ∙ taken c.items.exports (subst (λ p. vec export standard p c.items.exports) (sym second_same.payloads) c.has_items.exports) in
+          elim both [ ]
+
+      module _ {middle after : List Located} {code : Located} (at_code : IsSplit 10 second_rest middle code after) where
+        third_same : SameSplit (map row middle) c.others.middle code.section.payload c.payloads.code (map row after) c.others.after
+        third_same = rows_same at_code (all_map (λ s k. k.no_code) c.others.middle c.kept.middle) second_same.backs
+
+        -- All other sections are kept.
+        pub kept_rows : AllByRecursion IsKept (map row before) × AllByRecursion IsKept (map row between) × AllByRecursion IsKept (map row middle) × AllByRecursion IsKept (map row after)
+        kept_rows = (
+          subst (AllByRecursion IsKept) (sym first_same.fronts) c.kept.before,
+          subst (AllByRecursion IsKept) (sym second_same.fronts) c.kept.between,
+          subst (AllByRecursion IsKept) (sym third_same.fronts) c.kept.middle,
+          subst (AllByRecursion IsKept) (sym third_same.backs) c.kept.after,
+        )

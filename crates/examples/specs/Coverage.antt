@@ -1,6 +1,6 @@
 -- This file defines a module whose functions count their calls: each function that the module
 -- defines has a counter, to which it adds 1 before its own instructions.
-use Rattle.std.specs.Prelude.{◌≡◌, ◌≢◌, ℕ, zero, suc, ◌+◌, ◌<◌, ◌^◌, List, [], ◌∷◌, ◌++◌, length, map, nat_eq, ◌||◌, replicate, codes, decimal, count_by, flat_map, pos, Bool, true, false, ◌==◌, if◌then◌else◌, Some}
+use Rattle.std.specs.Prelude.{◌≡◌, ◌≢◌, ℕ, zero, suc, ◌+◌, ◌<◌, ◌^◌, List, [], ◌∷◌, ◌++◌, length, map, nat_eq, ◌||◌, replicate, codes, decimal, count_by, flat_map, pos, Bool, true, false, ◌==◌, if◌then◌else◌, Some, ⊤}
 use Rattle.std.specs.List.{AllByRecursion, AllZip, starts_with}
 use Rattle.std.specs.declared.alloc.Global.{Global}
 use Rattle.wasm_base.specs.Words.{Format, Decodes, DecodesWhole, padded, standard, name, u32, vec, size_prefixed, wasm_module, number_of, members, unsigned_encoding}
@@ -163,19 +163,25 @@ pub record HasCounters (payloads : Payloads) (items : Items) : Type 0 where
   pub exports : DecodesOnly (vec export) payloads.exports (items.exports ++ counter_exports (imported Functions items.imports) (first_counter items) (length items.bodies))
   pub bodies : DecodesOnly (vec (size_prefixed body)) payloads.code (covered_bodies (first_counter items) items.bodies)
 
--- The bytes are a module with sections of globals, exports and code, and the new bytes are the same
--- module but for the counters. Other sections have the same payloads.
-pub record IsCovered (bytes new : List ℕ) : Type 0 where
+-- The bytes are a module that can be covered. It has less than 256 MiB, and sections of globals,
+-- exports and code, in this order and once each. No custom section holds offsets into the code, by
+-- its name. No name of an export begins as those of counters.
+pub record IsCoverable (bytes : List ℕ) : Type 0 where
+  pub short : length bytes < 2 ^ 28
   pub others : Others
-  pub old_payloads : Payloads
-  pub new_payloads : Payloads
+  pub payloads : Payloads
   pub items : Items
   pub kept : AreKept others
-  pub read : wasm_module padded bytes (sections_of others old_payloads)
-  pub has_items : HasItems others old_payloads items
+  pub read : wasm_module padded bytes (sections_of others payloads)
+  pub has_items : HasItems others payloads items
   pub new_names : has_counter items.exports ≡ false
-  pub written : DecodesWhole wasm_module new (sections_of others new_payloads)
-  pub has_counters : HasCounters new_payloads items
+
+-- The new bytes are the same module but for the counters. Other sections have the same payloads.
+pub record IsCovered (bytes new : List ℕ) : Type 0 where
+  pub old : IsCoverable bytes
+  pub payloads : Payloads
+  pub written : DecodesWhole wasm_module new (sections_of old.others payloads)
+  pub has_counters : HasCounters payloads old.items
 
 -- ---- errors
 
@@ -186,7 +192,16 @@ IsMalformed (errors.Missing id) = ⊥
 IsMalformed (errors.Misplaced offset) = ⊥
 IsMalformed (errors.Offsets offset) = ⊥
 IsMalformed (errors.Taken offset) = ⊥
-IsMalformed (errors.TooLong offset) = ⊥
+IsMalformed errors.TooLong = ⊥
+
+-- The error says that the module cannot be covered, and nothing of how it decodes.
+abbrev pub IsUnfit : CoverageError → Type 0
+IsUnfit (errors.Read e) = ⊥
+IsUnfit (errors.Missing id) = ⊤
+IsUnfit (errors.Misplaced offset) = ⊤
+IsUnfit (errors.Offsets offset) = ⊤
+IsUnfit (errors.Taken offset) = ⊤
+IsUnfit errors.TooLong = ⊤
 
 -- If the section is of imports, globals, exports or code, it decodes to items.
 pub record HasDecoding (s : ℕ × List ℕ) : Type 0 where
@@ -212,10 +227,15 @@ pub record AreSectionsOf (bytes : List ℕ) (sections : List Located) : Type 0 w
   pub read : wasm_module padded bytes (map row sections)
   pub each : AllByRecursion (λ s. IsSection s.section) sections
 
--- The list is `before`, then `found`, a section of this id, then `after`.
+-- No section has this id.
+abbrev pub HasNone : ℕ → List Located → Type 0
+HasNone id sections = AllByRecursion (λ s. s.section.id ≢ id) sections
+
+-- The list is `before`, then `found`, the first section of this id, then `after`.
 pub record IsSplit (id : ℕ) (sections before : List Located) (found : Located) (after : List Located) : Type 0 where
   pub is : sections ≡ before ++ found ∷ after
   pub has_id : found.section.id ≡ id
+  pub first : HasNone id before
 
 -- If the old bytes decode to some sections alone, the new bytes decode to these and more.
 pub record GainsSections (more : List (ℕ × List ℕ)) (old new : List ℕ) : Type 0 where

@@ -1,5 +1,5 @@
 // A module whose functions count their calls.
-ghost use Rattle.std.specs.Prelude.{◌≡◌, ◌≢◌, ◌++◌, List, [], ◌∷◌, length, map, replicate, false, Some, IfOk, IfErr, OnOk};
+ghost use Rattle.std.specs.Prelude.{◌≡◌, ◌≢◌, ◌++◌, List, [], ◌∷◌, length, map, replicate, true, false, None, Some, IfOk, IfErr, OnOk};
 ghost use Rattle.std.specs.List.{AllByRecursion};
 ghost use Rattle.wasm_base.specs.Continuing.{RejectsWhole};
 ghost use Rattle.wasm_base.specs.Decoding.{Rejects};
@@ -21,12 +21,15 @@ ghost use Rattle.examples.specs.Coverage.{
   GainsItems,
   GainsSections,
   HasDecoding,
+  HasNone,
   HasNumbers,
+  IsCoverable,
   IsCovered,
   IsDecodable,
   IsKept,
   IsMalformed,
   IsSplit,
+  IsUnfit,
   KeepsSections,
 };
 ghost use Rattle.examples.specs.declared.coverage.CoverageError.TheVariants.{Read};
@@ -40,7 +43,7 @@ use bodies::covered_code;
 use counters::{counters, exports as exports_of, extended};
 use imports::{Space, imported};
 use std::alloc::Allocator;
-use wasm_base::{Module, RawSection, ReadFault, Refused};
+use wasm_base::{Module, RawSection, ReadFault};
 use wasm_reader::{Items, ReadError, Section, Sections};
 use wasm_sections::Export;
 
@@ -57,9 +60,8 @@ pub enum CoverageError {
     Offsets { offset: usize },
     /// The exports at this offset have a name that begins with `coverage.` already.
     Taken { offset: usize },
-    /// With the counters, the section at this offset would have a count, a length or an index above
-    /// 4294967295.
-    TooLong { offset: usize },
+    /// The module has [`MAX_LENGTH`] bytes or more.
+    TooLong,
 }
 
 impl From<ReadError> for CoverageError {
@@ -70,17 +72,22 @@ impl From<ReadError> for CoverageError {
     }
 }
 
-/// Returns the error of a call that failed at the section of this offset.
-fn refused_at(refused: Refused, offset: usize) -> CoverageError
-    ensures { IsMalformed result → ⊥ }
+/// The length of a module, in bytes, from which [`covered`] does not cover it: 256 MiB.
+///
+/// A function takes two bytes or more, and adds 26 at most to a section. So no count, length or
+/// index of a shorter module passes 4294967295 when it is covered.
+pub const MAX_LENGTH: usize = 1 << 28;
+
+/// Returns the error of a call that builds, which failed at the section of this offset. That a
+/// number is too large is no cause of it, below [`MAX_LENGTH`].
+fn memory_at(offset: usize) -> CoverageError
+    ensures none { IsMalformed result → ⊥ }
+    ensures unfit { IsUnfit result → ⊥ }
 {
-    match refused {
-        Refused::Memory => CoverageError::Read(ReadError {
-            cause: ReadFault::Memory,
-            offset,
-        }),
-        Refused::TooLong => CoverageError::TooLong { offset },
-    }
+    CoverageError::Read(ReadError {
+        cause: ReadFault::Memory,
+        offset,
+    })
 }
 
 /// Returns the module with a counter for each function that it defines, a global that is exported
@@ -89,12 +96,20 @@ fn refused_at(refused: Refused, offset: usize) -> CoverageError
 ///
 /// # Errors
 ///
-/// The module must have sections of globals, exports and code, in this order and once each. It must
-/// have no custom section that holds offsets into the code, and no export of such a name.
+/// Returns `Read` if the sections of imports, globals, exports and code do not decode, or if an
+/// allocation fails. Returns `TooLong` if the module has [`MAX_LENGTH`] bytes or more.
+///
+/// It returns another error only if the module cannot be covered: it must have sections of globals,
+/// exports and code, in this order and once each. It must have no custom section that holds offsets
+/// into the code, and no export whose name begins with `coverage.`.
 pub fn covered<A: Allocator + Copy>(bytes: &[u8], alloc: A) -> Result<Vec<u8, A>, CoverageError>
     ensures found { IfOk result (λ new. IsCovered bytes.now new.items) }
     ensures none { IfErr result (λ e. IsMalformed e → IsDecodable bytes.now → ⊥) }
+    ensures unfit { IfErr result (λ e. IsUnfit e → IsCoverable bytes.now → ⊥) }
 {
+    if bytes.len() >= MAX_LENGTH {
+        return Err(CoverageError::TooLong);
+    }
     let sections = sections_of(bytes, alloc)?;
     let (before, globals, rest) = split(&sections, 6)?;
     let (between, exports, rest) = split(rest, 7)?;
@@ -102,7 +117,7 @@ pub fn covered<A: Allocator + Copy>(bytes: &[u8], alloc: A) -> Result<Vec<u8, A>
     let numbers = numbers_of(&sections, globals, code)?;
     let mut new = match Module::new(alloc) {
         Ok(module) => module,
-        Err(refused) => return Err(refused_at(refused, 0)),
+        Err(_) => return Err(memory_at(0)),
     };
     copy_all(before, &mut new)?;
     add_globals(globals, numbers, alloc, &mut new)?;
@@ -121,6 +136,7 @@ fn sections_of<A: Allocator + Copy>(
 ) -> Result<Vec<Section<'_, A>, A>, CoverageError>
     ensures found { IfOk result (λ found. AreSectionsOf bytes.now found.items) }
     ensures none { IfErr result (λ e. IsMalformed e → RejectsWhole wasm_module padded bytes.now) }
+    ensures unfit { IfErr result (λ e. IsUnfit e → ⊥) }
 {
     let mut sections = Sections::new(alloc, bytes)?;
     let mut found = Vec::new(alloc);
@@ -132,7 +148,7 @@ fn sections_of<A: Allocator + Copy>(
         let offset = section.offset();
         match found.push(section) {
             Ok(()) => {}
-            Err(_) => return Err(refused_at(Refused::Memory, offset)),
+            Err(_) => return Err(memory_at(offset)),
         }
     }
 }
@@ -151,6 +167,7 @@ fn split<'s, 'a, A: Allocator + Copy>(
 >
     ensures found { IfOk result (λ x. IsSplit id sections.now x.0.now x.1.now x.2.now) }
     ensures none { IfErr result (λ e. IsMalformed e → ⊥) }
+    ensures unfit { IfErr result (λ e. IsUnfit e → HasNone id sections.now) }
 {
     let mut at = 0;
     while at < sections.len() {
@@ -178,6 +195,7 @@ struct Numbers {
 fn number_of<A: Allocator + Copy>(section: &Section<'_, A>) -> Result<u32, CoverageError>
     ensures found { IfOk result (λ n. (x : Contents) × content (section_kind_of section.now.section) standard section.now.section.payload x × (number_in x ≡ Some n)) }
     ensures none { IfErr result (λ e. IsMalformed e → RejectsWhole (content (section_kind_of section.now.section)) standard section.now.section.payload) }
+    ensures unfit { IfErr result (λ e. IsUnfit e → (x : Contents) × content (section_kind_of section.now.section) standard section.now.section.payload x × (number_in x ≡ None)) }
 {
     match section.count()? {
         Some(number) => Ok(number),
@@ -195,12 +213,13 @@ fn numbers_of<A: Allocator + Copy>(
 ) -> Result<Numbers, CoverageError>
     ensures found { AllByRecursion (λ s. IsSection s.section) sections.now → IsSection globals.now.section → globals.now.section.id ≡ 6 → IsSection code.now.section → code.now.section.id ≡ 10 → IfOk result (λ n. HasNumbers (map row sections.now) globals.now.section.payload code.now.section.payload n) }
     ensures none { AllByRecursion (λ s. IsSection s.section) sections.now → IsSection globals.now.section → IsSection code.now.section → IfErr result (λ e. IsMalformed e → AllByRecursion HasDecoding (map row sections.now) → globals.now.section.id ≡ 6 → HasDecoding (row globals.now) → code.now.section.id ≡ 10 → HasDecoding (row code.now) → ⊥) }
+    ensures unfit { AllByRecursion (λ s. IsSection s.section) sections.now → IsSection globals.now.section → globals.now.section.id ≡ 6 → IsSection code.now.section → code.now.section.id ≡ 10 → IfErr result (λ e. IsUnfit e → ⊥) }
 {
     let function = imported(sections, Space::Functions)?;
     let imported_globals = imported(sections, Space::Globals)?;
     let offset = globals.offset();
     let Some(counter) = imported_globals.checked_add(number_of(globals)?) else {
-        return Err(CoverageError::TooLong { offset });
+        return Err(memory_at(offset));
     };
     let bodies = number_of(code)?;
     Ok(Numbers {
@@ -217,6 +236,7 @@ fn copy_all<A: Allocator + Copy>(
 ) -> Result<(), CoverageError>
     ensures found { AllByRecursion (λ s. IsSection s.section) sections.now → OnOk result (KeepsSections (map row sections.now) new.old new.new) }
     ensures none { IfErr result (λ e. IsMalformed e → ⊥) }
+    ensures unfit { AllByRecursion (λ s. IsSection s.section) sections.now → IfErr result (λ e. IsUnfit e → AllByRecursion IsKept (map row sections.now) → ⊥) }
 {
     for section in sections {
         keep(section, new)?;
@@ -232,6 +252,7 @@ fn keep<A: Allocator + Copy>(
 ) -> Result<(), CoverageError>
     ensures found { IsSection section.now.section → OnOk result (IsKept (row section.now) × GainsSections (row section.now ∷ []) new.old new.new) }
     ensures none { IfErr result (λ e. IsMalformed e → ⊥) }
+    ensures unfit { IsSection section.now.section → IfErr result (λ e. IsUnfit e → IsKept (row section.now) → ⊥) }
 {
     let offset = section.offset();
     let id = section.id();
@@ -278,10 +299,11 @@ fn add_payload<A: Allocator>(
 ) -> Result<(), CoverageError>
     ensures found { OnOk result (GainsSections ((id, payload.now) ∷ []) new.old new.new) }
     ensures none { IfErr result (λ e. IsMalformed e → ⊥) }
+    ensures unfit { IfErr result (λ e. IsUnfit e → ⊥) }
 {
     match new.section(&RawSection { id, bytes: payload }) {
         Ok(()) => Ok(()),
-        Err(refused) => Err(refused_at(refused, offset)),
+        Err(_) => Err(memory_at(offset)),
     }
 }
 
@@ -294,11 +316,12 @@ fn add_globals<A: Allocator + Copy>(
 ) -> Result<(), CoverageError>
     ensures found { (globals : List GlobalItem) → vec global_item standard section.now.section.payload globals → OnOk result (GainsItems 6 (vec global_item) (globals ++ replicate numbers.bodies counter) new.old new.new) }
     ensures none { IfErr result (λ e. IsMalformed e → Rejects u32 standard section.now.section.payload) }
+    ensures unfit { IfErr result (λ e. IsUnfit e → ⊥) }
 {
     let offset = section.offset();
     let added = match counters(numbers.bodies, alloc) {
         Ok(added) => added,
-        Err(refused) => return Err(refused_at(refused, offset)),
+        Err(_) => return Err(memory_at(offset)),
     };
     let payload = extended(section, numbers.bodies, &added, alloc)?;
     add_payload(6, &payload, offset, new)
@@ -320,6 +343,7 @@ fn has_counter(exports: &[Export<'_>]) -> bool
 fn check_exports<A: Allocator + Copy>(section: &Section<'_, A>) -> Result<(), CoverageError>
     ensures found { IsSection section.now.section → section.now.section.id ≡ 7 → OnOk result ((exports : List ExportItem) × vec export standard section.now.section.payload exports × (has_counter exports ≡ false)) }
     ensures none { IfErr result (λ e. IsMalformed e → RejectsWhole (content (section_kind_of section.now.section)) standard section.now.section.payload) }
+    ensures unfit { IsSection section.now.section → section.now.section.id ≡ 7 → IfErr result (λ e. IsUnfit e → (exports : List ExportItem) → vec export standard section.now.section.payload exports → has_counter exports ≡ true) }
 {
     let offset = section.offset();
     let Items::Exports(exports) = section.items()? else {
@@ -340,12 +364,13 @@ fn add_exports<A: Allocator + Copy>(
 ) -> Result<(), CoverageError>
     ensures found { IsSection section.now.section → section.now.section.id ≡ 7 → OnOk result ((exports : List ExportItem) × vec export standard section.now.section.payload exports × (has_counter exports ≡ false) × GainsItems 7 (vec export) (exports ++ counter_exports numbers.function numbers.counter numbers.bodies) new.old new.new) }
     ensures none { IsSection section.now.section → section.now.section.id ≡ 7 → IfErr result (λ e. IsMalformed e → HasDecoding (row section.now) → ⊥) }
+    ensures unfit { IsSection section.now.section → section.now.section.id ≡ 7 → IfErr result (λ e. IsUnfit e → (exports : List ExportItem) → vec export standard section.now.section.payload exports → has_counter exports ≡ true) }
 {
     let offset = section.offset();
     check_exports(section)?;
     let added = match exports_of(numbers.function, numbers.counter, numbers.bodies, alloc) {
         Ok(added) => added,
-        Err(refused) => return Err(refused_at(refused, offset)),
+        Err(_) => return Err(memory_at(offset)),
     };
     let payload = extended(section, numbers.bodies, &added, alloc)?;
     add_payload(7, &payload, offset, new)
@@ -360,10 +385,11 @@ fn add_code<A: Allocator + Copy>(
 ) -> Result<(), CoverageError>
     ensures found { (bodies : List Body) → vec (size_prefixed body) standard section.now.section.payload bodies → OnOk result (GainsItems 10 (vec (size_prefixed body)) (covered_bodies numbers.counter bodies) new.old new.new) }
     ensures none { section.now.section.id ≡ 10 → IfErr result (λ e. IsMalformed e → HasDecoding (row section.now) → ⊥) }
+    ensures unfit { IfErr result (λ e. IsUnfit e → ⊥) }
 {
     let code = covered_code(section, numbers.counter, alloc)?;
     match new.section(&code) {
         Ok(()) => Ok(()),
-        Err(refused) => Err(refused_at(refused, section.offset())),
+        Err(_) => Err(memory_at(section.offset())),
     }
 }

@@ -27,7 +27,7 @@ mod whole;
 pub use adding::adding_module;
 pub use alone::{encode_exports, encode_group, encode_import, encode_local, encode_reference};
 pub use compiled::compiled_module;
-pub use coverage::{CoverageError, covered};
+pub use coverage::{CoverageError, MAX_LENGTH, covered};
 pub use filled::filled_module;
 pub use first::first_module;
 pub use grown::{encode_given_import, encode_memories, grow, grow_by_each};

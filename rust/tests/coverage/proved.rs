@@ -1,6 +1,6 @@
 //! The function `covered` of the proved examples: a module worked out by hand, the modules of the
 //! example by hand, and each error.
-use crate::examples::{CoverageError, covered};
+use crate::examples::{CoverageError, MAX_LENGTH, covered};
 use crate::test_support::{Heap, MOST, Refusing};
 use crate::{BUILT, COUNTS, calls, compiled, example, samples::module_of_builders, tools};
 use dolzhytik::fallible::Global;
@@ -123,6 +123,17 @@ fn an_export_is_named_as_a_counter() {
     let offset = HEADER.len() + GLOBALS.len();
     let error = error_of(&[GLOBALS, &exports, CODE]);
     assert_eq!(error, CoverageError::Taken { offset });
+}
+
+#[test]
+fn a_module_is_too_long() {
+    let mut bytes = vec![0; MAX_LENGTH];
+    let error = covered(&bytes, Global).expect_err("256 MiB");
+    assert_eq!(error, CoverageError::TooLong);
+    bytes.pop();
+    let (cause, offset) = (ReadFault::UnknownTag, 1);
+    let error = covered(&bytes, Global).expect_err("no module");
+    assert_eq!(error, CoverageError::Read(ReadError { cause, offset }));
 }
 
 #[test]

@@ -3,6 +3,7 @@
 `proofs/Words.antt` of a crate passes on the names that proofs of the crates above use: lemmas,
 definitions, and in wasm_base names of std. `specs/Lib.antt` passes on all definitions of the crate,
 to its own proofs. So a proof file has one import for each crate, in lines of at most 200 characters.
+The crate `dolzhytik` passes on the definitions and lemmas of all libraries, to crates that use it.
 """
 from __future__ import annotations
 
@@ -14,8 +15,11 @@ WIDTH = 200
 IMPORT = re.compile(r"use Rattle\.([\w.+-]+)\.\{([^}]*)\}")
 GLOB = re.compile(r"(?:unfoldable )?pub use Rattle\.([\w.]+)\.\*")
 PASSED = re.compile(r"(?:unfoldable )?pub use Rattle\.([\w.]+)\.\{([^}]*)\}")
+ALIAS = re.compile(r"pub use Rattle\.(\w+\.\w+) as (\w+)")
 # The file of wasm_base that passes on names of std to its own proofs.
 STD = "wasm_base.proofs.Std"
+# The crate that passes on all libraries.
+WHOLE = "dolzhytik"
 
 
 def split(names: str) -> list[str]:
@@ -46,8 +50,29 @@ class Facades:
         found = (it for line in self.lines(module) if (it := PASSED.fullmatch(line)))
         return {(it[1], name): None for it in found for name in split(it[2])}
 
+    @cache
+    def uses_whole(self, crate: str) -> bool:
+        """Returns whether a crate uses the libraries as one."""
+        file = self.top / "crates.txt"
+        lines = file.read_text(encoding="utf8").split("\n") if file.exists() else []
+        return any(line.split(":")[0].split()[:1] == [crate] and WHOLE in line.partition(":")[2].split() for line in lines)
+
+    @cache
+    def aliases(self) -> dict[str, str]:
+        """Returns by which names the whole passes on the definitions and lemmas of libraries."""
+        lines = [(kind, line) for kind in ("specs", "proofs") for line in self.lines(f"{WHOLE}.{kind}.Lib")]
+        return {found[1]: f"{WHOLE}.{kind}.{found[2]}" for kind, line in lines if (found := ALIAS.fullmatch(line))}
+
     def of(self, crate: str, module: str, name: str) -> str:
         """Returns the module through which proofs of a crate import a name of a module."""
+        found = self.in_library(crate, module, name)
+        library = ".".join(found.split(".")[:2])
+        if self.uses_whole(crate) and library in self.aliases():
+            return self.aliases()[library] + found.removeprefix(library)
+        return found
+
+    def in_library(self, crate: str, module: str, name: str) -> str:
+        """Returns the module of the libraries through which proofs of a crate import a name."""
         home = module.split(".")[0]
         if home == crate:
             return home + ".specs" if module in self.globs(home + ".specs") and not self.lines(f"{home}.specs.{name}") else module

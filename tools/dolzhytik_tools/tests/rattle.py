@@ -2,6 +2,7 @@
 from __future__ import annotations
 
 import pathlib
+import re
 import tempfile
 
 from ..rattle import brackets, facades, items, lexer
@@ -199,6 +200,46 @@ def imports() -> None:
         assert known.of("wasm_base", "wasm_base.specs.Numbers", "minimal") == "wasm_base.specs"
 
 
+WHOLE_IMPORTS = """-- A proof.
+use Rattle.wasm_base.specs.Numbers.{minimal}
+use Rattle.wasm_base.proofs.Words.{sym}
+
+f = refl
+"""
+
+
+def imports_of_the_whole() -> None:
+    """A proof of a crate that uses the libraries as one imports their names through that crate."""
+    with tempfile.TemporaryDirectory() as folder:
+        top = pathlib.Path(folder)
+        for kind in ("specs", "proofs"):
+            file = top / f"crates/dolzhytik/{kind}/Lib.antt"
+            file.parent.mkdir(parents=True, exist_ok=True)
+            file.write_text(f"pub use Rattle.wasm_base.{kind} as base\n", encoding="utf8")
+        (top / "crates.txt").write_text("# A comment.\nmine: dolzhytik\nother: wasm_base\n", encoding="utf8")
+        known = facades.Facades(top)
+        above = ["use Rattle.dolzhytik.specs.base.Numbers.{minimal}", "use Rattle.dolzhytik.proofs.base.Words.{sym}"]
+        assert known.turn("mine", WHOLE_IMPORTS) == "\n".join(["-- A proof.", *above, "", "f = refl", ""])
+        assert known.turn("other", WHOLE_IMPORTS) == WHOLE_IMPORTS
+
+
+EXPORTED = re.compile(r"^pub use (\w+)::(?:\{([^}]*)\}|(\w+));", re.MULTILINE)
+
+
+def exported(path: str) -> set[str]:
+    """Returns the names that a file passes on."""
+    found = EXPORTED.findall(text_of(TOP / "crates" / path))
+    return {name for _, group, one in found for name in facades.split(group) + [one] * bool(one)}
+
+
+def whole() -> None:
+    """The crate `dolzhytik` has all public names of the libraries."""
+    libraries = sorted(it.removesuffix(".specs") for it in facades.Facades(TOP).aliases() if it.endswith(".specs"))
+    named = exported("dolzhytik/src/lib.rt") | exported("dolzhytik/src/reader.rt")
+    public = {name for it in libraries for name in exported(f"{it}/src/lib.rt")}
+    assert named == public, named ^ public
+
+
 def widths() -> None:
     """Imports have at most 200 characters a line, unless one name is longer."""
     names = [f"name{number:03}" for number in range(60)]
@@ -209,4 +250,4 @@ def widths() -> None:
 
 def main() -> int:
     """Runs the tests."""
-    return run_all("rattle-test", [tokens, kinds, all_sources, lists, forms, declarations, functions, blocks, imports, widths])
+    return run_all("rattle-test", [tokens, kinds, all_sources, lists, forms, declarations, functions, blocks, imports, imports_of_the_whole, whole, widths])

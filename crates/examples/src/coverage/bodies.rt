@@ -6,9 +6,9 @@ ghost use Rattle.wasm_base.specs.Numbers.{standard};
 ghost use Rattle.wasm_code.specs.Bodies.{Body, body as body_format};
 ghost use Rattle.wasm_insn.specs.Plain.{instruction};
 ghost use Rattle.wasm_insn.specs.Table.{table};
-ghost use Rattle.examples.specs.Coverage.{counting, covered_body, covered_bodies, AddsBody, EncodeBodies, GainsEncoding, IsJoined, IsMalformed};
+ghost use Rattle.examples.specs.Coverage.{counting, covered_body, covered_bodies, AddsBody, EncodeBodies, GainsEncoding, IsJoined, IsMalformed, IsUnfit};
 
-use super::{CoverageError, refused_at};
+use super::{CoverageError, memory_at};
 use std::alloc::Allocator;
 use wasm_base::Result as Encoded;
 use wasm_code::CodeSection;
@@ -44,12 +44,13 @@ fn covered_body<A: Allocator + Copy>(
 ) -> Result<Vec<u8, A>, CoverageError>
     ensures found { IfOk result (λ new. (x : Body) → body_format standard body.now.bytes x → body_format standard new.items (covered_body counter x)) }
     ensures none { IfErr result (λ e. IsMalformed e → RejectsWhole body_format standard body.now.bytes) }
+    ensures unfit { IfErr result (λ e. IsUnfit e → ⊥) }
 {
     let (_runs, instructions) = body.instructions()?;
     let locals = &body.bytes()[..instructions.offset()];
     match joined(locals, counter, instructions.rest(), alloc) {
         Ok(new) => Ok(new),
-        Err(refused) => Err(refused_at(refused, body.offset())),
+        Err(_) => Err(memory_at(body.offset())),
     }
 }
 
@@ -62,11 +63,12 @@ fn add_covered<A: Allocator + Copy>(
 ) -> Result<(), CoverageError>
     ensures found { OnOk result ((x : Body) → body_format standard body.now.bytes x → AddsBody (covered_body counter x) code.old code.new) }
     ensures none { IfErr result (λ e. IsMalformed e → RejectsWhole body_format standard body.now.bytes) }
+    ensures unfit { IfErr result (λ e. IsUnfit e → ⊥) }
 {
     let new = covered_body(body, counter, alloc)?;
     match code.raw(&new) {
         Ok(()) => Ok(()),
-        Err(refused) => Err(refused_at(refused, body.offset())),
+        Err(_) => Err(memory_at(body.offset())),
     }
 }
 
@@ -79,6 +81,7 @@ pub(super) fn covered_code<A: Allocator + Copy>(
 ) -> Result<CodeSection<A>, CoverageError>
     ensures found { IfOk result (λ code. (bodies : List Body) → vec (size_prefixed body_format) standard section.now.section.payload bodies → EncodeBodies code (covered_bodies first bodies)) }
     ensures none { section.now.section.id ≡ 10 → IfErr result (λ e. IsMalformed e → (bodies : List Body) → vec (size_prefixed body_format) standard section.now.section.payload bodies → ⊥) }
+    ensures unfit { IfErr result (λ e. IsUnfit e → ⊥) }
 {
     let mut bodies = section.bodies()?;
     let mut code = CodeSection::new(alloc);
@@ -91,9 +94,7 @@ pub(super) fn covered_code<A: Allocator + Copy>(
         add_covered(&body, counter, &mut code, alloc)?;
         counter = match counter.checked_add(1) {
             Some(next) => next,
-            None => return Err(CoverageError::TooLong {
-                offset: body.offset(),
-            }),
+            None => return Err(memory_at(body.offset())),
         };
     }
 }

@@ -5,9 +5,9 @@ ghost use Rattle.wasm_base.specs.Formats.{members, u32};
 ghost use Rattle.wasm_base.specs.Numbers.{standard, unsigned_encoding};
 ghost use Rattle.wasm_sections.specs.Exports.{export};
 ghost use Rattle.wasm_sections.specs.Globals.{global_item};
-ghost use Rattle.examples.specs.Coverage.{counter, counter_export, counter_exports, GainsEncoding, IsExtended, IsMalformed};
+ghost use Rattle.examples.specs.Coverage.{counter, counter_export, counter_exports, GainsEncoding, IsExtended, IsMalformed, IsUnfit};
 
-use super::{CoverageError, refused_at};
+use super::{CoverageError, memory_at};
 use std::alloc::Allocator;
 use wasm_base::{
     Encode, Readable, Refused, Result as Encoded, Standard, ValType, encode_size_prefixed,
@@ -109,6 +109,7 @@ pub(super) fn extended<A: Allocator + Copy>(
 ) -> Result<Vec<u8, A>, CoverageError>
     ensures found { IfOk result (λ new. IsExtended section.now.section.payload added items.now new.items) }
     ensures none { IfErr result (λ e. IsMalformed e → Rejects u32 standard section.now.section.payload) }
+    ensures unfit { IfErr result (λ e. IsUnfit e → ⊥) }
 {
     let offset = section.offset();
     let (count, rest) = match <u32 as Readable<'_, A, Standard>>::read(section.payload(), alloc) {
@@ -121,10 +122,10 @@ pub(super) fn extended<A: Allocator + Copy>(
         }
     };
     let Some(count) = count.checked_add(added) else {
-        return Err(CoverageError::TooLong { offset });
+        return Err(memory_at(offset));
     };
     match counted(count, rest, items, alloc) {
         Ok(new) => Ok(new),
-        Err(refused) => Err(refused_at(refused, offset)),
+        Err(_) => Err(memory_at(offset)),
     }
 }

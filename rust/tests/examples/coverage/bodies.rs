@@ -2,7 +2,7 @@
 // Bodies that count their calls.
 
 use dolzhytik::fallible::{Sink, Vec};
-use super::{CoverageError, refused_at};
+use super::{CoverageError, memory_at};
 use dolzhytik::fallible::Allocator;
 use dolzhytik::fallible::Result as Encoded;
 use dolzhytik::fallible::CodeSection;
@@ -45,6 +45,7 @@ fn joined<A: Allocator>(locals: &[u8], counter: u32, code: &[u8], alloc: A) -> E
 /// ```text
 /// ensures found { IfOk result (λ new. (x : Body) → body_format standard body.now.bytes x → body_format standard new.items (covered_body counter x)) }
 /// ensures none { IfErr result (λ e. IsMalformed e → RejectsWhole body_format standard body.now.bytes) }
+/// ensures unfit { IfErr result (λ e. IsUnfit e → ⊥) }
 /// ```
 fn covered_body<A: Allocator + Copy>(
     body: &CodeBody<'_, A>,
@@ -55,7 +56,7 @@ fn covered_body<A: Allocator + Copy>(
     let locals = &body.bytes()[..instructions.offset()];
     match joined(locals, counter, instructions.rest(), alloc) {
         Ok(new) => Ok(new),
-        Err(refused) => Err(refused_at(refused, body.offset())),
+        Err(_) => Err(memory_at(body.offset())),
     }
 }
 
@@ -66,6 +67,7 @@ fn covered_body<A: Allocator + Copy>(
 /// ```text
 /// ensures found { OnOk result ((x : Body) → body_format standard body.now.bytes x → AddsBody (covered_body counter x) code.old code.new) }
 /// ensures none { IfErr result (λ e. IsMalformed e → RejectsWhole body_format standard body.now.bytes) }
+/// ensures unfit { IfErr result (λ e. IsUnfit e → ⊥) }
 /// ```
 fn add_covered<A: Allocator + Copy>(
     body: &CodeBody<'_, A>,
@@ -76,7 +78,7 @@ fn add_covered<A: Allocator + Copy>(
     let new = covered_body(body, counter, alloc)?;
     match code.raw(&new) {
         Ok(()) => Ok(()),
-        Err(refused) => Err(refused_at(refused, body.offset())),
+        Err(_) => Err(memory_at(body.offset())),
     }
 }
 
@@ -88,6 +90,7 @@ fn add_covered<A: Allocator + Copy>(
 /// ```text
 /// ensures found { IfOk result (λ code. (bodies : List Body) → vec (size_prefixed body_format) standard section.now.section.payload bodies → EncodeBodies code (covered_bodies first bodies)) }
 /// ensures none { section.now.section.id ≡ 10 → IfErr result (λ e. IsMalformed e → (bodies : List Body) → vec (size_prefixed body_format) standard section.now.section.payload bodies → ⊥) }
+/// ensures unfit { IfErr result (λ e. IsUnfit e → ⊥) }
 /// ```
 pub(super) fn covered_code<A: Allocator + Copy>(
     section: &Section<'_, A>,
@@ -105,9 +108,7 @@ pub(super) fn covered_code<A: Allocator + Copy>(
         add_covered(&body, counter, &mut code, alloc)?;
         counter = match counter.checked_add(1) {
             Some(next) => next,
-            None => return Err(CoverageError::TooLong {
-                offset: body.offset(),
-            }),
+            None => return Err(memory_at(body.offset())),
         };
     }
 }

@@ -2,7 +2,7 @@
 // Counters and their exports.
 
 use dolzhytik::fallible::{Sink, Vec};
-use super::{CoverageError, refused_at};
+use super::{CoverageError, memory_at};
 use dolzhytik::fallible::Allocator;
 use dolzhytik::fallible::{Encode, Refused, Result as Encoded, ValType, encode_size_prefixed};
 use dolzhytik::reader::{Readable, Standard};
@@ -125,6 +125,7 @@ fn counted<A: Allocator>(count: u32, front: &[u8], back: &[u8], alloc: A) -> Enc
 /// ```text
 /// ensures found { IfOk result (λ new. IsExtended section.now.section.payload added items.now new.items) }
 /// ensures none { IfErr result (λ e. IsMalformed e → Rejects u32 standard section.now.section.payload) }
+/// ensures unfit { IfErr result (λ e. IsUnfit e → ⊥) }
 /// ```
 pub(super) fn extended<A: Allocator + Copy>(
     section: &Section<'_, A>,
@@ -143,10 +144,10 @@ pub(super) fn extended<A: Allocator + Copy>(
         }
     };
     let Some(count) = count.checked_add(added) else {
-        return Err(CoverageError::TooLong { offset });
+        return Err(memory_at(offset));
     };
     match counted(count, rest, items, alloc) {
         Ok(new) => Ok(new),
-        Err(refused) => Err(refused_at(refused, offset)),
+        Err(_) => Err(memory_at(offset)),
     }
 }

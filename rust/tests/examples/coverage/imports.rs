@@ -1,7 +1,7 @@
 // Written by tools/to-rust from crates/examples/src/coverage/imports.rt: change that.
 // The number of imported functions and globals.
 
-use super::CoverageError;
+use super::{CoverageError, memory_at};
 use dolzhytik::fallible::Allocator;
 use dolzhytik::reader::{Items, Section};
 use dolzhytik::fallible::{EntityType, Imports};
@@ -84,6 +84,7 @@ fn imported_by<A: Allocator>(entries: &[Imports<'_, A>], space: Space) -> Option
 /// ```text
 /// ensures found { IsSection section.now.section → section.now.section.id ≡ 2 → IfOk result (λ n. (imports : List ImportItem) × vec import_format standard section.now.section.payload imports × (n ≡ imported space imports)) }
 /// ensures none { IfErr result (λ e. IsMalformed e → RejectsWhole (content (section_kind_of section.now.section)) standard section.now.section.payload) }
+/// ensures unfit { IsSection section.now.section → section.now.section.id ≡ 2 → IfErr result (λ e. IsUnfit e → ⊥) }
 /// ```
 fn imported_in<A: Allocator + Copy>(
     section: &Section<'_, A>,
@@ -93,7 +94,7 @@ fn imported_in<A: Allocator + Copy>(
     match section.items()? {
         Items::Imports(entries) => match imported_by(&entries, space) {
             Some(count) => Ok(count),
-            None => Err(CoverageError::TooLong { offset }),
+            None => Err(memory_at(offset)),
         },
         _ => Err(CoverageError::Misplaced { offset }),
     }
@@ -106,6 +107,7 @@ fn imported_in<A: Allocator + Copy>(
 /// ```text
 /// ensures found { AllByRecursion (λ s. IsSection s.section) sections.now → IfOk result (λ n. (imports : List ImportItem) × AreImports (map row sections.now) imports × (n ≡ imported space imports)) }
 /// ensures none { AllByRecursion (λ s. IsSection s.section) sections.now → IfErr result (λ e. IsMalformed e → AllByRecursion HasDecoding (map row sections.now) → ⊥) }
+/// ensures unfit { AllByRecursion (λ s. IsSection s.section) sections.now → IfErr result (λ e. IsUnfit e → ⊥) }
 /// ```
 pub(super) fn imported<A: Allocator + Copy>(
     sections: &[Section<'_, A>],
@@ -119,9 +121,7 @@ pub(super) fn imported<A: Allocator + Copy>(
         let more = imported_in(section, space)?;
         count = match count.checked_add(more) {
             Some(count) => count,
-            None => return Err(CoverageError::TooLong {
-                offset: section.offset(),
-            }),
+            None => return Err(memory_at(section.offset())),
         };
     }
     Ok(count)

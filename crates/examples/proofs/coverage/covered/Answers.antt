@@ -3,7 +3,7 @@ use Rattle.examples.proofs.coverage.covered.Goals as goal
 
 pub returns-clause-found : goal.returns-clause-found
 returns-clause-found g c =
-    covered_result c.in_ok-sections.ensures.found c.deref.ensures.value c.deref-2.ensures.value c.in_ok-before.ensures.found c.in_ok-between.ensures.found c.in_ok-middle.ensures.found c.in_ok-numbers.ensures.found c.in-Ok.ensures.read c.in_ok-copy_all.ensures.found
+    covered_result c.if-TODO.false c.in_ok-sections.ensures.found c.deref.ensures.value c.deref-2.ensures.value c.in_ok-before.ensures.found c.in_ok-between.ensures.found c.in_ok-middle.ensures.found c.in_ok-numbers.ensures.found c.in-Ok.ensures.read c.in_ok-copy_all.ensures.found
     c.in_ok-add_globals.ensures.found c.in_ok-copy_all-2.ensures.found c.in_ok-add_exports.ensures.found c.in_ok-copy_all-3.ensures.found c.in_ok-add_code.ensures.found c.in_ok-copy_all-4.ensures.found c.finish.ensures
 
 pub returns-in_err-sections-clause-none : goal.returns-in_err-sections-clause-none

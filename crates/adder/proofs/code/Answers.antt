@@ -1,0 +1,6 @@
+-- Written by tools/answers.
+use Rattle.dolzhytik.proofs.code.Words.{new_code, adds_body}
+use Rattle.adder.proofs.code.Goals as goal
+
+pub returns : goal.returns
+returns g c = adds_body (new_code c.new-section.ensures) c.in_ok-function.ensures.ok c.in_ok-sum.ensures

@@ -1,0 +1,7 @@
+// Decodes modules: begin with [`Sections`].
+
+pub use wasm_reader::{
+    Bodies, CodeBody, Items, Listed, ModuleFault, Offsets, Outlined, ReadError, Section,
+    SectionKind, Sections, encode_items, list_module, outline, read_section, shorten,
+    shorten_module,
+};
