@@ -31,7 +31,9 @@ use Rattle.wasm_reader.specs.Words.{Contents, content, number_in, Located, Locat
 use Rattle.wasm_reader.specs.Iterating.{EndsBodies, GivesBody, GivesSection, Iterating, NextBody, Visiting, ahead}
 use Rattle.wasm_reader.proofs.IteratingLaws.{section_ahead}
 use Rattle.wasm_reader.specs.declared.read_error.ReadError.{ReadError}
-use Rattle.wasm_reader.specs.Kinds.{Bodies, Exports, Globals, Imports}
+use Rattle.wasm_reader.specs.Kinds.{Bodies, Exports, Globals, Imports, contents_of}
+use Rattle.wasm_reader.specs.declared.kinds.Items.{Items as ItemsOf}
+use Rattle.wasm_reader.specs.declared.kinds.Items.TheVariants as items
 use Rattle.wasm_reader.specs.Outlines.{IsNameOf, kind_at}
 use Rattle.wasm_reader.specs.Shortening.{contains_offsets}
 use Rattle.wasm_reader.specs.declared.kinds.SectionKind.TheVariants as kinds
@@ -647,6 +649,34 @@ covered_result {bytes = bytes} {before = before} {first_rest = first_rest} {glob
     subst (λ s. IsCovered bytes s) (sym finish)
     (is_covered all_again (subst (λ l. IsSplit 6 l before globals first_rest) (same ∙ sym twice) at_globals) at_exports at_code numbers short exports.0 exports.1 exports.2 empty (b first.0) (g numbers.global_items numbers.globals_read) (w second.0) exports.3 (m third.0) (c numbers.bodies numbers.bodies_read) (a third.2))
 
+-- The parts of a list of sections.
+pub record AreSections (again before between middle after : List Located) (globals exports code : Located) : Type 0 where
+  pub each : AreAll again
+  pub before_are : AreAll before
+  pub between_are : AreAll between
+  pub middle_are : AreAll middle
+  pub after_are : AreAll after
+  pub globals_is : IsSection globals.section
+  pub exports_is : IsSection exports.section
+  pub code_is : IsSection code.section
+
+pub are_sections : {bytes : List ℕ} {found list again before between middle after first_rest second_rest : List Located} {globals exports code : Located} → AreSectionsOf bytes found → list ≡ found → again ≡ found → IsSplit 6 list before globals first_rest
+    → IsSplit 7 first_rest between exports second_rest → IsSplit 10 second_rest middle code after → AreSections again before between middle after globals exports code
+are_sections has same twice at_globals at_exports at_code =
+    let first = all_split (λ s. IsSection s.section) at_globals (subst AreAll (sym same) has.each) in
+    let second = all_split (λ s. IsSection s.section) at_exports first.2 in
+    let third = all_split (λ s. IsSection s.section) at_code second.2 in
+    record {
+      each = subst AreAll (sym twice) has.each;
+      before_are = first.0;
+      between_are = second.0;
+      middle_are = third.0;
+      after_are = third.2;
+      globals_is = first.1;
+      exports_is = second.1;
+      code_is = third.1;
+    }
+
 -- ---- errors
 
 -- The cause of an error implies the same when a call propagates the error.
@@ -660,11 +690,7 @@ read_stays r e h p = error_stays r (errors.Read e) h p
 
 -- The sections of a module that decodes.
 pub record HaveDecodings (sections : List Located) (globals exports code : Located) : Type 0 where
-  pub each : AllByRecursion (λ s. IsSection s.section) sections
   pub decode : AllByRecursion HasDecoding (map row sections)
-  pub globals_is : IsSection globals.section
-  pub exports_is : IsSection exports.section
-  pub code_is : IsSection code.section
   pub globals_decode : HasDecoding (row globals)
   pub exports_decode : HasDecoding (row exports)
   pub code_decodes : HasDecoding (row code)
@@ -673,18 +699,11 @@ pub all_decode : {bytes : List ℕ} {found list again before between middle afte
     → IsDecodable bytes → AreSectionsOf bytes found → list ≡ found → again ≡ found → IsSplit 6 list before globals first_rest → IsSplit 7 first_rest between exports second_rest → IsSplit 10 second_rest middle code after → HaveDecodings again globals exports code
 all_decode {bytes = bytes} {found = found} decodable has same twice at_globals at_exports at_code =
     let decode = subst (λ l. AllByRecursion HasDecoding l) (module_whole.whole padded bytes decodable.sections (map row found) decodable.read has.read) decodable.each in
-    let first = all_split (λ s. IsSection s.section) at_globals (subst AreAll (sym same) has.each) in
-    let second = all_split (λ s. IsSection s.section) at_exports first.2 in
-    let third = all_split (λ s. IsSection s.section) at_code second.2 in
     let one = all_split (λ s. HasDecoding (row s)) at_globals (subst (λ l. AllByRecursion (λ s. HasDecoding (row s)) l) (sym same) (of_images HasDecoding row found decode)) in
     let two = all_split (λ s. HasDecoding (row s)) at_exports one.2 in
     let three = all_split (λ s. HasDecoding (row s)) at_code two.2 in
     record {
-      each = subst AreAll (sym twice) has.each;
       decode = subst (λ l. AllByRecursion HasDecoding (map row l)) (sym twice) decode;
-      globals_is = first.1;
-      exports_is = second.1;
-      code_is = third.1;
       globals_decode = one.1;
       exports_decode = two.1;
       code_decodes = three.1;
@@ -717,19 +736,24 @@ record SameSplit (before again : List (ℕ × List ℕ)) (payload other : List �
   payloads : payload ≡ other
   backs : after ≡ rest
 
+cons_same : {X : Type 0} (x y : X) (xs ys : List X) → x ∷ xs ≡ y ∷ ys → (x ≡ y) × (xs ≡ ys)
+cons_same x y xs ys e = (cc, cc)
+
 split_same : (id : ℕ) (before again : List (ℕ × List ℕ)) {payload other : List ℕ} {after rest : List (ℕ × List ℕ)} → AllByRecursion (λ s. s.0 ≢ id) before → AllByRecursion (λ s. s.0 ≢ id) again
     → before ++ (id, payload) ∷ after ≡ again ++ (id, other) ∷ rest → SameSplit before again payload other after rest
-split_same id [] [] h g e = record { fronts = refl; payloads = cc; backs = cc }
-split_same id [] (s ∷ again) h g e =
-    let is : s ≡ (id, _) = cc in
-    absurd (g.0 (ap (λ t. t.0) is))
-split_same id (s ∷ before) [] h g e =
-    let is : s ≡ (id, _) = cc in
-    absurd (h.0 (ap (λ t. t.0) is))
-split_same id (s ∷ before) (t ∷ again) {after = after} {rest = rest} h g e =
-    let heads : s ≡ t = cc in
-    let tails = split_same id before again {after = after} {rest = rest} h.1 g.1 cc in
-    record { fronts = ap₂ (λ a b. a ∷ b) heads tails.fronts; payloads = tails.payloads; backs = tails.backs }
+split_same id [] [] {payload = payload} {other = other} {after = after} {rest = rest} h g e =
+    let both = cons_same (id, payload) (id, other) after rest e in
+    record { fronts = refl; payloads = ap (λ t. t.1) both.0; backs = both.1 }
+split_same id [] (s ∷ again) {payload = payload} {other = other} {after = after} {rest = rest} h g e =
+    let both = cons_same (id, payload) s after (again ++ (id, other) ∷ rest) e in
+    absurd (g.0 (ap (λ t. t.0) (sym both.0)))
+split_same id (s ∷ before) [] {payload = payload} {other = other} {after = after} {rest = rest} h g e =
+    let both = cons_same s (id, other) (before ++ (id, payload) ∷ after) rest e in
+    absurd (h.0 (ap (λ t. t.0) both.0))
+split_same id (s ∷ before) (t ∷ again) {payload = payload} {other = other} {after = after} {rest = rest} h g e =
+    let both = cons_same s t (before ++ (id, payload) ∷ after) (again ++ (id, other) ∷ rest) e in
+    let tails = split_same id before again h.1 g.1 both.1 in
+    record { fronts = ap₂ (λ a b. a ∷ b) both.0 tails.fronts; payloads = tails.payloads; backs = tails.backs }
 
 -- The rows of a split list of sections, and another split of them.
 rows_same : {id : ℕ} {sections before after : List Located} {found : Located} {again rest : List (ℕ × List ℕ)} {other : List ℕ} → IsSplit id sections before found after → AllByRecursion (λ s. s.0 ≢ id) again
@@ -737,8 +761,8 @@ rows_same : {id : ℕ} {sections before after : List Located} {found : Located} 
 rows_same {id = id} {before = before} {again = again} at none e = split_same id (map row before) again (to_images (λ s. s.0 ≢ id) row before at.first) none (sym (rows_split at) ∙ e)
 
 -- A list with a section of the id.
-some_of : (id : ℕ) {sections : List Located} (before : List (ℕ × List ℕ)) {payload : List ℕ} {after : List (ℕ × List ℕ)} → map row sections ≡ before ++ (id, payload) ∷ after → HasNone id sections → ⊥
-some_of id {sections = sections} before {payload = payload} {after = after} e none =
+some_of : (id : ℕ) (sections : List Located) (before : List (ℕ × List ℕ)) (payload : List ℕ) (after : List (ℕ × List ℕ)) → map row sections ≡ before ++ (id, payload) ∷ after → HasNone id sections → ⊥
+some_of id sections before payload after e none =
     (all_parts (λ s. s.0 ≢ id) before (id, payload) after (subst (AllByRecursion (λ s. s.0 ≢ id)) e (to_images (λ s. s.0 ≢ id) row sections none))).1 refl
 
 -- A section with offsets is not kept.
@@ -746,10 +770,32 @@ pub not_kept : (s : Located) → IsSection s.section → contains_offsets s.sect
 not_kept s is some kept = go s.section.name is.named some
   where
     go : (m : Option (List ℕ)) → IsNameOf s.section.id s.section.payload m → contains_offsets m ≡ true → ⊥
-    go None h f = elim f [ ]
+    go None h f =
+        let both : false ≡ true = f in
+        absurd (cc both)
     go (Some n) h f =
         let both : false ≡ true = sym (kept.no_offsets n h.1 h.0 h.2) ∙ f in
-        elim both [ ]
+        absurd (cc both)
+
+-- Items that are not of exports, and those that are not of imports.
+other_exports : {A : Type 0} (x : ItemsOf A) (xs : List ExportItem) → ((v : _) → x ≡ items.Exports v → ⊥) → contents_of x ≡ Exports xs → ⊥
+other_exports (items.Exports v) xs n e = n v refl
+other_exports x xs n e = absurd (cc e)
+
+other_imports : {A : Type 0} (x : ItemsOf A) (xs : List ImportItem) → ((v : _) → x ≡ items.Imports v → ⊥) → contents_of x ≡ Imports xs → ⊥
+other_imports (items.Imports v) xs n e = n v refl
+other_imports x xs n e = absurd (cc e)
+
+-- A section of exports, and one of imports, has no other items.
+pub exports_else : {A : Type 0} (s : Section) (is : IsSection s) (x : ItemsOf A) → content (section_kind_of s) standard s.payload (contents_of x) → ((v : _) → x ≡ items.Exports v → ⊥) → s.id ≡ 7 → ⊥
+exports_else s is x h n e =
+    let found = exports_in s is (contents_of x) h e in
+    other_exports x found.0 n (sym found.1)
+
+pub imports_else : {A : Type 0} (s : Section) (is : IsSection s) (x : ItemsOf A) → content (section_kind_of s) standard s.payload (contents_of x) → ((v : _) → x ≡ items.Imports v → ⊥) → s.id ≡ 2 → ⊥
+imports_else s is x h n e =
+    let found = imports_in s is (contents_of x) h e in
+    other_imports x found.0 n (sym found.1)
 
 -- The exports of a section that is decoded.
 pub exports_are : (s : Section) (is : IsSection s) (xs : List ExportItem) (x : Contents) → content (section_kind_of s) standard s.payload x → x ≡ Exports xs → has_counter xs ≡ true → s.id ≡ 7 → (exports : List ExportItem) → vec export standard s.payload exports → has_counter exports ≡ true
@@ -763,27 +809,27 @@ module _ {bytes : List ℕ} {found list : List Located} (c : IsCoverable bytes) 
   all_rows = ap (map row) same ∙ sym (module_whole.whole padded bytes (sections_of c.others c.payloads) (map row found) c.read has.read)
 
   pub no_first : HasNone 6 list → ⊥
-  no_first none = some_of 6 c.others.before all_rows none
+  no_first none = some_of 6 list c.others.before _ _ all_rows none
 
   module _ {before first_rest : List Located} {globals : Located} (at_globals : IsSplit 6 list before globals first_rest) where
     first_same : SameSplit (map row before) c.others.before globals.section.payload c.payloads.globals (map row first_rest) (c.others.between ++ (7, c.payloads.exports) ∷ (c.others.middle ++ (10, c.payloads.code) ∷ c.others.after))
     first_same = rows_same at_globals (all_map (λ s k. k.no_globals) c.others.before c.kept.before) all_rows
 
     pub no_second : HasNone 7 first_rest → ⊥
-    no_second none = some_of 7 c.others.between first_same.backs none
+    no_second none = some_of 7 first_rest c.others.between _ _ first_same.backs none
 
     module _ {between second_rest : List Located} {exports : Located} (at_exports : IsSplit 7 first_rest between exports second_rest) where
       second_same : SameSplit (map row between) c.others.between exports.section.payload c.payloads.exports (map row second_rest) (c.others.middle ++ (10, c.payloads.code) ∷ c.others.after)
       second_same = rows_same at_exports (all_map (λ s k. k.no_exports) c.others.between c.kept.between) first_same.backs
 
       pub no_third : HasNone 10 second_rest → ⊥
-      no_third none = some_of 10 c.others.middle second_same.backs none
+      no_third none = some_of 10 second_rest c.others.middle _ _ second_same.backs none
 
       -- The exports have no such names.
       pub not_taken : ((xs : List ExportItem) → vec export standard exports.section.payload xs → has_counter xs ≡ true) → ⊥
       not_taken taken =
           let both : false ≡ true = sym c.new_names ∙ taken c.items.exports (subst (λ p. vec export standard p c.items.exports) (sym second_same.payloads) c.has_items.exports) in
-          elim both [ ]
+          absurd (cc both)
 
       module _ {middle after : List Located} {code : Located} (at_code : IsSplit 10 second_rest middle code after) where
         third_same : SameSplit (map row middle) c.others.middle code.section.payload c.payloads.code (map row after) c.others.after

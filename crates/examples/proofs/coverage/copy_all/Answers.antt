@@ -1,7 +1,7 @@
 use Rattle.wasm_base.proofs.Words.{sym, subst}
 use Rattle.wasm_reader.specs.Words.{IsSection}
-use Rattle.examples.specs.Coverage.{KeepsSections, row}
-use Rattle.examples.proofs.CoverageLaws.{each_at, keeps_more, rows_more}
+use Rattle.examples.specs.Coverage.{IsKept, KeepsSections, row}
+use Rattle.examples.proofs.CoverageLaws.{each_at, keeps_more, of_images, rows_more, unfit_stays}
 use Rattle.examples.proofs.coverage.copy_all.Goals as goal
 
 pub loop-section-preserved : goal.loop-section-preserved
@@ -12,3 +12,11 @@ loop-section-preserved g c = λ each.
     let is = each_at (λ t. IsSection t.section) list i s each c.loop-section-test.true c.section-item.is in
     subst (λ l. KeepsSections l c.args.new.now c.keep.new.new) (sym (rows_more list i s c.loop-section-test.true c.section-item.is))
     (keeps_more _ (row s) (c.loop-section.invariant each) (c.in_ok-keep.ensures.found is))
+
+pub returns-in_err-keep-clause-unfit : goal.returns-in_err-keep-clause-unfit
+returns-in_err-keep-clause-unfit g c = λ each. unfit_stays c.from_residual.result _ c.from_residual.ensures.1 (λ u kept.
+    let s = c.section-item.result in
+    let list = c.args.sections.now in
+    let i = c.loop-section.section-index in
+    let is = each_at (λ t. IsSection t.section) list i s each c.loop-section-test.true c.section-item.is in
+    c.in_err-keep.ensures.unfit is u (each_at (λ t. IsKept (row t)) list i s (of_images IsKept row list kept) c.loop-section-test.true c.section-item.is))

@@ -1,0 +1,10 @@
+use Rattle.wasm_base.proofs.Words.{subst, take_all, ◌∙◌}
+use Rattle.examples.specs.Coverage.{HasNone}
+use Rattle.examples.proofs.CoverageLaws.{none_more_of}
+use Rattle.examples.proofs.coverage.split.Goals as goal
+
+pub loop-at-preserved : goal.loop-at-preserved
+loop-at-preserved g c = none_more_of c.args.id c.args.sections.now c.loop-at.at c.index-sections-at.result c.loop-at-test.true c.index-sections-at.is c.loop-at.invariant (λ e. c.if-id.false (c.id.ensures ∙ e))
+
+pub returns-clause-unfit : goal.returns-clause-unfit
+returns-clause-unfit g c = λ u. subst (HasNone c.args.id) (take_all c.loop-at.at c.args.sections.now c.loop-at-test.false) c.loop-at.invariant
