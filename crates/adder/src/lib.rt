@@ -1,5 +1,4 @@
-//! A module of one exported function, and the proof of what its bytes decode to. The crate uses the
-//! libraries as one.
+//! A module of one exported function.
 #![tactic(auto, using(dolzhytik::proofs::KnownLengths::drained_array))]
 
 ghost use Rattle.std.specs.Prelude.{IfOk, [], ◌∷◌};
