@@ -84,10 +84,27 @@
 //!
 #![doc = include_str!("asks.md")]
 
+// Names that the root or `reader` has too: rustdoc has one page for each, there. The globs below have
+// the same names.
+#[doc(no_inline)]
+pub use crate::reader::{
+    CoreFrame, ElementItem, ElementItemMode, ElementList, GlobalItem, LinkItem, NameItem, Segment,
+    Symbol, TableItem, TypeEntry,
+};
+#[doc(no_inline)]
+pub use crate::{
+    AbstractHeapType, ArrayType, BlockType, BranchHint, CORE_FUNCTION_EXACT_SORT,
+    CORE_FUNCTION_SORT, CORE_GLOBAL_SORT, CORE_MEMORY_SORT, CORE_TABLE_SORT, CORE_TAG_SORT, Catch,
+    ContType, CoreDumpValue, DataCountSection, DataSymbolDefinition, FieldType, GlobalType, Handle,
+    HeapType, Ieee32, Ieee64, Lane, MemArg, MemArgOrdering, MemArgTarget, MemoryType, Ordering,
+    RawCustomSection, RefType, StartSection, StorageType, TableType, ValType, encoding_size,
+};
+
 pub use crate::alloc::*;
 pub use crate::base::*;
 pub use crate::code::*;
 pub use crate::custom::*;
+#[allow(unused_imports)] // Each of its names is above.
 pub use crate::immediates::*;
 pub use crate::insn::*;
 pub use crate::sections::*;

@@ -35,6 +35,10 @@ impl<'a, T, A: Allocator> CowSlice<'a, T, A> {
 impl<'a, T: Copy, A: Allocator + Copy> CowSlice<'a, T, A> {
     /// Returns the same items, and copies owned ones into memory of their own.
     ///
+    /// # Errors
+    ///
+    /// Returns [`Memory`](crate::fallible::Refused::Memory) if an allocation fails.
+    ///
     /// # Proved
     ///
     /// After `Ok`: `same`. In any case: `memory`.
@@ -99,6 +103,10 @@ impl<'a, A: Allocator> CowStr<'a, A> {
 
 impl<'a, A: Allocator + Copy> CowStr<'a, A> {
     /// Returns the same string, and copies an owned one into memory of its own.
+    ///
+    /// # Errors
+    ///
+    /// Returns [`Memory`](crate::fallible::Refused::Memory) if an allocation fails.
     ///
     /// # Proved
     ///

@@ -31,6 +31,12 @@ use crate::base::refused::Result;
 pub trait Encode {
     /// Appends the encoding of the value. On an error, the bytes of the sink are unchanged.
     ///
+    /// # Errors
+    ///
+    /// Returns [`TooLong`](crate::fallible::Refused::TooLong) if a count or length would pass
+    /// 4294967295, and [`Memory`](crate::fallible::Refused::Memory) if an allocation fails. The
+    /// bytes of the sink are then unchanged.
+    ///
     /// # Proved
     ///
     /// After `Ok`: `read`. In any case: `appends`, `too_many`.

@@ -14,6 +14,12 @@ use crate::alloc::Allocator;
 
 /// Appends a size prefix, and reserves spare capacity for the payload that the caller appends next.
 ///
+/// # Errors
+///
+/// Returns [`TooLong`](crate::fallible::Refused::TooLong) if a count or length would pass
+/// 4294967295, and [`Memory`](crate::fallible::Refused::Memory) if an allocation fails. The
+/// bytes of the sink are then unchanged.
+///
 /// # Proved
 ///
 /// After `Ok`: `ok`, `reserved`, `was_encodable`. After an error: `err`. In any case: `too_long`, `too_many`, `spare`, `capacity`.
@@ -45,6 +51,12 @@ pub fn begin_size_prefixed<A: Sink>(sink: &mut A, size: usize) -> Result<()> {
 const SHORT: usize = 0x80;
 
 /// Appends the bytes with their size prefix.
+///
+/// # Errors
+///
+/// Returns [`TooLong`](crate::fallible::Refused::TooLong) if a count or length would pass
+/// 4294967295, and [`Memory`](crate::fallible::Refused::Memory) if an allocation fails. The
+/// bytes of the sink are then unchanged.
 ///
 /// # Proved
 ///
@@ -87,6 +99,12 @@ fn encode_long_payload<A: Sink>(sink: &mut A, bytes: &[u8]) -> Result<()> {
 
 /// Appends a size prefix, then `count`, then the bytes. This is a counted section if the bytes are
 /// the encodings of `count` entries; the call does not check that.
+///
+/// # Errors
+///
+/// Returns [`TooLong`](crate::fallible::Refused::TooLong) if a count or length would pass
+/// 4294967295, and [`Memory`](crate::fallible::Refused::Memory) if an allocation fails. The
+/// bytes of the sink are then unchanged.
 ///
 /// # Proved
 ///
@@ -137,6 +155,12 @@ impl<'a, A: Allocator + Copy, G: Grammar, T: Readable<'a, A, G>> Readable<'a, A,
 
 /// Inserts the size of the bytes from `start` on before them, so that they become a size prefix and
 /// its payload.
+///
+/// # Errors
+///
+/// Returns [`TooLong`](crate::fallible::Refused::TooLong) if a count or length would pass
+/// 4294967295, and [`Memory`](crate::fallible::Refused::Memory) if an allocation fails. The
+/// bytes of the sink are then unchanged.
 ///
 /// # Asks
 ///

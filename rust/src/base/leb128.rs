@@ -18,8 +18,7 @@ const UNSIGNED_LIMIT: u64 = 0x80;
 /// 6 is the sign.
 const SIGNED_LIMIT: u64 = 0x40;
 
-/// Returns the length in bytes of the minimal unsigned encoding of `n`.
-///
+// Returns the length in bytes of the minimal unsigned encoding of `n`.
 /// # Proved
 ///
 /// ```text

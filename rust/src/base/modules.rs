@@ -77,6 +77,10 @@ impl<A: Allocator> Module<A> {
 
     /// Returns a module of the same bytes, in memory of its own.
     ///
+    /// # Errors
+    ///
+    /// Returns [`Memory`](crate::fallible::Refused::Memory) if an allocation fails.
+    ///
     /// # Proved
     ///
     /// After `Ok`: `same`. In any case: `memory`.

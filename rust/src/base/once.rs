@@ -28,6 +28,12 @@ use crate::base::refused::{Refused, Result};
 pub trait EncodeOnce {
     /// Appends an encoding of the value. On an error, the bytes of the sink are unchanged.
     ///
+    /// # Errors
+    ///
+    /// Returns [`TooLong`](crate::fallible::Refused::TooLong) if a count or length would pass
+    /// 4294967295, and [`Memory`](crate::fallible::Refused::Memory) if an allocation fails. The
+    /// bytes of the sink are then unchanged.
+    ///
     /// # Asks
     ///
     /// ```text

@@ -133,6 +133,12 @@ impl<A: Allocator> Pieces<A> {
 
     /// Adds an entry of these bytes.
     ///
+    /// # Errors
+    ///
+    /// Returns [`TooLong`](crate::fallible::Refused::TooLong) if the builder has 4294967295
+    /// entries, and [`Memory`](crate::fallible::Refused::Memory) if an allocation fails. The
+    /// builder is then unchanged.
+    ///
     /// # Proved
     ///
     /// ```text
@@ -153,6 +159,13 @@ impl<A: Allocator> Pieces<A> {
     }
 
     /// Adds the encoding of the item as an entry. It is encoded directly into the buffer.
+    ///
+    /// # Errors
+    ///
+    /// Returns [`TooLong`](crate::fallible::Refused::TooLong) if the builder has 4294967295
+    /// entries, or if a count or length would pass 4294967295, and
+    /// [`Memory`](crate::fallible::Refused::Memory) if an allocation fails. The builder is then
+    /// unchanged.
     ///
     /// # Proved
     ///
@@ -175,6 +188,13 @@ impl<A: Allocator> Pieces<A> {
 
     /// Adds an encoding of the item as an entry, and consumes the item. It is encoded directly into
     /// the buffer.
+    ///
+    /// # Errors
+    ///
+    /// Returns [`TooLong`](crate::fallible::Refused::TooLong) if the builder has 4294967295
+    /// entries, or if a count or length would pass 4294967295, and
+    /// [`Memory`](crate::fallible::Refused::Memory) if an allocation fails. The builder is then
+    /// unchanged.
     ///
     /// # Asks
     ///
@@ -222,6 +242,10 @@ impl<A: Allocator + Copy> Pieces<A> {
     }
 
     /// Returns the same entries, in memory of their own.
+    ///
+    /// # Errors
+    ///
+    /// Returns [`Memory`](crate::fallible::Refused::Memory) if an allocation fails.
     ///
     /// # Proved
     ///

@@ -45,6 +45,12 @@ pub trait Section: Encode {
 
     /// Appends the id and the encoding. On an error, the bytes of `dst` are unchanged.
     ///
+    /// # Errors
+    ///
+    /// Returns [`TooLong`](crate::fallible::Refused::TooLong) if a count or length would pass
+    /// 4294967295, and [`Memory`](crate::fallible::Refused::Memory) if an allocation fails. The
+    /// bytes of the sink are then unchanged.
+    ///
     /// # Proved
     ///
     /// After `Ok`: `read`. In any case: `appends`, `too_many`.

@@ -11,6 +11,11 @@ pub trait Shorten: Layout {
     /// callers use [`append_minimal`](Shorten::append_minimal): after an error of this method,
     /// part of the encoding may be in the sink.
     ///
+    /// # Errors
+    ///
+    /// Returns [`TooLong`](crate::fallible::Refused::TooLong) if a count or length would pass
+    /// 4294967295, and [`Memory`](crate::fallible::Refused::Memory) if an allocation fails.
+    ///
     /// # Proved
     ///
     /// After `Ok`: `ok`. In any case: `front`, `too_long`.
@@ -26,6 +31,12 @@ pub trait Shorten: Layout {
     fn write_minimal<B: Sink>(&self, sink: &mut B) -> Result<()>;
 
     /// Appends the minimal encoding of the value. On an error, the sink is unchanged.
+    ///
+    /// # Errors
+    ///
+    /// Returns [`TooLong`](crate::fallible::Refused::TooLong) if a count or length would pass
+    /// 4294967295, and [`Memory`](crate::fallible::Refused::Memory) if an allocation fails. The
+    /// bytes of the sink are then unchanged.
     ///
     /// # Proved
     ///

@@ -11,8 +11,8 @@ use crate::base::refused::Result;
 use crate::base::shorten::Shorten;
 use crate::alloc::Allocator;
 
-/// The heap types that have a name, as the core specification ("Heap Types") and its proposals
-/// define them.
+// The heap types that have a name, as the core specification ("Heap Types") and its proposals
+// define them.
 #[derive(Clone, Copy, PartialEq, Eq, Hash, Debug)]
 pub enum AbstractHeapType {
     Func = 0x70,
@@ -31,7 +31,7 @@ pub enum AbstractHeapType {
     NoCont = 0x75,
 }
 
-/// The type of the values that a reference refers to.
+// The type of the values that a reference refers to.
 #[derive(Clone, Copy, PartialEq, Eq, Hash, Debug)]
 pub enum HeapType {
     Abstract { shared: bool, ty: AbstractHeapType },
@@ -55,7 +55,7 @@ impl HeapType {
     };
 }
 
-/// A reference type, nullable or not.
+// A reference type, nullable or not.
 #[derive(Clone, Copy, PartialEq, Eq, Hash, Debug)]
 pub struct RefType {
     pub nullable: bool,
@@ -76,7 +76,7 @@ impl RefType {
     };
 }
 
-/// The type of a value: a number, a vector or a reference.
+// The type of a value: a number, a vector or a reference.
 #[derive(Clone, Copy, PartialEq, Eq, Hash, Debug)]
 pub enum ValType {
     I32,

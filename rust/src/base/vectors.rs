@@ -40,6 +40,12 @@ impl<T: Encode> Encode for &[T] {
 /// On an error, the bytes of the sink are unchanged. If the reported length exceeds 4294967295, the
 /// call returns `TooLong`, and requests no element, as tests show.
 ///
+/// # Errors
+///
+/// Returns [`TooLong`](crate::fallible::Refused::TooLong) if a count or length would pass
+/// 4294967295, and [`Memory`](crate::fallible::Refused::Memory) if an allocation fails. The
+/// bytes of the sink are then unchanged.
+///
 /// # Asks
 ///
 /// ```text
@@ -125,6 +131,12 @@ fn write_all<T: Shorten, B: Sink>(items: &[T], sink: &mut B) -> Result<()> {
 
 /// Appends the minimal encodings of the values, one after another. On an error, the sink is
 /// unchanged.
+///
+/// # Errors
+///
+/// Returns [`TooLong`](crate::fallible::Refused::TooLong) if a count or length would pass
+/// 4294967295, and [`Memory`](crate::fallible::Refused::Memory) if an allocation fails. The
+/// bytes of the sink are then unchanged.
 ///
 /// # Proved
 ///

@@ -48,6 +48,10 @@ impl<A: Allocator> ConstExpr<A> {
     /// Returns the expression of these bytes, which should encode instructions. The call does not
     /// check that.
     ///
+    /// # Errors
+    ///
+    /// Returns [`Memory`](crate::fallible::Refused::Memory) if an allocation fails.
+    ///
     /// # Asks
     ///
     /// ```text
@@ -77,6 +81,11 @@ impl<A: Allocator> ConstExpr<A> {
     }
 
     /// Returns the expression of the instructions, one after another.
+    ///
+    /// # Errors
+    ///
+    /// Returns [`TooLong`](crate::fallible::Refused::TooLong) if a count or length would pass
+    /// 4294967295, and [`Memory`](crate::fallible::Refused::Memory) if an allocation fails.
     ///
     /// # Asks
     ///
@@ -136,6 +145,10 @@ impl<A: Allocator> ConstExpr<A> {
 
     /// Returns the expression of `GlobalGet` alone.
     ///
+    /// # Errors
+    ///
+    /// Returns [`Memory`](crate::fallible::Refused::Memory) if an allocation fails.
+    ///
     /// # Proved
     ///
     /// After `Ok`: `stores`. In any case: `memory`.
@@ -152,6 +165,10 @@ impl<A: Allocator> ConstExpr<A> {
     }
 
     /// Returns the expression of `RefNull` alone.
+    ///
+    /// # Errors
+    ///
+    /// Returns [`Memory`](crate::fallible::Refused::Memory) if an allocation fails.
     ///
     /// # Proved
     ///
@@ -170,6 +187,10 @@ impl<A: Allocator> ConstExpr<A> {
 
     /// Returns the expression of `RefFunc` alone.
     ///
+    /// # Errors
+    ///
+    /// Returns [`Memory`](crate::fallible::Refused::Memory) if an allocation fails.
+    ///
     /// # Proved
     ///
     /// After `Ok`: `stores`. In any case: `memory`.
@@ -186,6 +207,10 @@ impl<A: Allocator> ConstExpr<A> {
     }
 
     /// Returns the expression of `I32Const` alone.
+    ///
+    /// # Errors
+    ///
+    /// Returns [`Memory`](crate::fallible::Refused::Memory) if an allocation fails.
     ///
     /// # Proved
     ///
@@ -204,6 +229,10 @@ impl<A: Allocator> ConstExpr<A> {
 
     /// Returns the expression of `I64Const` alone.
     ///
+    /// # Errors
+    ///
+    /// Returns [`Memory`](crate::fallible::Refused::Memory) if an allocation fails.
+    ///
     /// # Proved
     ///
     /// After `Ok`: `stores`. In any case: `memory`.
@@ -220,6 +249,10 @@ impl<A: Allocator> ConstExpr<A> {
     }
 
     /// Returns the expression of `F32Const` alone.
+    ///
+    /// # Errors
+    ///
+    /// Returns [`Memory`](crate::fallible::Refused::Memory) if an allocation fails.
     ///
     /// # Proved
     ///
@@ -238,6 +271,10 @@ impl<A: Allocator> ConstExpr<A> {
 
     /// Returns the expression of `F64Const` alone.
     ///
+    /// # Errors
+    ///
+    /// Returns [`Memory`](crate::fallible::Refused::Memory) if an allocation fails.
+    ///
     /// # Proved
     ///
     /// After `Ok`: `stores`. In any case: `memory`.
@@ -254,6 +291,10 @@ impl<A: Allocator> ConstExpr<A> {
     }
 
     /// Returns the expression of `V128Const` alone.
+    ///
+    /// # Errors
+    ///
+    /// Returns [`Memory`](crate::fallible::Refused::Memory) if an allocation fails.
     ///
     /// # Proved
     ///
@@ -273,6 +314,10 @@ impl<A: Allocator> ConstExpr<A> {
 
     /// Appends `GlobalGet` to the expression.
     ///
+    /// # Errors
+    ///
+    /// Returns [`Memory`](crate::fallible::Refused::Memory) if an allocation fails.
+    ///
     /// # Proved
     ///
     /// After `Ok`: `stores`. In any case: `memory`.
@@ -290,6 +335,10 @@ impl<A: Allocator> ConstExpr<A> {
     }
 
     /// Appends `RefNull` to the expression.
+    ///
+    /// # Errors
+    ///
+    /// Returns [`Memory`](crate::fallible::Refused::Memory) if an allocation fails.
     ///
     /// # Proved
     ///
@@ -309,6 +358,10 @@ impl<A: Allocator> ConstExpr<A> {
 
     /// Appends `RefFunc` to the expression.
     ///
+    /// # Errors
+    ///
+    /// Returns [`Memory`](crate::fallible::Refused::Memory) if an allocation fails.
+    ///
     /// # Proved
     ///
     /// After `Ok`: `stores`. In any case: `memory`.
@@ -326,6 +379,10 @@ impl<A: Allocator> ConstExpr<A> {
     }
 
     /// Appends `I32Const` to the expression.
+    ///
+    /// # Errors
+    ///
+    /// Returns [`Memory`](crate::fallible::Refused::Memory) if an allocation fails.
     ///
     /// # Proved
     ///
@@ -345,6 +402,10 @@ impl<A: Allocator> ConstExpr<A> {
 
     /// Appends `I64Const` to the expression.
     ///
+    /// # Errors
+    ///
+    /// Returns [`Memory`](crate::fallible::Refused::Memory) if an allocation fails.
+    ///
     /// # Proved
     ///
     /// After `Ok`: `stores`. In any case: `memory`.
@@ -362,6 +423,10 @@ impl<A: Allocator> ConstExpr<A> {
     }
 
     /// Appends `F32Const` to the expression.
+    ///
+    /// # Errors
+    ///
+    /// Returns [`Memory`](crate::fallible::Refused::Memory) if an allocation fails.
     ///
     /// # Proved
     ///
@@ -381,6 +446,10 @@ impl<A: Allocator> ConstExpr<A> {
 
     /// Appends `F64Const` to the expression.
     ///
+    /// # Errors
+    ///
+    /// Returns [`Memory`](crate::fallible::Refused::Memory) if an allocation fails.
+    ///
     /// # Proved
     ///
     /// After `Ok`: `stores`. In any case: `memory`.
@@ -398,6 +467,10 @@ impl<A: Allocator> ConstExpr<A> {
     }
 
     /// Appends `V128Const` to the expression.
+    ///
+    /// # Errors
+    ///
+    /// Returns [`Memory`](crate::fallible::Refused::Memory) if an allocation fails.
     ///
     /// # Proved
     ///
@@ -418,6 +491,10 @@ impl<A: Allocator> ConstExpr<A> {
 
     /// Appends `I32Add` to the expression.
     ///
+    /// # Errors
+    ///
+    /// Returns [`Memory`](crate::fallible::Refused::Memory) if an allocation fails.
+    ///
     /// # Proved
     ///
     /// After `Ok`: `stores`. In any case: `memory`.
@@ -435,6 +512,10 @@ impl<A: Allocator> ConstExpr<A> {
     }
 
     /// Appends `I32Sub` to the expression.
+    ///
+    /// # Errors
+    ///
+    /// Returns [`Memory`](crate::fallible::Refused::Memory) if an allocation fails.
     ///
     /// # Proved
     ///
@@ -454,6 +535,10 @@ impl<A: Allocator> ConstExpr<A> {
 
     /// Appends `I32Mul` to the expression.
     ///
+    /// # Errors
+    ///
+    /// Returns [`Memory`](crate::fallible::Refused::Memory) if an allocation fails.
+    ///
     /// # Proved
     ///
     /// After `Ok`: `stores`. In any case: `memory`.
@@ -471,6 +556,10 @@ impl<A: Allocator> ConstExpr<A> {
     }
 
     /// Appends `I64Add` to the expression.
+    ///
+    /// # Errors
+    ///
+    /// Returns [`Memory`](crate::fallible::Refused::Memory) if an allocation fails.
     ///
     /// # Proved
     ///
@@ -490,6 +579,10 @@ impl<A: Allocator> ConstExpr<A> {
 
     /// Appends `I64Sub` to the expression.
     ///
+    /// # Errors
+    ///
+    /// Returns [`Memory`](crate::fallible::Refused::Memory) if an allocation fails.
+    ///
     /// # Proved
     ///
     /// After `Ok`: `stores`. In any case: `memory`.
@@ -507,6 +600,10 @@ impl<A: Allocator> ConstExpr<A> {
     }
 
     /// Appends `I64Mul` to the expression.
+    ///
+    /// # Errors
+    ///
+    /// Returns [`Memory`](crate::fallible::Refused::Memory) if an allocation fails.
     ///
     /// # Proved
     ///
@@ -598,6 +695,10 @@ fn encode_each<T: Encode, I: IntoIterator<Item = T>, A: Sink>(
 
 impl<A: Allocator + Copy> ConstExpr<A> {
     /// Returns the same expression, in memory of its own.
+    ///
+    /// # Errors
+    ///
+    /// Returns [`Memory`](crate::fallible::Refused::Memory) if an allocation fails.
     ///
     /// # Proved
     ///

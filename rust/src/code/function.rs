@@ -40,6 +40,11 @@ impl<A: Allocator> Function<A> {
     /// the length that the locals report exceeds 4294967295, the call returns `TooLong`, and
     /// requests none of them, as tests show.
     ///
+    /// # Errors
+    ///
+    /// Returns [`TooLong`](crate::fallible::Refused::TooLong) if a count or length would pass
+    /// 4294967295, and [`Memory`](crate::fallible::Refused::Memory) if an allocation fails.
+    ///
     /// # Asks
     ///
     /// ```text
@@ -86,6 +91,12 @@ impl<A: Allocator> Function<A> {
 
     /// Appends an instruction.
     ///
+    /// # Errors
+    ///
+    /// Returns [`TooLong`](crate::fallible::Refused::TooLong) if a count or length would pass
+    /// 4294967295, and [`Memory`](crate::fallible::Refused::Memory) if an allocation fails. The
+    /// builder is then unchanged.
+    ///
     /// # Proved
     ///
     /// ```text
@@ -98,6 +109,11 @@ impl<A: Allocator> Function<A> {
     }
 
     /// Appends bytes, which should encode instructions. The call does not check that.
+    ///
+    /// # Errors
+    ///
+    /// Returns [`Memory`](crate::fallible::Refused::Memory) if an allocation fails. The builder
+    /// is then unchanged.
     ///
     /// # Asks
     ///
@@ -159,6 +175,11 @@ impl<A: Allocator + Copy> Function<A> {
     /// Returns a function with locals of these types: `new` of their runs. Neighbours of one type
     /// form one run.
     ///
+    /// # Errors
+    ///
+    /// Returns [`TooLong`](crate::fallible::Refused::TooLong) if a count or length would pass
+    /// 4294967295, and [`Memory`](crate::fallible::Refused::Memory) if an allocation fails.
+    ///
     /// # Asks
     ///
     /// ```text
@@ -184,6 +205,10 @@ impl<A: Allocator + Copy> Function<A> {
     }
 
     /// Returns the same function, in memory of its own.
+    ///
+    /// # Errors
+    ///
+    /// Returns [`Memory`](crate::fallible::Refused::Memory) if an allocation fails.
     ///
     /// # Proved
     ///

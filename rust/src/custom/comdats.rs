@@ -33,6 +33,12 @@ impl<A: Allocator> ComdatSymbols<A> {
     /// Adds a member of this kind, with its index among those of the kind. The kind is 0 for a data
     /// segment, 1 for a function, 2 for a global, 3 for a tag, 4 for a table, and 5 for a section.
     ///
+    /// # Errors
+    ///
+    /// Returns [`TooLong`](crate::fallible::Refused::TooLong) if the builder has 4294967295
+    /// entries, and [`Memory`](crate::fallible::Refused::Memory) if an allocation fails. The
+    /// builder is then unchanged.
+    ///
     /// # Proved
     ///
     /// ```text
@@ -83,6 +89,13 @@ impl ListKind for ComdatMembers {
 
 impl<A: Allocator> Comdats<A> {
     /// Adds a group. In the tool conventions, `flags` are 0.
+    ///
+    /// # Errors
+    ///
+    /// Returns [`TooLong`](crate::fallible::Refused::TooLong) if the builder has 4294967295
+    /// entries, or if a count or length would pass 4294967295, and
+    /// [`Memory`](crate::fallible::Refused::Memory) if an allocation fails. The builder is then
+    /// unchanged.
     ///
     /// # Proved
     ///

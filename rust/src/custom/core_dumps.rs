@@ -35,6 +35,11 @@ pub struct CoreDumpSection<A: Allocator = Global> {
 impl<A: Allocator> CoreDumpSection<A> {
     /// Returns the section of the process of this name.
     ///
+    /// # Errors
+    ///
+    /// Returns [`TooLong`](crate::fallible::Refused::TooLong) if a count or length would pass
+    /// 4294967295, and [`Memory`](crate::fallible::Refused::Memory) if an allocation fails.
+    ///
     /// # Proved
     ///
     /// After `Ok`: `is`, `was_encodable`. In any case: `too_long`.
@@ -53,6 +58,10 @@ impl<A: Allocator> CoreDumpSection<A> {
     }
 
     /// Returns the same section, in memory of its own.
+    ///
+    /// # Errors
+    ///
+    /// Returns [`Memory`](crate::fallible::Refused::Memory) if an allocation fails.
     ///
     /// # Proved
     ///
@@ -175,6 +184,13 @@ impl CustomKind for ModuleItems {
 impl<A: Allocator> CoreDumpModulesSection<A> {
     /// Adds a module.
     ///
+    /// # Errors
+    ///
+    /// Returns [`TooLong`](crate::fallible::Refused::TooLong) if the builder has 4294967295
+    /// entries, or if a count or length would pass 4294967295, and
+    /// [`Memory`](crate::fallible::Refused::Memory) if an allocation fails. The builder is then
+    /// unchanged.
+    ///
     /// # Proved
     ///
     /// ```text
@@ -188,6 +204,10 @@ impl<A: Allocator> CoreDumpModulesSection<A> {
     }
 
     /// Returns the section as a custom section, with its data in memory of their own.
+    ///
+    /// # Errors
+    ///
+    /// Returns [`Memory`](crate::fallible::Refused::Memory) if an allocation fails.
     ///
     /// # Proved
     ///
@@ -268,6 +288,13 @@ impl<A: Allocator> CoreDumpInstancesSection<A> {
     /// Adds an instance of the module, with these memories and globals. If there are too many of
     /// either, it returns `TooLong` and requests none, as tests show.
     ///
+    /// # Errors
+    ///
+    /// Returns [`TooLong`](crate::fallible::Refused::TooLong) if the builder has 4294967295
+    /// entries, or if a count or length would pass 4294967295, and
+    /// [`Memory`](crate::fallible::Refused::Memory) if an allocation fails. The builder is then
+    /// unchanged.
+    ///
     /// # Asks
     ///
     /// ```text
@@ -307,6 +334,10 @@ impl<A: Allocator> CoreDumpInstancesSection<A> {
     }
 
     /// Returns the section as a custom section, with its data in memory of their own.
+    ///
+    /// # Errors
+    ///
+    /// Returns [`Memory`](crate::fallible::Refused::Memory) if an allocation fails.
     ///
     /// # Proved
     ///
@@ -520,6 +551,12 @@ fn write_process<B: Sink>(name: &str, sink: &mut B) -> Result<()> {
 /// Appends the minimal encoding of the payload of the section of this process. On an error, the
 /// sink is unchanged.
 ///
+/// # Errors
+///
+/// Returns [`TooLong`](crate::fallible::Refused::TooLong) if a count or length would pass
+/// 4294967295, and [`Memory`](crate::fallible::Refused::Memory) if an allocation fails. The
+/// bytes of the sink are then unchanged.
+///
 /// # Proved
 ///
 /// After `Ok`: `ok`. After an error: `err`. In any case: `too_long`.
@@ -544,6 +581,12 @@ pub fn append_process<B: Sink>(name: &str, sink: &mut B) -> Result<()> {
 /// Appends the minimal encoding of the payload of a section of these modules. On an error, the sink
 /// is unchanged.
 ///
+/// # Errors
+///
+/// Returns [`TooLong`](crate::fallible::Refused::TooLong) if a count or length would pass
+/// 4294967295, and [`Memory`](crate::fallible::Refused::Memory) if an allocation fails. The
+/// bytes of the sink are then unchanged.
+///
 /// # Proved
 ///
 /// After `Ok`: `ok`. After an error: `err`. In any case: `too_long`.
@@ -564,6 +607,12 @@ pub fn append_modules<B: Sink>(names: &[&str], sink: &mut B) -> Result<()> {
 
 /// Appends the minimal encoding of the payload of a section of these instances. On an error, the
 /// sink is unchanged.
+///
+/// # Errors
+///
+/// Returns [`TooLong`](crate::fallible::Refused::TooLong) if a count or length would pass
+/// 4294967295, and [`Memory`](crate::fallible::Refused::Memory) if an allocation fails. The
+/// bytes of the sink are then unchanged.
 ///
 /// # Proved
 ///

@@ -37,6 +37,11 @@ pub struct CoreDumpStackSection<A: Allocator = Global> {
 impl<A: Allocator + Copy> CoreDumpStackSection<A> {
     /// Returns the stack of the thread of this name, without frames.
     ///
+    /// # Errors
+    ///
+    /// Returns [`TooLong`](crate::fallible::Refused::TooLong) if a count or length would pass
+    /// 4294967295, and [`Memory`](crate::fallible::Refused::Memory) if an allocation fails.
+    ///
     /// # Proved
     ///
     /// After `Ok`: `is`, `was_encodable`. In any case: `too_long`.
@@ -58,6 +63,10 @@ impl<A: Allocator + Copy> CoreDumpStackSection<A> {
     }
 
     /// Returns the same stack, in memory of its own.
+    ///
+    /// # Errors
+    ///
+    /// Returns [`Memory`](crate::fallible::Refused::Memory) if an allocation fails.
     ///
     /// # Proved
     ///
@@ -81,6 +90,13 @@ impl<A: Allocator> CoreDumpStackSection<A> {
     /// Adds a stack frame: its instance and function, the offset in the function, its locals, and
     /// its operand stack. If there are too many values in either list, it returns `TooLong` and
     /// requests none, as tests show.
+    ///
+    /// # Errors
+    ///
+    /// Returns [`TooLong`](crate::fallible::Refused::TooLong) if the builder has 4294967295
+    /// entries, or if a count or length would pass 4294967295, and
+    /// [`Memory`](crate::fallible::Refused::Memory) if an allocation fails. The builder is then
+    /// unchanged.
     ///
     /// # Asks
     ///
@@ -122,6 +138,10 @@ impl<A: Allocator> CoreDumpStackSection<A> {
     }
 
     /// Returns the section as a custom section, with its data in memory of their own.
+    ///
+    /// # Errors
+    ///
+    /// Returns [`Memory`](crate::fallible::Refused::Memory) if an allocation fails.
     ///
     /// # Proved
     ///
@@ -300,6 +320,12 @@ fn write_stack<A: Allocator, B: Sink>(
 
 /// Appends the minimal encoding of the payload of the section of this stack. On an error, the sink
 /// is unchanged.
+///
+/// # Errors
+///
+/// Returns [`TooLong`](crate::fallible::Refused::TooLong) if a count or length would pass
+/// 4294967295, and [`Memory`](crate::fallible::Refused::Memory) if an allocation fails. The
+/// bytes of the sink are then unchanged.
 ///
 /// # Proved
 ///

@@ -6,7 +6,7 @@ use crate::alloc::Allocator;
 use crate::base::{DecodeError, Encode, Grammar, Layout, ReadFault, Readable, Result};
 use crate::immediates::{Ieee32, Ieee64};
 
-/// A value of a local or of the stack, or none if it was optimized away.
+// A value of a local or of the stack, or none if it was optimized away.
 #[derive(Clone, Copy, Debug)]
 pub enum CoreDumpValue {
     Missing,

@@ -38,6 +38,11 @@ pub(crate) trait ItemsAs<T>: CustomKind {
     /// Appends the minimal encoding of the item, if any bytes decode to it. After an error, part of
     /// the encoding may follow the old bytes.
     ///
+    /// # Errors
+    ///
+    /// Returns [`TooLong`](crate::fallible::Refused::TooLong) if a count or length would pass
+    /// 4294967295, and [`Memory`](crate::fallible::Refused::Memory) if an allocation fails.
+    ///
     /// # Proved
     ///
     /// After `Ok`: `ok`. In any case: `front`, `too_long`.

@@ -77,6 +77,10 @@ pub struct CustomSection<'a, A: Allocator = Global> {
 impl<'a, A: Allocator + Copy> CustomSection<'a, A> {
     /// Returns the same name and data, and copies owned ones into memory of their own.
     ///
+    /// # Errors
+    ///
+    /// Returns [`Memory`](crate::fallible::Refused::Memory) if an allocation fails.
+    ///
     /// # Proved
     ///
     /// After `Ok`: `same`. In any case: `memory`.

@@ -30,7 +30,7 @@ pub type BranchHints<A = Global> = CustomEntries<HintItems, A>;
 #[derive(Clone, Copy, Debug)]
 pub struct HintItems;
 
-/// A branch hint: the likely direction of a branch.
+// A branch hint: the likely direction of a branch.
 #[derive(Clone, Copy, Debug)]
 pub struct BranchHint {
     /// The offset of the branch instruction in the raw body of its function, in bytes.
@@ -97,6 +97,13 @@ impl CustomKind for HintItems {
 impl<A: Allocator> BranchHints<A> {
     /// Adds the hints of a function. If there are too many hints, it returns `TooLong` and requests
     /// none, as tests show.
+    ///
+    /// # Errors
+    ///
+    /// Returns [`TooLong`](crate::fallible::Refused::TooLong) if the builder has 4294967295
+    /// entries, or if a count or length would pass 4294967295, and
+    /// [`Memory`](crate::fallible::Refused::Memory) if an allocation fails. The builder is then
+    /// unchanged.
     ///
     /// # Asks
     ///
@@ -242,6 +249,12 @@ pub fn read_hints<'a, A: Allocator + Copy, G: Grammar>(
 
 /// Appends the minimal encoding of the payload of a section of these hints. On an error, the sink
 /// is unchanged.
+///
+/// # Errors
+///
+/// Returns [`TooLong`](crate::fallible::Refused::TooLong) if a count or length would pass
+/// 4294967295, and [`Memory`](crate::fallible::Refused::Memory) if an allocation fails. The
+/// bytes of the sink are then unchanged.
 ///
 /// # Proved
 ///

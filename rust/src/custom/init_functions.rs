@@ -43,6 +43,12 @@ impl ListKind for InitMembers {
 impl<A: Allocator> InitFunctions<A> {
     /// Adds the function of this symbol. Functions of a lower priority are called first.
     ///
+    /// # Errors
+    ///
+    /// Returns [`TooLong`](crate::fallible::Refused::TooLong) if the builder has 4294967295
+    /// entries, and [`Memory`](crate::fallible::Refused::Memory) if an allocation fails. The
+    /// builder is then unchanged.
+    ///
     /// # Proved
     ///
     /// ```text

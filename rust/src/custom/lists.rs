@@ -135,6 +135,10 @@ impl<K: ListKind, A: Allocator + Copy> CountedList<K, A> {
 
     /// Returns a list of the same entries, in memory of its own.
     ///
+    /// # Errors
+    ///
+    /// Returns [`Memory`](crate::fallible::Refused::Memory) if an allocation fails.
+    ///
     /// # Proved
     ///
     /// After `Ok`: `same`. In any case: `memory`.

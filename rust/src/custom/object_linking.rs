@@ -81,6 +81,13 @@ impl CustomKind for ObjectLinkingItems {
 impl<A: Allocator> ObjectLinking<A> {
     /// Adds the segments.
     ///
+    /// # Errors
+    ///
+    /// Returns [`TooLong`](crate::fallible::Refused::TooLong) if the builder has 4294967295
+    /// entries, or if a count or length would pass 4294967295, and
+    /// [`Memory`](crate::fallible::Refused::Memory) if an allocation fails. The builder is then
+    /// unchanged.
+    ///
     /// # Proved
     ///
     /// ```text
@@ -94,6 +101,13 @@ impl<A: Allocator> ObjectLinking<A> {
     }
 
     /// Adds the init functions.
+    ///
+    /// # Errors
+    ///
+    /// Returns [`TooLong`](crate::fallible::Refused::TooLong) if the builder has 4294967295
+    /// entries, or if a count or length would pass 4294967295, and
+    /// [`Memory`](crate::fallible::Refused::Memory) if an allocation fails. The builder is then
+    /// unchanged.
     ///
     /// # Proved
     ///
@@ -109,6 +123,13 @@ impl<A: Allocator> ObjectLinking<A> {
 
     /// Adds the COMDAT groups.
     ///
+    /// # Errors
+    ///
+    /// Returns [`TooLong`](crate::fallible::Refused::TooLong) if the builder has 4294967295
+    /// entries, or if a count or length would pass 4294967295, and
+    /// [`Memory`](crate::fallible::Refused::Memory) if an allocation fails. The builder is then
+    /// unchanged.
+    ///
     /// # Proved
     ///
     /// ```text
@@ -123,6 +144,13 @@ impl<A: Allocator> ObjectLinking<A> {
 
     /// Adds the symbols.
     ///
+    /// # Errors
+    ///
+    /// Returns [`TooLong`](crate::fallible::Refused::TooLong) if the builder has 4294967295
+    /// entries, or if a count or length would pass 4294967295, and
+    /// [`Memory`](crate::fallible::Refused::Memory) if an allocation fails. The builder is then
+    /// unchanged.
+    ///
     /// # Proved
     ///
     /// ```text
@@ -136,6 +164,13 @@ impl<A: Allocator> ObjectLinking<A> {
     }
 
     /// Adds the architecture of the target, which is not in the tool conventions.
+    ///
+    /// # Errors
+    ///
+    /// Returns [`TooLong`](crate::fallible::Refused::TooLong) if the builder has 4294967295
+    /// entries, or if a count or length would pass 4294967295, and
+    /// [`Memory`](crate::fallible::Refused::Memory) if an allocation fails. The builder is then
+    /// unchanged.
     ///
     /// # Proved
     ///

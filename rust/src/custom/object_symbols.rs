@@ -68,6 +68,13 @@ impl<A: Allocator> ObjectSymbols<A> {
     /// Adds a function. A function has a name if it is defined here, or if `flags` say that its
     /// name is explicit. The call does not check that `name` agrees.
     ///
+    /// # Errors
+    ///
+    /// Returns [`TooLong`](crate::fallible::Refused::TooLong) if the builder has 4294967295
+    /// entries, or if a count or length would pass 4294967295, and
+    /// [`Memory`](crate::fallible::Refused::Memory) if an allocation fails. The builder is then
+    /// unchanged.
+    ///
     /// # Proved
     ///
     /// ```text
@@ -82,6 +89,13 @@ impl<A: Allocator> ObjectSymbols<A> {
     }
 
     /// Adds a global. It has a name in the same cases as in `function`.
+    ///
+    /// # Errors
+    ///
+    /// Returns [`TooLong`](crate::fallible::Refused::TooLong) if the builder has 4294967295
+    /// entries, or if a count or length would pass 4294967295, and
+    /// [`Memory`](crate::fallible::Refused::Memory) if an allocation fails. The builder is then
+    /// unchanged.
     ///
     /// # Proved
     ///
@@ -98,6 +112,13 @@ impl<A: Allocator> ObjectSymbols<A> {
 
     /// Adds a tag. It has a name in the same cases as in `function`.
     ///
+    /// # Errors
+    ///
+    /// Returns [`TooLong`](crate::fallible::Refused::TooLong) if the builder has 4294967295
+    /// entries, or if a count or length would pass 4294967295, and
+    /// [`Memory`](crate::fallible::Refused::Memory) if an allocation fails. The builder is then
+    /// unchanged.
+    ///
     /// # Proved
     ///
     /// ```text
@@ -112,6 +133,13 @@ impl<A: Allocator> ObjectSymbols<A> {
     }
 
     /// Adds a table. It has a name in the same cases as in `function`.
+    ///
+    /// # Errors
+    ///
+    /// Returns [`TooLong`](crate::fallible::Refused::TooLong) if the builder has 4294967295
+    /// entries, or if a count or length would pass 4294967295, and
+    /// [`Memory`](crate::fallible::Refused::Memory) if an allocation fails. The builder is then
+    /// unchanged.
     ///
     /// # Proved
     ///
@@ -128,6 +156,13 @@ impl<A: Allocator> ObjectSymbols<A> {
 
     /// Adds data. Data have a definition unless `flags` say that they are undefined. The call does
     /// not check that `definition` agrees.
+    ///
+    /// # Errors
+    ///
+    /// Returns [`TooLong`](crate::fallible::Refused::TooLong) if the builder has 4294967295
+    /// entries, or if a count or length would pass 4294967295, and
+    /// [`Memory`](crate::fallible::Refused::Memory) if an allocation fails. The builder is then
+    /// unchanged.
     ///
     /// # Proved
     ///
@@ -149,6 +184,12 @@ impl<A: Allocator> ObjectSymbols<A> {
     }
 
     /// Adds the section of this index in the module.
+    ///
+    /// # Errors
+    ///
+    /// Returns [`TooLong`](crate::fallible::Refused::TooLong) if the builder has 4294967295
+    /// entries, and [`Memory`](crate::fallible::Refused::Memory) if an allocation fails. The
+    /// builder is then unchanged.
     ///
     /// # Proved
     ///

@@ -34,6 +34,13 @@ impl ListKind for ValueMembers {
 impl<A: Allocator> ProducersField<A> {
     /// Adds a value.
     ///
+    /// # Errors
+    ///
+    /// Returns [`TooLong`](crate::fallible::Refused::TooLong) if the builder has 4294967295
+    /// entries, or if a count or length would pass 4294967295, and
+    /// [`Memory`](crate::fallible::Refused::Memory) if an allocation fails. The builder is then
+    /// unchanged.
+    ///
     /// # Proved
     ///
     /// ```text
@@ -110,6 +117,13 @@ impl CustomKind for ProducerItems {
 
 impl<A: Allocator> ProducersSection<A> {
     /// Adds a field, such as `language`, `processed-by` or `sdk`.
+    ///
+    /// # Errors
+    ///
+    /// Returns [`TooLong`](crate::fallible::Refused::TooLong) if the builder has 4294967295
+    /// entries, or if a count or length would pass 4294967295, and
+    /// [`Memory`](crate::fallible::Refused::Memory) if an allocation fails. The builder is then
+    /// unchanged.
     ///
     /// # Proved
     ///
@@ -194,6 +208,12 @@ pub fn read_producers<'a, A: Allocator + Copy + 'a, G: Grammar>(
 
 /// Appends the minimal encoding of the payload of a producers section of these fields. On an error,
 /// the sink is unchanged.
+///
+/// # Errors
+///
+/// Returns [`TooLong`](crate::fallible::Refused::TooLong) if a count or length would pass
+/// 4294967295, and [`Memory`](crate::fallible::Refused::Memory) if an allocation fails. The
+/// bytes of the sink are then unchanged.
 ///
 /// # Proved
 ///

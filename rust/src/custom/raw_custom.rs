@@ -4,18 +4,12 @@
 use crate::vec::Sink;
 use crate::base::{Encode, Result, Section, SectionId};
 
-/// A custom section of raw bytes, including its size prefix. If they are not a size prefix, a name
-/// and data, then a reader of the module decodes something else there, or fails.
-///
-/// ```
-/// # use dolzhytik::{fallible::*, reader::*};
-/// # fn example(alloc: Global) -> Result<(), Box<dyn std::error::Error>> {
-/// # let mut module = Module::new(alloc)?;
-/// module.section(&RawCustomSection(&[2, 1, b'a']))?;
-/// # Ok(())
-/// # }
-/// # example(Global).unwrap();
-/// ```
+// A custom section of raw bytes, including its size prefix. If they are not a size prefix, a name
+// and data, then a reader of the module decodes something else there, or fails.
+//
+// ```rust
+// module.section(&RawCustomSection(&[2, 1, b'a']))?;
+// ```
 #[derive(Clone, Copy, Debug)]
 pub struct RawCustomSection<'a>(pub &'a [u8]);
 

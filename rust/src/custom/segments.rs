@@ -43,6 +43,13 @@ impl ListKind for SegmentMembers {
 impl<A: Allocator> SegmentInfos<A> {
     /// Adds a segment. Its alignment is 2 to the power `alignment`, in bytes.
     ///
+    /// # Errors
+    ///
+    /// Returns [`TooLong`](crate::fallible::Refused::TooLong) if the builder has 4294967295
+    /// entries, or if a count or length would pass 4294967295, and
+    /// [`Memory`](crate::fallible::Refused::Memory) if an allocation fails. The builder is then
+    /// unchanged.
+    ///
     /// # Proved
     ///
     /// ```text

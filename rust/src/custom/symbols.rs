@@ -42,7 +42,7 @@ impl ListKind for SymbolMembers {
     }
 }
 
-/// The location of the bytes of a data symbol.
+// The location of the bytes of a data symbol.
 #[derive(Clone, Copy, Debug)]
 pub struct DataSymbolDefinition {
     /// The index of the data segment.
@@ -194,6 +194,13 @@ impl<A: Allocator> SymbolTable<A> {
     /// Adds a function. A function has a name if it is defined here, or if `flags` say that its
     /// name is explicit. The call does not check that `name` agrees.
     ///
+    /// # Errors
+    ///
+    /// Returns [`TooLong`](crate::fallible::Refused::TooLong) if the builder has 4294967295
+    /// entries, or if a count or length would pass 4294967295, and
+    /// [`Memory`](crate::fallible::Refused::Memory) if an allocation fails. The builder is then
+    /// unchanged.
+    ///
     /// # Proved
     ///
     /// ```text
@@ -208,6 +215,13 @@ impl<A: Allocator> SymbolTable<A> {
     }
 
     /// Adds a global. It has a name in the same cases as in `function`.
+    ///
+    /// # Errors
+    ///
+    /// Returns [`TooLong`](crate::fallible::Refused::TooLong) if the builder has 4294967295
+    /// entries, or if a count or length would pass 4294967295, and
+    /// [`Memory`](crate::fallible::Refused::Memory) if an allocation fails. The builder is then
+    /// unchanged.
     ///
     /// # Proved
     ///
@@ -224,6 +238,13 @@ impl<A: Allocator> SymbolTable<A> {
 
     /// Adds a table. It has a name in the same cases as in `function`.
     ///
+    /// # Errors
+    ///
+    /// Returns [`TooLong`](crate::fallible::Refused::TooLong) if the builder has 4294967295
+    /// entries, or if a count or length would pass 4294967295, and
+    /// [`Memory`](crate::fallible::Refused::Memory) if an allocation fails. The builder is then
+    /// unchanged.
+    ///
     /// # Proved
     ///
     /// ```text
@@ -239,6 +260,13 @@ impl<A: Allocator> SymbolTable<A> {
 
     /// Adds data. Data have a definition unless `flags` say that they are undefined. The call does
     /// not check that `definition` agrees.
+    ///
+    /// # Errors
+    ///
+    /// Returns [`TooLong`](crate::fallible::Refused::TooLong) if the builder has 4294967295
+    /// entries, or if a count or length would pass 4294967295, and
+    /// [`Memory`](crate::fallible::Refused::Memory) if an allocation fails. The builder is then
+    /// unchanged.
     ///
     /// # Proved
     ///

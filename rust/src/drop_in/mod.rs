@@ -40,48 +40,30 @@ mod values;
 /// The kind byte of functions in the encodings of imports and exports.
 ///
 /// Core specification, Modules, Export Section.
-///
-/// The same constant is in [`fallible`](crate::fallible), whose page says:
-///
 pub use crate::base::CORE_FUNCTION_SORT;
 
 /// The kind byte of functions of exactly one type in the encodings of imports and exports, by the
 /// custom descriptors proposal. [`EntityType::FunctionExact`] is encoded with it.
-///
-/// The same constant is in [`fallible`](crate::fallible), whose page says:
-///
 pub use crate::base::CORE_FUNCTION_EXACT_SORT;
 
 /// The kind byte of globals in the encodings of imports and exports.
 ///
 /// Core specification, Modules, Export Section.
-///
-/// The same constant is in [`fallible`](crate::fallible), whose page says:
-///
 pub use crate::base::CORE_GLOBAL_SORT;
 
 /// The kind byte of memories in the encodings of imports and exports.
 ///
 /// Core specification, Modules, Export Section.
-///
-/// The same constant is in [`fallible`](crate::fallible), whose page says:
-///
 pub use crate::base::CORE_MEMORY_SORT;
 
 /// The kind byte of tables in the encodings of imports and exports.
 ///
 /// Core specification, Modules, Export Section.
-///
-/// The same constant is in [`fallible`](crate::fallible), whose page says:
-///
 pub use crate::base::CORE_TABLE_SORT;
 
 /// The kind byte of tags in the encodings of imports and exports.
 ///
 /// Core specification, Modules, Export Section.
-///
-/// The same constant is in [`fallible`](crate::fallible), whose page says:
-///
 pub use crate::base::CORE_TAG_SORT;
 
 /// An abstract heap type, such as `func` or `any`, which a [`HeapType`] holds.
@@ -99,9 +81,6 @@ pub use crate::base::CORE_TAG_SORT;
 /// // any: 6E.
 /// assert_eq!(bytes, [0x6E]);
 /// ```
-///
-/// The same type is in [`fallible`](crate::fallible), whose page says:
-///
 #[doc(alias = "gc")]
 #[doc(alias = "any")]
 #[doc(alias = "exnref")]
@@ -124,9 +103,6 @@ pub use crate::base::AbstractHeapType;
 /// // ref.null func: D0 70. ref.null of type 64: D0, and 64 as signed LEB128, C0 00.
 /// assert_eq!(bytes, [0xD0, 0x70, 0xD0, 0xC0, 0x00]);
 /// ```
-///
-/// The same type is in [`fallible`](crate::fallible), whose page says:
-///
 pub use crate::base::HeapType;
 
 /// A reference type: the element type of a [`TableType`] and of [`Elements::Expressions`], and a
@@ -146,9 +122,6 @@ pub use crate::base::HeapType;
 /// // funcref: 70. A reference to eq (6D) that is not null: 64 6D.
 /// assert_eq!(bytes, [0x70, 0x64, 0x6D]);
 /// ```
-///
-/// The same type is in [`fallible`](crate::fallible), whose page says:
-///
 #[doc(alias = "reference types")]
 pub use crate::base::RefType;
 
@@ -168,9 +141,6 @@ pub use crate::base::RefType;
 /// // Three types: 7F, 7C, 70.
 /// assert_eq!(bytes, [3, 0x7F, 0x7C, 0x70]);
 /// ```
-///
-/// The same type is in [`fallible`](crate::fallible), whose page says:
-///
 pub use crate::base::ValType;
 
 /// Returns the number of bytes of a number as minimal LEB128, such as a count or a size prefix.
@@ -181,9 +151,6 @@ pub use crate::base::ValType;
 /// // Each byte has seven bits of the number.
 /// assert_eq!([encoding_size(127), encoding_size(128), encoding_size(u32::MAX)], [1, 2, 5]);
 /// ```
-///
-/// The same function is in [`fallible`](crate::fallible), whose page says:
-///
 #[doc(alias = "leb128")]
 pub use crate::base::encoding_size;
 
@@ -193,9 +160,6 @@ pub use crate::base::encoding_size;
 /// The branch hinting proposal defines it.
 ///
 /// [`BranchHints`] has an example.
-///
-/// The same type is in [`fallible`](crate::fallible), whose page says:
-///
 pub use crate::custom::BranchHint;
 
 /// A value in a core dump, which [`CoreDumpStackSection::frame`] takes.
@@ -215,9 +179,6 @@ pub use crate::custom::BranchHint;
 /// // A missing value: 01. An i32, 7F, of value -1 as signed LEB128, 7F.
 /// assert_eq!(bytes, [0x01, 0x7F, 0x7F]);
 /// ```
-///
-/// The same type is in [`fallible`](crate::fallible), whose page says:
-///
 #[doc(alias = "coredump")]
 pub use crate::custom::CoreDumpValue;
 
@@ -227,9 +188,6 @@ pub use crate::custom::CoreDumpValue;
 /// [Linking](https://github.com/WebAssembly/tool-conventions/blob/main/Linking.md).
 ///
 /// [`SymbolTable`] has an example.
-///
-/// The same type is in [`fallible`](crate::fallible), whose page says:
-///
 pub use crate::custom::DataSymbolDefinition;
 
 /// A custom section as it is in a module, size prefix included, which [`Module::section`] copies.
@@ -244,9 +202,6 @@ pub use crate::custom::DataSymbolDefinition;
 /// // Id 0, and the bytes: size 4, a name of one byte, "a", and the data.
 /// assert_eq!(bytes, *b"\0\x04\x01ahi");
 /// ```
-///
-/// The same type is in [`fallible`](crate::fallible), whose page says:
-///
 pub use crate::custom::RawCustomSection;
 
 /// The type of a block: an immediate of `block`, `loop`, `if` and `try_table`, as of
@@ -264,9 +219,6 @@ pub use crate::custom::RawCustomSection;
 /// // Empty: 40. The value type i32: 7F. An index is signed LEB128: 64 is C0 00.
 /// assert_eq!(bytes, [0x40, 0x7F, 0xC0, 0x00]);
 /// ```
-///
-/// The same type is in [`fallible`](crate::fallible), whose page says:
-///
 pub use crate::immediates::BlockType;
 
 /// A catch clause, which [`InstructionSink::try_table`] takes.
@@ -285,9 +237,6 @@ pub use crate::immediates::BlockType;
 /// // try_table: 1F. The empty type: 40. Two clauses: 00, tag 5, label 1; and 02, label 2.
 /// assert_eq!(bytes, [0x1F, 0x40, 2, 0x00, 5, 1, 0x02, 2]);
 /// ```
-///
-/// The same type is in [`fallible`](crate::fallible), whose page says:
-///
 #[doc(alias = "exception handling")]
 pub use crate::immediates::Catch;
 
@@ -307,9 +256,6 @@ pub use crate::immediates::Catch;
 /// // 00, tag 3, label 4; and 01, tag 5.
 /// assert_eq!(bytes, [0x00, 3, 4, 0x01, 5]);
 /// ```
-///
-/// The same type is in [`fallible`](crate::fallible), whose page says:
-///
 #[doc(alias = "continuation")]
 #[doc(alias = "stack switching")]
 pub use crate::immediates::Handle;
@@ -329,9 +275,6 @@ pub use crate::immediates::Handle;
 /// // 1.0: the bits 3F800000, the lowest byte first. A signaling NaN, by its bits.
 /// assert_eq!(bytes, [0, 0, 0x80, 0x3F, 0, 0, 0xA0, 0x7F]);
 /// ```
-///
-/// The same type is in [`fallible`](crate::fallible), whose page says:
-///
 pub use crate::immediates::Ieee32;
 
 /// A float of 64 bits, by its bits, which [`InstructionSink::f64_const`] takes. A NaN keeps its
@@ -348,9 +291,6 @@ pub use crate::immediates::Ieee32;
 /// // The bits 3FF0000000000000, the lowest byte first.
 /// assert_eq!(bytes, [0, 0, 0, 0, 0, 0, 0xF0, 0x3F]);
 /// ```
-///
-/// The same type is in [`fallible`](crate::fallible), whose page says:
-///
 pub use crate::immediates::Ieee64;
 
 /// The index of a lane of a vector, which calls such as [`InstructionSink::i8x16_replace_lane`]
@@ -364,9 +304,6 @@ pub use crate::immediates::Ieee64;
 /// // The opcode, FD 27, and the lane.
 /// assert_eq!(bytes, [0xFD, 27, 3]);
 /// ```
-///
-/// The same type is in [`fallible`](crate::fallible), whose page says:
-///
 #[doc(alias = "simd")]
 pub use crate::immediates::Lane;
 
@@ -390,9 +327,6 @@ pub use crate::immediates::Lane;
 /// // alignment, 42, and its index, 1, before the offset.
 /// assert_eq!(bytes, [0x28, 2, 4, 0x28, 0x42, 1, 4]);
 /// ```
-///
-/// The same type is in [`fallible`](crate::fallible), whose page says:
-///
 #[doc(alias = "memarg")]
 #[doc(alias = "memory64")]
 #[doc(alias = "multi-memory")]
@@ -413,18 +347,12 @@ pub use crate::immediates::MemArg;
 /// // A load or store: 01. A read-modify-write instruction: 11.
 /// assert_eq!(bytes, [0x01, 0x11]);
 /// ```
-///
-/// The same type is in [`fallible`](crate::fallible), whose page says:
-///
 #[doc(alias = "atomic")]
 pub use crate::immediates::MemArgOrdering;
 
 /// The memory or the array type of an access: a field of [`MemArg`].
 ///
 /// [`MemArg`] has an example.
-///
-/// The same type is in [`fallible`](crate::fallible), whose page says:
-///
 pub use crate::immediates::MemArgTarget;
 
 /// The ordering of an atomic instruction, which calls such as [`InstructionSink::atomic_fence`]
@@ -442,9 +370,6 @@ pub use crate::immediates::MemArgTarget;
 /// // 00 and 01.
 /// assert_eq!(bytes, [0x00, 0x01]);
 /// ```
-///
-/// The same type is in [`fallible`](crate::fallible), whose page says:
-///
 #[doc(alias = "atomic")]
 pub use crate::immediates::Ordering;
 
@@ -460,9 +385,6 @@ pub use crate::immediates::Ordering;
 /// // Id 12, size 2, 128 as LEB128.
 /// assert_eq!(bytes, [12, 2, 0x80, 0x01]);
 /// ```
-///
-/// The same type is in [`fallible`](crate::fallible), whose page says:
-///
 #[doc(alias = "bulk memory")]
 pub use crate::sections::DataCountSection;
 
@@ -481,9 +403,6 @@ pub use crate::sections::DataCountSection;
 /// // i64: 7E. Flags: 1 for mutable.
 /// assert_eq!(bytes, [0x7E, 1]);
 /// ```
-///
-/// The same type is in [`fallible`](crate::fallible), whose page says:
-///
 pub use crate::sections::GlobalType;
 
 /// The type of a memory, which [`MemorySection::memory`] takes, and [`EntityType::Memory`] for an
@@ -509,9 +428,6 @@ pub use crate::sections::GlobalType;
 /// // Flags: 1 for a maximum. From 1 to 2 pages.
 /// assert_eq!(bytes, [1, 1, 2]);
 /// ```
-///
-/// The same type is in [`fallible`](crate::fallible), whose page says:
-///
 #[doc(alias = "memory64")]
 #[doc(alias = "custom page sizes")]
 #[doc(alias = "limits")]
@@ -531,9 +447,6 @@ pub use crate::sections::MemoryType;
 /// // Id 8, size 2, 300 as LEB128: 300 = 2 * 128 + 44.
 /// assert_eq!(bytes, [8, 2, 0xAC, 0x02]);
 /// ```
-///
-/// The same type is in [`fallible`](crate::fallible), whose page says:
-///
 pub use crate::sections::StartSection;
 
 /// The type of a table, which [`TableSection::table`] takes, and [`EntityType::Table`] for an
@@ -559,9 +472,6 @@ pub use crate::sections::StartSection;
 /// // funcref: 70. Flags: 4 for indices of 64 bits. At least 3 elements.
 /// assert_eq!(bytes, [0x70, 4, 3]);
 /// ```
-///
-/// The same type is in [`fallible`](crate::fallible), whose page says:
-///
 #[doc(alias = "table64")]
 #[doc(alias = "limits")]
 pub use crate::sections::TableType;
@@ -579,9 +489,6 @@ pub use crate::sections::TableType;
 /// // An array: 5E. i8: 78. Mutable: 01.
 /// assert_eq!(bytes, [0x5E, 0x78, 0x01]);
 /// ```
-///
-/// The same type is in [`fallible`](crate::fallible), whose page says:
-///
 #[doc(alias = "gc")]
 pub use crate::types::ArrayType;
 
@@ -597,9 +504,6 @@ pub use crate::types::ArrayType;
 /// // A continuation: 5D. The index is signed LEB128: 64 is C0 00.
 /// assert_eq!(bytes, [0x5D, 0xC0, 0x00]);
 /// ```
-///
-/// The same type is in [`fallible`](crate::fallible), whose page says:
-///
 #[doc(alias = "stack switching")]
 pub use crate::types::ContType;
 
@@ -617,9 +521,6 @@ pub use crate::types::ContType;
 /// // i16: 77. Immutable: 00.
 /// assert_eq!(bytes, [0x77, 0x00]);
 /// ```
-///
-/// The same type is in [`fallible`](crate::fallible), whose page says:
-///
 #[doc(alias = "gc")]
 pub use crate::types::FieldType;
 
@@ -638,9 +539,6 @@ pub use crate::types::FieldType;
 /// // i8: 78. i32: 7F.
 /// assert_eq!(bytes, [0x78, 0x7F]);
 /// ```
-///
-/// The same type is in [`fallible`](crate::fallible), whose page says:
-///
 #[doc(alias = "gc")]
 #[doc(alias = "packed")]
 pub use crate::types::StorageType;

@@ -5,7 +5,7 @@ use crate::vec::Sink;
 use crate::alloc::Allocator;
 use crate::base::{DecodeError, Encode, Grammar, Layout, Readable, Result, ValType, read_index, read_val_after};
 
-/// The type of a block: its parameters and results.
+// The type of a block: its parameters and results.
 #[derive(Clone, Copy, Debug)]
 pub enum BlockType {
     /// No parameters and no results.

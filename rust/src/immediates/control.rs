@@ -5,7 +5,7 @@ use crate::vec::Sink;
 use crate::alloc::Allocator;
 use crate::base::{DecodeError, Encode, Grammar, Layout, ReadFault, Readable, Result};
 
-/// A clause of `try_table`: the exceptions that it catches, and the label that it then branches to.
+// A clause of `try_table`: the exceptions that it catches, and the label that it then branches to.
 #[derive(Clone, Copy, Debug)]
 pub enum Catch {
     One { tag: u32, label: u32 },
@@ -14,7 +14,7 @@ pub enum Catch {
     AllRef { label: u32 },
 }
 
-/// A clause of `resume` and its variants: the action for a suspension with a tag.
+// A clause of `resume` and its variants: the action for a suspension with a tag.
 #[derive(Clone, Copy, Debug)]
 pub enum Handle {
     OnLabel { tag: u32, label: u32 },

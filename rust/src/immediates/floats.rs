@@ -5,7 +5,7 @@ use crate::vec::Sink;
 use crate::alloc::Allocator;
 use crate::base::{DecodeError, Encode, Grammar, Layout, ReadFault, Readable, Result};
 
-/// A float of 32 bits, as its IEEE 754 bits.
+// A float of 32 bits, as its IEEE 754 bits.
 #[derive(Clone, Copy, PartialEq, Eq, Hash, Debug)]
 pub struct Ieee32 {
     bits: u32,
@@ -56,7 +56,7 @@ impl Encode for Ieee32 {
     }
 }
 
-/// A float of 64 bits, as its IEEE 754 bits.
+// A float of 64 bits, as its IEEE 754 bits.
 #[derive(Clone, Copy, PartialEq, Eq, Hash, Debug)]
 pub struct Ieee64 {
     bits: u64,

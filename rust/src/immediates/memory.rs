@@ -6,10 +6,10 @@ use crate::alloc::Allocator;
 use core::default::Default;
 use crate::base::{DecodeError, Encode, Grammar, Layout, ReadFault, Readable, Result, read_optional};
 
-/// The index of a lane of a vector.
+// The index of a lane of a vector.
 pub type Lane = u8;
 
-/// A memory argument: the location and the ordering of an access.
+// A memory argument: the location and the ordering of an access.
 #[derive(Clone, Copy, Debug)]
 pub struct MemArg {
     /// The constant that is added to the address, in bytes.
@@ -21,7 +21,7 @@ pub struct MemArg {
     pub ordering: Option<MemArgOrdering>,
 }
 
-/// The memory or the array type that is accessed.
+// The memory or the array type that is accessed.
 #[derive(Clone, Copy, PartialEq, Eq, Hash, Debug)]
 pub enum MemArgTarget {
     /// The memory of this index.
@@ -30,14 +30,14 @@ pub enum MemArgTarget {
     Array(u32),
 }
 
-/// The ordering of an access: of a single operation, or of a read-modify-write.
+// The ordering of an access: of a single operation, or of a read-modify-write.
 #[derive(Clone, Copy, PartialEq, Eq, Hash, Debug)]
 pub enum MemArgOrdering {
     Op(Ordering),
     Rmw(Ordering),
 }
 
-/// The ordering of atomic accesses.
+// The ordering of atomic accesses.
 #[derive(Clone, Copy, PartialEq, Eq, Hash, Debug)]
 pub enum Ordering {
     AcqRel = 0x01,

@@ -25,6 +25,12 @@ use crate::immediates::{BlockType, Ieee32, Ieee64, MemArg};
 pub trait Buffer {
     /// Appends the encoding of the value. On an error, the bytes are unchanged.
     ///
+    /// # Errors
+    ///
+    /// Returns [`TooLong`](crate::fallible::Refused::TooLong) if a count or length would pass
+    /// 4294967295, and [`Memory`](crate::fallible::Refused::Memory) if an allocation fails. The
+    /// bytes of the sink are then unchanged.
+    ///
     /// # Proved
     ///
     /// ```text
@@ -39,6 +45,12 @@ pub trait Buffer {
     /// Appends a value, the elements as a vector, and another value. On an error, the bytes are
     /// unchanged. If the length that the elements report exceeds 4294967295, the call returns
     /// `TooLong`; a `Vec` then requests no element, as tests show.
+    ///
+    /// # Errors
+    ///
+    /// Returns [`TooLong`](crate::fallible::Refused::TooLong) if a count or length would pass
+    /// 4294967295, and [`Memory`](crate::fallible::Refused::Memory) if an allocation fails. The
+    /// bytes of the sink are then unchanged.
     ///
     /// # Asks
     ///
@@ -154,6 +166,11 @@ impl<'a, B: Buffer> InstructionSink<'a, B> {
 
     /// Appends an opcode.
     ///
+    /// # Errors
+    ///
+    /// Returns [`Memory`](crate::fallible::Refused::Memory) if an allocation fails. The bytes of
+    /// the sink are then unchanged.
+    ///
     /// # Proved
     ///
     /// ```text
@@ -170,6 +187,11 @@ impl<'a, B: Buffer> InstructionSink<'a, B> {
 
     /// Appends the encoding of `Unreachable`.
     ///
+    /// # Errors
+    ///
+    /// Returns [`Memory`](crate::fallible::Refused::Memory) if an allocation fails. The bytes of
+    /// the sink are then unchanged.
+    ///
     /// # Proved
     ///
     /// ```text
@@ -184,6 +206,11 @@ impl<'a, B: Buffer> InstructionSink<'a, B> {
     }
 
     /// Appends the encoding of `Nop`.
+    ///
+    /// # Errors
+    ///
+    /// Returns [`Memory`](crate::fallible::Refused::Memory) if an allocation fails. The bytes of
+    /// the sink are then unchanged.
     ///
     /// # Proved
     ///
@@ -200,6 +227,11 @@ impl<'a, B: Buffer> InstructionSink<'a, B> {
 
     /// Appends the encoding of `Block`.
     ///
+    /// # Errors
+    ///
+    /// Returns [`Memory`](crate::fallible::Refused::Memory) if an allocation fails. The bytes of
+    /// the sink are then unchanged.
+    ///
     /// # Proved
     ///
     /// ```text
@@ -214,6 +246,11 @@ impl<'a, B: Buffer> InstructionSink<'a, B> {
     }
 
     /// Appends the encoding of `Loop`.
+    ///
+    /// # Errors
+    ///
+    /// Returns [`Memory`](crate::fallible::Refused::Memory) if an allocation fails. The bytes of
+    /// the sink are then unchanged.
     ///
     /// # Proved
     ///
@@ -230,6 +267,11 @@ impl<'a, B: Buffer> InstructionSink<'a, B> {
 
     /// Appends the encoding of `If`.
     ///
+    /// # Errors
+    ///
+    /// Returns [`Memory`](crate::fallible::Refused::Memory) if an allocation fails. The bytes of
+    /// the sink are then unchanged.
+    ///
     /// # Proved
     ///
     /// ```text
@@ -244,6 +286,11 @@ impl<'a, B: Buffer> InstructionSink<'a, B> {
     }
 
     /// Appends the encoding of `Else`.
+    ///
+    /// # Errors
+    ///
+    /// Returns [`Memory`](crate::fallible::Refused::Memory) if an allocation fails. The bytes of
+    /// the sink are then unchanged.
     ///
     /// # Proved
     ///
@@ -260,6 +307,11 @@ impl<'a, B: Buffer> InstructionSink<'a, B> {
 
     /// Appends the encoding of `End`.
     ///
+    /// # Errors
+    ///
+    /// Returns [`Memory`](crate::fallible::Refused::Memory) if an allocation fails. The bytes of
+    /// the sink are then unchanged.
+    ///
     /// # Proved
     ///
     /// ```text
@@ -274,6 +326,11 @@ impl<'a, B: Buffer> InstructionSink<'a, B> {
     }
 
     /// Appends the encoding of `Br`.
+    ///
+    /// # Errors
+    ///
+    /// Returns [`Memory`](crate::fallible::Refused::Memory) if an allocation fails. The bytes of
+    /// the sink are then unchanged.
     ///
     /// # Proved
     ///
@@ -290,6 +347,11 @@ impl<'a, B: Buffer> InstructionSink<'a, B> {
 
     /// Appends the encoding of `BrIf`.
     ///
+    /// # Errors
+    ///
+    /// Returns [`Memory`](crate::fallible::Refused::Memory) if an allocation fails. The bytes of
+    /// the sink are then unchanged.
+    ///
     /// # Proved
     ///
     /// ```text
@@ -304,6 +366,12 @@ impl<'a, B: Buffer> InstructionSink<'a, B> {
     }
 
     /// Appends the encoding of `BrTable`, with these labels and this default label.
+    ///
+    /// # Errors
+    ///
+    /// Returns [`TooLong`](crate::fallible::Refused::TooLong) if a count or length would pass
+    /// 4294967295, and [`Memory`](crate::fallible::Refused::Memory) if an allocation fails. The
+    /// bytes of the sink are then unchanged.
     ///
     /// # Asks
     ///
@@ -333,6 +401,11 @@ impl<'a, B: Buffer> InstructionSink<'a, B> {
 
     /// Appends the encoding of `Return`.
     ///
+    /// # Errors
+    ///
+    /// Returns [`Memory`](crate::fallible::Refused::Memory) if an allocation fails. The bytes of
+    /// the sink are then unchanged.
+    ///
     /// # Proved
     ///
     /// ```text
@@ -348,6 +421,11 @@ impl<'a, B: Buffer> InstructionSink<'a, B> {
 
     /// Appends the encoding of `Call`.
     ///
+    /// # Errors
+    ///
+    /// Returns [`Memory`](crate::fallible::Refused::Memory) if an allocation fails. The bytes of
+    /// the sink are then unchanged.
+    ///
     /// # Proved
     ///
     /// ```text
@@ -362,6 +440,11 @@ impl<'a, B: Buffer> InstructionSink<'a, B> {
     }
 
     /// Appends the encoding of `CallIndirect`.
+    ///
+    /// # Errors
+    ///
+    /// Returns [`Memory`](crate::fallible::Refused::Memory) if an allocation fails. The bytes of
+    /// the sink are then unchanged.
     ///
     /// # Proved
     ///
@@ -379,6 +462,11 @@ impl<'a, B: Buffer> InstructionSink<'a, B> {
 
     /// Appends the encoding of `Drop`.
     ///
+    /// # Errors
+    ///
+    /// Returns [`Memory`](crate::fallible::Refused::Memory) if an allocation fails. The bytes of
+    /// the sink are then unchanged.
+    ///
     /// # Proved
     ///
     /// ```text
@@ -393,6 +481,11 @@ impl<'a, B: Buffer> InstructionSink<'a, B> {
     }
 
     /// Appends the encoding of `Select`.
+    ///
+    /// # Errors
+    ///
+    /// Returns [`Memory`](crate::fallible::Refused::Memory) if an allocation fails. The bytes of
+    /// the sink are then unchanged.
     ///
     /// # Proved
     ///
@@ -409,6 +502,11 @@ impl<'a, B: Buffer> InstructionSink<'a, B> {
 
     /// Appends the encoding of `TypedSelect`.
     ///
+    /// # Errors
+    ///
+    /// Returns [`Memory`](crate::fallible::Refused::Memory) if an allocation fails. The bytes of
+    /// the sink are then unchanged.
+    ///
     /// # Proved
     ///
     /// ```text
@@ -423,6 +521,12 @@ impl<'a, B: Buffer> InstructionSink<'a, B> {
     }
 
     /// Appends the encoding of `TypedSelectMulti`.
+    ///
+    /// # Errors
+    ///
+    /// Returns [`TooLong`](crate::fallible::Refused::TooLong) if a count or length would pass
+    /// 4294967295, and [`Memory`](crate::fallible::Refused::Memory) if an allocation fails. The
+    /// bytes of the sink are then unchanged.
     ///
     /// # Proved
     ///
@@ -440,6 +544,11 @@ impl<'a, B: Buffer> InstructionSink<'a, B> {
 
     /// Appends the encoding of `LocalGet`.
     ///
+    /// # Errors
+    ///
+    /// Returns [`Memory`](crate::fallible::Refused::Memory) if an allocation fails. The bytes of
+    /// the sink are then unchanged.
+    ///
     /// # Proved
     ///
     /// ```text
@@ -454,6 +563,11 @@ impl<'a, B: Buffer> InstructionSink<'a, B> {
     }
 
     /// Appends the encoding of `LocalSet`.
+    ///
+    /// # Errors
+    ///
+    /// Returns [`Memory`](crate::fallible::Refused::Memory) if an allocation fails. The bytes of
+    /// the sink are then unchanged.
     ///
     /// # Proved
     ///
@@ -470,6 +584,11 @@ impl<'a, B: Buffer> InstructionSink<'a, B> {
 
     /// Appends the encoding of `LocalTee`.
     ///
+    /// # Errors
+    ///
+    /// Returns [`Memory`](crate::fallible::Refused::Memory) if an allocation fails. The bytes of
+    /// the sink are then unchanged.
+    ///
     /// # Proved
     ///
     /// ```text
@@ -484,6 +603,11 @@ impl<'a, B: Buffer> InstructionSink<'a, B> {
     }
 
     /// Appends the encoding of `GlobalGet`.
+    ///
+    /// # Errors
+    ///
+    /// Returns [`Memory`](crate::fallible::Refused::Memory) if an allocation fails. The bytes of
+    /// the sink are then unchanged.
     ///
     /// # Proved
     ///
@@ -500,6 +624,11 @@ impl<'a, B: Buffer> InstructionSink<'a, B> {
 
     /// Appends the encoding of `GlobalSet`.
     ///
+    /// # Errors
+    ///
+    /// Returns [`Memory`](crate::fallible::Refused::Memory) if an allocation fails. The bytes of
+    /// the sink are then unchanged.
+    ///
     /// # Proved
     ///
     /// ```text
@@ -514,6 +643,11 @@ impl<'a, B: Buffer> InstructionSink<'a, B> {
     }
 
     /// Appends the encoding of `I32Load`.
+    ///
+    /// # Errors
+    ///
+    /// Returns [`Memory`](crate::fallible::Refused::Memory) if an allocation fails. The bytes of
+    /// the sink are then unchanged.
     ///
     /// # Proved
     ///
@@ -530,6 +664,11 @@ impl<'a, B: Buffer> InstructionSink<'a, B> {
 
     /// Appends the encoding of `I32Store`.
     ///
+    /// # Errors
+    ///
+    /// Returns [`Memory`](crate::fallible::Refused::Memory) if an allocation fails. The bytes of
+    /// the sink are then unchanged.
+    ///
     /// # Proved
     ///
     /// ```text
@@ -544,6 +683,11 @@ impl<'a, B: Buffer> InstructionSink<'a, B> {
     }
 
     /// Appends the encoding of `MemorySize`.
+    ///
+    /// # Errors
+    ///
+    /// Returns [`Memory`](crate::fallible::Refused::Memory) if an allocation fails. The bytes of
+    /// the sink are then unchanged.
     ///
     /// # Proved
     ///
@@ -560,6 +704,11 @@ impl<'a, B: Buffer> InstructionSink<'a, B> {
 
     /// Appends the encoding of `MemoryGrow`.
     ///
+    /// # Errors
+    ///
+    /// Returns [`Memory`](crate::fallible::Refused::Memory) if an allocation fails. The bytes of
+    /// the sink are then unchanged.
+    ///
     /// # Proved
     ///
     /// ```text
@@ -574,6 +723,11 @@ impl<'a, B: Buffer> InstructionSink<'a, B> {
     }
 
     /// Appends the encoding of `I32Const`.
+    ///
+    /// # Errors
+    ///
+    /// Returns [`Memory`](crate::fallible::Refused::Memory) if an allocation fails. The bytes of
+    /// the sink are then unchanged.
     ///
     /// # Proved
     ///
@@ -590,6 +744,11 @@ impl<'a, B: Buffer> InstructionSink<'a, B> {
 
     /// Appends the encoding of `I64Const`.
     ///
+    /// # Errors
+    ///
+    /// Returns [`Memory`](crate::fallible::Refused::Memory) if an allocation fails. The bytes of
+    /// the sink are then unchanged.
+    ///
     /// # Proved
     ///
     /// ```text
@@ -604,6 +763,11 @@ impl<'a, B: Buffer> InstructionSink<'a, B> {
     }
 
     /// Appends the encoding of `F32Const`.
+    ///
+    /// # Errors
+    ///
+    /// Returns [`Memory`](crate::fallible::Refused::Memory) if an allocation fails. The bytes of
+    /// the sink are then unchanged.
     ///
     /// # Proved
     ///
@@ -620,6 +784,11 @@ impl<'a, B: Buffer> InstructionSink<'a, B> {
 
     /// Appends the encoding of `F64Const`.
     ///
+    /// # Errors
+    ///
+    /// Returns [`Memory`](crate::fallible::Refused::Memory) if an allocation fails. The bytes of
+    /// the sink are then unchanged.
+    ///
     /// # Proved
     ///
     /// ```text
@@ -634,6 +803,11 @@ impl<'a, B: Buffer> InstructionSink<'a, B> {
     }
 
     /// Appends the encoding of `V128Const`.
+    ///
+    /// # Errors
+    ///
+    /// Returns [`Memory`](crate::fallible::Refused::Memory) if an allocation fails. The bytes of
+    /// the sink are then unchanged.
     ///
     /// # Proved
     ///
@@ -651,6 +825,11 @@ impl<'a, B: Buffer> InstructionSink<'a, B> {
 
     /// Appends the encoding of `I32Eqz`.
     ///
+    /// # Errors
+    ///
+    /// Returns [`Memory`](crate::fallible::Refused::Memory) if an allocation fails. The bytes of
+    /// the sink are then unchanged.
+    ///
     /// # Proved
     ///
     /// ```text
@@ -665,6 +844,11 @@ impl<'a, B: Buffer> InstructionSink<'a, B> {
     }
 
     /// Appends the encoding of `I32Add`.
+    ///
+    /// # Errors
+    ///
+    /// Returns [`Memory`](crate::fallible::Refused::Memory) if an allocation fails. The bytes of
+    /// the sink are then unchanged.
     ///
     /// # Proved
     ///
@@ -681,6 +865,11 @@ impl<'a, B: Buffer> InstructionSink<'a, B> {
 
     /// Appends the encoding of `I32Sub`.
     ///
+    /// # Errors
+    ///
+    /// Returns [`Memory`](crate::fallible::Refused::Memory) if an allocation fails. The bytes of
+    /// the sink are then unchanged.
+    ///
     /// # Proved
     ///
     /// ```text
@@ -695,6 +884,11 @@ impl<'a, B: Buffer> InstructionSink<'a, B> {
     }
 
     /// Appends the encoding of `I32Mul`.
+    ///
+    /// # Errors
+    ///
+    /// Returns [`Memory`](crate::fallible::Refused::Memory) if an allocation fails. The bytes of
+    /// the sink are then unchanged.
     ///
     /// # Proved
     ///
@@ -711,6 +905,11 @@ impl<'a, B: Buffer> InstructionSink<'a, B> {
 
     /// Appends the encoding of `I64Add`.
     ///
+    /// # Errors
+    ///
+    /// Returns [`Memory`](crate::fallible::Refused::Memory) if an allocation fails. The bytes of
+    /// the sink are then unchanged.
+    ///
     /// # Proved
     ///
     /// ```text
@@ -725,6 +924,11 @@ impl<'a, B: Buffer> InstructionSink<'a, B> {
     }
 
     /// Appends the encoding of `I64Sub`.
+    ///
+    /// # Errors
+    ///
+    /// Returns [`Memory`](crate::fallible::Refused::Memory) if an allocation fails. The bytes of
+    /// the sink are then unchanged.
     ///
     /// # Proved
     ///
@@ -741,6 +945,11 @@ impl<'a, B: Buffer> InstructionSink<'a, B> {
 
     /// Appends the encoding of `I64Mul`.
     ///
+    /// # Errors
+    ///
+    /// Returns [`Memory`](crate::fallible::Refused::Memory) if an allocation fails. The bytes of
+    /// the sink are then unchanged.
+    ///
     /// # Proved
     ///
     /// ```text
@@ -755,6 +964,11 @@ impl<'a, B: Buffer> InstructionSink<'a, B> {
     }
 
     /// Appends the encoding of `RefNull`.
+    ///
+    /// # Errors
+    ///
+    /// Returns [`Memory`](crate::fallible::Refused::Memory) if an allocation fails. The bytes of
+    /// the sink are then unchanged.
     ///
     /// # Proved
     ///
@@ -771,6 +985,11 @@ impl<'a, B: Buffer> InstructionSink<'a, B> {
 
     /// Appends the encoding of `RefIsNull`.
     ///
+    /// # Errors
+    ///
+    /// Returns [`Memory`](crate::fallible::Refused::Memory) if an allocation fails. The bytes of
+    /// the sink are then unchanged.
+    ///
     /// # Proved
     ///
     /// ```text
@@ -785,6 +1004,11 @@ impl<'a, B: Buffer> InstructionSink<'a, B> {
     }
 
     /// Appends the encoding of `RefFunc`.
+    ///
+    /// # Errors
+    ///
+    /// Returns [`Memory`](crate::fallible::Refused::Memory) if an allocation fails. The bytes of
+    /// the sink are then unchanged.
     ///
     /// # Proved
     ///

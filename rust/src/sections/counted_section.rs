@@ -151,6 +151,10 @@ impl<K, A: Allocator + Copy> CountedSection<K, A> {
 
     /// Returns a section of the same entries, in memory of its own.
     ///
+    /// # Errors
+    ///
+    /// Returns [`Memory`](crate::fallible::Refused::Memory) if an allocation fails.
+    ///
     /// # Proved
     ///
     /// After `Ok`: `same`. In any case: `memory`.

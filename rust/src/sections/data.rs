@@ -51,6 +51,10 @@ pub struct DataSegment<'a, D, A: Allocator = Global> {
 impl<'a, A: Allocator> DataSegmentMode<'a, A> {
     /// Returns the same mode.
     ///
+    /// # Errors
+    ///
+    /// Returns [`Memory`](crate::fallible::Refused::Memory) if an allocation fails.
+    ///
     /// # Proved
     ///
     /// After `Ok`: `same`. In any case: `memory`.
@@ -77,6 +81,10 @@ impl<'a, A: Allocator> DataSegmentMode<'a, A> {
 
 impl<'a, D: Clone, A: Allocator> DataSegment<'a, D, A> {
     /// Returns the same segment: its mode, and a clone of its bytes.
+    ///
+    /// # Errors
+    ///
+    /// Returns [`Memory`](crate::fallible::Refused::Memory) if an allocation fails.
     ///
     /// # Proved
     ///
@@ -129,6 +137,13 @@ impl<A: Allocator> DataSection<A> {
     /// Adds a segment. If there are too many bytes, it returns `TooLong` and requests none, as
     /// tests show.
     ///
+    /// # Errors
+    ///
+    /// Returns [`TooLong`](crate::fallible::Refused::TooLong) if the builder has 4294967295
+    /// entries, or if a count or length would pass 4294967295, and
+    /// [`Memory`](crate::fallible::Refused::Memory) if an allocation fails. The builder is then
+    /// unchanged.
+    ///
     /// # Asks
     ///
     /// ```text
@@ -166,6 +181,13 @@ impl<A: Allocator> DataSection<A> {
     /// Adds a segment whose bytes are copied to this memory when the module is instantiated. If
     /// there are too many bytes, it returns `TooLong`.
     ///
+    /// # Errors
+    ///
+    /// Returns [`TooLong`](crate::fallible::Refused::TooLong) if the builder has 4294967295
+    /// entries, or if a count or length would pass 4294967295, and
+    /// [`Memory`](crate::fallible::Refused::Memory) if an allocation fails. The builder is then
+    /// unchanged.
+    ///
     /// # Asks
     ///
     /// ```text
@@ -202,6 +224,13 @@ impl<A: Allocator> DataSection<A> {
     /// Adds a segment whose bytes are copied to a memory by an instruction. If there are too many
     /// bytes, it returns `TooLong`.
     ///
+    /// # Errors
+    ///
+    /// Returns [`TooLong`](crate::fallible::Refused::TooLong) if the builder has 4294967295
+    /// entries, or if a count or length would pass 4294967295, and
+    /// [`Memory`](crate::fallible::Refused::Memory) if an allocation fails. The builder is then
+    /// unchanged.
+    ///
     /// # Asks
     ///
     /// ```text
@@ -227,6 +256,12 @@ impl<A: Allocator> DataSection<A> {
     }
 
     /// Adds a segment that is already encoded. The call does not check that it is one.
+    ///
+    /// # Errors
+    ///
+    /// Returns [`TooLong`](crate::fallible::Refused::TooLong) if the builder has 4294967295
+    /// entries, and [`Memory`](crate::fallible::Refused::Memory) if an allocation fails. The
+    /// builder is then unchanged.
     ///
     /// # Proved
     ///

@@ -88,6 +88,10 @@ fn clone_each<A: Allocator + Copy>(
 impl<'a, A: Allocator + Copy> Elements<'a, A> {
     /// Returns the same references, and copies owned ones into memory of their own.
     ///
+    /// # Errors
+    ///
+    /// Returns [`Memory`](crate::fallible::Refused::Memory) if an allocation fails.
+    ///
     /// # Proved
     ///
     /// After `Ok`: `same`. In any case: `memory`.
@@ -116,6 +120,10 @@ impl<'a, A: Allocator + Copy> Elements<'a, A> {
 impl<'a, A: Allocator> ElementMode<'a, A> {
     /// Returns the same mode.
     ///
+    /// # Errors
+    ///
+    /// Returns [`Memory`](crate::fallible::Refused::Memory) if an allocation fails.
+    ///
     /// # Proved
     ///
     /// After `Ok`: `same`. In any case: `memory`.
@@ -140,6 +148,10 @@ impl<'a, A: Allocator> ElementMode<'a, A> {
 
 impl<'a, A: Allocator + Copy> ElementSegment<'a, A> {
     /// Returns the same segment, and copies owned references into memory of their own.
+    ///
+    /// # Errors
+    ///
+    /// Returns [`Memory`](crate::fallible::Refused::Memory) if an allocation fails.
     ///
     /// # Proved
     ///
@@ -340,6 +352,13 @@ impl ItemKind for ElementItems {
 impl<A: Allocator> ElementSection<A> {
     /// Adds a segment.
     ///
+    /// # Errors
+    ///
+    /// Returns [`TooLong`](crate::fallible::Refused::TooLong) if the builder has 4294967295
+    /// entries, or if a count or length would pass 4294967295, and
+    /// [`Memory`](crate::fallible::Refused::Memory) if an allocation fails. The builder is then
+    /// unchanged.
+    ///
     /// # Proved
     ///
     /// ```text
@@ -353,6 +372,13 @@ impl<A: Allocator> ElementSection<A> {
     }
 
     /// Adds a segment whose references are copied to this table when the module is instantiated.
+    ///
+    /// # Errors
+    ///
+    /// Returns [`TooLong`](crate::fallible::Refused::TooLong) if the builder has 4294967295
+    /// entries, or if a count or length would pass 4294967295, and
+    /// [`Memory`](crate::fallible::Refused::Memory) if an allocation fails. The builder is then
+    /// unchanged.
     ///
     /// # Proved
     ///
@@ -377,6 +403,13 @@ impl<A: Allocator> ElementSection<A> {
 
     /// Adds a segment whose references are copied to a table by an instruction.
     ///
+    /// # Errors
+    ///
+    /// Returns [`TooLong`](crate::fallible::Refused::TooLong) if the builder has 4294967295
+    /// entries, or if a count or length would pass 4294967295, and
+    /// [`Memory`](crate::fallible::Refused::Memory) if an allocation fails. The builder is then
+    /// unchanged.
+    ///
     /// # Proved
     ///
     /// ```text
@@ -395,6 +428,13 @@ impl<A: Allocator> ElementSection<A> {
 
     /// Adds a segment that declares that code may refer to its functions.
     ///
+    /// # Errors
+    ///
+    /// Returns [`TooLong`](crate::fallible::Refused::TooLong) if the builder has 4294967295
+    /// entries, or if a count or length would pass 4294967295, and
+    /// [`Memory`](crate::fallible::Refused::Memory) if an allocation fails. The builder is then
+    /// unchanged.
+    ///
     /// # Proved
     ///
     /// ```text
@@ -412,6 +452,12 @@ impl<A: Allocator> ElementSection<A> {
     }
 
     /// Adds a segment that is already encoded. The call does not check that it is one.
+    ///
+    /// # Errors
+    ///
+    /// Returns [`TooLong`](crate::fallible::Refused::TooLong) if the builder has 4294967295
+    /// entries, and [`Memory`](crate::fallible::Refused::Memory) if an allocation fails. The
+    /// builder is then unchanged.
     ///
     /// # Proved
     ///

@@ -108,6 +108,13 @@ impl RecordOf<ExportItems> for Export<'_> {}
 impl<A: Allocator> ExportSection<A> {
     /// Adds an export.
     ///
+    /// # Errors
+    ///
+    /// Returns [`TooLong`](crate::fallible::Refused::TooLong) if the builder has 4294967295
+    /// entries, or if a count or length would pass 4294967295, and
+    /// [`Memory`](crate::fallible::Refused::Memory) if an allocation fails. The builder is then
+    /// unchanged.
+    ///
     /// # Proved
     ///
     /// ```text

@@ -86,6 +86,12 @@ impl Encode for TypeIndex {
 impl<A: Allocator> FunctionSection<A> {
     /// Adds a function of the type of this index.
     ///
+    /// # Errors
+    ///
+    /// Returns [`TooLong`](crate::fallible::Refused::TooLong) if the builder has 4294967295
+    /// entries, and [`Memory`](crate::fallible::Refused::Memory) if an allocation fails. The
+    /// builder is then unchanged.
+    ///
     /// # Proved
     ///
     /// ```text

@@ -28,7 +28,7 @@ pub type GlobalSection<A = Global> = CountedSection<GlobalItems, A>;
 #[derive(Clone, Copy, Debug)]
 pub struct GlobalItems;
 
-/// The type of a global.
+// The type of a global.
 #[derive(Clone, Copy, PartialEq, Eq, Hash, Debug)]
 pub struct GlobalType {
     pub val_type: ValType,
@@ -100,6 +100,12 @@ impl ItemKind for GlobalItems {
 impl<A: Allocator> GlobalSection<A> {
     /// Adds a global of this type, initialized by the expression.
     ///
+    /// # Errors
+    ///
+    /// Returns [`TooLong`](crate::fallible::Refused::TooLong) if the builder has 4294967295
+    /// entries, and [`Memory`](crate::fallible::Refused::Memory) if an allocation fails. The
+    /// builder is then unchanged.
+    ///
     /// # Proved
     ///
     /// ```text
@@ -117,6 +123,12 @@ impl<A: Allocator> GlobalSection<A> {
     }
 
     /// Adds a global that is already encoded. The call does not check that it is one.
+    ///
+    /// # Errors
+    ///
+    /// Returns [`TooLong`](crate::fallible::Refused::TooLong) if the builder has 4294967295
+    /// entries, and [`Memory`](crate::fallible::Refused::Memory) if an allocation fails. The
+    /// builder is then unchanged.
     ///
     /// # Proved
     ///

@@ -155,6 +155,10 @@ pub enum Imports<'a, A: Allocator = Global> {
 impl<A: Allocator + Copy> Imports<'_, A> {
     /// Returns the same imports, and copies an owned list.
     ///
+    /// # Errors
+    ///
+    /// Returns [`Memory`](crate::fallible::Refused::Memory) if an allocation fails.
+    ///
     /// # Proved
     ///
     /// After `Ok`: `same`. In any case: `memory`.
@@ -272,6 +276,13 @@ impl RecordOf<ImportItems> for Import<'_> {}
 impl<A: Allocator> ImportSection<A> {
     /// Adds an import.
     ///
+    /// # Errors
+    ///
+    /// Returns [`TooLong`](crate::fallible::Refused::TooLong) if the builder has 4294967295
+    /// entries, or if a count or length would pass 4294967295, and
+    /// [`Memory`](crate::fallible::Refused::Memory) if an allocation fails. The builder is then
+    /// unchanged.
+    ///
     /// # Proved
     ///
     /// ```text
@@ -287,6 +298,13 @@ impl<A: Allocator> ImportSection<A> {
     }
 
     /// Adds an import or a group of imports, as one entry.
+    ///
+    /// # Errors
+    ///
+    /// Returns [`TooLong`](crate::fallible::Refused::TooLong) if the builder has 4294967295
+    /// entries, or if a count or length would pass 4294967295, and
+    /// [`Memory`](crate::fallible::Refused::Memory) if an allocation fails. The builder is then
+    /// unchanged.
     ///
     /// # Proved
     ///
@@ -500,6 +518,12 @@ fn write_imports<A: Allocator, B: Sink>(
 
 /// Appends the minimal encoding of imports and groups of imports, after their count. On an error,
 /// the sink is unchanged.
+///
+/// # Errors
+///
+/// Returns [`TooLong`](crate::fallible::Refused::TooLong) if a count or length would pass
+/// 4294967295, and [`Memory`](crate::fallible::Refused::Memory) if an allocation fails. The
+/// bytes of the sink are then unchanged.
 ///
 /// # Proved
 ///

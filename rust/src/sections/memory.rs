@@ -26,7 +26,7 @@ pub type MemorySection<A = Global> = CountedSection<MemoryItems, A>;
 #[derive(Clone, Copy, Debug)]
 pub struct MemoryItems;
 
-/// The type of a memory. Sizes are in pages.
+// The type of a memory. Sizes are in pages.
 #[derive(Clone, Copy, PartialEq, Eq, Hash, Debug)]
 pub struct MemoryType {
     pub minimum: u64,
@@ -145,6 +145,12 @@ impl RecordOf<MemoryItems> for MemoryType {}
 
 impl<A: Allocator> MemorySection<A> {
     /// Adds a memory of this type.
+    ///
+    /// # Errors
+    ///
+    /// Returns [`TooLong`](crate::fallible::Refused::TooLong) if the builder has 4294967295
+    /// entries, and [`Memory`](crate::fallible::Refused::Memory) if an allocation fails. The
+    /// builder is then unchanged.
     ///
     /// # Proved
     ///

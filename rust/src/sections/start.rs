@@ -4,36 +4,23 @@
 use crate::vec::Sink;
 use crate::base::{Encode, Result, Section, SectionId, begin_size_prefixed, encoding_size};
 
-/// The start section: the function that runs when a module is instantiated.
-///
-/// ```
-/// # use dolzhytik::{fallible::*, reader::*};
-/// # fn example(alloc: Global) -> Result<(), Box<dyn std::error::Error>> {
-/// # let mut module = Module::new(alloc)?;
-/// module.section(&StartSection { function_index: 0 })?;
-/// # Ok(())
-/// # }
-/// # example(Global).unwrap();
-/// ```
+// The start section: the function that runs when a module is instantiated.
+//
+// ```rust
+// module.section(&StartSection { function_index: 0 })?;
+// ```
 #[derive(Clone, Copy, Debug)]
 pub struct StartSection {
     pub function_index: u32,
 }
 
-/// The data count section: the number of data segments. It belongs before the code that refers to
-/// them.
-///
-/// ```
-/// # use dolzhytik::{fallible::*, reader::*};
-/// # fn example(alloc: Global) -> Result<(), Box<dyn std::error::Error>> {
-/// # let mut module = Module::new(alloc)?;
-/// # let mut code = CodeSection::new(alloc);
-/// module.section(&DataCountSection { count: 1 })?;
-/// module.section(&code)?;
-/// # Ok(())
-/// # }
-/// # example(Global).unwrap();
-/// ```
+// The data count section: the number of data segments. It belongs before the code that refers to
+// them.
+//
+// ```rust
+// module.section(&DataCountSection { count: 1 })?;
+// module.section(&code)?;
+// ```
 #[derive(Clone, Copy, Debug)]
 pub struct DataCountSection {
     pub count: u32,

@@ -30,7 +30,7 @@ pub type TableSection<A = Global> = CountedSection<TableItems, A>;
 #[derive(Clone, Copy, Debug)]
 pub struct TableItems;
 
-/// The type of a table. Sizes are in elements.
+// The type of a table. Sizes are in elements.
 #[derive(Clone, Copy, PartialEq, Eq, Hash, Debug)]
 pub struct TableType {
     pub element_type: RefType,
@@ -127,6 +127,12 @@ impl RecordOf<TableItems> for TableType {}
 impl<A: Allocator> TableSection<A> {
     /// Adds a table of this type, whose elements are initially null.
     ///
+    /// # Errors
+    ///
+    /// Returns [`TooLong`](crate::fallible::Refused::TooLong) if the builder has 4294967295
+    /// entries, and [`Memory`](crate::fallible::Refused::Memory) if an allocation fails. The
+    /// builder is then unchanged.
+    ///
     /// # Proved
     ///
     /// ```text
@@ -139,6 +145,13 @@ impl<A: Allocator> TableSection<A> {
     }
 
     /// Adds a table of this type, whose elements are initialized by the expression.
+    ///
+    /// # Errors
+    ///
+    /// Returns [`TooLong`](crate::fallible::Refused::TooLong) if the builder has 4294967295
+    /// entries, or if a count or length would pass 4294967295, and
+    /// [`Memory`](crate::fallible::Refused::Memory) if an allocation fails. The builder is then
+    /// unchanged.
     ///
     /// # Proved
     ///

@@ -105,6 +105,12 @@ impl RecordOf<TagItems> for TagType {}
 impl<A: Allocator> TagSection<A> {
     /// Adds a tag of this type.
     ///
+    /// # Errors
+    ///
+    /// Returns [`TooLong`](crate::fallible::Refused::TooLong) if the builder has 4294967295
+    /// entries, and [`Memory`](crate::fallible::Refused::Memory) if an allocation fails. The
+    /// builder is then unchanged.
+    ///
     /// # Proved
     ///
     /// ```text

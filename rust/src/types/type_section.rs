@@ -90,6 +90,12 @@ impl<A: Allocator> TypeSection<A> {
     /// Adds an entry that is already encoded. The call does not check that it is a type or a
     /// recursion group.
     ///
+    /// # Errors
+    ///
+    /// Returns [`TooLong`](crate::fallible::Refused::TooLong) if the builder has 4294967295
+    /// entries, and [`Memory`](crate::fallible::Refused::Memory) if an allocation fails. The
+    /// builder is then unchanged.
+    ///
     /// # Proved
     ///
     /// ```text
@@ -133,6 +139,10 @@ impl<A: Allocator + Copy> TypeSection<A> {
     }
 
     /// Returns a section of the same entries, in memory of its own.
+    ///
+    /// # Errors
+    ///
+    /// Returns [`Memory`](crate::fallible::Refused::Memory) if an allocation fails.
     ///
     /// # Proved
     ///
@@ -219,6 +229,13 @@ pub struct CoreTypeEncoder<'a, A: Allocator = Global> {
 impl<'a, A: Allocator> CoreTypeEncoder<'a, A> {
     /// Adds a function type.
     ///
+    /// # Errors
+    ///
+    /// Returns [`TooLong`](crate::fallible::Refused::TooLong) if the builder has 4294967295
+    /// entries, or if a count or length would pass 4294967295, and
+    /// [`Memory`](crate::fallible::Refused::Memory) if an allocation fails. The builder is then
+    /// unchanged.
+    ///
     /// # Proved
     ///
     /// ```text
@@ -235,6 +252,13 @@ impl<'a, A: Allocator> CoreTypeEncoder<'a, A> {
     }
 
     /// Adds an array type.
+    ///
+    /// # Errors
+    ///
+    /// Returns [`TooLong`](crate::fallible::Refused::TooLong) if the builder has 4294967295
+    /// entries, or if a count or length would pass 4294967295, and
+    /// [`Memory`](crate::fallible::Refused::Memory) if an allocation fails. The builder is then
+    /// unchanged.
     ///
     /// # Proved
     ///
@@ -256,6 +280,12 @@ impl<'a, A: Allocator> CoreTypeEncoder<'a, A> {
 
     /// Adds a continuation type.
     ///
+    /// # Errors
+    ///
+    /// Returns [`TooLong`](crate::fallible::Refused::TooLong) if the builder has 4294967295
+    /// entries, and [`Memory`](crate::fallible::Refused::Memory) if an allocation fails. The
+    /// builder is then unchanged.
+    ///
     /// # Proved
     ///
     /// ```text
@@ -270,6 +300,13 @@ impl<'a, A: Allocator> CoreTypeEncoder<'a, A> {
     }
 
     /// Adds a subtype.
+    ///
+    /// # Errors
+    ///
+    /// Returns [`TooLong`](crate::fallible::Refused::TooLong) if the builder has 4294967295
+    /// entries, or if a count or length would pass 4294967295, and
+    /// [`Memory`](crate::fallible::Refused::Memory) if an allocation fails. The builder is then
+    /// unchanged.
     ///
     /// # Proved
     ///
@@ -287,6 +324,13 @@ impl<'a, A: Allocator> CoreTypeEncoder<'a, A> {
 
     /// Adds a function type of these parameters and results. If there are too many of either, it
     /// returns `TooLong` and requests none.
+    ///
+    /// # Errors
+    ///
+    /// Returns [`TooLong`](crate::fallible::Refused::TooLong) if the builder has 4294967295
+    /// entries, or if a count or length would pass 4294967295, and
+    /// [`Memory`](crate::fallible::Refused::Memory) if an allocation fails. The builder is then
+    /// unchanged.
     ///
     /// # Asks
     ///
@@ -326,6 +370,13 @@ impl<'a, A: Allocator> CoreTypeEncoder<'a, A> {
     /// Adds a structure type of these fields. If there are too many, it returns `TooLong` and
     /// requests none.
     ///
+    /// # Errors
+    ///
+    /// Returns [`TooLong`](crate::fallible::Refused::TooLong) if the builder has 4294967295
+    /// entries, or if a count or length would pass 4294967295, and
+    /// [`Memory`](crate::fallible::Refused::Memory) if an allocation fails. The builder is then
+    /// unchanged.
+    ///
     /// # Asks
     ///
     /// ```text
@@ -354,6 +405,13 @@ impl<'a, A: Allocator> CoreTypeEncoder<'a, A> {
 
     /// Adds a recursion group: subtypes that may refer to one another. If there are too many, it
     /// returns `TooLong` and requests none.
+    ///
+    /// # Errors
+    ///
+    /// Returns [`TooLong`](crate::fallible::Refused::TooLong) if the builder has 4294967295
+    /// entries, or if a count or length would pass 4294967295, and
+    /// [`Memory`](crate::fallible::Refused::Memory) if an allocation fails. The builder is then
+    /// unchanged.
     ///
     /// # Asks
     ///
@@ -415,6 +473,12 @@ pub fn read_types<'a, A: Allocator + Copy, G: Grammar>(
 
 /// Appends the minimal encoding of a type section's payload: the number of types, and the types. On
 /// an error, the sink is unchanged.
+///
+/// # Errors
+///
+/// Returns [`TooLong`](crate::fallible::Refused::TooLong) if a count or length would pass
+/// 4294967295, and [`Memory`](crate::fallible::Refused::Memory) if an allocation fails. The
+/// bytes of the sink are then unchanged.
 ///
 /// # Proved
 ///

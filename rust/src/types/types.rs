@@ -6,7 +6,7 @@ use crate::alloc::{Allocator, Global};
 use core::slice;
 use crate::base::{Encode, Lent, Result, ValType};
 
-/// The type of the content of a field or an element: a value, or a packed integer.
+// The type of the content of a field or an element: a value, or a packed integer.
 #[derive(Clone, Copy, PartialEq, Eq, Hash, Debug)]
 pub enum StorageType {
     I8,
@@ -14,18 +14,18 @@ pub enum StorageType {
     Val(ValType),
 }
 
-/// The type of a field, or of the elements of an array.
+// The type of a field, or of the elements of an array.
 #[derive(Clone, Copy, PartialEq, Eq, Hash, Debug)]
 pub struct FieldType {
     pub element_type: StorageType,
     pub mutable: bool,
 }
 
-/// The type of an array.
+// The type of an array.
 #[derive(Clone, Copy, PartialEq, Eq, Hash, Debug)]
 pub struct ArrayType(pub FieldType);
 
-/// The type of a continuation of the function type of this index.
+// The type of a continuation of the function type of this index.
 #[derive(Clone, Copy, PartialEq, Eq, Hash, Debug)]
 pub struct ContType(pub u32);
 
@@ -75,6 +75,10 @@ pub struct SubType<A: Allocator = Global> {
 
 impl<A: Allocator + Copy> FuncType<A> {
     /// Returns a function type of these parameters and results, from iterators.
+    ///
+    /// # Errors
+    ///
+    /// Returns [`Memory`](crate::fallible::Refused::Memory) if an allocation fails.
     ///
     /// # Asks
     ///
@@ -210,6 +214,10 @@ fn copied<T: Copy, A: Allocator + Copy>(items: &Vec<T, A>) -> Result<Vec<T, A>> 
 impl<A: Allocator + Copy> FuncType<A> {
     /// Returns the same type, in memory of its own.
     ///
+    /// # Errors
+    ///
+    /// Returns [`Memory`](crate::fallible::Refused::Memory) if an allocation fails.
+    ///
     /// # Proved
     ///
     /// After `Ok`: `same`. In any case: `memory`.
@@ -231,6 +239,10 @@ impl<A: Allocator + Copy> FuncType<A> {
 impl<A: Allocator + Copy> StructType<A> {
     /// Returns the same type, in memory of its own.
     ///
+    /// # Errors
+    ///
+    /// Returns [`Memory`](crate::fallible::Refused::Memory) if an allocation fails.
+    ///
     /// # Proved
     ///
     /// After `Ok`: `same`. In any case: `memory`.
@@ -250,6 +262,10 @@ impl<A: Allocator + Copy> StructType<A> {
 
 impl<A: Allocator + Copy> CompositeInnerType<A> {
     /// Returns the same type, in memory of its own.
+    ///
+    /// # Errors
+    ///
+    /// Returns [`Memory`](crate::fallible::Refused::Memory) if an allocation fails.
     ///
     /// # Proved
     ///
@@ -274,6 +290,10 @@ impl<A: Allocator + Copy> CompositeInnerType<A> {
 impl<A: Allocator + Copy> CompositeType<A> {
     /// Returns the same type, in memory of its own.
     ///
+    /// # Errors
+    ///
+    /// Returns [`Memory`](crate::fallible::Refused::Memory) if an allocation fails.
+    ///
     /// # Proved
     ///
     /// After `Ok`: `same`. In any case: `memory`.
@@ -296,6 +316,10 @@ impl<A: Allocator + Copy> CompositeType<A> {
 
 impl<A: Allocator + Copy> SubType<A> {
     /// Returns the same type, in memory of its own.
+    ///
+    /// # Errors
+    ///
+    /// Returns [`Memory`](crate::fallible::Refused::Memory) if an allocation fails.
     ///
     /// # Proved
     ///

@@ -46,6 +46,8 @@ FORMS = {
     'export': [(r'pub use [^;]* ;', r'(?:pub (?:\( crate \) )?use [^;]* ; ?)+')],
     'path': [('crate', r'(?:in )?crate(?: : : \w+)+'), (r'wasm_\w+(?: : : laws)?|hex', r'(?:crate|dolzhytik)(?: : : \w+)+'), ('test_support|examples', r'crate : : \w+')],
     'link': [('', '')],
+    'moved': [('', '')],
+    'alias': [('', r'(?:# \[ doc \( alias = "[^"]*" \) \] ?)+')],
     'module': [('mod', r'pub \( crate \) mod')],
     'border': [(r'extern "C"', ''), ('mod', r'pub \( crate \) mod')],
     'layout': [('', r'# \[ rustfmt : : skip \]')],

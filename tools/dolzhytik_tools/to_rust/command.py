@@ -13,6 +13,7 @@ from ..definitions.pages import pages
 from ..errors import Stop
 from ..repository import TOP, text_of
 from .asks import asks
+from .beside import check_used
 from .context import sources
 from .glosses import names_table
 from .tables import LIBRARIES
@@ -33,6 +34,7 @@ def generated(top: pathlib.Path = TOP) -> dict[str, str]:
             imports[file.path] = [scope.use for scope in file.source.scopes]
     files['src/asks.md'] = ASKS_HEAD + ''.join(rows)
     check_widths(files)
+    check_used()
     front.check(imports, front.page())
     return {**files, **pages(library(), names_table())}
 

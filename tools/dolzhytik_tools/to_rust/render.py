@@ -1,18 +1,20 @@
 """The text of a changed source: its tokens, edits, and documentation before the items."""
 from __future__ import annotations
 
+import textwrap
 from typing import Union
 
 from ..definitions.layout import laid_out
 from .glosses import gloss
-from .source import Source
+from .source import Notes, Source
 from .words import line_of_links
 
 
 def documentation(source: Source, place: int) -> list[str]:
     """Returns the lines of documentation of the clauses before a token: in libraries with words
     above them, and with links to the definitions that they name."""
-    notes, lines = source.notes[place], []
+    notes = source.notes[place]
+    lines = beside(notes)
     for heading in ('Asks', 'Proved', 'Defined'):
         if heading not in notes:
             continue
@@ -24,6 +26,23 @@ def documentation(source: Source, place: int) -> list[str]:
         if paths is not None:
             lines += ['', line_of_links(paths)]
     return [f'/// {line}'.rstrip() for line in lines]
+
+
+def beside(notes: Notes) -> list[str]:
+    """Returns the lines that are appended to a doc comment before the clauses: prose, errors, and
+    examples."""
+    text = '\n'.join(notes.get('Text', []))
+    prose, fence, example = text.partition('```')
+    lines = ['', *prose.strip().split('\n')] if prose.strip() else []
+    if 'Errors' in notes:
+        lines += ['', '# Errors', '', *textwrap.wrap(notes['Errors'][0], 90, break_long_words=False, break_on_hyphens=False)]
+    if example:
+        lines += ['', '# Examples', '', *(fence + example).split('\n')]
+    return lines
+
+
+# The start of a field on a line of its own.
+FIELD = '\n        '
 
 
 class Gap:
@@ -58,6 +77,9 @@ def noted(lines: list[str], parts: list[Part]) -> list[str]:
     """Returns documentation, which follows what is there already, and the space before the item."""
     before = [part for part in parts[-4:] if part is not Gap]
     space = parts[-1] if parts and parts[-1] is not Gap and parts[-1].isspace() else '\n'
+    if '\n' not in space:  # A field on the line of its variant.
+        parts[-1] = ''
+        return [it for line in lines[1:] for it in (FIELD, line)] + [FIELD]
     indent = space[space.rfind('\n'):]
     has_docs = any(part.startswith('///') for part in before[-2:])
     out = []
