@@ -8,9 +8,24 @@ use crate::base::refused::Result;
 use crate::alloc::{Allocator, Global};
 
 /// A slice of items that is borrowed, or owned as a `Vec`.
+///
+/// Values with lists take it: [`Elements`](crate::fallible::Elements), [`Instruction`](crate::fallible::Instruction) and [`CustomSection`](crate::fallible::CustomSection).
+///
+/// # Examples
+///
+/// ```
+/// use dolzhytik::fallible::{AllocError, CowSlice, Global, Vec};
+///
+/// let borrowed: CowSlice<'_, u32> = CowSlice::Borrowed(&[1, 2]);
+/// let owned = CowSlice::Owned(Vec::from_slice(Global, &[1, 2])?);
+/// assert_eq!(borrowed.as_slice(), owned.as_slice());
+/// # Ok::<(), AllocError>(())
+/// ```
 #[derive(Debug)]
 pub enum CowSlice<'a, T, A: Allocator = Global> {
+    /// A slice of the caller's.
     Borrowed(&'a [T]),
+    /// A vector of its own.
     Owned(Vec<T, A>),
 }
 
@@ -77,9 +92,24 @@ impl<T: Encode, A: Allocator> Encode for CowSlice<'_, T, A> {
 }
 
 /// A string that is borrowed, or owned as a `String`.
+///
+/// [`CustomSection`](crate::fallible::CustomSection) takes it.
+///
+/// # Examples
+///
+/// ```
+/// use dolzhytik::fallible::{AllocError, CowStr, Global, String};
+///
+/// let borrowed: CowStr<'_> = CowStr::Borrowed("name");
+/// let owned = CowStr::Owned(String::from_str(Global, "name")?);
+/// assert_eq!(borrowed.as_str(), owned.as_str());
+/// # Ok::<(), AllocError>(())
+/// ```
 #[derive(Debug)]
 pub enum CowStr<'a, A: Allocator = Global> {
+    /// A string of the caller's.
     Borrowed(&'a str),
+    /// A string of its own.
     Owned(String<A>),
 }
 

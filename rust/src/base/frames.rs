@@ -20,6 +20,18 @@ use crate::alloc::Allocator;
 /// 4294967295, and [`Memory`](crate::fallible::Refused::Memory) if an allocation fails. The
 /// bytes of the sink are then unchanged.
 ///
+/// # Examples
+///
+/// ```
+/// use dolzhytik::fallible::{Refused, begin_size_prefixed};
+///
+/// let mut bytes = Vec::new();
+/// begin_size_prefixed(&mut bytes, 3)?;
+/// bytes.extend_from_slice(b"abc");
+/// assert_eq!(bytes, *b"\x03abc");
+/// # Ok::<(), Refused>(())
+/// ```
+///
 /// # Proved
 ///
 /// After `Ok`: `ok`, `reserved`, `was_encodable`. After an error: `err`. In any case: `too_long`, `too_many`, `spare`, `capacity`.
@@ -57,6 +69,17 @@ const SHORT: usize = 0x80;
 /// Returns [`TooLong`](crate::fallible::Refused::TooLong) if a count or length would pass
 /// 4294967295, and [`Memory`](crate::fallible::Refused::Memory) if an allocation fails. The
 /// bytes of the sink are then unchanged.
+///
+/// # Examples
+///
+/// ```
+/// use dolzhytik::fallible::{Refused, encode_size_prefixed};
+///
+/// let mut bytes = Vec::new();
+/// encode_size_prefixed(&mut bytes, b"abc")?;
+/// assert_eq!(bytes, *b"\x03abc");
+/// # Ok::<(), Refused>(())
+/// ```
 ///
 /// # Proved
 ///
@@ -106,6 +129,18 @@ fn encode_long_payload<A: Sink>(sink: &mut A, bytes: &[u8]) -> Result<()> {
 /// 4294967295, and [`Memory`](crate::fallible::Refused::Memory) if an allocation fails. The
 /// bytes of the sink are then unchanged.
 ///
+/// # Examples
+///
+/// ```
+/// use dolzhytik::fallible::{Refused, encode_section};
+///
+/// let mut bytes = Vec::new();
+/// encode_section(&mut bytes, 2, &[7, 8])?;
+/// // The size of the payload, 3, and two entries.
+/// assert_eq!(bytes, [3, 2, 7, 8]);
+/// # Ok::<(), Refused>(())
+/// ```
+///
 /// # Proved
 ///
 /// ```text
@@ -126,6 +161,21 @@ pub fn encode_section<A: Sink>(sink: &mut A, count: u32, bytes: &[u8]) -> Result
 
 /// A size-prefixed value that occupies its payload to the last byte. Its own format determines its
 /// end too.
+///
+/// # Examples
+///
+/// ```
+/// use dolzhytik::fallible::Global;
+/// use dolzhytik::reader::{DecodeError, Padded, ReadFault, Readable, SizePrefixed};
+///
+/// type Number = SizePrefixed<u32>;
+/// let (SizePrefixed(number), _) = <Number as Readable<Global, Padded>>::read(&[1, 7], Global)?;
+/// assert_eq!(number, 7);
+/// // The size is 2, and the number has one byte.
+/// let error = <Number as Readable<Global, Padded>>::read(&[2, 7, 0], Global).err();
+/// assert_eq!(error.map(|error| error.cause()), Some(ReadFault::SizeMismatch));
+/// # Ok::<(), DecodeError>(())
+/// ```
 #[derive(Debug)]
 pub struct SizePrefixed<T>(pub T);
 
@@ -161,6 +211,20 @@ impl<'a, A: Allocator + Copy, G: Grammar, T: Readable<'a, A, G>> Readable<'a, A,
 /// Returns [`TooLong`](crate::fallible::Refused::TooLong) if a count or length would pass
 /// 4294967295, and [`Memory`](crate::fallible::Refused::Memory) if an allocation fails. The
 /// bytes of the sink are then unchanged.
+///
+/// # Examples
+///
+/// ```
+/// use dolzhytik::fallible::Refused;
+/// use dolzhytik::reader::prefix_size_since;
+///
+/// let mut bytes = b"old".to_vec();
+/// let start = bytes.len();
+/// bytes.extend_from_slice(b"abc");
+/// prefix_size_since(&mut bytes, start)?;
+/// assert_eq!(bytes, *b"old\x03abc");
+/// # Ok::<(), Refused>(())
+/// ```
 ///
 /// # Asks
 ///

@@ -389,6 +389,20 @@ impl Encode for i64 {
 }
 
 /// The groups of seven bits at the front of bytes, the lowest group first.
+///
+/// [`read_groups`](crate::fallible::read_groups) returns it.
+///
+/// # Examples
+///
+/// ```
+/// use dolzhytik::fallible::{Groups, read_groups};
+///
+/// let Ok((Groups { sum, power, last }, rest)) = read_groups(&[0xAC, 0x02, 0xFF], 5) else {
+///     panic!("two groups are there");
+/// };
+/// // 2C and 02 are the groups: 0x02 * 128 + 0x2C = 300.
+/// assert_eq!((sum, power, last, rest), (300, 128 * 128, 0x02, &[0xFF][..]));
+/// ```
 #[derive(Clone, Copy, Debug)]
 pub struct Groups {
     /// The number that the groups encode without a sign.
@@ -401,6 +415,20 @@ pub struct Groups {
 
 /// Decodes the groups at the front, at most `limit` of them, and returns them with the remaining
 /// bytes.
+///
+/// # Errors
+///
+/// An error means that the bytes do not begin with at most `limit` groups: `Ended` only if there are fewer bytes than `limit`, and `TooLarge` only if there are not.
+///
+/// # Examples
+///
+/// ```
+/// use dolzhytik::fallible::read_groups;
+/// use dolzhytik::reader::ReadFault;
+///
+/// assert_eq!(read_groups(&[0x80, 0x01], 5).map(|(groups, _)| groups.sum).ok(), Some(128));
+/// assert_eq!(read_groups(&[0x80], 5).map_err(|error| error.cause()).err(), Some(ReadFault::Ended));
+/// ```
 ///
 /// # Asks
 ///
@@ -425,6 +453,10 @@ pub struct Groups {
 /// ```
 ///
 /// Definitions: [`HasGroups`](crate::definitions::base::groups::HasGroups), [`Rejects`](crate::definitions::base::decoding::Rejects), [`groups`](crate::definitions::base::groups::groups), [`padded`](crate::definitions::base::numbers::Mode). [How to read clauses](crate::definitions).
+#[doc(alias = "leb128")]
+#[doc(alias = "varint")]
+#[doc(alias = "parse")]
+
 pub fn read_groups(bytes: &[u8], limit: u8) -> Result<(Groups, &[u8]), DecodeError> {
     if limit == 0 {
         return Err(ReadFault::TooLarge.just_before(bytes));

@@ -12,6 +12,20 @@ use crate::base::refused::{Refused, Result};
 /// `encode_once` returns [`Refused`], and leaves the sink unchanged, if an allocation fails or the
 /// encoding does not fit.
 ///
+/// [`vec_of`](crate::fallible::vec_of) and [`bytes_of`](crate::fallible::bytes_of) return such values.
+///
+/// # Examples
+///
+/// ```
+/// use dolzhytik::fallible::{EncodeOnce, Refused, vec_of};
+///
+/// let mut bytes = Vec::new();
+/// vec_of([1_u32, 300].into_iter())?.encode_once(&mut bytes)?;
+/// // Two numbers: 1, and 300 = 2 * 128 + 44.
+/// assert_eq!(bytes, [2, 1, 0xAC, 0x02]);
+/// # Ok::<(), Refused>(())
+/// ```
+///
 /// # Defined
 ///
 /// ```text
@@ -53,6 +67,18 @@ pub trait EncodeOnce {
 }
 
 /// The vector of an iterator's items, counted before the first item was requested: see [`vec_of`].
+///
+/// # Examples
+///
+/// ```
+/// use dolzhytik::fallible::{EncodeOnce, Refused, VecOf, vec_of};
+///
+/// let squares: VecOf<_> = vec_of((1_u32..4).map(|n| n * n).collect::<Vec<_>>())?;
+/// let mut bytes = Vec::new();
+/// squares.encode_once(&mut bytes)?;
+/// assert_eq!(bytes, [3, 1, 4, 9]);
+/// # Ok::<(), Refused>(())
+/// ```
 #[derive(Debug)]
 pub struct VecOf<I> {
     items: I,
@@ -61,6 +87,18 @@ pub struct VecOf<I> {
 
 /// The vector of an iterator's bytes, counted before the first byte was requested: see
 /// [`bytes_of`].
+///
+/// # Examples
+///
+/// ```
+/// use dolzhytik::fallible::{BytesOf, EncodeOnce, Refused, bytes_of};
+///
+/// let data: BytesOf<_> = bytes_of(*b"hi")?;
+/// let mut bytes = Vec::new();
+/// data.encode_once(&mut bytes)?;
+/// assert_eq!(bytes, [2, b'h', b'i']);
+/// # Ok::<(), Refused>(())
+/// ```
 #[derive(Debug)]
 pub struct BytesOf<I> {
     items: I,
@@ -98,6 +136,18 @@ fn count_of<I: ExactSizeIterator>(items: &I) -> Result<u32> {
 /// Returns `TooLong` if the iterator reports more than 4294967295 elements. It never returns
 /// `Memory`.
 ///
+/// # Examples
+///
+/// ```
+/// use dolzhytik::fallible::{EncodeOnce, Refused, ValType, vec_of};
+///
+/// let mut bytes = Vec::new();
+/// vec_of([ValType::I32, ValType::F64])?.encode_once(&mut bytes)?;
+/// // Two types: i32 is 7F, f64 is 7C.
+/// assert_eq!(bytes, [2, 0x7F, 0x7C]);
+/// # Ok::<(), Refused>(())
+/// ```
+///
 /// # Proved
 ///
 /// After `Ok`: `ok`. After an error: `refused`. In any case: `too_long`, `too_many`.
@@ -129,6 +179,17 @@ where
 /// # Errors
 ///
 /// Returns `TooLong` if the iterator reports more than 4294967295 bytes. It never returns `Memory`.
+///
+/// # Examples
+///
+/// ```
+/// use dolzhytik::fallible::{EncodeOnce, Refused, bytes_of};
+///
+/// let mut bytes = Vec::new();
+/// bytes_of("hi".bytes())?.encode_once(&mut bytes)?;
+/// assert_eq!(bytes, [2, b'h', b'i']);
+/// # Ok::<(), Refused>(())
+/// ```
 ///
 /// # Proved
 ///

@@ -18,6 +18,25 @@ use crate::alloc::{Allocator, Global};
 /// An adding call that returns an error leaves the entries unchanged. The error is
 /// [`Refused::TooLong`] only if there are 4294967295 entries already or the item does not fit, and
 /// [`Refused::Memory`] only if an allocation fails.
+///
+/// The builders consist of it. Use it for a section of your own.
+///
+/// # Examples
+///
+/// ```
+/// use dolzhytik::fallible::{Encode, Global, Pieces, Refused};
+///
+/// let mut entries = Pieces::new(Global);
+/// entries.add(b"ab")?;
+/// entries.add_encoded(&300_u32)?;
+/// assert_eq!((entries.len(), entries.get(1)), (2, Some(&[0xAC, 0x02][..])));
+///
+/// let mut bytes = Vec::new();
+/// entries.encode(&mut bytes)?;
+/// // The size of the payload, 5; two entries.
+/// assert_eq!(bytes, [5, 2, b'a', b'b', 0xAC, 0x02]);
+/// # Ok::<(), Refused>(())
+/// ```
 #[derive(Debug)]
 pub struct Pieces<A: Allocator = Global> {
     bytes: Vec<u8, A>,

@@ -2,21 +2,46 @@
 // The ids of sections, and the sorts of imports and exports.
 
 /// The ids of sections, as the core specification ("Modules") and its proposals define them.
+///
+/// [`SectionId`](crate::SectionId) of the root converts from it and to it.
+///
+/// # Examples
+///
+/// ```
+/// use dolzhytik::fallible::{RawSection, Section, SectionId};
+///
+/// let start = RawSection { id: SectionId::Start.into(), bytes: &[0] };
+/// assert_eq!(start.id(), 8);
+/// ```
 #[derive(Clone, Copy, PartialEq, Eq, Debug)]
 pub enum SectionId {
+    /// Custom sections, such as names.
     Custom = 0,
+    /// The type section.
     Types = 1,
+    /// The import section.
     Import = 2,
+    /// The function section.
     Function = 3,
+    /// The table section.
     Table = 4,
+    /// The memory section.
     Memory = 5,
+    /// The global section.
     Global = 6,
+    /// The export section.
     Export = 7,
+    /// The start section.
     Start = 8,
+    /// The element section.
     Element = 9,
+    /// The code section.
     Code = 10,
+    /// The data section.
     Data = 11,
+    /// The data count section.
     DataCount = 12,
+    /// The tag section.
     Tag = 13,
 }
 

@@ -6,6 +6,21 @@ use crate::base::readable::Layout;
 use crate::base::refused::Result;
 
 /// A decoded value, or a component of one, that can be written in its minimal encoding.
+///
+/// # Examples
+///
+/// ```
+/// use dolzhytik::fallible::Global;
+/// use dolzhytik::reader::{DecodeError, Padded, Readable, Shorten};
+///
+/// let (number, _) = <u32 as Readable<Global, Padded>>::read(&[0x85, 0x80, 0x00], Global)?;
+/// let mut minimal = Vec::new();
+/// number.append_minimal(&mut minimal)?;
+/// assert_eq!(minimal, [5]);
+/// # Ok::<(), DecodeError>(())
+/// ```
+#[doc(alias = "minimize")]
+#[doc(alias = "shrink")]
 pub trait Shorten: Layout {
     /// Writes the minimal encoding of the value after the old bytes. An impl defines it, and
     /// callers use [`append_minimal`](Shorten::append_minimal): after an error of this method,

@@ -15,26 +15,45 @@ use crate::alloc::Allocator;
 // define them.
 #[derive(Clone, Copy, PartialEq, Eq, Hash, Debug)]
 pub enum AbstractHeapType {
+    /// `func` (70): functions.
     Func = 0x70,
+    /// `extern` (6F): references of the host.
     Extern = 0x6F,
+    /// `any` (6E): all internal references.
     Any = 0x6E,
+    /// `eq` (6D): references that can be compared.
     Eq = 0x6D,
+    /// `i31` (6C): integers of 31 bits.
     I31 = 0x6C,
+    /// `struct` (6B): structures.
     Struct = 0x6B,
+    /// `array` (6A): arrays.
     Array = 0x6A,
+    /// `exn` (69): exceptions.
     Exn = 0x69,
+    /// `noexn` (74): no exception.
     NoExn = 0x74,
+    /// `nofunc` (73): no function.
     NoFunc = 0x73,
+    /// `noextern` (72): no reference of the host.
     NoExtern = 0x72,
+    /// `none` (71): no internal reference.
     None = 0x71,
+    /// `cont` (68): continuations.
     Cont = 0x68,
+    /// `nocont` (75): no continuation.
     NoCont = 0x75,
 }
 
 // The type of the values that a reference refers to.
 #[derive(Clone, Copy, PartialEq, Eq, Hash, Debug)]
 pub enum HeapType {
-    Abstract { shared: bool, ty: AbstractHeapType },
+    /// A type with a name.
+    Abstract {
+        /// Whether threads share its values.
+        shared: bool,
+        /// The type.
+        ty: AbstractHeapType },
     /// The type of this index, and its subtypes.
     Concrete(u32),
     /// Exactly the type of this index.
@@ -58,7 +77,9 @@ impl HeapType {
 // A reference type, nullable or not.
 #[derive(Clone, Copy, PartialEq, Eq, Hash, Debug)]
 pub struct RefType {
+    /// Whether null is a value of the type.
     pub nullable: bool,
+    /// The type of the values that references refer to.
     pub heap_type: HeapType,
 }
 
@@ -79,11 +100,17 @@ impl RefType {
 // The type of a value: a number, a vector or a reference.
 #[derive(Clone, Copy, PartialEq, Eq, Hash, Debug)]
 pub enum ValType {
+    /// An integer of 32 bits: 7F.
     I32,
+    /// An integer of 64 bits: 7E.
     I64,
+    /// A float of 32 bits: 7D.
     F32,
+    /// A float of 64 bits: 7C.
     F64,
+    /// A vector of 128 bits: 7B.
     V128,
+    /// A reference.
     Ref(RefType),
 }
 

@@ -46,6 +46,18 @@ impl<T: Encode> Encode for &[T] {
 /// 4294967295, and [`Memory`](crate::fallible::Refused::Memory) if an allocation fails. The
 /// bytes of the sink are then unchanged.
 ///
+/// # Examples
+///
+/// ```
+/// use dolzhytik::fallible::{Refused, encode_vec};
+///
+/// let mut bytes = vec![0x11];
+/// encode_vec([5_u32, 128], &mut bytes)?;
+/// // Two numbers: 5, and 128 = 1 * 128 + 0.
+/// assert_eq!(bytes, [0x11, 2, 5, 0x80, 0x01]);
+/// # Ok::<(), Refused>(())
+/// ```
+///
 /// # Asks
 ///
 /// ```text
@@ -132,11 +144,25 @@ fn write_all<T: Shorten, B: Sink>(items: &[T], sink: &mut B) -> Result<()> {
 /// Appends the minimal encodings of the values, one after another. On an error, the sink is
 /// unchanged.
 ///
+/// The number of items is not among them.
+///
 /// # Errors
 ///
 /// Returns [`TooLong`](crate::fallible::Refused::TooLong) if a count or length would pass
 /// 4294967295, and [`Memory`](crate::fallible::Refused::Memory) if an allocation fails. The
 /// bytes of the sink are then unchanged.
+///
+/// # Examples
+///
+/// ```
+/// use dolzhytik::fallible::Refused;
+/// use dolzhytik::reader::append_all;
+///
+/// let mut bytes = Vec::new();
+/// append_all(&[5_u32, 300], &mut bytes)?;
+/// assert_eq!(bytes, [5, 0xAC, 0x02]);
+/// # Ok::<(), Refused>(())
+/// ```
 ///
 /// # Proved
 ///

@@ -13,6 +13,18 @@ use crate::alloc::Allocator;
 ///
 /// Any error but `Memory` means that the bytes as a whole encode no such value.
 ///
+/// # Examples
+///
+/// ```
+/// use dolzhytik::fallible::Global;
+/// use dolzhytik::reader::{DecodeError, Padded, read_whole};
+///
+/// let name = read_whole::<&str, Global, Padded>(b"\x02ab", Global)?;
+/// assert_eq!(name, "ab");
+/// assert!(read_whole::<&str, Global, Padded>(b"\x02abc", Global).is_err());
+/// # Ok::<(), DecodeError>(())
+/// ```
+///
 /// # Proved
 ///
 /// After `Ok`: `found`. After an error: `none`.
@@ -44,6 +56,21 @@ pub fn read_whole<'a, T: Readable<'a, A, G>, A: Allocator + Copy, G: Grammar>(
 ///
 /// Any error but `Memory` means that the bytes as a whole encode no such value.
 ///
+/// [`left`](crate::reader::DecodeError::left) of an error counts the bytes of `rest` too, as tests show.
+///
+/// # Examples
+///
+/// ```
+/// use dolzhytik::fallible::Global;
+/// use dolzhytik::reader::{DecodeError, Padded, read_before};
+///
+/// // The first three bytes are a name.
+/// let (sized, rest) = b"\x02ab\xFF".split_at(3);
+/// let name = read_before::<&str, Global, Padded>(sized, rest, Global)?;
+/// assert_eq!(name, "ab");
+/// # Ok::<(), DecodeError>(())
+/// ```
+///
 /// # Proved
 ///
 /// After `Ok`: `found`. After an error: `none`.
@@ -72,6 +99,17 @@ pub fn read_before<'a, T: Readable<'a, A, G>, A: Allocator + Copy, G: Grammar>(
 /// # Errors
 ///
 /// Any error but `Memory` means that the bytes as a whole encode no such values.
+///
+/// # Examples
+///
+/// ```
+/// use dolzhytik::fallible::Global;
+/// use dolzhytik::reader::{DecodeError, Padded, read_to_end};
+///
+/// let numbers = read_to_end::<u32, Global, Padded>(&[5, 0xAC, 0x02], Global)?;
+/// assert_eq!(numbers[..], [5, 300]);
+/// # Ok::<(), DecodeError>(())
+/// ```
 ///
 /// # Asks
 ///

@@ -17,6 +17,18 @@ const BYTES_OF_ONE: usize = 4;
 ///
 /// Any error but `Memory` means that the bytes as a whole encode no instructions.
 ///
+/// # Examples
+///
+/// ```
+/// use dolzhytik::fallible::{Global, Op};
+/// use dolzhytik::reader::{DecodeError, Padded, read_code};
+///
+/// // local.get 0, drop, end.
+/// let code = read_code::<Global, Padded>(&[0x20, 0, 0x1A, 0x0B], Global)?;
+/// assert_eq!((code.len(), code[1].op), (3, Op::Byte(0x1A)));
+/// # Ok::<(), DecodeError>(())
+/// ```
+///
 /// # Proved
 ///
 /// After `Ok`: `found`. After an error: `none`.
@@ -31,6 +43,8 @@ const BYTES_OF_ONE: usize = 4;
 /// ```
 ///
 /// Definitions: [`members`](crate::definitions::base::formats::members), [`instruction`](crate::definitions::insn::plain::instruction), [`table`](crate::definitions::insn::table::table), [`padded_of`](crate::definitions::base::numbers::padded_of), [`plain_view`](crate::definitions::insn::views::plain_view), [`RejectsWhole`](crate::definitions::base::continuing::RejectsWhole). [How to read clauses](crate::definitions).
+#[doc(alias = "parse")]
+#[doc(alias = "disassemble")]
 pub fn read_code<'a, A: Allocator + Copy, G: Grammar>(
     bytes: &'a [u8],
     alloc: A,
@@ -75,9 +89,26 @@ pub(crate) fn append_code<A: Allocator, B: Sink>(
 
 /// A function body: the runs of its locals, each a count and a type, and its instructions,
 /// including each `End`.
+///
+/// [`Items::Bodies`](crate::reader::Items::Bodies) has them.
+///
+/// # Examples
+///
+/// ```
+/// use dolzhytik::fallible::{Global, Op, ValType};
+/// use dolzhytik::reader::{DecodeError, Padded, read_body};
+///
+/// // One run of locals, 2 of i32 (7F); nop (01), end (0B).
+/// let body = read_body::<Global, Padded>(&[1, 2, 0x7F, 0x01, 0x0B], Global)?;
+/// assert_eq!(body.runs[..], [(2, ValType::I32)]);
+/// assert!(body.code.iter().map(|it| it.op).eq([Op::Byte(0x01), Op::Byte(0x0B)]));
+/// # Ok::<(), DecodeError>(())
+/// ```
 #[derive(Debug)]
 pub struct Body<A: Allocator = Global> {
+    /// The runs of locals: their number, and their type.
     pub runs: Vec<(u32, ValType), A>,
+    /// The instructions, with the final `end`.
     pub code: Vec<Plain<A>, A>,
 }
 
@@ -86,6 +117,18 @@ pub struct Body<A: Allocator = Global> {
 /// # Errors
 ///
 /// Any error but `Memory` means that the bytes as a whole encode no body.
+///
+/// # Examples
+///
+/// ```
+/// use dolzhytik::fallible::Global;
+/// use dolzhytik::reader::{DecodeError, Padded, read_body};
+///
+/// // No locals; end.
+/// let body = read_body::<Global, Padded>(&[0, 0x0B], Global)?;
+/// assert_eq!((body.runs.len(), body.code.len()), (0, 1));
+/// # Ok::<(), DecodeError>(())
+/// ```
 ///
 /// # Proved
 ///
@@ -98,6 +141,9 @@ pub struct Body<A: Allocator = Global> {
 /// ```
 ///
 /// Definitions: [`body`](crate::definitions::code::bodies::body), [`padded_of`](crate::definitions::base::numbers::padded_of), [`body_view`](crate::definitions::code::body_views::body_view), [`RejectsWhole`](crate::definitions::base::continuing::RejectsWhole). [How to read clauses](crate::definitions).
+#[doc(alias = "parse")]
+#[doc(alias = "disassemble")]
+
 pub fn read_body<'a, A: Allocator + Copy, G: Grammar>(
     bytes: &'a [u8],
     alloc: A,
@@ -186,6 +232,20 @@ fn write_body<A: Allocator + Copy, B: Sink>(
 ///
 /// Any error but `Memory` means that the bytes as a whole encode no body.
 ///
+/// # Examples
+///
+/// ```
+/// use dolzhytik::fallible::Global;
+/// use dolzhytik::reader::{DecodeError, shorten_body};
+///
+/// let mut minimal = Vec::new();
+/// // No locals; local.get with a padded index, 1 in two bytes; end.
+/// shorten_body(&[0, 0x20, 0x81, 0x00, 0x0B], Global, &mut minimal)?;
+/// // The size, 4, and the body.
+/// assert_eq!(minimal, [4, 0, 0x20, 1, 0x0B]);
+/// # Ok::<(), DecodeError>(())
+/// ```
+///
 /// # Proved
 ///
 /// After `Ok`: `found`. After an error: `none`, `err`.
@@ -200,6 +260,7 @@ fn write_body<A: Allocator + Copy, B: Sink>(
 /// ```
 ///
 /// Definitions: [`BodyModel`](crate::definitions::code::bodies::Body), [`body`](crate::definitions::code::bodies::body), [`padded`](crate::definitions::base::numbers::Mode), [`AppendsMinimal`](crate::definitions::base::minimal::AppendsMinimal), [`size_prefixed`](crate::definitions::base::formats::size_prefixed), [`RejectsWhole`](crate::definitions::base::continuing::RejectsWhole). [How to read clauses](crate::definitions).
+#[doc(alias = "minimize")]
 pub fn shorten_body<A: Allocator + Copy, B: Sink>(
     bytes: &[u8],
     alloc: A,

@@ -19,6 +19,23 @@ use crate::insn::{Ieee32, Ieee64, Instruction, InstructionSink};
 ///
 /// Its calls return `Memory` if an allocation fails. `extended` alone can return `TooLong`: then an
 /// instruction has a list that is too long.
+///
+/// Globals, tables, and offsets of segments have such an expression. Its `end` is not part of it: the encoding adds it.
+///
+/// # Examples
+///
+/// ```
+/// use dolzhytik::fallible::{ConstExpr, Encode, Global, Refused};
+///
+/// let sum = ConstExpr::i32_const(Global, 64)?.with_i32_const(1)?.with_i32_add()?;
+/// let mut bytes = Vec::new();
+/// sum.encode(&mut bytes)?;
+/// // i32.const 64: 41, and 64 as signed LEB128, C0 00. i32.const 1: 41 01. i32.add: 6A. end: 0B.
+/// assert_eq!(bytes, [0x41, 0xC0, 0x00, 0x41, 0x01, 0x6A, 0x0B]);
+/// # Ok::<(), Refused>(())
+/// ```
+#[doc(alias = "initializer")]
+#[doc(alias = "constant expression")]
 #[derive(Debug)]
 pub struct ConstExpr<A: Allocator = Global> {
     first: Option<First>,
@@ -86,6 +103,19 @@ impl<A: Allocator> ConstExpr<A> {
     ///
     /// Returns [`TooLong`](crate::fallible::Refused::TooLong) if a count or length would pass
     /// 4294967295, and [`Memory`](crate::fallible::Refused::Memory) if an allocation fails.
+    ///
+    /// # Examples
+    ///
+    /// ```
+    /// use dolzhytik::fallible::{ConstExpr, Encode, Global, Instruction, Refused};
+    ///
+    /// let made = ConstExpr::extended(Global, [Instruction::I32Const(1), Instruction::RefI31])?;
+    /// let mut bytes = Vec::new();
+    /// made.encode(&mut bytes)?;
+    /// // i32.const 1: 41 01. ref.i31: FB 1C. end: 0B.
+    /// assert_eq!(bytes, [0x41, 0x01, 0xFB, 0x1C, 0x0B]);
+    /// # Ok::<(), Refused>(())
+    /// ```
     ///
     /// # Asks
     ///
@@ -622,6 +652,16 @@ impl<A: Allocator> ConstExpr<A> {
     }
 
     /// Returns the index of `RefFunc`, if the expression begins with it.
+    ///
+    /// # Examples
+    ///
+    /// ```
+    /// use dolzhytik::fallible::{ConstExpr, Global, Refused};
+    ///
+    /// assert_eq!(ConstExpr::ref_func(Global, 7)?.get_ref_func(), Some(7));
+    /// assert_eq!(ConstExpr::i32_const(Global, 7)?.get_ref_func(), None);
+    /// # Ok::<(), Refused>(())
+    /// ```
     ///
     /// # Proved
     ///

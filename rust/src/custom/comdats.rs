@@ -7,9 +7,36 @@ use crate::alloc::{Allocator, Global};
 use crate::base::{DecodeError, Encode, Grammar, Layout, Lent, Readable, Result, Shorten};
 
 /// The members of a COMDAT group, in the order in which they are added.
+///
+/// It is a [`CountedList`](crate::fallible::CountedList), which [`Comdats`](crate::fallible::Comdats) takes.
+///
+/// # Examples
+///
+/// ```
+/// use dolzhytik::fallible::{ComdatSymbols, Encode, Global, Refused};
+///
+/// let mut members = ComdatSymbols::new(Global);
+/// members.symbol(1, 7)?;
+/// let mut bytes = vec![];
+/// members.encode(&mut bytes)?;
+/// // One member: a function (1) of the index 7.
+/// assert_eq!(bytes, [1, 1, 7]);
+/// # Ok::<(), Refused>(())
+/// ```
 pub type ComdatSymbols<A = Global> = CountedList<ComdatSymbolMembers, A>;
 
 /// The kind of the members of a list of a group's members.
+///
+/// It is the type argument of [`CountedList`](crate::fallible::CountedList) in [`ComdatSymbols`](crate::fallible::ComdatSymbols).
+///
+/// # Examples
+///
+/// ```
+/// use dolzhytik::fallible::{ComdatSymbolMembers, ComdatSymbols, Global, ListKind};
+///
+/// let list = ComdatSymbols::new(Global);
+/// assert_eq!((list.len(), ComdatSymbolMembers::subsection()), (0, None));
+/// ```
 #[derive(Clone, Copy, Debug)]
 pub struct ComdatSymbolMembers;
 
@@ -68,6 +95,17 @@ impl<A: Allocator> ComdatSymbols<A> {
 pub type Comdats<A = Global> = CountedList<ComdatMembers, A>;
 
 /// The kind of the members of a list of groups.
+///
+/// It is the type argument of [`CountedList`](crate::fallible::CountedList) in [`Comdats`](crate::fallible::Comdats).
+///
+/// # Examples
+///
+/// ```
+/// use dolzhytik::fallible::{ComdatMembers, Comdats, Global, ListKind};
+///
+/// let list = Comdats::new(Global);
+/// assert_eq!((list.len(), ComdatMembers::subsection()), (0, Some(7)));
+/// ```
 #[derive(Clone, Copy, Debug)]
 pub struct ComdatMembers;
 
@@ -118,6 +156,20 @@ impl<A: Allocator> Comdats<A> {
 }
 
 /// A member of a COMDAT group.
+///
+/// It is a member of [`Comdat`](crate::fallible::Comdat).
+///
+/// # Examples
+///
+/// ```
+/// use dolzhytik::fallible::{ComdatSymbol, Global};
+/// use dolzhytik::reader::{DecodeError, Readable, Standard};
+///
+/// // A function (1) of the index 7.
+/// let (member, _) = <ComdatSymbol as Readable<Global, Standard>>::read(&[1, 7], Global)?;
+/// assert_eq!((member.kind, member.index), (1, 7));
+/// # Ok::<(), DecodeError>(())
+/// ```
 #[derive(Clone, Copy, Debug)]
 pub struct ComdatSymbol {
     /// The kind of the member: 0 is a data segment, 1 a function, 2 a global, 3 a tag, 4 a table,
@@ -156,11 +208,28 @@ impl Shorten for ComdatSymbol {
 
 /// A decoded COMDAT group: a linker keeps the members of one group of this name, and discards those
 /// of the others.
+///
+/// It is an item of [`LinkItem::Comdats`](crate::reader::LinkItem::Comdats).
+///
+/// # Examples
+///
+/// ```
+/// use dolzhytik::fallible::{Comdat, Global};
+/// use dolzhytik::reader::{DecodeError, Readable, Standard};
+///
+/// // "f", no flags, one member: a function (1) of the index 7.
+/// let bytes = [1, b'f', 0, 1, 1, 7];
+/// let (group, _) = <Comdat as Readable<Global, Standard>>::read(&bytes, Global)?;
+/// assert_eq!((group.name, group.symbols[0].kind, group.symbols[0].index), ("f", 1, 7));
+/// # Ok::<(), DecodeError>(())
+/// ```
 #[derive(Debug)]
 pub struct Comdat<'a, A: Allocator = Global> {
+    /// The name of the group.
     pub name: &'a str,
     /// 0 in the tool conventions.
     pub flags: u32,
+    /// The members.
     pub symbols: Vec<ComdatSymbol, A>,
 }
 

@@ -139,6 +139,17 @@ impl<A: Allocator> Section for CoreDumpSection<A> {
 pub type CoreDumpModulesSection<A = Global> = CustomEntries<ModuleItems, A>;
 
 /// The kind of the items of a modules section: their names.
+///
+/// It is the type argument of [`CustomEntries`](crate::fallible::CustomEntries) in [`CoreDumpModulesSection`](crate::fallible::CoreDumpModulesSection).
+///
+/// # Examples
+///
+/// ```
+/// use dolzhytik::fallible::{CoreDumpModulesSection, CustomKind, Global, ModuleItems};
+///
+/// let section = CoreDumpModulesSection::new(Global);
+/// assert_eq!((section.len(), ModuleItems::name()), (0, "coremodules"));
+/// ```
 #[derive(Clone, Copy, Debug)]
 pub struct ModuleItems;
 
@@ -242,6 +253,17 @@ impl<A: Allocator> CoreDumpModulesSection<A> {
 pub type CoreDumpInstancesSection<A = Global> = CustomEntries<InstanceItems, A>;
 
 /// The kind of the items of an instances section.
+///
+/// It is the type argument of [`CustomEntries`](crate::fallible::CustomEntries) in [`CoreDumpInstancesSection`](crate::fallible::CoreDumpInstancesSection).
+///
+/// # Examples
+///
+/// ```
+/// use dolzhytik::fallible::{CoreDumpInstancesSection, CustomKind, Global, InstanceItems};
+///
+/// let section = CoreDumpInstancesSection::new(Global);
+/// assert_eq!((section.len(), InstanceItems::name()), (0, "coreinstances"));
+/// ```
 #[derive(Clone, Copy, Debug)]
 pub struct InstanceItems;
 
@@ -362,6 +384,18 @@ impl<A: Allocator> CoreDumpInstancesSection<A> {
 ///
 /// Any error but `Memory` means that the bytes are not such a payload.
 ///
+/// # Examples
+///
+/// ```
+/// use dolzhytik::fallible::{Global, read_process};
+/// use dolzhytik::reader::{DecodeError, Padded};
+///
+/// // "core", 00, "test".
+/// let name = read_process::<Global, Padded>(b"\x04core\0\x04test", Global)?;
+/// assert_eq!(name, "test");
+/// # Ok::<(), DecodeError>(())
+/// ```
+///
 /// # Proved
 ///
 /// After `Ok`: `found`. After an error: `none`.
@@ -419,6 +453,18 @@ impl<'a, A: Allocator + Copy, G: Grammar> DecodesItems<'a, &'a str, A, G> for Mo
 /// # Errors
 ///
 /// Any error but `Memory` means that the bytes are not such a payload.
+///
+/// # Examples
+///
+/// ```
+/// use dolzhytik::fallible::{Global, read_modules};
+/// use dolzhytik::reader::{DecodeError, Padded};
+///
+/// // "coremodules"; one module: 00, "m".
+/// let names = read_modules::<Global, Padded>(b"\x0Bcoremodules\x01\0\x01m", Global)?;
+/// assert_eq!(names[..], ["m"]);
+/// # Ok::<(), DecodeError>(())
+/// ```
 ///
 /// # Proved
 ///
@@ -487,6 +533,20 @@ impl<'a, A: Allocator + Copy, G: Grammar> DecodesItems<'a, (u32, Vec<u32, A>, Ve
 /// # Errors
 ///
 /// Any error but `Memory` means that the bytes are not such a payload.
+///
+/// # Examples
+///
+/// ```
+/// use dolzhytik::fallible::{Global, read_instances};
+/// use dolzhytik::reader::{DecodeError, Padded};
+///
+/// // "coreinstances"; one instance: 00, module 0, one memory, 42, one global, 17.
+/// let payload = b"\x0Dcoreinstances\x01\0\0\x01\x2A\x01\x11";
+/// let instances = read_instances::<Global, Padded>(payload, Global)?;
+/// let (module, memories, globals) = &instances[0];
+/// assert_eq!((*module, &memories[..], &globals[..]), (0, &[42][..], &[17][..]));
+/// # Ok::<(), DecodeError>(())
+/// ```
 ///
 /// # Proved
 ///
@@ -557,6 +617,17 @@ fn write_process<B: Sink>(name: &str, sink: &mut B) -> Result<()> {
 /// 4294967295, and [`Memory`](crate::fallible::Refused::Memory) if an allocation fails. The
 /// bytes of the sink are then unchanged.
 ///
+/// # Examples
+///
+/// ```
+/// use dolzhytik::fallible::{Refused, append_process};
+///
+/// let mut payload = vec![];
+/// append_process("test", &mut payload)?;
+/// assert_eq!(payload, *b"\x04core\0\x04test");
+/// # Ok::<(), Refused>(())
+/// ```
+///
 /// # Proved
 ///
 /// After `Ok`: `ok`. After an error: `err`. In any case: `too_long`.
@@ -587,6 +658,17 @@ pub fn append_process<B: Sink>(name: &str, sink: &mut B) -> Result<()> {
 /// 4294967295, and [`Memory`](crate::fallible::Refused::Memory) if an allocation fails. The
 /// bytes of the sink are then unchanged.
 ///
+/// # Examples
+///
+/// ```
+/// use dolzhytik::fallible::{Refused, append_modules};
+///
+/// let mut payload = vec![];
+/// append_modules(&["m"], &mut payload)?;
+/// assert_eq!(payload, *b"\x0Bcoremodules\x01\0\x01m");
+/// # Ok::<(), Refused>(())
+/// ```
+///
 /// # Proved
 ///
 /// After `Ok`: `ok`. After an error: `err`. In any case: `too_long`.
@@ -613,6 +695,17 @@ pub fn append_modules<B: Sink>(names: &[&str], sink: &mut B) -> Result<()> {
 /// Returns [`TooLong`](crate::fallible::Refused::TooLong) if a count or length would pass
 /// 4294967295, and [`Memory`](crate::fallible::Refused::Memory) if an allocation fails. The
 /// bytes of the sink are then unchanged.
+///
+/// # Examples
+///
+/// ```
+/// use dolzhytik::fallible::{Global, Refused, append_instances};
+///
+/// let mut payload = vec![];
+/// append_instances::<Global, _>(&[], &mut payload)?;
+/// assert_eq!(payload, *b"\x0Dcoreinstances\0");
+/// # Ok::<(), Refused>(())
+/// ```
 ///
 /// # Proved
 ///

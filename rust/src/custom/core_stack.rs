@@ -204,13 +204,33 @@ impl<A: Allocator> Section for CoreDumpStackSection<A> {
 }
 
 /// A decoded frame of a stack.
+///
+/// [`Items::CoreStack`](crate::reader::Items::CoreStack) has them.
+///
+/// # Examples
+///
+/// ```
+/// use dolzhytik::fallible::{CoreDumpValue, Global};
+/// use dolzhytik::reader::{CoreFrame, DecodeError, Padded, Readable};
+///
+/// // 00, instance 0, function 42, offset 51, one local of type i32 (7F), no values.
+/// let bytes = [0, 0, 42, 51, 1, 0x7F, 1, 0];
+/// let (frame, _) = <CoreFrame as Readable<Global, Padded>>::read(&bytes, Global)?;
+/// assert_eq!((frame.funcidx, frame.codeoffset), (42, 51));
+/// assert!(matches!(frame.locals[..], [CoreDumpValue::I32(1)]));
+/// # Ok::<(), DecodeError>(())
+/// ```
 #[derive(Debug)]
 pub struct CoreFrame<A: Allocator = Global> {
+    /// The index of the instance.
     pub instanceidx: u32,
+    /// The index of the function.
     pub funcidx: u32,
     /// The offset in the function.
     pub codeoffset: u32,
+    /// The values of the locals.
     pub locals: Vec<CoreDumpValue, A>,
+    /// The values of the operand stack.
     pub stack: Vec<CoreDumpValue, A>,
 }
 
@@ -254,6 +274,18 @@ impl<'a, A: Allocator + Copy, G: Grammar> Readable<'a, A, G> for CoreFrame<A> {
 /// # Errors
 ///
 /// Any error but `Memory` means that the bytes are not such a payload.
+///
+/// # Examples
+///
+/// ```
+/// use dolzhytik::fallible::{Global, read_stack};
+/// use dolzhytik::reader::{DecodeError, Padded};
+///
+/// // "corestack", 00, "t"; no frames.
+/// let (thread, frames) = read_stack::<Global, Padded>(b"\x09corestack\0\x01t\0", Global)?;
+/// assert_eq!((thread, frames.len()), ("t", 0));
+/// # Ok::<(), DecodeError>(())
+/// ```
 ///
 /// # Proved
 ///
@@ -326,6 +358,17 @@ fn write_stack<A: Allocator, B: Sink>(
 /// Returns [`TooLong`](crate::fallible::Refused::TooLong) if a count or length would pass
 /// 4294967295, and [`Memory`](crate::fallible::Refused::Memory) if an allocation fails. The
 /// bytes of the sink are then unchanged.
+///
+/// # Examples
+///
+/// ```
+/// use dolzhytik::fallible::{Global, Refused, Vec, append_stack};
+///
+/// let mut payload = vec![];
+/// append_stack("t", &Vec::new(Global), &mut payload)?;
+/// assert_eq!(payload, *b"\x09corestack\0\x01t\0");
+/// # Ok::<(), Refused>(())
+/// ```
 ///
 /// # Proved
 ///

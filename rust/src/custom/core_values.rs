@@ -9,10 +9,15 @@ use crate::immediates::{Ieee32, Ieee64};
 // A value of a local or of the stack, or none if it was optimized away.
 #[derive(Clone, Copy, Debug)]
 pub enum CoreDumpValue {
+    /// A value that is not known: 01.
     Missing,
+    /// An integer of 32 bits: 7F.
     I32(i32),
+    /// An integer of 64 bits: 7E.
     I64(i64),
+    /// A float of 32 bits: 7D.
     F32(Ieee32),
+    /// A float of 64 bits: 7C.
     F64(Ieee64),
 }
 

@@ -69,6 +69,7 @@ pub(crate) fn begin_custom<A: Sink>(
 /// ```
 #[derive(Debug)]
 pub struct CustomSection<'a, A: Allocator = Global> {
+    /// The name.
     pub name: CowStr<'a, A>,
     /// The data.
     pub bytes: CowSlice<'a, u8, A>,

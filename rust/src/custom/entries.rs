@@ -10,6 +10,20 @@ use crate::base::{CowSlice, CowStr, Encode, EncodeOnce, Kind, Pieces, Result, Se
 /// A kind of custom section: its items, its name, the bytes before its entries, and whether the
 /// entries are counted.
 ///
+/// A kind has no value: it is the type argument of [`CustomEntries`](crate::fallible::CustomEntries).
+///
+/// # Examples
+///
+/// ```
+/// use dolzhytik::fallible::{CustomKind, NameItems, ProducerItems};
+///
+/// fn name_of<K: CustomKind>() -> &'static str {
+///     K::name()
+/// }
+///
+/// assert_eq!([name_of::<NameItems>(), name_of::<ProducerItems>()], ["name", "producers"]);
+/// ```
+///
 /// # Defined
 ///
 /// ```text
@@ -76,6 +90,24 @@ pub trait CustomKind: Kind {
 ///
 /// An adding call that returns an error leaves the section unchanged. The error is `TooLong` only
 /// if the section is full or the item does not fit, and `Memory` only if an allocation fails.
+///
+/// It is the builder of custom sections, such as [`NameSection`](crate::fallible::NameSection). The calls that add entries are those of the kind `K`.
+///
+/// # Examples
+///
+/// ```
+/// use dolzhytik::fallible::{CoreDumpModulesSection, CustomEntries, Global, Refused};
+///
+/// /// Returns whether a section of any kind has entries.
+/// fn has_entries<K>(section: &CustomEntries<K>) -> bool {
+///     !section.is_empty()
+/// }
+///
+/// let mut modules = CoreDumpModulesSection::new(Global);
+/// modules.module("a.wasm")?;
+/// assert!(has_entries(&modules));
+/// # Ok::<(), Refused>(())
+/// ```
 #[derive(Debug)]
 pub struct CustomEntries<K, A: Allocator = Global> {
     pieces: Pieces<A>,

@@ -27,6 +27,17 @@ use crate::base::{DecodeError, Encode, Grammar, Kind, Layout, ReadFault, Readabl
 pub type BranchHints<A = Global> = CustomEntries<HintItems, A>;
 
 /// The kind of a branch hint section's items: the hints of one function each.
+///
+/// It is the type argument of [`CustomEntries`](crate::fallible::CustomEntries) in [`BranchHints`](crate::fallible::BranchHints).
+///
+/// # Examples
+///
+/// ```
+/// use dolzhytik::fallible::{BranchHints, CustomKind, Global, HintItems};
+///
+/// let section = BranchHints::new(Global);
+/// assert_eq!((section.len(), HintItems::name()), (0, "metadata.code.branch_hint"));
+/// ```
 #[derive(Clone, Copy, Debug)]
 pub struct HintItems;
 
@@ -227,6 +238,20 @@ impl<'a, A: Allocator + Copy, G: Grammar> DecodesItems<'a, (u32, Vec<BranchHint,
 ///
 /// Any error but `Memory` means that the bytes are not such a payload.
 ///
+/// # Examples
+///
+/// ```
+/// use dolzhytik::fallible::{Global, read_hints};
+/// use dolzhytik::reader::{DecodeError, Padded};
+///
+/// // The name; one function, 7, of one hint: offset 3, one byte, likely.
+/// let payload = b"\x19metadata.code.branch_hint\x01\x07\x01\x03\x01\x01";
+/// let functions = read_hints::<Global, Padded>(payload, Global)?;
+/// let (function, hints) = &functions[0];
+/// assert_eq!((*function, hints[0].branch_func_offset, hints[0].branch_hint_value), (7, 3, 1));
+/// # Ok::<(), DecodeError>(())
+/// ```
+///
 /// # Proved
 ///
 /// After `Ok`: `found`. After an error: `none`.
@@ -255,6 +280,18 @@ pub fn read_hints<'a, A: Allocator + Copy, G: Grammar>(
 /// Returns [`TooLong`](crate::fallible::Refused::TooLong) if a count or length would pass
 /// 4294967295, and [`Memory`](crate::fallible::Refused::Memory) if an allocation fails. The
 /// bytes of the sink are then unchanged.
+///
+/// # Examples
+///
+/// ```
+/// use dolzhytik::fallible::{Global, Refused, append_hints};
+///
+/// let mut payload = vec![];
+/// append_hints::<Global, _>(&[], &mut payload)?;
+/// // The name, no functions.
+/// assert_eq!(payload, *b"\x19metadata.code.branch_hint\0");
+/// # Ok::<(), Refused>(())
+/// ```
 ///
 /// # Proved
 ///

@@ -21,6 +21,17 @@ use crate::base::{DecodeError, Grammar, Layout, Readable, Result, Shorten};
 pub type InitFunctions<A = Global> = CountedList<InitMembers, A>;
 
 /// The kind of the members of a list of init functions.
+///
+/// It is the type argument of [`CountedList`](crate::fallible::CountedList) in [`InitFunctions`](crate::fallible::InitFunctions).
+///
+/// # Examples
+///
+/// ```
+/// use dolzhytik::fallible::{Global, InitFunctions, InitMembers, ListKind};
+///
+/// let list = InitFunctions::new(Global);
+/// assert_eq!((list.len(), InitMembers::subsection()), (0, Some(6)));
+/// ```
 #[derive(Clone, Copy, Debug)]
 pub struct InitMembers;
 
@@ -63,6 +74,20 @@ impl<A: Allocator> InitFunctions<A> {
 }
 
 /// A function that the linked module calls when it starts.
+///
+/// It is an item of [`LinkItem::InitFunctions`](crate::reader::LinkItem::InitFunctions).
+///
+/// # Examples
+///
+/// ```
+/// use dolzhytik::fallible::{Global, InitFunction};
+/// use dolzhytik::reader::{DecodeError, Readable, Standard};
+///
+/// // The priority 10, the symbol 3.
+/// let (function, _) = <InitFunction as Readable<Global, Standard>>::read(&[10, 3], Global)?;
+/// assert_eq!((function.priority, function.symbol), (10, 3));
+/// # Ok::<(), DecodeError>(())
+/// ```
 #[derive(Clone, Copy, Debug)]
 pub struct InitFunction {
     /// Functions of a lower priority are called first.

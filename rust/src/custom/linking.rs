@@ -32,6 +32,17 @@ use crate::base::{DecodeError, Encode, Grammar, Kind, Layout, ReadFault, Readabl
 pub type LinkingSection<A = Global> = CustomEntries<LinkingItems, A>;
 
 /// The kind of a linking section's items: subsections.
+///
+/// It is the type argument of [`CustomEntries`](crate::fallible::CustomEntries) in [`LinkingSection`](crate::fallible::LinkingSection).
+///
+/// # Examples
+///
+/// ```
+/// use dolzhytik::fallible::{CustomKind, Global, LinkingItems, LinkingSection};
+///
+/// let section = LinkingSection::new(Global);
+/// assert_eq!((section.len(), LinkingItems::name()), (0, "linking"));
+/// ```
 #[derive(Clone, Copy, Debug)]
 pub struct LinkingItems;
 
@@ -127,6 +138,23 @@ const VERSION: u32 = 2;
 
 /// A decoded subsection of a linking section. The builders' grammar has symbol tables and
 /// architectures alone.
+///
+/// [`Items::Linking`](crate::reader::Items::Linking) has them.
+///
+/// # Examples
+///
+/// ```
+/// use dolzhytik::fallible::{Global, read_links};
+/// use dolzhytik::reader::{DecodeError, LinkItem, Padded, Symbol};
+///
+/// // "linking", version 2; a symbol table: 8, size 6, one symbol: a function (0), no flags, the index
+/// // 5, "f".
+/// let payload = b"\x07linking\x02\x08\x06\x01\0\0\x05\x01f";
+/// let items = read_links::<Global, Padded>(payload, Global)?;
+/// let LinkItem::Symbols(symbols) = &items[0] else { panic!("another subsection") };
+/// assert!(matches!(symbols[..], [Symbol::Function { index: 5, name: Some("f"), .. }]));
+/// # Ok::<(), DecodeError>(())
+/// ```
 #[derive(Debug)]
 pub enum LinkItem<'a, A: Allocator = Global> {
     /// The data segments, in the order of the data section.
@@ -257,6 +285,18 @@ fn after_version<'a, A: Allocator + Copy, G: Grammar>(
 ///
 /// Any error but `Memory` means that the bytes are not such a payload.
 ///
+/// # Examples
+///
+/// ```
+/// use dolzhytik::fallible::{Global, read_links};
+/// use dolzhytik::reader::{DecodeError, Padded};
+///
+/// // "linking", version 2, no subsections.
+/// let items = read_links::<Global, Padded>(b"\x07linking\x02", Global)?;
+/// assert!(items.is_empty());
+/// # Ok::<(), DecodeError>(())
+/// ```
+///
 /// # Proved
 ///
 /// After `Ok`: `found`. After an error: `none`.
@@ -375,6 +415,17 @@ fn write_links<A: Allocator, B: Sink>(
 /// Returns [`TooLong`](crate::fallible::Refused::TooLong) if a count or length would pass
 /// 4294967295, and [`Memory`](crate::fallible::Refused::Memory) if an allocation fails. The
 /// bytes of the sink are then unchanged.
+///
+/// # Examples
+///
+/// ```
+/// use dolzhytik::fallible::{Global, Refused, append_links};
+///
+/// let mut payload = vec![];
+/// append_links::<Global, _>(&[], &mut payload)?;
+/// assert_eq!(payload, *b"\x07linking\x02");
+/// # Ok::<(), Refused>(())
+/// ```
 ///
 /// # Proved
 ///

@@ -9,6 +9,17 @@ use crate::base::{Encode, Pieces, Result, encoding_size};
 
 /// A kind of members of a list, and their encoding.
 ///
+/// A kind has no value: it is the type argument of [`CountedList`](crate::fallible::CountedList).
+///
+/// # Examples
+///
+/// ```
+/// use dolzhytik::fallible::{ListKind, NameMembers, SymbolMembers};
+///
+/// // A symbol table is the subsection 8 of a linking section.
+/// assert_eq!((SymbolMembers::subsection(), NameMembers::subsection()), (Some(8), None));
+/// ```
+///
 /// # Defined
 ///
 /// ```text
@@ -19,8 +30,7 @@ use crate::base::{Encode, Pieces, Result, encoding_size};
 /// // A property of each member that is added.
 /// is_member: { Member → Type 0 }
 /// // The id of the subsection that a list is encoded as, or none if it is encoded as a
-///     vector
-/// // alone.
+/// // vector alone.
 /// subsection: { Option ℕ }
 /// ```
 ///
@@ -44,6 +54,22 @@ pub trait ListKind {
 ///
 /// An adding call that returns an error leaves the list unchanged. The error is `TooLong` only if
 /// the list is full or the member does not fit, and `Memory` only if an allocation fails.
+///
+/// It is a list in a custom section, such as [`NameMap`](crate::fallible::NameMap). The calls that add members are those of the kind `K`.
+///
+/// # Examples
+///
+/// ```
+/// use dolzhytik::fallible::{Encode, Global, NameMap, Refused};
+///
+/// let mut names = NameMap::new(Global);
+/// names.append(5, "f")?;
+/// let mut bytes = vec![];
+/// names.encode(&mut bytes)?;
+/// // One name: the index 5, "f".
+/// assert_eq!(bytes, *b"\x01\x05\x01f");
+/// # Ok::<(), Refused>(())
+/// ```
 #[derive(Debug)]
 pub struct CountedList<K: ListKind, A: Allocator = Global> {
     pieces: Pieces<A>,

@@ -12,9 +12,35 @@ use crate::base::{CowSlice, CowStr, DecodeError, Encode, Grammar, Kind, Layout, 
 
 /// A name map: indices and their names. The calls check neither their order nor whether an index is
 /// repeated.
+///
+/// It is a [`CountedList`](crate::fallible::CountedList), which [`NameSection`](crate::fallible::NameSection) takes.
+///
+/// # Examples
+///
+/// ```
+/// use dolzhytik::fallible::{Global, NameMap, NameSection, Refused};
+///
+/// let mut functions = NameMap::new(Global);
+/// functions.append(0, "main")?;
+/// let mut names = NameSection::new(Global);
+/// names.functions(&functions)?;
+/// assert_eq!(names.len(), 1);
+/// # Ok::<(), Refused>(())
+/// ```
 pub type NameMap<A = Global> = CountedList<NameMembers, A>;
 
 /// The kind of a name map's members: an index, and its name.
+///
+/// It is the type argument of [`CountedList`](crate::fallible::CountedList) in [`NameMap`](crate::fallible::NameMap).
+///
+/// # Examples
+///
+/// ```
+/// use dolzhytik::fallible::{Global, ListKind, NameMap, NameMembers};
+///
+/// let list = NameMap::new(Global);
+/// assert_eq!((list.len(), NameMembers::subsection()), (0, None));
+/// ```
 #[derive(Clone, Copy, Debug)]
 pub struct NameMembers;
 
@@ -91,9 +117,38 @@ impl Encode for IndexedName<'_> {
 
 /// An indirect name map: indices, each with a name map for the items in it, such as the locals of
 /// functions. The calls check neither their order nor whether an index is repeated.
+///
+/// It is a [`CountedList`](crate::fallible::CountedList), which [`NameSection`](crate::fallible::NameSection) takes.
+///
+/// # Examples
+///
+/// ```
+/// use dolzhytik::fallible::{Encode, Global, IndirectNameMap, NameMap, Refused};
+///
+/// let mut parameters = NameMap::new(Global);
+/// parameters.append(0, "x")?;
+/// let mut locals = IndirectNameMap::new(Global);
+/// locals.append(5, &parameters)?;
+/// let mut bytes = vec![];
+/// locals.encode(&mut bytes)?;
+/// // One function, 5, of one name: the index 0, "x".
+/// assert_eq!(bytes, [1, 5, 1, 0, 1, b'x']);
+/// # Ok::<(), Refused>(())
+/// ```
 pub type IndirectNameMap<A = Global> = CountedList<IndirectMembers, A>;
 
 /// The kind of an indirect name map's members: an index, and the names of the items in it.
+///
+/// It is the type argument of [`CountedList`](crate::fallible::CountedList) in [`IndirectNameMap`](crate::fallible::IndirectNameMap).
+///
+/// # Examples
+///
+/// ```
+/// use dolzhytik::fallible::{Global, IndirectMembers, IndirectNameMap, ListKind};
+///
+/// let list = IndirectNameMap::new(Global);
+/// assert_eq!((list.len(), IndirectMembers::subsection()), (0, None));
+/// ```
 #[derive(Clone, Copy, Debug)]
 pub struct IndirectMembers;
 
@@ -156,6 +211,17 @@ impl<A: Allocator> IndirectNameMap<A> {
 pub type NameSection<A = Global> = CustomEntries<NameItems, A>;
 
 /// The kind of a name section's items: subsections.
+///
+/// It is the type argument of [`CustomEntries`](crate::fallible::CustomEntries) in [`NameSection`](crate::fallible::NameSection).
+///
+/// # Examples
+///
+/// ```
+/// use dolzhytik::fallible::{CustomKind, Global, NameItems, NameSection};
+///
+/// let section = NameSection::new(Global);
+/// assert_eq!((section.len(), NameItems::name()), (0, "name"));
+/// ```
 #[derive(Clone, Copy, Debug)]
 pub struct NameItems;
 
@@ -592,24 +658,46 @@ impl<A: Allocator> NameSection<A> {
 }
 
 /// A decoded subsection of a name section.
+///
+/// [`Items::Names`](crate::reader::Items::Names) has them.
+///
+/// # Examples
+///
+/// ```
+/// use dolzhytik::fallible::{Global, read_names};
+/// use dolzhytik::reader::{DecodeError, NameItem, Padded};
+///
+/// // "name"; the subsection 1, functions: size 4, one name: the index 5, "f".
+/// let payload = b"\x04name\x01\x04\x01\x05\x01f";
+/// let items = read_names::<Global, Padded>(payload, Global)?;
+/// let NameItem::Map { id: 1, names } = &items[0] else { panic!("another subsection") };
+/// assert_eq!(names[..], [(5, "f")]);
+/// # Ok::<(), DecodeError>(())
+/// ```
 #[derive(Debug)]
 pub enum NameItem<'a, A: Allocator = Global> {
     /// The name of the module.
     Module(&'a str),
     /// A name map: indices of the kind that the id selects, such as functions, and their names.
     Map {
+        /// The id of the subsection.
         id: u8,
+        /// The indices and the names.
         names: Vec<(u32, &'a str), A>,
     },
     /// An indirect name map: indices of the outer kind, such as functions for locals, each with the
     /// indices and names in it.
     Indirect {
+        /// The id of the subsection.
         id: u8,
+        /// The indices, and the names of each.
         maps: Vec<(u32, Vec<(u32, &'a str), A>), A>,
     },
     /// A subsection of another id.
     Other {
+        /// The id of the subsection.
         id: u8,
+        /// The content, without its size prefix.
         bytes: &'a [u8],
     },
 }
@@ -716,6 +804,18 @@ impl<'a, A: Allocator + Copy + 'a, G: Grammar> Readable<'a, A, G> for NameItem<'
 /// # Errors
 ///
 /// Any error but `Memory` means that the bytes are not such a payload.
+///
+/// # Examples
+///
+/// ```
+/// use dolzhytik::fallible::{Global, read_names};
+/// use dolzhytik::reader::{DecodeError, NameItem, Padded};
+///
+/// // "name"; the subsection 0: size 2, the name of the module.
+/// let items = read_names::<Global, Padded>(b"\x04name\0\x02\x01m", Global)?;
+/// assert!(matches!(items[..], [NameItem::Module("m")]));
+/// # Ok::<(), DecodeError>(())
+/// ```
 ///
 /// # Proved
 ///
@@ -831,6 +931,18 @@ fn write_names<A: Allocator, B: Sink>(
 /// Returns [`TooLong`](crate::fallible::Refused::TooLong) if a count or length would pass
 /// 4294967295, and [`Memory`](crate::fallible::Refused::Memory) if an allocation fails. The
 /// bytes of the sink are then unchanged.
+///
+/// # Examples
+///
+/// ```
+/// use dolzhytik::fallible::{Global, Refused, append_names};
+/// use dolzhytik::reader::NameItem;
+///
+/// let mut payload = vec![];
+/// append_names::<Global, _>(&[NameItem::Module("m")], &mut payload)?;
+/// assert_eq!(payload, *b"\x04name\0\x02\x01m");
+/// # Ok::<(), Refused>(())
+/// ```
 ///
 /// # Proved
 ///

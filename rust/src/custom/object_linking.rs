@@ -36,6 +36,17 @@ use crate::base::{Kind, Result};
 pub type ObjectLinking<A = Global> = CustomEntries<ObjectLinkingItems, A>;
 
 /// The kind of the items of an object file's linking section: subsections.
+///
+/// It is the type argument of [`CustomEntries`](crate::fallible::CustomEntries) in [`ObjectLinking`](crate::fallible::ObjectLinking).
+///
+/// # Examples
+///
+/// ```
+/// use dolzhytik::fallible::{CustomKind, Global, ObjectLinking, ObjectLinkingItems};
+///
+/// let section = ObjectLinking::new(Global);
+/// assert_eq!((section.len(), ObjectLinkingItems::name()), (0, "linking"));
+/// ```
 #[derive(Clone, Copy, Debug)]
 pub struct ObjectLinkingItems;
 

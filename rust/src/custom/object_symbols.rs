@@ -23,6 +23,17 @@ use crate::base::{Optional, Result};
 pub type ObjectSymbols<A = Global> = CountedList<ObjectSymbolMembers, A>;
 
 /// The kind of the members of an object file's symbol table.
+///
+/// It is the type argument of [`CountedList`](crate::fallible::CountedList) in [`ObjectSymbols`](crate::fallible::ObjectSymbols).
+///
+/// # Examples
+///
+/// ```
+/// use dolzhytik::fallible::{Global, ListKind, ObjectSymbolMembers, ObjectSymbols};
+///
+/// let list = ObjectSymbols::new(Global);
+/// assert_eq!((list.len(), ObjectSymbolMembers::subsection()), (0, Some(8)));
+/// ```
 #[derive(Clone, Copy, Debug)]
 pub struct ObjectSymbolMembers;
 

@@ -9,9 +9,36 @@ use crate::alloc::{Allocator, Global};
 use crate::base::{DecodeError, Grammar, Kind, Lent, Readable, Result, Shorten};
 
 /// The values of a producers field: the tools that produced the module, and their versions.
+///
+/// It is a [`CountedList`](crate::fallible::CountedList), which [`ProducersSection`](crate::fallible::ProducersSection) takes.
+///
+/// # Examples
+///
+/// ```
+/// use dolzhytik::fallible::{Encode, Global, ProducersField, Refused};
+///
+/// let mut languages = ProducersField::new(Global);
+/// languages.value("C", "99")?;
+/// let mut bytes = vec![];
+/// languages.encode(&mut bytes)?;
+/// // One value: "C", "99".
+/// assert_eq!(bytes, *b"\x01\x01C\x0299");
+/// # Ok::<(), Refused>(())
+/// ```
 pub type ProducersField<A = Global> = CountedList<ValueMembers, A>;
 
 /// The kind of a field's members: a name, and its version.
+///
+/// It is the type argument of [`CountedList`](crate::fallible::CountedList) in [`ProducersField`](crate::fallible::ProducersField).
+///
+/// # Examples
+///
+/// ```
+/// use dolzhytik::fallible::{Global, ListKind, ProducersField, ValueMembers};
+///
+/// let list = ProducersField::new(Global);
+/// assert_eq!((list.len(), ValueMembers::subsection()), (0, None));
+/// ```
 #[derive(Clone, Copy, Debug)]
 pub struct ValueMembers;
 
@@ -73,6 +100,17 @@ impl<A: Allocator> ProducersField<A> {
 pub type ProducersSection<A = Global> = CustomEntries<ProducerItems, A>;
 
 /// The kind of a producers section's items: fields.
+///
+/// It is the type argument of [`CustomEntries`](crate::fallible::CustomEntries) in [`ProducersSection`](crate::fallible::ProducersSection).
+///
+/// # Examples
+///
+/// ```
+/// use dolzhytik::fallible::{CustomKind, Global, ProducerItems, ProducersSection};
+///
+/// let section = ProducersSection::new(Global);
+/// assert_eq!((section.len(), ProducerItems::name()), (0, "producers"));
+/// ```
 #[derive(Clone, Copy, Debug)]
 pub struct ProducerItems;
 
@@ -186,6 +224,19 @@ impl<'a, A: Allocator + Copy + 'a, G: Grammar> DecodesItems<
 ///
 /// Any error but `Memory` means that the bytes are not such a payload.
 ///
+/// # Examples
+///
+/// ```
+/// use dolzhytik::fallible::{Global, read_producers};
+/// use dolzhytik::reader::{DecodeError, Padded};
+///
+/// // "producers"; one field, "language", of one value: "C", "99".
+/// let payload = b"\x09producers\x01\x08language\x01\x01C\x0299";
+/// let fields = read_producers::<Global, Padded>(payload, Global)?;
+/// assert_eq!((fields[0].0, &fields[0].1[..]), ("language", &[("C", "99")][..]));
+/// # Ok::<(), DecodeError>(())
+/// ```
+///
 /// # Proved
 ///
 /// After `Ok`: `found`. After an error: `none`.
@@ -214,6 +265,18 @@ pub fn read_producers<'a, A: Allocator + Copy + 'a, G: Grammar>(
 /// Returns [`TooLong`](crate::fallible::Refused::TooLong) if a count or length would pass
 /// 4294967295, and [`Memory`](crate::fallible::Refused::Memory) if an allocation fails. The
 /// bytes of the sink are then unchanged.
+///
+/// # Examples
+///
+/// ```
+/// use dolzhytik::fallible::{Global, Refused, Vec, append_producers};
+///
+/// let mut payload = vec![];
+/// append_producers(&Vec::new(Global), &mut payload)?;
+/// // "producers", no fields.
+/// assert_eq!(payload, *b"\x09producers\0");
+/// # Ok::<(), Refused>(())
+/// ```
 ///
 /// # Proved
 ///

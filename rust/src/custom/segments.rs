@@ -21,6 +21,17 @@ use crate::base::{DecodeError, Grammar, Layout, Readable, Result, Shorten};
 pub type SegmentInfos<A = Global> = CountedList<SegmentMembers, A>;
 
 /// The kind of the members of a list of segments.
+///
+/// It is the type argument of [`CountedList`](crate::fallible::CountedList) in [`SegmentInfos`](crate::fallible::SegmentInfos).
+///
+/// # Examples
+///
+/// ```
+/// use dolzhytik::fallible::{Global, ListKind, SegmentInfos, SegmentMembers};
+///
+/// let list = SegmentInfos::new(Global);
+/// assert_eq!((list.len(), SegmentMembers::subsection()), (0, Some(5)));
+/// ```
 #[derive(Clone, Copy, Debug)]
 pub struct SegmentMembers;
 
@@ -66,11 +77,28 @@ impl<A: Allocator> SegmentInfos<A> {
 
 /// The name, the alignment and the flags of a data segment, for a linker. The segments of a module
 /// are listed in the order of its data section.
+///
+/// It is an item of [`LinkItem::Segments`](crate::reader::LinkItem::Segments).
+///
+/// # Examples
+///
+/// ```
+/// use dolzhytik::fallible::{Global, SegmentInfo};
+/// use dolzhytik::reader::{DecodeError, Readable, Standard};
+///
+/// // ".data", the alignment 2 (4 bytes), no flags.
+/// let bytes = b"\x05.data\x02\0";
+/// let (info, _) = <SegmentInfo as Readable<Global, Standard>>::read(bytes, Global)?;
+/// assert_eq!((info.name, info.alignment), (".data", 2));
+/// # Ok::<(), DecodeError>(())
+/// ```
 #[derive(Clone, Copy, Debug)]
 pub struct SegmentInfo<'a> {
+    /// The name of the segment.
     pub name: &'a str,
     /// The exponent of the alignment: 2 to this power is the alignment in bytes.
     pub alignment: u32,
+    /// The flags.
     pub flags: u32,
 }
 

@@ -23,6 +23,17 @@ use crate::base::{DecodeError, Encode, Grammar, Layout, Optional, ReadFault, Rea
 pub type SymbolTable<A = Global> = CountedList<SymbolMembers, A>;
 
 /// The kind of a symbol table's members.
+///
+/// It is the type argument of [`CountedList`](crate::fallible::CountedList) in [`SymbolTable`](crate::fallible::SymbolTable).
+///
+/// # Examples
+///
+/// ```
+/// use dolzhytik::fallible::{Global, ListKind, SymbolMembers, SymbolTable};
+///
+/// let list = SymbolTable::new(Global);
+/// assert_eq!((list.len(), SymbolMembers::subsection()), (0, Some(8)));
+/// ```
 #[derive(Clone, Copy, Debug)]
 pub struct SymbolMembers;
 
@@ -70,11 +81,26 @@ impl Encode for DataSymbolDefinition {
 }
 
 /// The kind of a symbol with an index.
+///
+/// # Examples
+///
+/// ```
+/// use dolzhytik::fallible::{Encode, Refused, SymbolKind};
+///
+/// let mut bytes = vec![];
+/// SymbolKind::Table.encode(&mut bytes)?;
+/// assert_eq!(bytes, [0x05]);
+/// # Ok::<(), Refused>(())
+/// ```
 #[derive(Clone, Copy, Debug)]
 pub enum SymbolKind {
+    /// A function: 00.
     Function = 0x00,
+    /// A global: 02.
     Global = 0x02,
+    /// A tag: 04.
     Tag = 0x04,
+    /// A table: 05.
     Table = 0x05,
 }
 
@@ -289,39 +315,72 @@ impl<A: Allocator> SymbolTable<A> {
 }
 
 /// A decoded symbol. If its flags say that it has no explicit name, its name is that of the import.
+///
+/// [`LinkItem::Symbols`](crate::reader::LinkItem::Symbols) has them.
+///
+/// # Examples
+///
+/// ```
+/// use dolzhytik::fallible::Global;
+/// use dolzhytik::reader::{DecodeError, Padded, Readable, Symbol};
+///
+/// // A data symbol (1), undefined (10), "d".
+/// let (symbol, _) = <Symbol as Readable<Global, Padded>>::read(&[1, 0x10, 1, b'd'], Global)?;
+/// assert!(matches!(symbol, Symbol::DataSymbol { name: "d", definition: None, .. }));
+/// # Ok::<(), DecodeError>(())
+/// ```
 #[derive(Clone, Copy, Debug)]
 pub enum Symbol<'a> {
+    /// A function.
     Function {
+        /// The flags.
         flags: u32,
+        /// The index of the function.
         index: u32,
+        /// The name, unless it is that of the import.
         name: Option<&'a str>,
     },
+    /// A global.
     Global {
+        /// The flags.
         flags: u32,
+        /// The index of the global.
         index: u32,
+        /// The name, unless it is that of the import.
         name: Option<&'a str>,
     },
+    /// A table.
     Table {
+        /// The flags.
         flags: u32,
+        /// The index of the table.
         index: u32,
+        /// The name, unless it is that of the import.
         name: Option<&'a str>,
     },
+    /// Bytes of a data segment.
     DataSymbol {
+        /// The flags.
         flags: u32,
+        /// The name.
         name: &'a str,
         /// `None` if the flags say that the data are not defined in this module.
         definition: Option<DataSymbolDefinition>,
     },
     /// A section, which only the standard's grammar has as a symbol.
     Section {
+        /// The flags.
         flags: u32,
         /// The index of the section in the module.
         section: u32,
     },
     /// A tag, which only the standard's grammar has as a symbol.
     Tag {
+        /// The flags.
         flags: u32,
+        /// The index of the tag.
         index: u32,
+        /// The name, unless it is that of the import.
         name: Option<&'a str>,
     },
 }

@@ -8,17 +8,41 @@ use crate::base::{DecodeError, Encode, Grammar, Layout, ReadFault, Readable, Res
 // A clause of `try_table`: the exceptions that it catches, and the label that it then branches to.
 #[derive(Clone, Copy, Debug)]
 pub enum Catch {
-    One { tag: u32, label: u32 },
-    OneRef { tag: u32, label: u32 },
-    All { label: u32 },
-    AllRef { label: u32 },
+    /// Catches exceptions of a tag.
+    One {
+        /// The index of the tag.
+        tag: u32,
+        /// The label to branch to.
+        label: u32 },
+    /// Catches exceptions of a tag, and passes a reference to the exception too.
+    OneRef {
+        /// The index of the tag.
+        tag: u32,
+        /// The label to branch to.
+        label: u32 },
+    /// Catches all exceptions.
+    All {
+        /// The label to branch to.
+        label: u32 },
+    /// Catches all exceptions, and passes a reference to the exception.
+    AllRef {
+        /// The label to branch to.
+        label: u32 },
 }
 
 // A clause of `resume` and its variants: the action for a suspension with a tag.
 #[derive(Clone, Copy, Debug)]
 pub enum Handle {
-    OnLabel { tag: u32, label: u32 },
-    OnSwitch { tag: u32 },
+    /// Branches to a label when the code suspends with a tag.
+    OnLabel {
+        /// The index of the tag.
+        tag: u32,
+        /// The label to branch to.
+        label: u32 },
+    /// Admits switches with a tag.
+    OnSwitch {
+        /// The index of the tag.
+        tag: u32 },
 }
 
 /// Encodes a clause as its kind in one byte, the tag if it has one, and the label.

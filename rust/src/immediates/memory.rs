@@ -16,6 +16,7 @@ pub struct MemArg {
     pub offset: u64,
     /// The expected alignment, as an exponent of 2.
     pub align: u32,
+    /// The memory, or the array type.
     pub target: MemArgTarget,
     /// The ordering of an atomic access, if it differs from the default of the instruction.
     pub ordering: Option<MemArgOrdering>,
@@ -33,14 +34,18 @@ pub enum MemArgTarget {
 // The ordering of an access: of a single operation, or of a read-modify-write.
 #[derive(Clone, Copy, PartialEq, Eq, Hash, Debug)]
 pub enum MemArgOrdering {
+    /// The ordering of a load or a store.
     Op(Ordering),
+    /// The ordering of a read-modify-write instruction.
     Rmw(Ordering),
 }
 
 // The ordering of atomic accesses.
 #[derive(Clone, Copy, PartialEq, Eq, Hash, Debug)]
 pub enum Ordering {
+    /// Acquire and release: 01.
     AcqRel = 0x01,
+    /// Sequential consistency: 00.
     SeqCst = 0x00,
 }
 

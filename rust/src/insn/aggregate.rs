@@ -5,6 +5,20 @@ use crate::insn::instruction::Instruction;
 use crate::insn::op::Op;
 
 /// Instructions on aggregates and references without fields: those after the prefix FB.
+///
+/// It is a case of [`Instruction`](crate::fallible::Instruction), which has a constant for each.
+///
+/// # Examples
+///
+/// ```
+/// use dolzhytik::fallible::{Aggregate, Encode, Instruction, Refused};
+///
+/// let instruction: Instruction = Instruction::Aggregate(Aggregate::ArrayLen);
+/// let mut bytes = Vec::new();
+/// instruction.encode(&mut bytes)?;
+/// assert_eq!(bytes, [0xFB, 15]);
+/// # Ok::<(), Refused>(())
+/// ```
 #[derive(Clone, Copy, Debug)]
 pub enum Aggregate {
     /// `array.len` (opcode 0xFB 15), an aggregate instruction that returns the number of elements of an array.

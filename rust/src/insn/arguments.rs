@@ -9,6 +9,24 @@ use crate::base::{DecodeError, Dropped, Encode, Grammar, HeapType, ReadFault, Re
 use crate::immediates::{BlockType, Catch, Handle, Ieee32, Ieee64, MemArg, Ordering};
 
 /// An argument of an instruction, decoded from one immediate of its shape.
+///
+/// [`Plain`](crate::reader::Plain) and [`Instructions::args`](crate::reader::Instructions::args) have them.
+///
+/// # Examples
+///
+/// ```
+/// use dolzhytik::fallible::Global;
+/// use dolzhytik::reader::{Arg, DecodeError, Instructions};
+///
+/// // br_table: 0E, one label, 5, and the default label, 6.
+/// let mut instructions = Instructions::new(&[0x0E, 1, 5, 6], Global);
+/// instructions.next()?;
+/// let [Arg::Labels(labels), Arg::U32(default)] = instructions.args() else {
+///     panic!("other immediates");
+/// };
+/// assert_eq!((&labels[..], *default), (&[5][..], 6));
+/// # Ok::<(), DecodeError>(())
+/// ```
 #[derive(Debug)]
 pub enum Arg<A: Allocator = Global> {
     /// A number of 32 bits: an index, a label or a length.
@@ -17,21 +35,31 @@ pub enum Arg<A: Allocator = Global> {
     S32(i32),
     /// A constant of 64 bits.
     S64(i64),
+    /// A float of 32 bits.
     F32(Ieee32),
+    /// A float of 64 bits.
     F64(Ieee64),
     /// A vector of 128 bits, as a number in two's complement.
     V128(i128),
+    /// A memory argument.
     Mem(MemArg),
+    /// The index of a lane.
     Lane(u8),
     /// The lanes of a shuffle.
     Lanes([u8; 16]),
+    /// A block type.
     Block(BlockType),
+    /// A heap type.
     Heap(HeapType),
+    /// An ordering.
     Order(Ordering),
     /// The labels of a branch table, without its default.
     Labels(Vec<u32, A>),
+    /// The catch clauses of `try_table`.
     Catches(Vec<Catch, A>),
+    /// The types of `select`.
     Types(Vec<ValType, A>),
+    /// The handlers of `resume` and its like.
     Handles(Vec<Handle, A>),
     /// The flags of a cast, below 4: bit 0 is set if the first of its two types is nullable, bit 1
     /// if the second is.

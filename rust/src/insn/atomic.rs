@@ -8,6 +8,21 @@ use crate::base::{Encode, Result};
 use crate::immediates::{MemArg, Ordering};
 
 /// Atomic instructions: those after the prefix FE.
+///
+/// It is a case of [`Instruction`](crate::fallible::Instruction).
+///
+/// # Examples
+///
+/// ```
+/// use dolzhytik::fallible::{Atomic, Encode, Instruction, Ordering, Refused};
+///
+/// let instruction: Instruction = Instruction::Atomic(Atomic::AtomicFence(Ordering::SeqCst));
+/// let mut bytes = Vec::new();
+/// instruction.encode(&mut bytes)?;
+/// assert_eq!(bytes, [0xFE, 3, 0]);
+/// # Ok::<(), Refused>(())
+/// ```
+#[doc(alias = "threads")]
 #[derive(Clone, Copy, Debug)]
 pub enum Atomic {
     /// `memory.atomic.notify` (opcode 0xFE 0), an atomic instruction of the threads proposal that wakes threads that wait at an address.

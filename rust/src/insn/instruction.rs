@@ -19,6 +19,29 @@ use crate::immediates::{BlockType, Catch, Handle, Ieee32, Ieee64, MemArg};
 /// One-byte instructions outside 45 to C4 (hexadecimal), and those with fields of the prefixes FB
 /// and FC, are cases of their own. The others are in an enum for each group of opcodes. Those
 /// without fields also have a constant here, such as `Instruction::I32Add`.
+///
+/// [`Function::instruction`](crate::fallible::Function::instruction) appends one. [`InstructionSink`](crate::fallible::InstructionSink) has calls for the most common ones.
+///
+/// # Examples
+///
+/// ```
+/// use dolzhytik::fallible::{CowSlice, Encode, Instruction, Refused};
+///
+/// let table: Instruction = Instruction::BrTable(CowSlice::Borrowed(&[0, 0]), 0);
+/// let mut bytes = Vec::new();
+/// for instruction in [Instruction::I32Const(-1), Instruction::I32Add, table] {
+///     instruction.encode(&mut bytes)?;
+/// }
+/// // i32.const: 41 and -1 as signed LEB128. i32.add: 6A. br_table: 0E, two labels, the default one.
+/// assert_eq!(bytes, [0x41, 0x7F, 0x6A, 0x0E, 2, 0, 0, 0]);
+/// # Ok::<(), Refused>(())
+/// ```
+#[doc(alias = "opcode")]
+#[doc(alias = "operator")]
+#[doc(alias = "mnemonic")]
+#[doc(alias = "wat")]
+#[doc(alias = "assemble")]
+
 pub enum Instruction<'a, A: Allocator = Global> {
     /// `unreachable` (opcode 0x00), a control instruction that traps.
     Unreachable,

@@ -5,6 +5,21 @@ use crate::insn::instruction::Instruction;
 use crate::insn::op::Op;
 
 /// Numeric instructions, the ops 45 to C4.
+///
+/// It is a case of [`Instruction`](crate::fallible::Instruction), which has a constant for each.
+///
+/// # Examples
+///
+/// ```
+/// use dolzhytik::fallible::{Encode, Instruction, Numeric, Refused};
+///
+/// let add: Instruction = Instruction::Numeric(Numeric::I32Add);
+/// let mut bytes = Vec::new();
+/// add.encode(&mut bytes)?;
+/// Instruction::I32Add.encode(&mut bytes)?;
+/// assert_eq!(bytes, [0x6A, 0x6A]);
+/// # Ok::<(), Refused>(())
+/// ```
 #[derive(Clone, Copy, Debug)]
 pub enum Numeric {
     /// `i32.eqz` (opcode 0x45), a numeric instruction that tests whether an integer is zero.

@@ -9,9 +9,24 @@ use crate::base::{DecodeError, Encode, Grammar, Layout, ReadFault, Readable, Res
 
 /// An instruction in normal form: its opcode, and an argument for each immediate of the opcode's
 /// shape.
+///
+/// # Examples
+///
+/// ```
+/// use dolzhytik::fallible::{Global, Op};
+/// use dolzhytik::reader::{Arg, DecodeError, Padded, Plain, Readable};
+///
+/// let (plain, _) = <Plain as Readable<Global, Padded>>::read(&[0x41, 0x7F], Global)?;
+/// // i32.const -1.
+/// assert_eq!(plain.op, Op::Byte(0x41));
+/// assert!(matches!(plain.args[..], [Arg::S32(-1)]));
+/// # Ok::<(), DecodeError>(())
+/// ```
 #[derive(Debug)]
 pub struct Plain<A: Allocator = Global> {
+    /// The opcode.
     pub op: Op,
+    /// The immediates, in the order of their encoding.
     pub args: Vec<Arg<A>, A>,
 }
 

@@ -5,6 +5,20 @@ use crate::insn::instruction::Instruction;
 use crate::insn::op::Op;
 
 /// Numeric instructions after the prefix FC: truncations that saturate, and wide arithmetic.
+///
+/// It is a case of [`Instruction`](crate::fallible::Instruction), which has a constant for each.
+///
+/// # Examples
+///
+/// ```
+/// use dolzhytik::fallible::{Encode, Instruction, PrefixedNumeric, Refused};
+///
+/// let instruction: Instruction = Instruction::PrefixedNumeric(PrefixedNumeric::I32TruncSatF64U);
+/// let mut bytes = Vec::new();
+/// instruction.encode(&mut bytes)?;
+/// assert_eq!(bytes, [0xFC, 3]);
+/// # Ok::<(), Refused>(())
+/// ```
 #[derive(Clone, Copy, Debug)]
 pub enum PrefixedNumeric {
     /// `i32.trunc_sat_f32_s` (opcode 0xFC 0), a numeric instruction that converts a float to an integer, and saturates.

@@ -10,14 +10,26 @@ use crate::immediates::{BlockType, Ieee32, Ieee64, MemArg};
 
 /// A buffer to which instructions are appended.
 ///
+/// [`Function`](crate::fallible::Function) and every [`Sink`](crate::fallible::Sink) are buffers. [`InstructionSink::new`](crate::fallible::InstructionSink::new) takes one.
+///
+/// # Examples
+///
+/// ```
+/// use dolzhytik::fallible::{Buffer, Function, Global, Refused};
+///
+/// let mut body = Function::new(Global, [])?;
+/// body.append(&0x0B_u8)?; // end
+/// assert_eq!(body.into_raw_body()[..], [0, 0x0B]);
+/// # Ok::<(), Refused>(())
+/// ```
+///
 /// # Defined
 ///
 /// ```text
 /// // `written`: the bytes in the buffer.
 /// written: { Self → List ℕ }
 /// // `has_spare_capacity`: the buffer has spare capacity for this many bytes. A buffer may
-///     leave
-/// // this unspecified.
+/// // leave this unspecified.
 /// has_spare_capacity: { Self → ℕ → Type 0 } = { λ _ _. ⊥ }
 /// ```
 ///
@@ -129,6 +141,27 @@ impl<A: Sink> Buffer for A {
 ///
 /// A call that fails leaves the buffer's bytes unchanged. The error is `TooLong` only if a list is
 /// too long.
+///
+/// [`Function::instructions`](crate::fallible::Function::instructions) returns one. [`InstructionSink`](crate::InstructionSink) of the root has a call for each instruction.
+///
+/// # Examples
+///
+/// ```
+/// use dolzhytik::fallible::{InstructionSink, Refused};
+///
+/// let mut bytes = Vec::new();
+/// let mut sink = InstructionSink::new(&mut bytes);
+/// sink.local_get(0)?;
+/// sink.i32_const(64)?;
+/// sink.i32_add()?;
+/// sink.end()?;
+/// // local.get 0: 20 00. i32.const 64: 41, and 64 as signed LEB128, C0 00. i32.add: 6A. end: 0B.
+/// assert_eq!(bytes, [0x20, 0x00, 0x41, 0xC0, 0x00, 0x6A, 0x0B]);
+/// # Ok::<(), Refused>(())
+/// ```
+#[doc(alias = "assembler")]
+#[doc(alias = "emit")]
+
 pub struct InstructionSink<'a, B: Buffer> {
     sink: &'a mut B,
 }
@@ -170,6 +203,18 @@ impl<'a, B: Buffer> InstructionSink<'a, B> {
     ///
     /// Returns [`Memory`](crate::fallible::Refused::Memory) if an allocation fails. The bytes of
     /// the sink are then unchanged.
+    ///
+    /// # Examples
+    ///
+    /// ```
+    /// use dolzhytik::fallible::{InstructionSink, Op, Refused};
+    ///
+    /// let mut bytes = Vec::new();
+    /// let mut sink = InstructionSink::new(&mut bytes);
+    /// sink.op(Op::Byte(0x6C))?; // i32.mul
+    /// assert_eq!(bytes, [0x6C]);
+    /// # Ok::<(), Refused>(())
+    /// ```
     ///
     /// # Proved
     ///

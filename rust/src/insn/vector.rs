@@ -5,6 +5,22 @@ use crate::insn::instruction::Instruction;
 use crate::insn::op::Op;
 
 /// Vector instructions without immediates: those after the prefix FD.
+///
+/// It is a case of [`Instruction`](crate::fallible::Instruction), which has a constant for each.
+///
+/// # Examples
+///
+/// ```
+/// use dolzhytik::fallible::{Encode, Instruction, Refused, Vector};
+///
+/// let instruction: Instruction = Instruction::Vector(Vector::I16x8Abs);
+/// let mut bytes = Vec::new();
+/// instruction.encode(&mut bytes)?;
+/// // The number 128 is LEB128: 80 01.
+/// assert_eq!(bytes, [0xFD, 0x80, 0x01]);
+/// # Ok::<(), Refused>(())
+/// ```
+#[doc(alias = "simd")]
 #[derive(Clone, Copy, Debug)]
 pub enum Vector {
     /// `i8x16.swizzle` (opcode 0xFD 14), a vector instruction that selects lanes of a vector by those of another.

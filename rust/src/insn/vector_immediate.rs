@@ -20,6 +20,22 @@ pub(crate) fn vector_bytes(value: i128) -> [u8; 16] {
 }
 
 /// Vector instructions with immediates: those after the prefix FD.
+///
+/// It is a case of [`Instruction`](crate::fallible::Instruction).
+///
+/// # Examples
+///
+/// ```
+/// use dolzhytik::fallible::{Encode, Instruction, Refused, VectorImmediate};
+///
+/// let lane = VectorImmediate::I32x4ExtractLane(3);
+/// let instruction: Instruction = Instruction::VectorImmediate(lane);
+/// let mut bytes = Vec::new();
+/// instruction.encode(&mut bytes)?;
+/// assert_eq!(bytes, [0xFD, 27, 3]);
+/// # Ok::<(), Refused>(())
+/// ```
+#[doc(alias = "simd")]
 #[derive(Clone, Copy, Debug)]
 pub enum VectorImmediate {
     /// `v128.load` (opcode 0xFD 0), a vector instruction that loads a vector from a memory.

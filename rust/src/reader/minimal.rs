@@ -123,6 +123,20 @@ fn shorten_sized<A: Allocator + Copy, B: Sink>(
 ///
 /// Any error but `Memory` means that the bytes do not begin with such a section.
 ///
+/// # Examples
+///
+/// ```
+/// use dolzhytik::fallible::{Global, Vec};
+/// use dolzhytik::reader::{ReadFault, SectionKind, shorten};
+///
+/// // Size 6, one function, of type 5: both in more bytes than needed.
+/// let padded = [0x86, 0x00, 0x01, 0x85, 0x80, 0x80, 0x80, 0x00];
+/// let mut minimal = Vec::new(Global);
+/// let taken = shorten(SectionKind::Functions, &padded, &mut minimal)?;
+/// assert_eq!((&minimal[..], taken), (&[2, 1, 5][..], 8));
+/// # Ok::<(), ReadFault>(())
+/// ```
+///
 /// # Proved
 ///
 /// After `Ok`: `ok`. After an error: `err`, `none`.
@@ -136,6 +150,9 @@ fn shorten_sized<A: Allocator + Copy, B: Sink>(
 /// ```
 ///
 /// Definitions: [`Shortens`](crate::definitions::reader::sections::Shortens), [`Rejects`](crate::definitions::base::decoding::Rejects), [`section`](crate::definitions::reader::sections::section), [`padded`](crate::definitions::base::numbers::Mode). [How to read clauses](crate::definitions).
+#[doc(alias = "minimize")]
+#[doc(alias = "leb128")]
+#[doc(alias = "wasm-opt")]
 pub fn shorten<A: Allocator + Copy>(
     kind: SectionKind,
     bytes: &[u8],

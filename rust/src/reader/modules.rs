@@ -11,8 +11,23 @@ use crate::base::{Padded, ReadFault};
 pub(crate) const HEADER: [u8; 8] = [0x00, 0x61, 0x73, 0x6D, 0x01, 0x00, 0x00, 0x00];
 
 /// A section in the listing of a module.
+///
+/// [`list_module`](crate::reader::list_module) returns them.
+///
+/// # Examples
+///
+/// ```
+/// use dolzhytik::fallible::Global;
+/// use dolzhytik::reader::{Listed, ReadFault, list_module};
+///
+/// // A custom section: id 0, size 2, the name "a".
+/// let lines = list_module(Global, b"\0asm\x01\0\0\0\0\x02\x01a")?;
+/// let [Listed { id: 0, size: 2, items: None }] = lines[..] else { panic!("other sections") };
+/// # Ok::<(), (usize, ReadFault)>(())
+/// ```
 #[derive(Clone, Copy, PartialEq, Eq, Debug)]
 pub struct Listed {
+    /// The id of the section.
     pub id: u8,
     /// The length of its payload, in bytes.
     pub size: u32,
@@ -81,6 +96,18 @@ fn line_of<A: Allocator + Copy>(section: &Section<'_, A>) -> Result<Listed, Read
 /// Returns the error and a section number, counted from 1. For any error but `Memory`, this is the
 /// section at which the bytes stop being a module. It is 0 if they do not begin with the header.
 /// For `Memory` it is the section that was being decoded, which no contract says.
+///
+/// # Examples
+///
+/// ```
+/// use dolzhytik::fallible::Global;
+/// use dolzhytik::reader::{ReadFault, list_module};
+///
+/// // A function section: id 3, size 3, two functions.
+/// let lines = list_module(Global, b"\0asm\x01\0\0\0\x03\x03\x02\x05\x06")?;
+/// assert_eq!((lines[0].id, lines[0].size, lines[0].items), (3, 3, Some(2)));
+/// # Ok::<(), (usize, ReadFault)>(())
+/// ```
 ///
 /// # Proved
 ///

@@ -17,6 +17,19 @@ use crate::base::{Padded, ReadFault, Readable};
 ///
 /// Any error but `Memory` means that the bytes do not begin with such a section.
 ///
+/// # Examples
+///
+/// ```
+/// use dolzhytik::fallible::Global;
+/// use dolzhytik::reader::{Items, ReadFault, SectionKind, read_section};
+///
+/// // A function section without its id: size 2, one function, of type 5. Another byte follows.
+/// let (items, taken) = read_section(Global, SectionKind::Functions, &[2, 1, 5, 0xFF])?;
+/// let Items::Functions(types) = items else { panic!("another kind") };
+/// assert_eq!((&types[..], taken), (&[5][..], 3));
+/// # Ok::<(), ReadFault>(())
+/// ```
+///
 /// # Proved
 ///
 /// After `Ok`: `found`. After an error: `none`.
@@ -28,6 +41,9 @@ use crate::base::{Padded, ReadFault, Readable};
 /// ```
 ///
 /// Definitions: [`Takes`](crate::definitions::reader::sections::Takes), [`contents_of`](crate::definitions::reader::kinds::contents_of), [`Rejects`](crate::definitions::base::decoding::Rejects), [`section`](crate::definitions::reader::sections::section), [`padded`](crate::definitions::base::numbers::Mode). [How to read clauses](crate::definitions).
+#[doc(alias = "parse")]
+#[doc(alias = "decode")]
+
 pub fn read_section<'a, A: Allocator + Copy + 'a>(
     alloc: A,
     kind: SectionKind,

@@ -43,6 +43,26 @@ fn common_length(bytes: &[u8], other: &[u8]) -> usize {
 ///
 /// An error but `Memory` means that the bytes at the offset of the next section are not an id and a
 /// size-prefixed payload. It is the last item.
+///
+/// # Examples
+///
+/// ```
+/// use dolzhytik::fallible::Global;
+/// use dolzhytik::reader::{ReadError, Sections};
+///
+/// // The header; a function section, id 3, of one function; a custom section, id 0, of the name "a".
+/// let module = b"\0asm\x01\0\0\0\x03\x02\x01\x05\0\x02\x01a";
+/// let mut found = vec![];
+/// for section in Sections::new(Global, module)? {
+///     let section = section?;
+///     found.push((section.id(), section.name(), section.range()));
+/// }
+/// assert_eq!(found, [(3, None, 10..12), (0, Some("a"), 14..16)]);
+/// # Ok::<(), ReadError>(())
+/// ```
+#[doc(alias = "parse")]
+#[doc(alias = "wasmparser")]
+#[doc(alias = "iterate")]
 #[derive(Clone, Debug)]
 pub struct Sections<'a, A: Allocator = Global> {
     alloc: A,
@@ -58,6 +78,18 @@ impl<'a, A: Allocator + Copy> Sections<'a, A> {
     /// An error means that the bytes do not begin with the header of a module: `Ended` if there
     /// are fewer than 8, and otherwise `UnknownTag` at the first byte that differs. A component
     /// differs in the version, at offset 4.
+    ///
+    /// # Examples
+    ///
+    /// ```
+    /// use dolzhytik::fallible::Global;
+    /// use dolzhytik::reader::{ReadFault, Sections};
+    ///
+    /// assert!(Sections::new(Global, b"\0asm\x01\0\0\0").is_ok());
+    /// // A component has another version.
+    /// let error = Sections::new(Global, b"\0asm\x0D\0\x01\0").unwrap_err();
+    /// assert_eq!((error.cause, error.offset), (ReadFault::UnknownTag, 4));
+    /// ```
     ///
     /// # Proved
     ///
@@ -148,6 +180,25 @@ impl<'a, A: Allocator + Copy> FusedIterator for Sections<'a, A> {}
 /// A section of a module, whose payload is not yet decoded.
 ///
 /// Calls that decode accept all encodings that the standard admits.
+///
+/// [`Sections`](crate::reader::Sections) yields it, and [`Module::section`](crate::Module::section) copies it.
+///
+/// # Examples
+///
+/// ```
+/// use dolzhytik::fallible::Global;
+/// use dolzhytik::reader::{Items, ReadError, SectionKind, Sections};
+///
+/// // A function section: id 3, size 2, one function, of type 5.
+/// let module = b"\0asm\x01\0\0\0\x03\x02\x01\x05";
+/// let section = Sections::new(Global, module)?.next().unwrap()?;
+/// assert_eq!((section.id(), section.kind()), (3, Some(SectionKind::Functions)));
+/// assert_eq!((section.offset(), section.payload()), (8, &[1, 5][..]));
+/// assert_eq!(section.count()?, Some(1));
+/// let Items::Functions(types) = section.items()? else { panic!("another kind") };
+/// assert_eq!(types[..], [5]);
+/// # Ok::<(), ReadError>(())
+/// ```
 #[derive(Clone, Copy, Debug)]
 pub struct Section<'a, A: Allocator = Global> {
     alloc: A,

@@ -18,6 +18,27 @@ use crate::base::ReadFault;
 ///   `metadata.code.*`;
 /// - into any section that a relocation names: `reloc.*`;
 /// - into code, from the first byte of the module: `sourceMappingURL`.
+///
+/// # Examples
+///
+/// ```
+/// use dolzhytik::fallible::Global;
+/// use dolzhytik::reader::{ModuleFault, Offsets, shorten_module};
+///
+/// // A code section of one body with a padded size, 2 in two bytes; a source map.
+/// let mut module = b"\0asm\x01\0\0\0\x0A\x05\x01\x82\x00\0\x0B".to_vec();
+/// module.extend_from_slice(b"\0\x11\x10sourceMappingURL");
+///
+/// let mut minimal = vec![];
+/// let refused = shorten_module(Global, &module, Offsets::Refuse, &mut minimal);
+/// assert_eq!(refused, Err(ModuleFault::Offsets { number: 2 }));
+/// shorten_module(Global, &module, Offsets::LeaveOut, &mut minimal)?;
+/// assert_eq!(minimal[8..], [10, 4, 1, 2, 0x00, 0x0B]);
+/// # Ok::<(), ModuleFault>(())
+/// ```
+#[doc(alias = "relocations")]
+#[doc(alias = "source map")]
+#[doc(alias = "dwarf")]
 #[derive(Clone, Copy, PartialEq, Eq, Debug)]
 pub enum Offsets {
     /// Returns an error for a module whose offsets might become wrong. With any of these sections,
@@ -30,14 +51,31 @@ pub enum Offsets {
 }
 
 /// The cause of a failed minimization.
+///
+/// # Examples
+///
+/// ```
+/// use dolzhytik::fallible::Global;
+/// use dolzhytik::reader::{ModuleFault, Offsets, ReadFault, shorten_module};
+///
+/// // The size of the first section is missing.
+/// let error = shorten_module(Global, b"\0asm\x01\0\0\0\x03", Offsets::Refuse, &mut vec![]);
+/// assert_eq!(error, Err(ModuleFault::Section { number: 1, fault: ReadFault::Ended }));
+/// ```
 #[derive(Clone, Copy, PartialEq, Eq, Debug)]
 pub enum ModuleFault {
     /// The bytes at the section of this number, counted from 1, are not an id and a size-prefixed
     /// payload; 0 is the header. Or an allocation failed there.
-    Section { number: usize, fault: ReadFault },
+    Section {
+        /// The number of the section.
+        number: usize,
+        /// The cause.
+        fault: ReadFault },
     /// The section of this number, counted from 1, is the first that holds offsets which would
     /// become wrong.
-    Offsets { number: usize },
+    Offsets {
+        /// The number of the section.
+        number: usize },
 }
 
 /// Returns the text of a fault.
@@ -658,6 +696,20 @@ fn append_module<A: Allocator + Copy, B: Sink>(
 ///
 /// Returns the number of the section that failed, and the cause: see [`ModuleFault`].
 ///
+/// # Examples
+///
+/// ```
+/// use dolzhytik::fallible::Global;
+/// use dolzhytik::reader::{ModuleFault, Offsets, shorten_module};
+///
+/// // A function section: id 3, size 3, one function, of type 5 in two bytes.
+/// let module = b"\0asm\x01\0\0\0\x03\x03\x01\x85\x00";
+/// let mut minimal = vec![];
+/// let kept = shorten_module(Global, module, Offsets::Refuse, &mut minimal)?;
+/// assert_eq!((kept, &minimal[8..]), (0, &[3, 2, 1, 5][..]));
+/// # Ok::<(), ModuleFault>(())
+/// ```
+///
 /// # Proved
 ///
 /// After `Ok`: `ok`. After an error: `err`, `why`.
@@ -670,6 +722,9 @@ fn append_module<A: Allocator + Copy, B: Sink>(
 /// ```
 ///
 /// Definitions: [`ShortensModule`](crate::definitions::reader::shortening::ShortensModule), [`Explains`](crate::definitions::reader::shortening::Explains). [How to read clauses](crate::definitions).
+#[doc(alias = "minimize")]
+#[doc(alias = "leb128")]
+#[doc(alias = "wasm-opt")]
 pub fn shorten_module<A: Allocator + Copy, B: Sink>(
     alloc: A,
     bytes: &[u8],

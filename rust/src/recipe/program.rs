@@ -282,6 +282,18 @@ fn report<E: Write>(err: &mut E, trouble: &Trouble) -> u8 {
 /// is a recipe, whose module is written in hexadecimal. With `--read`, the input is a module in
 /// hexadecimal, whose sections are listed, a line each.
 ///
+/// # Examples
+///
+/// ```
+/// use dolzhytik::fallible::Global;
+/// use dolzhytik::fallible::recipe::run;
+///
+/// let (mut out, mut errors) = (vec![], vec![]);
+/// let status = run(Global, &[], &mut &b"func 0"[..], &mut out, &mut errors);
+/// // The header; id 3, size 2, one function, of type 0.
+/// assert_eq!((status, &out[..]), (0, &b"0061736d0100000003020100\n"[..]));
+/// ```
+///
 /// # Proved
 ///
 /// ```text

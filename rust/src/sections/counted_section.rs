@@ -8,6 +8,20 @@ use crate::base::{Counted, Encode, EncodeOnce, Kind, Pieces, Result, Section};
 
 /// A kind of items that a section counts.
 ///
+/// A kind has no value: it is the type argument of [`CountedSection`](crate::fallible::CountedSection).
+///
+/// # Examples
+///
+/// ```
+/// use dolzhytik::fallible::{ExportItems, FunctionItems, ItemKind};
+///
+/// fn id_of<K: ItemKind>() -> u8 {
+///     K::id()
+/// }
+///
+/// assert_eq!([id_of::<FunctionItems>(), id_of::<ExportItems>()], [3, 7]);
+/// ```
+///
 /// # Defined
 ///
 /// ```text
@@ -30,6 +44,20 @@ pub trait ItemKind: Kind {
 }
 
 /// A record that can be added to a section of items of the kind `K`.
+///
+/// [`Counted`](crate::fallible::Counted) takes such a record, and so does [`add_all`](crate::fallible::add_all).
+///
+/// # Examples
+///
+/// ```
+/// use dolzhytik::fallible::{Global, Refused, TagKind, TagSection, TagType, add_all};
+///
+/// let tag = |func_type_idx| TagType { kind: TagKind::Exception, func_type_idx };
+/// let mut tags = TagSection::new(Global);
+/// add_all(&mut tags, &[tag(5), tag(6)])?;
+/// assert_eq!(tags.len(), 2);
+/// # Ok::<(), (usize, Refused)>(())
+/// ```
 pub trait RecordOf<K>: Encode {}
 
 /// A section of counted items of the kind `K`, modelled as the bytes of each entry.
@@ -38,6 +66,26 @@ pub trait RecordOf<K>: Encode {}
 ///
 /// An adding call that returns an error leaves the section unchanged. The error is `TooLong` only
 /// if the section is full or the item does not fit, and `Memory` only if an allocation fails.
+///
+/// It is the builder of core sections, such as [`ExportSection`](crate::fallible::ExportSection). The calls that add items are those of the kind `K`.
+///
+/// # Examples
+///
+/// ```
+/// use dolzhytik::fallible::{CountedSection, ExportKind, ExportSection, Global, Refused};
+///
+/// /// Returns whether a section of any kind has entries.
+/// fn has_entries<K>(section: &CountedSection<K>) -> bool {
+///     !section.is_empty()
+/// }
+///
+/// let mut exports = ExportSection::new(Global);
+/// exports.export("f", ExportKind::Func, 0)?;
+/// assert!(has_entries(&exports));
+/// // The entry: a name of one byte, the kind 0, the index 0.
+/// assert_eq!(exports.piece(0), Some(&[1, b'f', 0, 0][..]));
+/// # Ok::<(), Refused>(())
+/// ```
 #[derive(Debug)]
 pub struct CountedSection<K, A: Allocator = Global> {
     pieces: Pieces<A>,

@@ -25,14 +25,42 @@ use crate::code::{ConstExpr, Expression};
 pub type DataSection<A = Global> = CountedSection<DataItems, A>;
 
 /// The kind of a data section's items: segments of bytes.
+///
+/// It is the type argument of [`CountedSection`](crate::fallible::CountedSection) in [`DataSection`](crate::fallible::DataSection).
+///
+/// # Examples
+///
+/// ```
+/// use dolzhytik::fallible::{DataItems, DataSection, Global, ItemKind};
+///
+/// let section = DataSection::new(Global);
+/// assert_eq!((section.len(), DataItems::id()), (0, 11));
+/// ```
 #[derive(Clone, Copy, Debug)]
 pub struct DataItems;
 
 /// The mode of a data segment: when its bytes are copied to a memory.
+///
+/// It is a field of [`DataSegment`](crate::fallible::DataSegment).
+///
+/// # Examples
+///
+/// ```
+/// use dolzhytik::fallible::{ConstExpr, DataSection, DataSegment, DataSegmentMode, Global, Refused};
+///
+/// let offset = ConstExpr::i32_const(Global, 8)?;
+/// let mode = DataSegmentMode::Active { memory_index: 0, offset: &offset };
+/// let mut section = DataSection::new(Global);
+/// section.segment(DataSegment { mode, bytes: *b"hi" })?;
+/// // Active in memory 0: 0. i32.const 8 and end: 41 08 0B. Two bytes.
+/// assert_eq!(section.piece(0), Some(&[0, 0x41, 8, 0x0B, 2, b'h', b'i'][..]));
+/// # Ok::<(), Refused>(())
+/// ```
 #[derive(Debug)]
 pub enum DataSegmentMode<'a, A: Allocator = Global> {
     /// The bytes are copied when the module is instantiated.
     Active {
+        /// The index of the memory.
         memory_index: u32,
         /// Computes the offset of the first byte in the memory.
         offset: &'a ConstExpr<A>,
@@ -42,9 +70,26 @@ pub enum DataSegmentMode<'a, A: Allocator = Global> {
 }
 
 /// A data segment, whose bytes an iterator yields.
+///
+/// [`DataSection`](crate::fallible::DataSection) takes it in `segment`.
+///
+/// # Examples
+///
+/// ```
+/// use dolzhytik::fallible::{DataSection, DataSegment, DataSegmentMode, Global, Refused};
+///
+/// let mut section = DataSection::new(Global);
+/// let mode: DataSegmentMode<'_> = DataSegmentMode::Passive;
+/// section.segment(DataSegment { mode, bytes: *b"hi" })?;
+/// // Passive: 1. Two bytes.
+/// assert_eq!(section.piece(0), Some(&[1, 2, b'h', b'i'][..]));
+/// # Ok::<(), Refused>(())
+/// ```
 #[derive(Debug)]
 pub struct DataSegment<'a, D, A: Allocator = Global> {
+    /// Whether instantiation copies the bytes into a memory.
     pub mode: DataSegmentMode<'a, A>,
+    /// The bytes.
     pub bytes: D,
 }
 
@@ -346,17 +391,35 @@ impl<'a, A: Allocator + Copy, G: Grammar> Readable<'a, A, G> for Bytes<'a> {
 }
 
 /// A decoded data segment, whose bytes are a slice of the input.
+///
+/// [`Items::Segments`](crate::reader::Items::Segments) has them.
+///
+/// # Examples
+///
+/// ```
+/// use dolzhytik::fallible::Global;
+/// use dolzhytik::reader::{DecodeError, Padded, Readable, Segment};
+///
+/// // Active in memory 0: 0. i32.const 8 and end. Two bytes.
+/// let bytes = [0, 0x41, 8, 0x0B, 2, b'h', b'i'];
+/// let (segment, _) = <Segment as Readable<Global, Padded>>::read(&bytes, Global)?;
+/// assert!(matches!(segment, Segment::Active { memory: 0, bytes: b"hi", .. }));
+/// # Ok::<(), DecodeError>(())
+/// ```
 #[derive(Debug)]
 pub enum Segment<'a, A: Allocator = Global> {
     /// The bytes are copied to the memory when the module is instantiated.
     Active {
+        /// The index of the memory.
         memory: u32,
         /// Computes the offset of the first byte in the memory.
         offset: Expression<A>,
+        /// The bytes.
         bytes: &'a [u8],
     },
     /// The bytes are copied to a memory by an instruction.
     Passive {
+        /// The bytes.
         bytes: &'a [u8],
     },
 }
@@ -450,6 +513,18 @@ impl<'a, A: Allocator + Copy, G: Grammar> Readable<'a, A, G> for Segment<'a, A> 
 /// # Errors
 ///
 /// Any error but `Memory` means that the bytes are not such a payload.
+///
+/// # Examples
+///
+/// ```
+/// use dolzhytik::fallible::{Global, read_segments};
+/// use dolzhytik::reader::{DecodeError, Padded, Segment};
+///
+/// // One segment: passive (1), two bytes.
+/// let segments = read_segments::<Global, Padded>(b"\x01\x01\x02hi", Global)?;
+/// assert!(matches!(segments[..], [Segment::Passive { bytes: b"hi" }]));
+/// # Ok::<(), DecodeError>(())
+/// ```
 ///
 /// # Proved
 ///

@@ -24,10 +24,35 @@ use crate::code::ConstExpr;
 pub type ElementSection<A = Global> = CountedSection<ElementItems, A>;
 
 /// The kind of an element section's items: segments of references.
+///
+/// It is the type argument of [`CountedSection`](crate::fallible::CountedSection) in [`ElementSection`](crate::fallible::ElementSection).
+///
+/// # Examples
+///
+/// ```
+/// use dolzhytik::fallible::{ElementItems, ElementSection, Global, ItemKind};
+///
+/// let section = ElementSection::new(Global);
+/// assert_eq!((section.len(), ElementItems::id()), (0, 9));
+/// ```
 #[derive(Clone, Copy, Debug)]
 pub struct ElementItems;
 
 /// The references of a segment.
+///
+/// [`ElementSection`](crate::fallible::ElementSection) takes it.
+///
+/// # Examples
+///
+/// ```
+/// use dolzhytik::fallible::{CowSlice, ElementSection, Elements, Global, Refused};
+///
+/// let mut section = ElementSection::new(Global);
+/// section.passive::<Global>(Elements::Functions(CowSlice::Borrowed(&[5, 6])))?;
+/// // Passive, of functions: 1 and 0. Two indices.
+/// assert_eq!(section.piece(0), Some(&[1, 0, 2, 5, 6][..]));
+/// # Ok::<(), Refused>(())
+/// ```
 #[derive(Debug)]
 pub enum Elements<'a, A: Allocator = Global> {
     /// References to the functions of these indices.
@@ -37,6 +62,23 @@ pub enum Elements<'a, A: Allocator = Global> {
 }
 
 /// The mode of an element segment: when its references are copied to a table.
+///
+/// It is a field of [`ElementSegment`](crate::fallible::ElementSegment).
+///
+/// # Examples
+///
+/// ```
+/// use dolzhytik::fallible::{ConstExpr, CowSlice, ElementMode, ElementSection, ElementSegment, Elements, Global, Refused};
+///
+/// let offset = ConstExpr::i32_const(Global, 3)?;
+/// let mode = ElementMode::Active { table: None, offset: &offset };
+/// let elements = Elements::Functions(CowSlice::Borrowed(&[5]));
+/// let mut section = ElementSection::new(Global);
+/// section.segment(ElementSegment { mode, elements })?;
+/// // Active in table 0: 0. i32.const 3 and end: 41 03 0B. One index.
+/// assert_eq!(section.piece(0), Some(&[0, 0x41, 3, 0x0B, 1, 5][..]));
+/// # Ok::<(), Refused>(())
+/// ```
 #[derive(Debug)]
 pub enum ElementMode<'a, A: Allocator = Global> {
     /// The references are copied by an instruction `TableInit`.
@@ -55,9 +97,26 @@ pub enum ElementMode<'a, A: Allocator = Global> {
 }
 
 /// An element segment: its mode and its references.
+///
+/// [`ElementSection`](crate::fallible::ElementSection) takes it in `segment`.
+///
+/// # Examples
+///
+/// ```
+/// use dolzhytik::fallible::{CowSlice, ElementMode, ElementSection, ElementSegment, Elements, Global, Refused};
+///
+/// let elements: Elements<'_> = Elements::Functions(CowSlice::Borrowed(&[5]));
+/// let mut section = ElementSection::new(Global);
+/// section.segment(ElementSegment { mode: ElementMode::Declared, elements })?;
+/// // Declared, of functions: 3 and 0. One index.
+/// assert_eq!(section.piece(0), Some(&[3, 0, 1, 5][..]));
+/// # Ok::<(), Refused>(())
+/// ```
 #[derive(Debug)]
 pub struct ElementSegment<'a, A: Allocator = Global> {
+    /// When the elements are used.
     pub mode: ElementMode<'a, A>,
+    /// The elements.
     pub elements: Elements<'a, A>,
 }
 

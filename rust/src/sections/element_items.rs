@@ -74,6 +74,21 @@ impl<'a, A: Allocator + Copy, G: Grammar> Readable<'a, A, G> for ElementFlag {
 }
 
 /// The mode of a decoded element segment: when its elements are copied to a table.
+///
+/// It is a field of [`ElementItem`](crate::reader::ElementItem).
+///
+/// # Examples
+///
+/// ```
+/// use dolzhytik::fallible::Global;
+/// use dolzhytik::reader::{DecodeError, ElementItem, ElementItemMode, Padded, Readable};
+///
+/// // Active in table 0: 0. i32.const 3 and end. One index.
+/// let bytes = [0, 0x41, 3, 0x0B, 1, 5];
+/// let (item, _) = <ElementItem as Readable<Global, Padded>>::read(&bytes, Global)?;
+/// assert!(matches!(item.mode, ElementItemMode::Active { table: None, .. }));
+/// # Ok::<(), DecodeError>(())
+/// ```
 #[derive(Debug)]
 pub enum ElementItemMode<A: Allocator = Global> {
     /// The elements are copied by an instruction.
@@ -90,6 +105,22 @@ pub enum ElementItemMode<A: Allocator = Global> {
 }
 
 /// The elements of a decoded segment.
+///
+/// It is a field of [`ElementItem`](crate::reader::ElementItem).
+///
+/// # Examples
+///
+/// ```
+/// use dolzhytik::fallible::{Global, RefType};
+/// use dolzhytik::reader::{DecodeError, ElementItem, ElementList, Padded, Readable};
+///
+/// // Passive, of expressions: 5. funcref: 70. One expression: ref.func 7, end.
+/// let bytes = [5, 0x70, 1, 0xD2, 7, 0x0B];
+/// let (item, _) = <ElementItem as Readable<Global, Padded>>::read(&bytes, Global)?;
+/// let ElementList::Expressions(ty, expressions) = item.elements else { panic!("functions") };
+/// assert_eq!((ty, expressions.len()), (RefType::FUNCREF, 1));
+/// # Ok::<(), DecodeError>(())
+/// ```
 #[derive(Debug)]
 pub enum ElementList<A: Allocator = Global> {
     /// References to the functions of these indices.
@@ -99,9 +130,28 @@ pub enum ElementList<A: Allocator = Global> {
 }
 
 /// A decoded element segment.
+///
+/// [`Items::Elements`](crate::reader::Items::Elements) has them.
+///
+/// # Examples
+///
+/// ```
+/// use dolzhytik::fallible::Global;
+/// use dolzhytik::reader::{DecodeError, ElementItem, ElementItemMode, ElementList, Padded, Readable};
+///
+/// // Passive, of functions: 1 and 0. Two indices.
+/// let bytes = [1, 0, 2, 5, 6];
+/// let (item, _) = <ElementItem as Readable<Global, Padded>>::read(&bytes, Global)?;
+/// assert!(matches!(item.mode, ElementItemMode::Passive));
+/// let ElementList::Functions(functions) = item.elements else { panic!("expressions") };
+/// assert_eq!(functions[..], [5, 6]);
+/// # Ok::<(), DecodeError>(())
+/// ```
 #[derive(Debug)]
 pub struct ElementItem<A: Allocator = Global> {
+    /// When the elements are used.
     pub mode: ElementItemMode<A>,
+    /// The elements.
     pub elements: ElementList<A>,
 }
 

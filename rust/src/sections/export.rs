@@ -22,24 +22,69 @@ use crate::base::{DecodeError, Encode, Grammar, Kind, Layout, ReadFault, Readabl
 pub type ExportSection<A = Global> = CountedSection<ExportItems, A>;
 
 /// The kind of an export section's items: exports.
+///
+/// It is the type argument of [`CountedSection`](crate::fallible::CountedSection) in [`ExportSection`](crate::fallible::ExportSection).
+///
+/// # Examples
+///
+/// ```
+/// use dolzhytik::fallible::{ExportItems, ExportSection, Global, ItemKind};
+///
+/// let section = ExportSection::new(Global);
+/// assert_eq!((section.len(), ExportItems::id()), (0, 7));
+/// ```
 #[derive(Clone, Copy, Debug)]
 pub struct ExportItems;
 
 /// The kind of an exported item.
+///
+/// [`ExportKind`](crate::ExportKind) of the root converts from it and to it.
+///
+/// # Examples
+///
+/// ```
+/// use dolzhytik::fallible::{Encode, ExportKind, Refused};
+///
+/// let mut bytes = Vec::new();
+/// ExportKind::Memory.encode(&mut bytes)?;
+/// assert_eq!(bytes, [0x02]);
+/// # Ok::<(), Refused>(())
+/// ```
 #[derive(Clone, Copy, PartialEq, Eq, Hash, Debug)]
 pub enum ExportKind {
+    /// A function: 00.
     Func = 0x00,
+    /// A table: 01.
     Table = 0x01,
+    /// A memory: 02.
     Memory = 0x02,
+    /// A global: 03.
     Global = 0x03,
+    /// A tag: 04.
     Tag = 0x04,
 }
 
 /// An export: a name, and the item that is exported under it.
+///
+/// [`Items::Exports`](crate::reader::Items::Exports) has them. [`add_all`](crate::fallible::add_all) adds some.
+///
+/// # Examples
+///
+/// ```
+/// use dolzhytik::fallible::{Export, ExportKind, ExportSection, Global, Refused, add_all};
+///
+/// let mut exports = ExportSection::new(Global);
+/// add_all(&mut exports, &[Export { name: "f", kind: ExportKind::Func, index: 5 }])?;
+/// assert_eq!(exports.piece(0), Some(&[1, b'f', 0, 5][..]));
+/// # Ok::<(), (usize, Refused)>(())
+/// ```
 #[derive(Clone, Copy, Debug)]
 pub struct Export<'a> {
+    /// The name.
     pub name: &'a str,
+    /// The kind of the item.
     pub kind: ExportKind,
+    /// The index of the item.
     pub index: u32,
 }
 

@@ -23,6 +23,17 @@ use crate::base::{Encode, Kind, Result, SectionId};
 pub type FunctionSection<A = Global> = CountedSection<FunctionItems, A>;
 
 /// The kind of a function section's items: the index of a type for each function.
+///
+/// It is the type argument of [`CountedSection`](crate::fallible::CountedSection) in [`FunctionSection`](crate::fallible::FunctionSection).
+///
+/// # Examples
+///
+/// ```
+/// use dolzhytik::fallible::{FunctionItems, FunctionSection, Global, ItemKind};
+///
+/// let section = FunctionSection::new(Global);
+/// assert_eq!((section.len(), FunctionItems::id()), (0, 3));
+/// ```
 #[derive(Clone, Copy, Debug)]
 pub struct FunctionItems;
 

@@ -25,12 +25,24 @@ use crate::code::{ConstExpr, Expression};
 pub type GlobalSection<A = Global> = CountedSection<GlobalItems, A>;
 
 /// The kind of a global section's items: types of globals, each with an initializer expression.
+///
+/// It is the type argument of [`CountedSection`](crate::fallible::CountedSection) in [`GlobalSection`](crate::fallible::GlobalSection).
+///
+/// # Examples
+///
+/// ```
+/// use dolzhytik::fallible::{Global, GlobalItems, GlobalSection, ItemKind};
+///
+/// let section = GlobalSection::new(Global);
+/// assert_eq!((section.len(), GlobalItems::id()), (0, 6));
+/// ```
 #[derive(Clone, Copy, Debug)]
 pub struct GlobalItems;
 
 // The type of a global.
 #[derive(Clone, Copy, PartialEq, Eq, Hash, Debug)]
 pub struct GlobalType {
+    /// The type of the value.
     pub val_type: ValType,
     /// Whether it can be set.
     pub mutable: bool,
@@ -204,9 +216,26 @@ impl<'a, A: Allocator + Copy, G: Grammar> Readable<'a, A, G> for GlobalType {
 }
 
 /// A decoded global: its type, and its initializer expression.
+///
+/// [`Items::Globals`](crate::reader::Items::Globals) has them.
+///
+/// # Examples
+///
+/// ```
+/// use dolzhytik::fallible::{Global, ValType};
+/// use dolzhytik::reader::{DecodeError, GlobalItem, Padded, Readable};
+///
+/// // i64 (7E), mutable (01). i64.const 7, end.
+/// let bytes = [0x7E, 1, 0x42, 7, 0x0B];
+/// let (global, _) = <GlobalItem as Readable<Global, Padded>>::read(&bytes, Global)?;
+/// assert_eq!((global.global_type.val_type, global.global_type.mutable), (ValType::I64, true));
+/// # Ok::<(), DecodeError>(())
+/// ```
 #[derive(Debug)]
 pub struct GlobalItem<A: Allocator = Global> {
+    /// The type.
     pub global_type: GlobalType,
+    /// The constant expression of the initial value.
     pub init: Expression<A>,
 }
 

@@ -23,13 +23,26 @@ use crate::base::{DecodeError, Encode, Grammar, Kind, Layout, Optional, ReadFaul
 pub type MemorySection<A = Global> = CountedSection<MemoryItems, A>;
 
 /// The kind of a memory section's items: memory types.
+///
+/// It is the type argument of [`CountedSection`](crate::fallible::CountedSection) in [`MemorySection`](crate::fallible::MemorySection).
+///
+/// # Examples
+///
+/// ```
+/// use dolzhytik::fallible::{Global, ItemKind, MemoryItems, MemorySection};
+///
+/// let section = MemorySection::new(Global);
+/// assert_eq!((section.len(), MemoryItems::id()), (0, 5));
+/// ```
 #[derive(Clone, Copy, Debug)]
 pub struct MemoryItems;
 
 // The type of a memory. Sizes are in pages.
 #[derive(Clone, Copy, PartialEq, Eq, Hash, Debug)]
 pub struct MemoryType {
+    /// The initial size in pages.
     pub minimum: u64,
+    /// The limit of the size in pages.
     pub maximum: Option<u64>,
     /// Whether addresses have 64 bits.
     pub memory64: bool,

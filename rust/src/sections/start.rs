@@ -11,6 +11,7 @@ use crate::base::{Encode, Result, Section, SectionId, begin_size_prefixed, encod
 // ```
 #[derive(Clone, Copy, Debug)]
 pub struct StartSection {
+    /// The index of the function.
     pub function_index: u32,
 }
 
@@ -23,6 +24,7 @@ pub struct StartSection {
 // ```
 #[derive(Clone, Copy, Debug)]
 pub struct DataCountSection {
+    /// The number of data segments.
     pub count: u32,
 }
 

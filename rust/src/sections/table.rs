@@ -27,16 +27,30 @@ use crate::code::{ConstExpr, Expression};
 pub type TableSection<A = Global> = CountedSection<TableItems, A>;
 
 /// The kind of a table section's items: table types, some with an initializer expression.
+///
+/// It is the type argument of [`CountedSection`](crate::fallible::CountedSection) in [`TableSection`](crate::fallible::TableSection).
+///
+/// # Examples
+///
+/// ```
+/// use dolzhytik::fallible::{Global, ItemKind, TableItems, TableSection};
+///
+/// let section = TableSection::new(Global);
+/// assert_eq!((section.len(), TableItems::id()), (0, 4));
+/// ```
 #[derive(Clone, Copy, Debug)]
 pub struct TableItems;
 
 // The type of a table. Sizes are in elements.
 #[derive(Clone, Copy, PartialEq, Eq, Hash, Debug)]
 pub struct TableType {
+    /// The type of the elements.
     pub element_type: RefType,
     /// Whether indices have 64 bits.
     pub table64: bool,
+    /// The initial number of elements.
     pub minimum: u64,
+    /// The limit of the number of elements.
     pub maximum: Option<u64>,
     /// Whether threads share the table.
     pub shared: bool,
@@ -244,9 +258,26 @@ impl<'a, A: Allocator + Copy, G: Grammar> Readable<'a, A, G> for TableType {
 pub(crate) const BEFORE_INIT: [u8; 2] = [0x40, 0x00];
 
 /// A decoded table: its type, and its optional initializer expression.
+///
+/// [`Items::Tables`](crate::reader::Items::Tables) has them.
+///
+/// # Examples
+///
+/// ```
+/// use dolzhytik::fallible::{Global, RefType};
+/// use dolzhytik::reader::{DecodeError, Padded, Readable, TableItem};
+///
+/// // funcref (70). No maximum: 0. At least 3 elements.
+/// let (table, _) = <TableItem as Readable<Global, Padded>>::read(&[0x70, 0, 3], Global)?;
+/// assert_eq!((table.table_type.element_type, table.table_type.minimum), (RefType::FUNCREF, 3));
+/// assert!(table.init.is_none());
+/// # Ok::<(), DecodeError>(())
+/// ```
 #[derive(Debug)]
 pub struct TableItem<A: Allocator = Global> {
+    /// The type.
     pub table_type: TableType,
+    /// The constant expression of the initial elements, or `None` for null.
     pub init: Option<Expression<A>>,
 }
 

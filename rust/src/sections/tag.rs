@@ -22,18 +22,59 @@ use crate::base::{DecodeError, Encode, Grammar, Kind, Layout, ReadFault, Readabl
 pub type TagSection<A = Global> = CountedSection<TagItems, A>;
 
 /// The kind of a tag section's items: tag types.
+///
+/// It is the type argument of [`CountedSection`](crate::fallible::CountedSection) in [`TagSection`](crate::fallible::TagSection).
+///
+/// # Examples
+///
+/// ```
+/// use dolzhytik::fallible::{Global, ItemKind, TagItems, TagSection};
+///
+/// let section = TagSection::new(Global);
+/// assert_eq!((section.len(), TagItems::id()), (0, 13));
+/// ```
 #[derive(Clone, Copy, Debug)]
 pub struct TagItems;
 
 /// The purpose of a tag.
+///
+/// It is a field of [`TagType`](crate::fallible::TagType).
+///
+/// # Examples
+///
+/// ```
+/// use dolzhytik::fallible::{Global, Refused, TagKind, TagSection, TagType};
+///
+/// let mut tags = TagSection::new(Global);
+/// tags.tag(TagType { kind: TagKind::Exception, func_type_idx: 5 })?;
+/// // An exception (00) of type 5.
+/// assert_eq!(tags.piece(0), Some(&[0x00, 5][..]));
+/// # Ok::<(), Refused>(())
+/// ```
 #[derive(Clone, Copy, PartialEq, Eq, Debug)]
 pub enum TagKind {
+    /// An exception: 00.
     Exception,
 }
 
 /// The type of a tag.
+///
+/// [`TagSection`](crate::fallible::TagSection) takes it in `tag`, and [`Items::Tags`](crate::reader::Items::Tags) has them.
+///
+/// # Examples
+///
+/// ```
+/// use dolzhytik::fallible::{Encode, Refused, TagKind, TagType};
+///
+/// let mut bytes = Vec::new();
+/// TagType { kind: TagKind::Exception, func_type_idx: 5 }.encode(&mut bytes)?;
+/// // An exception (00) of type 5.
+/// assert_eq!(bytes, [0x00, 5]);
+/// # Ok::<(), Refused>(())
+/// ```
 #[derive(Clone, Copy, PartialEq, Eq, Debug)]
 pub struct TagType {
+    /// The kind of the tag.
     pub kind: TagKind,
     /// The index of a function type, whose parameters the tag carries.
     pub func_type_idx: u32,

@@ -25,12 +25,25 @@ use crate::base::{Counted, DecodeError, Encode, Grammar, Kind, Pieces, Result, S
 ///
 /// An adding call that returns an error leaves the section unchanged. The error is `TooLong` only
 /// if the section is full or a list is too long, and `Memory` only if an allocation fails.
+#[doc(alias = "signature")]
+#[doc(alias = "rectype")]
 #[derive(Debug)]
 pub struct TypeSection<A: Allocator = Global> {
     pieces: Pieces<A>,
 }
 
 /// The kind of a type section's items: subtypes and recursion groups.
+///
+/// It is the kind of [`TypeSection`](crate::fallible::TypeSection), of which only proofs speak.
+///
+/// # Examples
+///
+/// ```
+/// use dolzhytik::fallible::{Kind, TypeItems};
+///
+/// // A law of the format, which the prover has checked. The call does nothing.
+/// TypeItems::laws();
+/// ```
 #[derive(Clone, Copy, Debug)]
 pub struct TypeItems;
 
@@ -221,6 +234,20 @@ impl<A: Allocator, B: Allocator> Counted<TypeEntry<B>> for TypeSection<A> {
 
 /// Adds one type to a section that it borrows. A call that returns an error leaves the section
 /// unchanged.
+///
+/// [`TypeSection::ty`](crate::fallible::TypeSection::ty) returns it. Each of its calls adds one entry.
+///
+/// # Examples
+///
+/// ```
+/// use dolzhytik::fallible::{Global, Refused, TypeSection, ValType};
+///
+/// let mut types = TypeSection::new(Global);
+/// types.ty().function([ValType::I32], [])?;
+/// // A function: 60. One parameter, i32 (7F), and no results.
+/// assert_eq!(types.piece(0), Some(&[0x60, 1, 0x7F, 0][..]));
+/// # Ok::<(), Refused>(())
+/// ```
 #[derive(Debug)]
 pub struct CoreTypeEncoder<'a, A: Allocator = Global> {
     section: &'a mut TypeSection<A>,
@@ -413,6 +440,18 @@ impl<'a, A: Allocator> CoreTypeEncoder<'a, A> {
     /// [`Memory`](crate::fallible::Refused::Memory) if an allocation fails. The builder is then
     /// unchanged.
     ///
+    /// # Examples
+    ///
+    /// ```
+    /// use dolzhytik::fallible::{Global, Refused, SubType, TypeSection};
+    ///
+    /// let mut types = TypeSection::new(Global);
+    /// types.ty().rec::<[SubType; 0], Global>([])?;
+    /// // A group of no types: 4E and the count.
+    /// assert_eq!(types.piece(0), Some(&[0x4E, 0][..]));
+    /// # Ok::<(), Refused>(())
+    /// ```
+    ///
     /// # Asks
     ///
     /// ```text
@@ -431,6 +470,8 @@ impl<'a, A: Allocator> CoreTypeEncoder<'a, A> {
     /// ```
     ///
     /// Definitions: [`AddsListed`](crate::definitions::types::calls::AddsListed), [`IsEncodableShape`](crate::definitions::types::given::IsEncodableShape), [`shape_in`](crate::definitions::types::given::shape_in), [`group_encoding`](crate::definitions::types::given::group_encoding). [How to read clauses](crate::definitions).
+    #[doc(alias = "recursion group")]
+    #[doc(alias = "rectype")]
     pub fn rec<T: IntoIterator<Item = SubType<B>>, B: Allocator>(self, types: T) -> Result<()>
     where
         T::IntoIter: ExactSizeIterator,
@@ -450,6 +491,18 @@ pub(crate) const REC: u8 = 0x4E;
 /// # Errors
 ///
 /// Any error but `Memory` means that the bytes are not such a payload.
+///
+/// # Examples
+///
+/// ```
+/// use dolzhytik::fallible::{Global, read_types};
+/// use dolzhytik::reader::{DecodeError, Padded, TypeEntry};
+///
+/// // One function without parameters and results.
+/// let types = read_types::<Global, Padded>(&[1, 0x60, 0, 0], Global)?;
+/// assert!(matches!(types[..], [TypeEntry::Single(_)]));
+/// # Ok::<(), DecodeError>(())
+/// ```
 ///
 /// # Proved
 ///
@@ -479,6 +532,20 @@ pub fn read_types<'a, A: Allocator + Copy, G: Grammar>(
 /// Returns [`TooLong`](crate::fallible::Refused::TooLong) if a count or length would pass
 /// 4294967295, and [`Memory`](crate::fallible::Refused::Memory) if an allocation fails. The
 /// bytes of the sink are then unchanged.
+///
+/// # Examples
+///
+/// ```
+/// use dolzhytik::fallible::{Global, append_types, read_types};
+/// use dolzhytik::reader::{DecodeError, Padded};
+///
+/// // The count, 1, in two bytes; a function without parameters and results.
+/// let types = read_types::<Global, Padded>(&[0x81, 0x00, 0x60, 0, 0], Global)?;
+/// let mut bytes = vec![];
+/// append_types(&types, &mut bytes)?;
+/// assert_eq!(bytes, [1, 0x60, 0, 0]);
+/// # Ok::<(), DecodeError>(())
+/// ```
 ///
 /// # Proved
 ///

@@ -9,15 +9,20 @@ use crate::base::{Encode, Lent, Result, ValType};
 // The type of the content of a field or an element: a value, or a packed integer.
 #[derive(Clone, Copy, PartialEq, Eq, Hash, Debug)]
 pub enum StorageType {
+    /// A packed integer of 8 bits: 78.
     I8,
+    /// A packed integer of 16 bits: 77.
     I16,
+    /// A value type.
     Val(ValType),
 }
 
 // The type of a field, or of the elements of an array.
 #[derive(Clone, Copy, PartialEq, Eq, Hash, Debug)]
 pub struct FieldType {
+    /// The type of the content.
     pub element_type: StorageType,
+    /// Whether the field can be set.
     pub mutable: bool,
 }
 
@@ -30,6 +35,24 @@ pub struct ArrayType(pub FieldType);
 pub struct ContType(pub u32);
 
 /// The type of a function.
+///
+/// [`CoreTypeEncoder::func_type`](crate::fallible::CoreTypeEncoder::func_type) takes it.
+///
+/// # Examples
+///
+/// ```
+/// use dolzhytik::fallible::{FuncType, Global, Refused, TypeSection, ValType};
+///
+/// let ty = FuncType::new(Global, [ValType::I32, ValType::I64], [ValType::F32])?;
+/// assert_eq!((ty.params().len(), ty.results()), (2, &[ValType::F32][..]));
+///
+/// let mut types = TypeSection::new(Global);
+/// types.ty().func_type(&ty)?;
+/// // A function: 60. Parameters i32 (7F) and i64 (7E), the result f32 (7D).
+/// assert_eq!(types.piece(0), Some(&[0x60, 2, 0x7F, 0x7E, 1, 0x7D][..]));
+/// # Ok::<(), Refused>(())
+/// ```
+#[doc(alias = "signature")]
 #[derive(Debug)]
 pub struct FuncType<A: Allocator = Global> {
     params: Vec<ValType, A>,
@@ -37,23 +60,77 @@ pub struct FuncType<A: Allocator = Global> {
 }
 
 /// The type of a structure.
+///
+/// It is a case of [`CompositeInnerType`](crate::fallible::CompositeInnerType).
+///
+/// # Examples
+///
+/// ```
+/// use dolzhytik::fallible::{Encode, FieldType, Global, Refused, StorageType, StructType, Vec};
+///
+/// let field = FieldType { element_type: StorageType::I16, mutable: false };
+/// let ty = StructType { fields: Vec::from_slice(Global, &[field])? };
+/// let mut bytes = vec![];
+/// ty.encode(&mut bytes)?;
+/// // A structure: 5F. One field, i16 (77), immutable (00).
+/// assert_eq!(bytes, [0x5F, 1, 0x77, 0x00]);
+/// # Ok::<(), Refused>(())
+/// ```
 #[derive(Debug)]
 pub struct StructType<A: Allocator = Global> {
+    /// The fields.
     pub fields: Vec<FieldType, A>,
 }
 
 /// A composite type without its sharing and descriptor prefixes.
+///
+/// It is a field of [`CompositeType`](crate::fallible::CompositeType).
+///
+/// # Examples
+///
+/// ```
+/// use dolzhytik::fallible::{ArrayType, CompositeInnerType, Encode, FieldType, Refused, StorageType};
+///
+/// let field = FieldType { element_type: StorageType::I8, mutable: true };
+/// let ty: CompositeInnerType = CompositeInnerType::Array(ArrayType(field));
+/// let mut bytes = vec![];
+/// ty.encode(&mut bytes)?;
+/// // An array: 5E. i8 (78), mutable (01).
+/// assert_eq!(bytes, [0x5E, 0x78, 0x01]);
+/// # Ok::<(), Refused>(())
+/// ```
 #[derive(Debug)]
 pub enum CompositeInnerType<A: Allocator = Global> {
+    /// A function type.
     Func(FuncType<A>),
+    /// An array type.
     Array(ArrayType),
+    /// A structure type.
     Struct(StructType<A>),
+    /// A continuation type.
     Cont(ContType),
 }
 
 /// A composite type, with its prefixes.
+///
+/// It is a field of [`SubType`](crate::fallible::SubType).
+///
+/// # Examples
+///
+/// ```
+/// use dolzhytik::fallible::{CompositeInnerType, CompositeType, Encode, FuncType, Global, Refused};
+///
+/// let inner = CompositeInnerType::Func(FuncType::new(Global, [], [])?);
+/// let ty = CompositeType { inner, shared: false, descriptor: None, describes: None };
+/// let mut bytes = vec![];
+/// ty.encode(&mut bytes)?;
+/// // A function without parameters and results.
+/// assert_eq!(bytes, [0x60, 0, 0]);
+/// # Ok::<(), Refused>(())
+/// ```
 #[derive(Debug)]
 pub struct CompositeType<A: Allocator = Global> {
+    /// The type without these.
     pub inner: CompositeInnerType<A>,
     /// Whether threads share its values.
     pub shared: bool,
@@ -65,11 +142,30 @@ pub struct CompositeType<A: Allocator = Global> {
 
 /// A subtype: a composite type, an optional supertype, and whether it is final, so that it can have
 /// no subtypes.
+///
+/// [`CoreTypeEncoder::subtype`](crate::fallible::CoreTypeEncoder::subtype) and [`rec`](crate::fallible::CoreTypeEncoder::rec) take it.
+///
+/// # Examples
+///
+/// ```
+/// use dolzhytik::fallible::{CompositeInnerType, CompositeType, FuncType, Global, Refused, SubType, TypeSection};
+///
+/// let inner = CompositeInnerType::Func(FuncType::new(Global, [], [])?);
+/// let composite_type = CompositeType { inner, shared: false, descriptor: None, describes: None };
+/// let ty = SubType { is_final: false, supertype_idx: Some(5), composite_type };
+/// let mut types = TypeSection::new(Global);
+/// types.ty().subtype(&ty)?;
+/// // Not final: 50. One supertype, 5. A function without parameters and results.
+/// assert_eq!(types.piece(0), Some(&[0x50, 1, 5, 0x60, 0, 0][..]));
+/// # Ok::<(), Refused>(())
+/// ```
 #[derive(Debug)]
 pub struct SubType<A: Allocator = Global> {
+    /// Whether the type has no subtypes.
     pub is_final: bool,
     /// The index of its supertype.
     pub supertype_idx: Option<u32>,
+    /// The type itself.
     pub composite_type: CompositeType<A>,
 }
 
