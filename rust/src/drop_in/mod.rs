@@ -157,9 +157,17 @@ pub use crate::base::encoding_size;
 /// A branch hint, which [`BranchHints::function_hints`] takes: the offset of a branch and its
 /// likely direction.
 ///
-/// The branch hinting proposal defines it.
+/// The branch hinting proposal defines it. `branch_func_offset` is the offset of the branch in its
+/// body, as [`Function::byte_len`] returns it, and `branch_hint_value` is 1 for a likely branch and
+/// 0 for an unlikely one.
 ///
-/// [`BranchHints`] has an example.
+/// ```
+/// use dolzhytik::{BranchHint, BranchHints};
+///
+/// let mut hints = BranchHints::new();
+/// hints.function_hints(7, [BranchHint { branch_func_offset: 3, branch_hint_value: 1 }]);
+/// assert_eq!(hints.len(), 1);
+/// ```
 pub use crate::custom::BranchHint;
 
 /// A value in a core dump, which [`CoreDumpStackSection::frame`] takes.
@@ -187,7 +195,16 @@ pub use crate::custom::CoreDumpValue;
 /// The tool conventions define it in
 /// [Linking](https://github.com/WebAssembly/tool-conventions/blob/main/Linking.md).
 ///
-/// [`SymbolTable`] has an example.
+/// ```
+/// use dolzhytik::{DataSymbolDefinition, Encode, SymbolTable};
+///
+/// let mut symbols = SymbolTable::new();
+/// symbols.data(0, "d", Some(DataSymbolDefinition { index: 2, offset: 16, size: 8 }));
+/// let mut bytes = Vec::new();
+/// symbols.encode(&mut bytes);
+/// // Subsection 8, size 8, one symbol: data (1), no flags, "d", segment 2, offset 16, size 8.
+/// assert_eq!(bytes, [8, 8, 1, 1, 0, 1, b'd', 2, 16, 8]);
+/// ```
 pub use crate::custom::DataSymbolDefinition;
 
 /// A custom section as it is in a module, size prefix included, which [`Module::section`] copies.
@@ -352,7 +369,15 @@ pub use crate::immediates::MemArgOrdering;
 
 /// The memory or the array type of an access: a field of [`MemArg`].
 ///
-/// [`MemArg`] has an example.
+/// ```
+/// use dolzhytik::{Encode, MemArg, MemArgTarget};
+///
+/// let target = MemArgTarget::Memory(1);
+/// let mut bytes = Vec::new();
+/// MemArg { offset: 4, align: 2, target, ordering: None }.encode(&mut bytes);
+/// // Bit 6 of the alignment says that the index of the memory follows.
+/// assert_eq!(bytes, [0x42, 1, 4]);
+/// ```
 pub use crate::immediates::MemArgTarget;
 
 /// The ordering of an atomic instruction, which calls such as [`InstructionSink::atomic_fence`]
