@@ -49,6 +49,8 @@ pub trait Counted<T>: Section {
     ///
     /// # Proved
     ///
+    /// The builder gains one entry with this encoding, or the call returns an error and changes nothing. A full builder, with 2^32 - 1 entries, returns `TooLong`.
+    ///
     /// ```text
     /// ensures { Adds (item_encoding item.now) (item_encodable item.now) (pieces self.old)
     ///     (pieces self.new) result }
@@ -77,6 +79,8 @@ pub trait Counted<T>: Section {
 /// ```
 ///
 /// # Proved
+///
+/// The builder gains all items; or it gains as many as the error reports, and the next item fails. The error is `TooLong` if the builder is full, and only then if the item fits.
 ///
 /// ```text
 /// ensures { AddsAll B.item_encoding B.item_encodable items.now (B.pieces builder.old)

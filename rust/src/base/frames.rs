@@ -83,6 +83,8 @@ const SHORT: usize = 0x80;
 ///
 /// # Proved
 ///
+/// `appends`: The call appends the encoding, or returns an error and leaves the bytes as they were. If the value fits, the call never returns `TooLong`, and it succeeds within the spare capacity.
+///
 /// ```text
 /// ensures appends { Appends (size_prefixed_encoding bytes.now)
 ///     (HasEncodableSize bytes.now) sink.old sink.new result }
@@ -105,6 +107,8 @@ pub fn encode_size_prefixed<A: Sink>(sink: &mut A, bytes: &[u8]) -> Result<()> {
 /// Appends the bytes with their size prefix, which may have several bytes.
 ///
 /// # Proved
+///
+/// `appends`: The call appends the encoding, or returns an error and leaves the bytes as they were. If the value fits, the call never returns `TooLong`, and it succeeds within the spare capacity.
 ///
 /// ```text
 /// ensures appends { Appends (size_prefixed_encoding bytes.now)
@@ -142,6 +146,8 @@ fn encode_long_payload<A: Sink>(sink: &mut A, bytes: &[u8]) -> Result<()> {
 /// ```
 ///
 /// # Proved
+///
+/// `appends`: The call appends the encoding, or returns an error and leaves the bytes as they were. If the value fits, the call never returns `TooLong`, and it succeeds within the spare capacity.
 ///
 /// ```text
 /// ensures appends { Appends
@@ -228,6 +234,8 @@ impl<'a, A: Allocator + Copy, G: Grammar, T: Readable<'a, A, G>> Readable<'a, A,
 ///
 /// # Asks
 ///
+/// `start` is at most the number of bytes in the sink.
+///
 /// ```text
 /// requires { start ≤ vec_len sink.old }
 /// ```
@@ -259,7 +267,7 @@ pub fn prefix_size_since<B: Sink>(sink: &mut B, start: usize) -> Result<()> {
 ///
 /// # Proved
 ///
-/// After `Ok`: `ok`. In any case: `front`, `too_long`.
+/// After `Ok`: `ok`. In any case: `front`, `too_long`. `front`: The new bytes begin with the old ones.
 ///
 /// ```text
 /// ensures ok { OnOk result

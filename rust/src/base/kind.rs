@@ -33,6 +33,8 @@ pub trait Kind {
     ///
     /// # Proved
     ///
+    /// The laws of a kind of items: the format is unambiguous, and a well-formed record whose size fits encodes its normal form.
+    ///
     /// ```text
     /// ensures { ItemLaws kind }
     /// ```

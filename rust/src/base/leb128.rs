@@ -167,6 +167,8 @@ const MOST_GROUPS: usize = 10;
 ///
 /// # Proved
 ///
+/// The call appends the encoding, or returns an error and leaves the bytes as they were. If the value fits, the call never returns `TooLong`, and it succeeds within the spare capacity.
+///
 /// ```text
 /// ensures { Appends (groups_encoding negative limit n) ⊤ sink.old sink.new result }
 /// ```
@@ -202,6 +204,8 @@ fn append_groups<A: Sink>(
 ///
 /// # Proved
 ///
+/// The call appends the encoding, or returns an error and leaves the bytes as they were. If the value fits, the call never returns `TooLong`, and it succeeds within the spare capacity.
+///
 /// ```text
 /// ensures { Appends (groups_encoding negative limit n) ⊤ sink.old sink.new result }
 /// ```
@@ -232,6 +236,8 @@ fn append_counted_groups<A: Sink>(
 ///
 /// # Proved
 ///
+/// The call appends the encoding, or returns an error and leaves the bytes as they were. If the value fits, the call never returns `TooLong`, and it succeeds within the spare capacity.
+///
 /// ```text
 /// ensures { Appends (unsigned_encoding n) ⊤ sink.old sink.new result }
 /// ```
@@ -254,6 +260,8 @@ fn append_long_unsigned<A: Sink>(sink: &mut A, n: u64) -> Result<()> {
 ///
 /// # Proved
 ///
+/// The call appends the encoding, or returns an error and leaves the bytes as they were. If the value fits, the call never returns `TooLong`, and it succeeds within the spare capacity.
+///
 /// ```text
 /// ensures { Appends (groups_encoding negative SIGNED_LIMIT n) ⊤ sink.old sink.new result }
 /// ```
@@ -267,6 +275,8 @@ fn append_long_signed<A: Sink>(sink: &mut A, negative: bool, n: u64) -> Result<(
 /// Appends an unsigned number. Most have one byte, which is written here without a call.
 ///
 /// # Proved
+///
+/// The call appends the encoding, or returns an error and leaves the bytes as they were. If the value fits, the call never returns `TooLong`, and it succeeds within the spare capacity.
 ///
 /// ```text
 /// ensures { Appends (unsigned_encoding n) ⊤ sink.old sink.new result }
@@ -283,6 +293,8 @@ fn append_unsigned<A: Sink>(sink: &mut A, n: u64) -> Result<()> {
 }
 
 /// # Proved
+///
+/// The call appends the encoding, or returns an error and leaves the bytes as they were. If the value fits, the call never returns `TooLong`, and it succeeds within the spare capacity.
 ///
 /// ```text
 /// ensures { Appends (signed_encoding n) ⊤ sink.old sink.new result }
@@ -431,6 +443,8 @@ pub struct Groups {
 /// ```
 ///
 /// # Asks
+///
+/// `limit` is at most 10.
 ///
 /// ```text
 /// requires { limit ≤ 10 }

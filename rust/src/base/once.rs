@@ -50,6 +50,8 @@ pub trait EncodeOnce {
     ///
     /// # Asks
     ///
+    /// Each iterator in the value ends, and yields as many items as it reports: the impl says so by `lawful`.
+    ///
     /// ```text
     /// requires { lawful self }
     /// ```
@@ -57,6 +59,8 @@ pub trait EncodeOnce {
     /// [How to read clauses](crate::definitions).
     ///
     /// # Proved
+    ///
+    /// The call appends one of the encodings that the value may have, or returns an error and leaves the bytes as they were.
     ///
     /// ```text
     /// ensures { AppendsOnce (gives self) (encodable self) sink.old sink.new result }

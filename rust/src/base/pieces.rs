@@ -160,6 +160,8 @@ impl<A: Allocator> Pieces<A> {
     ///
     /// # Proved
     ///
+    /// The builder gains one entry with this encoding, or the call returns an error and changes nothing. A full builder, with 2^32 - 1 entries, returns `TooLong`.
+    ///
     /// ```text
     /// ensures { Adds entry.now ⊤ self.old self.new result }
     /// ```
@@ -187,6 +189,8 @@ impl<A: Allocator> Pieces<A> {
     /// unchanged.
     ///
     /// # Proved
+    ///
+    /// The builder gains one entry with this encoding, or the call returns an error and changes nothing. A full builder, with 2^32 - 1 entries, returns `TooLong`.
     ///
     /// ```text
     /// ensures { Adds (T.encoding item.now) (T.encodable item.now) self.old self.new result }
@@ -217,6 +221,8 @@ impl<A: Allocator> Pieces<A> {
     ///
     /// # Asks
     ///
+    /// Each iterator in the value ends, and yields as many items as it reports: the impl says so by `lawful`.
+    ///
     /// ```text
     /// requires { T.lawful item }
     /// ```
@@ -224,6 +230,8 @@ impl<A: Allocator> Pieces<A> {
     /// [How to read clauses](crate::definitions).
     ///
     /// # Proved
+    ///
+    /// The builder gains one entry with one of these encodings, or the call returns an error and changes nothing. A full builder, with 2^32 - 1 entries, returns `TooLong`.
     ///
     /// ```text
     /// ensures { AddsOnce (T.gives item) (T.encodable item) self.old self.new result }

@@ -38,6 +38,8 @@ pub trait Layout {
     ///
     /// # Proved
     ///
+    /// A format whose encodings determine their own end is unambiguous in every mode, with encodings as `HasEncodings` states.
+    ///
     /// ```text
     /// ensures { Unambiguous format }
     /// ```

@@ -176,6 +176,8 @@ impl RefType {
     ///
     /// # Proved
     ///
+    /// The call appends the encoding, or returns an error and leaves the bytes as they were. If the value fits, the call never returns `TooLong`, and it succeeds within the spare capacity.
+    ///
     /// ```text
     /// ensures { Appends (cond self.nullable 0x63 0x64 ∷ heap_encoding self.heap_type) ⊤
     ///     sink.old sink.new result }

@@ -60,6 +60,8 @@ impl<T: Encode> Encode for &[T] {
 ///
 /// # Asks
 ///
+/// The iterator ends, and yields as many items as it reports.
+///
 /// ```text
 /// requires { HasKnownLength V.into_iter_gives V.IntoIter.can_next V.IntoIter.next_gives
 ///     V.IntoIter.remaining elements }
@@ -68,6 +70,8 @@ impl<T: Encode> Encode for &[T] {
 /// Definitions: [`HasKnownLength`](crate::definitions::base::iterators::HasKnownLength). [How to read clauses](crate::definitions).
 ///
 /// # Proved
+///
+/// The call appends the vector of the items that the iterator yields, or returns an error and leaves the bytes as they were. More than 2^32 - 1 items give `TooLong`.
 ///
 /// ```text
 /// ensures { AppendsVec V.into_iter_gives V.IntoIter.next_gives V.IntoIter.remaining
@@ -122,7 +126,7 @@ impl<'a, A: Allocator + Copy, G: Grammar, T: Readable<'a, A, G>> Readable<'a, A,
 ///
 /// # Proved
 ///
-/// After `Ok`: `ok`. In any case: `front`, `too_long`.
+/// After `Ok`: `ok`. In any case: `front`, `too_long`. `front`: The new bytes begin with the old ones.
 ///
 /// ```text
 /// ensures ok { OnOk result

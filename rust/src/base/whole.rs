@@ -113,6 +113,8 @@ pub fn read_before<'a, T: Readable<'a, A, G>, A: Allocator + Copy, G: Grammar>(
 ///
 /// # Asks
 ///
+/// No encoding of a value is empty.
+///
 /// ```text
 /// requires { BeginsWith (λ b. Unit {0}) T.format }
 /// ```

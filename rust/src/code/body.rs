@@ -65,7 +65,7 @@ pub fn read_code<'a, A: Allocator + Copy, G: Grammar>(
 ///
 /// # Proved
 ///
-/// After `Ok`: `ok`. In any case: `front`, `too_long`.
+/// After `Ok`: `ok`. In any case: `front`, `too_long`. `front`: The new bytes begin with the old ones.
 ///
 /// ```text
 /// ensures ok { OnOk result
@@ -192,7 +192,7 @@ impl<A: Allocator> Shorten for Body<A> {
 ///
 /// # Proved
 ///
-/// After `Ok`: `found`. After an error: `none`. In any case: `front`.
+/// After `Ok`: `found`. After an error: `none`. In any case: `front`. `front`: The new bytes begin with the old ones.
 ///
 /// ```text
 /// ensures found { OnOk result

@@ -117,6 +117,8 @@ impl<A: Allocator> CodeSection<A> {
     ///
     /// # Proved
     ///
+    /// The builder gains one entry with this encoding, or the call returns an error and changes nothing. A full builder, with 2^32 - 1 entries, returns `TooLong`.
+    ///
     /// ```text
     /// ensures { Adds (size_prefixed_encoding function.now)
     ///     (HasEncodableSize function.now) self.old self.new result }
@@ -137,6 +139,8 @@ impl<A: Allocator> CodeSection<A> {
     /// unchanged.
     ///
     /// # Proved
+    ///
+    /// The builder gains one entry with this encoding, or the call returns an error and changes nothing. A full builder, with 2^32 - 1 entries, returns `TooLong`.
     ///
     /// ```text
     /// ensures { Adds (size_prefixed_encoding body.now)

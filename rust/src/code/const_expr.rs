@@ -71,6 +71,8 @@ impl<A: Allocator> ConstExpr<A> {
     ///
     /// # Asks
     ///
+    /// The iterator ends.
+    ///
     /// ```text
     /// requires { (it : I.IntoIter) → I.into_iter_gives bytes it
     ///     → I.IntoIter.can_next it × IsFinite (I.IntoIter.remaining it) }
@@ -119,6 +121,8 @@ impl<A: Allocator> ConstExpr<A> {
     ///
     /// # Asks
     ///
+    /// The iterator ends.
+    ///
     /// ```text
     /// requires { (it : I.IntoIter) → I.into_iter_gives instructions it
     ///     → I.IntoIter.can_next it × IsFinite (I.IntoIter.remaining it) }
@@ -127,6 +131,8 @@ impl<A: Allocator> ConstExpr<A> {
     /// [How to read clauses](crate::definitions).
     ///
     /// # Proved
+    ///
+    /// The expression stores the encodings of the instructions that the iterator yields. If all of them fit, the call never returns `TooLong`.
     ///
     /// ```text
     /// ensures { StoresGiven I.into_iter_gives I.IntoIter.next_gives instructions result }
@@ -158,6 +164,8 @@ impl<A: Allocator> ConstExpr<A> {
     /// Returns the expression of the instruction alone, and allocates nothing.
     ///
     /// # Proved
+    ///
+    /// The bytes gain the encoding of `i`. If `i` is well-formed and the old bytes minimally encode instructions, the new bytes encode these and the normal form of `i`.
     ///
     /// ```text
     /// ensures { Stores (instruction_of first) [] result }
@@ -665,6 +673,8 @@ impl<A: Allocator> ConstExpr<A> {
     ///
     /// # Proved
     ///
+    /// `answer` is `Some f` exactly if the bytes begin with `ref.func f`.
+    ///
     /// ```text
     /// ensures { IsRefFunc self.now result }
     /// ```
@@ -681,6 +691,8 @@ impl<A: Allocator> ConstExpr<A> {
 /// Returns the index of `RefFunc`, if the bytes begin with it.
 ///
 /// # Proved
+///
+/// `answer` is `Some f` exactly if the bytes begin with `ref.func f`.
 ///
 /// ```text
 /// ensures { IsRefFunc bytes.now result }
@@ -708,6 +720,8 @@ pub(crate) fn function_at_front(bytes: &[u8]) -> Option<u32> {
 ///
 /// # Asks
 ///
+/// The iterator ends.
+///
 /// ```text
 /// requires { (it : I.IntoIter) → I.into_iter_gives elements it
 ///     → I.IntoIter.can_next it × IsFinite (I.IntoIter.remaining it) }
@@ -716,6 +730,8 @@ pub(crate) fn function_at_front(bytes: &[u8]) -> Option<u32> {
 /// [How to read clauses](crate::definitions).
 ///
 /// # Proved
+///
+/// If the call succeeds, the buffer gains the encodings of the items that the iterator yields. If all items fit, the call never returns `TooLong`.
 ///
 /// ```text
 /// ensures { AppendsEach I.into_iter_gives I.IntoIter.next_gives T.encodable T.encoding

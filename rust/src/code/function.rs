@@ -50,6 +50,8 @@ impl<A: Allocator> Function<A> {
     ///
     /// # Asks
     ///
+    /// The iterator ends, and yields as many items as it reports.
+    ///
     /// ```text
     /// requires { HasKnownLength V.into_iter_gives V.IntoIter.can_next V.IntoIter.next_gives
     ///     V.IntoIter.remaining locals }
@@ -58,6 +60,8 @@ impl<A: Allocator> Function<A> {
     /// Definitions: [`HasKnownLength`](crate::definitions::base::iterators::HasKnownLength). [How to read clauses](crate::definitions).
     ///
     /// # Proved
+    ///
+    /// The new function has the runs that the iterator yields. More than 2^32 - 1 runs give `TooLong`.
     ///
     /// ```text
     /// ensures { BeginsWithRuns V.into_iter_gives V.IntoIter.next_gives V.IntoIter.remaining
@@ -102,6 +106,8 @@ impl<A: Allocator> Function<A> {
     ///
     /// # Proved
     ///
+    /// The body gains the encoding of the instruction, or the call returns an error and changes nothing.
+    ///
     /// ```text
     /// ensures { AddsInstruction instruction.now self.old self.new result }
     /// ```
@@ -119,6 +125,8 @@ impl<A: Allocator> Function<A> {
     /// is then unchanged.
     ///
     /// # Asks
+    ///
+    /// The iterator ends.
     ///
     /// ```text
     /// requires { (it : I.IntoIter) → I.into_iter_gives bytes it
@@ -185,6 +193,8 @@ impl<A: Allocator + Copy> Function<A> {
     ///
     /// # Asks
     ///
+    /// The iterator ends.
+    ///
     /// ```text
     /// requires { (it : I.IntoIter) → I.into_iter_gives locals it
     ///     → I.IntoIter.can_next it × IsFinite (I.IntoIter.remaining it) }
@@ -193,6 +203,8 @@ impl<A: Allocator + Copy> Function<A> {
     /// [How to read clauses](crate::definitions).
     ///
     /// # Proved
+    ///
+    /// The new function has the canonical runs of the types that the iterator yields. If the runs of the types fit, the call never returns `TooLong`.
     ///
     /// ```text
     /// ensures { BeginsWithTypes I.into_iter_gives I.IntoIter.next_gives locals result }
@@ -286,6 +298,8 @@ impl<A: Allocator> Buffer for Function<A> {
 /// Appends every byte, or none of them.
 ///
 /// # Asks
+///
+/// The iterator ends.
 ///
 /// ```text
 /// requires { (it : I.IntoIter) → I.into_iter_gives bytes it

@@ -68,6 +68,8 @@ impl<A: Allocator> ComdatSymbols<A> {
     ///
     /// # Proved
     ///
+    /// The builder gains one entry with this encoding, or the call returns an error and changes nothing. A full builder, with 2^32 - 1 entries, returns `TooLong`.
+    ///
     /// ```text
     /// ensures { Adds (kind ∷ unsigned_encoding index) ⊤ self.old self.new result }
     /// ```
@@ -136,6 +138,8 @@ impl<A: Allocator> Comdats<A> {
     /// unchanged.
     ///
     /// # Proved
+    ///
+    /// The builder gains one entry with this encoding, or the call returns an error and changes nothing. A full builder, with 2^32 - 1 entries, returns `TooLong`.
     ///
     /// ```text
     /// ensures { Adds (size_prefixed_encoding name.now
@@ -244,6 +248,8 @@ pub struct Comdat<'a, A: Allocator = Global> {
 /// Definitions: [`ComdatModel`](crate::definitions::custom::comdats::Comdat), [`comdat`](crate::definitions::custom::comdats::comdat), [`comdat_view`](crate::definitions::custom::comdats::comdat_view). [How to read clauses](crate::definitions).
 impl<'a, A: Allocator> Layout for Comdat<'a, A> {
     /// # Proved
+    ///
+    /// A format whose encodings determine their own end is unambiguous in every mode, with encodings as `HasEncodings` states.
     ///
     /// ```text
     /// ensures { Unambiguous comdat }

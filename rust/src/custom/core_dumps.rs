@@ -204,6 +204,8 @@ impl<A: Allocator> CoreDumpModulesSection<A> {
     ///
     /// # Proved
     ///
+    /// The builder gains one entry with this encoding, or the call returns an error and changes nothing. A full builder, with 2^32 - 1 entries, returns `TooLong`.
+    ///
     /// ```text
     /// ensures { Adds (marked_encoding name.now)
     ///     (⊤ × HasEncodableSize name.now) self.old self.new result }
@@ -319,6 +321,8 @@ impl<A: Allocator> CoreDumpInstancesSection<A> {
     ///
     /// # Asks
     ///
+    /// The iterator ends, and yields as many items as it reports.
+    ///
     /// ```text
     /// requires memories { HasKnownLength M.into_iter_gives M.IntoIter.can_next
     ///     M.IntoIter.next_gives M.IntoIter.remaining memories }
@@ -329,6 +333,8 @@ impl<A: Allocator> CoreDumpInstancesSection<A> {
     /// Definitions: [`HasKnownLength`](crate::definitions::base::iterators::HasKnownLength). [How to read clauses](crate::definitions).
     ///
     /// # Proved
+    ///
+    /// As `AddsList`, for an entry of two lists.
     ///
     /// ```text
     /// ensures { AddsTwoLists M.into_iter_gives M.IntoIter.next_gives M.IntoIter.remaining
@@ -428,6 +434,8 @@ pub fn read_process<'a, A: Allocator + Copy, G: Grammar>(
 /// Definitions: [`marked_name`](crate::definitions::custom::core_dumps::marked_name). [How to read clauses](crate::definitions).
 impl<'a> ItemsAs<&'a str> for ModuleItems {
     /// # Proved
+    ///
+    /// A format whose encodings determine their own end is unambiguous in every mode, with encodings as `HasEncodings` states.
     ///
     /// ```text
     /// ensures { Unambiguous marked_name }
@@ -573,7 +581,7 @@ pub fn read_instances<'a, A: Allocator + Copy, G: Grammar>(
 ///
 /// # Proved
 ///
-/// After `Ok`: `ok`. In any case: `front`, `too_long`.
+/// After `Ok`: `ok`. In any case: `front`, `too_long`. `front`: The new bytes begin with the old ones.
 ///
 /// ```text
 /// ensures ok { OnOk result
@@ -593,7 +601,7 @@ pub(crate) fn append_marked<B: Sink>(name: &str, sink: &mut B) -> Result<()> {
 ///
 /// # Proved
 ///
-/// After `Ok`: `ok`. In any case: `front`, `too_long`.
+/// After `Ok`: `ok`. In any case: `front`, `too_long`. `front`: The new bytes begin with the old ones.
 ///
 /// ```text
 /// ensures ok { OnOk result

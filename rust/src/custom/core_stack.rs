@@ -100,6 +100,8 @@ impl<A: Allocator> CoreDumpStackSection<A> {
     ///
     /// # Asks
     ///
+    /// The iterator ends, and yields as many items as it reports.
+    ///
     /// ```text
     /// requires locals { HasKnownLength L.into_iter_gives L.IntoIter.can_next
     ///     L.IntoIter.next_gives L.IntoIter.remaining locals }
@@ -110,6 +112,8 @@ impl<A: Allocator> CoreDumpStackSection<A> {
     /// Definitions: [`HasKnownLength`](crate::definitions::base::iterators::HasKnownLength). [How to read clauses](crate::definitions).
     ///
     /// # Proved
+    ///
+    /// `adds`: As `AddsList`, for an entry of two lists.
     ///
     /// ```text
     /// ensures adds { AddsTwoLists L.into_iter_gives L.IntoIter.next_gives L.IntoIter.remaining
@@ -327,7 +331,7 @@ impl<A: Allocator> Shorten for CoreFrame<A> {
 ///
 /// # Proved
 ///
-/// After `Ok`: `ok`. In any case: `front`, `too_long`.
+/// After `Ok`: `ok`. In any case: `front`, `too_long`. `front`: The new bytes begin with the old ones.
 ///
 /// ```text
 /// ensures ok { OnOk result

@@ -76,6 +76,8 @@ pub trait CustomKind: Kind {
     ///
     /// # Proved
     ///
+    /// The laws of a kind of custom section, in addition to those of its items. Its name is UTF-8, and its front is encoded in an unambiguous format. If items are not counted, none of them is empty.
+    ///
     /// ```text
     /// ensures { CustomLayoutLaws Self.kind.format name front front_format counted }
     /// ```
@@ -145,6 +147,8 @@ impl<K, A: Allocator> CustomEntries<K, A> {
     ///
     /// # Proved
     ///
+    /// The builder gains one entry with this encoding, or the call returns an error and changes nothing. A full builder, with 2^32 - 1 entries, returns `TooLong`.
+    ///
     /// ```text
     /// ensures { Adds (T.encoding given.now) (T.encodable given.now) self.old self.new result }
     /// ```
@@ -158,6 +162,8 @@ impl<K, A: Allocator> CustomEntries<K, A> {
     ///
     /// # Asks
     ///
+    /// Each iterator in the value ends, and yields as many items as it reports: the impl says so by `lawful`.
+    ///
     /// ```text
     /// requires { T.lawful item }
     /// ```
@@ -165,6 +171,8 @@ impl<K, A: Allocator> CustomEntries<K, A> {
     /// [How to read clauses](crate::definitions).
     ///
     /// # Proved
+    ///
+    /// The builder gains one entry with one of these encodings, or the call returns an error and changes nothing. A full builder, with 2^32 - 1 entries, returns `TooLong`.
     ///
     /// ```text
     /// ensures { AddsOnce (T.gives item) (T.encodable item) self.old self.new result }
@@ -330,6 +338,8 @@ fn data_size<B: Allocator>(front: &[u8], count: Count, pieces: &Pieces<B>) -> us
 /// number of entries if they are counted, and the entries.
 ///
 /// # Proved
+///
+/// `appends`: The call appends the encoding, or returns an error and leaves the bytes as they were. If the value fits, the call never returns `TooLong`, and it succeeds within the spare capacity.
 ///
 /// ```text
 /// ensures appends { Appends

@@ -118,6 +118,8 @@ impl<A: Allocator> BranchHints<A> {
     ///
     /// # Asks
     ///
+    /// The iterator ends, and yields as many items as it reports.
+    ///
     /// ```text
     /// requires { HasKnownLength H.into_iter_gives H.IntoIter.can_next H.IntoIter.next_gives
     ///     H.IntoIter.remaining hints }
@@ -126,6 +128,8 @@ impl<A: Allocator> BranchHints<A> {
     /// Definitions: [`HasKnownLength`](crate::definitions::base::iterators::HasKnownLength). [How to read clauses](crate::definitions).
     ///
     /// # Proved
+    ///
+    /// The builder gains one entry of the items that the iterator yields, or the call returns an error and changes nothing. It returns `TooLong` if there are too many items, and never if all items fit and items and entries are few enough.
     ///
     /// ```text
     /// ensures { AddsList H.into_iter_gives H.IntoIter.next_gives H.IntoIter.remaining hints

@@ -97,6 +97,8 @@ impl<A: Allocator> LinkingSection<A> {
     ///
     /// # Proved
     ///
+    /// The builder gains one entry with this encoding, or the call returns an error and changes nothing. A full builder, with 2^32 - 1 entries, returns `TooLong`.
+    ///
     /// ```text
     /// ensures { Adds (subsection_encoding 8 (list_encoding symbols.now))
     ///     (HasEncodableSize (list_encoding symbols.now) × ⊤) self.old self.new result }
@@ -117,6 +119,8 @@ impl<A: Allocator> LinkingSection<A> {
     /// unchanged.
     ///
     /// # Proved
+    ///
+    /// The builder gains one entry with this encoding, or the call returns an error and changes nothing. A full builder, with 2^32 - 1 entries, returns `TooLong`.
     ///
     /// ```text
     /// ensures { Adds (subsection_encoding 9 (size_prefixed_encoding name.now))
@@ -206,6 +210,8 @@ fn read_vector<'a, T: Readable<'a, A, G>, A: Allocator + Copy, G: Grammar>(
 /// Definitions: [`LinkModel`](crate::definitions::custom::linking::LinkItem), [`link`](crate::definitions::custom::linking::link), [`link_view`](crate::definitions::custom::linking::link_view). [How to read clauses](crate::definitions).
 impl<'a, A: Allocator> Layout for LinkItem<'a, A> {
     /// # Proved
+    ///
+    /// A format whose encodings determine their own end is unambiguous in every mode, with encodings as `HasEncodings` states.
     ///
     /// ```text
     /// ensures { Unambiguous link }
@@ -324,7 +330,7 @@ pub fn read_links<'a, A: Allocator + Copy + 'a, G: Grammar>(
 ///
 /// # Proved
 ///
-/// After `Ok`: `ok`. In any case: `front`, `too_long`.
+/// After `Ok`: `ok`. In any case: `front`, `too_long`. `front`: The new bytes begin with the old ones.
 ///
 /// ```text
 /// ensures ok { OnOk result
@@ -352,7 +358,7 @@ fn append_vector<T: Shorten, A: Allocator, B: Sink>(
 ///
 /// # Proved
 ///
-/// After `Ok`: `ok`. In any case: `front`, `too_long`.
+/// After `Ok`: `ok`. In any case: `front`, `too_long`. `front`: The new bytes begin with the old ones.
 ///
 /// ```text
 /// ensures ok { OnOk result
@@ -386,7 +392,7 @@ impl<'a, A: Allocator> Shorten for LinkItem<'a, A> {
 ///
 /// # Proved
 ///
-/// After `Ok`: `ok`. In any case: `front`, `too_long`.
+/// After `Ok`: `ok`. In any case: `front`, `too_long`. `front`: The new bytes begin with the old ones.
 ///
 /// ```text
 /// ensures ok { OnOk result

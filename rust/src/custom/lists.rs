@@ -118,6 +118,8 @@ impl<K: ListKind, A: Allocator> CountedList<K, A> {
     ///
     /// # Proved
     ///
+    /// The builder gains one entry with this encoding, or the call returns an error and changes nothing. A full builder, with 2^32 - 1 entries, returns `TooLong`.
+    ///
     /// ```text
     /// ensures { Adds (T.encoding given.now) (T.encodable given.now) self.old self.new result }
     /// ```
@@ -131,6 +133,8 @@ impl<K: ListKind, A: Allocator> CountedList<K, A> {
     /// Proves that the entries are the encodings of a list of members. The function does nothing.
     ///
     /// # Proved
+    ///
+    /// The pieces are the encodings of some members with the property.
     ///
     /// ```text
     /// ensures { ContainsList K.member_encoding K.is_member self.now }

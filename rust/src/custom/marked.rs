@@ -49,6 +49,8 @@ pub(crate) struct MarkedName<'a>(pub &'a str);
 impl<'a> Layout for MarkedName<'a> {
     /// # Proved
     ///
+    /// A format whose encodings determine their own end is unambiguous in every mode, with encodings as `HasEncodings` states.
+    ///
     /// ```text
     /// ensures { Unambiguous marked_name }
     /// ```

@@ -72,6 +72,8 @@ impl<A: Allocator> NameMap<A> {
     ///
     /// # Proved
     ///
+    /// The builder gains one entry with this encoding, or the call returns an error and changes nothing. A full builder, with 2^32 - 1 entries, returns `TooLong`.
+    ///
     /// ```text
     /// ensures { Adds (unsigned_encoding index ++ size_prefixed_encoding name.now)
     ///     (HasEncodableSize name.now) self.old self.new result }
@@ -179,6 +181,8 @@ impl<A: Allocator> IndirectNameMap<A> {
     ///
     /// # Proved
     ///
+    /// The builder gains one entry with this encoding, or the call returns an error and changes nothing. A full builder, with 2^32 - 1 entries, returns `TooLong`.
+    ///
     /// ```text
     /// ensures { Adds (unsigned_encoding index ++ list_encoding names.now) ⊤ self.old self.new
     ///     result }
@@ -269,6 +273,8 @@ impl<A: Allocator> NameSection<A> {
     ///
     /// # Proved
     ///
+    /// The builder gains one entry with this encoding, or the call returns an error and changes nothing. A full builder, with 2^32 - 1 entries, returns `TooLong`.
+    ///
     /// ```text
     /// ensures { Adds (subsection_encoding id (list_encoding names.now))
     ///     (HasEncodableSize (list_encoding names.now) × ⊤) self.old self.new result }
@@ -283,6 +289,8 @@ impl<A: Allocator> NameSection<A> {
     /// Adds a subsection with an indirect name map.
     ///
     /// # Proved
+    ///
+    /// The builder gains one entry with this encoding, or the call returns an error and changes nothing. A full builder, with 2^32 - 1 entries, returns `TooLong`.
     ///
     /// ```text
     /// ensures { Adds (subsection_encoding id (list_encoding names.now))
@@ -305,6 +313,8 @@ impl<A: Allocator> NameSection<A> {
     /// unchanged.
     ///
     /// # Proved
+    ///
+    /// The builder gains one entry with this encoding, or the call returns an error and changes nothing. A full builder, with 2^32 - 1 entries, returns `TooLong`.
     ///
     /// ```text
     /// ensures { Adds (subsection_encoding 0 (size_prefixed_encoding name.now))
@@ -331,6 +341,8 @@ impl<A: Allocator> NameSection<A> {
     ///
     /// # Proved
     ///
+    /// The builder gains one entry with this encoding, or the call returns an error and changes nothing. A full builder, with 2^32 - 1 entries, returns `TooLong`.
+    ///
     /// ```text
     /// ensures { Adds (subsection_encoding 1 (list_encoding names.now))
     ///     (HasEncodableSize (list_encoding names.now) × ⊤) self.old self.new result }
@@ -351,6 +363,8 @@ impl<A: Allocator> NameSection<A> {
     /// unchanged.
     ///
     /// # Proved
+    ///
+    /// The builder gains one entry with this encoding, or the call returns an error and changes nothing. A full builder, with 2^32 - 1 entries, returns `TooLong`.
     ///
     /// ```text
     /// ensures { Adds (subsection_encoding 4 (list_encoding names.now))
@@ -373,6 +387,8 @@ impl<A: Allocator> NameSection<A> {
     ///
     /// # Proved
     ///
+    /// The builder gains one entry with this encoding, or the call returns an error and changes nothing. A full builder, with 2^32 - 1 entries, returns `TooLong`.
+    ///
     /// ```text
     /// ensures { Adds (subsection_encoding 5 (list_encoding names.now))
     ///     (HasEncodableSize (list_encoding names.now) × ⊤) self.old self.new result }
@@ -393,6 +409,8 @@ impl<A: Allocator> NameSection<A> {
     /// unchanged.
     ///
     /// # Proved
+    ///
+    /// The builder gains one entry with this encoding, or the call returns an error and changes nothing. A full builder, with 2^32 - 1 entries, returns `TooLong`.
     ///
     /// ```text
     /// ensures { Adds (subsection_encoding 6 (list_encoding names.now))
@@ -415,6 +433,8 @@ impl<A: Allocator> NameSection<A> {
     ///
     /// # Proved
     ///
+    /// The builder gains one entry with this encoding, or the call returns an error and changes nothing. A full builder, with 2^32 - 1 entries, returns `TooLong`.
+    ///
     /// ```text
     /// ensures { Adds (subsection_encoding 7 (list_encoding names.now))
     ///     (HasEncodableSize (list_encoding names.now) × ⊤) self.old self.new result }
@@ -435,6 +455,8 @@ impl<A: Allocator> NameSection<A> {
     /// unchanged.
     ///
     /// # Proved
+    ///
+    /// The builder gains one entry with this encoding, or the call returns an error and changes nothing. A full builder, with 2^32 - 1 entries, returns `TooLong`.
     ///
     /// ```text
     /// ensures { Adds (subsection_encoding 8 (list_encoding names.now))
@@ -457,6 +479,8 @@ impl<A: Allocator> NameSection<A> {
     ///
     /// # Proved
     ///
+    /// The builder gains one entry with this encoding, or the call returns an error and changes nothing. A full builder, with 2^32 - 1 entries, returns `TooLong`.
+    ///
     /// ```text
     /// ensures { Adds (subsection_encoding 9 (list_encoding names.now))
     ///     (HasEncodableSize (list_encoding names.now) × ⊤) self.old self.new result }
@@ -477,6 +501,8 @@ impl<A: Allocator> NameSection<A> {
     /// unchanged.
     ///
     /// # Proved
+    ///
+    /// The builder gains one entry with this encoding, or the call returns an error and changes nothing. A full builder, with 2^32 - 1 entries, returns `TooLong`.
     ///
     /// ```text
     /// ensures { Adds (subsection_encoding 11 (list_encoding names.now))
@@ -499,6 +525,8 @@ impl<A: Allocator> NameSection<A> {
     ///
     /// # Proved
     ///
+    /// The builder gains one entry with this encoding, or the call returns an error and changes nothing. A full builder, with 2^32 - 1 entries, returns `TooLong`.
+    ///
     /// ```text
     /// ensures { Adds (subsection_encoding 11 (list_encoding names.now))
     ///     (HasEncodableSize (list_encoding names.now) × ⊤) self.old self.new result }
@@ -519,6 +547,8 @@ impl<A: Allocator> NameSection<A> {
     /// unchanged.
     ///
     /// # Proved
+    ///
+    /// The builder gains one entry with this encoding, or the call returns an error and changes nothing. A full builder, with 2^32 - 1 entries, returns `TooLong`.
     ///
     /// ```text
     /// ensures { Adds (subsection_encoding 2 (list_encoding names.now))
@@ -541,6 +571,8 @@ impl<A: Allocator> NameSection<A> {
     ///
     /// # Proved
     ///
+    /// The builder gains one entry with this encoding, or the call returns an error and changes nothing. A full builder, with 2^32 - 1 entries, returns `TooLong`.
+    ///
     /// ```text
     /// ensures { Adds (subsection_encoding 3 (list_encoding names.now))
     ///     (HasEncodableSize (list_encoding names.now) × ⊤) self.old self.new result }
@@ -561,6 +593,8 @@ impl<A: Allocator> NameSection<A> {
     /// unchanged.
     ///
     /// # Proved
+    ///
+    /// The builder gains one entry with this encoding, or the call returns an error and changes nothing. A full builder, with 2^32 - 1 entries, returns `TooLong`.
     ///
     /// ```text
     /// ensures { Adds (subsection_encoding 10 (list_encoding names.now))
@@ -583,6 +617,8 @@ impl<A: Allocator> NameSection<A> {
     ///
     /// # Proved
     ///
+    /// The builder gains one entry with this encoding, or the call returns an error and changes nothing. A full builder, with 2^32 - 1 entries, returns `TooLong`.
+    ///
     /// ```text
     /// ensures { Adds (subsection_encoding 12 (list_encoding names.now))
     ///     (HasEncodableSize (list_encoding names.now) × ⊤) self.old self.new result }
@@ -603,6 +639,8 @@ impl<A: Allocator> NameSection<A> {
     /// unchanged.
     ///
     /// # Proved
+    ///
+    /// The builder gains one entry with this encoding, or the call returns an error and changes nothing. A full builder, with 2^32 - 1 entries, returns `TooLong`.
     ///
     /// ```text
     /// ensures { Adds (subsection_encoding 13 (list_encoding names.now))
@@ -625,6 +663,8 @@ impl<A: Allocator> NameSection<A> {
     /// unchanged.
     ///
     /// # Proved
+    ///
+    /// The builder gains one entry with this encoding, or the call returns an error and changes nothing. A full builder, with 2^32 - 1 entries, returns `TooLong`.
     ///
     /// ```text
     /// ensures { Adds (subsection_encoding id content.now)
@@ -782,6 +822,8 @@ fn fill_subsection<'a, A: Allocator + Copy + 'a, G: Grammar>(
 impl<'a, A: Allocator> Layout for NameItem<'a, A> {
     /// # Proved
     ///
+    /// A format whose encodings determine their own end is unambiguous in every mode, with encodings as `HasEncodings` states.
+    ///
     /// ```text
     /// ensures { Unambiguous subsection }
     /// ```
@@ -862,7 +904,7 @@ impl<'a, A: Allocator> NameItem<'a, A> {
     ///
     /// # Proved
     ///
-    /// After `Ok`: `ok`. In any case: `front`, `too_long`.
+    /// After `Ok`: `ok`. In any case: `front`, `too_long`. `front`: The new bytes begin with the old ones.
     ///
     /// ```text
     /// ensures ok { OnOk result
@@ -903,7 +945,7 @@ impl<'a, A: Allocator> Shorten for NameItem<'a, A> {
 ///
 /// # Proved
 ///
-/// After `Ok`: `ok`. In any case: `front`, `too_long`.
+/// After `Ok`: `ok`. In any case: `front`, `too_long`. `front`: The new bytes begin with the old ones.
 ///
 /// ```text
 /// ensures ok { OnOk result

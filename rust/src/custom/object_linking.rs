@@ -101,6 +101,8 @@ impl<A: Allocator> ObjectLinking<A> {
     ///
     /// # Proved
     ///
+    /// The builder gains one entry with this encoding, or the call returns an error and changes nothing. A full builder, with 2^32 - 1 entries, returns `TooLong`.
+    ///
     /// ```text
     /// ensures { Adds (subsection_encoding 5 (list_encoding segments.now))
     ///     (HasEncodableSize (list_encoding segments.now) × ⊤) self.old self.new result }
@@ -121,6 +123,8 @@ impl<A: Allocator> ObjectLinking<A> {
     /// unchanged.
     ///
     /// # Proved
+    ///
+    /// The builder gains one entry with this encoding, or the call returns an error and changes nothing. A full builder, with 2^32 - 1 entries, returns `TooLong`.
     ///
     /// ```text
     /// ensures { Adds (subsection_encoding 6 (list_encoding functions.now))
@@ -143,6 +147,8 @@ impl<A: Allocator> ObjectLinking<A> {
     ///
     /// # Proved
     ///
+    /// The builder gains one entry with this encoding, or the call returns an error and changes nothing. A full builder, with 2^32 - 1 entries, returns `TooLong`.
+    ///
     /// ```text
     /// ensures { Adds (subsection_encoding 7 (list_encoding comdats.now))
     ///     (HasEncodableSize (list_encoding comdats.now) × ⊤) self.old self.new result }
@@ -164,6 +170,8 @@ impl<A: Allocator> ObjectLinking<A> {
     ///
     /// # Proved
     ///
+    /// The builder gains one entry with this encoding, or the call returns an error and changes nothing. A full builder, with 2^32 - 1 entries, returns `TooLong`.
+    ///
     /// ```text
     /// ensures { Adds (subsection_encoding 8 (list_encoding symbols.now))
     ///     (HasEncodableSize (list_encoding symbols.now) × ⊤) self.old self.new result }
@@ -184,6 +192,8 @@ impl<A: Allocator> ObjectLinking<A> {
     /// unchanged.
     ///
     /// # Proved
+    ///
+    /// The builder gains one entry with this encoding, or the call returns an error and changes nothing. A full builder, with 2^32 - 1 entries, returns `TooLong`.
     ///
     /// ```text
     /// ensures { Adds (subsection_encoding 9 (size_prefixed_encoding name.now))

@@ -58,6 +58,8 @@ impl<A: Allocator> ObjectSymbols<A> {
     ///
     /// # Proved
     ///
+    /// The builder gains one entry with this encoding, or the call returns an error and changes nothing. A full builder, with 2^32 - 1 entries, returns `TooLong`.
+    ///
     /// ```text
     /// ensures { Adds (indexed_encoding kind flags index
     ///         (optional_encoding (λ n. size_prefixed_encoding n.now) name.entry))
@@ -88,6 +90,8 @@ impl<A: Allocator> ObjectSymbols<A> {
     ///
     /// # Proved
     ///
+    /// The builder gains one entry with this encoding, or the call returns an error and changes nothing. A full builder, with 2^32 - 1 entries, returns `TooLong`.
+    ///
     /// ```text
     /// ensures { Adds (indexed_encoding kinds.Function flags index
     ///         (optional_encoding (λ n. size_prefixed_encoding n.now) name.entry))
@@ -109,6 +113,8 @@ impl<A: Allocator> ObjectSymbols<A> {
     /// unchanged.
     ///
     /// # Proved
+    ///
+    /// The builder gains one entry with this encoding, or the call returns an error and changes nothing. A full builder, with 2^32 - 1 entries, returns `TooLong`.
     ///
     /// ```text
     /// ensures { Adds (indexed_encoding kinds.Global flags index
@@ -132,6 +138,8 @@ impl<A: Allocator> ObjectSymbols<A> {
     ///
     /// # Proved
     ///
+    /// The builder gains one entry with this encoding, or the call returns an error and changes nothing. A full builder, with 2^32 - 1 entries, returns `TooLong`.
+    ///
     /// ```text
     /// ensures { Adds (indexed_encoding kinds.Tag flags index
     ///         (optional_encoding (λ n. size_prefixed_encoding n.now) name.entry))
@@ -153,6 +161,8 @@ impl<A: Allocator> ObjectSymbols<A> {
     /// unchanged.
     ///
     /// # Proved
+    ///
+    /// The builder gains one entry with this encoding, or the call returns an error and changes nothing. A full builder, with 2^32 - 1 entries, returns `TooLong`.
     ///
     /// ```text
     /// ensures { Adds (indexed_encoding kinds.Table flags index
@@ -176,6 +186,8 @@ impl<A: Allocator> ObjectSymbols<A> {
     /// unchanged.
     ///
     /// # Proved
+    ///
+    /// The builder gains one entry with this encoding, or the call returns an error and changes nothing. A full builder, with 2^32 - 1 entries, returns `TooLong`.
     ///
     /// ```text
     /// ensures { Adds (of_data_encoding flags name.now
@@ -203,6 +215,8 @@ impl<A: Allocator> ObjectSymbols<A> {
     /// builder is then unchanged.
     ///
     /// # Proved
+    ///
+    /// The builder gains one entry with this encoding, or the call returns an error and changes nothing. A full builder, with 2^32 - 1 entries, returns `TooLong`.
     ///
     /// ```text
     /// ensures { Adds (of_section_encoding flags section) ⊤ self.old self.new result }

@@ -70,6 +70,8 @@ impl<A: Allocator> ProducersField<A> {
     ///
     /// # Proved
     ///
+    /// The builder gains one entry with this encoding, or the call returns an error and changes nothing. A full builder, with 2^32 - 1 entries, returns `TooLong`.
+    ///
     /// ```text
     /// ensures { Adds (size_prefixed_encoding name.now ++ size_prefixed_encoding version.now)
     ///     (HasEncodableSize name.now × HasEncodableSize version.now) self.old self.new result
@@ -165,6 +167,8 @@ impl<A: Allocator> ProducersSection<A> {
     ///
     /// # Proved
     ///
+    /// The builder gains one entry with this encoding, or the call returns an error and changes nothing. A full builder, with 2^32 - 1 entries, returns `TooLong`.
+    ///
     /// ```text
     /// ensures { Adds (size_prefixed_encoding name.now ++ list_encoding values.now)
     ///     (HasEncodableSize name.now × ⊤) self.old self.new result }
@@ -187,6 +191,8 @@ impl<A: Allocator> ProducersSection<A> {
 /// Definitions: [`Field`](crate::definitions::custom::producers::Field), [`field`](crate::definitions::custom::producers::field), [`field_view`](crate::definitions::custom::producers::field_view). [How to read clauses](crate::definitions).
 impl<'a, A: Allocator> ItemsAs<(&'a str, Vec<(&'a str, &'a str), A>)> for ProducerItems {
     /// # Proved
+    ///
+    /// A format whose encodings determine their own end is unambiguous in every mode, with encodings as `HasEncodings` states.
     ///
     /// ```text
     /// ensures { Unambiguous field }

@@ -63,6 +63,8 @@ impl<A: Allocator> SegmentInfos<A> {
     ///
     /// # Proved
     ///
+    /// The builder gains one entry with this encoding, or the call returns an error and changes nothing. A full builder, with 2^32 - 1 entries, returns `TooLong`.
+    ///
     /// ```text
     /// ensures { Adds (size_prefixed_encoding name.now
     ///         ++ (unsigned_encoding alignment ++ unsigned_encoding flags))
@@ -113,6 +115,8 @@ pub struct SegmentInfo<'a> {
 /// Definitions: [`SegmentModel`](crate::definitions::custom::segments::SegmentInfo), [`segment`](crate::definitions::custom::segments::segment), [`segment_view`](crate::definitions::custom::segments::segment_view). [How to read clauses](crate::definitions).
 impl<'a> Layout for SegmentInfo<'a> {
     /// # Proved
+    ///
+    /// A format whose encodings determine their own end is unambiguous in every mode, with encodings as `HasEncodings` states.
     ///
     /// ```text
     /// ensures { Unambiguous segment }

@@ -199,6 +199,8 @@ impl<A: Allocator> SymbolTable<A> {
     ///
     /// # Proved
     ///
+    /// The builder gains one entry with this encoding, or the call returns an error and changes nothing. A full builder, with 2^32 - 1 entries, returns `TooLong`.
+    ///
     /// ```text
     /// ensures { Adds (indexed_encoding kind flags index
     ///         (optional_encoding (λ n. size_prefixed_encoding n.now) name.entry))
@@ -229,6 +231,8 @@ impl<A: Allocator> SymbolTable<A> {
     ///
     /// # Proved
     ///
+    /// The builder gains one entry with this encoding, or the call returns an error and changes nothing. A full builder, with 2^32 - 1 entries, returns `TooLong`.
+    ///
     /// ```text
     /// ensures { Adds (indexed_encoding kinds.Function flags index
     ///         (optional_encoding (λ n. size_prefixed_encoding n.now) name.entry))
@@ -250,6 +254,8 @@ impl<A: Allocator> SymbolTable<A> {
     /// unchanged.
     ///
     /// # Proved
+    ///
+    /// The builder gains one entry with this encoding, or the call returns an error and changes nothing. A full builder, with 2^32 - 1 entries, returns `TooLong`.
     ///
     /// ```text
     /// ensures { Adds (indexed_encoding kinds.Global flags index
@@ -273,6 +279,8 @@ impl<A: Allocator> SymbolTable<A> {
     ///
     /// # Proved
     ///
+    /// The builder gains one entry with this encoding, or the call returns an error and changes nothing. A full builder, with 2^32 - 1 entries, returns `TooLong`.
+    ///
     /// ```text
     /// ensures { Adds (indexed_encoding kinds.Table flags index
     ///         (optional_encoding (λ n. size_prefixed_encoding n.now) name.entry))
@@ -295,6 +303,8 @@ impl<A: Allocator> SymbolTable<A> {
     /// unchanged.
     ///
     /// # Proved
+    ///
+    /// The builder gains one entry with this encoding, or the call returns an error and changes nothing. A full builder, with 2^32 - 1 entries, returns `TooLong`.
     ///
     /// ```text
     /// ensures { Adds (of_data_encoding flags name.now
@@ -571,6 +581,8 @@ fn read_section<'a, A: Allocator + Copy, G: Grammar>(
 impl<'a> Layout for Symbol<'a> {
     /// # Proved
     ///
+    /// A format whose encodings determine their own end is unambiguous in every mode, with encodings as `HasEncodings` states.
+    ///
     /// ```text
     /// ensures { Unambiguous symbol }
     /// ```
@@ -618,7 +630,7 @@ impl<'a, A: Allocator + Copy, G: Grammar> Readable<'a, A, G> for Symbol<'a> {
 ///
 /// # Proved
 ///
-/// After `Ok`: `ok`. In any case: `front`, `too_long`.
+/// After `Ok`: `ok`. In any case: `front`, `too_long`. `front`: The new bytes begin with the old ones.
 ///
 /// ```text
 /// ensures ok { OnOk result
@@ -641,7 +653,7 @@ fn append_name<B: Sink>(flags: u32, name: Option<&str>, sink: &mut B) -> Result<
 ///
 /// # Proved
 ///
-/// After `Ok`: `ok`. In any case: `front`, `too_long`.
+/// After `Ok`: `ok`. In any case: `front`, `too_long`. `front`: The new bytes begin with the old ones.
 ///
 /// ```text
 /// ensures ok { OnOk result
@@ -672,7 +684,7 @@ fn append_indexed<B: Sink>(
 ///
 /// # Proved
 ///
-/// After `Ok`: `ok`. In any case: `front`, `too_long`.
+/// After `Ok`: `ok`. In any case: `front`, `too_long`. `front`: The new bytes begin with the old ones.
 ///
 /// ```text
 /// ensures ok { OnOk result
@@ -700,7 +712,7 @@ fn append_definition<B: Sink>(
 ///
 /// # Proved
 ///
-/// After `Ok`: `ok`. In any case: `front`, `too_long`.
+/// After `Ok`: `ok`. In any case: `front`, `too_long`. `front`: The new bytes begin with the old ones.
 ///
 /// ```text
 /// ensures ok { OnOk result
@@ -728,7 +740,7 @@ fn append_data<B: Sink>(
 ///
 /// # Proved
 ///
-/// After `Ok`: `ok`. In any case: `front`, `too_long`.
+/// After `Ok`: `ok`. In any case: `front`, `too_long`. `front`: The new bytes begin with the old ones.
 ///
 /// ```text
 /// ensures ok { OnOk result

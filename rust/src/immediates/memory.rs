@@ -147,6 +147,8 @@ impl MemArg {
     ///
     /// # Proved
     ///
+    /// The call appends the encoding, or returns an error and leaves the bytes as they were. If the value fits, the call never returns `TooLong`, and it succeeds within the spare capacity.
+    ///
     /// ```text
     /// ensures { Appends (mem_arg_encoding self.now) ⊤ sink.old sink.new result }
     /// ```
@@ -189,6 +191,8 @@ impl Encode for MemArg {
 /// spare capacity.
 ///
 /// # Proved
+///
+/// The call appends the encoding, or returns an error and leaves the bytes as they were. If the value fits, the call never returns `TooLong`, and it succeeds within the spare capacity.
 ///
 /// ```text
 /// ensures { Appends (unsigned_encoding flags ++ unsigned_encoding offset) ⊤ sink.old

@@ -555,6 +555,8 @@ impl Atomic {
     ///
     /// # Proved
     ///
+    /// The call appends the encoding, or returns an error and leaves the bytes as they were. If the value fits, the call never returns `TooLong`, and it succeeds within the spare capacity.
+    ///
     /// ```text
     /// ensures { Appends (arguments_encoding (atomic_row self).arguments)
     ///     (arguments_encodable (atomic_row self).arguments) sink.old sink.new result }

@@ -456,6 +456,8 @@ fn cast_flag(from: RefType, to: RefType) -> u8 {
 ///
 /// # Proved
 ///
+/// The call appends the encoding, or returns an error and leaves the bytes as they were. If the value fits, the call never returns `TooLong`, and it succeeds within the spare capacity.
+///
 /// ```text
 /// ensures { Appends (vec_encoding unsigned_encoding labels.now
 ///         ++ unsigned_encoding default)
@@ -471,6 +473,8 @@ fn encode_labels<A: Sink>(labels: &[u32], default: u32, sink: &mut A) -> Result<
 /// Appends the type of a block, and its catch clauses.
 ///
 /// # Proved
+///
+/// The call appends the encoding, or returns an error and leaves the bytes as they were. If the value fits, the call never returns `TooLong`, and it succeeds within the spare capacity.
 ///
 /// ```text
 /// ensures { Appends (block_encoding block_type ++ vec_encoding catch_encoding catches.now)
@@ -491,6 +495,8 @@ fn encode_try_table<A: Sink>(
 ///
 /// # Proved
 ///
+/// The call appends the encoding, or returns an error and leaves the bytes as they were. If the value fits, the call never returns `TooLong`, and it succeeds within the spare capacity.
+///
 /// ```text
 /// ensures { Appends (unsigned_encoding index ++ vec_encoding handle_encoding handles.now)
 ///     (⊤ × IsEncodableVec (λ _. ⊤) handles.now) sink.old sink.new result }
@@ -505,6 +511,8 @@ fn encode_resume<A: Sink>(index: u32, handles: &[Handle], sink: &mut A) -> Resul
 /// Appends the indices of a type and of a tag, and handle clauses.
 ///
 /// # Proved
+///
+/// The call appends the encoding, or returns an error and leaves the bytes as they were. If the value fits, the call never returns `TooLong`, and it succeeds within the spare capacity.
 ///
 /// ```text
 /// ensures { Appends (unsigned_encoding index
@@ -526,6 +534,8 @@ fn encode_resume_throw<A: Sink>(
 /// Appends the flags, the label, and the two heap types of a cast.
 ///
 /// # Proved
+///
+/// The call appends the encoding, or returns an error and leaves the bytes as they were. If the value fits, the call never returns `TooLong`, and it succeeds within the spare capacity.
 ///
 /// ```text
 /// ensures { Appends (cast_flag_of from to ∷ []
@@ -691,6 +701,8 @@ impl<'a, A: Allocator> Instruction<'a, A> {
     /// Appends the immediates.
     ///
     /// # Proved
+    ///
+    /// The call appends the encoding, or returns an error and leaves the bytes as they were. If the value fits, the call never returns `TooLong`, and it succeeds within the spare capacity.
     ///
     /// ```text
     /// ensures { Appends (arguments_encoding (row_of self.now).arguments)

@@ -45,6 +45,8 @@ pub trait Buffer {
     ///
     /// # Proved
     ///
+    /// The sink gains the encoding, or the call returns an error and leaves the bytes as they were. If the value fits, the call never returns `TooLong`, and it succeeds within the spare capacity.
+    ///
     /// ```text
     /// ensures { Writes (E.encoding value.now) (E.encodable value.now)
     ///     (has_spare_capacity self.old (length (E.encoding value.now))) (written self.old)
@@ -66,6 +68,8 @@ pub trait Buffer {
     ///
     /// # Asks
     ///
+    /// The iterator ends, and yields as many items as it reports.
+    ///
     /// ```text
     /// requires { HasKnownLength V.into_iter_gives V.IntoIter.can_next V.IntoIter.next_gives
     ///     V.IntoIter.remaining elements }
@@ -74,6 +78,8 @@ pub trait Buffer {
     /// Definitions: [`HasKnownLength`](crate::definitions::base::iterators::HasKnownLength). [How to read clauses](crate::definitions).
     ///
     /// # Proved
+    ///
+    /// The sink gains `before`, the vector of the items that the iterator yields, and `after`; or the call returns an error and changes nothing. More than 2^32 - 1 items give `TooLong`.
     ///
     /// ```text
     /// ensures { WritesVec V.into_iter_gives V.IntoIter.next_gives V.IntoIter.remaining
@@ -185,6 +191,8 @@ impl<'a, B: Buffer> InstructionSink<'a, B> {
     ///
     /// # Proved
     ///
+    /// `writes`: The sink gains the encoding, or the call returns an error and leaves the bytes as they were. If the value fits, the call never returns `TooLong`, and it succeeds within the spare capacity.
+    ///
     /// ```text
     /// ensures same_reference { self.new.sink.ghost_name ≡ self.old.sink.ghost_name }
     /// ensures writes { Writes (E.encoding value.now) (E.encodable value.now)
@@ -218,6 +226,8 @@ impl<'a, B: Buffer> InstructionSink<'a, B> {
     ///
     /// # Proved
     ///
+    /// `writes`: The sink gains the encoding, or the call returns an error and leaves the bytes as they were. If the value fits, the call never returns `TooLong`, and it succeeds within the spare capacity.
+    ///
     /// ```text
     /// ensures same_reference { self.new.sink.ghost_name ≡ self.old.sink.ghost_name }
     /// ensures writes { Writes (op_encoding op) ⊤
@@ -239,6 +249,8 @@ impl<'a, B: Buffer> InstructionSink<'a, B> {
     ///
     /// # Proved
     ///
+    /// `writes`: The sink gains the encoding of the instruction, or the call returns an error and leaves the bytes as they were.
+    ///
     /// ```text
     /// ensures same_reference { self.new.sink.ghost_name ≡ self.old.sink.ghost_name }
     /// ensures writes { WritesInstruction B.written B.has_spare_capacity
@@ -258,6 +270,8 @@ impl<'a, B: Buffer> InstructionSink<'a, B> {
     /// the sink are then unchanged.
     ///
     /// # Proved
+    ///
+    /// `writes`: The sink gains the encoding of the instruction, or the call returns an error and leaves the bytes as they were.
     ///
     /// ```text
     /// ensures same_reference { self.new.sink.ghost_name ≡ self.old.sink.ghost_name }
@@ -279,6 +293,8 @@ impl<'a, B: Buffer> InstructionSink<'a, B> {
     ///
     /// # Proved
     ///
+    /// `writes`: The sink gains the encoding of the instruction, or the call returns an error and leaves the bytes as they were.
+    ///
     /// ```text
     /// ensures same_reference { self.new.sink.ghost_name ≡ self.old.sink.ghost_name }
     /// ensures writes { WritesInstruction B.written B.has_spare_capacity
@@ -298,6 +314,8 @@ impl<'a, B: Buffer> InstructionSink<'a, B> {
     /// the sink are then unchanged.
     ///
     /// # Proved
+    ///
+    /// `writes`: The sink gains the encoding of the instruction, or the call returns an error and leaves the bytes as they were.
     ///
     /// ```text
     /// ensures same_reference { self.new.sink.ghost_name ≡ self.old.sink.ghost_name }
@@ -319,6 +337,8 @@ impl<'a, B: Buffer> InstructionSink<'a, B> {
     ///
     /// # Proved
     ///
+    /// `writes`: The sink gains the encoding of the instruction, or the call returns an error and leaves the bytes as they were.
+    ///
     /// ```text
     /// ensures same_reference { self.new.sink.ghost_name ≡ self.old.sink.ghost_name }
     /// ensures writes { WritesInstruction B.written B.has_spare_capacity
@@ -338,6 +358,8 @@ impl<'a, B: Buffer> InstructionSink<'a, B> {
     /// the sink are then unchanged.
     ///
     /// # Proved
+    ///
+    /// `writes`: The sink gains the encoding of the instruction, or the call returns an error and leaves the bytes as they were.
     ///
     /// ```text
     /// ensures same_reference { self.new.sink.ghost_name ≡ self.old.sink.ghost_name }
@@ -359,6 +381,8 @@ impl<'a, B: Buffer> InstructionSink<'a, B> {
     ///
     /// # Proved
     ///
+    /// `writes`: The sink gains the encoding of the instruction, or the call returns an error and leaves the bytes as they were.
+    ///
     /// ```text
     /// ensures same_reference { self.new.sink.ghost_name ≡ self.old.sink.ghost_name }
     /// ensures writes { WritesInstruction B.written B.has_spare_capacity Instruction.End
@@ -379,6 +403,8 @@ impl<'a, B: Buffer> InstructionSink<'a, B> {
     ///
     /// # Proved
     ///
+    /// `writes`: The sink gains the encoding of the instruction, or the call returns an error and leaves the bytes as they were.
+    ///
     /// ```text
     /// ensures same_reference { self.new.sink.ghost_name ≡ self.old.sink.ghost_name }
     /// ensures writes { WritesInstruction B.written B.has_spare_capacity
@@ -398,6 +424,8 @@ impl<'a, B: Buffer> InstructionSink<'a, B> {
     /// the sink are then unchanged.
     ///
     /// # Proved
+    ///
+    /// `writes`: The sink gains the encoding of the instruction, or the call returns an error and leaves the bytes as they were.
     ///
     /// ```text
     /// ensures same_reference { self.new.sink.ghost_name ≡ self.old.sink.ghost_name }
@@ -420,6 +448,8 @@ impl<'a, B: Buffer> InstructionSink<'a, B> {
     ///
     /// # Asks
     ///
+    /// The iterator ends, and yields as many items as it reports.
+    ///
     /// ```text
     /// requires { HasKnownLength V.into_iter_gives V.IntoIter.can_next V.IntoIter.next_gives
     ///     V.IntoIter.remaining labels }
@@ -428,6 +458,8 @@ impl<'a, B: Buffer> InstructionSink<'a, B> {
     /// Definitions: [`HasKnownLength`](crate::definitions::base::iterators::HasKnownLength). [How to read clauses](crate::definitions).
     ///
     /// # Proved
+    ///
+    /// `writes`: The sink gains `br_table` with the labels that the iterator yields, or the call returns an error and changes nothing. More than 2^32 - 1 labels give `TooLong`.
     ///
     /// ```text
     /// ensures same_reference { self.new.sink.ghost_name ≡ self.old.sink.ghost_name }
@@ -453,6 +485,8 @@ impl<'a, B: Buffer> InstructionSink<'a, B> {
     ///
     /// # Proved
     ///
+    /// `writes`: The sink gains the encoding of the instruction, or the call returns an error and leaves the bytes as they were.
+    ///
     /// ```text
     /// ensures same_reference { self.new.sink.ghost_name ≡ self.old.sink.ghost_name }
     /// ensures writes { WritesInstruction B.written B.has_spare_capacity Instruction.Return
@@ -473,6 +507,8 @@ impl<'a, B: Buffer> InstructionSink<'a, B> {
     ///
     /// # Proved
     ///
+    /// `writes`: The sink gains the encoding of the instruction, or the call returns an error and leaves the bytes as they were.
+    ///
     /// ```text
     /// ensures same_reference { self.new.sink.ghost_name ≡ self.old.sink.ghost_name }
     /// ensures writes { WritesInstruction B.written B.has_spare_capacity
@@ -492,6 +528,8 @@ impl<'a, B: Buffer> InstructionSink<'a, B> {
     /// the sink are then unchanged.
     ///
     /// # Proved
+    ///
+    /// `writes`: The sink gains the encoding of the instruction, or the call returns an error and leaves the bytes as they were.
     ///
     /// ```text
     /// ensures same_reference { self.new.sink.ghost_name ≡ self.old.sink.ghost_name }
@@ -514,6 +552,8 @@ impl<'a, B: Buffer> InstructionSink<'a, B> {
     ///
     /// # Proved
     ///
+    /// `writes`: The sink gains the encoding of the instruction, or the call returns an error and leaves the bytes as they were.
+    ///
     /// ```text
     /// ensures same_reference { self.new.sink.ghost_name ≡ self.old.sink.ghost_name }
     /// ensures writes { WritesInstruction B.written B.has_spare_capacity Instruction.Drop
@@ -534,6 +574,8 @@ impl<'a, B: Buffer> InstructionSink<'a, B> {
     ///
     /// # Proved
     ///
+    /// `writes`: The sink gains the encoding of the instruction, or the call returns an error and leaves the bytes as they were.
+    ///
     /// ```text
     /// ensures same_reference { self.new.sink.ghost_name ≡ self.old.sink.ghost_name }
     /// ensures writes { WritesInstruction B.written B.has_spare_capacity Instruction.Select
@@ -553,6 +595,8 @@ impl<'a, B: Buffer> InstructionSink<'a, B> {
     /// the sink are then unchanged.
     ///
     /// # Proved
+    ///
+    /// `writes`: The sink gains the encoding of the instruction, or the call returns an error and leaves the bytes as they were.
     ///
     /// ```text
     /// ensures same_reference { self.new.sink.ghost_name ≡ self.old.sink.ghost_name }
@@ -575,6 +619,8 @@ impl<'a, B: Buffer> InstructionSink<'a, B> {
     ///
     /// # Proved
     ///
+    /// `writes`: The sink gains the encoding of the instruction, or the call returns an error and leaves the bytes as they were.
+    ///
     /// ```text
     /// ensures same_reference { self.new.sink.ghost_name ≡ self.old.sink.ghost_name }
     /// ensures writes { WritesInstruction B.written B.has_spare_capacity
@@ -596,6 +642,8 @@ impl<'a, B: Buffer> InstructionSink<'a, B> {
     ///
     /// # Proved
     ///
+    /// `writes`: The sink gains the encoding of the instruction, or the call returns an error and leaves the bytes as they were.
+    ///
     /// ```text
     /// ensures same_reference { self.new.sink.ghost_name ≡ self.old.sink.ghost_name }
     /// ensures writes { WritesInstruction B.written B.has_spare_capacity
@@ -615,6 +663,8 @@ impl<'a, B: Buffer> InstructionSink<'a, B> {
     /// the sink are then unchanged.
     ///
     /// # Proved
+    ///
+    /// `writes`: The sink gains the encoding of the instruction, or the call returns an error and leaves the bytes as they were.
     ///
     /// ```text
     /// ensures same_reference { self.new.sink.ghost_name ≡ self.old.sink.ghost_name }
@@ -636,6 +686,8 @@ impl<'a, B: Buffer> InstructionSink<'a, B> {
     ///
     /// # Proved
     ///
+    /// `writes`: The sink gains the encoding of the instruction, or the call returns an error and leaves the bytes as they were.
+    ///
     /// ```text
     /// ensures same_reference { self.new.sink.ghost_name ≡ self.old.sink.ghost_name }
     /// ensures writes { WritesInstruction B.written B.has_spare_capacity
@@ -655,6 +707,8 @@ impl<'a, B: Buffer> InstructionSink<'a, B> {
     /// the sink are then unchanged.
     ///
     /// # Proved
+    ///
+    /// `writes`: The sink gains the encoding of the instruction, or the call returns an error and leaves the bytes as they were.
     ///
     /// ```text
     /// ensures same_reference { self.new.sink.ghost_name ≡ self.old.sink.ghost_name }
@@ -676,6 +730,8 @@ impl<'a, B: Buffer> InstructionSink<'a, B> {
     ///
     /// # Proved
     ///
+    /// `writes`: The sink gains the encoding of the instruction, or the call returns an error and leaves the bytes as they were.
+    ///
     /// ```text
     /// ensures same_reference { self.new.sink.ghost_name ≡ self.old.sink.ghost_name }
     /// ensures writes { WritesInstruction B.written B.has_spare_capacity
@@ -695,6 +751,8 @@ impl<'a, B: Buffer> InstructionSink<'a, B> {
     /// the sink are then unchanged.
     ///
     /// # Proved
+    ///
+    /// `writes`: The sink gains the encoding of the instruction, or the call returns an error and leaves the bytes as they were.
     ///
     /// ```text
     /// ensures same_reference { self.new.sink.ghost_name ≡ self.old.sink.ghost_name }
@@ -716,6 +774,8 @@ impl<'a, B: Buffer> InstructionSink<'a, B> {
     ///
     /// # Proved
     ///
+    /// `writes`: The sink gains the encoding of the instruction, or the call returns an error and leaves the bytes as they were.
+    ///
     /// ```text
     /// ensures same_reference { self.new.sink.ghost_name ≡ self.old.sink.ghost_name }
     /// ensures writes { WritesInstruction B.written B.has_spare_capacity
@@ -735,6 +795,8 @@ impl<'a, B: Buffer> InstructionSink<'a, B> {
     /// the sink are then unchanged.
     ///
     /// # Proved
+    ///
+    /// `writes`: The sink gains the encoding of the instruction, or the call returns an error and leaves the bytes as they were.
     ///
     /// ```text
     /// ensures same_reference { self.new.sink.ghost_name ≡ self.old.sink.ghost_name }
@@ -756,6 +818,8 @@ impl<'a, B: Buffer> InstructionSink<'a, B> {
     ///
     /// # Proved
     ///
+    /// `writes`: The sink gains the encoding of the instruction, or the call returns an error and leaves the bytes as they were.
+    ///
     /// ```text
     /// ensures same_reference { self.new.sink.ghost_name ≡ self.old.sink.ghost_name }
     /// ensures writes { WritesInstruction B.written B.has_spare_capacity
@@ -775,6 +839,8 @@ impl<'a, B: Buffer> InstructionSink<'a, B> {
     /// the sink are then unchanged.
     ///
     /// # Proved
+    ///
+    /// `writes`: The sink gains the encoding of the instruction, or the call returns an error and leaves the bytes as they were.
     ///
     /// ```text
     /// ensures same_reference { self.new.sink.ghost_name ≡ self.old.sink.ghost_name }
@@ -796,6 +862,8 @@ impl<'a, B: Buffer> InstructionSink<'a, B> {
     ///
     /// # Proved
     ///
+    /// `writes`: The sink gains the encoding of the instruction, or the call returns an error and leaves the bytes as they were.
+    ///
     /// ```text
     /// ensures same_reference { self.new.sink.ghost_name ≡ self.old.sink.ghost_name }
     /// ensures writes { WritesInstruction B.written B.has_spare_capacity
@@ -815,6 +883,8 @@ impl<'a, B: Buffer> InstructionSink<'a, B> {
     /// the sink are then unchanged.
     ///
     /// # Proved
+    ///
+    /// `writes`: The sink gains the encoding of the instruction, or the call returns an error and leaves the bytes as they were.
     ///
     /// ```text
     /// ensures same_reference { self.new.sink.ghost_name ≡ self.old.sink.ghost_name }
@@ -836,6 +906,8 @@ impl<'a, B: Buffer> InstructionSink<'a, B> {
     ///
     /// # Proved
     ///
+    /// `writes`: The sink gains the encoding of the instruction, or the call returns an error and leaves the bytes as they were.
+    ///
     /// ```text
     /// ensures same_reference { self.new.sink.ghost_name ≡ self.old.sink.ghost_name }
     /// ensures writes { WritesInstruction B.written B.has_spare_capacity
@@ -855,6 +927,8 @@ impl<'a, B: Buffer> InstructionSink<'a, B> {
     /// the sink are then unchanged.
     ///
     /// # Proved
+    ///
+    /// `writes`: The sink gains the encoding of the instruction, or the call returns an error and leaves the bytes as they were.
     ///
     /// ```text
     /// ensures same_reference { self.new.sink.ghost_name ≡ self.old.sink.ghost_name }
@@ -877,6 +951,8 @@ impl<'a, B: Buffer> InstructionSink<'a, B> {
     ///
     /// # Proved
     ///
+    /// `writes`: The sink gains the encoding of the instruction, or the call returns an error and leaves the bytes as they were.
+    ///
     /// ```text
     /// ensures same_reference { self.new.sink.ghost_name ≡ self.old.sink.ghost_name }
     /// ensures writes { WritesInstruction B.written B.has_spare_capacity
@@ -896,6 +972,8 @@ impl<'a, B: Buffer> InstructionSink<'a, B> {
     /// the sink are then unchanged.
     ///
     /// # Proved
+    ///
+    /// `writes`: The sink gains the encoding of the instruction, or the call returns an error and leaves the bytes as they were.
     ///
     /// ```text
     /// ensures same_reference { self.new.sink.ghost_name ≡ self.old.sink.ghost_name }
@@ -917,6 +995,8 @@ impl<'a, B: Buffer> InstructionSink<'a, B> {
     ///
     /// # Proved
     ///
+    /// `writes`: The sink gains the encoding of the instruction, or the call returns an error and leaves the bytes as they were.
+    ///
     /// ```text
     /// ensures same_reference { self.new.sink.ghost_name ≡ self.old.sink.ghost_name }
     /// ensures writes { WritesInstruction B.written B.has_spare_capacity
@@ -936,6 +1016,8 @@ impl<'a, B: Buffer> InstructionSink<'a, B> {
     /// the sink are then unchanged.
     ///
     /// # Proved
+    ///
+    /// `writes`: The sink gains the encoding of the instruction, or the call returns an error and leaves the bytes as they were.
     ///
     /// ```text
     /// ensures same_reference { self.new.sink.ghost_name ≡ self.old.sink.ghost_name }
@@ -957,6 +1039,8 @@ impl<'a, B: Buffer> InstructionSink<'a, B> {
     ///
     /// # Proved
     ///
+    /// `writes`: The sink gains the encoding of the instruction, or the call returns an error and leaves the bytes as they were.
+    ///
     /// ```text
     /// ensures same_reference { self.new.sink.ghost_name ≡ self.old.sink.ghost_name }
     /// ensures writes { WritesInstruction B.written B.has_spare_capacity
@@ -976,6 +1060,8 @@ impl<'a, B: Buffer> InstructionSink<'a, B> {
     /// the sink are then unchanged.
     ///
     /// # Proved
+    ///
+    /// `writes`: The sink gains the encoding of the instruction, or the call returns an error and leaves the bytes as they were.
     ///
     /// ```text
     /// ensures same_reference { self.new.sink.ghost_name ≡ self.old.sink.ghost_name }
@@ -997,6 +1083,8 @@ impl<'a, B: Buffer> InstructionSink<'a, B> {
     ///
     /// # Proved
     ///
+    /// `writes`: The sink gains the encoding of the instruction, or the call returns an error and leaves the bytes as they were.
+    ///
     /// ```text
     /// ensures same_reference { self.new.sink.ghost_name ≡ self.old.sink.ghost_name }
     /// ensures writes { WritesInstruction B.written B.has_spare_capacity
@@ -1016,6 +1104,8 @@ impl<'a, B: Buffer> InstructionSink<'a, B> {
     /// the sink are then unchanged.
     ///
     /// # Proved
+    ///
+    /// `writes`: The sink gains the encoding of the instruction, or the call returns an error and leaves the bytes as they were.
     ///
     /// ```text
     /// ensures same_reference { self.new.sink.ghost_name ≡ self.old.sink.ghost_name }
@@ -1037,6 +1127,8 @@ impl<'a, B: Buffer> InstructionSink<'a, B> {
     ///
     /// # Proved
     ///
+    /// `writes`: The sink gains the encoding of the instruction, or the call returns an error and leaves the bytes as they were.
+    ///
     /// ```text
     /// ensures same_reference { self.new.sink.ghost_name ≡ self.old.sink.ghost_name }
     /// ensures writes { WritesInstruction B.written B.has_spare_capacity Instruction.RefIsNull
@@ -1056,6 +1148,8 @@ impl<'a, B: Buffer> InstructionSink<'a, B> {
     /// the sink are then unchanged.
     ///
     /// # Proved
+    ///
+    /// `writes`: The sink gains the encoding of the instruction, or the call returns an error and leaves the bytes as they were.
     ///
     /// ```text
     /// ensures same_reference { self.new.sink.ghost_name ≡ self.old.sink.ghost_name }

@@ -205,6 +205,8 @@ impl VectorImmediate {
     ///
     /// # Proved
     ///
+    /// The call appends the encoding, or returns an error and leaves the bytes as they were. If the value fits, the call never returns `TooLong`, and it succeeds within the spare capacity.
+    ///
     /// ```text
     /// ensures { Appends (arguments_encoding (vector_immediate_row self).arguments)
     ///     (arguments_encodable (vector_immediate_row self).arguments) sink.old sink.new result

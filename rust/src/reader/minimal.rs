@@ -12,7 +12,7 @@ use crate::code::shorten_body;
 ///
 /// # Proved
 ///
-/// After `Ok`: `found`. After an error: `none`. In any case: `front`.
+/// After `Ok`: `found`. After an error: `none`. In any case: `front`. `front`: The new bytes begin with the old ones.
 ///
 /// ```text
 /// ensures found { OnOk result
@@ -48,7 +48,7 @@ fn shorten_bodies<A: Allocator + Copy, B: Sink>(
 ///
 /// # Proved
 ///
-/// After `Ok`: `found`. After an error: `none`. In any case: `front`.
+/// After `Ok`: `found`. After an error: `none`. In any case: `front`. `front`: The new bytes begin with the old ones.
 ///
 /// ```text
 /// ensures found { OnOk result
@@ -81,7 +81,7 @@ fn shorten_content<A: Allocator + Copy, B: Sink>(
 ///
 /// # Proved
 ///
-/// After `Ok`: `found`. After an error: `none`. In any case: `front`.
+/// After `Ok`: `found`. After an error: `none`. In any case: `front`. `front`: The new bytes begin with the old ones.
 ///
 /// ```text
 /// ensures found { OnOk result

@@ -184,6 +184,8 @@ impl Target {
     ///
     /// # Proved
     ///
+    /// Whether a section of this id does not stay for such offsets, given whether it changes and whether its offset stays the same.
+    ///
     /// ```text
     /// ensures { AreMoved result self id is_changed is_level }
     /// ```
@@ -288,6 +290,8 @@ fn is_left_out(section: &Standing<'_>, offsets: Offsets) -> bool {
 /// Returns `true` if the output differs from the section's size prefix and payload.
 ///
 /// # Proved
+///
+/// Whether the bytes differ from the section's size-prefixed payload.
 ///
 /// ```text
 /// ensures { IsChange result (section_of section.now) encoding.now }
@@ -576,7 +580,7 @@ fn is_same(a: usize, b: usize) -> bool {
 ///
 /// # Proved
 ///
-/// After `Ok`: `ok`. After an error: `none`. In any case: `front`.
+/// After `Ok`: `ok`. After an error: `none`. In any case: `front`. `front`: The new bytes begin with the old ones.
 ///
 /// ```text
 /// ensures ok { IfOk result
@@ -635,7 +639,7 @@ fn begin_module<A: Sink>(spare: usize, sink: &mut A) -> Result<(), AllocError> {
 ///
 /// # Proved
 ///
-/// After `Ok`: `ok`. After an error: `why`. In any case: `front`.
+/// After `Ok`: `ok`. After an error: `why`. In any case: `front`. `front`: The new bytes begin with the old ones.
 ///
 /// ```text
 /// ensures ok { IfOk result

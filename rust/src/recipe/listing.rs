@@ -52,6 +52,8 @@ fn lines<A: Allocator>(alloc: A, sections: &[Listed]) -> Result<String<A>, Alloc
 ///
 /// # Proved
 ///
+/// The kept text is the text without the blanks at its end.
+///
 /// ```text
 /// ensures { DropsBlanks text.now result.now }
 /// ```

@@ -55,6 +55,8 @@ fn export_kind(word: &str) -> Option<ExportKind> {
 ///
 /// # Proved
 ///
+/// The module gains these sections if they fit.
+///
 /// ```text
 /// ensures { Puts (section_of K.section_id section.now)
 ///     (IsEncodableSection section.now) target.old target.new result }
@@ -117,6 +119,8 @@ fn body_of<A: Allocator>(alloc: A, runs: &Pieces<A>, instructions: &[u8]) -> Res
 ///
 /// # Proved
 ///
+/// The builder gains one entry with this encoding, or the call returns an error and changes nothing. A full builder, with 2^32 - 1 entries, returns `TooLong`.
+///
 /// ```text
 /// ensures { Adds (active_encoding 0 offset.now bytes.items)
 ///     (HasEncodableSize bytes.items) segments.old segments.new result }
@@ -133,6 +137,8 @@ fn add_data<A: Allocator>(
 
 impl<A: Allocator + Copy> Recipe<A> {
     /// # Proved
+    ///
+    /// No section has an item.
     ///
     /// ```text
     /// ensures { IsEmpty result }
@@ -160,6 +166,8 @@ impl<A: Allocator + Copy> Recipe<A> {
     /// Parses a line, and adds its item.
     ///
     /// # Proved
+    ///
+    /// The result and the effect of a call that decodes a line, given the entries or the error of the line.
     ///
     /// ```text
     /// ensures { Follows (entry_of version line.now) self.old self.new result }
@@ -252,6 +260,8 @@ impl<A: Allocator + Copy> Recipe<A> {
 
     /// # Proved
     ///
+    /// The result and the effect of a call that decodes a line, given the entries or the error of the line.
+    ///
     /// ```text
     /// ensures { Follows (type_entry words.entry.version
     ///         (counted_words words.entry.version words.entry.rest.now)) self.old self.new
@@ -268,6 +278,8 @@ impl<A: Allocator + Copy> Recipe<A> {
     }
 
     /// # Proved
+    ///
+    /// The result and the effect of a call that decodes a line, given the entries or the error of the line.
     ///
     /// ```text
     /// ensures { Follows (function_entry words.entry.version
@@ -286,6 +298,8 @@ impl<A: Allocator + Copy> Recipe<A> {
 
     /// # Proved
     ///
+    /// The result and the effect of a call that decodes a line, given the entries or the error of the line.
+    ///
     /// ```text
     /// ensures { Follows (memory_entry words.entry.version
     ///         (counted_words words.entry.version words.entry.rest.now)) self.old self.new
@@ -299,6 +313,8 @@ impl<A: Allocator + Copy> Recipe<A> {
     }
 
     /// # Proved
+    ///
+    /// The result and the effect of a call that decodes a line, given the entries or the error of the line.
     ///
     /// ```text
     /// ensures { Follows (global_entry words.entry.version
@@ -322,6 +338,8 @@ impl<A: Allocator + Copy> Recipe<A> {
 
     /// # Proved
     ///
+    /// The result and the effect of a call that decodes a line, given the entries or the error of the line.
+    ///
     /// ```text
     /// ensures { Follows (export_entry words.entry.version
     ///         (counted_words words.entry.version words.entry.rest.now)) self.old self.new
@@ -344,6 +362,8 @@ impl<A: Allocator + Copy> Recipe<A> {
     ///
     /// # Proved
     ///
+    /// The result and the effect of a call that decodes a line, given the entries or the error of the line.
+    ///
     /// ```text
     /// ensures { Follows (start_entry words.entry.version
     ///         (counted_words words.entry.version words.entry.rest.now)) self.old self.new
@@ -361,6 +381,8 @@ impl<A: Allocator + Copy> Recipe<A> {
     /// Parses the instructions of a function, which gets the locals since the last one.
     ///
     /// # Proved
+    ///
+    /// The result and the effect of a call that decodes a line, given the entries or the error of the line.
     ///
     /// ```text
     /// ensures { Follows (body_entry words.entry.version
@@ -380,6 +402,8 @@ impl<A: Allocator + Copy> Recipe<A> {
     }
 
     /// # Proved
+    ///
+    /// The result and the effect of a call that decodes a line, given the entries or the error of the line.
     ///
     /// ```text
     /// ensures { Follows (data_entry words.entry.version
@@ -402,6 +426,8 @@ impl<A: Allocator + Copy> Recipe<A> {
     ///
     /// # Proved
     ///
+    /// The result and the effect of a call that decodes a line, given the entries or the error of the line.
+    ///
     /// ```text
     /// ensures { Follows (name_entry (without_spaces words.entry.rest.now)) self.old self.new
     ///     result }
@@ -418,6 +444,8 @@ impl<A: Allocator + Copy> Recipe<A> {
     }
 
     /// # Proved
+    ///
+    /// The result and the effect of a call that decodes a line, given the entries or the error of the line.
     ///
     /// ```text
     /// ensures { Follows (import_entry words.entry.version
@@ -437,6 +465,8 @@ impl<A: Allocator + Copy> Recipe<A> {
 
     /// # Proved
     ///
+    /// The result and the effect of a call that decodes a line, given the entries or the error of the line.
+    ///
     /// ```text
     /// ensures { Follows (table_entry words.entry.version
     ///         (counted_words words.entry.version words.entry.rest.now)) self.old self.new
@@ -452,6 +482,8 @@ impl<A: Allocator + Copy> Recipe<A> {
     /// Parses references to functions, at an offset of table 0.
     ///
     /// # Proved
+    ///
+    /// The result and the effect of a call that decodes a line, given the entries or the error of the line.
     ///
     /// ```text
     /// ensures { Follows (elem_entry (counted_words words.entry.version words.entry.rest.now))
@@ -473,6 +505,8 @@ impl<A: Allocator + Copy> Recipe<A> {
     ///
     /// # Proved
     ///
+    /// The result and the effect of a call that decodes a line, given the entries or the error of the line.
+    ///
     /// ```text
     /// ensures { Follows (locals_entry words.entry.version
     ///         (counted_words words.entry.version words.entry.rest.now)) self.old self.new
@@ -493,6 +527,8 @@ impl<A: Allocator + Copy> Recipe<A> {
     ///
     /// # Proved
     ///
+    /// The module gains these sections if they fit.
+    ///
     /// ```text
     /// ensures { Puts (section_of 1 self.now.types)
     ///     (IsEncodableSection self.now.types) target.old target.new result }
@@ -511,6 +547,8 @@ impl<A: Allocator + Copy> Recipe<A> {
 
     /// # Proved
     ///
+    /// The module gains these sections if they fit.
+    ///
     /// ```text
     /// ensures { Puts (start_of (start_items self.now.start))
     ///     (All HasEncodableSize (start_items self.now.start)) target.old target.new result }
@@ -526,6 +564,8 @@ impl<A: Allocator + Copy> Recipe<A> {
 
     /// # Proved
     ///
+    /// The module gains these sections if they fit.
+    ///
     /// ```text
     /// ensures { Puts (section_of 10 self.now.code)
     ///     (IsEncodableSection self.now.code) target.old target.new result }
@@ -540,6 +580,8 @@ impl<A: Allocator + Copy> Recipe<A> {
     }
 
     /// # Proved
+    ///
+    /// The module gains these sections if they fit.
     ///
     /// ```text
     /// ensures { Puts (names_of self.now.names)
@@ -557,6 +599,8 @@ impl<A: Allocator + Copy> Recipe<A> {
     /// Appends the sections to the module, in the order of the standard.
     ///
     /// # Proved
+    ///
+    /// The module gains these sections if they fit.
     ///
     /// ```text
     /// ensures { Puts (listed self.now)

@@ -136,6 +136,8 @@ impl<K, A: Allocator> CountedSection<K, A> {
     ///
     /// # Proved
     ///
+    /// The builder gains one entry with this encoding, or the call returns an error and changes nothing. A full builder, with 2^32 - 1 entries, returns `TooLong`.
+    ///
     /// ```text
     /// ensures { Adds (T.encoding given.now) (T.encodable given.now) self.old self.new result }
     /// ```
@@ -149,6 +151,8 @@ impl<K, A: Allocator> CountedSection<K, A> {
     ///
     /// # Asks
     ///
+    /// Each iterator in the value ends, and yields as many items as it reports: the impl says so by `lawful`.
+    ///
     /// ```text
     /// requires { T.lawful item }
     /// ```
@@ -156,6 +160,8 @@ impl<K, A: Allocator> CountedSection<K, A> {
     /// [How to read clauses](crate::definitions).
     ///
     /// # Proved
+    ///
+    /// The builder gains one entry with one of these encodings, or the call returns an error and changes nothing. A full builder, with 2^32 - 1 entries, returns `TooLong`.
     ///
     /// ```text
     /// ensures { AddsOnce (T.gives item) (T.encodable item) self.old self.new result }
@@ -169,6 +175,8 @@ impl<K, A: Allocator> CountedSection<K, A> {
     /// Adds an entry that is already encoded.
     ///
     /// # Proved
+    ///
+    /// The builder gains one entry with this encoding, or the call returns an error and changes nothing. A full builder, with 2^32 - 1 entries, returns `TooLong`.
     ///
     /// ```text
     /// ensures { Adds piece.now ⊤ self.old self.new result }

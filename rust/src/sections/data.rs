@@ -191,6 +191,8 @@ impl<A: Allocator> DataSection<A> {
     ///
     /// # Asks
     ///
+    /// The iterator ends, and yields as many items as it reports.
+    ///
     /// ```text
     /// requires { HasKnownLength D.into_iter_gives D.IntoIter.can_next D.IntoIter.next_gives
     ///     D.IntoIter.remaining segment.bytes }
@@ -199,6 +201,8 @@ impl<A: Allocator> DataSection<A> {
     /// Definitions: [`HasKnownLength`](crate::definitions::base::iterators::HasKnownLength). [How to read clauses](crate::definitions).
     ///
     /// # Proved
+    ///
+    /// The section gains one entry with the bytes that the iterator yields, or the call returns an error and changes nothing. More than 2^32 - 1 bytes give `TooLong`.
     ///
     /// ```text
     /// ensures { AddsBytes D.into_iter_gives D.IntoIter.next_gives D.IntoIter.remaining
@@ -235,6 +239,8 @@ impl<A: Allocator> DataSection<A> {
     ///
     /// # Asks
     ///
+    /// The iterator ends, and yields as many items as it reports.
+    ///
     /// ```text
     /// requires { HasKnownLength D.into_iter_gives D.IntoIter.can_next D.IntoIter.next_gives
     ///     D.IntoIter.remaining bytes }
@@ -243,6 +249,8 @@ impl<A: Allocator> DataSection<A> {
     /// Definitions: [`HasKnownLength`](crate::definitions::base::iterators::HasKnownLength). [How to read clauses](crate::definitions).
     ///
     /// # Proved
+    ///
+    /// The section gains one entry with the bytes that the iterator yields, or the call returns an error and changes nothing. More than 2^32 - 1 bytes give `TooLong`.
     ///
     /// ```text
     /// ensures { AddsBytes D.into_iter_gives D.IntoIter.next_gives D.IntoIter.remaining bytes
@@ -278,6 +286,8 @@ impl<A: Allocator> DataSection<A> {
     ///
     /// # Asks
     ///
+    /// The iterator ends, and yields as many items as it reports.
+    ///
     /// ```text
     /// requires { HasKnownLength D.into_iter_gives D.IntoIter.can_next D.IntoIter.next_gives
     ///     D.IntoIter.remaining bytes }
@@ -286,6 +296,8 @@ impl<A: Allocator> DataSection<A> {
     /// Definitions: [`HasKnownLength`](crate::definitions::base::iterators::HasKnownLength). [How to read clauses](crate::definitions).
     ///
     /// # Proved
+    ///
+    /// The section gains one entry with the bytes that the iterator yields, or the call returns an error and changes nothing. More than 2^32 - 1 bytes give `TooLong`.
     ///
     /// ```text
     /// ensures { AddsBytes D.into_iter_gives D.IntoIter.next_gives D.IntoIter.remaining bytes
@@ -310,6 +322,8 @@ impl<A: Allocator> DataSection<A> {
     ///
     /// # Proved
     ///
+    /// The builder gains one entry with this encoding, or the call returns an error and changes nothing. A full builder, with 2^32 - 1 entries, returns `TooLong`.
+    ///
     /// ```text
     /// ensures { Adds segment.now ⊤ self.old self.new result }
     /// ```
@@ -323,6 +337,8 @@ impl<A: Allocator> DataSection<A> {
     ///
     /// # Asks
     ///
+    /// The iterator ends, and yields as many items as it reports.
+    ///
     /// ```text
     /// requires length { HasKnownLength D.into_iter_gives D.IntoIter.can_next
     ///     D.IntoIter.next_gives D.IntoIter.remaining bytes }
@@ -332,6 +348,8 @@ impl<A: Allocator> DataSection<A> {
     /// Definitions: [`HasKnownLength`](crate::definitions::base::iterators::HasKnownLength). [How to read clauses](crate::definitions).
     ///
     /// # Proved
+    ///
+    /// The section gains one entry with the bytes that the iterator yields, or the call returns an error and changes nothing. More than 2^32 - 1 bytes give `TooLong`.
     ///
     /// ```text
     /// ensures { AddsBytes D.into_iter_gives D.IntoIter.next_gives D.IntoIter.remaining bytes
@@ -374,6 +392,8 @@ struct Bytes<'a>(&'a [u8]);
 /// Definitions: [`vec`](crate::definitions::base::formats::vec), [`byte`](crate::definitions::base::formats::byte). [How to read clauses](crate::definitions).
 impl<'a> Layout for Bytes<'a> {
     /// # Proved
+    ///
+    /// A format whose encodings determine their own end is unambiguous in every mode, with encodings as `HasEncodings` states.
     ///
     /// ```text
     /// ensures { Unambiguous (vec byte) }
@@ -435,6 +455,8 @@ pub enum Segment<'a, A: Allocator = Global> {
 /// Definitions: [`DataItem`](crate::definitions::sections::data_segments::DataItem), [`data_item`](crate::definitions::sections::data_segments::data_item), [`segment_view`](crate::definitions::sections::data_segments::segment_view). [How to read clauses](crate::definitions).
 impl<'a, A: Allocator> Layout for Segment<'a, A> {
     /// # Proved
+    ///
+    /// A format whose encodings determine their own end is unambiguous in every mode, with encodings as `HasEncodings` states.
     ///
     /// ```text
     /// ensures { Unambiguous data_item }
@@ -550,7 +572,7 @@ pub fn read_segments<'a, A: Allocator + Copy + 'a, G: Grammar>(
 ///
 /// # Proved
 ///
-/// After `Ok`: `ok`. In any case: `front`, `too_long`.
+/// After `Ok`: `ok`. In any case: `front`, `too_long`. `front`: The new bytes begin with the old ones.
 ///
 /// ```text
 /// ensures ok { OnOk result
@@ -575,7 +597,7 @@ fn append_placed<A: Allocator, B: Sink>(
 ///
 /// # Proved
 ///
-/// After `Ok`: `ok`. In any case: `front`, `too_long`.
+/// After `Ok`: `ok`. In any case: `front`, `too_long`. `front`: The new bytes begin with the old ones.
 ///
 /// ```text
 /// ensures ok { OnOk result

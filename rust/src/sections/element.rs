@@ -420,6 +420,8 @@ impl<A: Allocator> ElementSection<A> {
     ///
     /// # Proved
     ///
+    /// The builder gains one entry with this encoding, or the call returns an error and changes nothing. A full builder, with 2^32 - 1 entries, returns `TooLong`.
+    ///
     /// ```text
     /// ensures { Adds (given_encoding segment.entry)
     ///     (AreEncodableElements (list_in segment.entry.elements)) self.old self.new result }
@@ -440,6 +442,8 @@ impl<A: Allocator> ElementSection<A> {
     /// unchanged.
     ///
     /// # Proved
+    ///
+    /// The builder gains one entry with this encoding, or the call returns an error and changes nothing. A full builder, with 2^32 - 1 entries, returns `TooLong`.
     ///
     /// ```text
     /// ensures { Adds (given_encoding
@@ -471,6 +475,8 @@ impl<A: Allocator> ElementSection<A> {
     ///
     /// # Proved
     ///
+    /// The builder gains one entry with this encoding, or the call returns an error and changes nothing. A full builder, with 2^32 - 1 entries, returns `TooLong`.
+    ///
     /// ```text
     /// ensures { Adds (given_encoding
     ///         (record { mode = modes.Passive; elements = elements.entry }))
@@ -496,6 +502,8 @@ impl<A: Allocator> ElementSection<A> {
     ///
     /// # Proved
     ///
+    /// The builder gains one entry with this encoding, or the call returns an error and changes nothing. A full builder, with 2^32 - 1 entries, returns `TooLong`.
+    ///
     /// ```text
     /// ensures { Adds (given_encoding
     ///         (record { mode = modes.Declared; elements = elements.entry }))
@@ -519,6 +527,8 @@ impl<A: Allocator> ElementSection<A> {
     /// builder is then unchanged.
     ///
     /// # Proved
+    ///
+    /// The builder gains one entry with this encoding, or the call returns an error and changes nothing. A full builder, with 2^32 - 1 entries, returns `TooLong`.
     ///
     /// ```text
     /// ensures { Adds segment.now ⊤ self.old self.new result }

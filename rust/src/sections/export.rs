@@ -162,6 +162,8 @@ impl<A: Allocator> ExportSection<A> {
     ///
     /// # Proved
     ///
+    /// The builder gains one entry with this encoding, or the call returns an error and changes nothing. A full builder, with 2^32 - 1 entries, returns `TooLong`.
+    ///
     /// ```text
     /// ensures { Adds (size_prefixed_encoding name.now
     ///         ++ (kind_code kind ∷ [] ++ unsigned_encoding index))
@@ -212,6 +214,8 @@ impl<'a, A: Allocator + Copy, G: Grammar> Readable<'a, A, G> for ExportKind {
 /// Definitions: [`ExportItem`](crate::definitions::sections::exports::ExportItem), [`export`](crate::definitions::sections::exports::export), [`item_of`](crate::definitions::sections::exports::item_of). [How to read clauses](crate::definitions).
 impl<'a> Layout for Export<'a> {
     /// # Proved
+    ///
+    /// A format whose encodings determine their own end is unambiguous in every mode, with encodings as `HasEncodings` states.
     ///
     /// ```text
     /// ensures { Unambiguous export }

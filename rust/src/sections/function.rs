@@ -105,6 +105,8 @@ impl<A: Allocator> FunctionSection<A> {
     ///
     /// # Proved
     ///
+    /// The builder gains one entry with this encoding, or the call returns an error and changes nothing. A full builder, with 2^32 - 1 entries, returns `TooLong`.
+    ///
     /// ```text
     /// ensures { Adds (unsigned_encoding type_index) ⊤ self.old self.new result }
     /// ```

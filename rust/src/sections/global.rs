@@ -120,6 +120,8 @@ impl<A: Allocator> GlobalSection<A> {
     ///
     /// # Proved
     ///
+    /// The builder gains one entry with this encoding, or the call returns an error and changes nothing. A full builder, with 2^32 - 1 entries, returns `TooLong`.
+    ///
     /// ```text
     /// ensures { Adds (global_encoding global_type ++ expression_encoding init.now) ⊤ self.old
     ///     self.new result }
@@ -143,6 +145,8 @@ impl<A: Allocator> GlobalSection<A> {
     /// builder is then unchanged.
     ///
     /// # Proved
+    ///
+    /// The builder gains one entry with this encoding, or the call returns an error and changes nothing. A full builder, with 2^32 - 1 entries, returns `TooLong`.
     ///
     /// ```text
     /// ensures { Adds global.now ⊤ self.old self.new result }

@@ -373,6 +373,8 @@ impl<A: Allocator> ImportSection<A> {
     ///
     /// # Proved
     ///
+    /// The builder gains one entry with this encoding, or the call returns an error and changes nothing. A full builder, with 2^32 - 1 entries, returns `TooLong`.
+    ///
     /// ```text
     /// ensures { Adds (size_prefixed_encoding «module».now
     ///         ++ (size_prefixed_encoding name.now ++ entity_encoding ty))
@@ -395,6 +397,8 @@ impl<A: Allocator> ImportSection<A> {
     /// unchanged.
     ///
     /// # Proved
+    ///
+    /// The builder gains one entry with this encoding, or the call returns an error and changes nothing. A full builder, with 2^32 - 1 entries, returns `TooLong`.
     ///
     /// ```text
     /// ensures { Adds (import_encoding (imports_item imports.entry))
@@ -465,6 +469,8 @@ impl<'a, A: Allocator + Copy, G: Grammar> Readable<'a, A, G> for EntityType {
 impl<'a> Layout for ImportCompact<'a> {
     /// # Proved
     ///
+    /// A format whose encodings determine their own end is unambiguous in every mode, with encodings as `HasEncodings` states.
+    ///
     /// ```text
     /// ensures { Unambiguous (pair name entity) }
     /// ```
@@ -512,6 +518,8 @@ fn group_kind<G: Grammar>(bytes: &[u8]) -> Option<(u8, &[u8])> {
 /// Definitions: [`ImportItem`](crate::definitions::sections::imports::ImportItem), [`import_format`](crate::definitions::sections::imports::import_format), [`imports_item`](crate::definitions::sections::imports::imports_item). [How to read clauses](crate::definitions).
 impl<'a, A: Allocator> Layout for Imports<'a, A> {
     /// # Proved
+    ///
+    /// A format whose encodings determine their own end is unambiguous in every mode, with encodings as `HasEncodings` states.
     ///
     /// ```text
     /// ensures { Unambiguous import_format }
@@ -593,7 +601,7 @@ pub fn read_imports<'a, A: Allocator + Copy + 'a, G: Grammar>(
 ///
 /// # Proved
 ///
-/// After `Ok`: `ok`. In any case: `front`, `too_long`.
+/// After `Ok`: `ok`. In any case: `front`, `too_long`. `front`: The new bytes begin with the old ones.
 ///
 /// ```text
 /// ensures ok { OnOk result

@@ -73,6 +73,8 @@ impl MemoryType {
     ///
     /// # Asks
     ///
+    /// A page has less than 2^32 bytes.
+    ///
     /// ```text
     /// requires { page_exponent self.now.page_size_log2 < 32 }
     /// ```
@@ -166,6 +168,8 @@ impl<A: Allocator> MemorySection<A> {
     /// builder is then unchanged.
     ///
     /// # Proved
+    ///
+    /// The builder gains one entry with this encoding, or the call returns an error and changes nothing. A full builder, with 2^32 - 1 entries, returns `TooLong`.
     ///
     /// ```text
     /// ensures { Adds (memory_encoding memory_type) ⊤ self.old self.new result }

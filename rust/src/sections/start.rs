@@ -32,7 +32,7 @@ pub struct DataCountSection {
 ///
 /// # Proved
 ///
-/// After `Ok`: `read`. In any case: `appends`.
+/// After `Ok`: `read`. In any case: `appends`. `appends`: The call appends the encoding, or returns an error and leaves the bytes as they were. If the value fits, the call never returns `TooLong`, and it succeeds within the spare capacity.
 ///
 /// ```text
 /// ensures appends { Appends (size_prefixed_encoding (unsigned_encoding number))

@@ -149,6 +149,8 @@ impl<A: Allocator> TableSection<A> {
     ///
     /// # Proved
     ///
+    /// The builder gains one entry with this encoding, or the call returns an error and changes nothing. A full builder, with 2^32 - 1 entries, returns `TooLong`.
+    ///
     /// ```text
     /// ensures { Adds (table_encoding table_type) ⊤ self.old self.new result }
     /// ```
@@ -168,6 +170,8 @@ impl<A: Allocator> TableSection<A> {
     /// unchanged.
     ///
     /// # Proved
+    ///
+    /// The builder gains one entry with this encoding, or the call returns an error and changes nothing. A full builder, with 2^32 - 1 entries, returns `TooLong`.
     ///
     /// ```text
     /// ensures { Adds (before_init

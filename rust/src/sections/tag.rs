@@ -154,6 +154,8 @@ impl<A: Allocator> TagSection<A> {
     ///
     /// # Proved
     ///
+    /// The builder gains one entry with this encoding, or the call returns an error and changes nothing. A full builder, with 2^32 - 1 entries, returns `TooLong`.
+    ///
     /// ```text
     /// ensures { Adds (tag_encoding tag_type) ⊤ self.old self.new result }
     /// ```

@@ -111,6 +111,8 @@ impl<A: Allocator> TypeSection<A> {
     ///
     /// # Proved
     ///
+    /// The builder gains one entry with this encoding, or the call returns an error and changes nothing. A full builder, with 2^32 - 1 entries, returns `TooLong`.
+    ///
     /// ```text
     /// ensures { Adds entry.now ⊤ self.old self.new result }
     /// ```
@@ -265,6 +267,8 @@ impl<'a, A: Allocator> CoreTypeEncoder<'a, A> {
     ///
     /// # Proved
     ///
+    /// The builder gains one entry with this encoding, or the call returns an error and changes nothing. A full builder, with 2^32 - 1 entries, returns `TooLong`.
+    ///
     /// ```text
     /// ensures { Adds (func_encoding ty.now.params.items ty.now.results.items)
     ///     (IsEncodableVec (λ _. ⊤) ty.now.params.items
@@ -288,6 +292,8 @@ impl<'a, A: Allocator> CoreTypeEncoder<'a, A> {
     /// unchanged.
     ///
     /// # Proved
+    ///
+    /// The builder gains one entry with this encoding, or the call returns an error and changes nothing. A full builder, with 2^32 - 1 entries, returns `TooLong`.
     ///
     /// ```text
     /// ensures { Adds (0x5E ∷ field_encoding
@@ -315,6 +321,8 @@ impl<'a, A: Allocator> CoreTypeEncoder<'a, A> {
     ///
     /// # Proved
     ///
+    /// The builder gains one entry with this encoding, or the call returns an error and changes nothing. A full builder, with 2^32 - 1 entries, returns `TooLong`.
+    ///
     /// ```text
     /// ensures { Adds (cont_encoding ty.now.0) ⊤ self.entry.section.now self.exit.0.now result
     ///     }
@@ -336,6 +344,8 @@ impl<'a, A: Allocator> CoreTypeEncoder<'a, A> {
     /// unchanged.
     ///
     /// # Proved
+    ///
+    /// The builder gains one entry with this encoding, or the call returns an error and changes nothing. A full builder, with 2^32 - 1 entries, returns `TooLong`.
     ///
     /// ```text
     /// ensures { Adds (sub_encoding (sub_in ty.now))
@@ -361,6 +371,8 @@ impl<'a, A: Allocator> CoreTypeEncoder<'a, A> {
     ///
     /// # Asks
     ///
+    /// The iterator ends, and yields as many items as it reports.
+    ///
     /// ```text
     /// requires params { HasKnownLength P.into_iter_gives P.IntoIter.can_next
     ///     P.IntoIter.next_gives P.IntoIter.remaining params }
@@ -371,6 +383,8 @@ impl<'a, A: Allocator> CoreTypeEncoder<'a, A> {
     /// Definitions: [`HasKnownLength`](crate::definitions::base::iterators::HasKnownLength). [How to read clauses](crate::definitions).
     ///
     /// # Proved
+    ///
+    /// The section gains one entry of the items that both iterators yield, or the call returns an error and changes nothing. More than 2^32 - 1 items of either give `TooLong`.
     ///
     /// ```text
     /// ensures { AddsTwoListed P.into_iter_gives P.IntoIter.next_gives P.IntoIter.remaining
@@ -406,6 +420,8 @@ impl<'a, A: Allocator> CoreTypeEncoder<'a, A> {
     ///
     /// # Asks
     ///
+    /// The iterator ends, and yields as many items as it reports.
+    ///
     /// ```text
     /// requires { HasKnownLength F.into_iter_gives F.IntoIter.can_next F.IntoIter.next_gives
     ///     F.IntoIter.remaining fields }
@@ -414,6 +430,8 @@ impl<'a, A: Allocator> CoreTypeEncoder<'a, A> {
     /// Definitions: [`HasKnownLength`](crate::definitions::base::iterators::HasKnownLength). [How to read clauses](crate::definitions).
     ///
     /// # Proved
+    ///
+    /// The section gains one entry of the items that the iterator yields, or the call returns an error and changes nothing. More than 2^32 - 1 items give `TooLong`.
     ///
     /// ```text
     /// ensures { AddsListed F.into_iter_gives F.IntoIter.next_gives F.IntoIter.remaining
@@ -454,6 +472,8 @@ impl<'a, A: Allocator> CoreTypeEncoder<'a, A> {
     ///
     /// # Asks
     ///
+    /// The iterator ends, and yields as many items as it reports.
+    ///
     /// ```text
     /// requires { HasKnownLength T.into_iter_gives T.IntoIter.can_next T.IntoIter.next_gives
     ///     T.IntoIter.remaining types }
@@ -462,6 +482,8 @@ impl<'a, A: Allocator> CoreTypeEncoder<'a, A> {
     /// Definitions: [`HasKnownLength`](crate::definitions::base::iterators::HasKnownLength). [How to read clauses](crate::definitions).
     ///
     /// # Proved
+    ///
+    /// The section gains one entry of the items that the iterator yields, or the call returns an error and changes nothing. More than 2^32 - 1 items give `TooLong`.
     ///
     /// ```text
     /// ensures { AddsListed T.into_iter_gives T.IntoIter.next_gives T.IntoIter.remaining

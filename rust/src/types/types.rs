@@ -178,6 +178,8 @@ impl<A: Allocator + Copy> FuncType<A> {
     ///
     /// # Asks
     ///
+    /// The iterator ends.
+    ///
     /// ```text
     /// requires params { (it : P.IntoIter) → P.into_iter_gives params it
     ///     → P.IntoIter.can_next it × IsFinite (P.IntoIter.remaining it) }
@@ -218,6 +220,8 @@ impl<A: Allocator + Copy> FuncType<A> {
 /// Returns the types that an iterator yields.
 ///
 /// # Asks
+///
+/// The iterator ends.
 ///
 /// ```text
 /// requires { (it : P.IntoIter) → P.into_iter_gives types it

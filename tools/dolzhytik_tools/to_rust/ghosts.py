@@ -8,7 +8,7 @@ from ..rattle.lexer import is_word
 from .glosses import check_form
 from .source import Source
 from .tables import LIBRARIES
-from .words import cite, parameters
+from .words import cite, parameters, sentence
 
 
 def erase_ghosts(source: Source) -> None:
@@ -67,6 +67,9 @@ def erase_clauses(source: Source) -> None:
         if source.crate.name in LIBRARIES:
             check_form(text, f'{source.path}:{source.line(place)}')
         cite(source, start, heading, text, place, parameters(source, function, place))
+        said = sentence(source, text, place)
+        if said:
+            source.sentences[text] = said
         source.edit(place, end, '', 'clause')
 
 

@@ -2,12 +2,14 @@
 
 A clause of the form `IfOk result ..` says something of calls that return `Ok` only, and so on:
 `gloss` sorts the clauses of a function by that. `NAMES` has the names of clauses that mean the same
-wherever they are. The generator stops at a clause with such a name and another form.
+wherever they are. The generator stops at a clause with such a name and another form. A clause that
+is one definition with its arguments says what the definition's sentence says. `ASKED` has words for
+what calls ask.
 """
 from __future__ import annotations
 
 import re
-from collections.abc import Sequence
+from collections.abc import Mapping, Sequence
 from dataclasses import dataclass
 
 from ..errors import Stop
@@ -38,6 +40,25 @@ NAMES = [
     Name('front', r'IsFrontOf sink\.old\.items sink\.new\.items', 'The bytes that the sink had are the front of those that it has afterwards.'),
     Name('capacity', r'vec_capacity sink\.(?:old ≤ vec_capacity sink\.new|new ≡ vec_capacity sink\.old)', 'The capacity does not shrink.'),
 ]
+
+
+OPERATORS = set('→ ↔ × ⊎ ≡ ≢ ≤ < ++ ∷ + - * ='.split())
+# What `requires` clauses ask.
+ASKED = (
+    (r'HasKnownLength .*', 'The iterator ends, and yields as many items as it reports.'),
+    (r'\(it : \w+\.IntoIter\) → .* × IsFinite \(.*\)', 'The iterator ends.'),
+    (r'BeginsWith \(λ b\. Unit \{0\}\) T\.format', 'No encoding of a value is empty.'),
+    (r'start ≤ vec_len sink\.old', '`start` is at most the number of bytes in the sink.'),
+    (r'limit ≤ 10', '`limit` is at most 10.'),
+    (r'page_exponent self\.now\.page_size_log2 < 32', 'A page has less than 2^32 bytes.'),
+    (r'(?:T\.)?lawful \w+', 'Each iterator in the value ends, and yields as many items as it reports: the impl says so by `lawful`.'),
+)
+
+
+def asked(clause: str) -> str:
+    """Returns what a `requires` clause asks, in words, or an empty line."""
+    _, term = parts(clause)
+    return next((said for form, said in ASKED if re.fullmatch(form, term)), '')
 
 
 def parts(clause: str) -> tuple[str, str]:
@@ -79,19 +100,37 @@ def listed(names: Sequence[str]) -> str:
     return ', '.join(f'`{name}`' for name in names)
 
 
-def gloss(clauses: Sequence[str]) -> str:
-    """Returns when each clause of a function says something, or an empty line if no clause depends
-    on the result."""
+def head(clause: str) -> str:
+    """Returns the first word of a clause's term, or an empty one if the term is more than a word and
+    its arguments."""
+    depth, words = 0, parts(clause)[1].split(' ')
+    for word in words:
+        if depth == 0 and word in OPERATORS:
+            return ''
+        depth += sum({'(': 1, '{': 1, ')': -1, '}': -1}.get(it, 0) for it in word)
+    return words[0]
+
+
+def gloss(clauses: Sequence[str], sentences: Mapping[str, str] | None = None) -> str:
+    """Returns when each clause of a function says something, and the sentences of the definitions
+    that clauses are; or an empty line if no clause depends on the result, and none is a
+    definition."""
     sorted_clauses = [parts(it) for it in clauses]
     ok = [name for name, term in sorted_clauses if is_after(AFTER_OK, term)]
     error = [name for name, term in sorted_clauses if is_after(AFTER_ERROR, term)]
-    if not ok and not error:
-        return ''
+    sentences = sentences or {}
+    said: dict[str, list[str]] = {}
+    for it in clauses:
+        if it in sentences:
+            said.setdefault(sentences[it], []).append(parts(it)[0])
     if len(clauses) == 1:
-        return 'After `Ok`:' if ok else 'After an error:'
-    always = [name for name, _ in sorted_clauses if name not in ok + error]
-    groups = [('After `Ok`', ok), ('After an error', error), ('In any case', always)]
-    return ' '.join(f'{when}: {listed(names)}.' for when, names in groups if names)
+        return 'After `Ok`:' if ok else 'After an error:' if error else next(iter(said), '')
+    words = [f'{listed(names)}: {sentence}' if all(names) else sentence for sentence, names in said.items()]
+    if ok or error:
+        always = [name for name, _ in sorted_clauses if name not in ok + error]
+        groups = [('After `Ok`', ok), ('After an error', error), ('In any case', always)]
+        words = [f'{when}: {listed(names)}.' for when, names in groups if names] + words
+    return ' '.join(words)
 
 
 def names_table() -> str:

@@ -5,7 +5,7 @@ import textwrap
 from typing import Union
 
 from ..definitions.layout import laid_out
-from .glosses import gloss
+from .glosses import asked, gloss
 from .source import Notes, Source
 from .words import line_of_links
 
@@ -20,12 +20,19 @@ def documentation(source: Source, place: int) -> list[str]:
             continue
         paths = source.cited.get(place, {}).get(heading)
         text = '\n'.join(notes[heading])
-        above = gloss(notes[heading]) if heading == 'Proved' and paths is not None else ''
+        above = words_above(source, heading, notes[heading]) if paths is not None else ''
         code = text.split('\n') if paths is None else laid_out(text)
         lines += ['', f'# {heading}', '', *([above, ''] if above else []), '```text', *code, '```']
         if paths is not None:
             lines += ['', line_of_links(paths)]
     return [f'/// {line}'.rstrip() for line in lines]
+
+
+def words_above(source: Source, heading: str, clauses: list[str]) -> str:
+    """Returns the words above clauses."""
+    if heading == 'Proved':
+        return gloss(clauses, source.sentences)
+    return ' '.join(dict.fromkeys(filter(None, map(asked, clauses)))) if heading == 'Asks' else ''
 
 
 def beside(notes: Notes) -> list[str]:
