@@ -175,7 +175,8 @@ pub fn encode_section<A: Sink>(sink: &mut A, count: u32, bytes: &[u8]) -> Result
 /// use dolzhytik::reader::{DecodeError, Padded, ReadFault, Readable, SizePrefixed};
 ///
 /// type Number = SizePrefixed<u32>;
-/// let (SizePrefixed(number), _) = <Number as Readable<Global, Padded>>::read(&[1, 7], Global)?;
+/// let (SizePrefixed(number), _) =
+///     <Number as Readable<Global, Padded>>::read(&[1, 7], Global)?;
 /// assert_eq!(number, 7);
 /// // The size is 2, and the number has one byte.
 /// let error = <Number as Readable<Global, Padded>>::read(&[2, 7, 0], Global).err();

@@ -53,7 +53,8 @@ pub trait Grammar {
 /// use dolzhytik::reader::{DecodeError, Padded, Readable};
 ///
 /// // 1 in two bytes, where one is minimal.
-/// let (number, rest) = <u32 as Readable<Global, Padded>>::read(&[0x81, 0x00, 0xFF], Global)?;
+/// let (number, rest) =
+///     <u32 as Readable<Global, Padded>>::read(&[0x81, 0x00, 0xFF], Global)?;
 /// assert_eq!((number, rest), (1, &[0xFF][..]));
 /// # Ok::<(), DecodeError>(())
 /// ```

@@ -10,7 +10,8 @@
 /// ```
 /// use dolzhytik::fallible::{CountedSection, FunctionItems, FunctionSection, Global};
 ///
-/// let functions: FunctionSection = CountedSection::<FunctionItems, Global>::new(Global);
+/// let functions: FunctionSection =
+///     CountedSection::<FunctionItems, Global>::new(Global);
 /// assert!(functions.is_empty());
 /// ```
 ///

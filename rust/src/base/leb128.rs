@@ -409,7 +409,8 @@ impl Encode for i64 {
 /// ```
 /// use dolzhytik::fallible::{Groups, read_groups};
 ///
-/// let Ok((Groups { sum, power, last }, rest)) = read_groups(&[0xAC, 0x02, 0xFF], 5) else {
+/// let Ok((Groups { sum, power, last }, rest)) = read_groups(&[0xAC, 0x02, 0xFF], 5)
+/// else {
 ///     panic!("two groups are there");
 /// };
 /// // 2C and 02 are the groups: 0x02 * 128 + 0x2C = 300.
@@ -438,8 +439,14 @@ pub struct Groups {
 /// use dolzhytik::fallible::read_groups;
 /// use dolzhytik::reader::ReadFault;
 ///
-/// assert_eq!(read_groups(&[0x80, 0x01], 5).map(|(groups, _)| groups.sum).ok(), Some(128));
-/// assert_eq!(read_groups(&[0x80], 5).map_err(|error| error.cause()).err(), Some(ReadFault::Ended));
+/// assert_eq!(
+///     read_groups(&[0x80, 0x01], 5).map(|(groups, _)| groups.sum).ok(),
+///     Some(128)
+/// );
+/// assert_eq!(
+///     read_groups(&[0x80], 5).map_err(|error| error.cause()).err(),
+///     Some(ReadFault::Ended)
+/// );
 /// ```
 ///
 /// # Asks

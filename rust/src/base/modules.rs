@@ -9,14 +9,16 @@ use crate::alloc::{Allocator, Global};
 /// A module: its header and the sections that were appended, as bytes.
 ///
 /// ```
+/// # fn example() -> Result<(), Box<dyn std::error::Error>> {
 /// # use dolzhytik::{fallible::*, reader::*};
-/// # fn example(alloc: Global) -> Result<(), Box<dyn std::error::Error>> {
-/// let mut module = Module::new(alloc)?;
+/// use dolzhytik::fallible::{Global, Module, RawSection};
+///
+/// let mut module = Module::new(Global)?;
 /// module.section(&RawSection { id: 1, bytes: &[0] })?;
 /// let bytes = module.finish();
 /// # Ok(())
 /// # }
-/// # example(Global).unwrap();
+/// # example().unwrap();
 /// ```
 #[derive(Debug)]
 pub struct Module<A: Allocator = Global> {

@@ -10,7 +10,9 @@ use core::result;
 /// # Examples
 ///
 /// ```
-/// use dolzhytik::fallible::{AllocError, Allocator, ExportKind, ExportSection, Refused};
+/// use dolzhytik::fallible::{
+///     AllocError, Allocator, ExportKind, ExportSection, Refused,
+/// };
 ///
 /// /// Refuses each request for memory.
 /// #[derive(Clone, Copy)]

@@ -13,7 +13,8 @@ use crate::base::refused::Result;
 /// use dolzhytik::fallible::Global;
 /// use dolzhytik::reader::{DecodeError, Padded, Readable, Shorten};
 ///
-/// let (number, _) = <u32 as Readable<Global, Padded>>::read(&[0x85, 0x80, 0x00], Global)?;
+/// let (number, _) =
+///     <u32 as Readable<Global, Padded>>::read(&[0x85, 0x80, 0x00], Global)?;
 /// let mut minimal = Vec::new();
 /// number.append_minimal(&mut minimal)?;
 /// assert_eq!(minimal, [5]);

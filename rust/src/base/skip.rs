@@ -16,7 +16,8 @@ use crate::alloc::Allocator;
 /// use dolzhytik::reader::{DecodeError, Expression, Padded, Skip};
 ///
 /// // i32.const 7, end; then another byte.
-/// let rest = <Expression as Skip<Global, Padded>>::skip(&[0x41, 7, 0x0B, 0xFF], Global)?;
+/// let rest =
+///     <Expression as Skip<Global, Padded>>::skip(&[0x41, 7, 0x0B, 0xFF], Global)?;
 /// assert_eq!(rest, [0xFF]);
 /// # Ok::<(), DecodeError>(())
 /// ```
@@ -95,7 +96,8 @@ impl<'a, A: Allocator + Copy, G: Grammar, T: Readable<'a, A, G>> Skip<'a, A, G> 
 /// use dolzhytik::reader::{DecodeError, Dropped, Padded, skip_many};
 ///
 /// // Two numbers, then another byte.
-/// let (count, rest) = skip_many::<Dropped<u32>, Global, Padded>(&[2, 5, 6, 0xFF], Global)?;
+/// let (count, rest) =
+///     skip_many::<Dropped<u32>, Global, Padded>(&[2, 5, 6, 0xFF], Global)?;
 /// assert_eq!((count, rest), (2, &[0xFF][..]));
 /// # Ok::<(), DecodeError>(())
 /// ```

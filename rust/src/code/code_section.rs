@@ -10,15 +10,17 @@ use crate::base::{Counted, Encode, Pieces, Result, Section, SectionId, encode_si
 /// entry is a raw body with its size prefix.
 ///
 /// ```
+/// # fn example() -> Result<(), Box<dyn std::error::Error>> {
 /// # use dolzhytik::{fallible::*, reader::*};
-/// # fn example(alloc: Global) -> Result<(), Box<dyn std::error::Error>> {
-/// # let mut module = Module::new(alloc)?;
-/// let mut code = CodeSection::new(alloc);
+/// use dolzhytik::fallible::{CodeSection, Global, Module};
+///
+/// let mut module = Module::new(Global)?;
+/// let mut code = CodeSection::new(Global);
 /// code.raw(&[0x00, 0x0B])?;
 /// module.section(&code)?;
 /// # Ok(())
 /// # }
-/// # example(Global).unwrap();
+/// # example().unwrap();
 /// ```
 ///
 /// # Errors

@@ -30,7 +30,8 @@ use crate::insn::{Ieee32, Ieee64, Instruction, InstructionSink};
 /// let sum = ConstExpr::i32_const(Global, 64)?.with_i32_const(1)?.with_i32_add()?;
 /// let mut bytes = Vec::new();
 /// sum.encode(&mut bytes)?;
-/// // i32.const 64: 41, and 64 as signed LEB128, C0 00. i32.const 1: 41 01. i32.add: 6A. end: 0B.
+/// // i32.const 64: 41, and 64 as signed LEB128, C0 00. i32.const 1: 41 01. i32.add:
+/// // 6A. end: 0B.
 /// assert_eq!(bytes, [0x41, 0xC0, 0x00, 0x41, 0x01, 0x6A, 0x0B]);
 /// # Ok::<(), Refused>(())
 /// ```
@@ -111,7 +112,8 @@ impl<A: Allocator> ConstExpr<A> {
     /// ```
     /// use dolzhytik::fallible::{ConstExpr, Encode, Global, Instruction, Refused};
     ///
-    /// let made = ConstExpr::extended(Global, [Instruction::I32Const(1), Instruction::RefI31])?;
+    /// let made =
+    ///     ConstExpr::extended(Global, [Instruction::I32Const(1), Instruction::RefI31])?;
     /// let mut bytes = Vec::new();
     /// made.encode(&mut bytes)?;
     /// // i32.const 1: 41 01. ref.i31: FB 1C. end: 0B.

@@ -20,7 +20,8 @@ pub(crate) const END: u8 = 0x0B;
 ///
 /// // i32.const 7; end; then another byte.
 /// let bytes = [0x41, 7, 0x0B, 0xFF];
-/// let (Expression(code), rest) = <Expression as Readable<Global, Padded>>::read(&bytes, Global)?;
+/// let (Expression(code), rest) =
+///     <Expression as Readable<Global, Padded>>::read(&bytes, Global)?;
 /// assert!(matches!(code[0].args[..], [Arg::S32(7)]));
 /// assert_eq!(rest, [0xFF]);
 /// # Ok::<(), DecodeError>(())

@@ -10,17 +10,19 @@ use crate::insn::{Buffer, Instruction, InstructionSink};
 /// A function, modelled as its raw body: the runs of its locals, and its instructions.
 ///
 /// ```
+/// # fn example() -> Result<(), Box<dyn std::error::Error>> {
 /// # use dolzhytik::{fallible::*, reader::*};
-/// # fn example(alloc: Global) -> Result<(), Box<dyn std::error::Error>> {
-/// # let mut code = CodeSection::new(alloc);
-/// let mut function = Function::new(alloc, [(1, ValType::I32)])?;
+/// use dolzhytik::fallible::{CodeSection, Function, Global, ValType};
+///
+/// let mut code = CodeSection::new(Global);
+/// let mut function = Function::new(Global, [(1, ValType::I32)])?;
 /// let mut instructions = function.instructions();
 /// instructions.local_get(0)?;
 /// instructions.end()?;
 /// code.function(&function)?;
 /// # Ok(())
 /// # }
-/// # example(Global).unwrap();
+/// # example().unwrap();
 /// ```
 ///
 /// # Errors

@@ -36,7 +36,10 @@ use crate::insn::{Arg, Op, read_instruction_into};
 /// while let Some(step) = instructions.next()? {
 ///     found.push((step.offset, step.op, instructions.args().len()));
 /// }
-/// assert_eq!(found, [(0, Op::Byte(0x20), 1), (2, Op::Byte(0x6A), 0), (3, Op::Byte(0x0B), 0)]);
+/// assert_eq!(
+///     found,
+///     [(0, Op::Byte(0x20), 1), (2, Op::Byte(0x6A), 0), (3, Op::Byte(0x0B), 0)]
+/// );
 /// # Ok::<(), DecodeError>(())
 /// ```
 #[doc(alias = "disassemble")]
@@ -144,7 +147,8 @@ impl<'a, A: Allocator + Copy> Instructions<'a, A, Standard> {
     /// use dolzhytik::reader::{DecodeError, Instructions};
     ///
     /// // One run of locals, 1 of i64 (7E); end.
-    /// let (runs, mut instructions) = Instructions::of_standard_body(&[1, 1, 0x7E, 0x0B], Global)?;
+    /// let (runs, mut instructions) =
+    ///     Instructions::of_standard_body(&[1, 1, 0x7E, 0x0B], Global)?;
     /// assert_eq!((&runs[..], instructions.offset()), (&[(1, ValType::I64)][..], 3));
     /// assert_eq!(instructions.next()?.map(|step| step.op), Some(Op::Byte(0x0B)));
     /// # Ok::<(), DecodeError>(())

@@ -84,15 +84,17 @@ impl<A: Allocator> ComdatSymbols<A> {
 /// subsection 7 of a linking section.
 ///
 /// ```
+/// # fn example() -> Result<(), Box<dyn std::error::Error>> {
 /// # use dolzhytik::{fallible::*, reader::*};
-/// # fn example(alloc: Global) -> Result<(), Box<dyn std::error::Error>> {
-/// let mut members = ComdatSymbols::new(alloc);
+/// use dolzhytik::fallible::{ComdatSymbols, Comdats, Global};
+///
+/// let mut members = ComdatSymbols::new(Global);
 /// members.symbol(1, 0)?;
-/// let mut comdats = Comdats::new(alloc);
+/// let mut comdats = Comdats::new(Global);
 /// comdats.comdat("_Z1fIiET_S0_", 0, &members)?;
 /// # Ok(())
 /// # }
-/// # example(Global).unwrap();
+/// # example().unwrap();
 /// ```
 pub type Comdats<A = Global> = CountedList<ComdatMembers, A>;
 
@@ -170,7 +172,8 @@ impl<A: Allocator> Comdats<A> {
 /// use dolzhytik::reader::{DecodeError, Readable, Standard};
 ///
 /// // A function (1) of the index 7.
-/// let (member, _) = <ComdatSymbol as Readable<Global, Standard>>::read(&[1, 7], Global)?;
+/// let (member, _) =
+///     <ComdatSymbol as Readable<Global, Standard>>::read(&[1, 7], Global)?;
 /// assert_eq!((member.kind, member.index), (1, 7));
 /// # Ok::<(), DecodeError>(())
 /// ```
@@ -224,7 +227,10 @@ impl Shorten for ComdatSymbol {
 /// // "f", no flags, one member: a function (1) of the index 7.
 /// let bytes = [1, b'f', 0, 1, 1, 7];
 /// let (group, _) = <Comdat as Readable<Global, Standard>>::read(&bytes, Global)?;
-/// assert_eq!((group.name, group.symbols[0].kind, group.symbols[0].index), ("f", 1, 7));
+/// assert_eq!(
+///     (group.name, group.symbols[0].kind, group.symbols[0].index),
+///     ("f", 1, 7)
+/// );
 /// # Ok::<(), DecodeError>(())
 /// ```
 #[derive(Debug)]

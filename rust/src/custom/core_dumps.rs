@@ -14,13 +14,15 @@ use crate::base::{DecodeError, Encode, Grammar, Kind, Readable, Result, Section,
 /// process.
 ///
 /// ```
+/// # fn example() -> Result<(), Box<dyn std::error::Error>> {
 /// # use dolzhytik::{fallible::*, reader::*};
-/// # fn example(alloc: Global) -> Result<(), Box<dyn std::error::Error>> {
-/// # let mut module = Module::new(alloc)?;
-/// module.section(&CoreDumpSection::new(alloc, "a.wasm")?)?;
+/// use dolzhytik::fallible::{CoreDumpSection, Global, Module};
+///
+/// let mut module = Module::new(Global)?;
+/// module.section(&CoreDumpSection::new(Global, "a.wasm")?)?;
 /// # Ok(())
 /// # }
-/// # example(Global).unwrap();
+/// # example().unwrap();
 /// ```
 ///
 /// # Errors
@@ -126,15 +128,17 @@ impl<A: Allocator> Section for CoreDumpSection<A> {
 /// The `coremodules` section: the modules of the process, by their names.
 ///
 /// ```
+/// # fn example() -> Result<(), Box<dyn std::error::Error>> {
 /// # use dolzhytik::{fallible::*, reader::*};
-/// # fn example(alloc: Global) -> Result<(), Box<dyn std::error::Error>> {
-/// # let mut module = Module::new(alloc)?;
-/// let mut modules = CoreDumpModulesSection::new(alloc);
+/// use dolzhytik::fallible::{CoreDumpModulesSection, Global, Module};
+///
+/// let mut module = Module::new(Global)?;
+/// let mut modules = CoreDumpModulesSection::new(Global);
 /// modules.module("a.wasm")?;
 /// module.section(&modules)?;
 /// # Ok(())
 /// # }
-/// # example(Global).unwrap();
+/// # example().unwrap();
 /// ```
 pub type CoreDumpModulesSection<A = Global> = CustomEntries<ModuleItems, A>;
 
@@ -242,15 +246,17 @@ impl<A: Allocator> CoreDumpModulesSection<A> {
 /// The `coreinstances` section: the instances of the process. `len` is their number.
 ///
 /// ```
+/// # fn example() -> Result<(), Box<dyn std::error::Error>> {
 /// # use dolzhytik::{fallible::*, reader::*};
-/// # fn example(alloc: Global) -> Result<(), Box<dyn std::error::Error>> {
-/// # let mut module = Module::new(alloc)?;
-/// let mut instances = CoreDumpInstancesSection::new(alloc);
+/// use dolzhytik::fallible::{CoreDumpInstancesSection, Global, Module};
+///
+/// let mut module = Module::new(Global)?;
+/// let mut instances = CoreDumpInstancesSection::new(Global);
 /// instances.instance(0, [0], [0, 1])?;
 /// module.section(&instances)?;
 /// # Ok(())
 /// # }
-/// # example(Global).unwrap();
+/// # example().unwrap();
 /// ```
 pub type CoreDumpInstancesSection<A = Global> = CustomEntries<InstanceItems, A>;
 
@@ -261,7 +267,9 @@ pub type CoreDumpInstancesSection<A = Global> = CustomEntries<InstanceItems, A>;
 /// # Examples
 ///
 /// ```
-/// use dolzhytik::fallible::{CoreDumpInstancesSection, CustomKind, Global, InstanceItems};
+/// use dolzhytik::fallible::{
+///     CoreDumpInstancesSection, CustomKind, Global, InstanceItems,
+/// };
 ///
 /// let section = CoreDumpInstancesSection::new(Global);
 /// assert_eq!((section.len(), InstanceItems::name()), (0, "coreinstances"));

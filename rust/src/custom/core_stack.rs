@@ -15,13 +15,15 @@ use crate::base::{CowSlice, CowStr, DecodeError, Encode, Grammar, Layout, Pieces
 /// of each frame. The former are the byte 00 and the name of the thread.
 ///
 /// ```
+/// # fn example() -> Result<(), Box<dyn std::error::Error>> {
 /// # use dolzhytik::{fallible::*, reader::*};
-/// # fn example(alloc: Global) -> Result<(), Box<dyn std::error::Error>> {
-/// let mut stack = CoreDumpStackSection::new(alloc, "main")?;
+/// use dolzhytik::fallible::{CoreDumpStackSection, CoreDumpValue, Global};
+///
+/// let mut stack = CoreDumpStackSection::new(Global, "main")?;
 /// stack.frame(0, 42, 51, [CoreDumpValue::I32(1)], [CoreDumpValue::Missing])?;
 /// # Ok(())
 /// # }
-/// # example(Global).unwrap();
+/// # example().unwrap();
 /// ```
 ///
 /// # Errors
@@ -286,7 +288,8 @@ impl<'a, A: Allocator + Copy, G: Grammar> Readable<'a, A, G> for CoreFrame<A> {
 /// use dolzhytik::reader::{DecodeError, Padded};
 ///
 /// // "corestack", 00, "t"; no frames.
-/// let (thread, frames) = read_stack::<Global, Padded>(b"\x09corestack\0\x01t\0", Global)?;
+/// let (thread, frames) =
+///     read_stack::<Global, Padded>(b"\x09corestack\0\x01t\0", Global)?;
 /// assert_eq!((thread, frames.len()), ("t", 0));
 /// # Ok::<(), DecodeError>(())
 /// ```

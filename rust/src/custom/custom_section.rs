@@ -54,10 +54,12 @@ pub(crate) fn begin_custom<A: Sink>(
 /// A custom section of any name and data.
 ///
 /// ```
+/// # fn example() -> Result<(), Box<dyn std::error::Error>> {
 /// # use dolzhytik::{fallible::*, reader::*};
-/// # fn example(alloc: Global) -> Result<(), Box<dyn std::error::Error>> {
-/// # let mut module = Module::new(alloc)?;
-/// # let bytes = *b"\0\x01";
+/// use dolzhytik::fallible::{CowSlice, CowStr, CustomSection, Global, Module};
+///
+/// let mut module = Module::new(Global)?;
+/// let bytes = *b"\0\x01";
 /// let section: CustomSection<'_> = CustomSection {
 ///     name: CowStr::Borrowed("test"),
 ///     bytes: CowSlice::Borrowed(&[11, 22, 33, 44]),
@@ -65,7 +67,7 @@ pub(crate) fn begin_custom<A: Sink>(
 /// module.section(&section)?;
 /// # Ok(())
 /// # }
-/// # example(Global).unwrap();
+/// # example().unwrap();
 /// ```
 #[derive(Debug)]
 pub struct CustomSection<'a, A: Allocator = Global> {

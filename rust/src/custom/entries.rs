@@ -21,7 +21,10 @@ use crate::base::{CowSlice, CowStr, Encode, EncodeOnce, Kind, Pieces, Result, Se
 ///     K::name()
 /// }
 ///
-/// assert_eq!([name_of::<NameItems>(), name_of::<ProducerItems>()], ["name", "producers"]);
+/// assert_eq!(
+///     [name_of::<NameItems>(), name_of::<ProducerItems>()],
+///     ["name", "producers"]
+/// );
 /// ```
 ///
 /// # Defined

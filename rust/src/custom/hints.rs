@@ -12,17 +12,21 @@ use crate::base::{DecodeError, Encode, Grammar, Kind, Layout, ReadFault, Readabl
 /// function. It belongs before the code section.
 ///
 /// ```
+/// # fn example() -> Result<(), Box<dyn std::error::Error>> {
 /// # use dolzhytik::{fallible::*, reader::*};
-/// # fn example(alloc: Global) -> Result<(), Box<dyn std::error::Error>> {
-/// let mut function = Function::new(alloc, [])?;
+/// use dolzhytik::fallible::{
+///     BlockType, BranchHint, BranchHints, Function, Global, Instruction,
+/// };
+///
+/// let mut function = Function::new(Global, [])?;
 /// function.instruction(&Instruction::I32Const(1))?;
 /// let offset = function.byte_len() as u32;
 /// function.instruction(&Instruction::If(BlockType::Empty))?;
-/// let mut hints = BranchHints::new(alloc);
+/// let mut hints = BranchHints::new(Global);
 /// hints.function_hints(0, [BranchHint { branch_func_offset: offset, branch_hint_value: 1 }])?;
 /// # Ok(())
 /// # }
-/// # example(Global).unwrap();
+/// # example().unwrap();
 /// ```
 pub type BranchHints<A = Global> = CustomEntries<HintItems, A>;
 
@@ -252,7 +256,10 @@ impl<'a, A: Allocator + Copy, G: Grammar> DecodesItems<'a, (u32, Vec<BranchHint,
 /// let payload = b"\x19metadata.code.branch_hint\x01\x07\x01\x03\x01\x01";
 /// let functions = read_hints::<Global, Padded>(payload, Global)?;
 /// let (function, hints) = &functions[0];
-/// assert_eq!((*function, hints[0].branch_func_offset, hints[0].branch_hint_value), (7, 3, 1));
+/// assert_eq!(
+///     (*function, hints[0].branch_func_offset, hints[0].branch_hint_value),
+///     (7, 3, 1)
+/// );
 /// # Ok::<(), DecodeError>(())
 /// ```
 ///

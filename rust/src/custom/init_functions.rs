@@ -10,13 +10,15 @@ use crate::base::{DecodeError, Grammar, Layout, Readable, Result, Shorten};
 /// subsection 6 of a linking section.
 ///
 /// ```
+/// # fn example() -> Result<(), Box<dyn std::error::Error>> {
 /// # use dolzhytik::{fallible::*, reader::*};
-/// # fn example(alloc: Global) -> Result<(), Box<dyn std::error::Error>> {
-/// let mut functions = InitFunctions::new(alloc);
+/// use dolzhytik::fallible::{Global, InitFunctions};
+///
+/// let mut functions = InitFunctions::new(Global);
 /// functions.function(65535, 0)?;
 /// # Ok(())
 /// # }
-/// # example(Global).unwrap();
+/// # example().unwrap();
 /// ```
 pub type InitFunctions<A = Global> = CountedList<InitMembers, A>;
 
@@ -86,7 +88,8 @@ impl<A: Allocator> InitFunctions<A> {
 /// use dolzhytik::reader::{DecodeError, Readable, Standard};
 ///
 /// // The priority 10, the symbol 3.
-/// let (function, _) = <InitFunction as Readable<Global, Standard>>::read(&[10, 3], Global)?;
+/// let (function, _) =
+///     <InitFunction as Readable<Global, Standard>>::read(&[10, 3], Global)?;
 /// assert_eq!((function.priority, function.symbol), (10, 3));
 /// # Ok::<(), DecodeError>(())
 /// ```

@@ -17,17 +17,19 @@ use crate::base::{DecodeError, Encode, Grammar, Kind, Layout, ReadFault, Readabl
 /// format. Each call adds a subsection, and `new` allocates nothing.
 ///
 /// ```
+/// # fn example() -> Result<(), Box<dyn std::error::Error>> {
 /// # use dolzhytik::{fallible::*, reader::*};
-/// # fn example(alloc: Global) -> Result<(), Box<dyn std::error::Error>> {
-/// # let mut module = Module::new(alloc)?;
-/// let mut symbols = SymbolTable::new(alloc);
+/// use dolzhytik::fallible::{Global, LinkingSection, Module, SymbolTable};
+///
+/// let mut module = Module::new(Global)?;
+/// let mut symbols = SymbolTable::new(Global);
 /// symbols.function(SymbolTable::WASM_SYM_EXPORTED, 0, Some("f"))?;
-/// let mut linking = LinkingSection::new(alloc);
+/// let mut linking = LinkingSection::new(Global);
 /// linking.symbol_table(&symbols)?;
 /// module.section(&linking)?;
 /// # Ok(())
 /// # }
-/// # example(Global).unwrap();
+/// # example().unwrap();
 /// ```
 pub type LinkingSection<A = Global> = CustomEntries<LinkingItems, A>;
 
@@ -151,12 +153,15 @@ const VERSION: u32 = 2;
 /// use dolzhytik::fallible::{Global, read_links};
 /// use dolzhytik::reader::{DecodeError, LinkItem, Padded, Symbol};
 ///
-/// // "linking", version 2; a symbol table: 8, size 6, one symbol: a function (0), no flags, the index
-/// // 5, "f".
+/// // "linking", version 2; a symbol table: 8, size 6, one symbol: a function (0), no
+/// // flags, the index 5, "f".
 /// let payload = b"\x07linking\x02\x08\x06\x01\0\0\x05\x01f";
 /// let items = read_links::<Global, Padded>(payload, Global)?;
 /// let LinkItem::Symbols(symbols) = &items[0] else { panic!("another subsection") };
-/// assert!(matches!(symbols[..], [Symbol::Function { index: 5, name: Some("f"), .. }]));
+/// assert!(matches!(
+///     symbols[..],
+///     [Symbol::Function { index: 5, name: Some("f"), .. }]
+/// ));
 /// # Ok::<(), DecodeError>(())
 /// ```
 #[derive(Debug)]

@@ -17,7 +17,10 @@ use crate::base::{Encode, Pieces, Result, encoding_size};
 /// use dolzhytik::fallible::{ListKind, NameMembers, SymbolMembers};
 ///
 /// // A symbol table is the subsection 8 of a linking section.
-/// assert_eq!((SymbolMembers::subsection(), NameMembers::subsection()), (Some(8), None));
+/// assert_eq!(
+///     (SymbolMembers::subsection(), NameMembers::subsection()),
+///     (Some(8), None)
+/// );
 /// ```
 ///
 /// # Defined

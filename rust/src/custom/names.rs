@@ -199,18 +199,20 @@ impl<A: Allocator> IndirectNameMap<A> {
 /// order of the calls.
 ///
 /// ```
+/// # fn example() -> Result<(), Box<dyn std::error::Error>> {
 /// # use dolzhytik::{fallible::*, reader::*};
-/// # fn example(alloc: Global) -> Result<(), Box<dyn std::error::Error>> {
-/// # let mut module = Module::new(alloc)?;
-/// let mut functions = NameMap::new(alloc);
+/// use dolzhytik::fallible::{Global, Module, NameMap, NameSection};
+///
+/// let mut module = Module::new(Global)?;
+/// let mut functions = NameMap::new(Global);
 /// functions.append(0, "f")?;
-/// let mut names = NameSection::new(alloc);
+/// let mut names = NameSection::new(Global);
 /// names.module("m")?;
 /// names.functions(&functions)?;
 /// module.section(&names)?;
 /// # Ok(())
 /// # }
-/// # example(Global).unwrap();
+/// # example().unwrap();
 /// ```
 pub type NameSection<A = Global> = CustomEntries<NameItems, A>;
 
@@ -710,7 +712,9 @@ impl<A: Allocator> NameSection<A> {
 /// // "name"; the subsection 1, functions: size 4, one name: the index 5, "f".
 /// let payload = b"\x04name\x01\x04\x01\x05\x01f";
 /// let items = read_names::<Global, Padded>(payload, Global)?;
-/// let NameItem::Map { id: 1, names } = &items[0] else { panic!("another subsection") };
+/// let NameItem::Map { id: 1, names } = &items[0] else {
+///     panic!("another subsection")
+/// };
 /// assert_eq!(names[..], [(5, "f")]);
 /// # Ok::<(), DecodeError>(())
 /// ```

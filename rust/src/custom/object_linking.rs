@@ -18,20 +18,24 @@ use crate::base::{Kind, Result};
 /// grammar `Standard`. Those of a `LinkingSection` decode in the builders' grammar too.
 ///
 /// ```
+/// # fn example() -> Result<(), Box<dyn std::error::Error>> {
 /// # use dolzhytik::{fallible::*, reader::*};
-/// # fn example(alloc: Global) -> Result<(), Box<dyn std::error::Error>> {
-/// # let mut module = Module::new(alloc)?;
-/// let mut symbols = ObjectSymbols::new(alloc);
+/// use dolzhytik::fallible::{
+///     Global, Module, ObjectLinking, ObjectSymbols, SegmentInfos, SymbolTable,
+/// };
+///
+/// let mut module = Module::new(Global)?;
+/// let mut symbols = ObjectSymbols::new(Global);
 /// symbols.section(SymbolTable::WASM_SYM_BINDING_LOCAL, 8)?;
-/// let mut segments = SegmentInfos::new(alloc);
+/// let mut segments = SegmentInfos::new(Global);
 /// segments.segment(".rodata.greeting", 0, 0)?;
-/// let mut linking = ObjectLinking::new(alloc);
+/// let mut linking = ObjectLinking::new(Global);
 /// linking.symbol_table(&symbols)?;
 /// linking.segments(&segments)?;
 /// module.section(&linking)?;
 /// # Ok(())
 /// # }
-/// # example(Global).unwrap();
+/// # example().unwrap();
 /// ```
 pub type ObjectLinking<A = Global> = CustomEntries<ObjectLinkingItems, A>;
 

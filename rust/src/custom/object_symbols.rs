@@ -11,14 +11,16 @@ use crate::base::{Optional, Result};
 /// the flags.
 ///
 /// ```
+/// # fn example() -> Result<(), Box<dyn std::error::Error>> {
 /// # use dolzhytik::{fallible::*, reader::*};
-/// # fn example(alloc: Global) -> Result<(), Box<dyn std::error::Error>> {
-/// let mut symbols = ObjectSymbols::new(alloc);
+/// use dolzhytik::fallible::{Global, ObjectSymbols, SymbolTable};
+///
+/// let mut symbols = ObjectSymbols::new(Global);
 /// symbols.function(SymbolTable::WASM_SYM_EXPORTED, 0, Some("f"))?;
 /// symbols.section(SymbolTable::WASM_SYM_BINDING_LOCAL, 8)?;
 /// # Ok(())
 /// # }
-/// # example(Global).unwrap();
+/// # example().unwrap();
 /// ```
 pub type ObjectSymbols<A = Global> = CountedList<ObjectSymbolMembers, A>;
 

@@ -87,17 +87,19 @@ impl<A: Allocator> ProducersField<A> {
 /// The producers section: the languages and tools that produced the module.
 ///
 /// ```
+/// # fn example() -> Result<(), Box<dyn std::error::Error>> {
 /// # use dolzhytik::{fallible::*, reader::*};
-/// # fn example(alloc: Global) -> Result<(), Box<dyn std::error::Error>> {
-/// # let mut module = Module::new(alloc)?;
-/// let mut field = ProducersField::new(alloc);
+/// use dolzhytik::fallible::{Global, Module, ProducersField, ProducersSection};
+///
+/// let mut module = Module::new(Global)?;
+/// let mut field = ProducersField::new(Global);
 /// field.value("clang", "14.0.4")?;
-/// let mut producers = ProducersSection::new(alloc);
+/// let mut producers = ProducersSection::new(Global);
 /// producers.field("processed-by", &field)?;
 /// module.section(&producers)?;
 /// # Ok(())
 /// # }
-/// # example(Global).unwrap();
+/// # example().unwrap();
 /// ```
 pub type ProducersSection<A = Global> = CustomEntries<ProducerItems, A>;
 

@@ -10,13 +10,15 @@ use crate::base::{DecodeError, Grammar, Layout, Readable, Result, Shorten};
 /// section. They are encoded as subsection 5 of a linking section.
 ///
 /// ```
+/// # fn example() -> Result<(), Box<dyn std::error::Error>> {
 /// # use dolzhytik::{fallible::*, reader::*};
-/// # fn example(alloc: Global) -> Result<(), Box<dyn std::error::Error>> {
-/// let mut segments = SegmentInfos::new(alloc);
+/// use dolzhytik::fallible::{Global, SegmentInfos};
+///
+/// let mut segments = SegmentInfos::new(Global);
 /// segments.segment(".rodata.greeting", 0, 0)?;
 /// # Ok(())
 /// # }
-/// # example(Global).unwrap();
+/// # example().unwrap();
 /// ```
 pub type SegmentInfos<A = Global> = CountedList<SegmentMembers, A>;
 

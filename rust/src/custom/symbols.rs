@@ -12,13 +12,15 @@ use crate::base::{DecodeError, Encode, Grammar, Layout, Optional, ReadFault, Rea
 /// subsection 8 of a linking section. `ObjectSymbols` has further kinds of symbols.
 ///
 /// ```
+/// # fn example() -> Result<(), Box<dyn std::error::Error>> {
 /// # use dolzhytik::{fallible::*, reader::*};
-/// # fn example(alloc: Global) -> Result<(), Box<dyn std::error::Error>> {
-/// let mut symbols = SymbolTable::new(alloc);
+/// use dolzhytik::fallible::{Global, SymbolTable};
+///
+/// let mut symbols = SymbolTable::new(Global);
 /// symbols.function(SymbolTable::WASM_SYM_EXPORTED, 0, Some("f"))?;
 /// # Ok(())
 /// # }
-/// # example(Global).unwrap();
+/// # example().unwrap();
 /// ```
 pub type SymbolTable<A = Global> = CountedList<SymbolMembers, A>;
 
@@ -335,7 +337,8 @@ impl<A: Allocator> SymbolTable<A> {
 /// use dolzhytik::reader::{DecodeError, Padded, Readable, Symbol};
 ///
 /// // A data symbol (1), undefined (10), "d".
-/// let (symbol, _) = <Symbol as Readable<Global, Padded>>::read(&[1, 0x10, 1, b'd'], Global)?;
+/// let (symbol, _) =
+///     <Symbol as Readable<Global, Padded>>::read(&[1, 0x10, 1, b'd'], Global)?;
 /// assert!(matches!(symbol, Symbol::DataSymbol { name: "d", definition: None, .. }));
 /// # Ok::<(), DecodeError>(())
 /// ```

@@ -16,7 +16,8 @@ use crate::immediates::{MemArg, Ordering};
 /// ```
 /// use dolzhytik::fallible::{Atomic, Encode, Instruction, Ordering, Refused};
 ///
-/// let instruction: Instruction = Instruction::Atomic(Atomic::AtomicFence(Ordering::SeqCst));
+/// let instruction: Instruction =
+///     Instruction::Atomic(Atomic::AtomicFence(Ordering::SeqCst));
 /// let mut bytes = Vec::new();
 /// instruction.encode(&mut bytes)?;
 /// assert_eq!(bytes, [0xFE, 3, 0]);

@@ -32,7 +32,8 @@ use crate::immediates::{BlockType, Catch, Handle, Ieee32, Ieee64, MemArg};
 /// for instruction in [Instruction::I32Const(-1), Instruction::I32Add, table] {
 ///     instruction.encode(&mut bytes)?;
 /// }
-/// // i32.const: 41 and -1 as signed LEB128. i32.add: 6A. br_table: 0E, two labels, the default one.
+/// // i32.const: 41 and -1 as signed LEB128. i32.add: 6A. br_table: 0E, two labels, the
+/// // default one.
 /// assert_eq!(bytes, [0x41, 0x7F, 0x6A, 0x0E, 2, 0, 0, 0]);
 /// # Ok::<(), Refused>(())
 /// ```

@@ -38,7 +38,10 @@ pub enum Op {
 /// use dolzhytik::fallible::{Op, Part, Shape};
 ///
 /// // br_table: 0E, labels and the default label.
-/// assert_eq!(Op::Byte(0x0E).shape().map(Shape::parts), Some(&[Part::Labels, Part::Unsigned][..]));
+/// assert_eq!(
+///     Op::Byte(0x0E).shape().map(Shape::parts),
+///     Some(&[Part::Labels, Part::Unsigned][..])
+/// );
 /// // No instruction has the opcode FF.
 /// assert_eq!(Op::Byte(0xFF).shape(), None);
 /// ```

@@ -13,7 +13,8 @@ use crate::insn::op::Op;
 /// ```
 /// use dolzhytik::fallible::{Encode, Instruction, PrefixedNumeric, Refused};
 ///
-/// let instruction: Instruction = Instruction::PrefixedNumeric(PrefixedNumeric::I32TruncSatF64U);
+/// let instruction: Instruction =
+///     Instruction::PrefixedNumeric(PrefixedNumeric::I32TruncSatF64U);
 /// let mut bytes = Vec::new();
 /// instruction.encode(&mut bytes)?;
 /// assert_eq!(bytes, [0xFC, 3]);

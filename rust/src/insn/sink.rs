@@ -161,7 +161,8 @@ impl<A: Sink> Buffer for A {
 /// sink.i32_const(64)?;
 /// sink.i32_add()?;
 /// sink.end()?;
-/// // local.get 0: 20 00. i32.const 64: 41, and 64 as signed LEB128, C0 00. i32.add: 6A. end: 0B.
+/// // local.get 0: 20 00. i32.const 64: 41, and 64 as signed LEB128, C0 00. i32.add:
+/// // 6A. end: 0B.
 /// assert_eq!(bytes, [0x20, 0x00, 0x41, 0xC0, 0x00, 0x6A, 0x0B]);
 /// # Ok::<(), Refused>(())
 /// ```

@@ -39,7 +39,9 @@ use crate::code::Instructions;
 /// for body in Sections::new(Global, module)?.next().unwrap()?.bodies()? {
 ///     let body = body?;
 ///     let (_, mut instructions) = body.instructions()?;
-///     while let Some(step) = instructions.next().map_err(|error| body.locate(error))? {
+///     while let Some(step) =
+///         instructions.next().map_err(|error| body.locate(error))?
+///     {
 ///         found.push((body.offset() + step.offset, step.op));
 ///     }
 /// }
@@ -199,12 +201,17 @@ impl<'a, A: Allocator + Copy> FusedIterator for Bodies<'a, A> {}
 /// use dolzhytik::fallible::{Global, ValType};
 /// use dolzhytik::reader::{ReadError, Sections};
 ///
-/// // A code section: id 10, size 6, one body, of size 4: one run of locals, 2 of i32 (7F); end.
+/// // A code section: id 10, size 6, one body, of size 4: one run of locals, 2 of i32
+/// // (7F); end.
 /// let module = b"\0asm\x01\0\0\0\x0A\x06\x01\x04\x01\x02\x7F\x0B";
-/// let body = Sections::new(Global, module)?.next().unwrap()?.bodies()?.next().unwrap()?;
+/// let body =
+///     Sections::new(Global, module)?.next().unwrap()?.bodies()?.next().unwrap()?;
 /// assert_eq!(body.offset(), 12);
 /// let (locals, instructions) = body.instructions()?;
-/// assert_eq!((&locals[..], instructions.rest()), (&[(2, ValType::I32)][..], &[0x0B][..]));
+/// assert_eq!(
+///     (&locals[..], instructions.rest()),
+///     (&[(2, ValType::I32)][..], &[0x0B][..])
+/// );
 /// # Ok::<(), ReadError>(())
 /// ```
 #[derive(Clone, Copy, Debug)]

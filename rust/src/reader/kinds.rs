@@ -125,12 +125,18 @@ impl SectionKind {
 ///
 /// ```
 /// use dolzhytik::fallible::{ExportKind, Global};
-/// use dolzhytik::reader::{Items, ReadFault, SectionKind, encode_items, read_section};
+/// use dolzhytik::reader::{
+///     Items, ReadFault, SectionKind, encode_items, read_section,
+/// };
 ///
 /// // An export section without its id: size 5, one export, "f", the function (00) 7.
-/// let (items, _) = read_section(Global, SectionKind::Exports, b"\x05\x01\x01f\x00\x07")?;
+/// let (items, _) =
+///     read_section(Global, SectionKind::Exports, b"\x05\x01\x01f\x00\x07")?;
 /// let Items::Exports(exports) = &items else { panic!("another kind") };
-/// assert_eq!((exports[0].name, exports[0].kind, exports[0].index), ("f", ExportKind::Func, 7));
+/// assert_eq!(
+///     (exports[0].name, exports[0].kind, exports[0].index),
+///     ("f", ExportKind::Func, 7)
+/// );
 ///
 /// let mut payload = vec![];
 /// encode_items(&items, &mut payload)?;

@@ -22,7 +22,9 @@ pub(crate) const HEADER: [u8; 8] = [0x00, 0x61, 0x73, 0x6D, 0x01, 0x00, 0x00, 0x
 ///
 /// // A custom section: id 0, size 2, the name "a".
 /// let lines = list_module(Global, b"\0asm\x01\0\0\0\0\x02\x01a")?;
-/// let [Listed { id: 0, size: 2, items: None }] = lines[..] else { panic!("other sections") };
+/// let [Listed { id: 0, size: 2, items: None }] = lines[..] else {
+///     panic!("other sections")
+/// };
 /// # Ok::<(), (usize, ReadFault)>(())
 /// ```
 #[derive(Clone, Copy, PartialEq, Eq, Debug)]

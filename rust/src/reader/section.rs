@@ -23,8 +23,10 @@ use crate::base::{Padded, ReadFault, Readable};
 /// use dolzhytik::fallible::Global;
 /// use dolzhytik::reader::{Items, ReadFault, SectionKind, read_section};
 ///
-/// // A function section without its id: size 2, one function, of type 5. Another byte follows.
-/// let (items, taken) = read_section(Global, SectionKind::Functions, &[2, 1, 5, 0xFF])?;
+/// // A function section without its id: size 2, one function, of type 5. Another byte
+/// // follows.
+/// let (items, taken) =
+///     read_section(Global, SectionKind::Functions, &[2, 1, 5, 0xFF])?;
 /// let Items::Functions(types) = items else { panic!("another kind") };
 /// assert_eq!((&types[..], taken), (&[5][..], 3));
 /// # Ok::<(), ReadFault>(())

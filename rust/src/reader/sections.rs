@@ -50,7 +50,8 @@ fn common_length(bytes: &[u8], other: &[u8]) -> usize {
 /// use dolzhytik::fallible::Global;
 /// use dolzhytik::reader::{ReadError, Sections};
 ///
-/// // The header; a function section, id 3, of one function; a custom section, id 0, of the name "a".
+/// // The header; a function section, id 3, of one function; a custom section, id 0, of
+/// // the name "a".
 /// let module = b"\0asm\x01\0\0\0\x03\x02\x01\x05\0\x02\x01a";
 /// let mut found = vec![];
 /// for section in Sections::new(Global, module)? {

@@ -59,7 +59,8 @@ pub enum Offsets {
 /// use dolzhytik::reader::{ModuleFault, Offsets, ReadFault, shorten_module};
 ///
 /// // The size of the first section is missing.
-/// let error = shorten_module(Global, b"\0asm\x01\0\0\0\x03", Offsets::Refuse, &mut vec![]);
+/// let error =
+///     shorten_module(Global, b"\0asm\x01\0\0\0\x03", Offsets::Refuse, &mut vec![]);
 /// assert_eq!(error, Err(ModuleFault::Section { number: 1, fault: ReadFault::Ended }));
 /// ```
 #[derive(Clone, Copy, PartialEq, Eq, Debug)]

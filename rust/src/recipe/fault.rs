@@ -11,8 +11,12 @@ use crate::base::Refused;
 /// use dolzhytik::fallible::Global;
 /// use dolzhytik::fallible::recipe::{RecipeCause, assemble};
 ///
-/// let causes = ["frob", "func", "body 0"].map(|line| assemble(Global, line).unwrap_err().cause);
-/// assert_eq!(causes, [RecipeCause::UnknownCommand, RecipeCause::MissingWord, RecipeCause::BadHex]);
+/// let causes = ["frob", "func", "body 0"]
+///     .map(|line| assemble(Global, line).unwrap_err().cause);
+/// assert_eq!(
+///     causes,
+///     [RecipeCause::UnknownCommand, RecipeCause::MissingWord, RecipeCause::BadHex]
+/// );
 /// ```
 #[derive(Clone, Copy, PartialEq, Eq, Debug)]
 pub enum RecipeCause {

@@ -696,13 +696,15 @@ impl<A: Allocator + Copy> Recipe<A> {
 /// Returns the first line with an error, and its cause; 0 is an error after the last line.
 ///
 /// ```
-/// # use dolzhytik::fallible::recipe::*;
+/// # fn example() -> Result<(), Box<dyn std::error::Error>> {
 /// # use dolzhytik::{fallible::*, reader::*};
-/// # fn example(alloc: Global) -> Result<(), Box<dyn std::error::Error>> {
-/// let module = assemble(alloc, "body 200020016a0b")?;
+/// use dolzhytik::fallible::Global;
+/// use dolzhytik::fallible::recipe::assemble;
+///
+/// let module = assemble(Global, "body 200020016a0b")?;
 /// # Ok(())
 /// # }
-/// # example(Global).unwrap();
+/// # example().unwrap();
 /// ```
 ///
 /// # Proved
@@ -752,13 +754,15 @@ pub fn assemble<A: Allocator + Copy>(alloc: A, lines: &str) -> Result<Vec<u8, A>
 /// for `locals` without a body after them.
 ///
 /// ```
-/// # use dolzhytik::fallible::recipe::*;
+/// # fn example() -> Result<(), Box<dyn std::error::Error>> {
 /// # use dolzhytik::{fallible::*, reader::*};
-/// # fn example(alloc: Global) -> Result<(), Box<dyn std::error::Error>> {
-/// let module = assemble_versioned(alloc, "version 2\nlocals 1 i32\nbody 20000b # local.get 0")?;
+/// use dolzhytik::fallible::Global;
+/// use dolzhytik::fallible::recipe::assemble_versioned;
+///
+/// let module = assemble_versioned(Global, "version 2\nlocals 1 i32\nbody 20000b # local.get 0")?;
 /// # Ok(())
 /// # }
-/// # example(Global).unwrap();
+/// # example().unwrap();
 /// ```
 ///
 /// # Proved

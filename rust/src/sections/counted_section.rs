@@ -72,7 +72,9 @@ pub trait RecordOf<K>: Encode {}
 /// # Examples
 ///
 /// ```
-/// use dolzhytik::fallible::{CountedSection, ExportKind, ExportSection, Global, Refused};
+/// use dolzhytik::fallible::{
+///     CountedSection, ExportKind, ExportSection, Global, Refused,
+/// };
 ///
 /// /// Returns whether a section of any kind has entries.
 /// fn has_entries<K>(section: &CountedSection<K>) -> bool {

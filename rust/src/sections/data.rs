@@ -10,17 +10,19 @@ use crate::code::{ConstExpr, Expression};
 /// The data section: segments of bytes that a module copies to memories.
 ///
 /// ```
+/// # fn example() -> Result<(), Box<dyn std::error::Error>> {
 /// # use dolzhytik::{fallible::*, reader::*};
-/// # fn example(alloc: Global) -> Result<(), Box<dyn std::error::Error>> {
-/// # let mut module = Module::new(alloc)?;
-/// # let bytes = *b"\0\x01";
-/// let mut data = DataSection::new(alloc);
-/// data.active(0, &ConstExpr::i32_const(alloc, 42)?, b"hello".iter().copied())?;
+/// use dolzhytik::fallible::{ConstExpr, DataSection, Global, Module};
+///
+/// let mut module = Module::new(Global)?;
+/// let bytes = *b"\0\x01";
+/// let mut data = DataSection::new(Global);
+/// data.active(0, &ConstExpr::i32_const(Global, 42)?, b"hello".iter().copied())?;
 /// data.passive(bytes)?;
 /// module.section(&data)?;
 /// # Ok(())
 /// # }
-/// # example(Global).unwrap();
+/// # example().unwrap();
 /// ```
 pub type DataSection<A = Global> = CountedSection<DataItems, A>;
 
@@ -46,7 +48,9 @@ pub struct DataItems;
 /// # Examples
 ///
 /// ```
-/// use dolzhytik::fallible::{ConstExpr, DataSection, DataSegment, DataSegmentMode, Global, Refused};
+/// use dolzhytik::fallible::{
+///     ConstExpr, DataSection, DataSegment, DataSegmentMode, Global, Refused,
+/// };
 ///
 /// let offset = ConstExpr::i32_const(Global, 8)?;
 /// let mode = DataSegmentMode::Active { memory_index: 0, offset: &offset };
@@ -76,7 +80,9 @@ pub enum DataSegmentMode<'a, A: Allocator = Global> {
 /// # Examples
 ///
 /// ```
-/// use dolzhytik::fallible::{DataSection, DataSegment, DataSegmentMode, Global, Refused};
+/// use dolzhytik::fallible::{
+///     DataSection, DataSegment, DataSegmentMode, Global, Refused,
+/// };
 ///
 /// let mut section = DataSection::new(Global);
 /// let mode: DataSegmentMode<'_> = DataSegmentMode::Passive;

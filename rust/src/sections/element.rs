@@ -10,16 +10,20 @@ use crate::code::ConstExpr;
 /// The element section: segments of references that a module copies to tables.
 ///
 /// ```
+/// # fn example() -> Result<(), Box<dyn std::error::Error>> {
 /// # use dolzhytik::{fallible::*, reader::*};
-/// # fn example(alloc: Global) -> Result<(), Box<dyn std::error::Error>> {
-/// # let mut module = Module::new(alloc)?;
-/// let mut elements = ElementSection::new(alloc);
-/// let offset = ConstExpr::i32_const(alloc, 0)?;
+/// use dolzhytik::fallible::{
+///     ConstExpr, CowSlice, ElementSection, Elements, Global, Module,
+/// };
+///
+/// let mut module = Module::new(Global)?;
+/// let mut elements = ElementSection::new(Global);
+/// let offset = ConstExpr::i32_const(Global, 0)?;
 /// elements.active(None, &offset, Elements::Functions(CowSlice::Borrowed(&[0, 1])))?;
 /// module.section(&elements)?;
 /// # Ok(())
 /// # }
-/// # example(Global).unwrap();
+/// # example().unwrap();
 /// ```
 pub type ElementSection<A = Global> = CountedSection<ElementItems, A>;
 
@@ -68,7 +72,10 @@ pub enum Elements<'a, A: Allocator = Global> {
 /// # Examples
 ///
 /// ```
-/// use dolzhytik::fallible::{ConstExpr, CowSlice, ElementMode, ElementSection, ElementSegment, Elements, Global, Refused};
+/// use dolzhytik::fallible::{
+///     ConstExpr, CowSlice, ElementMode, ElementSection, ElementSegment, Elements,
+///     Global, Refused,
+/// };
 ///
 /// let offset = ConstExpr::i32_const(Global, 3)?;
 /// let mode = ElementMode::Active { table: None, offset: &offset };
@@ -103,7 +110,10 @@ pub enum ElementMode<'a, A: Allocator = Global> {
 /// # Examples
 ///
 /// ```
-/// use dolzhytik::fallible::{CowSlice, ElementMode, ElementSection, ElementSegment, Elements, Global, Refused};
+/// use dolzhytik::fallible::{
+///     CowSlice, ElementMode, ElementSection, ElementSegment, Elements, Global,
+///     Refused,
+/// };
 ///
 /// let elements: Elements<'_> = Elements::Functions(CowSlice::Borrowed(&[5]));
 /// let mut section = ElementSection::new(Global);

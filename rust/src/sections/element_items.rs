@@ -81,7 +81,9 @@ impl<'a, A: Allocator + Copy, G: Grammar> Readable<'a, A, G> for ElementFlag {
 ///
 /// ```
 /// use dolzhytik::fallible::Global;
-/// use dolzhytik::reader::{DecodeError, ElementItem, ElementItemMode, Padded, Readable};
+/// use dolzhytik::reader::{
+///     DecodeError, ElementItem, ElementItemMode, Padded, Readable,
+/// };
 ///
 /// // Active in table 0: 0. i32.const 3 and end. One index.
 /// let bytes = [0, 0x41, 3, 0x0B, 1, 5];
@@ -117,7 +119,9 @@ pub enum ElementItemMode<A: Allocator = Global> {
 /// // Passive, of expressions: 5. funcref: 70. One expression: ref.func 7, end.
 /// let bytes = [5, 0x70, 1, 0xD2, 7, 0x0B];
 /// let (item, _) = <ElementItem as Readable<Global, Padded>>::read(&bytes, Global)?;
-/// let ElementList::Expressions(ty, expressions) = item.elements else { panic!("functions") };
+/// let ElementList::Expressions(ty, expressions) = item.elements else {
+///     panic!("functions")
+/// };
 /// assert_eq!((ty, expressions.len()), (RefType::FUNCREF, 1));
 /// # Ok::<(), DecodeError>(())
 /// ```
@@ -137,13 +141,17 @@ pub enum ElementList<A: Allocator = Global> {
 ///
 /// ```
 /// use dolzhytik::fallible::Global;
-/// use dolzhytik::reader::{DecodeError, ElementItem, ElementItemMode, ElementList, Padded, Readable};
+/// use dolzhytik::reader::{
+///     DecodeError, ElementItem, ElementItemMode, ElementList, Padded, Readable,
+/// };
 ///
 /// // Passive, of functions: 1 and 0. Two indices.
 /// let bytes = [1, 0, 2, 5, 6];
 /// let (item, _) = <ElementItem as Readable<Global, Padded>>::read(&bytes, Global)?;
 /// assert!(matches!(item.mode, ElementItemMode::Passive));
-/// let ElementList::Functions(functions) = item.elements else { panic!("expressions") };
+/// let ElementList::Functions(functions) = item.elements else {
+///     panic!("expressions")
+/// };
 /// assert_eq!(functions[..], [5, 6]);
 /// # Ok::<(), DecodeError>(())
 /// ```

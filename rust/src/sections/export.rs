@@ -9,15 +9,17 @@ use crate::base::{DecodeError, Encode, Grammar, Kind, Layout, ReadFault, Readabl
 /// The export section: the items that a module exports.
 ///
 /// ```
+/// # fn example() -> Result<(), Box<dyn std::error::Error>> {
 /// # use dolzhytik::{fallible::*, reader::*};
-/// # fn example(alloc: Global) -> Result<(), Box<dyn std::error::Error>> {
-/// # let mut module = Module::new(alloc)?;
-/// let mut exports = ExportSection::new(alloc);
+/// use dolzhytik::fallible::{ExportKind, ExportSection, Global, Module};
+///
+/// let mut module = Module::new(Global)?;
+/// let mut exports = ExportSection::new(Global);
 /// exports.export("foo", ExportKind::Func, 0)?;
 /// module.section(&exports)?;
 /// # Ok(())
 /// # }
-/// # example(Global).unwrap();
+/// # example().unwrap();
 /// ```
 pub type ExportSection<A = Global> = CountedSection<ExportItems, A>;
 
@@ -71,7 +73,9 @@ pub enum ExportKind {
 /// # Examples
 ///
 /// ```
-/// use dolzhytik::fallible::{Export, ExportKind, ExportSection, Global, Refused, add_all};
+/// use dolzhytik::fallible::{
+///     Export, ExportKind, ExportSection, Global, Refused, add_all,
+/// };
 ///
 /// let mut exports = ExportSection::new(Global);
 /// add_all(&mut exports, &[Export { name: "f", kind: ExportKind::Func, index: 5 }])?;

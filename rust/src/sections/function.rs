@@ -10,15 +10,17 @@ use crate::base::{Encode, Kind, Result, SectionId};
 /// bodies.
 ///
 /// ```
+/// # fn example() -> Result<(), Box<dyn std::error::Error>> {
 /// # use dolzhytik::{fallible::*, reader::*};
-/// # fn example(alloc: Global) -> Result<(), Box<dyn std::error::Error>> {
-/// # let mut module = Module::new(alloc)?;
-/// let mut functions = FunctionSection::new(alloc);
+/// use dolzhytik::fallible::{FunctionSection, Global, Module};
+///
+/// let mut module = Module::new(Global)?;
+/// let mut functions = FunctionSection::new(Global);
 /// functions.function(0)?;
 /// module.section(&functions)?;
 /// # Ok(())
 /// # }
-/// # example(Global).unwrap();
+/// # example().unwrap();
 /// ```
 pub type FunctionSection<A = Global> = CountedSection<FunctionItems, A>;
 

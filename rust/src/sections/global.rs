@@ -11,16 +11,20 @@ use crate::code::{ConstExpr, Expression};
 /// The global section: the globals that a module defines.
 ///
 /// ```
+/// # fn example() -> Result<(), Box<dyn std::error::Error>> {
 /// # use dolzhytik::{fallible::*, reader::*};
-/// # fn example(alloc: Global) -> Result<(), Box<dyn std::error::Error>> {
-/// # let mut module = Module::new(alloc)?;
-/// let mut globals = GlobalSection::new(alloc);
+/// use dolzhytik::fallible::{
+///     ConstExpr, Global, GlobalSection, GlobalType, Module, ValType,
+/// };
+///
+/// let mut module = Module::new(Global)?;
+/// let mut globals = GlobalSection::new(Global);
 /// let global_type = GlobalType { val_type: ValType::I32, mutable: false, shared: false };
-/// globals.global(global_type, &ConstExpr::i32_const(alloc, 42)?)?;
+/// globals.global(global_type, &ConstExpr::i32_const(Global, 42)?)?;
 /// module.section(&globals)?;
 /// # Ok(())
 /// # }
-/// # example(Global).unwrap();
+/// # example().unwrap();
 /// ```
 pub type GlobalSection<A = Global> = CountedSection<GlobalItems, A>;
 
@@ -232,7 +236,10 @@ impl<'a, A: Allocator + Copy, G: Grammar> Readable<'a, A, G> for GlobalType {
 /// // i64 (7E), mutable (01). i64.const 7, end.
 /// let bytes = [0x7E, 1, 0x42, 7, 0x0B];
 /// let (global, _) = <GlobalItem as Readable<Global, Padded>>::read(&bytes, Global)?;
-/// assert_eq!((global.global_type.val_type, global.global_type.mutable), (ValType::I64, true));
+/// assert_eq!(
+///     (global.global_type.val_type, global.global_type.mutable),
+///     (ValType::I64, true)
+/// );
 /// # Ok::<(), DecodeError>(())
 /// ```
 #[derive(Debug)]

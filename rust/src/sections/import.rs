@@ -13,15 +13,17 @@ use crate::base::{CORE_FUNCTION_EXACT_SORT, CORE_FUNCTION_SORT, CORE_GLOBAL_SORT
 /// The import section: the items that a module imports.
 ///
 /// ```
+/// # fn example() -> Result<(), Box<dyn std::error::Error>> {
 /// # use dolzhytik::{fallible::*, reader::*};
-/// # fn example(alloc: Global) -> Result<(), Box<dyn std::error::Error>> {
-/// # let mut module = Module::new(alloc)?;
-/// let mut imports = ImportSection::new(alloc);
+/// use dolzhytik::fallible::{EntityType, Global, ImportSection, Module};
+///
+/// let mut module = Module::new(Global)?;
+/// let mut imports = ImportSection::new(Global);
 /// imports.import("env", "f", EntityType::Function(0))?;
 /// module.section(&imports)?;
 /// # Ok(())
 /// # }
-/// # example(Global).unwrap();
+/// # example().unwrap();
 /// ```
 pub type ImportSection<A = Global> = CountedSection<ImportItems, A>;
 
@@ -155,7 +157,9 @@ impl Encode for EntityType {
 /// # Examples
 ///
 /// ```
-/// use dolzhytik::fallible::{EntityType, Global, Import, ImportSection, Refused, add_all};
+/// use dolzhytik::fallible::{
+///     EntityType, Global, Import, ImportSection, Refused, add_all,
+/// };
 ///
 /// let import = Import { module: "m", name: "f", ty: EntityType::Function(5) };
 /// let mut imports = ImportSection::new(Global);
@@ -181,11 +185,16 @@ pub struct Import<'a> {
 /// # Examples
 ///
 /// ```
-/// use dolzhytik::fallible::{CowSlice, EntityType, Global, ImportCompact, ImportSection, Imports, Refused};
+/// use dolzhytik::fallible::{
+///     CowSlice, EntityType, Global, ImportCompact, ImportSection, Imports, Refused,
+/// };
 ///
 /// let items = [ImportCompact { name: "f", ty: EntityType::Function(5) }];
 /// let mut imports = ImportSection::new(Global);
-/// imports.imports(Imports::Compact1 { module: "m", items: CowSlice::Borrowed(&items) })?;
+/// imports.imports(Imports::Compact1 {
+///     module: "m",
+///     items: CowSlice::Borrowed(&items),
+/// })?;
 /// // "m", an empty name and 7F, one item: "f", a function (00) of type 5.
 /// assert_eq!(imports.piece(0), Some(&b"\x01m\0\x7F\x01\x01f\0\x05"[..]));
 /// # Ok::<(), Refused>(())
@@ -206,7 +215,9 @@ pub struct ImportCompact<'a> {
 /// # Examples
 ///
 /// ```
-/// use dolzhytik::fallible::{CowSlice, EntityType, Global, ImportSection, Imports, Refused};
+/// use dolzhytik::fallible::{
+///     CowSlice, EntityType, Global, ImportSection, Imports, Refused,
+/// };
 ///
 /// let mut imports = ImportSection::new(Global);
 /// imports.imports(Imports::Compact2 {
@@ -571,7 +582,10 @@ impl<'a, A: Allocator + Copy, G: Grammar> Readable<'a, A, G> for Imports<'a, A> 
 ///
 /// // One import: "m", "f", a function (00) of type 5.
 /// let imports = read_imports::<Global, Padded>(b"\x01\x01m\x01f\0\x05", Global)?;
-/// assert!(matches!(imports[..], [Imports::Single(Import { module: "m", name: "f", .. })]));
+/// assert!(matches!(
+///     imports[..],
+///     [Imports::Single(Import { module: "m", name: "f", .. })]
+/// ));
 /// # Ok::<(), DecodeError>(())
 /// ```
 ///
@@ -636,7 +650,9 @@ fn write_imports<A: Allocator, B: Sink>(
 /// # Examples
 ///
 /// ```
-/// use dolzhytik::fallible::{EntityType, Global, Import, Imports, Refused, append_imports};
+/// use dolzhytik::fallible::{
+///     EntityType, Global, Import, Imports, Refused, append_imports,
+/// };
 ///
 /// let import = Import { module: "m", name: "f", ty: EntityType::Function(5) };
 /// let mut bytes = Vec::new();

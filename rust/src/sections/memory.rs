@@ -10,15 +10,17 @@ use crate::base::{DecodeError, Encode, Grammar, Kind, Layout, Optional, ReadFaul
 /// The memory section: the memories that a module defines.
 ///
 /// ```
+/// # fn example() -> Result<(), Box<dyn std::error::Error>> {
 /// # use dolzhytik::{fallible::*, reader::*};
-/// # fn example(alloc: Global) -> Result<(), Box<dyn std::error::Error>> {
-/// # let mut module = Module::new(alloc)?;
-/// let mut memories = MemorySection::new(alloc);
+/// use dolzhytik::fallible::{Global, MemorySection, MemoryType, Module};
+///
+/// let mut module = Module::new(Global)?;
+/// let mut memories = MemorySection::new(Global);
 /// memories.memory(MemoryType { minimum: 1, maximum: None, memory64: false, shared: false, page_size_log2: None })?;
 /// module.section(&memories)?;
 /// # Ok(())
 /// # }
-/// # example(Global).unwrap();
+/// # example().unwrap();
 /// ```
 pub type MemorySection<A = Global> = CountedSection<MemoryItems, A>;
 

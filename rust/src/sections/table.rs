@@ -12,17 +12,21 @@ use crate::code::{ConstExpr, Expression};
 /// The table section: the tables that a module defines.
 ///
 /// ```
+/// # fn example() -> Result<(), Box<dyn std::error::Error>> {
 /// # use dolzhytik::{fallible::*, reader::*};
-/// # fn example(alloc: Global) -> Result<(), Box<dyn std::error::Error>> {
-/// # let mut module = Module::new(alloc)?;
-/// let mut tables = TableSection::new(alloc);
+/// use dolzhytik::fallible::{
+///     ConstExpr, Global, HeapType, Module, RefType, TableSection, TableType,
+/// };
+///
+/// let mut module = Module::new(Global)?;
+/// let mut tables = TableSection::new(Global);
 /// let table_type = TableType { element_type: RefType::FUNCREF, table64: false, minimum: 128, maximum: None, shared: false };
 /// tables.table(table_type)?;
-/// tables.table_with_init(table_type, &ConstExpr::ref_null(alloc, HeapType::FUNC)?)?;
+/// tables.table_with_init(table_type, &ConstExpr::ref_null(Global, HeapType::FUNC)?)?;
 /// module.section(&tables)?;
 /// # Ok(())
 /// # }
-/// # example(Global).unwrap();
+/// # example().unwrap();
 /// ```
 pub type TableSection<A = Global> = CountedSection<TableItems, A>;
 
@@ -272,8 +276,12 @@ pub(crate) const BEFORE_INIT: [u8; 2] = [0x40, 0x00];
 /// use dolzhytik::reader::{DecodeError, Padded, Readable, TableItem};
 ///
 /// // funcref (70). No maximum: 0. At least 3 elements.
-/// let (table, _) = <TableItem as Readable<Global, Padded>>::read(&[0x70, 0, 3], Global)?;
-/// assert_eq!((table.table_type.element_type, table.table_type.minimum), (RefType::FUNCREF, 3));
+/// let (table, _) =
+///     <TableItem as Readable<Global, Padded>>::read(&[0x70, 0, 3], Global)?;
+/// assert_eq!(
+///     (table.table_type.element_type, table.table_type.minimum),
+///     (RefType::FUNCREF, 3)
+/// );
 /// assert!(table.init.is_none());
 /// # Ok::<(), DecodeError>(())
 /// ```

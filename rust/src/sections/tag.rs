@@ -9,15 +9,17 @@ use crate::base::{DecodeError, Encode, Grammar, Kind, Layout, ReadFault, Readabl
 /// The tag section: the tags that a module defines.
 ///
 /// ```
+/// # fn example() -> Result<(), Box<dyn std::error::Error>> {
 /// # use dolzhytik::{fallible::*, reader::*};
-/// # fn example(alloc: Global) -> Result<(), Box<dyn std::error::Error>> {
-/// # let mut module = Module::new(alloc)?;
-/// let mut tags = TagSection::new(alloc);
+/// use dolzhytik::fallible::{Global, Module, TagKind, TagSection, TagType};
+///
+/// let mut module = Module::new(Global)?;
+/// let mut tags = TagSection::new(Global);
 /// tags.tag(TagType { kind: TagKind::Exception, func_type_idx: 0 })?;
 /// module.section(&tags)?;
 /// # Ok(())
 /// # }
-/// # example(Global).unwrap();
+/// # example().unwrap();
 /// ```
 pub type TagSection<A = Global> = CountedSection<TagItems, A>;
 

@@ -10,15 +10,17 @@ use crate::base::{Counted, DecodeError, Encode, Grammar, Kind, Pieces, Result, S
 /// The type section: the types that a module defines, modelled as the bytes of each entry.
 ///
 /// ```
+/// # fn example() -> Result<(), Box<dyn std::error::Error>> {
 /// # use dolzhytik::{fallible::*, reader::*};
-/// # fn example(alloc: Global) -> Result<(), Box<dyn std::error::Error>> {
-/// # let mut module = Module::new(alloc)?;
-/// let mut types = TypeSection::new(alloc);
+/// use dolzhytik::fallible::{Global, Module, TypeSection, ValType};
+///
+/// let mut module = Module::new(Global)?;
+/// let mut types = TypeSection::new(Global);
 /// types.ty().function([ValType::I32, ValType::I32], [ValType::I32])?;
 /// module.section(&types)?;
 /// # Ok(())
 /// # }
-/// # example(Global).unwrap();
+/// # example().unwrap();
 /// ```
 ///
 /// # Errors

@@ -66,7 +66,9 @@ pub struct FuncType<A: Allocator = Global> {
 /// # Examples
 ///
 /// ```
-/// use dolzhytik::fallible::{Encode, FieldType, Global, Refused, StorageType, StructType, Vec};
+/// use dolzhytik::fallible::{
+///     Encode, FieldType, Global, Refused, StorageType, StructType, Vec,
+/// };
 ///
 /// let field = FieldType { element_type: StorageType::I16, mutable: false };
 /// let ty = StructType { fields: Vec::from_slice(Global, &[field])? };
@@ -89,7 +91,9 @@ pub struct StructType<A: Allocator = Global> {
 /// # Examples
 ///
 /// ```
-/// use dolzhytik::fallible::{ArrayType, CompositeInnerType, Encode, FieldType, Refused, StorageType};
+/// use dolzhytik::fallible::{
+///     ArrayType, CompositeInnerType, Encode, FieldType, Refused, StorageType,
+/// };
 ///
 /// let field = FieldType { element_type: StorageType::I8, mutable: true };
 /// let ty: CompositeInnerType = CompositeInnerType::Array(ArrayType(field));
@@ -118,7 +122,9 @@ pub enum CompositeInnerType<A: Allocator = Global> {
 /// # Examples
 ///
 /// ```
-/// use dolzhytik::fallible::{CompositeInnerType, CompositeType, Encode, FuncType, Global, Refused};
+/// use dolzhytik::fallible::{
+///     CompositeInnerType, CompositeType, Encode, FuncType, Global, Refused,
+/// };
 ///
 /// let inner = CompositeInnerType::Func(FuncType::new(Global, [], [])?);
 /// let ty = CompositeType { inner, shared: false, descriptor: None, describes: None };
@@ -148,10 +154,14 @@ pub struct CompositeType<A: Allocator = Global> {
 /// # Examples
 ///
 /// ```
-/// use dolzhytik::fallible::{CompositeInnerType, CompositeType, FuncType, Global, Refused, SubType, TypeSection};
+/// use dolzhytik::fallible::{
+///     CompositeInnerType, CompositeType, FuncType, Global, Refused, SubType,
+///     TypeSection,
+/// };
 ///
 /// let inner = CompositeInnerType::Func(FuncType::new(Global, [], [])?);
-/// let composite_type = CompositeType { inner, shared: false, descriptor: None, describes: None };
+/// let composite_type =
+///     CompositeType { inner, shared: false, descriptor: None, describes: None };
 /// let ty = SubType { is_final: false, supertype_idx: Some(5), composite_type };
 /// let mut types = TypeSection::new(Global);
 /// types.ty().subtype(&ty)?;
