@@ -18,8 +18,6 @@ use core::fmt;
 /// assert_eq!(error.cause, ReadFault::Ended);
 /// assert_eq!(error.to_string(), "unexpected end of input at offset 0x4");
 /// ```
-#[doc(alias = "error")]
-#[doc(alias = "malformed")]
 #[derive(Clone, Copy, PartialEq, Eq, Debug)]
 pub enum ReadFault {
     /// The bytes end before the value does.

@@ -474,10 +474,6 @@ pub struct Groups {
 /// ```
 ///
 /// Definitions: [`HasGroups`](crate::definitions::base::groups::HasGroups), [`Rejects`](crate::definitions::base::decoding::Rejects), [`groups`](crate::definitions::base::groups::groups), [`padded`](crate::definitions::base::numbers::Mode). [How to read clauses](crate::definitions).
-#[doc(alias = "leb128")]
-#[doc(alias = "varint")]
-#[doc(alias = "parse")]
-
 pub fn read_groups(bytes: &[u8], limit: u8) -> Result<(Groups, &[u8]), DecodeError> {
     if limit == 0 {
         return Err(ReadFault::TooLarge.just_before(bytes));

@@ -112,6 +112,7 @@ impl<A: Allocator> Module<A> {
     /// ```
     ///
     /// [How to read clauses](crate::definitions).
+    #[doc(alias = "bytes")]
     pub fn finish(self) -> Vec<u8, A> {
         self.bytes
     }

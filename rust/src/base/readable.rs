@@ -64,9 +64,6 @@ pub trait Layout {
 /// assert_eq!((ty, number, rest.len()), (ValType::I32, 300, 0));
 /// # Ok::<(), DecodeError>(())
 /// ```
-#[doc(alias = "parse")]
-#[doc(alias = "decode")]
-#[doc(alias = "leb128")]
 pub trait Readable<'a, A: Allocator + Copy, G: Grammar>: Layout + Sized {
     /// Decodes the value at the front, in the grammar `G`, and returns it with the remaining bytes.
     ///

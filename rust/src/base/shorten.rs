@@ -20,8 +20,6 @@ use crate::base::refused::Result;
 /// assert_eq!(minimal, [5]);
 /// # Ok::<(), DecodeError>(())
 /// ```
-#[doc(alias = "minimize")]
-#[doc(alias = "shrink")]
 pub trait Shorten: Layout {
     /// Writes the minimal encoding of the value after the old bytes. An impl defines it, and
     /// callers use [`append_minimal`](Shorten::append_minimal): after an error of this method,

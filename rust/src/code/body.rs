@@ -43,8 +43,6 @@ const BYTES_OF_ONE: usize = 4;
 /// ```
 ///
 /// Definitions: [`members`](crate::definitions::base::formats::members), [`instruction`](crate::definitions::insn::plain::instruction), [`table`](crate::definitions::insn::table::table), [`padded_of`](crate::definitions::base::numbers::padded_of), [`plain_view`](crate::definitions::insn::views::plain_view), [`RejectsWhole`](crate::definitions::base::continuing::RejectsWhole). [How to read clauses](crate::definitions).
-#[doc(alias = "parse")]
-#[doc(alias = "disassemble")]
 pub fn read_code<'a, A: Allocator + Copy, G: Grammar>(
     bytes: &'a [u8],
     alloc: A,
@@ -141,9 +139,6 @@ pub struct Body<A: Allocator = Global> {
 /// ```
 ///
 /// Definitions: [`body`](crate::definitions::code::bodies::body), [`padded_of`](crate::definitions::base::numbers::padded_of), [`body_view`](crate::definitions::code::body_views::body_view), [`RejectsWhole`](crate::definitions::base::continuing::RejectsWhole). [How to read clauses](crate::definitions).
-#[doc(alias = "parse")]
-#[doc(alias = "disassemble")]
-
 pub fn read_body<'a, A: Allocator + Copy, G: Grammar>(
     bytes: &'a [u8],
     alloc: A,
@@ -223,11 +218,6 @@ fn write_body<A: Allocator + Copy, B: Sink>(
 /// bytes are those of the body without its size prefix. The call visits the instructions, and keeps
 /// one at a time. On an error, the sink is unchanged.
 ///
-/// ```text
-/// shorten_body(&[0x80, 0x00, 0x20, 0x81, 0x00, 0x0B], alloc, &mut out)?;
-/// // 04 00 20 01 0B was appended: a body of no locals, `LocalGet(1)` and `End`
-/// ```
-///
 /// # Errors
 ///
 /// Any error but `Memory` means that the bytes as a whole encode no body.
@@ -260,7 +250,6 @@ fn write_body<A: Allocator + Copy, B: Sink>(
 /// ```
 ///
 /// Definitions: [`BodyModel`](crate::definitions::code::bodies::Body), [`body`](crate::definitions::code::bodies::body), [`padded`](crate::definitions::base::numbers::Mode), [`AppendsMinimal`](crate::definitions::base::minimal::AppendsMinimal), [`size_prefixed`](crate::definitions::base::formats::size_prefixed), [`RejectsWhole`](crate::definitions::base::continuing::RejectsWhole). [How to read clauses](crate::definitions).
-#[doc(alias = "minimize")]
 pub fn shorten_body<A: Allocator + Copy, B: Sink>(
     bytes: &[u8],
     alloc: A,

@@ -28,7 +28,6 @@ use crate::base::{Counted, Encode, Pieces, Result, Section, SectionId, encode_si
 /// An adding call that returns an error leaves the section unchanged. The error is `TooLong` only
 /// if the section is full or the body is longer than 4294967295 bytes, and `Memory` only if an
 /// allocation fails.
-#[doc(alias = "bodies")]
 #[derive(Debug)]
 pub struct CodeSection<A: Allocator = Global> {
     pieces: Pieces<A>,

@@ -35,8 +35,6 @@ use crate::insn::{Ieee32, Ieee64, Instruction, InstructionSink};
 /// assert_eq!(bytes, [0x41, 0xC0, 0x00, 0x41, 0x01, 0x6A, 0x0B]);
 /// # Ok::<(), Refused>(())
 /// ```
-#[doc(alias = "initializer")]
-#[doc(alias = "constant expression")]
 #[derive(Debug)]
 pub struct ConstExpr<A: Allocator = Global> {
     first: Option<First>,

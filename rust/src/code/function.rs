@@ -29,9 +29,6 @@ use crate::insn::{Buffer, Instruction, InstructionSink};
 ///
 /// A call that returns an error leaves the body unchanged. The error is `TooLong` only if a count
 /// or length is not representable, and `Memory` only if an allocation fails.
-#[doc(alias = "body")]
-#[doc(alias = "func")]
-#[doc(alias = "locals")]
 #[derive(Debug)]
 pub struct Function<A: Allocator = Global> {
     bytes: Vec<u8, A>,

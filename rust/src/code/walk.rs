@@ -12,13 +12,6 @@ use crate::insn::{Arg, Op, read_instruction_into};
 /// one instruction, in memory that it reuses: lists in arguments apart, it allocates nothing after
 /// the first instruction that has arguments.
 ///
-/// ```text
-/// let (_runs, mut instructions) = Instructions::of_body(bytes, alloc)?;
-/// while let Some(step) = instructions.next()? {
-///     // step.op begins at step.offset, and instructions.args() are its arguments
-/// }
-/// ```
-///
 /// # Errors
 ///
 /// Any error but `Memory` means that the bytes at the offset encode no instruction, and for
@@ -42,9 +35,6 @@ use crate::insn::{Arg, Op, read_instruction_into};
 /// );
 /// # Ok::<(), DecodeError>(())
 /// ```
-#[doc(alias = "disassemble")]
-#[doc(alias = "opcode")]
-#[doc(alias = "operators")]
 #[derive(Debug)]
 pub struct Instructions<'a, A: Allocator = Global, G: Grammar = Padded> {
     bytes: &'a [u8],

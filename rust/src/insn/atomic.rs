@@ -23,7 +23,6 @@ use crate::immediates::{MemArg, Ordering};
 /// assert_eq!(bytes, [0xFE, 3, 0]);
 /// # Ok::<(), Refused>(())
 /// ```
-#[doc(alias = "threads")]
 #[derive(Clone, Copy, Debug)]
 pub enum Atomic {
     /// `memory.atomic.notify` (opcode 0xFE 0), an atomic instruction of the threads proposal that wakes threads that wait at an address.

@@ -166,9 +166,6 @@ impl<A: Sink> Buffer for A {
 /// assert_eq!(bytes, [0x20, 0x00, 0x41, 0xC0, 0x00, 0x6A, 0x0B]);
 /// # Ok::<(), Refused>(())
 /// ```
-#[doc(alias = "assembler")]
-#[doc(alias = "emit")]
-
 pub struct InstructionSink<'a, B: Buffer> {
     sink: &'a mut B,
 }

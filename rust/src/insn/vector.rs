@@ -20,7 +20,6 @@ use crate::insn::op::Op;
 /// assert_eq!(bytes, [0xFD, 0x80, 0x01]);
 /// # Ok::<(), Refused>(())
 /// ```
-#[doc(alias = "simd")]
 #[derive(Clone, Copy, Debug)]
 pub enum Vector {
     /// `i8x16.swizzle` (opcode 0xFD 14), a vector instruction that selects lanes of a vector by those of another.

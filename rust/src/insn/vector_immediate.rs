@@ -35,7 +35,6 @@ pub(crate) fn vector_bytes(value: i128) -> [u8; 16] {
 /// assert_eq!(bytes, [0xFD, 27, 3]);
 /// # Ok::<(), Refused>(())
 /// ```
-#[doc(alias = "simd")]
 #[derive(Clone, Copy, Debug)]
 pub enum VectorImmediate {
     /// `v128.load` (opcode 0xFD 0), a vector instruction that loads a vector from a memory.

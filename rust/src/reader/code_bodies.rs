@@ -12,16 +12,6 @@ use crate::code::Instructions;
 /// The bodies of a code section, one after another. It allocates nothing, and does not compare their
 /// number with that of the functions.
 ///
-/// ```text
-/// for body in section.bodies()? {
-///     let body = body?;
-///     let (locals, mut instructions) = body.instructions()?;
-///     while let Some(step) = instructions.next().map_err(|error| body.locate(error))? {
-///         // step.op, instructions.args()
-///     }
-/// }
-/// ```
-///
 /// # Errors
 ///
 /// An error but `Memory` means that no size-prefixed body is next, or that bytes remain after the

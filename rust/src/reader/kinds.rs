@@ -409,12 +409,6 @@ fn append_custom<B: Sink>(name: &str, bytes: &[u8], sink: &mut B) -> Result<()> 
 /// Items that no bytes encode have no promise: an instruction whose arguments are not those of its
 /// opcode, say.
 ///
-/// ```text
-/// let mut payload = Vec::new(alloc);
-/// encode_items(&Items::Functions(indices), &mut payload)?;
-/// module.section(&RawSection { id: 3, bytes: &payload })?;
-/// ```
-///
 /// # Errors
 ///
 /// Returns `TooLong` if a count or a length is above 4294967295, and `Memory` if an allocation

@@ -113,12 +113,6 @@ fn shorten_sized<A: Allocator + Copy, B: Sink>(
 /// In a code section that becomes shorter, instructions move. Offsets into it that are kept
 /// elsewhere are then wrong: relocations, debugging information, branch hints and source maps.
 ///
-/// ```text
-/// let padded = [0x86, 0x00, 0x01, 0x85, 0x80, 0x80, 0x80, 0x00];
-/// let taken = shorten(SectionKind::Functions, &padded, &mut sink)?;
-/// // 02 01 05 was appended, and 8 bytes were taken
-/// ```
-///
 /// # Errors
 ///
 /// Any error but `Memory` means that the bytes do not begin with such a section.
@@ -150,9 +144,6 @@ fn shorten_sized<A: Allocator + Copy, B: Sink>(
 /// ```
 ///
 /// Definitions: [`Shortens`](crate::definitions::reader::sections::Shortens), [`Rejects`](crate::definitions::base::decoding::Rejects), [`section`](crate::definitions::reader::sections::section), [`padded`](crate::definitions::base::numbers::Mode). [How to read clauses](crate::definitions).
-#[doc(alias = "minimize")]
-#[doc(alias = "leb128")]
-#[doc(alias = "wasm-opt")]
 pub fn shorten<A: Allocator + Copy>(
     kind: SectionKind,
     bytes: &[u8],

@@ -123,8 +123,6 @@ fn line_of<'a, A: Allocator + Copy>(section: &Section<'a, A>) -> Result<Outlined
 /// ```
 ///
 /// Definitions: [`HasOutline`](crate::definitions::reader::outlines::HasOutline), [`EndsAt`](crate::definitions::reader::outlines::EndsAt), [`RejectsWhole`](crate::definitions::base::continuing::RejectsWhole), [`wasm_module`](crate::definitions::base::formats::wasm_module), [`padded`](crate::definitions::base::numbers::Mode). [How to read clauses](crate::definitions).
-#[doc(alias = "inspect")]
-#[doc(alias = "objdump")]
 pub fn outline<'a, A: Allocator + Copy>(
     alloc: A,
     bytes: &'a [u8],

@@ -4,12 +4,6 @@
 use crate::base::{DecodeError, ReadFault};
 
 /// The cause of a failed decoding, and its offset in the module.
-///
-/// ```text
-/// // unexpected end of input at offset 0x1a3
-/// println!("{error}");
-/// ```
-///
 /// # Examples
 ///
 /// ```

@@ -8,11 +8,6 @@ use crate::base::{Padded, ReadFault, Readable};
 /// Decodes the section at the front, and returns its items and its length in bytes. The bytes begin
 /// with the section's size prefix, after its id.
 ///
-/// ```text
-/// let (items, taken) = read_section(alloc, SectionKind::Functions, &[0x02, 0x01, 0x05, 0x99])?;
-/// // items are the one index 5, and 3 bytes were taken
-/// ```
-///
 /// # Errors
 ///
 /// Any error but `Memory` means that the bytes do not begin with such a section.
@@ -43,9 +38,6 @@ use crate::base::{Padded, ReadFault, Readable};
 /// ```
 ///
 /// Definitions: [`Takes`](crate::definitions::reader::sections::Takes), [`contents_of`](crate::definitions::reader::kinds::contents_of), [`Rejects`](crate::definitions::base::decoding::Rejects), [`section`](crate::definitions::reader::sections::section), [`padded`](crate::definitions::base::numbers::Mode). [How to read clauses](crate::definitions).
-#[doc(alias = "parse")]
-#[doc(alias = "decode")]
-
 pub fn read_section<'a, A: Allocator + Copy + 'a>(
     alloc: A,
     kind: SectionKind,

@@ -29,13 +29,6 @@ fn common_length(bytes: &[u8], other: &[u8]) -> usize {
 
 /// The sections of a module, one after another. It allocates nothing.
 ///
-/// ```text
-/// for section in Sections::new(alloc, module)? {
-///     let section = section?;
-///     // section.id(), section.name(), section.range(), section.items()?
-/// }
-/// ```
-///
 /// It splits a module, and does not validate it: sections may have any ids, in any order and number.
 /// What is decoded of a section is in memory of the allocator.
 ///
@@ -61,9 +54,6 @@ fn common_length(bytes: &[u8], other: &[u8]) -> usize {
 /// assert_eq!(found, [(3, None, 10..12), (0, Some("a"), 14..16)]);
 /// # Ok::<(), ReadError>(())
 /// ```
-#[doc(alias = "parse")]
-#[doc(alias = "wasmparser")]
-#[doc(alias = "iterate")]
 #[derive(Clone, Debug)]
 pub struct Sections<'a, A: Allocator = Global> {
     alloc: A,

@@ -36,9 +36,6 @@ use crate::base::ReadFault;
 /// assert_eq!(minimal[8..], [10, 4, 1, 2, 0x00, 0x0B]);
 /// # Ok::<(), ModuleFault>(())
 /// ```
-#[doc(alias = "relocations")]
-#[doc(alias = "source map")]
-#[doc(alias = "dwarf")]
 #[derive(Clone, Copy, PartialEq, Eq, Debug)]
 pub enum Offsets {
     /// Returns an error for a module whose offsets might become wrong. With any of these sections,
@@ -693,10 +690,6 @@ fn append_module<A: Allocator + Copy, B: Sink>(
 /// is an error ([`Offsets::Refuse`]), or these sections are left out. A minimized module can always
 /// be minimized again, unless an allocation fails. Decoded items are in memory of the allocator.
 ///
-/// ```text
-/// let kept = shorten_module(alloc, bytes, Offsets::Refuse, &mut sink)?;
-/// ```
-///
 /// # Errors
 ///
 /// Returns the number of the section that failed, and the cause: see [`ModuleFault`].
@@ -727,9 +720,6 @@ fn append_module<A: Allocator + Copy, B: Sink>(
 /// ```
 ///
 /// Definitions: [`ShortensModule`](crate::definitions::reader::shortening::ShortensModule), [`Explains`](crate::definitions::reader::shortening::Explains). [How to read clauses](crate::definitions).
-#[doc(alias = "minimize")]
-#[doc(alias = "leb128")]
-#[doc(alias = "wasm-opt")]
 pub fn shorten_module<A: Allocator + Copy, B: Sink>(
     alloc: A,
     bytes: &[u8],

@@ -27,8 +27,6 @@ use crate::base::{Counted, DecodeError, Encode, Grammar, Kind, Pieces, Result, S
 ///
 /// An adding call that returns an error leaves the section unchanged. The error is `TooLong` only
 /// if the section is full or a list is too long, and `Memory` only if an allocation fails.
-#[doc(alias = "signature")]
-#[doc(alias = "rectype")]
 #[derive(Debug)]
 pub struct TypeSection<A: Allocator = Global> {
     pieces: Pieces<A>,

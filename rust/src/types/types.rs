@@ -52,7 +52,6 @@ pub struct ContType(pub u32);
 /// assert_eq!(types.piece(0), Some(&[0x60, 2, 0x7F, 0x7E, 1, 0x7D][..]));
 /// # Ok::<(), Refused>(())
 /// ```
-#[doc(alias = "signature")]
 #[derive(Debug)]
 pub struct FuncType<A: Allocator = Global> {
     params: Vec<ValType, A>,

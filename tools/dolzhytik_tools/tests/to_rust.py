@@ -43,7 +43,7 @@ FORMS = {
     'pair': [(r'push_reserved \(', r'push_both_reserved \( \['), (r'\) ; \w+ \. push_reserved \(', ','), (r'\)', r'\] \)')],
     'place': [(re.escape(' '.join(solid_words(it.old))), re.escape(' '.join(solid_words(it.new)))) for it in PLACES],
     'use': [(r'use [^;]* ;', r'(?:use [^;]* ; ?)*')],
-    'export': [(r'pub use [^;]* ;', r'(?:pub (?:\( crate \) )?use [^;]* ; ?)+')],
+    'export': [(r'pub use [^;]* ;', r'(?:(?:# \[ doc \( alias = "[^"]*" \) \] )*pub (?:\( crate \) )?use [^;]* ; ?)+')],
     'path': [('crate', r'(?:in )?crate(?: : : \w+)+'), (r'wasm_\w+(?: : : laws)?|hex', r'(?:crate|dolzhytik)(?: : : \w+)+'), ('test_support|examples', r'crate : : \w+')],
     'link': [('', '')],
     'moved': [('', '')],

@@ -176,7 +176,9 @@ def add(source: Source, item: Item, text: Text) -> None:
     """Adds a text to an item."""
     if text.lines:
         source.note(item.start, 'Text', '\n'.join(text.lines))
-    if text.aliases:
+    if '```' in text.lines:
+        drop_sketch(source, item)
+    if text.aliases and '::' in item.name:
         indent = re.search(r'[^\n]*$', source.tokens[item.start - 1])[0] if item.start else ''
         source.edit(item.start, item.start, ''.join(f'#[doc(alias = "{it}")]\n{indent}' for it in text.aliases), 'alias')
     if text.members:
@@ -187,6 +189,16 @@ def add(source: Source, item: Item, text: Text) -> None:
             if source.with_docs(found[name]) != found[name]:
                 raise Stop(f'{text.where}: {name} has a doc comment already')
             source.note(found[name], 'Text', said)
+
+
+def drop_sketch(source: Source, item: Item) -> None:
+    """Erases code that is not run from the doc comment of an item whose text has an example."""
+    docs = [at for at in range(source.with_docs(item.start), item.start) if source.tokens[at].startswith('///')]
+    fences = [i for i, at in enumerate(docs) if source.tokens[at].startswith('/// ```')]
+    for first, last in zip(fences[::2], fences[1::2]):
+        if source.tokens[docs[first]] == '/// ```text':
+            before = first - 1 if first and source.tokens[docs[first - 1]] == '///' else first
+            source.edit(docs[before], docs[last] + 1, '', 'moved')
 
 
 def move(source: Source, item: Item) -> None:
