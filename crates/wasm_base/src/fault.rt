@@ -15,7 +15,7 @@ pub enum ReadFault {
     /// The bytes end before the value does.
     #[error("Ended")]
     Ended,
-    /// A number is padded. No call returns it, since padded numbers are accepted.
+    /// A number is padded. No call returns it, since padded LEB128 are accepted.
     #[error("NotShortest")]
     NotShortest,
     /// A number is out of the range of its type, or has more bytes than the type's limit.
@@ -38,13 +38,13 @@ pub enum ReadFault {
     Memory,
 }
 
-/// The cause of a failed decoding, and its place.
+/// The cause of a failed decoding, and its position in the input.
 ///
 /// Both are in one number of 64 bits, so that a result with a slice has two words, and the slice's
 /// address is moved as a whole.
 #[derive(Clone, Copy, PartialEq, Eq)]
 pub struct DecodeError {
-    /// The place times 256, and the number of the cause.
+    /// The position times 256, and the number of the cause.
     word: u64,
 }
 
@@ -89,7 +89,7 @@ impl ReadFault {
 }
 
 impl DecodeError {
-    /// Returns the error with this cause and this place.
+    /// Returns the error with this cause and this position.
     #[tactic(auto, using(crate::proofs::FaultWords::failure_again, crate::proofs::FaultWords::is_word))]
     fn new(cause: ReadFault, left: u32) -> DecodeError
         ensures { result ≡ record { cause = cause; left = left } }
@@ -116,9 +116,10 @@ impl DecodeError {
         }
     }
 
-    /// Returns the place: the number of bytes from the first one that cannot be part of an encoding
-    /// to the end of the input, or from the end of a payload that ends too soon; 4294967295 if
-    /// there are more. It means nothing for `Memory`. Tests show it; no contract says it.
+    /// Returns the position: the number of bytes from the first one that cannot be part of an
+    /// encoding to the end of the input, or from the end of a payload that ends too soon;
+    /// 4294967295 if there are more. It means nothing for `Memory`. Tests show it; no contract says
+    /// it.
     pub fn left(self) -> u32
         ensures { result ≡ self.left }
     {
@@ -140,7 +141,7 @@ impl fmt::Debug for DecodeError {
     }
 }
 
-/// Returns the error of a failed allocation, which has no place.
+/// Returns the error of a failed allocation, which has no position.
 fn no_memory() -> DecodeError
     ensures { result.cause ≡ Memory }
 {

@@ -13,7 +13,7 @@ pub trait Grammar {
         ensures { result ≡ is_admitted grammar };
 }
 
-/// The encodings that builders write, with padded numbers too.
+/// The encodings that builders write, with padded LEB128 too.
 #[derive(Clone, Copy, PartialEq, Eq, Debug)]
 pub struct Padded;
 

@@ -2,7 +2,7 @@
 //! its clauses are the law.
 //!
 //! `Unambiguous F` says that the format `F` is unambiguous: at most one value decodes from the
-//! front of any bytes, with minimal and with padded numbers. A value has at most one minimal
+//! front of any bytes, with minimal and with padded LEB128. A value has at most one minimal
 //! encoding. `HasMinimalEncodings F encodable encoding` says that `encoding` is the minimal
 //! encoding of each value that fits. No clause ranges over all formats, so each vector and each
 //! size-prefixed format has a clause of its own.
@@ -88,7 +88,7 @@ pub fn payloads()
     ensures custom { DecodesPayloads (pair name any_bytes) }
 {}
 
-/// The same with padded numbers.
+/// The same with padded LEB128.
 #[tactic(auto, using(crate::proofs::Payloads::padded_payloads))]
 pub fn padded_payloads()
     ensures bytes { DecodesPayloadsPadded any_bytes }
@@ -127,7 +127,7 @@ pub fn constants()
     ensures host_reference { EXTERNREF ≡ record { nullable = true; heap_type = Abstract false Extern } }
 {}
 
-/// With padded numbers, as the standard allows them, the formats are unambiguous too. A minimal
+/// With padded LEB128, as the standard allows them, the formats are unambiguous too. A minimal
 /// encoding is also an encoding in this mode.
 #[tactic(auto, using(crate::proofs::BaseLaws::padded_laws, crate::proofs::ValTypeLaws::padded_types))]
 pub fn padded()

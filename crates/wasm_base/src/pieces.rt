@@ -14,7 +14,7 @@ use crate::refused::{Refused, Result};
 use std::alloc::{Allocator, Global};
 use std::marker::Model;
 
-/// The encoded entries of a builder, modelled as the list of their bytes.
+/// The encoded entries of a builder. In contracts it is the list of the bytes of each entry.
 ///
 /// One buffer holds the entries one after another, and a second vector holds the end offset of
 /// each.

@@ -13,8 +13,10 @@ use std::alloc::{Allocator, Global};
 use std::marker::Model;
 use wasm_base::{Counted, Encode, Pieces, Result, Section, SectionId, encode_size_prefixed};
 
-/// The code section: the bodies of a module's functions, modelled as the bytes of each entry. An
-/// entry is a raw body with its size prefix.
+/// The code section: the bodies of a module's functions.
+///
+/// An entry is a raw body with its size prefix. In contracts the section is the list of the bytes
+/// of each entry.
 ///
 /// ```rust
 /// let mut code = CodeSection::new(alloc);

@@ -13,8 +13,8 @@ use std::marker::Model;
 use wasm_base::{Encode, HeapType, Optional, Result, read_groups};
 use wasm_insn::{Ieee32, Ieee64, Instruction, InstructionSink, Numeric, VectorImmediate};
 
-/// A constant expression, modelled as its stored bytes: the instructions without the `End` that
-/// follows them in the encoding.
+/// A constant expression: instructions, without the `End` that follows them in the encoding. In
+/// contracts it is their bytes.
 ///
 /// A single instruction of `global_get`, `ref_null`, `ref_func`, `i32_const`, `i64_const`,
 /// `f32_const` or `f64_const` is kept as a value, without an allocation, as tests show. All others

@@ -14,7 +14,9 @@ use std::marker::Model;
 use wasm_base::{Encode, Refused, Result, ValType, encode_size_prefixed, encode_vec};
 use wasm_insn::{Buffer, Instruction, InstructionSink};
 
-/// A function, modelled as its raw body: the runs of its locals, and its instructions.
+/// A function body: the runs of its locals, and its instructions.
+///
+/// In contracts it is the raw body, which has no size prefix.
 ///
 /// ```rust
 /// let mut function = Function::new(alloc, [(1, ValType::I32)])?;

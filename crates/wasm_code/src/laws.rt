@@ -2,7 +2,7 @@
 //! nothing, and its clauses are the law.
 //!
 //! `Unambiguous F` says that the format `F` is unambiguous: at most one value decodes from the
-//! front of any bytes, with minimal and with padded numbers. A value has at most one minimal
+//! front of any bytes, with minimal and with padded LEB128. A value has at most one minimal
 //! encoding. `UnambiguousWhole F` says the same of a format that occupies all of the bytes.
 //! `HasMinimalEncodings F encodable encoding` says that `encoding` is the minimal encoding of each
 //! value that fits.
@@ -58,7 +58,7 @@ pub fn payloads()
     ensures code_section { DecodesPayloads (vec (size_prefixed body)) }
 {}
 
-/// The same with padded numbers.
+/// The same with padded LEB128.
 #[tactic(auto, using(wasm_base::proofs::Payloads::padded_payloads))]
 pub fn padded_payloads()
     ensures raw_code { DecodesPayloadsPadded (vec (size_prefixed any_bytes)) }
@@ -74,7 +74,7 @@ pub fn calls<A: Allocator>()
     ensures labels { GrowsByLabels }
 {}
 
-/// The same with padded numbers: the content of a code section, a body and a constant expression,
+/// The same with padded LEB128: the content of a code section, a body and a constant expression,
 /// call by call.
 #[tactic(auto, using(crate::proofs::Calls::padded_calls))]
 pub fn padded_calls<A: Allocator>()
@@ -84,7 +84,7 @@ pub fn padded_calls<A: Allocator>()
     ensures expression { StoresMorePadded }
 {}
 
-/// With padded numbers the formats are unambiguous too.
+/// With padded LEB128 the formats are unambiguous too.
 #[tactic(auto, using(crate::proofs::CodeLaws::padded_laws))]
 pub fn padded()
     ensures expression { UnambiguousPadded expression }
@@ -102,7 +102,7 @@ pub fn locals()
 {}
 
 /// With minimal numbers, these two byte sequences encode no code section: in one a memory argument
-/// is truncated, in the other a count of runs is padded. With padded numbers the second is a code
+/// is truncated, in the other a count of runs is padded. With padded LEB128 the second is a code
 /// section.
 #[tactic(auto, using(crate::proofs::RejectionLaws::nothing))]
 pub fn rejections()

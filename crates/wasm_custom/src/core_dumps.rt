@@ -28,8 +28,8 @@ use wasm_base::{
     vec_of,
 };
 
-/// The `core` section of a dumped process, modelled as its data: the byte 00, and the name of the
-/// process.
+/// The `core` section of a dumped process: the byte 00, and the name of the process. In contracts
+/// it is these bytes.
 ///
 /// ```rust
 /// module.section(&CoreDumpSection::new(alloc, "a.wasm")?)?;

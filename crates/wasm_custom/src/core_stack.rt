@@ -29,8 +29,8 @@ use wasm_base::{
     SectionId, Shorten, read_whole, vec_of,
 };
 
-/// The `corestack` section of a thread, modelled as the bytes before its stack frames and the bytes
-/// of each frame. The former are the byte 00 and the name of the thread.
+/// The `corestack` section of a thread: its name and its stack frames. In contracts it is the bytes
+/// before the frames, which are the byte 00 and the name, and the bytes of each frame.
 ///
 /// ```rust
 /// let mut stack = CoreDumpStackSection::new(alloc, "main")?;

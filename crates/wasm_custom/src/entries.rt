@@ -50,7 +50,8 @@ pub trait CustomKind: Kind {
         ensures { CustomLayoutLaws Self.kind.format name front front_format counted };
 }
 
-/// A custom section of entries of the kind `K`, modelled as the bytes of each entry.
+/// A custom section of entries of the kind `K`. In contracts it is the list of the bytes of each
+/// entry.
 ///
 /// # Errors
 ///

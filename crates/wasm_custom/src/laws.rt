@@ -62,7 +62,7 @@ pub fn sections()
     ensures layout_laws { ItemLaws frame_items }
 {}
 
-/// With padded numbers the formats of sections are unambiguous too. A minimal encoding is also an
+/// With padded LEB128 the formats of sections are unambiguous too. A minimal encoding is also an
 /// encoding in this mode.
 pub fn padded()
     ensures names { UnambiguousPadded (size_prefixed name_payload) }
@@ -108,7 +108,7 @@ pub fn calls()
     ensures producer_fields_encoding { IsVectorOf producer_encoding IsProducer }
 {}
 
-/// The same with padded numbers, for the sections of entries: an entry may be a padded encoding of
+/// The same with padded LEB128, for the sections of entries: an entry may be a padded encoding of
 /// its item.
 #[tactic(auto, using(crate::proofs::Calls::sections, wasm_base::proofs::SectionLaws::held_padded))]
 pub fn padded_calls()
@@ -137,7 +137,7 @@ pub fn payloads()
     ensures customs { DecodesPayloads (pair name any_bytes) }
 {}
 
-/// The same with padded numbers.
+/// The same with padded LEB128.
 #[tactic(auto, using(wasm_base::proofs::Payloads::padded_payloads))]
 pub fn padded_payloads()
     ensures names { DecodesPayloadsPadded name_payload }
@@ -164,7 +164,7 @@ pub fn object_linking()
     ensures built { IsIncludedIn (linking_payload padded_mode) (object_payload padded_mode) }
 {}
 
-/// These two byte sequences encode no section, with padded numbers neither. In that of branch
+/// These two byte sequences encode no section, with padded LEB128 neither. In that of branch
 /// hints, a value has two bytes. In that of links, a defined function has no name.
 #[tactic(auto, using(crate::proofs::RejectionLaws::nothing))]
 pub fn rejections()

@@ -29,7 +29,8 @@ pub trait ListKind {
         ensures { result ≡ subsection };
 }
 
-/// A list of counted members of the kind `K`, modelled as the bytes of each entry.
+/// A list of counted members of the kind `K`. In contracts it is the list of the bytes of each
+/// entry.
 ///
 /// # Errors
 ///

@@ -2,7 +2,7 @@
 //! its clauses are the law.
 //!
 //! `Unambiguous F` says that the format `F` is unambiguous: at most one value decodes from the
-//! front of any bytes, with minimal and with padded numbers. A value has at most one minimal
+//! front of any bytes, with minimal and with padded LEB128. A value has at most one minimal
 //! encoding. `HasMinimalEncodings F encodable encoding` says that `encoding` is the minimal
 //! encoding of each value that fits.
 ghost use Rattle.std.specs.Prelude.{ℕ, ◌+◌, ◌<◌, List, ◌∷◌, ⊤};
@@ -43,7 +43,7 @@ pub fn standard()
     ensures { (align : ℕ) (bytes : List ℕ) (offset : ℕ) → align < 16 → u64 standard bytes offset → mem_arg standard ((0x40 + align) ∷ 0x00 ∷ bytes) (memory_0 align offset) }
 {}
 
-/// With padded numbers the formats are unambiguous too.
+/// With padded LEB128 the formats are unambiguous too.
 #[tactic(auto, using(crate::proofs::ImmediateEncodings::padded_immediates))]
 pub fn padded()
     ensures memory { UnambiguousPadded mem_arg }

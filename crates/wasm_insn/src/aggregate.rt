@@ -17,7 +17,7 @@ pub enum Aggregate {
 }
 
 impl Aggregate {
-    /// The op of the table.
+    /// Returns the opcode.
     pub fn op(self) -> Op
         ensures { result ≡ Op.Prefixed 0xFB (aggregate_number self) }
     {

@@ -230,7 +230,7 @@ pub enum Instruction<'a, A: Allocator = Global> {
     TableSize(u32),
     TableFill(u32),
     MemoryDiscard(u32),
-    /// Numeric instructions, the ops 45 to C4.
+    /// Numeric instructions: the opcodes 45 to C4.
     Numeric(Numeric),
     /// Instructions on aggregates and references without fields: those after the prefix FB.
     Aggregate(Aggregate),

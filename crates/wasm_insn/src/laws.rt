@@ -2,7 +2,7 @@
 //! clauses are the law.
 //!
 //! `Unambiguous F` says that the format `F` is unambiguous: at most one value decodes from the
-//! front of any bytes, with minimal and with padded numbers. A value has at most one minimal
+//! front of any bytes, with minimal and with padded LEB128. A value has at most one minimal
 //! encoding. `UnambiguousWhole F` says the same of a format that occupies all of the bytes.
 //! `HasMinimalEncodings F encodable encoding` says that `encoding` is the minimal encoding of each
 //! value that fits.
@@ -53,7 +53,7 @@ pub fn instructions<A: Allocator>()
     ensures one_encoding { (i j : Instruction A) → HaveOneEncoding i j }
 {}
 
-/// With padded numbers the formats are unambiguous too.
+/// With padded LEB128 the formats are unambiguous too.
 #[tactic(auto, using(crate::proofs::InstructionLaws::padded))]
 pub fn padded()
     ensures opcode { UnambiguousPadded opcode }

@@ -23,7 +23,7 @@ pub enum PrefixedNumeric {
 }
 
 impl PrefixedNumeric {
-    /// The op of the table.
+    /// Returns the opcode.
     pub fn op(self) -> Op
         ensures { result ≡ Op.Prefixed 0xFC (prefixed_numeric_number self) }
     {

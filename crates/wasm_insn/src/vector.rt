@@ -229,7 +229,7 @@ pub enum Vector {
 }
 
 impl Vector {
-    /// The op of the table.
+    /// Returns the opcode.
     pub fn op(self) -> Op
         ensures { result ≡ Op.Prefixed 0xFD (vector_number self) }
     {

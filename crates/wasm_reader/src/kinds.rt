@@ -297,8 +297,8 @@ fn append_custom<B: Allocator>(name: &str, bytes: &[u8], sink: &mut Vec<u8, B>) 
     }
 }
 
-/// Appends the encoding of a section's payload that has these items: as builders write it, in its
-/// fewest bytes. On an error, the sink is unchanged.
+/// Appends the minimal encoding of a section's payload that has these items. On an error, the sink
+/// is unchanged.
 ///
 /// It is the inverse of [`read_section`](crate::read_section) and
 /// [`Section::items`](crate::Section::items). The payload becomes a section with an id and a size

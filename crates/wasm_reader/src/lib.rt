@@ -1,4 +1,4 @@
-//! Decodes sections, exactly: `Ok` holds the items that the bytes encode, padded numbers included,
+//! Decodes sections, exactly: `Ok` holds the items that the bytes encode, padded LEB128 included,
 //! and any error but [`ReadFault::Memory`] means that the bytes encode no such items.
 //!
 //! [`Sections`] iterates over the sections of a module, and [`Section::items`] decodes one, in the

@@ -17,7 +17,7 @@ pub struct ReadError {
     /// The offset of the first byte that cannot be part of an encoding, from the start of the
     /// module, in bytes; the end of a payload that ends too soon; the first byte of a name for
     /// `NotUtf8`. It means nothing for `Memory`. Contracts say that it is in the section or the
-    /// payload that was decoded, and tests the rest.
+    /// payload that was decoded; the other claims are tested.
     pub offset: usize,
 }
 

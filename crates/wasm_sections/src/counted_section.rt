@@ -25,7 +25,8 @@ pub trait ItemKind: Kind {
 /// A record that can be added to a section of items of the kind `K`.
 pub trait RecordOf<K>: Encode {}
 
-/// A section of counted items of the kind `K`, modelled as the bytes of each entry.
+/// A section of counted items of the kind `K`. In contracts it is the list of the bytes of each
+/// entry.
 ///
 /// # Errors
 ///

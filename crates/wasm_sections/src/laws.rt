@@ -67,7 +67,7 @@ pub fn standard()
     ensures { (bytes : List ℕ) (offset : List Plain) (content : List ℕ) → pair expression (vec byte) standard bytes (offset, content) → data_item standard (0x02 ∷ 0x00 ∷ bytes) (active 0 offset content) }
 {}
 
-/// With padded numbers the formats of sections are unambiguous too. A minimal encoding is also an
+/// With padded LEB128 the formats of sections are unambiguous too. A minimal encoding is also an
 /// encoding in this mode.
 pub fn padded()
     ensures functions { UnambiguousPadded (counted_format u32_format) }
@@ -99,7 +99,7 @@ pub fn calls()
     ensures tags { ContainsMore tag_items }
 {}
 
-/// The same with padded numbers: a record may be well-formed but for padded numbers in its
+/// The same with padded LEB128: a record may be well-formed but for padded LEB128 in its
 /// expressions, and an entry may be a padded encoding of its item.
 #[tactic(auto, using(crate::proofs::Calls::sections, wasm_base::proofs::SectionLaws::held_padded))]
 pub fn padded_calls()
@@ -136,7 +136,7 @@ pub fn payloads()
     ensures numbers { DecodesPayloads u32_format }
 {}
 
-/// The same with padded numbers.
+/// The same with padded LEB128.
 #[tactic(auto, using(wasm_base::proofs::Payloads::padded_payloads))]
 pub fn padded_payloads()
     ensures functions { DecodesPayloadsPadded (vec u32_format) }
@@ -151,7 +151,7 @@ pub fn padded_payloads()
     ensures numbers { DecodesPayloadsPadded u32_format }
 {}
 
-/// These three byte sequences encode no section, with padded numbers neither. In that of globals,
+/// These three byte sequences encode no section, with padded LEB128 neither. In that of globals,
 /// bytes follow the first `End` of a constant expression. In that of data, a segment with an
 /// explicit memory has memory 0. In that of imports, the byte 00 before a group is padded.
 #[tactic(auto, using(crate::proofs::RejectionLaws::nothing))]

@@ -28,7 +28,7 @@ pub fn standard()
     ensures { (bytes : List ℕ) (composite : Composite) → composite_type standard bytes composite → sub_type standard (0x4F ∷ 0x00 ∷ bytes) (alone_of composite) }
 {}
 
-/// With padded numbers the formats of type sections and types are unambiguous too. A minimal
+/// With padded LEB128 the formats of type sections and types are unambiguous too. A minimal
 /// encoding is also an encoding in this mode.
 pub fn padded()
     ensures section { UnambiguousPadded (counted_format type_item) }
@@ -41,7 +41,7 @@ pub fn calls()
     ensures { ContainsMore type_items }
 {}
 
-/// The types that the entries of a type section encode with padded numbers, call by call.
+/// The types that the entries of a type section encode with padded LEB128, call by call.
 #[tactic(auto, using(crate::proofs::TypeLaws::sections, wasm_base::proofs::SectionLaws::held_padded))]
 pub fn padded_calls()
     ensures { ContainsMorePadded type_items }
@@ -53,13 +53,13 @@ pub fn payloads()
     ensures { DecodesPayloads (vec type_item) }
 {}
 
-/// The same with padded numbers.
+/// The same with padded LEB128.
 #[tactic(auto, using(wasm_base::proofs::Payloads::padded_payloads))]
 pub fn padded_payloads()
     ensures { DecodesPayloadsPadded (vec type_item) }
 {}
 
-/// These three byte sequences encode no type section in the builders' grammar, with padded numbers
+/// These three byte sequences encode no type section in the builders' grammar, with padded LEB128
 /// neither. In the first a structure has a field of mutability 2. In the second the byte of a group
 /// is padded. In the third a final type has an empty list of supertypes, which the standard admits.
 #[tactic(auto, using(crate::proofs::RejectionLaws::nothing))]

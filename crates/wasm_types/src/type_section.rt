@@ -26,7 +26,8 @@ use wasm_base::{
     read_whole, vec_of,
 };
 
-/// The type section: the types that a module defines, modelled as the bytes of each entry.
+/// The type section: the types that a module defines. In contracts it is the list of the bytes of
+/// each entry.
 ///
 /// ```rust
 /// let mut types = TypeSection::new(alloc);

@@ -22,7 +22,7 @@ use core::fmt;
 pub enum ReadFault {
     /// The bytes end before the value does.
     Ended,
-    /// A number is padded. No call returns it, since padded numbers are accepted.
+    /// A number is padded. No call returns it, since padded LEB128 are accepted.
     NotShortest,
     /// A number is out of the range of its type, or has more bytes than the type's limit.
     TooLarge,
@@ -38,7 +38,7 @@ pub enum ReadFault {
     Memory,
 }
 
-/// The cause of a failed decoding, and its place.
+/// The cause of a failed decoding, and its position in the input.
 ///
 /// Both are in one number of 64 bits, so that a result with a slice has two words, and the slice's
 /// address is moved as a whole.
@@ -59,7 +59,7 @@ pub enum ReadFault {
 /// ```
 #[derive(Clone, Copy, PartialEq, Eq)]
 pub struct DecodeError {
-    /// The place times 256, and the number of the cause.
+    /// The position times 256, and the number of the cause.
     word: u64,
 }
 
@@ -101,7 +101,7 @@ impl ReadFault {
 }
 
 impl DecodeError {
-    /// Returns the error with this cause and this place.
+    /// Returns the error with this cause and this position.
     ///
     /// # Proved
     ///
@@ -138,9 +138,10 @@ impl DecodeError {
         }
     }
 
-    /// Returns the place: the number of bytes from the first one that cannot be part of an encoding
-    /// to the end of the input, or from the end of a payload that ends too soon; 4294967295 if
-    /// there are more. It means nothing for `Memory`. Tests show it; no contract says it.
+    /// Returns the position: the number of bytes from the first one that cannot be part of an
+    /// encoding to the end of the input, or from the end of a payload that ends too soon;
+    /// 4294967295 if there are more. It means nothing for `Memory`. Tests show it; no contract says
+    /// it.
     ///
     /// # Proved
     ///
@@ -174,7 +175,7 @@ impl fmt::Debug for DecodeError {
     }
 }
 
-/// Returns the error of a failed allocation, which has no place.
+/// Returns the error of a failed allocation, which has no position.
 ///
 /// # Proved
 ///

@@ -44,7 +44,7 @@ pub trait Grammar {
     fn is_standard() -> bool;
 }
 
-/// The encodings that builders write, with padded numbers too.
+/// The encodings that builders write, with padded LEB128 too.
 ///
 /// # Examples
 ///

@@ -3,7 +3,7 @@
 //! its clauses are the law.
 //!
 //! `Unambiguous F` says that the format `F` is unambiguous: at most one value decodes from the
-//! front of any bytes, with minimal and with padded numbers. A value has at most one minimal
+//! front of any bytes, with minimal and with padded LEB128. A value has at most one minimal
 //! encoding. `HasMinimalEncodings F encodable encoding` says that `encoding` is the minimal
 //! encoding of each value that fits. No clause ranges over all formats, so each vector and each
 //! size-prefixed format has a clause of its own.
@@ -98,7 +98,7 @@ pub fn frames() {}
 /// Definitions: [`DecodesPayloads`](crate::definitions::base::modules::DecodesPayloads), [`any_bytes`](crate::definitions::base::formats::any_bytes), [`u32_format`](crate::definitions::base::formats::u32), [`custom`](crate::definitions::base::formats::custom), [`pair`](crate::definitions::base::formats::pair), [`name`](crate::definitions::base::formats::name). [How to read clauses](crate::definitions).
 pub fn payloads() {}
 
-/// The same with padded numbers.
+/// The same with padded LEB128.
 ///
 /// # Proved
 ///
@@ -166,7 +166,7 @@ pub fn standard_types() {}
 /// [How to read clauses](crate::definitions).
 pub fn constants() {}
 
-/// With padded numbers, as the standard allows them, the formats are unambiguous too. A minimal
+/// With padded LEB128, as the standard allows them, the formats are unambiguous too. A minimal
 /// encoding is also an encoding in this mode.
 ///
 /// # Proved

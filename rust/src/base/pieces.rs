@@ -8,7 +8,7 @@ use crate::base::once::EncodeOnce;
 use crate::base::refused::{Refused, Result};
 use crate::alloc::{Allocator, Global};
 
-/// The encoded entries of a builder, modelled as the list of their bytes.
+/// The encoded entries of a builder. In contracts it is the list of the bytes of each entry.
 ///
 /// One buffer holds the entries one after another, and a second vector holds the end offset of
 /// each.

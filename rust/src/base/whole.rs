@@ -50,7 +50,7 @@ pub fn read_whole<'a, T: Readable<'a, A, G>, A: Allocator + Copy, G: Grammar>(
 }
 
 /// Decodes a value that occupies all of the bytes. Further bytes follow in the input, from which
-/// the place of an error counts.
+/// the position of an error counts.
 ///
 /// # Errors
 ///

@@ -6,8 +6,10 @@ use crate::code::function::Function;
 use crate::alloc::{Allocator, Global};
 use crate::base::{Counted, Encode, Pieces, Result, Section, SectionId, encode_size_prefixed};
 
-/// The code section: the bodies of a module's functions, modelled as the bytes of each entry. An
-/// entry is a raw body with its size prefix.
+/// The code section: the bodies of a module's functions.
+///
+/// An entry is a raw body with its size prefix. In contracts the section is the list of the bytes
+/// of each entry.
 ///
 /// ```
 /// # fn example() -> Result<(), Box<dyn std::error::Error>> {

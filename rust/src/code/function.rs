@@ -7,7 +7,9 @@ use crate::alloc::{Allocator, Global};
 use crate::base::{Encode, Refused, Result, ValType, encode_size_prefixed, encode_vec};
 use crate::insn::{Buffer, Instruction, InstructionSink};
 
-/// A function, modelled as its raw body: the runs of its locals, and its instructions.
+/// A function body: the runs of its locals, and its instructions.
+///
+/// In contracts it is the raw body, which has no size prefix.
 ///
 /// ```
 /// # fn example() -> Result<(), Box<dyn std::error::Error>> {

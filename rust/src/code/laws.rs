@@ -3,7 +3,7 @@
 //! nothing, and its clauses are the law.
 //!
 //! `Unambiguous F` says that the format `F` is unambiguous: at most one value decodes from the
-//! front of any bytes, with minimal and with padded numbers. A value has at most one minimal
+//! front of any bytes, with minimal and with padded LEB128. A value has at most one minimal
 //! encoding. `UnambiguousWhole F` says the same of a format that occupies all of the bytes.
 //! `HasMinimalEncodings F encodable encoding` says that `encoding` is the minimal encoding of each
 //! value that fits.
@@ -81,7 +81,7 @@ pub fn offset<A: Allocator>() {}
 /// Definitions: [`raw_code`](crate::definitions::code::code::raw_code), [`DecodesPayloads`](crate::definitions::base::modules::DecodesPayloads), [`vec`](crate::definitions::base::formats::vec), [`size_prefixed`](crate::definitions::base::formats::size_prefixed), [`any_bytes`](crate::definitions::base::formats::any_bytes), [`code_section`](crate::definitions::code::code::code_section), [`body`](crate::definitions::code::bodies::body). [How to read clauses](crate::definitions).
 pub fn payloads() {}
 
-/// The same with padded numbers.
+/// The same with padded LEB128.
 ///
 /// # Proved
 ///
@@ -111,7 +111,7 @@ pub fn padded_payloads() {}
 /// Definitions: [`ContainsMoreBodies`](crate::definitions::code::laws::ContainsMoreBodies), [`GrowsByEncoding`](crate::definitions::code::laws::GrowsByEncoding), [`GrowsByLabels`](crate::definitions::code::laws::GrowsByLabels). [How to read clauses](crate::definitions).
 pub fn calls<A: Allocator>() {}
 
-/// The same with padded numbers: the content of a code section, a body and a constant expression,
+/// The same with padded LEB128: the content of a code section, a body and a constant expression,
 /// call by call.
 ///
 /// # Proved
@@ -128,7 +128,7 @@ pub fn calls<A: Allocator>() {}
 /// Definitions: [`ContainsMoreBodiesPadded`](crate::definitions::code::laws::ContainsMoreBodiesPadded), [`body`](crate::definitions::code::bodies::body), [`GrowsPadded`](crate::definitions::code::laws::GrowsPadded), [`GrowsByEncodingPadded`](crate::definitions::code::laws::GrowsByEncodingPadded), [`expression`](crate::definitions::code::expressions::expression), [`StoresMorePadded`](crate::definitions::code::laws::StoresMorePadded). [How to read clauses](crate::definitions).
 pub fn padded_calls<A: Allocator>() {}
 
-/// With padded numbers the formats are unambiguous too.
+/// With padded LEB128 the formats are unambiguous too.
 ///
 /// # Proved
 ///
@@ -158,7 +158,7 @@ pub fn padded() {}
 pub fn locals() {}
 
 /// With minimal numbers, these two byte sequences encode no code section: in one a memory argument
-/// is truncated, in the other a count of runs is padded. With padded numbers the second is a code
+/// is truncated, in the other a count of runs is padded. With padded LEB128 the second is a code
 /// section.
 ///
 /// # Proved

@@ -10,8 +10,8 @@ use crate::custom::named::after_name;
 use crate::alloc::{Allocator, Global};
 use crate::base::{DecodeError, Encode, Grammar, Kind, Readable, Result, Section, SectionId, Shorten, read_whole, vec_of};
 
-/// The `core` section of a dumped process, modelled as its data: the byte 00, and the name of the
-/// process.
+/// The `core` section of a dumped process: the byte 00, and the name of the process. In contracts
+/// it is these bytes.
 ///
 /// ```
 /// # fn example() -> Result<(), Box<dyn std::error::Error>> {

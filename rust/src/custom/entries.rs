@@ -89,7 +89,8 @@ pub trait CustomKind: Kind {
     fn layout_laws();
 }
 
-/// A custom section of entries of the kind `K`, modelled as the bytes of each entry.
+/// A custom section of entries of the kind `K`. In contracts it is the list of the bytes of each
+/// entry.
 ///
 /// # Errors
 ///

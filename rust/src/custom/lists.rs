@@ -51,7 +51,8 @@ pub trait ListKind {
     fn subsection() -> Option<u8>;
 }
 
-/// A list of counted members of the kind `K`, modelled as the bytes of each entry.
+/// A list of counted members of the kind `K`. In contracts it is the list of the bytes of each
+/// entry.
 ///
 /// # Errors
 ///

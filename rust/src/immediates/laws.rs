@@ -3,7 +3,7 @@
 //! its clauses are the law.
 //!
 //! `Unambiguous F` says that the format `F` is unambiguous: at most one value decodes from the
-//! front of any bytes, with minimal and with padded numbers. A value has at most one minimal
+//! front of any bytes, with minimal and with padded LEB128. A value has at most one minimal
 //! encoding. `HasMinimalEncodings F encodable encoding` says that `encoding` is the minimal
 //! encoding of each value that fits.
 
@@ -59,7 +59,7 @@ pub fn memory_arguments() {}
 /// Definitions: [`u64`](crate::definitions::base::formats::u64), [`standard`](crate::definitions::base::numbers::Mode), [`mem_arg`](crate::definitions::immediates::immediate_formats::mem_arg), [`memory_0`](crate::definitions::immediates::immediate_formats::memory_0). [How to read clauses](crate::definitions).
 pub fn standard() {}
 
-/// With padded numbers the formats are unambiguous too.
+/// With padded LEB128 the formats are unambiguous too.
 ///
 /// # Proved
 ///

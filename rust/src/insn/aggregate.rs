@@ -36,7 +36,7 @@ pub enum Aggregate {
 }
 
 impl Aggregate {
-    /// The op of the table.
+    /// Returns the opcode.
     ///
     /// # Proved
     ///

@@ -417,7 +417,7 @@ pub enum Instruction<'a, A: Allocator = Global> {
     TableFill(u32),
     /// `memory.discard` (opcode 0xFC 18), a memory instruction of the memory control proposal that discards pages of a memory.
     MemoryDiscard(u32),
-    /// Numeric instructions, the ops 45 to C4.
+    /// Numeric instructions: the opcodes 45 to C4.
     Numeric(Numeric),
     /// Instructions on aggregates and references without fields: those after the prefix FB.
     Aggregate(Aggregate),

@@ -3,7 +3,7 @@
 //! clauses are the law.
 //!
 //! `Unambiguous F` says that the format `F` is unambiguous: at most one value decodes from the
-//! front of any bytes, with minimal and with padded numbers. A value has at most one minimal
+//! front of any bytes, with minimal and with padded LEB128. A value has at most one minimal
 //! encoding. `UnambiguousWhole F` says the same of a format that occupies all of the bytes.
 //! `HasMinimalEncodings F encodable encoding` says that `encoding` is the minimal encoding of each
 //! value that fits.
@@ -72,7 +72,7 @@ pub fn cases<A: Allocator>() {}
 /// Definitions: [`Unambiguous`](crate::definitions::base::decoding::Unambiguous), [`instruction`](crate::definitions::insn::plain::instruction), [`table`](crate::definitions::insn::table::table), [`DecodesInstruction`](crate::definitions::insn::instructions::DecodesInstruction), [`HaveOneEncoding`](crate::definitions::insn::instructions::HaveOneEncoding). [How to read clauses](crate::definitions).
 pub fn instructions<A: Allocator>() {}
 
-/// With padded numbers the formats are unambiguous too.
+/// With padded LEB128 the formats are unambiguous too.
 ///
 /// # Proved
 ///

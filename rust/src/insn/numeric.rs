@@ -1,10 +1,10 @@
 // Written by tools/to-rust from crates/wasm_insn/src/numeric.rt: change that.
-// Numeric instructions, the ops 45 to C4.
+// Numeric instructions: the opcodes 45 to C4.
 
 use crate::insn::instruction::Instruction;
 use crate::insn::op::Op;
 
-/// Numeric instructions, the ops 45 to C4.
+/// Numeric instructions: the opcodes 45 to C4.
 ///
 /// It is a case of [`Instruction`](crate::fallible::Instruction), which has a constant for each.
 ///
@@ -281,7 +281,7 @@ pub enum Numeric {
 }
 
 impl Numeric {
-    /// The op of the table.
+    /// Returns the opcode.
     ///
     /// # Proved
     ///

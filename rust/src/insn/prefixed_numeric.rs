@@ -49,7 +49,7 @@ pub enum PrefixedNumeric {
 }
 
 impl PrefixedNumeric {
-    /// The op of the table.
+    /// Returns the opcode.
     ///
     /// # Proved
     ///

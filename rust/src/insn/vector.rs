@@ -461,7 +461,7 @@ pub enum Vector {
 }
 
 impl Vector {
-    /// The op of the table.
+    /// Returns the opcode.
     ///
     /// # Proved
     ///

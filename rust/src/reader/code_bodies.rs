@@ -240,7 +240,7 @@ impl<'a, A: Allocator + Copy> CodeBody<'a, A> {
 
     /// Decodes the runs of its locals, and returns them with a visitor of its instructions. The
     /// visitor counts offsets from the first byte of the body. It accepts all encodings that the
-    /// standard admits. [`locate`](CodeBody::locate) gives its errors their offsets in the module.
+    /// standard admits. [`locate`](CodeBody::locate) turns its errors into offsets in the module.
     ///
     /// # Errors
     ///

@@ -399,8 +399,8 @@ fn append_custom<B: Sink>(name: &str, bytes: &[u8], sink: &mut B) -> Result<()> 
     }
 }
 
-/// Appends the encoding of a section's payload that has these items: as builders write it, in its
-/// fewest bytes. On an error, the sink is unchanged.
+/// Appends the minimal encoding of a section's payload that has these items. On an error, the sink
+/// is unchanged.
 ///
 /// It is the inverse of [`read_section`](crate::reader::read_section) and
 /// [`Section::items`](crate::reader::Section::items). The payload becomes a section with an id and a size

@@ -1,7 +1,7 @@
 // Written by tools/to-rust from crates/wasm_reader/src/lib.rt: change that.
 #![doc = include_str!("../reader.md")]
 
-//! Decodes sections, exactly: `Ok` holds the items that the bytes encode, padded numbers included,
+//! Decodes sections, exactly: `Ok` holds the items that the bytes encode, padded LEB128 included,
 //! and any error but [`ReadFault::Memory`] means that the bytes encode no such items.
 //!
 //! [`Sections`] iterates over the sections of a module, and [`Section::items`] decodes one, in the

@@ -4,6 +4,7 @@
 use crate::base::{DecodeError, ReadFault};
 
 /// The cause of a failed decoding, and its offset in the module.
+///
 /// # Examples
 ///
 /// ```
@@ -22,7 +23,7 @@ pub struct ReadError {
     /// The offset of the first byte that cannot be part of an encoding, from the start of the
     /// module, in bytes; the end of a payload that ends too soon; the first byte of a name for
     /// `NotUtf8`. It means nothing for `Memory`. Contracts say that it is in the section or the
-    /// payload that was decoded, and tests the rest.
+    /// payload that was decoded; the other claims are tested.
     pub offset: usize,
 }
 

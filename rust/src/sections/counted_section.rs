@@ -60,7 +60,8 @@ pub trait ItemKind: Kind {
 /// ```
 pub trait RecordOf<K>: Encode {}
 
-/// A section of counted items of the kind `K`, modelled as the bytes of each entry.
+/// A section of counted items of the kind `K`. In contracts it is the list of the bytes of each
+/// entry.
 ///
 /// # Errors
 ///

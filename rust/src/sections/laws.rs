@@ -61,7 +61,7 @@ pub fn sections() {}
 /// Definitions: [`Plain`](crate::definitions::insn::plain::Plain), [`pair`](crate::definitions::base::formats::pair), [`expression`](crate::definitions::code::expressions::expression), [`vec`](crate::definitions::base::formats::vec), [`byte`](crate::definitions::base::formats::byte), [`standard`](crate::definitions::base::numbers::Mode), [`data_item`](crate::definitions::sections::data_segments::data_item), [`active`](crate::definitions::sections::data_segments::DataItem). [How to read clauses](crate::definitions).
 pub fn standard() {}
 
-/// With padded numbers the formats of sections are unambiguous too. A minimal encoding is also an
+/// With padded LEB128 the formats of sections are unambiguous too. A minimal encoding is also an
 /// encoding in this mode.
 ///
 /// # Proved
@@ -109,7 +109,7 @@ pub fn padded() {}
 /// Definitions: [`ContainsMore`](crate::definitions::base::laws::ContainsMore), [`function_items`](crate::definitions::sections::functions::function_items), [`table_items`](crate::definitions::sections::tables::table_items), [`memory_items`](crate::definitions::sections::memories::memory_items), [`global_items`](crate::definitions::sections::globals::global_items), [`export_items`](crate::definitions::sections::exports::export_items), [`element_items`](crate::definitions::sections::elements::element_items), [`data_items`](crate::definitions::sections::data_segments::data_items), [`import_items`](crate::definitions::sections::imports::import_items), [`tag_items`](crate::definitions::sections::tags::tag_items). [How to read clauses](crate::definitions).
 pub fn calls() {}
 
-/// The same with padded numbers: a record may be well-formed but for padded numbers in its
+/// The same with padded LEB128: a record may be well-formed but for padded LEB128 in its
 /// expressions, and an entry may be a padded encoding of its item.
 ///
 /// # Proved
@@ -167,7 +167,7 @@ pub fn given_elements<A: Allocator>() {}
 /// Definitions: [`DecodesPayloads`](crate::definitions::base::modules::DecodesPayloads), [`vec`](crate::definitions::base::formats::vec), [`u32_format`](crate::definitions::base::formats::u32), [`table_item`](crate::definitions::sections::tables::table_item), [`memory_type`](crate::definitions::sections::memories::memory_type), [`global_item`](crate::definitions::sections::globals::global_item), [`export`](crate::definitions::sections::exports::export), [`element`](crate::definitions::sections::elements::element), [`data_item`](crate::definitions::sections::data_segments::data_item), [`import_format`](crate::definitions::sections::imports::import_format), [`tag_type`](crate::definitions::sections::tags::tag_type). [How to read clauses](crate::definitions).
 pub fn payloads() {}
 
-/// The same with padded numbers.
+/// The same with padded LEB128.
 ///
 /// # Proved
 ///
@@ -189,7 +189,7 @@ pub fn payloads() {}
 /// Definitions: [`DecodesPayloadsPadded`](crate::definitions::base::modules::DecodesPayloadsPadded), [`vec`](crate::definitions::base::formats::vec), [`u32_format`](crate::definitions::base::formats::u32), [`table_item`](crate::definitions::sections::tables::table_item), [`memory_type`](crate::definitions::sections::memories::memory_type), [`global_item`](crate::definitions::sections::globals::global_item), [`export`](crate::definitions::sections::exports::export), [`element`](crate::definitions::sections::elements::element), [`data_item`](crate::definitions::sections::data_segments::data_item), [`import_format`](crate::definitions::sections::imports::import_format), [`tag_type`](crate::definitions::sections::tags::tag_type). [How to read clauses](crate::definitions).
 pub fn padded_payloads() {}
 
-/// These three byte sequences encode no section, with padded numbers neither. In that of globals,
+/// These three byte sequences encode no section, with padded LEB128 neither. In that of globals,
 /// bytes follow the first `End` of a constant expression. In that of data, a segment with an
 /// explicit memory has memory 0. In that of imports, the byte 00 before a group is padded.
 ///

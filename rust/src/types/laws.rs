@@ -36,7 +36,7 @@ pub fn types() {}
 /// Definitions: [`Composite`](crate::definitions::types::rec_types::Composite), [`composite_type`](crate::definitions::types::rec_types::composite_type), [`standard`](crate::definitions::base::numbers::Mode), [`sub_type`](crate::definitions::types::rec_types::sub_type), [`alone_of`](crate::definitions::types::rec_types::alone_of). [How to read clauses](crate::definitions).
 pub fn standard() {}
 
-/// With padded numbers the formats of type sections and types are unambiguous too. A minimal
+/// With padded LEB128 the formats of type sections and types are unambiguous too. A minimal
 /// encoding is also an encoding in this mode.
 ///
 /// # Proved
@@ -65,7 +65,7 @@ pub fn padded() {}
 /// Definitions: [`ContainsMore`](crate::definitions::base::laws::ContainsMore), [`type_items`](crate::definitions::types::rec_types::type_items). [How to read clauses](crate::definitions).
 pub fn calls() {}
 
-/// The types that the entries of a type section encode with padded numbers, call by call.
+/// The types that the entries of a type section encode with padded LEB128, call by call.
 ///
 /// # Proved
 ///
@@ -92,7 +92,7 @@ pub fn padded_calls() {}
 /// Definitions: [`DecodesPayloads`](crate::definitions::base::modules::DecodesPayloads), [`vec`](crate::definitions::base::formats::vec), [`type_item`](crate::definitions::types::rec_types::type_item). [How to read clauses](crate::definitions).
 pub fn payloads() {}
 
-/// The same with padded numbers.
+/// The same with padded LEB128.
 ///
 /// # Proved
 ///
@@ -105,7 +105,7 @@ pub fn payloads() {}
 /// Definitions: [`DecodesPayloadsPadded`](crate::definitions::base::modules::DecodesPayloadsPadded), [`vec`](crate::definitions::base::formats::vec), [`type_item`](crate::definitions::types::rec_types::type_item). [How to read clauses](crate::definitions).
 pub fn padded_payloads() {}
 
-/// These three byte sequences encode no type section in the builders' grammar, with padded numbers
+/// These three byte sequences encode no type section in the builders' grammar, with padded LEB128
 /// neither. In the first a structure has a field of mutability 2. In the second the byte of a group
 /// is padded. In the third a final type has an empty list of supertypes, which the standard admits.
 ///

@@ -7,7 +7,8 @@ use crate::types::types::{ARRAY, ContType, FUNC, FieldType, FuncType, STRUCT, St
 use crate::alloc::{Allocator, Global};
 use crate::base::{Counted, DecodeError, Encode, Grammar, Kind, Pieces, Result, Section, SectionId, ValType, read_whole, vec_of};
 
-/// The type section: the types that a module defines, modelled as the bytes of each entry.
+/// The type section: the types that a module defines. In contracts it is the list of the bytes of
+/// each entry.
 ///
 /// ```
 /// # fn example() -> Result<(), Box<dyn std::error::Error>> {

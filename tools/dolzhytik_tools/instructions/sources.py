@@ -132,7 +132,7 @@ pub enum {enum.name} {{
 {variants(enum, cases)}}}
 
 impl {enum.name} {{
-    /// The op of the table.
+    /// Returns the opcode.
     pub fn op(self) -> Op
         ensures {{ result ≡ {op} }}
     {{

@@ -30,7 +30,7 @@ class Enum:
 INSTRUCTION = Enum("Instruction", None, False, "An instruction.")
 # Each is a case of `Instruction`, in the order of its cases.
 NESTED = (
-    Enum("Numeric", None, True, "Numeric instructions, the ops 45 to C4."),
+    Enum("Numeric", None, True, "Numeric instructions: the opcodes 45 to C4."),
     Enum("Aggregate", 0xFB, True, "Instructions on aggregates and references without fields: those after the prefix FB."),
     Enum("PrefixedNumeric", 0xFC, True, "Numeric instructions after the prefix FC: truncations that saturate, and wide arithmetic."),
     Enum("Vector", 0xFD, True, "Vector instructions without immediates: those after the prefix FD."),

@@ -82,13 +82,13 @@ def rendered(source: Source) -> str:
 
 def noted(lines: list[str], parts: list[Part]) -> list[str]:
     """Returns documentation, which follows what is there already, and the space before the item."""
-    before = [part for part in parts[-4:] if part is not Gap]
+    solid = [part for part in parts[-6:] if part is not Gap and not part.isspace()]
     space = parts[-1] if parts and parts[-1] is not Gap and parts[-1].isspace() else '\n'
     if '\n' not in space:  # A field on the line of its variant.
         parts[-1] = ''
         return [it for line in lines[1:] for it in (FIELD, line)] + [FIELD]
     indent = space[space.rfind('\n'):]
-    has_docs = any(part.startswith('///') for part in before[-2:])
+    has_docs = bool(solid) and solid[-1].startswith('///')
     out = []
     for line in lines if has_docs else lines[1:]:
         out += [line, indent]
