@@ -56,7 +56,7 @@ impl<'a, T: Copy, A: Allocator + Copy> CowSlice<'a, T, A> {
     ///
     /// # Proved
     ///
-    /// After `Ok`: `same`. In any case: `memory`.
+    /// After `Ok`: `same`, the result has the same content. In any case: `memory`, no error is `TooLong`.
     ///
     /// ```text
     /// ensures same { IfOk result (λ cow. items_of cow ≡ items_of self.now) }
@@ -140,7 +140,7 @@ impl<'a, A: Allocator + Copy> CowStr<'a, A> {
     ///
     /// # Proved
     ///
-    /// After `Ok`: `same`. In any case: `memory`.
+    /// After `Ok`: `same`, the result has the same content. In any case: `memory`, no error is `TooLong`.
     ///
     /// ```text
     /// ensures same { IfOk result (λ cow. encoding_of cow ≡ encoding_of self.now) }

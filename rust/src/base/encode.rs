@@ -52,7 +52,7 @@ pub trait Encode {
     ///
     /// # Proved
     ///
-    /// After `Ok`: `read`. In any case: `appends`, `too_many`. `appends`: The call appends the encoding, or returns an error and leaves the bytes as they were. If the value fits, the call never returns `TooLong`, and it succeeds within the spare capacity.
+    /// After `Ok`: `read`. In any case: `appends`; `too_many`. `appends`: The call appends the encoding, or returns an error and leaves the bytes as they were. If the value fits, the call never returns `TooLong`, and it succeeds within the spare capacity.
     ///
     /// ```text
     /// ensures appends { Appends (encoding self.now)

@@ -34,7 +34,7 @@ use crate::alloc::Allocator;
 ///
 /// # Proved
 ///
-/// After `Ok`: `ok`, `reserved`, `was_encodable`. After an error: `err`. In any case: `too_long`, `too_many`, `spare`, `capacity`.
+/// After `Ok`: `ok`; `reserved`; `was_encodable`. After an error: `err`, the bytes of the sink are unchanged. In any case: `too_long`; `too_many`, more than 4294967295 give `TooLong`; `spare`; `capacity`, the capacity does not shrink.
 ///
 /// ```text
 /// ensures ok { OnOk result (sink.new.items ≡ sink.old.items ++ unsigned_encoding size) }
@@ -83,7 +83,7 @@ const SHORT: usize = 0x80;
 ///
 /// # Proved
 ///
-/// `appends`: The call appends the encoding, or returns an error and leaves the bytes as they were. If the value fits, the call never returns `TooLong`, and it succeeds within the spare capacity.
+/// In any case: `appends`; `too_many`, more than 4294967295 give `TooLong`. `appends`: The call appends the encoding, or returns an error and leaves the bytes as they were. If the value fits, the call never returns `TooLong`, and it succeeds within the spare capacity.
 ///
 /// ```text
 /// ensures appends { Appends (size_prefixed_encoding bytes.now)
@@ -108,7 +108,7 @@ pub fn encode_size_prefixed<A: Sink>(sink: &mut A, bytes: &[u8]) -> Result<()> {
 ///
 /// # Proved
 ///
-/// `appends`: The call appends the encoding, or returns an error and leaves the bytes as they were. If the value fits, the call never returns `TooLong`, and it succeeds within the spare capacity.
+/// In any case: `appends`; `too_many`, more than 4294967295 give `TooLong`. `appends`: The call appends the encoding, or returns an error and leaves the bytes as they were. If the value fits, the call never returns `TooLong`, and it succeeds within the spare capacity.
 ///
 /// ```text
 /// ensures appends { Appends (size_prefixed_encoding bytes.now)
@@ -147,7 +147,7 @@ fn encode_long_payload<A: Sink>(sink: &mut A, bytes: &[u8]) -> Result<()> {
 ///
 /// # Proved
 ///
-/// `appends`: The call appends the encoding, or returns an error and leaves the bytes as they were. If the value fits, the call never returns `TooLong`, and it succeeds within the spare capacity.
+/// In any case: `appends`; `too_many`, more than 4294967295 give `TooLong`. `appends`: The call appends the encoding, or returns an error and leaves the bytes as they were. If the value fits, the call never returns `TooLong`, and it succeeds within the spare capacity.
 ///
 /// ```text
 /// ensures appends { Appends
@@ -245,7 +245,7 @@ impl<'a, A: Allocator + Copy, G: Grammar, T: Readable<'a, A, G>> Readable<'a, A,
 ///
 /// # Proved
 ///
-/// After `Ok`: `sized`, `was_encodable`. After an error: `err`. In any case: `too_long`.
+/// After `Ok`: `sized`; `was_encodable`. After an error: `err`, the bytes of the sink are unchanged. In any case: `too_long`. `was_encodable`: The size of the bytes is at most 2^32 - 1.
 ///
 /// ```text
 /// ensures sized { OnOk result
@@ -268,7 +268,7 @@ pub fn prefix_size_since<B: Sink>(sink: &mut B, start: usize) -> Result<()> {
 ///
 /// # Proved
 ///
-/// After `Ok`: `ok`. In any case: `front`, `too_long`. `front`: The new bytes begin with the old ones.
+/// After `Ok`: `ok`, the sink gains the minimal encoding. In any case: `front`; `too_long`, a value that has an encoding never gives `TooLong`. `front`: The new bytes begin with the old ones.
 ///
 /// ```text
 /// ensures ok { OnOk result

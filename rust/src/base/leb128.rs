@@ -461,7 +461,7 @@ pub struct Groups {
 ///
 /// # Proved
 ///
-/// After `Ok`: `found`, `power`, `below`. After an error: `none`, `ended`, `too_many`.
+/// After `Ok`: `found`; `power`; `below`. After an error: `none`, the bytes do not begin with such an encoding; `ended`; `too_many`. `found`: The bytes begin with LEB128 groups, followed by `rest`: their sum, 128 to the power of their number, and the last group.
 ///
 /// ```text
 /// ensures found { IfOk result
@@ -563,7 +563,7 @@ struct FewGroups {
 ///
 /// # Proved
 ///
-/// After `Ok`: `found`, `power`, `below`. After an error: `none`.
+/// After `Ok`: `found`; `power`; `below`. After an error: `none`, the bytes do not begin with such an encoding. `found`: The bytes begin with LEB128 groups, followed by `rest`: their sum, 128 to the power of their number, and the last group.
 ///
 /// ```text
 /// ensures found { IfOk result
@@ -628,7 +628,7 @@ fn signed_few(groups: FewGroups) -> i64 {
 ///
 /// # Proved
 ///
-/// After `Ok`: `found`. After an error: `none`.
+/// After `Ok`: `found`, the bytes begin with an encoding of the value, and the returned bytes follow it. After an error: `none`, the bytes do not begin with such an encoding, unless the cause is `Memory`.
 ///
 /// ```text
 /// ensures found { IfOk result
@@ -652,7 +652,7 @@ fn read_long_u32<G: Grammar>(bytes: &[u8]) -> Result<(u32, &[u8]), DecodeError> 
 ///
 /// # Proved
 ///
-/// After `Ok`: `found`. After an error: `none`.
+/// After `Ok`: `found`, the bytes begin with an encoding of the value, and the returned bytes follow it. After an error: `none`, the bytes do not begin with such an encoding, unless the cause is `Memory`.
 ///
 /// ```text
 /// ensures found { IfOk result
@@ -679,7 +679,7 @@ fn read_long_u64<G: Grammar>(bytes: &[u8]) -> Result<(u64, &[u8]), DecodeError> 
 ///
 /// # Proved
 ///
-/// After `Ok`: `found`. After an error: `none`.
+/// After `Ok`: `found`, the bytes begin with an encoding of the value, and the returned bytes follow it. After an error: `none`, the bytes do not begin with such an encoding, unless the cause is `Memory`.
 ///
 /// ```text
 /// ensures found { IfOk result
@@ -707,7 +707,7 @@ fn read_long_i32<G: Grammar>(bytes: &[u8]) -> Result<(i32, &[u8]), DecodeError> 
 ///
 /// # Proved
 ///
-/// After `Ok`: `found`. After an error: `none`.
+/// After `Ok`: `found`, the bytes begin with an encoding of the value, and the returned bytes follow it. After an error: `none`, the bytes do not begin with such an encoding, unless the cause is `Memory`.
 ///
 /// ```text
 /// ensures found { IfOk result
@@ -839,7 +839,7 @@ impl<'a, A: Allocator + Copy, G: Grammar> Readable<'a, A, G> for i64 {
 ///
 /// # Proved
 ///
-/// After `Ok`: `found`. After an error: `none`.
+/// After `Ok`: `found`, the bytes begin with an encoding of the value, and the returned bytes follow it. After an error: `none`, the bytes do not begin with such an encoding, unless the cause is `Memory`.
 ///
 /// ```text
 /// ensures found { IfOk result

@@ -34,7 +34,7 @@ impl<A: Allocator> Module<A> {
     ///
     /// # Proved
     ///
-    /// After `Ok`: `bytes`, `read`. In any case: `memory`.
+    /// After `Ok`: `bytes`; `read`. In any case: `memory`, no error is `TooLong`. `read`: As `DecodesUniquely`, for a format that takes all of the bytes: `encoding` as a whole decodes to `x` alone.
     ///
     /// ```text
     /// ensures bytes { IfOk result (λ m. m ≡ header) }
@@ -58,7 +58,7 @@ impl<A: Allocator> Module<A> {
     ///
     /// # Proved
     ///
-    /// After `Ok`: `ok`, `read`, `section`, `was_encodable`. After an error: `err`. In any case: `too_long`, `too_many`.
+    /// After `Ok`: `ok`; `read`; `section`; `was_encodable`. After an error: `err`, the value is unchanged. In any case: `too_long`; `too_many`. `read`: Composition of modules: if the old bytes decode to some sections alone, the new bytes decode to these and one more. That section has this id, and any payload with the property.
     ///
     /// ```text
     /// ensures ok { OnOk result
@@ -85,7 +85,7 @@ impl<A: Allocator> Module<A> {
     ///
     /// # Proved
     ///
-    /// After `Ok`: `same`. In any case: `memory`.
+    /// After `Ok`: `same`, the result equals the value. In any case: `memory`, no error is `TooLong`.
     ///
     /// ```text
     /// ensures same { IfOk result (λ m. m ≡ self.now) }

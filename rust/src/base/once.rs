@@ -114,7 +114,7 @@ pub struct BytesOf<I> {
 ///
 /// # Proved
 ///
-/// After `Ok`: `ok`. After an error: `refused`. In any case: `too_long`, `too_many`.
+/// After `Ok`: `ok`. After an error: `refused`. In any case: `too_long`; `too_many`, more than 4294967295 give `TooLong`.
 ///
 /// ```text
 /// ensures ok { IfOk result
@@ -154,7 +154,7 @@ fn count_of<I: ExactSizeIterator>(items: &I) -> Result<u32> {
 ///
 /// # Proved
 ///
-/// After `Ok`: `ok`. After an error: `refused`. In any case: `too_long`, `too_many`.
+/// After `Ok`: `ok`. After an error: `refused`. In any case: `too_long`; `too_many`.
 ///
 /// ```text
 /// ensures ok { IfOk result
@@ -197,7 +197,7 @@ where
 ///
 /// # Proved
 ///
-/// After `Ok`: `ok`. After an error: `refused`. In any case: `too_long`, `too_many`.
+/// After `Ok`: `ok`. After an error: `refused`. In any case: `too_long`; `too_many`.
 ///
 /// ```text
 /// ensures ok { IfOk result
@@ -298,6 +298,8 @@ fn next_block<I: Iterator<Item = u8>>(items: &mut I) -> [u8; BLOCK] {
 /// [How to read clauses](crate::definitions).
 ///
 /// # Proved
+///
+/// In any case: `appends`; `ready`; `capacity`, the capacity does not shrink.
 ///
 /// ```text
 /// ensures appends { (xs : List ℕ) × Yields I.next_gives items.old xs items.new

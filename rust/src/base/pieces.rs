@@ -95,6 +95,8 @@ impl<A: Allocator> Pieces<A> {
     ///
     /// # Proved
     ///
+    /// The result is true exactly if there are no entries.
+    ///
     /// ```text
     /// ensures { IsTrue result ↔ (length self.now ≡ 0) }
     /// ```
@@ -134,6 +136,8 @@ impl<A: Allocator> Pieces<A> {
     /// Returns the bytes of the entry at `index`, or `None` if there is no such entry.
     ///
     /// # Proved
+    ///
+    /// The result is the entry at `index`, if there is one.
     ///
     /// ```text
     /// ensures { option_copied result ≡ slice_get self.now index }
@@ -256,6 +260,8 @@ impl<A: Allocator + Copy> Pieces<A> {
     ///
     /// # Proved
     ///
+    /// The result has no entries.
+    ///
     /// ```text
     /// ensures { result ≡ [] }
     /// ```
@@ -276,7 +282,7 @@ impl<A: Allocator + Copy> Pieces<A> {
     ///
     /// # Proved
     ///
-    /// After `Ok`: `same`. In any case: `memory`.
+    /// After `Ok`: `same`, the result equals the value. In any case: `memory`, no error is `TooLong`.
     ///
     /// ```text
     /// ensures same { IfOk result (λ pieces. pieces ≡ self.now) }

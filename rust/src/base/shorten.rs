@@ -32,7 +32,7 @@ pub trait Shorten: Layout {
     ///
     /// # Proved
     ///
-    /// After `Ok`: `ok`. In any case: `front`, `too_long`. `front`: The new bytes begin with the old ones.
+    /// After `Ok`: `ok`, the sink gains the minimal encoding. In any case: `front`; `too_long`, a value that has an encoding never gives `TooLong`. `front`: The new bytes begin with the old ones.
     ///
     /// ```text
     /// ensures ok { OnOk result
@@ -54,7 +54,7 @@ pub trait Shorten: Layout {
     ///
     /// # Proved
     ///
-    /// After `Ok`: `ok`. After an error: `err`. In any case: `too_long`.
+    /// After `Ok`: `ok`, the sink gains the minimal encoding. After an error: `err`, the bytes of the sink are unchanged. In any case: `too_long`, a value that has an encoding never gives `TooLong`.
     ///
     /// ```text
     /// ensures ok { OnOk result

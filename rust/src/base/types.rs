@@ -405,7 +405,7 @@ fn short_ref<G: Grammar>(byte: u8) -> Option<RefType> {
 ///
 /// # Proved
 ///
-/// After `Ok`: `found`. After an error: `none`.
+/// After `Ok`: `found`, the bytes begin with an encoding of the value, and the returned bytes follow it. After an error: `none`, the bytes do not begin with such an encoding, unless the cause is `Memory`.
 ///
 /// ```text
 /// ensures found { IfOk result
@@ -480,7 +480,7 @@ impl<'a, A: Allocator + Copy, G: Grammar> Readable<'a, A, G> for RefType {
 ///
 /// # Proved
 ///
-/// After `Ok`: `found`. After an error: `none`.
+/// After `Ok`: `found`, the bytes begin with an encoding of the value, and the returned bytes follow it. After an error: `none`, the bytes do not begin with such an encoding, unless the cause is `Memory`.
 ///
 /// ```text
 /// ensures found { IfOk result

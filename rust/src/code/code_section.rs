@@ -87,6 +87,8 @@ impl<A: Allocator> CodeSection<A> {
     ///
     /// # Proved
     ///
+    /// The result is true exactly if there are no entries.
+    ///
     /// ```text
     /// ensures { IsTrue result ↔ (length self.now ≡ 0) }
     /// ```
@@ -99,6 +101,8 @@ impl<A: Allocator> CodeSection<A> {
     /// Returns the bytes of the entry at `index`: a raw body with its size prefix.
     ///
     /// # Proved
+    ///
+    /// The result is the entry at `index`, if there is one.
     ///
     /// ```text
     /// ensures { option_copied result ≡ slice_get self.now index }
@@ -161,6 +165,8 @@ impl<A: Allocator + Copy> CodeSection<A> {
     ///
     /// # Proved
     ///
+    /// The result has no entries.
+    ///
     /// ```text
     /// ensures { result ≡ [] }
     /// ```
@@ -180,7 +186,7 @@ impl<A: Allocator + Copy> CodeSection<A> {
     ///
     /// # Proved
     ///
-    /// After `Ok`: `same`. In any case: `memory`.
+    /// After `Ok`: `same`, the result equals the value. In any case: `memory`, no error is `TooLong`.
     ///
     /// ```text
     /// ensures same { IfOk result (λ section. section ≡ self.now) }

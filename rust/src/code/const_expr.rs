@@ -49,6 +49,8 @@ impl<A: Allocator> ConstExpr<A> {
     ///
     /// # Proved
     ///
+    /// The result has no entries.
+    ///
     /// ```text
     /// ensures { result ≡ [] }
     /// ```
@@ -81,7 +83,7 @@ impl<A: Allocator> ConstExpr<A> {
     ///
     /// # Proved
     ///
-    /// After `Ok`: `ok`. In any case: `memory`.
+    /// After `Ok`: `ok`. In any case: `memory`, no error is `TooLong`.
     ///
     /// ```text
     /// ensures ok { IfOk result (λ e. (it : I.IntoIter) × (xs : List ℕ)
@@ -189,7 +191,7 @@ impl<A: Allocator> ConstExpr<A> {
     ///
     /// # Proved
     ///
-    /// After `Ok`: `stores`. In any case: `memory`.
+    /// After `Ok`: `stores`. In any case: `memory`, no error is `TooLong`. `stores`: The bytes gain the encoding of `i`. If `i` is well-formed and the old bytes minimally encode instructions, the new bytes encode these and the normal form of `i`.
     ///
     /// ```text
     /// ensures stores { IfOk result (Stores (Instruction.GlobalGet index) []) }
@@ -210,7 +212,7 @@ impl<A: Allocator> ConstExpr<A> {
     ///
     /// # Proved
     ///
-    /// After `Ok`: `stores`. In any case: `memory`.
+    /// After `Ok`: `stores`. In any case: `memory`, no error is `TooLong`. `stores`: The bytes gain the encoding of `i`. If `i` is well-formed and the old bytes minimally encode instructions, the new bytes encode these and the normal form of `i`.
     ///
     /// ```text
     /// ensures stores { IfOk result (Stores (Instruction.RefNull ty) []) }
@@ -231,7 +233,7 @@ impl<A: Allocator> ConstExpr<A> {
     ///
     /// # Proved
     ///
-    /// After `Ok`: `stores`. In any case: `memory`.
+    /// After `Ok`: `stores`. In any case: `memory`, no error is `TooLong`. `stores`: The bytes gain the encoding of `i`. If `i` is well-formed and the old bytes minimally encode instructions, the new bytes encode these and the normal form of `i`.
     ///
     /// ```text
     /// ensures stores { IfOk result (Stores (Instruction.RefFunc function_index) []) }
@@ -252,7 +254,7 @@ impl<A: Allocator> ConstExpr<A> {
     ///
     /// # Proved
     ///
-    /// After `Ok`: `stores`. In any case: `memory`.
+    /// After `Ok`: `stores`. In any case: `memory`, no error is `TooLong`. `stores`: The bytes gain the encoding of `i`. If `i` is well-formed and the old bytes minimally encode instructions, the new bytes encode these and the normal form of `i`.
     ///
     /// ```text
     /// ensures stores { IfOk result (Stores (Instruction.I32Const value) []) }
@@ -273,7 +275,7 @@ impl<A: Allocator> ConstExpr<A> {
     ///
     /// # Proved
     ///
-    /// After `Ok`: `stores`. In any case: `memory`.
+    /// After `Ok`: `stores`. In any case: `memory`, no error is `TooLong`. `stores`: The bytes gain the encoding of `i`. If `i` is well-formed and the old bytes minimally encode instructions, the new bytes encode these and the normal form of `i`.
     ///
     /// ```text
     /// ensures stores { IfOk result (Stores (Instruction.I64Const value) []) }
@@ -294,7 +296,7 @@ impl<A: Allocator> ConstExpr<A> {
     ///
     /// # Proved
     ///
-    /// After `Ok`: `stores`. In any case: `memory`.
+    /// After `Ok`: `stores`. In any case: `memory`, no error is `TooLong`. `stores`: The bytes gain the encoding of `i`. If `i` is well-formed and the old bytes minimally encode instructions, the new bytes encode these and the normal form of `i`.
     ///
     /// ```text
     /// ensures stores { IfOk result (Stores (Instruction.F32Const value) []) }
@@ -315,7 +317,7 @@ impl<A: Allocator> ConstExpr<A> {
     ///
     /// # Proved
     ///
-    /// After `Ok`: `stores`. In any case: `memory`.
+    /// After `Ok`: `stores`. In any case: `memory`, no error is `TooLong`. `stores`: The bytes gain the encoding of `i`. If `i` is well-formed and the old bytes minimally encode instructions, the new bytes encode these and the normal form of `i`.
     ///
     /// ```text
     /// ensures stores { IfOk result (Stores (Instruction.F64Const value) []) }
@@ -336,7 +338,7 @@ impl<A: Allocator> ConstExpr<A> {
     ///
     /// # Proved
     ///
-    /// After `Ok`: `stores`. In any case: `memory`.
+    /// After `Ok`: `stores`. In any case: `memory`, no error is `TooLong`. `stores`: The bytes gain the encoding of `i`. If `i` is well-formed and the old bytes minimally encode instructions, the new bytes encode these and the normal form of `i`.
     ///
     /// ```text
     /// ensures stores { IfOk result
@@ -358,7 +360,7 @@ impl<A: Allocator> ConstExpr<A> {
     ///
     /// # Proved
     ///
-    /// After `Ok`: `stores`. In any case: `memory`.
+    /// After `Ok`: `stores`. In any case: `memory`, no error is `TooLong`. `stores`: The bytes gain the encoding of `i`. If `i` is well-formed and the old bytes minimally encode instructions, the new bytes encode these and the normal form of `i`.
     ///
     /// ```text
     /// ensures stores { IfOk result (Stores (Instruction.GlobalGet index) self) }
@@ -380,7 +382,7 @@ impl<A: Allocator> ConstExpr<A> {
     ///
     /// # Proved
     ///
-    /// After `Ok`: `stores`. In any case: `memory`.
+    /// After `Ok`: `stores`. In any case: `memory`, no error is `TooLong`. `stores`: The bytes gain the encoding of `i`. If `i` is well-formed and the old bytes minimally encode instructions, the new bytes encode these and the normal form of `i`.
     ///
     /// ```text
     /// ensures stores { IfOk result (Stores (Instruction.RefNull ty) self) }
@@ -402,7 +404,7 @@ impl<A: Allocator> ConstExpr<A> {
     ///
     /// # Proved
     ///
-    /// After `Ok`: `stores`. In any case: `memory`.
+    /// After `Ok`: `stores`. In any case: `memory`, no error is `TooLong`. `stores`: The bytes gain the encoding of `i`. If `i` is well-formed and the old bytes minimally encode instructions, the new bytes encode these and the normal form of `i`.
     ///
     /// ```text
     /// ensures stores { IfOk result (Stores (Instruction.RefFunc function_index) self) }
@@ -424,7 +426,7 @@ impl<A: Allocator> ConstExpr<A> {
     ///
     /// # Proved
     ///
-    /// After `Ok`: `stores`. In any case: `memory`.
+    /// After `Ok`: `stores`. In any case: `memory`, no error is `TooLong`. `stores`: The bytes gain the encoding of `i`. If `i` is well-formed and the old bytes minimally encode instructions, the new bytes encode these and the normal form of `i`.
     ///
     /// ```text
     /// ensures stores { IfOk result (Stores (Instruction.I32Const value) self) }
@@ -446,7 +448,7 @@ impl<A: Allocator> ConstExpr<A> {
     ///
     /// # Proved
     ///
-    /// After `Ok`: `stores`. In any case: `memory`.
+    /// After `Ok`: `stores`. In any case: `memory`, no error is `TooLong`. `stores`: The bytes gain the encoding of `i`. If `i` is well-formed and the old bytes minimally encode instructions, the new bytes encode these and the normal form of `i`.
     ///
     /// ```text
     /// ensures stores { IfOk result (Stores (Instruction.I64Const value) self) }
@@ -468,7 +470,7 @@ impl<A: Allocator> ConstExpr<A> {
     ///
     /// # Proved
     ///
-    /// After `Ok`: `stores`. In any case: `memory`.
+    /// After `Ok`: `stores`. In any case: `memory`, no error is `TooLong`. `stores`: The bytes gain the encoding of `i`. If `i` is well-formed and the old bytes minimally encode instructions, the new bytes encode these and the normal form of `i`.
     ///
     /// ```text
     /// ensures stores { IfOk result (Stores (Instruction.F32Const value) self) }
@@ -490,7 +492,7 @@ impl<A: Allocator> ConstExpr<A> {
     ///
     /// # Proved
     ///
-    /// After `Ok`: `stores`. In any case: `memory`.
+    /// After `Ok`: `stores`. In any case: `memory`, no error is `TooLong`. `stores`: The bytes gain the encoding of `i`. If `i` is well-formed and the old bytes minimally encode instructions, the new bytes encode these and the normal form of `i`.
     ///
     /// ```text
     /// ensures stores { IfOk result (Stores (Instruction.F64Const value) self) }
@@ -512,7 +514,7 @@ impl<A: Allocator> ConstExpr<A> {
     ///
     /// # Proved
     ///
-    /// After `Ok`: `stores`. In any case: `memory`.
+    /// After `Ok`: `stores`. In any case: `memory`, no error is `TooLong`. `stores`: The bytes gain the encoding of `i`. If `i` is well-formed and the old bytes minimally encode instructions, the new bytes encode these and the normal form of `i`.
     ///
     /// ```text
     /// ensures stores { IfOk result
@@ -535,7 +537,7 @@ impl<A: Allocator> ConstExpr<A> {
     ///
     /// # Proved
     ///
-    /// After `Ok`: `stores`. In any case: `memory`.
+    /// After `Ok`: `stores`. In any case: `memory`, no error is `TooLong`. `stores`: The bytes gain the encoding of `i`. If `i` is well-formed and the old bytes minimally encode instructions, the new bytes encode these and the normal form of `i`.
     ///
     /// ```text
     /// ensures stores { IfOk result (Stores (Instruction.Numeric Numeric.I32Add) self) }
@@ -557,7 +559,7 @@ impl<A: Allocator> ConstExpr<A> {
     ///
     /// # Proved
     ///
-    /// After `Ok`: `stores`. In any case: `memory`.
+    /// After `Ok`: `stores`. In any case: `memory`, no error is `TooLong`. `stores`: The bytes gain the encoding of `i`. If `i` is well-formed and the old bytes minimally encode instructions, the new bytes encode these and the normal form of `i`.
     ///
     /// ```text
     /// ensures stores { IfOk result (Stores (Instruction.Numeric Numeric.I32Sub) self) }
@@ -579,7 +581,7 @@ impl<A: Allocator> ConstExpr<A> {
     ///
     /// # Proved
     ///
-    /// After `Ok`: `stores`. In any case: `memory`.
+    /// After `Ok`: `stores`. In any case: `memory`, no error is `TooLong`. `stores`: The bytes gain the encoding of `i`. If `i` is well-formed and the old bytes minimally encode instructions, the new bytes encode these and the normal form of `i`.
     ///
     /// ```text
     /// ensures stores { IfOk result (Stores (Instruction.Numeric Numeric.I32Mul) self) }
@@ -601,7 +603,7 @@ impl<A: Allocator> ConstExpr<A> {
     ///
     /// # Proved
     ///
-    /// After `Ok`: `stores`. In any case: `memory`.
+    /// After `Ok`: `stores`. In any case: `memory`, no error is `TooLong`. `stores`: The bytes gain the encoding of `i`. If `i` is well-formed and the old bytes minimally encode instructions, the new bytes encode these and the normal form of `i`.
     ///
     /// ```text
     /// ensures stores { IfOk result (Stores (Instruction.Numeric Numeric.I64Add) self) }
@@ -623,7 +625,7 @@ impl<A: Allocator> ConstExpr<A> {
     ///
     /// # Proved
     ///
-    /// After `Ok`: `stores`. In any case: `memory`.
+    /// After `Ok`: `stores`. In any case: `memory`, no error is `TooLong`. `stores`: The bytes gain the encoding of `i`. If `i` is well-formed and the old bytes minimally encode instructions, the new bytes encode these and the normal form of `i`.
     ///
     /// ```text
     /// ensures stores { IfOk result (Stores (Instruction.Numeric Numeric.I64Sub) self) }
@@ -645,7 +647,7 @@ impl<A: Allocator> ConstExpr<A> {
     ///
     /// # Proved
     ///
-    /// After `Ok`: `stores`. In any case: `memory`.
+    /// After `Ok`: `stores`. In any case: `memory`, no error is `TooLong`. `stores`: The bytes gain the encoding of `i`. If `i` is well-formed and the old bytes minimally encode instructions, the new bytes encode these and the normal form of `i`.
     ///
     /// ```text
     /// ensures stores { IfOk result (Stores (Instruction.Numeric Numeric.I64Mul) self) }
@@ -758,7 +760,7 @@ impl<A: Allocator + Copy> ConstExpr<A> {
     ///
     /// # Proved
     ///
-    /// After `Ok`: `same`. In any case: `memory`.
+    /// After `Ok`: `same`, the result equals the value. In any case: `memory`, no error is `TooLong`.
     ///
     /// ```text
     /// ensures same { IfOk result (λ e. e ≡ self.now) }

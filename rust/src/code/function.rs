@@ -138,7 +138,7 @@ impl<A: Allocator> Function<A> {
     ///
     /// # Proved
     ///
-    /// After `Ok`: `ok`. After an error: `err`. In any case: `memory`.
+    /// After `Ok`: `ok`. After an error: `err`, the value is unchanged. In any case: `memory`, no error is `TooLong`.
     ///
     /// ```text
     /// ensures ok { OnOk result ((it : I.IntoIter) × (xs : List ℕ)
@@ -228,7 +228,7 @@ impl<A: Allocator + Copy> Function<A> {
     ///
     /// # Proved
     ///
-    /// After `Ok`: `same`. In any case: `memory`.
+    /// After `Ok`: `same`, the result equals the value. In any case: `memory`, no error is `TooLong`.
     ///
     /// ```text
     /// ensures same { IfOk result (λ f. f ≡ self.now) }
@@ -311,7 +311,7 @@ impl<A: Allocator> Buffer for Function<A> {
 ///
 /// # Proved
 ///
-/// After `Ok`: `ok`. After an error: `err`. In any case: `memory`.
+/// After `Ok`: `ok`. After an error: `err`, the bytes of the sink are unchanged. In any case: `memory`, no error is `TooLong`.
 ///
 /// ```text
 /// ensures ok { OnOk result ((it : I.IntoIter) × (xs : List ℕ)

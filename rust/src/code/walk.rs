@@ -90,7 +90,7 @@ impl<'a, A: Allocator + Copy> Instructions<'a, A> {
     ///
     /// # Proved
     ///
-    /// After `Ok`: `found`, `same`, `within`, `before`. After an error: `none`.
+    /// After `Ok`: `found`; `same`; `within`; `before`. After an error: `none`, the bytes as a whole are no such encoding, unless the cause is `Memory`. `found`: `bytes` is an encoding of `x` in this mode, followed by `rest`.
     ///
     /// ```text
     /// ensures found { IfOk result
@@ -146,7 +146,7 @@ impl<'a, A: Allocator + Copy> Instructions<'a, A, Standard> {
     ///
     /// # Proved
     ///
-    /// After `Ok`: `found`, `same`, `within`, `before`. After an error: `none`.
+    /// After `Ok`: `found`; `same`; `within`; `before`. After an error: `none`, the bytes as a whole are no such encoding, unless the cause is `Memory`. `found`: `bytes` is an encoding of `x` in this mode, followed by `rest`.
     ///
     /// ```text
     /// ensures found { IfOk result
@@ -190,7 +190,7 @@ impl<'a, A: Allocator + Copy, G: Grammar> Instructions<'a, A, G> {
     ///
     /// # Proved
     ///
-    /// After `Ok`: `found`, `same`, `within`, `before`. After an error: `none`.
+    /// After `Ok`: `found`; `same`; `within`; `before`. After an error: `none`, the bytes as a whole are no such encoding, unless the cause is `Memory`. `found`: `bytes` is an encoding of `x` in this mode, followed by `rest`.
     ///
     /// ```text
     /// ensures found { IfOk result
@@ -219,7 +219,7 @@ impl<'a, A: Allocator + Copy, G: Grammar> Instructions<'a, A, G> {
     ///
     /// # Proved
     ///
-    /// After `Ok`: `offset`, `found`, `further`. After an error: `stays`, `none`. In any case: `same`.
+    /// After `Ok`: `offset`; `found`; `further`. After an error: `stays`, the offset is unchanged; `none`, the bytes do not begin with such an encoding, unless the cause is `Memory`. In any case: `same`. `found`: `bytes` is an encoding of `x` in this mode, followed by `rest`.
     ///
     /// ```text
     /// ensures offset { IfOk result (λ step. step.offset ≡ self.old.offset) }
@@ -258,7 +258,7 @@ impl<'a, A: Allocator + Copy, G: Grammar> Instructions<'a, A, G> {
     ///
     /// # Proved
     ///
-    /// After `Ok`: `offset`, `found`, `further`, `end`, `ended`. After an error: `stays`, `none`, `left`. In any case: `same`.
+    /// After `Ok`: `offset`, the step has the old offset; `found`; `further`; `end`; `ended`, `None` changes nothing. After an error: `stays`, the offset is unchanged; `none`, the bytes do not begin with such an encoding, unless the cause is `Memory`; `left`. In any case: `same`.
     ///
     /// ```text
     /// ensures offset { IfOk result
@@ -312,7 +312,7 @@ impl<'a, A: Allocator + Copy, G: Grammar> Instructions<'a, A, G> {
     ///
     /// # Proved
     ///
-    /// After `Ok`: `offset`, `found`, `further`, `end`, `ended`. After an error: `stays`, `none`. In any case: `same`.
+    /// After `Ok`: `offset`, the step has the old offset; `found`; `further`; `end`; `ended`, `None` changes nothing. After an error: `stays`, the offset is unchanged; `none`, the bytes do not begin with such an encoding, unless the cause is `Memory`. In any case: `same`.
     ///
     /// ```text
     /// ensures offset { IfOk result

@@ -46,7 +46,7 @@ impl<A: Allocator + Copy> CoreDumpStackSection<A> {
     ///
     /// # Proved
     ///
-    /// After `Ok`: `is`, `was_encodable`. In any case: `too_long`.
+    /// After `Ok`: `is`; `was_encodable`. In any case: `too_long`. `was_encodable`: The size of the bytes is at most 2^32 - 1.
     ///
     /// ```text
     /// ensures is { IfOk result (λ s. s ≡ (marked_encoding thread_name.now, [])) }
@@ -72,7 +72,7 @@ impl<A: Allocator + Copy> CoreDumpStackSection<A> {
     ///
     /// # Proved
     ///
-    /// After `Ok`: `same`. In any case: `memory`.
+    /// After `Ok`: `same`, the result equals the value. In any case: `memory`, no error is `TooLong`.
     ///
     /// ```text
     /// ensures same { IfOk result (λ s. s ≡ self.now) }
@@ -151,7 +151,7 @@ impl<A: Allocator> CoreDumpStackSection<A> {
     ///
     /// # Proved
     ///
-    /// After `Ok`: `same`. In any case: `memory`.
+    /// After `Ok`: `same`. In any case: `memory`, no error is `TooLong`.
     ///
     /// ```text
     /// ensures same { IfOk result
@@ -296,7 +296,7 @@ impl<'a, A: Allocator + Copy, G: Grammar> Readable<'a, A, G> for CoreFrame<A> {
 ///
 /// # Proved
 ///
-/// After `Ok`: `found`. After an error: `none`.
+/// After `Ok`: `found`. After an error: `none`, the bytes as a whole are no such encoding, unless the cause is `Memory`.
 ///
 /// ```text
 /// ensures found { IfOk result
@@ -334,7 +334,7 @@ impl<A: Allocator> Shorten for CoreFrame<A> {
 ///
 /// # Proved
 ///
-/// After `Ok`: `ok`. In any case: `front`, `too_long`. `front`: The new bytes begin with the old ones.
+/// After `Ok`: `ok`, the sink gains the minimal encoding. In any case: `front`; `too_long`, a value that has an encoding never gives `TooLong`. `front`: The new bytes begin with the old ones.
 ///
 /// ```text
 /// ensures ok { OnOk result
@@ -379,7 +379,7 @@ fn write_stack<A: Allocator, B: Sink>(
 ///
 /// # Proved
 ///
-/// After `Ok`: `ok`. After an error: `err`. In any case: `too_long`.
+/// After `Ok`: `ok`, the sink gains the minimal encoding. After an error: `err`, the bytes of the sink are unchanged. In any case: `too_long`, a value that has an encoding never gives `TooLong`.
 ///
 /// ```text
 /// ensures ok { OnOk result

@@ -10,7 +10,7 @@ use crate::base::{CowSlice, CowStr, Encode, Refused, Result, Section, SectionId,
 ///
 /// # Proved
 ///
-/// After `Ok`: `ok`, `reserved`, `was_encodable`. After an error: `err`. In any case: `too_long`, `too_many`, `spare`, `capacity`.
+/// After `Ok`: `ok`; `reserved`; `was_encodable`. After an error: `err`, the bytes of the sink are unchanged. In any case: `too_long`; `too_many`, more than 4294967295 give `TooLong`; `spare`; `capacity`, the capacity does not shrink.
 ///
 /// ```text
 /// ensures ok { OnOk result
@@ -86,7 +86,7 @@ impl<'a, A: Allocator + Copy> CustomSection<'a, A> {
     ///
     /// # Proved
     ///
-    /// After `Ok`: `same`. In any case: `memory`.
+    /// After `Ok`: `same`. In any case: `memory`, no error is `TooLong`.
     ///
     /// ```text
     /// ensures same { IfOk result

@@ -182,7 +182,7 @@ pub enum LinkItem<'a, A: Allocator = Global> {
 ///
 /// # Proved
 ///
-/// After `Ok`: `found`. After an error: `none`.
+/// After `Ok`: `found`, the bytes begin with an encoding of the value, and the returned bytes follow it. After an error: `none`, the bytes do not begin with such an encoding, unless the cause is `Memory`.
 ///
 /// ```text
 /// ensures found { IfOk result
@@ -266,7 +266,7 @@ impl<'a, A: Allocator + Copy + 'a, G: Grammar> Readable<'a, A, G> for LinkItem<'
 ///
 /// # Proved
 ///
-/// After `Ok`: `found`. After an error: `none`.
+/// After `Ok`: `found`. After an error: `none`, the bytes do not begin with such an encoding, unless the cause is `Memory`. `found`: `bytes` is an encoding of `x` in this mode, followed by `rest`.
 ///
 /// ```text
 /// ensures found { IfOk result
@@ -310,7 +310,7 @@ fn after_version<'a, A: Allocator + Copy, G: Grammar>(
 ///
 /// # Proved
 ///
-/// After `Ok`: `found`. After an error: `none`.
+/// After `Ok`: `found`. After an error: `none`, the bytes as a whole are no such encoding, unless the cause is `Memory`.
 ///
 /// ```text
 /// ensures found { IfOk result
@@ -335,7 +335,7 @@ pub fn read_links<'a, A: Allocator + Copy + 'a, G: Grammar>(
 ///
 /// # Proved
 ///
-/// After `Ok`: `ok`. In any case: `front`, `too_long`. `front`: The new bytes begin with the old ones.
+/// After `Ok`: `ok`, the sink gains the minimal encoding. In any case: `front`; `too_long`, a value that has an encoding never gives `TooLong`. `front`: The new bytes begin with the old ones.
 ///
 /// ```text
 /// ensures ok { OnOk result
@@ -363,7 +363,7 @@ fn append_vector<T: Shorten, A: Allocator, B: Sink>(
 ///
 /// # Proved
 ///
-/// After `Ok`: `ok`. In any case: `front`, `too_long`. `front`: The new bytes begin with the old ones.
+/// After `Ok`: `ok`, the sink gains the minimal encoding. In any case: `front`; `too_long`, a value that has an encoding never gives `TooLong`. `front`: The new bytes begin with the old ones.
 ///
 /// ```text
 /// ensures ok { OnOk result
@@ -397,7 +397,7 @@ impl<'a, A: Allocator> Shorten for LinkItem<'a, A> {
 ///
 /// # Proved
 ///
-/// After `Ok`: `ok`. In any case: `front`, `too_long`. `front`: The new bytes begin with the old ones.
+/// After `Ok`: `ok`, the sink gains the minimal encoding. In any case: `front`; `too_long`, a value that has an encoding never gives `TooLong`. `front`: The new bytes begin with the old ones.
 ///
 /// ```text
 /// ensures ok { OnOk result
@@ -440,7 +440,7 @@ fn write_links<A: Allocator, B: Sink>(
 ///
 /// # Proved
 ///
-/// After `Ok`: `ok`. After an error: `err`. In any case: `too_long`.
+/// After `Ok`: `ok`, the sink gains the minimal encoding. After an error: `err`, the bytes of the sink are unchanged. In any case: `too_long`, a value that has an encoding never gives `TooLong`.
 ///
 /// ```text
 /// ensures ok { OnOk result

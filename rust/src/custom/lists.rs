@@ -100,6 +100,8 @@ impl<K: ListKind, A: Allocator> CountedList<K, A> {
     ///
     /// # Proved
     ///
+    /// The result is true exactly if there are no entries.
+    ///
     /// ```text
     /// ensures { IsTrue result ↔ (length self.now ≡ 0) }
     /// ```
@@ -155,6 +157,8 @@ impl<K: ListKind, A: Allocator + Copy> CountedList<K, A> {
     ///
     /// # Proved
     ///
+    /// The result has no entries.
+    ///
     /// ```text
     /// ensures { result ≡ [] }
     /// ```
@@ -175,7 +179,7 @@ impl<K: ListKind, A: Allocator + Copy> CountedList<K, A> {
     ///
     /// # Proved
     ///
-    /// After `Ok`: `same`. In any case: `memory`.
+    /// After `Ok`: `same`, the result equals the value. In any case: `memory`, no error is `TooLong`.
     ///
     /// ```text
     /// ensures same { IfOk result (λ l. l ≡ self.now) }

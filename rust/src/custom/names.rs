@@ -777,7 +777,7 @@ fn name_kind_of(id: u8) -> NameKind {
 ///
 /// # Proved
 ///
-/// After `Ok`: `found`. After an error: `none`.
+/// After `Ok`: `found`. After an error: `none`, the bytes as a whole are no such encoding, unless the cause is `Memory`.
 ///
 /// ```text
 /// ensures found { IfOk result
@@ -865,7 +865,7 @@ impl<'a, A: Allocator + Copy + 'a, G: Grammar> Readable<'a, A, G> for NameItem<'
 ///
 /// # Proved
 ///
-/// After `Ok`: `found`. After an error: `none`.
+/// After `Ok`: `found`. After an error: `none`, the bytes as a whole are no such encoding, unless the cause is `Memory`.
 ///
 /// ```text
 /// ensures found { IfOk result
@@ -908,7 +908,7 @@ impl<'a, A: Allocator> NameItem<'a, A> {
     ///
     /// # Proved
     ///
-    /// After `Ok`: `ok`. In any case: `front`, `too_long`. `front`: The new bytes begin with the old ones.
+    /// After `Ok`: `ok`, the sink gains the minimal encoding. In any case: `front`; `too_long`, a value that has an encoding never gives `TooLong`. `front`: The new bytes begin with the old ones.
     ///
     /// ```text
     /// ensures ok { OnOk result
@@ -949,7 +949,7 @@ impl<'a, A: Allocator> Shorten for NameItem<'a, A> {
 ///
 /// # Proved
 ///
-/// After `Ok`: `ok`. In any case: `front`, `too_long`. `front`: The new bytes begin with the old ones.
+/// After `Ok`: `ok`, the sink gains the minimal encoding. In any case: `front`; `too_long`, a value that has an encoding never gives `TooLong`. `front`: The new bytes begin with the old ones.
 ///
 /// ```text
 /// ensures ok { OnOk result
@@ -992,7 +992,7 @@ fn write_names<A: Allocator, B: Sink>(
 ///
 /// # Proved
 ///
-/// After `Ok`: `ok`. After an error: `err`. In any case: `too_long`.
+/// After `Ok`: `ok`, the sink gains the minimal encoding. After an error: `err`, the bytes of the sink are unchanged. In any case: `too_long`, a value that has an encoding never gives `TooLong`.
 ///
 /// ```text
 /// ensures ok { OnOk result

@@ -87,6 +87,8 @@ fn encode_content<T: Content, A: Sink>(sink: &mut A, content: &T) -> Result<()> 
 ///
 /// # Proved
 ///
+/// In any case: `same`; `memory`, no error is `TooLong`; `spare`; `capacity`, the capacity does not shrink.
+///
 /// ```text
 /// ensures same { sink.new.items ≡ sink.old.items }
 /// ensures memory { result ≢ Err TooLong }

@@ -930,7 +930,7 @@ impl<'a, A: Allocator + Copy> Instruction<'a, A> {
     ///
     /// # Proved
     ///
-    /// After `Ok`: `ok`. In any case: `err`.
+    /// After `Ok`: `ok`. In any case: `err`, no error is `TooLong`.
     ///
     /// ```text
     /// ensures ok { IfOk result (λ i. row_of i ≡ row_of self.now) }
@@ -990,7 +990,7 @@ impl<'a, A: Allocator + Copy> Instruction<'a, A> {
     ///
     /// # Proved
     ///
-    /// After `Ok`: `ok`. In any case: `err`.
+    /// After `Ok`: `ok`. In any case: `err`, no error is `TooLong`.
     ///
     /// ```text
     /// ensures ok { IfOk result (λ i. row_of i ≡ row_of self.now) }
@@ -1041,7 +1041,7 @@ impl<'a, A: Allocator + Copy> Instruction<'a, A> {
     ///
     /// # Proved
     ///
-    /// After `Ok`: `ok`. In any case: `err`.
+    /// After `Ok`: `ok`. In any case: `err`, no error is `TooLong`.
     ///
     /// ```text
     /// ensures ok { IfOk result (λ i. row_of i ≡ row_of self.now) }
@@ -1109,7 +1109,7 @@ impl<'a, A: Allocator + Copy> Instruction<'a, A> {
     ///
     /// # Proved
     ///
-    /// After `Ok`: `ok`. In any case: `err`.
+    /// After `Ok`: `ok`. In any case: `err`, no error is `TooLong`.
     ///
     /// ```text
     /// ensures ok { IfOk result (λ i. row_of i ≡ row_of self.now) }
@@ -1252,7 +1252,7 @@ impl<'a, A: Allocator + Copy> Instruction<'a, A> {
     ///
     /// # Proved
     ///
-    /// After `Ok`: `ok`. In any case: `err`.
+    /// After `Ok`: `ok`. In any case: `err`, no error is `TooLong`.
     ///
     /// ```text
     /// ensures ok { IfOk result (λ i. row_of i ≡ row_of self.now) }

@@ -189,7 +189,7 @@ impl<'a, B: Buffer> InstructionSink<'a, B> {
     ///
     /// # Proved
     ///
-    /// `writes`: The sink gains the encoding, or the call returns an error and leaves the bytes as they were. If the value fits, the call never returns `TooLong`, and it succeeds within the spare capacity.
+    /// In any case: `same_reference`, the sink writes to the buffer that it wrote to; `writes`. `writes`: The sink gains the encoding, or the call returns an error and leaves the bytes as they were. If the value fits, the call never returns `TooLong`, and it succeeds within the spare capacity.
     ///
     /// ```text
     /// ensures same_reference { self.new.sink.ghost_name ≡ self.old.sink.ghost_name }
@@ -224,7 +224,7 @@ impl<'a, B: Buffer> InstructionSink<'a, B> {
     ///
     /// # Proved
     ///
-    /// `writes`: The sink gains the encoding, or the call returns an error and leaves the bytes as they were. If the value fits, the call never returns `TooLong`, and it succeeds within the spare capacity.
+    /// In any case: `same_reference`, the sink writes to the buffer that it wrote to; `writes`. `writes`: The sink gains the encoding, or the call returns an error and leaves the bytes as they were. If the value fits, the call never returns `TooLong`, and it succeeds within the spare capacity.
     ///
     /// ```text
     /// ensures same_reference { self.new.sink.ghost_name ≡ self.old.sink.ghost_name }
@@ -247,7 +247,7 @@ impl<'a, B: Buffer> InstructionSink<'a, B> {
     ///
     /// # Proved
     ///
-    /// `writes`: The sink gains the encoding of the instruction, or the call returns an error and leaves the bytes as they were.
+    /// In any case: `same_reference`, the sink writes to the buffer that it wrote to; `writes`. `writes`: The sink gains the encoding of the instruction, or the call returns an error and leaves the bytes as they were.
     ///
     /// ```text
     /// ensures same_reference { self.new.sink.ghost_name ≡ self.old.sink.ghost_name }
@@ -269,7 +269,7 @@ impl<'a, B: Buffer> InstructionSink<'a, B> {
     ///
     /// # Proved
     ///
-    /// `writes`: The sink gains the encoding of the instruction, or the call returns an error and leaves the bytes as they were.
+    /// In any case: `same_reference`, the sink writes to the buffer that it wrote to; `writes`. `writes`: The sink gains the encoding of the instruction, or the call returns an error and leaves the bytes as they were.
     ///
     /// ```text
     /// ensures same_reference { self.new.sink.ghost_name ≡ self.old.sink.ghost_name }
@@ -291,7 +291,7 @@ impl<'a, B: Buffer> InstructionSink<'a, B> {
     ///
     /// # Proved
     ///
-    /// `writes`: The sink gains the encoding of the instruction, or the call returns an error and leaves the bytes as they were.
+    /// In any case: `same_reference`, the sink writes to the buffer that it wrote to; `writes`. `writes`: The sink gains the encoding of the instruction, or the call returns an error and leaves the bytes as they were.
     ///
     /// ```text
     /// ensures same_reference { self.new.sink.ghost_name ≡ self.old.sink.ghost_name }
@@ -313,7 +313,7 @@ impl<'a, B: Buffer> InstructionSink<'a, B> {
     ///
     /// # Proved
     ///
-    /// `writes`: The sink gains the encoding of the instruction, or the call returns an error and leaves the bytes as they were.
+    /// In any case: `same_reference`, the sink writes to the buffer that it wrote to; `writes`. `writes`: The sink gains the encoding of the instruction, or the call returns an error and leaves the bytes as they were.
     ///
     /// ```text
     /// ensures same_reference { self.new.sink.ghost_name ≡ self.old.sink.ghost_name }
@@ -335,7 +335,7 @@ impl<'a, B: Buffer> InstructionSink<'a, B> {
     ///
     /// # Proved
     ///
-    /// `writes`: The sink gains the encoding of the instruction, or the call returns an error and leaves the bytes as they were.
+    /// In any case: `same_reference`, the sink writes to the buffer that it wrote to; `writes`. `writes`: The sink gains the encoding of the instruction, or the call returns an error and leaves the bytes as they were.
     ///
     /// ```text
     /// ensures same_reference { self.new.sink.ghost_name ≡ self.old.sink.ghost_name }
@@ -357,7 +357,7 @@ impl<'a, B: Buffer> InstructionSink<'a, B> {
     ///
     /// # Proved
     ///
-    /// `writes`: The sink gains the encoding of the instruction, or the call returns an error and leaves the bytes as they were.
+    /// In any case: `same_reference`, the sink writes to the buffer that it wrote to; `writes`. `writes`: The sink gains the encoding of the instruction, or the call returns an error and leaves the bytes as they were.
     ///
     /// ```text
     /// ensures same_reference { self.new.sink.ghost_name ≡ self.old.sink.ghost_name }
@@ -379,7 +379,7 @@ impl<'a, B: Buffer> InstructionSink<'a, B> {
     ///
     /// # Proved
     ///
-    /// `writes`: The sink gains the encoding of the instruction, or the call returns an error and leaves the bytes as they were.
+    /// In any case: `same_reference`, the sink writes to the buffer that it wrote to; `writes`. `writes`: The sink gains the encoding of the instruction, or the call returns an error and leaves the bytes as they were.
     ///
     /// ```text
     /// ensures same_reference { self.new.sink.ghost_name ≡ self.old.sink.ghost_name }
@@ -401,7 +401,7 @@ impl<'a, B: Buffer> InstructionSink<'a, B> {
     ///
     /// # Proved
     ///
-    /// `writes`: The sink gains the encoding of the instruction, or the call returns an error and leaves the bytes as they were.
+    /// In any case: `same_reference`, the sink writes to the buffer that it wrote to; `writes`. `writes`: The sink gains the encoding of the instruction, or the call returns an error and leaves the bytes as they were.
     ///
     /// ```text
     /// ensures same_reference { self.new.sink.ghost_name ≡ self.old.sink.ghost_name }
@@ -423,7 +423,7 @@ impl<'a, B: Buffer> InstructionSink<'a, B> {
     ///
     /// # Proved
     ///
-    /// `writes`: The sink gains the encoding of the instruction, or the call returns an error and leaves the bytes as they were.
+    /// In any case: `same_reference`, the sink writes to the buffer that it wrote to; `writes`. `writes`: The sink gains the encoding of the instruction, or the call returns an error and leaves the bytes as they were.
     ///
     /// ```text
     /// ensures same_reference { self.new.sink.ghost_name ≡ self.old.sink.ghost_name }
@@ -457,7 +457,7 @@ impl<'a, B: Buffer> InstructionSink<'a, B> {
     ///
     /// # Proved
     ///
-    /// `writes`: The sink gains `br_table` with the labels that the iterator yields, or the call returns an error and changes nothing. More than 2^32 - 1 labels give `TooLong`.
+    /// In any case: `same_reference`, the sink writes to the buffer that it wrote to; `writes`. `writes`: The sink gains `br_table` with the labels that the iterator yields, or the call returns an error and changes nothing. More than 2^32 - 1 labels give `TooLong`.
     ///
     /// ```text
     /// ensures same_reference { self.new.sink.ghost_name ≡ self.old.sink.ghost_name }
@@ -483,7 +483,7 @@ impl<'a, B: Buffer> InstructionSink<'a, B> {
     ///
     /// # Proved
     ///
-    /// `writes`: The sink gains the encoding of the instruction, or the call returns an error and leaves the bytes as they were.
+    /// In any case: `same_reference`, the sink writes to the buffer that it wrote to; `writes`. `writes`: The sink gains the encoding of the instruction, or the call returns an error and leaves the bytes as they were.
     ///
     /// ```text
     /// ensures same_reference { self.new.sink.ghost_name ≡ self.old.sink.ghost_name }
@@ -505,7 +505,7 @@ impl<'a, B: Buffer> InstructionSink<'a, B> {
     ///
     /// # Proved
     ///
-    /// `writes`: The sink gains the encoding of the instruction, or the call returns an error and leaves the bytes as they were.
+    /// In any case: `same_reference`, the sink writes to the buffer that it wrote to; `writes`. `writes`: The sink gains the encoding of the instruction, or the call returns an error and leaves the bytes as they were.
     ///
     /// ```text
     /// ensures same_reference { self.new.sink.ghost_name ≡ self.old.sink.ghost_name }
@@ -527,7 +527,7 @@ impl<'a, B: Buffer> InstructionSink<'a, B> {
     ///
     /// # Proved
     ///
-    /// `writes`: The sink gains the encoding of the instruction, or the call returns an error and leaves the bytes as they were.
+    /// In any case: `same_reference`, the sink writes to the buffer that it wrote to; `writes`. `writes`: The sink gains the encoding of the instruction, or the call returns an error and leaves the bytes as they were.
     ///
     /// ```text
     /// ensures same_reference { self.new.sink.ghost_name ≡ self.old.sink.ghost_name }
@@ -550,7 +550,7 @@ impl<'a, B: Buffer> InstructionSink<'a, B> {
     ///
     /// # Proved
     ///
-    /// `writes`: The sink gains the encoding of the instruction, or the call returns an error and leaves the bytes as they were.
+    /// In any case: `same_reference`, the sink writes to the buffer that it wrote to; `writes`. `writes`: The sink gains the encoding of the instruction, or the call returns an error and leaves the bytes as they were.
     ///
     /// ```text
     /// ensures same_reference { self.new.sink.ghost_name ≡ self.old.sink.ghost_name }
@@ -572,7 +572,7 @@ impl<'a, B: Buffer> InstructionSink<'a, B> {
     ///
     /// # Proved
     ///
-    /// `writes`: The sink gains the encoding of the instruction, or the call returns an error and leaves the bytes as they were.
+    /// In any case: `same_reference`, the sink writes to the buffer that it wrote to; `writes`. `writes`: The sink gains the encoding of the instruction, or the call returns an error and leaves the bytes as they were.
     ///
     /// ```text
     /// ensures same_reference { self.new.sink.ghost_name ≡ self.old.sink.ghost_name }
@@ -594,7 +594,7 @@ impl<'a, B: Buffer> InstructionSink<'a, B> {
     ///
     /// # Proved
     ///
-    /// `writes`: The sink gains the encoding of the instruction, or the call returns an error and leaves the bytes as they were.
+    /// In any case: `same_reference`, the sink writes to the buffer that it wrote to; `writes`. `writes`: The sink gains the encoding of the instruction, or the call returns an error and leaves the bytes as they were.
     ///
     /// ```text
     /// ensures same_reference { self.new.sink.ghost_name ≡ self.old.sink.ghost_name }
@@ -617,7 +617,7 @@ impl<'a, B: Buffer> InstructionSink<'a, B> {
     ///
     /// # Proved
     ///
-    /// `writes`: The sink gains the encoding of the instruction, or the call returns an error and leaves the bytes as they were.
+    /// In any case: `same_reference`, the sink writes to the buffer that it wrote to; `writes`. `writes`: The sink gains the encoding of the instruction, or the call returns an error and leaves the bytes as they were.
     ///
     /// ```text
     /// ensures same_reference { self.new.sink.ghost_name ≡ self.old.sink.ghost_name }
@@ -640,7 +640,7 @@ impl<'a, B: Buffer> InstructionSink<'a, B> {
     ///
     /// # Proved
     ///
-    /// `writes`: The sink gains the encoding of the instruction, or the call returns an error and leaves the bytes as they were.
+    /// In any case: `same_reference`, the sink writes to the buffer that it wrote to; `writes`. `writes`: The sink gains the encoding of the instruction, or the call returns an error and leaves the bytes as they were.
     ///
     /// ```text
     /// ensures same_reference { self.new.sink.ghost_name ≡ self.old.sink.ghost_name }
@@ -662,7 +662,7 @@ impl<'a, B: Buffer> InstructionSink<'a, B> {
     ///
     /// # Proved
     ///
-    /// `writes`: The sink gains the encoding of the instruction, or the call returns an error and leaves the bytes as they were.
+    /// In any case: `same_reference`, the sink writes to the buffer that it wrote to; `writes`. `writes`: The sink gains the encoding of the instruction, or the call returns an error and leaves the bytes as they were.
     ///
     /// ```text
     /// ensures same_reference { self.new.sink.ghost_name ≡ self.old.sink.ghost_name }
@@ -684,7 +684,7 @@ impl<'a, B: Buffer> InstructionSink<'a, B> {
     ///
     /// # Proved
     ///
-    /// `writes`: The sink gains the encoding of the instruction, or the call returns an error and leaves the bytes as they were.
+    /// In any case: `same_reference`, the sink writes to the buffer that it wrote to; `writes`. `writes`: The sink gains the encoding of the instruction, or the call returns an error and leaves the bytes as they were.
     ///
     /// ```text
     /// ensures same_reference { self.new.sink.ghost_name ≡ self.old.sink.ghost_name }
@@ -706,7 +706,7 @@ impl<'a, B: Buffer> InstructionSink<'a, B> {
     ///
     /// # Proved
     ///
-    /// `writes`: The sink gains the encoding of the instruction, or the call returns an error and leaves the bytes as they were.
+    /// In any case: `same_reference`, the sink writes to the buffer that it wrote to; `writes`. `writes`: The sink gains the encoding of the instruction, or the call returns an error and leaves the bytes as they were.
     ///
     /// ```text
     /// ensures same_reference { self.new.sink.ghost_name ≡ self.old.sink.ghost_name }
@@ -728,7 +728,7 @@ impl<'a, B: Buffer> InstructionSink<'a, B> {
     ///
     /// # Proved
     ///
-    /// `writes`: The sink gains the encoding of the instruction, or the call returns an error and leaves the bytes as they were.
+    /// In any case: `same_reference`, the sink writes to the buffer that it wrote to; `writes`. `writes`: The sink gains the encoding of the instruction, or the call returns an error and leaves the bytes as they were.
     ///
     /// ```text
     /// ensures same_reference { self.new.sink.ghost_name ≡ self.old.sink.ghost_name }
@@ -750,7 +750,7 @@ impl<'a, B: Buffer> InstructionSink<'a, B> {
     ///
     /// # Proved
     ///
-    /// `writes`: The sink gains the encoding of the instruction, or the call returns an error and leaves the bytes as they were.
+    /// In any case: `same_reference`, the sink writes to the buffer that it wrote to; `writes`. `writes`: The sink gains the encoding of the instruction, or the call returns an error and leaves the bytes as they were.
     ///
     /// ```text
     /// ensures same_reference { self.new.sink.ghost_name ≡ self.old.sink.ghost_name }
@@ -772,7 +772,7 @@ impl<'a, B: Buffer> InstructionSink<'a, B> {
     ///
     /// # Proved
     ///
-    /// `writes`: The sink gains the encoding of the instruction, or the call returns an error and leaves the bytes as they were.
+    /// In any case: `same_reference`, the sink writes to the buffer that it wrote to; `writes`. `writes`: The sink gains the encoding of the instruction, or the call returns an error and leaves the bytes as they were.
     ///
     /// ```text
     /// ensures same_reference { self.new.sink.ghost_name ≡ self.old.sink.ghost_name }
@@ -794,7 +794,7 @@ impl<'a, B: Buffer> InstructionSink<'a, B> {
     ///
     /// # Proved
     ///
-    /// `writes`: The sink gains the encoding of the instruction, or the call returns an error and leaves the bytes as they were.
+    /// In any case: `same_reference`, the sink writes to the buffer that it wrote to; `writes`. `writes`: The sink gains the encoding of the instruction, or the call returns an error and leaves the bytes as they were.
     ///
     /// ```text
     /// ensures same_reference { self.new.sink.ghost_name ≡ self.old.sink.ghost_name }
@@ -816,7 +816,7 @@ impl<'a, B: Buffer> InstructionSink<'a, B> {
     ///
     /// # Proved
     ///
-    /// `writes`: The sink gains the encoding of the instruction, or the call returns an error and leaves the bytes as they were.
+    /// In any case: `same_reference`, the sink writes to the buffer that it wrote to; `writes`. `writes`: The sink gains the encoding of the instruction, or the call returns an error and leaves the bytes as they were.
     ///
     /// ```text
     /// ensures same_reference { self.new.sink.ghost_name ≡ self.old.sink.ghost_name }
@@ -838,7 +838,7 @@ impl<'a, B: Buffer> InstructionSink<'a, B> {
     ///
     /// # Proved
     ///
-    /// `writes`: The sink gains the encoding of the instruction, or the call returns an error and leaves the bytes as they were.
+    /// In any case: `same_reference`, the sink writes to the buffer that it wrote to; `writes`. `writes`: The sink gains the encoding of the instruction, or the call returns an error and leaves the bytes as they were.
     ///
     /// ```text
     /// ensures same_reference { self.new.sink.ghost_name ≡ self.old.sink.ghost_name }
@@ -860,7 +860,7 @@ impl<'a, B: Buffer> InstructionSink<'a, B> {
     ///
     /// # Proved
     ///
-    /// `writes`: The sink gains the encoding of the instruction, or the call returns an error and leaves the bytes as they were.
+    /// In any case: `same_reference`, the sink writes to the buffer that it wrote to; `writes`. `writes`: The sink gains the encoding of the instruction, or the call returns an error and leaves the bytes as they were.
     ///
     /// ```text
     /// ensures same_reference { self.new.sink.ghost_name ≡ self.old.sink.ghost_name }
@@ -882,7 +882,7 @@ impl<'a, B: Buffer> InstructionSink<'a, B> {
     ///
     /// # Proved
     ///
-    /// `writes`: The sink gains the encoding of the instruction, or the call returns an error and leaves the bytes as they were.
+    /// In any case: `same_reference`, the sink writes to the buffer that it wrote to; `writes`. `writes`: The sink gains the encoding of the instruction, or the call returns an error and leaves the bytes as they were.
     ///
     /// ```text
     /// ensures same_reference { self.new.sink.ghost_name ≡ self.old.sink.ghost_name }
@@ -904,7 +904,7 @@ impl<'a, B: Buffer> InstructionSink<'a, B> {
     ///
     /// # Proved
     ///
-    /// `writes`: The sink gains the encoding of the instruction, or the call returns an error and leaves the bytes as they were.
+    /// In any case: `same_reference`, the sink writes to the buffer that it wrote to; `writes`. `writes`: The sink gains the encoding of the instruction, or the call returns an error and leaves the bytes as they were.
     ///
     /// ```text
     /// ensures same_reference { self.new.sink.ghost_name ≡ self.old.sink.ghost_name }
@@ -926,7 +926,7 @@ impl<'a, B: Buffer> InstructionSink<'a, B> {
     ///
     /// # Proved
     ///
-    /// `writes`: The sink gains the encoding of the instruction, or the call returns an error and leaves the bytes as they were.
+    /// In any case: `same_reference`, the sink writes to the buffer that it wrote to; `writes`. `writes`: The sink gains the encoding of the instruction, or the call returns an error and leaves the bytes as they were.
     ///
     /// ```text
     /// ensures same_reference { self.new.sink.ghost_name ≡ self.old.sink.ghost_name }
@@ -949,7 +949,7 @@ impl<'a, B: Buffer> InstructionSink<'a, B> {
     ///
     /// # Proved
     ///
-    /// `writes`: The sink gains the encoding of the instruction, or the call returns an error and leaves the bytes as they were.
+    /// In any case: `same_reference`, the sink writes to the buffer that it wrote to; `writes`. `writes`: The sink gains the encoding of the instruction, or the call returns an error and leaves the bytes as they were.
     ///
     /// ```text
     /// ensures same_reference { self.new.sink.ghost_name ≡ self.old.sink.ghost_name }
@@ -971,7 +971,7 @@ impl<'a, B: Buffer> InstructionSink<'a, B> {
     ///
     /// # Proved
     ///
-    /// `writes`: The sink gains the encoding of the instruction, or the call returns an error and leaves the bytes as they were.
+    /// In any case: `same_reference`, the sink writes to the buffer that it wrote to; `writes`. `writes`: The sink gains the encoding of the instruction, or the call returns an error and leaves the bytes as they were.
     ///
     /// ```text
     /// ensures same_reference { self.new.sink.ghost_name ≡ self.old.sink.ghost_name }
@@ -993,7 +993,7 @@ impl<'a, B: Buffer> InstructionSink<'a, B> {
     ///
     /// # Proved
     ///
-    /// `writes`: The sink gains the encoding of the instruction, or the call returns an error and leaves the bytes as they were.
+    /// In any case: `same_reference`, the sink writes to the buffer that it wrote to; `writes`. `writes`: The sink gains the encoding of the instruction, or the call returns an error and leaves the bytes as they were.
     ///
     /// ```text
     /// ensures same_reference { self.new.sink.ghost_name ≡ self.old.sink.ghost_name }
@@ -1015,7 +1015,7 @@ impl<'a, B: Buffer> InstructionSink<'a, B> {
     ///
     /// # Proved
     ///
-    /// `writes`: The sink gains the encoding of the instruction, or the call returns an error and leaves the bytes as they were.
+    /// In any case: `same_reference`, the sink writes to the buffer that it wrote to; `writes`. `writes`: The sink gains the encoding of the instruction, or the call returns an error and leaves the bytes as they were.
     ///
     /// ```text
     /// ensures same_reference { self.new.sink.ghost_name ≡ self.old.sink.ghost_name }
@@ -1037,7 +1037,7 @@ impl<'a, B: Buffer> InstructionSink<'a, B> {
     ///
     /// # Proved
     ///
-    /// `writes`: The sink gains the encoding of the instruction, or the call returns an error and leaves the bytes as they were.
+    /// In any case: `same_reference`, the sink writes to the buffer that it wrote to; `writes`. `writes`: The sink gains the encoding of the instruction, or the call returns an error and leaves the bytes as they were.
     ///
     /// ```text
     /// ensures same_reference { self.new.sink.ghost_name ≡ self.old.sink.ghost_name }
@@ -1059,7 +1059,7 @@ impl<'a, B: Buffer> InstructionSink<'a, B> {
     ///
     /// # Proved
     ///
-    /// `writes`: The sink gains the encoding of the instruction, or the call returns an error and leaves the bytes as they were.
+    /// In any case: `same_reference`, the sink writes to the buffer that it wrote to; `writes`. `writes`: The sink gains the encoding of the instruction, or the call returns an error and leaves the bytes as they were.
     ///
     /// ```text
     /// ensures same_reference { self.new.sink.ghost_name ≡ self.old.sink.ghost_name }
@@ -1081,7 +1081,7 @@ impl<'a, B: Buffer> InstructionSink<'a, B> {
     ///
     /// # Proved
     ///
-    /// `writes`: The sink gains the encoding of the instruction, or the call returns an error and leaves the bytes as they were.
+    /// In any case: `same_reference`, the sink writes to the buffer that it wrote to; `writes`. `writes`: The sink gains the encoding of the instruction, or the call returns an error and leaves the bytes as they were.
     ///
     /// ```text
     /// ensures same_reference { self.new.sink.ghost_name ≡ self.old.sink.ghost_name }
@@ -1103,7 +1103,7 @@ impl<'a, B: Buffer> InstructionSink<'a, B> {
     ///
     /// # Proved
     ///
-    /// `writes`: The sink gains the encoding of the instruction, or the call returns an error and leaves the bytes as they were.
+    /// In any case: `same_reference`, the sink writes to the buffer that it wrote to; `writes`. `writes`: The sink gains the encoding of the instruction, or the call returns an error and leaves the bytes as they were.
     ///
     /// ```text
     /// ensures same_reference { self.new.sink.ghost_name ≡ self.old.sink.ghost_name }
@@ -1125,7 +1125,7 @@ impl<'a, B: Buffer> InstructionSink<'a, B> {
     ///
     /// # Proved
     ///
-    /// `writes`: The sink gains the encoding of the instruction, or the call returns an error and leaves the bytes as they were.
+    /// In any case: `same_reference`, the sink writes to the buffer that it wrote to; `writes`. `writes`: The sink gains the encoding of the instruction, or the call returns an error and leaves the bytes as they were.
     ///
     /// ```text
     /// ensures same_reference { self.new.sink.ghost_name ≡ self.old.sink.ghost_name }
@@ -1147,7 +1147,7 @@ impl<'a, B: Buffer> InstructionSink<'a, B> {
     ///
     /// # Proved
     ///
-    /// `writes`: The sink gains the encoding of the instruction, or the call returns an error and leaves the bytes as they were.
+    /// In any case: `same_reference`, the sink writes to the buffer that it wrote to; `writes`. `writes`: The sink gains the encoding of the instruction, or the call returns an error and leaves the bytes as they were.
     ///
     /// ```text
     /// ensures same_reference { self.new.sink.ghost_name ≡ self.old.sink.ghost_name }

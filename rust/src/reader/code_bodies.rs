@@ -73,7 +73,7 @@ impl<'a, A: Allocator + Copy> Section<'a, A> {
     ///
     /// # Proved
     ///
-    /// After `Ok`: `id`, `found`, `end`. After an error: `none`, `from`, `within`.
+    /// After `Ok`: `id`; `found`; `end`. After an error: `none`; `from`; `within`. `found`: `bytes` is an encoding of `x` in this mode, followed by `rest`.
     ///
     /// ```text
     /// ensures id { IfOk result (λ _. self.now.section.id ≡ 10) }
@@ -248,7 +248,7 @@ impl<'a, A: Allocator + Copy> CodeBody<'a, A> {
     ///
     /// # Proved
     ///
-    /// After `Ok`: `found`, `same`, `inside`, `before`. After an error: `none`, `from`, `within`.
+    /// After `Ok`: `found`; `same`; `inside`; `before`. After an error: `none`, the bytes as a whole are no such encoding, unless the cause is `Memory`; `from`; `within`. `found`: `bytes` is an encoding of `x` in this mode, followed by `rest`.
     ///
     /// ```text
     /// ensures found { IfOk result

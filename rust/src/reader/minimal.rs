@@ -12,7 +12,7 @@ use crate::code::shorten_body;
 ///
 /// # Proved
 ///
-/// After `Ok`: `found`. After an error: `none`. In any case: `front`. `front`: The new bytes begin with the old ones.
+/// After `Ok`: `found`. After an error: `none`, the bytes as a whole are no such encoding, unless the cause is `Memory`. In any case: `front`. `front`: The new bytes begin with the old ones.
 ///
 /// ```text
 /// ensures found { OnOk result
@@ -48,7 +48,7 @@ fn shorten_bodies<A: Allocator + Copy, B: Sink>(
 ///
 /// # Proved
 ///
-/// After `Ok`: `found`. After an error: `none`. In any case: `front`. `front`: The new bytes begin with the old ones.
+/// After `Ok`: `found`. After an error: `none`, the bytes as a whole are no such encoding, unless the cause is `Memory`. In any case: `front`. `front`: The new bytes begin with the old ones.
 ///
 /// ```text
 /// ensures found { OnOk result
@@ -81,7 +81,7 @@ fn shorten_content<A: Allocator + Copy, B: Sink>(
 ///
 /// # Proved
 ///
-/// After `Ok`: `found`. After an error: `none`. In any case: `front`. `front`: The new bytes begin with the old ones.
+/// After `Ok`: `found`. After an error: `none`, the bytes as a whole are no such encoding, unless the cause is `Memory`. In any case: `front`. `front`: The new bytes begin with the old ones.
 ///
 /// ```text
 /// ensures found { OnOk result
@@ -133,7 +133,7 @@ fn shorten_sized<A: Allocator + Copy, B: Sink>(
 ///
 /// # Proved
 ///
-/// After `Ok`: `ok`. After an error: `err`, `none`.
+/// After `Ok`: `ok`. After an error: `err`, the bytes of the sink are unchanged; `none`, the bytes do not begin with such an encoding, unless the cause is `Memory`. `ok`: The first `n` bytes are a section of this kind. The buffer gains its minimal encoding, which has at most `n` bytes.
 ///
 /// ```text
 /// ensures ok { IfOk result
@@ -156,7 +156,7 @@ pub fn shorten<A: Allocator + Copy>(
 ///
 /// # Proved
 ///
-/// After `Ok`: `ok`. After an error: `err`, `none`.
+/// After `Ok`: `ok`. After an error: `err`, the bytes of the sink are unchanged; `none`, the bytes do not begin with such an encoding, unless the cause is `Memory`. `ok`: The first `n` bytes are a section of this kind. The buffer gains its minimal encoding, which has at most `n` bytes.
 ///
 /// ```text
 /// ensures ok { IfOk result

@@ -42,7 +42,7 @@ pub struct Listed {
 ///
 /// # Proved
 ///
-/// After `Ok`: `found`. After an error: `none`, `cause`.
+/// After `Ok`: `found`. After an error: `none`, the bytes do not begin with such an encoding; `cause`.
 ///
 /// ```text
 /// ensures found { IfOk result (λ rest. bytes.now ≡ header ++ rest.now) }
@@ -68,7 +68,7 @@ pub(crate) fn read_header(bytes: &[u8]) -> Result<&[u8], ReadFault> {
 ///
 /// # Proved
 ///
-/// After `Ok`: `found`. After an error: `none`.
+/// After `Ok`: `found`. After an error: `none`, the bytes as a whole are no such encoding, unless the cause is `Memory`.
 ///
 /// ```text
 /// ensures found { IfOk result
@@ -113,7 +113,7 @@ fn line_of<A: Allocator + Copy>(section: &Section<'_, A>) -> Result<Listed, Read
 ///
 /// # Proved
 ///
-/// After `Ok`: `found`. After an error: `none`, `header`.
+/// After `Ok`: `found`. After an error: `none`; `header`. `found`: The bytes are a module whose sections have these lines.
 ///
 /// ```text
 /// ensures found { IfOk result (λ lines. HasLines bytes.now lines.items) }

@@ -45,7 +45,7 @@ pub struct Outlined<'a> {
 ///
 /// # Proved
 ///
-/// After `Ok`: `found`. After an error: `memory`.
+/// After `Ok`: `found`. After an error: `memory`, the cause is `Memory`. `found`: The payload decodes to this number of items of the kind. There is no number if it does not decode, or if its items are not counted.
 ///
 /// ```text
 /// ensures found { IfOk result
@@ -67,7 +67,7 @@ fn count<A: Allocator + Copy>(section: &Section<'_, A>) -> Result<Option<u32>, R
 ///
 /// # Proved
 ///
-/// After `Ok`: `found`. After an error: `memory`.
+/// After `Ok`: `found`. After an error: `memory`, the cause is `Memory`. `found`: The line describes a section whose id is at this offset.
 ///
 /// ```text
 /// ensures found { IfOk result
@@ -113,7 +113,7 @@ fn line_of<'a, A: Allocator + Copy>(section: &Section<'a, A>) -> Result<Outlined
 ///
 /// # Proved
 ///
-/// After `Ok`: `found`. After an error: `none`, `no_module`.
+/// After `Ok`: `found`. After an error: `none`; `no_module`. `found`: The bytes are a module of sections that the lines describe.
 ///
 /// ```text
 /// ensures found { IfOk result (λ lines. HasOutline bytes.now lines.items) }

@@ -29,7 +29,7 @@ use crate::base::{Padded, ReadFault, Readable};
 ///
 /// # Proved
 ///
-/// After `Ok`: `found`. After an error: `none`.
+/// After `Ok`: `found`. After an error: `none`, the bytes do not begin with such an encoding, unless the cause is `Memory`. `found`: The first `n` bytes are a section of this kind, possibly padded, with this content.
 ///
 /// ```text
 /// ensures found { IfOk result (λ x. Takes kind bytes.now (contents_of x.0) x.1) }

@@ -84,7 +84,7 @@ impl<'a, A: Allocator + Copy> Sections<'a, A> {
     ///
     /// # Proved
     ///
-    /// After `Ok`: `found`, `offset`, `same`. After an error: `none`, `cause`, `within`.
+    /// After `Ok`: `found`; `offset`; `same`. After an error: `none`, the bytes do not begin with such an encoding; `cause`; `within`.
     ///
     /// ```text
     /// ensures found { IfOk result (λ it. module.now ≡ header ++ ahead it) }
@@ -327,7 +327,7 @@ impl<'a, A: Allocator + Copy> Section<'a, A> {
     ///
     /// # Proved
     ///
-    /// After `Ok`: `found`. After an error: `none`, `within`.
+    /// After `Ok`: `found`. After an error: `none`, the bytes as a whole are no such encoding, unless the cause is `Memory`; `within`, the offset of the error is in the payload.
     ///
     /// ```text
     /// ensures found { IfOk result
@@ -363,7 +363,7 @@ impl<'a, A: Allocator + Copy> Section<'a, A> {
     ///
     /// # Proved
     ///
-    /// After `Ok`: `found`. After an error: `none`, `within`.
+    /// After `Ok`: `found`. After an error: `none`, the bytes as a whole are no such encoding, unless the cause is `Memory`; `within`, the offset of the error is in the payload.
     ///
     /// ```text
     /// ensures found { IfOk result

@@ -243,7 +243,7 @@ impl Standing<'_> {
 ///
 /// # Proved
 ///
-/// After `Ok`: `ok`. After an error: `err`, `memory`.
+/// After `Ok`: `ok`. After an error: `err`, the bytes of the sink are unchanged; `memory`, the cause is `Memory`.
 ///
 /// ```text
 /// ensures ok { IfOk result
@@ -320,7 +320,7 @@ struct Written {
 ///
 /// # Proved
 ///
-/// After `Ok`: `ok`. After an error: `err`, `memory`.
+/// After `Ok`: `ok`. After an error: `err`, the bytes of the sink are unchanged; `memory`, the cause is `Memory`. `ok`: The buffer gains the output for the section.
 ///
 /// ```text
 /// ensures ok { IfOk result
@@ -578,7 +578,7 @@ fn is_same(a: usize, b: usize) -> bool {
 ///
 /// # Proved
 ///
-/// After `Ok`: `ok`. After an error: `none`. In any case: `front`. `front`: The new bytes begin with the old ones.
+/// After `Ok`: `ok`. After an error: `none`. In any case: `front`. `ok`: The bytes begin with sections, followed by `rest`, and the output for these sections is appended. `front`: The new bytes begin with the old ones.
 ///
 /// ```text
 /// ensures ok { IfOk result
@@ -619,7 +619,7 @@ fn append_sections<A: Allocator + Copy, B: Sink>(
 ///
 /// # Proved
 ///
-/// After `Ok`: `ok`. After an error: `err`.
+/// After `Ok`: `ok`. After an error: `err`, the bytes of the sink are unchanged.
 ///
 /// ```text
 /// ensures ok { OnOk result (sink.new.items ≡ sink.old.items ++ header) }
@@ -637,7 +637,7 @@ fn begin_module<A: Sink>(spare: usize, sink: &mut A) -> Result<(), AllocError> {
 ///
 /// # Proved
 ///
-/// After `Ok`: `ok`. After an error: `why`. In any case: `front`. `front`: The new bytes begin with the old ones.
+/// After `Ok`: `ok`. After an error: `why`. In any case: `front`. `ok`: The buffer gains the header and the output for each section: its minimal encoding, or its bytes unchanged if they do not decode by its kind. `kept` counts the unchanged ones. With `Refuse` every section keeps its offsets, and with `LeaveOut` exactly the sections that hold offsets are left out. The output is a module with the ids of the sections that are not left out, and is no longer than the input. `front`: The new bytes begin with the old ones. `why`: The meaning of an error. Either the section of this number is the first that is malformed, whatever its payload, and the bytes are not a module. Or the section of this number loses its offsets. `Memory` means nothing about the bytes.
 ///
 /// ```text
 /// ensures ok { IfOk result
@@ -710,7 +710,7 @@ fn append_module<A: Allocator + Copy, B: Sink>(
 ///
 /// # Proved
 ///
-/// After `Ok`: `ok`. After an error: `err`, `why`.
+/// After `Ok`: `ok`. After an error: `err`, the bytes of the sink are unchanged; `why`. `ok`: The buffer gains the header and the output for each section: its minimal encoding, or its bytes unchanged if they do not decode by its kind. `kept` counts the unchanged ones. With `Refuse` every section keeps its offsets, and with `LeaveOut` exactly the sections that hold offsets are left out. The output is a module with the ids of the sections that are not left out, and is no longer than the input. `why`: The meaning of an error. Either the section of this number is the first that is malformed, whatever its payload, and the bytes are not a module. Or the section of this number loses its offsets. `Memory` means nothing about the bytes.
 ///
 /// ```text
 /// ensures ok { IfOk result

@@ -85,7 +85,7 @@ impl From<AllocError> for Unread {
 ///
 /// # Proved
 ///
-/// After `Ok`: `bytes`, `end`.
+/// After `Ok`: `bytes`; `end`.
 ///
 /// ```text
 /// ensures bytes { IfOk result
@@ -113,7 +113,7 @@ fn read_to_end<A: Allocator, R: Read>(alloc: A, input: &mut R) -> Result<Vec<u8,
 ///
 /// # Proved
 ///
-/// After `Ok`: `text`, `good`, `line`. After an error: `usage`.
+/// After `Ok`: `text`; `good`; `line`. After an error: `usage`.
 ///
 /// ```text
 /// ensures text { IfOk result (λ _. IsUtf8 recipe.now) }
@@ -136,7 +136,7 @@ fn hex_line<A: Allocator + Copy>(alloc: A, recipe: &[u8]) -> Result<String<A>, T
 ///
 /// # Proved
 ///
-/// After `Ok`: `text`, `good`, `line`, `end`. After an error: `usage`.
+/// After `Ok`: `text`; `good`; `line`; `end`. After an error: `usage`.
 ///
 /// ```text
 /// ensures text { IfOk result (λ _. IfSome (I.remaining input.old) IsUtf8) }
@@ -165,7 +165,7 @@ fn answer_to_recipe<A: Allocator + Copy, I: Read>(
 ///
 /// # Proved
 ///
-/// After `Ok`: `listed`, `end`. After an error: `usage`.
+/// After `Ok`: `listed`; `end`. After an error: `usage`.
 ///
 /// ```text
 /// ensures listed { IfOk result
@@ -207,7 +207,7 @@ fn asks_to_read<A: Allocator>(args: &[String<A>]) -> bool {
 ///
 /// # Proved
 ///
-/// After `Ok`: `args`, `end`. After an error: `usage`. In any case: `text`, `good`, `line`, `listed`.
+/// After `Ok`: `args`; `end`. After an error: `usage`. In any case: `text`; `good`; `line`; `listed`.
 ///
 /// ```text
 /// ensures args { IfOk result (λ _. (length args.now ≡ 0) ⊎ AsksToRead args.now) }

@@ -77,7 +77,7 @@ fn put_counted<K: ItemKind, A: Allocator, B: Allocator>(
 ///
 /// # Proved
 ///
-/// After `Ok`: `ok`, `few`. In any case: `memory`.
+/// After `Ok`: `ok`; `few`. In any case: `memory`, no error is `TooLong`.
 ///
 /// ```text
 /// ensures ok { IfOk result
@@ -99,7 +99,7 @@ fn counted<A: Allocator>(alloc: A, pieces: &Pieces<A>) -> Result<Vec<u8, A>> {
 ///
 /// # Proved
 ///
-/// After `Ok`: `ok`. In any case: `memory`.
+/// After `Ok`: `ok`. In any case: `memory`, no error is `TooLong`.
 ///
 /// ```text
 /// ensures ok { IfOk result
@@ -627,7 +627,7 @@ impl<A: Allocator + Copy> Recipe<A> {
     ///
     /// # Proved
     ///
-    /// After `Ok`: `ok`, `was_encodable`. In any case: `too_long`.
+    /// After `Ok`: `ok`; `was_encodable`. In any case: `too_long`. `was_encodable`: The items fit their sections.
     ///
     /// ```text
     /// ensures ok { IfOk result (λ bytes. bytes.items ≡ module_encoding (listed self.now)) }
@@ -709,7 +709,7 @@ impl<A: Allocator + Copy> Recipe<A> {
 ///
 /// # Proved
 ///
-/// After `Ok`: `good`, `was_encodable`, `value`, `read`. After an error: `fault`.
+/// After `Ok`: `good`; `was_encodable`; `value`; `read`. After an error: `fault`. `was_encodable`: Every count and size that the module needs is at most 2^32 - 1. `read`: As `DecodesUniquely`, for a format that takes all of the bytes: `encoding` as a whole decodes to `x` alone. `fault`: The error names a line, or 0 after the last one, and the cause. No line before it has an error.
 ///
 /// ```text
 /// ensures good { OnOk result (All (IsGood First) (lines_of lines.now)) }
@@ -767,7 +767,7 @@ pub fn assemble<A: Allocator + Copy>(alloc: A, lines: &str) -> Result<Vec<u8, A>
 ///
 /// # Proved
 ///
-/// After `Ok`: `good`, `used`, `was_encodable`, `value`, `read`. After an error: `fault`.
+/// After `Ok`: `good`; `used`; `was_encodable`; `value`; `read`. After an error: `fault`. `was_encodable`: Every count and size that the module needs is at most 2^32 - 1. `read`: As `DecodesUniquely`, for a format that takes all of the bytes: `encoding` as a whole decodes to `x` alone. `fault`: The error names a line, or 0 after the last one, and the cause. No line before it has an error.
 ///
 /// ```text
 /// ensures good { OnOk result

@@ -113,6 +113,8 @@ impl<K, A: Allocator> CountedSection<K, A> {
     ///
     /// # Proved
     ///
+    /// The result is true exactly if there are no entries.
+    ///
     /// ```text
     /// ensures { IsTrue result ↔ (length self.now ≡ 0) }
     /// ```
@@ -125,6 +127,8 @@ impl<K, A: Allocator> CountedSection<K, A> {
     /// Returns the bytes of the entry at `index`, or `None` if there is no such entry.
     ///
     /// # Proved
+    ///
+    /// The result is the entry at `index`, if there is one.
     ///
     /// ```text
     /// ensures { option_copied result ≡ slice_get self.now index }
@@ -196,6 +200,8 @@ impl<K, A: Allocator + Copy> CountedSection<K, A> {
     ///
     /// # Proved
     ///
+    /// The result has no entries.
+    ///
     /// ```text
     /// ensures { result ≡ [] }
     /// ```
@@ -216,7 +222,7 @@ impl<K, A: Allocator + Copy> CountedSection<K, A> {
     ///
     /// # Proved
     ///
-    /// After `Ok`: `same`. In any case: `memory`.
+    /// After `Ok`: `same`, the result equals the value. In any case: `memory`, no error is `TooLong`.
     ///
     /// ```text
     /// ensures same { IfOk result (λ section. section ≡ self.now) }

@@ -108,7 +108,7 @@ impl<'a, A: Allocator> DataSegmentMode<'a, A> {
     ///
     /// # Proved
     ///
-    /// After `Ok`: `same`. In any case: `memory`.
+    /// After `Ok`: `same`, the result equals the value. In any case: `memory`, no error is `TooLong`.
     ///
     /// ```text
     /// ensures same { IfOk result (λ mode. mode ≡ self.now) }
@@ -139,7 +139,7 @@ impl<'a, D: Clone, A: Allocator> DataSegment<'a, D, A> {
     ///
     /// # Proved
     ///
-    /// After `Ok`: `mode`, `bytes`. In any case: `memory`.
+    /// After `Ok`: `mode`; `bytes`. In any case: `memory`, no error is `TooLong`.
     ///
     /// ```text
     /// ensures mode { IfOk result (λ segment. segment.mode ≡ self.now.mode) }
@@ -556,7 +556,7 @@ impl<'a, A: Allocator + Copy, G: Grammar> Readable<'a, A, G> for Segment<'a, A> 
 ///
 /// # Proved
 ///
-/// After `Ok`: `found`. After an error: `none`.
+/// After `Ok`: `found`. After an error: `none`, the bytes as a whole are no such encoding, unless the cause is `Memory`.
 ///
 /// ```text
 /// ensures found { IfOk result
@@ -578,7 +578,7 @@ pub fn read_segments<'a, A: Allocator + Copy + 'a, G: Grammar>(
 ///
 /// # Proved
 ///
-/// After `Ok`: `ok`. In any case: `front`, `too_long`. `front`: The new bytes begin with the old ones.
+/// After `Ok`: `ok`, the sink gains the minimal encoding. In any case: `front`; `too_long`, a value that has an encoding never gives `TooLong`. `front`: The new bytes begin with the old ones.
 ///
 /// ```text
 /// ensures ok { OnOk result
@@ -603,7 +603,7 @@ fn append_placed<A: Allocator, B: Sink>(
 ///
 /// # Proved
 ///
-/// After `Ok`: `ok`. In any case: `front`, `too_long`. `front`: The new bytes begin with the old ones.
+/// After `Ok`: `ok`, the sink gains the minimal encoding. In any case: `front`; `too_long`, a value that has an encoding never gives `TooLong`. `front`: The new bytes begin with the old ones.
 ///
 /// ```text
 /// ensures ok { OnOk result

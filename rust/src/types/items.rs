@@ -62,7 +62,7 @@ pub enum TypeEntry<A: Allocator = Global> {
 ///
 /// # Proved
 ///
-/// After `Ok`: `found`. After an error: `none`.
+/// After `Ok`: `found`. After an error: `none`, the bytes do not begin with such an encoding, unless the cause is `Memory`. `found`: `bytes` is an encoding of `x` in this mode, followed by `rest`.
 ///
 /// ```text
 /// ensures found { IfOk result
@@ -87,7 +87,7 @@ fn read_supertypes_and<'a, A: Allocator + Copy, G: Grammar>(
 ///
 /// # Proved
 ///
-/// After `Ok`: `found`. After an error: `none`.
+/// After `Ok`: `found`. After an error: `none`, the bytes do not begin with such an encoding, unless the cause is `Memory`. `found`: `bytes` is an encoding of `x` in this mode, followed by `rest`.
 ///
 /// ```text
 /// ensures found { IfOk result
@@ -115,7 +115,7 @@ fn read_final_and<'a, A: Allocator + Copy, G: Grammar>(
 ///
 /// # Proved
 ///
-/// After `Ok`: `found`. After an error: `none`.
+/// After `Ok`: `found`, the bytes begin with an encoding of the value, and the returned bytes follow it. After an error: `none`, the bytes do not begin with such an encoding, unless the cause is `Memory`.
 ///
 /// ```text
 /// ensures found { IfOk result

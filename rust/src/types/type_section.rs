@@ -79,6 +79,8 @@ impl<A: Allocator> TypeSection<A> {
     ///
     /// # Proved
     ///
+    /// The result is true exactly if there are no entries.
+    ///
     /// ```text
     /// ensures { IsTrue result ↔ (length self.now ≡ 0) }
     /// ```
@@ -91,6 +93,8 @@ impl<A: Allocator> TypeSection<A> {
     /// Returns the bytes of the entry at `index`, or `None` if there is no such entry.
     ///
     /// # Proved
+    ///
+    /// The result is the entry at `index`, if there is one.
     ///
     /// ```text
     /// ensures { option_copied result ≡ slice_get self.now index }
@@ -143,6 +147,8 @@ impl<A: Allocator + Copy> TypeSection<A> {
     ///
     /// # Proved
     ///
+    /// The result has no entries.
+    ///
     /// ```text
     /// ensures { result ≡ [] }
     /// ```
@@ -162,7 +168,7 @@ impl<A: Allocator + Copy> TypeSection<A> {
     ///
     /// # Proved
     ///
-    /// After `Ok`: `same`. In any case: `memory`.
+    /// After `Ok`: `same`, the result equals the value. In any case: `memory`, no error is `TooLong`.
     ///
     /// ```text
     /// ensures same { IfOk result (λ section. section ≡ self.now) }
@@ -529,7 +535,7 @@ pub(crate) const REC: u8 = 0x4E;
 ///
 /// # Proved
 ///
-/// After `Ok`: `found`. After an error: `none`.
+/// After `Ok`: `found`. After an error: `none`, the bytes as a whole are no such encoding, unless the cause is `Memory`.
 ///
 /// ```text
 /// ensures found { IfOk result
@@ -572,7 +578,7 @@ pub fn read_types<'a, A: Allocator + Copy, G: Grammar>(
 ///
 /// # Proved
 ///
-/// After `Ok`: `ok`. After an error: `err`. In any case: `too_long`.
+/// After `Ok`: `ok`, the sink gains the minimal encoding. After an error: `err`, the bytes of the sink are unchanged. In any case: `too_long`, a value that has an encoding never gives `TooLong`.
 ///
 /// ```text
 /// ensures ok { OnOk result

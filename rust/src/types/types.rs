@@ -200,7 +200,7 @@ impl<A: Allocator + Copy> FuncType<A> {
     ///
     /// # Proved
     ///
-    /// After `Ok`: `params`, `results`. In any case: `memory`.
+    /// After `Ok`: `params`; `results`. In any case: `memory`, no error is `TooLong`.
     ///
     /// ```text
     /// ensures params { IfOk result
@@ -241,7 +241,7 @@ impl<A: Allocator + Copy> FuncType<A> {
 ///
 /// # Proved
 ///
-/// After `Ok`: `all`. In any case: `memory`.
+/// After `Ok`: `all`. In any case: `memory`, no error is `TooLong`.
 ///
 /// ```text
 /// ensures all { IfOk result
@@ -308,7 +308,7 @@ impl<A: Allocator> FuncType<A> {
 ///
 /// # Proved
 ///
-/// After `Ok`: `same`. In any case: `memory`.
+/// After `Ok`: `same`. In any case: `memory`, no error is `TooLong`.
 ///
 /// ```text
 /// ensures same { IfOk result (λ copies. copies.items ≡ items.now.items) }
@@ -329,7 +329,7 @@ impl<A: Allocator + Copy> FuncType<A> {
     ///
     /// # Proved
     ///
-    /// After `Ok`: `same`. In any case: `memory`.
+    /// After `Ok`: `same`. In any case: `memory`, no error is `TooLong`.
     ///
     /// ```text
     /// ensures same { IfOk result (λ f. func_in f ≡ func_in self.now) }
@@ -354,7 +354,7 @@ impl<A: Allocator + Copy> StructType<A> {
     ///
     /// # Proved
     ///
-    /// After `Ok`: `same`. In any case: `memory`.
+    /// After `Ok`: `same`. In any case: `memory`, no error is `TooLong`.
     ///
     /// ```text
     /// ensures same { IfOk result (λ s. s.fields.items ≡ self.now.fields.items) }
@@ -378,7 +378,7 @@ impl<A: Allocator + Copy> CompositeInnerType<A> {
     ///
     /// # Proved
     ///
-    /// After `Ok`: `same`. In any case: `memory`.
+    /// After `Ok`: `same`. In any case: `memory`, no error is `TooLong`.
     ///
     /// ```text
     /// ensures same { IfOk result (λ inner. shape_in inner ≡ shape_in self.now) }
@@ -405,7 +405,7 @@ impl<A: Allocator + Copy> CompositeType<A> {
     ///
     /// # Proved
     ///
-    /// After `Ok`: `same`. In any case: `memory`.
+    /// After `Ok`: `same`. In any case: `memory`, no error is `TooLong`.
     ///
     /// ```text
     /// ensures same { IfOk result (λ c. composite_in c ≡ composite_in self.now) }
@@ -432,7 +432,7 @@ impl<A: Allocator + Copy> SubType<A> {
     ///
     /// # Proved
     ///
-    /// After `Ok`: `same`. In any case: `memory`.
+    /// After `Ok`: `same`. In any case: `memory`, no error is `TooLong`.
     ///
     /// ```text
     /// ensures same { IfOk result (λ s. sub_in s ≡ sub_in self.now) }

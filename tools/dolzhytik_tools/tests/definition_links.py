@@ -54,7 +54,10 @@ def glosses() -> None:
     adds = 'ensures { Adds (f x) ⊤ self.old self.new result }'
     assert gloss([adds], {adds: 'It adds.'}) == 'It adds.'
     assert gloss([ok, adds.replace('ensures', 'ensures c')], {adds.replace('ensures', 'ensures c'): 'It adds.'}) == 'After `Ok`: `a`. In any case: `c`. `c`: It adds.'
-    assert [head(it) for it in (adds, 'ensures { x.y ≡ z }', 'ensures { P x → Q y }')] == ['Adds', '', '']
+    assert [head(it) for it in (adds, ok.replace('x. x', 'x. P x'), 'ensures { x.y ≡ z }', 'ensures { P x → Q y }')] == ['Adds', 'P', '', '']
+    memory = 'ensures m { result ≢ Err TooLong }'
+    assert gloss([ok, memory]) == 'After `Ok`: `a`. In any case: `m`, no error is `TooLong`.'
+    assert gloss(['ensures { result ≡ [] }']) == 'The result has no entries.'
     assert asked('requires { HasKnownLength a b }') == 'The iterator ends, and yields as many items as it reports.' and asked('requires { p }') == ''
     for other in ['IfOk result (p) × q', '(IfOk result p)', 'IfOk other p', 'OnOk result p → q']:
         assert gloss([f'ensures a {{ {other} }}', 'ensures b { p }']) == '', other

@@ -43,6 +43,33 @@ NAMES = [
 
 
 OPERATORS = set('→ ↔ × ⊎ ≡ ≢ ≤ < ++ ∷ + - * ='.split())
+# What clauses of known forms say.
+BEGINS_NOT, IS_NOT = 'the bytes do not begin with such an encoding', 'the bytes as a whole are no such encoding'
+SAID = (
+    (r'result ≢ Err (?:\w+\.)?TooLong', 'no error is `TooLong`'),
+    (r'OnErr result \(sink\.new\.items ≡ sink\.old\.items\)', 'the bytes of the sink are unchanged'),
+    (r'OnErr result \(self\.new ≡ self\.old\)', 'the value is unchanged'),
+    (r'IfErr result \(λ e\. e(?:\.cause)? ≢ Memory → Rejects .*\)', f'{BEGINS_NOT}, unless the cause is `Memory`'),
+    (r'IfErr result \(λ e\. e(?:\.cause)? ≢ Memory → RejectsWhole .*\)', f'{IS_NOT}, unless the cause is `Memory`'),
+    (r'IfErr result \(λ _\. Rejects .*\)', BEGINS_NOT),
+    (r'IfErr result \(λ e\. e(?:\.cause)? ≡ Memory\)', 'the cause is `Memory`'),
+    (r'IfOk result \(λ x\. Decodes .* bytes\.now .*x\.0.* x\.1\.now\)', 'the bytes begin with an encoding of the value, and the returned bytes follow it'),
+    (r'IfOk result \(λ x\. (?:T\.format|members T\.format|body|content kind) \S.* bytes\.now \S*.*\)', 'the bytes as a whole encode the value'),
+    (r'IfOk result \(λ (\w+)\. \1 ≡ self\.now\)', 'the result equals the value'),
+    (r'IfOk result \(λ cow\. (?:items|encoding)_of cow ≡ (?:items|encoding)_of self\.now\)', 'the result has the same content'),
+    (r'OnOk result \(AppendsMinimal .*\)', 'the sink gains the minimal encoding'),
+    (r'HasEncoding .* → result ≢ Err TooLong', 'a value that has an encoding never gives `TooLong`'),
+    (r'longest < .* → result ≡ Err (?:Refused\.)?TooLong', 'more than 4294967295 give `TooLong`'),
+    (r'vec_capacity sink\.old ≤ vec_capacity sink\.new', 'the capacity does not shrink'),
+    (r'self\.new\.sink\.ghost_name ≡ self\.old\.sink\.ghost_name', 'the sink writes to the buffer that it wrote to'),
+    (r'IfErr result \(λ _\. self\.new\.offset ≡ self\.old\.offset\)', 'the offset is unchanged'),
+    (r'IfErr result \(λ e\. IsInPayload self\.now e\.offset\)', 'the offset of the error is in the payload'),
+    (r'IfOk result \(λ next\. IfSome next \(λ step\. step\.offset ≡ self\.old\.offset\)\)', 'the step has the old offset'),
+    (r'IfOk result \(λ next\. next ≡ None → self\.new ≡ self\.old\)', '`None` changes nothing'),
+    (r'IsTrue result ↔ \(length self\.now ≡ 0\)', 'the result is true exactly if there are no entries'),
+    (r'option_copied result ≡ slice_get self\.now index', 'the result is the entry at `index`, if there is one'),
+    (r'result ≡ \[\]', 'the result has no entries'),
+)
 # What `requires` clauses ask.
 ASKED = (
     (r'HasKnownLength .*', 'The iterator ends, and yields as many items as it reports.'),
@@ -100,10 +127,10 @@ def listed(names: Sequence[str]) -> str:
     return ', '.join(f'`{name}`' for name in names)
 
 
-def head(clause: str) -> str:
-    """Returns the first word of a clause's term, or an empty one if the term is more than a word and
-    its arguments."""
-    depth, words = 0, parts(clause)[1].split(' ')
+def head_of(term: str) -> str:
+    """Returns the first word of a term, or an empty one if the term is more than a word and its
+    arguments."""
+    depth, words = 0, term.split(' ')
     for word in words:
         if depth == 0 and word in OPERATORS:
             return ''
@@ -111,25 +138,47 @@ def head(clause: str) -> str:
     return words[0]
 
 
+def head(clause: str) -> str:
+    """Returns the first word of a clause's term, or of what it says after `Ok` or after an error."""
+    term = parts(clause)[1]
+    found = next((form.fullmatch(term) for form in (AFTER_OK, AFTER_ERROR) if is_after(form, term)), None)
+    inner = found[1][1:-1] if found and found[1].startswith('(') else found[1] if found else term
+    return head_of(re.sub(r'λ \w+\. ', '', inner, count=1))
+
+
+def words_of(term: str) -> str:
+    """Returns what a term of a known form says, or an empty line."""
+    return next((said for form, said in SAID if re.fullmatch(form, term)), '')
+
+
+def told(name: str, term: str) -> str:
+    """Returns the name of a clause, and what its term says if the form is known."""
+    words = words_of(term)
+    return f'`{name}`, {words}' if words else f'`{name}`'
+
+
 def gloss(clauses: Sequence[str], sentences: Mapping[str, str] | None = None) -> str:
-    """Returns when each clause of a function says something, and the sentences of the definitions
-    that clauses are; or an empty line if no clause depends on the result, and none is a
-    definition."""
+    """Returns when each clause of a function says something, what the clauses of known forms say,
+    and the sentences of the definitions that clauses are; or an empty line if no clause depends on
+    the result, and nothing is known of any."""
     sorted_clauses = [parts(it) for it in clauses]
-    ok = [name for name, term in sorted_clauses if is_after(AFTER_OK, term)]
-    error = [name for name, term in sorted_clauses if is_after(AFTER_ERROR, term)]
-    sentences = sentences or {}
+    ok = [it for it in sorted_clauses if is_after(AFTER_OK, it[1])]
+    error = [it for it in sorted_clauses if is_after(AFTER_ERROR, it[1])]
     said: dict[str, list[str]] = {}
     for it in clauses:
-        if it in sentences:
+        if it in (sentences or {}) and not words_of(parts(it)[1]):
             said.setdefault(sentences[it], []).append(parts(it)[0])
     if len(clauses) == 1:
-        return 'After `Ok`:' if ok else 'After an error:' if error else next(iter(said), '')
+        when = 'After `Ok`' if ok else 'After an error' if error else ''
+        words = words_of(sorted_clauses[0][1])
+        if words:
+            return f'{when}, {words}.' if when else words[0].upper() + words[1:] + '.'
+        return ' '.join(filter(None, [when and f'{when}:', next(iter(said), '')]))
     words = [f'{listed(names)}: {sentence}' if all(names) else sentence for sentence, names in said.items()]
-    if ok or error:
-        always = [name for name, _ in sorted_clauses if name not in ok + error]
+    always = [it for it in sorted_clauses if it not in ok + error]
+    if ok or error or any(words_of(term) for _, term in always):
         groups = [('After `Ok`', ok), ('After an error', error), ('In any case', always)]
-        words = [f'{when}: {listed(names)}.' for when, names in groups if names] + words
+        words = [f'{when}: {"; ".join(told(*it) for it in found)}.' for when, found in groups if found] + words
     return ' '.join(words)
 
 

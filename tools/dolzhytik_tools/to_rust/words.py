@@ -86,11 +86,12 @@ def cite(source: Source, note: int, heading: str, text: str, place: int, bound: 
 
 
 def sentence(source: Source, clause: str, place: int) -> str:
-    """Returns the sentence of the definition at the head of a clause's term, or an empty line."""
+    """Returns the sentence of the definition at the head of what a clause says, or an empty line.
+    Facts have names with capitals; other definitions are formats."""
     if source.crate.name not in LIBRARIES:
         return ''
     first = head(clause)
-    if not is_word(first.replace('.', '')):
+    if not is_word(first.replace('.', '')) or not first[0].isupper():
         return ''
     found = library().meant(first, imports_at(source, place), f'{source.path}:{source.line(place)}')
     return prose(found[1].definition.sentence, {}) if found and not found[1].is_constructor else ''
