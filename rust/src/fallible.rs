@@ -1,9 +1,9 @@
 //! The proved builders, which return an error where those at the root panic or abort.
 //!
-//! Use them where a program must go on when memory runs out or a list is too long. A call that can fail returns
-//! [`Refused`] and leaves the builder unchanged ([`add_all`] returns how many items it added): [`Refused::Memory`] where
-//! memory is refused, and [`Refused::TooLong`] where a count, run or length would pass 4294967295. Calls that make
-//! something take an [`Allocator`] first. [`Global`] is the program's own; one of yours can hold a builder to a budget.
+//! Use them if a program must not end when memory runs out or a list is too long. A call that fails returns [`Refused`]
+//! and changes nothing: [`Refused::Memory`] if an allocation fails, and [`Refused::TooLong`] if a count, run or length
+//! would pass 4294967295. ([`add_all`] keeps the items before the failing one, and returns their number.) Calls that make
+//! a value take an [`Allocator`] first. [`Global`] is that of the program; one of your own can hold a builder to a budget.
 //!
 //! Builders have the names of those at the root, and [`From`] converts what is built here with [`Global`] to the root's
 //! type:
@@ -80,7 +80,7 @@
 //! # What is asked
 //!
 //! **Asks** on a page is what the caller owes and types do not ensure: mostly that an iterator ends, or has the length
-//! that it reports. Otherwise a call may return something wrong or panic, but has no undefined behaviour. These calls ask:
+//! that it reports. Otherwise a call may return a wrong result or panic, but has no undefined behaviour. Calls ask this:
 //!
 #![doc = include_str!("asks.md")]
 
