@@ -11,6 +11,7 @@
 //! - [`definitions`] says how to read contracts, and what their words mean.
 #![no_std]
 #![forbid(unsafe_code)]
+#![warn(missing_docs)]
 
 // `alloc` is a module here.
 extern crate alloc as alloc_crate;

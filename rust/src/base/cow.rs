@@ -9,7 +9,9 @@ use crate::alloc::{Allocator, Global};
 
 /// A slice of items that is borrowed, or owned as a `Vec`.
 ///
-/// Values with lists take it: [`Elements`](crate::fallible::Elements), [`Instruction`](crate::fallible::Instruction) and [`CustomSection`](crate::fallible::CustomSection).
+/// Values with lists take it: [`Elements`](crate::fallible::Elements),
+/// [`Instruction`](crate::fallible::Instruction) and
+/// [`CustomSection`](crate::fallible::CustomSection).
 ///
 /// # Examples
 ///

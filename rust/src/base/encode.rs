@@ -11,7 +11,8 @@ use crate::base::refused::Result;
 /// `encode` returns [`Refused`](crate::base::refused::Refused), and leaves the sink unchanged, if the
 /// value does not fit or an allocation fails.
 ///
-/// Numbers are encoded as LEB128, slices as vectors, `str` as names, and tuples as their components. [`Readable`](crate::reader::Readable) decodes.
+/// Numbers are encoded as LEB128, slices as vectors, `str` as names, and tuples as their
+/// components. [`Readable`](crate::reader::Readable) decodes.
 ///
 /// # Examples
 ///

@@ -43,7 +43,8 @@ pub enum ReadFault {
 /// Both are in one number of 64 bits, so that a result with a slice has two words, and the slice's
 /// address is moved as a whole.
 ///
-/// [`cause`](crate::reader::DecodeError::cause) says why decoding failed. [`left`](crate::reader::DecodeError::left) is the number of input bytes from the error on.
+/// [`cause`](crate::reader::DecodeError::cause) says why decoding failed.
+/// [`left`](crate::reader::DecodeError::left) is the number of input bytes from the error on.
 ///
 /// # Examples
 ///

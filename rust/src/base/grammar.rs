@@ -4,7 +4,8 @@
 /// The encodings that a decoder accepts. In each grammar a value has exactly one minimal encoding,
 /// and its numbers may be padded.
 ///
-/// [`Padded`](crate::reader::Padded) and [`Standard`](crate::reader::Standard) are the grammars. The page of [`reader`](crate::reader#grammars) says how they differ.
+/// [`Padded`](crate::reader::Padded) and [`Standard`](crate::reader::Standard) are the
+/// grammars. The page of [`reader`](crate::reader#grammars) says how they differ.
 ///
 /// # Examples
 ///

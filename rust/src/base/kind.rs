@@ -3,7 +3,9 @@
 
 /// A kind of items, as a section of counted items has them.
 ///
-/// [`ItemKind`](crate::fallible::ItemKind) is a kind of core sections, and [`CustomKind`](crate::fallible::CustomKind) one of custom sections. A kind has no value: it is a type argument of a builder.
+/// [`ItemKind`](crate::fallible::ItemKind) is a kind of core sections, and
+/// [`CustomKind`](crate::fallible::CustomKind) one of custom sections. A kind has no value: it
+/// is a type argument of a builder.
 ///
 /// # Examples
 ///

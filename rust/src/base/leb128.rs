@@ -18,7 +18,17 @@ const UNSIGNED_LIMIT: u64 = 0x80;
 /// 6 is the sign.
 const SIGNED_LIMIT: u64 = 0x40;
 
-// Returns the length in bytes of the minimal unsigned encoding of `n`.
+/// Returns the number of bytes of a number as minimal LEB128, such as a count or a size prefix.
+///
+/// # Examples
+///
+/// ```
+/// use dolzhytik::encoding_size;
+///
+/// // Each byte has seven bits of the number.
+/// assert_eq!([encoding_size(127), encoding_size(128), encoding_size(u32::MAX)], [1, 2, 5]);
+/// ```
+///
 /// # Proved
 ///
 /// ```text
@@ -431,7 +441,8 @@ pub struct Groups {
 ///
 /// # Errors
 ///
-/// An error means that the bytes do not begin with at most `limit` groups: `Ended` only if there are fewer bytes than `limit`, and `TooLarge` only if there are not.
+/// An error means that the bytes do not begin with at most `limit` groups: `Ended` only if
+/// there are fewer bytes than `limit`, and `TooLarge` only if there are not.
 ///
 /// # Examples
 ///

@@ -12,7 +12,8 @@ use crate::base::refused::{Refused, Result};
 /// `encode_once` returns [`Refused`], and leaves the sink unchanged, if an allocation fails or the
 /// encoding does not fit.
 ///
-/// [`vec_of`](crate::fallible::vec_of) and [`bytes_of`](crate::fallible::bytes_of) return such values.
+/// [`vec_of`](crate::fallible::vec_of) and [`bytes_of`](crate::fallible::bytes_of) return such
+/// values.
 ///
 /// # Examples
 ///

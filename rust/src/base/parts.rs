@@ -11,7 +11,8 @@ use crate::alloc::Allocator;
 
 /// A borrowed value as a component of an encoding.
 ///
-/// [`Encode`](crate::fallible::Encode) is implemented for values, and not for references to them. `Lent` makes a component of a tuple of a reference.
+/// [`Encode`](crate::fallible::Encode) is implemented for values, and not for references to
+/// them. `Lent` makes a component of a tuple of a reference.
 ///
 /// # Examples
 ///

@@ -7,7 +7,8 @@ use crate::alloc::Allocator;
 
 /// A value with a format, which defines the bytes that encode it.
 ///
-/// [`Readable`](crate::reader::Readable), [`Skip`](crate::reader::Skip) and [`Shorten`](crate::reader::Shorten) have the calls of such values.
+/// [`Readable`](crate::reader::Readable), [`Skip`](crate::reader::Skip) and
+/// [`Shorten`](crate::reader::Shorten) have the calls of such values.
 ///
 /// # Examples
 ///

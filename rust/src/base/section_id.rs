@@ -58,22 +58,34 @@ impl From<SectionId> for u8 {
     }
 }
 
-// The sort of functions in imports and exports.
+/// The kind byte of functions in the encodings of imports and exports.
+///
+/// Core specification, Modules, Export Section.
 pub const CORE_FUNCTION_SORT: u8 = 0x00;
 
-// The sort of tables in imports and exports.
+/// The kind byte of tables in the encodings of imports and exports.
+///
+/// Core specification, Modules, Export Section.
 pub const CORE_TABLE_SORT: u8 = 0x01;
 
-// The sort of memories in imports and exports.
+/// The kind byte of memories in the encodings of imports and exports.
+///
+/// Core specification, Modules, Export Section.
 pub const CORE_MEMORY_SORT: u8 = 0x02;
 
-// The sort of globals in imports and exports.
+/// The kind byte of globals in the encodings of imports and exports.
+///
+/// Core specification, Modules, Export Section.
 pub const CORE_GLOBAL_SORT: u8 = 0x03;
 
-// The sort of tags in imports and exports.
+/// The kind byte of tags in the encodings of imports and exports.
+///
+/// Core specification, Modules, Export Section.
 pub const CORE_TAG_SORT: u8 = 0x04;
 
-// The sort of functions of an exact type in imports and exports.
+/// The kind byte of functions of exactly one type in the encodings of imports and exports, by
+/// the custom descriptors proposal.
+/// [`EntityType::FunctionExact`](crate::EntityType::FunctionExact) is encoded with it.
 pub const CORE_FUNCTION_EXACT_SORT: u8 = 0x20;
 
 // The sorts of the standard's "Binary Format", and the sort of the proposal for exact types.

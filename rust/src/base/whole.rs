@@ -56,7 +56,8 @@ pub fn read_whole<'a, T: Readable<'a, A, G>, A: Allocator + Copy, G: Grammar>(
 ///
 /// Any error but `Memory` means that the bytes as a whole encode no such value.
 ///
-/// [`left`](crate::reader::DecodeError::left) of an error counts the bytes of `rest` too, as tests show.
+/// [`left`](crate::reader::DecodeError::left) of an error counts the bytes of `rest` too, as
+/// tests show.
 ///
 /// # Examples
 ///

@@ -20,7 +20,8 @@ use crate::insn::{Ieee32, Ieee64, Instruction, InstructionSink};
 /// Its calls return `Memory` if an allocation fails. `extended` alone can return `TooLong`: then an
 /// instruction has a list that is too long.
 ///
-/// Globals, tables, and offsets of segments have such an expression. Its `end` is not part of it: the encoding adds it.
+/// Globals, tables, and offsets of segments have such an expression. Its `end` is not part of
+/// it: the encoding adds it.
 ///
 /// # Examples
 ///

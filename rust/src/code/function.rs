@@ -122,8 +122,8 @@ impl<A: Allocator> Function<A> {
     ///
     /// # Errors
     ///
-    /// Returns [`Memory`](crate::fallible::Refused::Memory) if an allocation fails. The builder
-    /// is then unchanged.
+    /// Returns [`Memory`](crate::fallible::Refused::Memory) if an allocation fails. The builder is
+    /// then unchanged.
     ///
     /// # Asks
     ///

@@ -45,7 +45,8 @@ pub struct Instructions<'a, A: Allocator = Global, G: Grammar = Padded> {
 
 /// A visited instruction: its offset in bytes, and its opcode.
 ///
-/// [`Instructions::next`](crate::reader::Instructions::next) returns it. The immediates are [`Instructions::args`](crate::reader::Instructions::args), until the next call.
+/// [`Instructions::next`](crate::reader::Instructions::next) returns it. The immediates are
+/// [`Instructions::args`](crate::reader::Instructions::args), until the next call.
 ///
 /// # Examples
 ///
@@ -254,7 +255,8 @@ impl<'a, A: Allocator + Copy, G: Grammar> Instructions<'a, A, G> {
     ///
     /// # Errors
     ///
-    /// Any error but `Memory` means that no instruction begins at the offset. The offset is then unchanged.
+    /// Any error but `Memory` means that no instruction begins at the offset. The offset is then
+    /// unchanged.
     ///
     /// # Proved
     ///
@@ -294,7 +296,8 @@ impl<'a, A: Allocator + Copy, G: Grammar> Instructions<'a, A, G> {
     ///
     /// # Errors
     ///
-    /// Any error but `Memory` means that no instructions up to a final `end` begin at the offset. The offset is then unchanged.
+    /// Any error but `Memory` means that no instructions up to a final `end` begin at the offset.
+    /// The offset is then unchanged.
     ///
     /// # Examples
     ///

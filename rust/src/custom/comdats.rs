@@ -8,7 +8,8 @@ use crate::base::{DecodeError, Encode, Grammar, Layout, Lent, Readable, Result, 
 
 /// The members of a COMDAT group, in the order in which they are added.
 ///
-/// It is a [`CountedList`](crate::fallible::CountedList), which [`Comdats`](crate::fallible::Comdats) takes.
+/// It is a [`CountedList`](crate::fallible::CountedList), which
+/// [`Comdats`](crate::fallible::Comdats) takes.
 ///
 /// # Examples
 ///
@@ -27,7 +28,8 @@ pub type ComdatSymbols<A = Global> = CountedList<ComdatSymbolMembers, A>;
 
 /// The kind of the members of a list of a group's members.
 ///
-/// It is the type argument of [`CountedList`](crate::fallible::CountedList) in [`ComdatSymbols`](crate::fallible::ComdatSymbols).
+/// It is the type argument of [`CountedList`](crate::fallible::CountedList) in
+/// [`ComdatSymbols`](crate::fallible::ComdatSymbols).
 ///
 /// # Examples
 ///
@@ -100,7 +102,8 @@ pub type Comdats<A = Global> = CountedList<ComdatMembers, A>;
 
 /// The kind of the members of a list of groups.
 ///
-/// It is the type argument of [`CountedList`](crate::fallible::CountedList) in [`Comdats`](crate::fallible::Comdats).
+/// It is the type argument of [`CountedList`](crate::fallible::CountedList) in
+/// [`Comdats`](crate::fallible::Comdats).
 ///
 /// # Examples
 ///

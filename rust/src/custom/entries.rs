@@ -10,7 +10,8 @@ use crate::base::{CowSlice, CowStr, Encode, EncodeOnce, Kind, Pieces, Result, Se
 /// A kind of custom section: its items, its name, the bytes before its entries, and whether the
 /// entries are counted.
 ///
-/// A kind has no value: it is the type argument of [`CustomEntries`](crate::fallible::CustomEntries).
+/// A kind has no value: it is the type argument of
+/// [`CustomEntries`](crate::fallible::CustomEntries).
 ///
 /// # Examples
 ///
@@ -97,7 +98,8 @@ pub trait CustomKind: Kind {
 /// An adding call that returns an error leaves the section unchanged. The error is `TooLong` only
 /// if the section is full or the item does not fit, and `Memory` only if an allocation fails.
 ///
-/// It is the builder of custom sections, such as [`NameSection`](crate::fallible::NameSection). The calls that add entries are those of the kind `K`.
+/// It is the builder of custom sections, such as [`NameSection`](crate::fallible::NameSection).
+/// The calls that add entries are those of the kind `K`.
 ///
 /// # Examples
 ///

@@ -32,7 +32,8 @@ pub type BranchHints<A = Global> = CustomEntries<HintItems, A>;
 
 /// The kind of a branch hint section's items: the hints of one function each.
 ///
-/// It is the type argument of [`CustomEntries`](crate::fallible::CustomEntries) in [`BranchHints`](crate::fallible::BranchHints).
+/// It is the type argument of [`CustomEntries`](crate::fallible::CustomEntries) in
+/// [`BranchHints`](crate::fallible::BranchHints).
 ///
 /// # Examples
 ///
@@ -45,7 +46,22 @@ pub type BranchHints<A = Global> = CustomEntries<HintItems, A>;
 #[derive(Clone, Copy, Debug)]
 pub struct HintItems;
 
-// A branch hint: the likely direction of a branch.
+/// A branch hint, which [`BranchHints::function_hints`](crate::BranchHints::function_hints)
+/// takes: the offset of a branch and its likely direction.
+///
+/// The branch hinting proposal defines it. `branch_func_offset` is the offset of the branch in
+/// its body, as [`Function::byte_len`](crate::Function::byte_len) returns it, and
+/// `branch_hint_value` is 1 for a likely branch and 0 for an unlikely one.
+///
+/// # Examples
+///
+/// ```
+/// use dolzhytik::{BranchHint, BranchHints};
+///
+/// let mut hints = BranchHints::new();
+/// hints.function_hints(7, [BranchHint { branch_func_offset: 3, branch_hint_value: 1 }]);
+/// assert_eq!(hints.len(), 1);
+/// ```
 #[derive(Clone, Copy, Debug)]
 pub struct BranchHint {
     /// The offset of the branch instruction in the raw body of its function, in bytes.

@@ -9,7 +9,8 @@ use crate::base::{Encode, Pieces, Result, encoding_size};
 
 /// A kind of members of a list, and their encoding.
 ///
-/// A kind has no value: it is the type argument of [`CountedList`](crate::fallible::CountedList).
+/// A kind has no value: it is the type argument of
+/// [`CountedList`](crate::fallible::CountedList).
 ///
 /// # Examples
 ///
@@ -59,7 +60,8 @@ pub trait ListKind {
 /// An adding call that returns an error leaves the list unchanged. The error is `TooLong` only if
 /// the list is full or the member does not fit, and `Memory` only if an allocation fails.
 ///
-/// It is a list in a custom section, such as [`NameMap`](crate::fallible::NameMap). The calls that add members are those of the kind `K`.
+/// It is a list in a custom section, such as [`NameMap`](crate::fallible::NameMap). The calls
+/// that add members are those of the kind `K`.
 ///
 /// # Examples
 ///

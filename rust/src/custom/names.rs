@@ -13,7 +13,8 @@ use crate::base::{CowSlice, CowStr, DecodeError, Encode, Grammar, Kind, Layout, 
 /// A name map: indices and their names. The calls check neither their order nor whether an index is
 /// repeated.
 ///
-/// It is a [`CountedList`](crate::fallible::CountedList), which [`NameSection`](crate::fallible::NameSection) takes.
+/// It is a [`CountedList`](crate::fallible::CountedList), which
+/// [`NameSection`](crate::fallible::NameSection) takes.
 ///
 /// # Examples
 ///
@@ -31,7 +32,8 @@ pub type NameMap<A = Global> = CountedList<NameMembers, A>;
 
 /// The kind of a name map's members: an index, and its name.
 ///
-/// It is the type argument of [`CountedList`](crate::fallible::CountedList) in [`NameMap`](crate::fallible::NameMap).
+/// It is the type argument of [`CountedList`](crate::fallible::CountedList) in
+/// [`NameMap`](crate::fallible::NameMap).
 ///
 /// # Examples
 ///
@@ -120,7 +122,8 @@ impl Encode for IndexedName<'_> {
 /// An indirect name map: indices, each with a name map for the items in it, such as the locals of
 /// functions. The calls check neither their order nor whether an index is repeated.
 ///
-/// It is a [`CountedList`](crate::fallible::CountedList), which [`NameSection`](crate::fallible::NameSection) takes.
+/// It is a [`CountedList`](crate::fallible::CountedList), which
+/// [`NameSection`](crate::fallible::NameSection) takes.
 ///
 /// # Examples
 ///
@@ -141,7 +144,8 @@ pub type IndirectNameMap<A = Global> = CountedList<IndirectMembers, A>;
 
 /// The kind of an indirect name map's members: an index, and the names of the items in it.
 ///
-/// It is the type argument of [`CountedList`](crate::fallible::CountedList) in [`IndirectNameMap`](crate::fallible::IndirectNameMap).
+/// It is the type argument of [`CountedList`](crate::fallible::CountedList) in
+/// [`IndirectNameMap`](crate::fallible::IndirectNameMap).
 ///
 /// # Examples
 ///
@@ -218,7 +222,8 @@ pub type NameSection<A = Global> = CustomEntries<NameItems, A>;
 
 /// The kind of a name section's items: subsections.
 ///
-/// It is the type argument of [`CustomEntries`](crate::fallible::CustomEntries) in [`NameSection`](crate::fallible::NameSection).
+/// It is the type argument of [`CustomEntries`](crate::fallible::CustomEntries) in
+/// [`NameSection`](crate::fallible::NameSection).
 ///
 /// # Examples
 ///

@@ -26,7 +26,8 @@ pub type SymbolTable<A = Global> = CountedList<SymbolMembers, A>;
 
 /// The kind of a symbol table's members.
 ///
-/// It is the type argument of [`CountedList`](crate::fallible::CountedList) in [`SymbolTable`](crate::fallible::SymbolTable).
+/// It is the type argument of [`CountedList`](crate::fallible::CountedList) in
+/// [`SymbolTable`](crate::fallible::SymbolTable).
 ///
 /// # Examples
 ///
@@ -55,7 +56,23 @@ impl ListKind for SymbolMembers {
     }
 }
 
-// The location of the bytes of a data symbol.
+/// The bytes of a data symbol, which [`SymbolTable::data`](crate::SymbolTable::data) takes.
+///
+/// The tool conventions define it in
+/// [Linking](https://github.com/WebAssembly/tool-conventions/blob/main/Linking.md).
+///
+/// # Examples
+///
+/// ```
+/// use dolzhytik::{DataSymbolDefinition, Encode, SymbolTable};
+///
+/// let mut symbols = SymbolTable::new();
+/// symbols.data(0, "d", Some(DataSymbolDefinition { index: 2, offset: 16, size: 8 }));
+/// let mut bytes = Vec::new();
+/// symbols.encode(&mut bytes);
+/// // Subsection 8, size 8, one symbol: data (1), no flags, "d", segment 2, offset 16, size 8.
+/// assert_eq!(bytes, [8, 8, 1, 1, 0, 1, b'd', 2, 16, 8]);
+/// ```
 #[derive(Clone, Copy, Debug)]
 pub struct DataSymbolDefinition {
     /// The index of the data segment.

@@ -10,7 +10,8 @@ use crate::immediates::{BlockType, Catch, Handle, Ieee32, Ieee64, MemArg, Orderi
 
 /// An argument of an instruction, decoded from one immediate of its shape.
 ///
-/// [`Plain`](crate::reader::Plain) and [`Instructions::args`](crate::reader::Instructions::args) have them.
+/// [`Plain`](crate::reader::Plain) and
+/// [`Instructions::args`](crate::reader::Instructions::args) have them.
 ///
 /// # Examples
 ///

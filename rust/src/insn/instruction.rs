@@ -20,7 +20,8 @@ use crate::immediates::{BlockType, Catch, Handle, Ieee32, Ieee64, MemArg};
 /// and FC, are cases of their own. The others are in an enum for each group of opcodes. Those
 /// without fields also have a constant here, such as `Instruction::I32Add`.
 ///
-/// [`Function::instruction`](crate::fallible::Function::instruction) appends one. [`InstructionSink`](crate::fallible::InstructionSink) has calls for the most common ones.
+/// [`Function::instruction`](crate::fallible::Function::instruction) appends one.
+/// [`InstructionSink`](crate::fallible::InstructionSink) has calls for the most common ones.
 ///
 /// # Examples
 ///
@@ -44,29 +45,38 @@ pub enum Instruction<'a, A: Allocator = Global> {
     Nop,
     /// `block` (opcode 0x02), a control instruction that begins a block, with its label at the end.
     Block(BlockType),
-    /// `loop` (opcode 0x03), a control instruction that begins a block, with its label at the start.
+    /// `loop` (opcode 0x03), a control instruction that begins a block, with its label at the
+    /// start.
     Loop(BlockType),
-    /// `if` (opcode 0x04), a control instruction that begins a block that is executed if the operand is not zero.
+    /// `if` (opcode 0x04), a control instruction that begins a block that is executed if the
+    /// operand is not zero.
     If(BlockType),
-    /// `else` (opcode 0x05), a delimiter of control instructions that begins the branch of an `if` for zero.
+    /// `else` (opcode 0x05), a delimiter of control instructions that begins the branch of an `if`
+    /// for zero.
     Else,
-    /// `try` (opcode 0x06), a control instruction of the legacy exception handling proposal that begins a block with handlers of exceptions.
+    /// `try` (opcode 0x06), a control instruction of the legacy exception handling proposal that
+    /// begins a block with handlers of exceptions.
     Try(BlockType),
-    /// `catch` (opcode 0x07), a control instruction of the legacy exception handling proposal that begins the handler of exceptions with a tag.
+    /// `catch` (opcode 0x07), a control instruction of the legacy exception handling proposal that
+    /// begins the handler of exceptions with a tag.
     Catch(u32),
     /// `throw` (opcode 0x08), a control instruction that throws an exception with a tag.
     Throw(u32),
-    /// `rethrow` (opcode 0x09), a control instruction of the legacy exception handling proposal that throws a caught exception again.
+    /// `rethrow` (opcode 0x09), a control instruction of the legacy exception handling proposal
+    /// that throws a caught exception again.
     Rethrow(u32),
     /// `throw_ref` (opcode 0x0A), a control instruction that throws the exception of a reference.
     ThrowRef,
-    /// `end` (opcode 0x0B), a delimiter of control instructions and expressions that ends a block, a body or a constant expression.
+    /// `end` (opcode 0x0B), a delimiter of control instructions and expressions that ends a block,
+    /// a body or a constant expression.
     End,
     /// `br` (opcode 0x0C), a control instruction that branches to a label.
     Br(u32),
-    /// `br_if` (opcode 0x0D), a control instruction that branches to a label if the operand is not zero.
+    /// `br_if` (opcode 0x0D), a control instruction that branches to a label if the operand is not
+    /// zero.
     BrIf(u32),
-    /// `br_table` (opcode 0x0E), a control instruction that branches to one of several labels, selected by an index.
+    /// `br_table` (opcode 0x0E), a control instruction that branches to one of several labels,
+    /// selected by an index.
     BrTable(CowSlice<'a, u32, A>, u32),
     /// `return` (opcode 0x0F), a control instruction that returns from the function.
     Return,
@@ -79,9 +89,11 @@ pub enum Instruction<'a, A: Allocator = Global> {
         /// The index of the table.
         table_index: u32,
     },
-    /// `return_call` (opcode 0x12), a control instruction that calls a function, and returns its results.
+    /// `return_call` (opcode 0x12), a control instruction that calls a function, and returns its
+    /// results.
     ReturnCall(u32),
-    /// `return_call_indirect` (opcode 0x13), a control instruction that calls a function of a table, and returns its results.
+    /// `return_call_indirect` (opcode 0x13), a control instruction that calls a function of a
+    /// table, and returns its results.
     ReturnCallIndirect {
         /// The index of the function type.
         type_index: u32,
@@ -90,19 +102,25 @@ pub enum Instruction<'a, A: Allocator = Global> {
     },
     /// `call_ref` (opcode 0x14), a control instruction that calls the function of a reference.
     CallRef(u32),
-    /// `return_call_ref` (opcode 0x15), a control instruction that calls the function of a reference, and returns its results.
+    /// `return_call_ref` (opcode 0x15), a control instruction that calls the function of a
+    /// reference, and returns its results.
     ReturnCallRef(u32),
-    /// `delegate` (opcode 0x18), a control instruction of the legacy exception handling proposal that ends a `try`, and passes its exceptions to an outer block.
+    /// `delegate` (opcode 0x18), a control instruction of the legacy exception handling proposal
+    /// that ends a `try`, and passes its exceptions to an outer block.
     Delegate(u32),
-    /// `catch_all` (opcode 0x19), a control instruction of the legacy exception handling proposal that begins the handler of all exceptions.
+    /// `catch_all` (opcode 0x19), a control instruction of the legacy exception handling proposal
+    /// that begins the handler of all exceptions.
     CatchAll,
     /// `drop` (opcode 0x1A), a parametric instruction that drops a value.
     Drop,
-    /// `select` (opcode 0x1B), a parametric instruction that selects one of two values by a condition.
+    /// `select` (opcode 0x1B), a parametric instruction that selects one of two values by a
+    /// condition.
     Select,
-    /// `select (result t)` (opcode 0x1C), a parametric instruction that selects one of two values by a condition.
+    /// `select (result t)` (opcode 0x1C), a parametric instruction that selects one of two values
+    /// by a condition.
     TypedSelect(ValType),
-    /// `select (result t*)` (opcode 0x1C), a parametric instruction that selects one of two values by a condition.
+    /// `select (result t*)` (opcode 0x1C), a parametric instruction that selects one of two values
+    /// by a condition.
     TypedSelectMulti(CowSlice<'a, ValType, A>),
     /// `try_table` (opcode 0x1F), a control instruction that begins a block with catch clauses.
     TryTable(BlockType, CowSlice<'a, Catch, A>),
@@ -166,7 +184,8 @@ pub enum Instruction<'a, A: Allocator = Global> {
     I64Store16(MemArg),
     /// `i64.store32` (opcode 0x3E), a memory instruction that stores a number to a memory.
     I64Store32(MemArg),
-    /// `memory.size` (opcode 0x3F), a memory instruction that returns the size of a memory in pages.
+    /// `memory.size` (opcode 0x3F), a memory instruction that returns the size of a memory in
+    /// pages.
     MemorySize(u32),
     /// `memory.grow` (opcode 0x40), a memory instruction that grows a memory by a number of pages.
     MemoryGrow(u32),
@@ -188,29 +207,36 @@ pub enum Instruction<'a, A: Allocator = Global> {
     RefEq,
     /// `ref.as_non_null` (opcode 0xD4), a reference instruction that traps if a reference is null.
     RefAsNonNull,
-    /// `br_on_null` (opcode 0xD5), a control instruction that branches to a label if a reference is null.
+    /// `br_on_null` (opcode 0xD5), a control instruction that branches to a label if a reference is
+    /// null.
     BrOnNull(u32),
-    /// `br_on_non_null` (opcode 0xD6), a control instruction that branches to a label if a reference is not null.
+    /// `br_on_non_null` (opcode 0xD6), a control instruction that branches to a label if a
+    /// reference is not null.
     BrOnNonNull(u32),
-    /// `cont.new` (opcode 0xE0), a control instruction of the stack switching proposal that makes a continuation of a function.
+    /// `cont.new` (opcode 0xE0), a control instruction of the stack switching proposal that makes a
+    /// continuation of a function.
     ContNew(u32),
-    /// `cont.bind` (opcode 0xE1), a control instruction of the stack switching proposal that binds arguments to a continuation.
+    /// `cont.bind` (opcode 0xE1), a control instruction of the stack switching proposal that binds
+    /// arguments to a continuation.
     ContBind {
         /// The index of the type of the bound continuation.
         argument_index: u32,
         /// The index of the type of the resulting continuation.
         result_index: u32,
     },
-    /// `suspend` (opcode 0xE2), a control instruction of the stack switching proposal that suspends the continuation with a tag.
+    /// `suspend` (opcode 0xE2), a control instruction of the stack switching proposal that suspends
+    /// the continuation with a tag.
     Suspend(u32),
-    /// `resume` (opcode 0xE3), a control instruction of the stack switching proposal that resumes a continuation.
+    /// `resume` (opcode 0xE3), a control instruction of the stack switching proposal that resumes a
+    /// continuation.
     Resume {
         /// The index of the continuation type.
         cont_type_index: u32,
         /// The handlers.
         resume_table: CowSlice<'a, Handle, A>,
     },
-    /// `resume_throw` (opcode 0xE4), a control instruction of the stack switching proposal that resumes a continuation by throwing an exception in it.
+    /// `resume_throw` (opcode 0xE4), a control instruction of the stack switching proposal that
+    /// resumes a continuation by throwing an exception in it.
     ResumeThrow {
         /// The index of the continuation type.
         cont_type_index: u32,
@@ -219,23 +245,27 @@ pub enum Instruction<'a, A: Allocator = Global> {
         /// The handlers.
         resume_table: CowSlice<'a, Handle, A>,
     },
-    /// `resume_throw_ref` (opcode 0xE5), a control instruction of the stack switching proposal that resumes a continuation by throwing an exception in it.
+    /// `resume_throw_ref` (opcode 0xE5), a control instruction of the stack switching proposal that
+    /// resumes a continuation by throwing an exception in it.
     ResumeThrowRef {
         /// The index of the continuation type.
         cont_type_index: u32,
         /// The handlers.
         resume_table: CowSlice<'a, Handle, A>,
     },
-    /// `switch` (opcode 0xE6), a control instruction of the stack switching proposal that switches to another continuation.
+    /// `switch` (opcode 0xE6), a control instruction of the stack switching proposal that switches
+    /// to another continuation.
     Switch {
         /// The index of the continuation type.
         cont_type_index: u32,
         /// The index of the tag.
         tag_index: u32,
     },
-    /// `struct.new` (opcode 0xFB 0), an aggregate instruction that makes a structure of given values.
+    /// `struct.new` (opcode 0xFB 0), an aggregate instruction that makes a structure of given
+    /// values.
     StructNew(u32),
-    /// `struct.new_default` (opcode 0xFB 1), an aggregate instruction that makes a structure of default values.
+    /// `struct.new_default` (opcode 0xFB 1), an aggregate instruction that makes a structure of
+    /// default values.
     StructNewDefault(u32),
     /// `struct.get` (opcode 0xFB 2), an aggregate instruction that reads a field of a structure.
     StructGet {
@@ -244,14 +274,16 @@ pub enum Instruction<'a, A: Allocator = Global> {
         /// The index of the field.
         field_index: u32,
     },
-    /// `struct.get_s` (opcode 0xFB 3), an aggregate instruction that reads a field of a structure, sign-extended.
+    /// `struct.get_s` (opcode 0xFB 3), an aggregate instruction that reads a field of a structure,
+    /// sign-extended.
     StructGetS {
         /// The index of the structure type.
         struct_type_index: u32,
         /// The index of the field.
         field_index: u32,
     },
-    /// `struct.get_u` (opcode 0xFB 4), an aggregate instruction that reads a field of a structure, zero-extended.
+    /// `struct.get_u` (opcode 0xFB 4), an aggregate instruction that reads a field of a structure,
+    /// zero-extended.
     StructGetU {
         /// The index of the structure type.
         struct_type_index: u32,
@@ -267,7 +299,8 @@ pub enum Instruction<'a, A: Allocator = Global> {
     },
     /// `array.new` (opcode 0xFB 6), an aggregate instruction that makes an array of one value.
     ArrayNew(u32),
-    /// `array.new_default` (opcode 0xFB 7), an aggregate instruction that makes an array of the default value.
+    /// `array.new_default` (opcode 0xFB 7), an aggregate instruction that makes an array of the
+    /// default value.
     ArrayNewDefault(u32),
     /// `array.new_fixed` (opcode 0xFB 8), an aggregate instruction that makes an array of operands.
     ArrayNewFixed {
@@ -276,14 +309,16 @@ pub enum Instruction<'a, A: Allocator = Global> {
         /// The number of elements.
         array_size: u32,
     },
-    /// `array.new_data` (opcode 0xFB 9), an aggregate instruction that makes an array of the bytes of a data segment.
+    /// `array.new_data` (opcode 0xFB 9), an aggregate instruction that makes an array of the bytes
+    /// of a data segment.
     ArrayNewData {
         /// The index of the array type.
         array_type_index: u32,
         /// The index of the data segment.
         array_data_index: u32,
     },
-    /// `array.new_elem` (opcode 0xFB 10), an aggregate instruction that makes an array of the references of an element segment.
+    /// `array.new_elem` (opcode 0xFB 10), an aggregate instruction that makes an array of the
+    /// references of an element segment.
     ArrayNewElem {
         /// The index of the array type.
         array_type_index: u32,
@@ -292,44 +327,55 @@ pub enum Instruction<'a, A: Allocator = Global> {
     },
     /// `array.get` (opcode 0xFB 11), an aggregate instruction that reads an element of an array.
     ArrayGet(u32),
-    /// `array.get_s` (opcode 0xFB 12), an aggregate instruction that reads an element of an array, sign-extended.
+    /// `array.get_s` (opcode 0xFB 12), an aggregate instruction that reads an element of an array,
+    /// sign-extended.
     ArrayGetS(u32),
-    /// `array.get_u` (opcode 0xFB 13), an aggregate instruction that reads an element of an array, zero-extended.
+    /// `array.get_u` (opcode 0xFB 13), an aggregate instruction that reads an element of an array,
+    /// zero-extended.
     ArrayGetU(u32),
     /// `array.set` (opcode 0xFB 14), an aggregate instruction that writes an element of an array.
     ArraySet(u32),
-    /// `array.fill` (opcode 0xFB 16), an aggregate instruction that sets elements of an array to one value.
+    /// `array.fill` (opcode 0xFB 16), an aggregate instruction that sets elements of an array to
+    /// one value.
     ArrayFill(u32),
-    /// `array.copy` (opcode 0xFB 17), an aggregate instruction that copies elements from one array to another.
+    /// `array.copy` (opcode 0xFB 17), an aggregate instruction that copies elements from one array
+    /// to another.
     ArrayCopy {
         /// The index of the type of the destination.
         array_type_index_dst: u32,
         /// The index of the type of the source.
         array_type_index_src: u32,
     },
-    /// `array.init_data` (opcode 0xFB 18), an aggregate instruction that copies bytes of a data segment to an array.
+    /// `array.init_data` (opcode 0xFB 18), an aggregate instruction that copies bytes of a data
+    /// segment to an array.
     ArrayInitData {
         /// The index of the array type.
         array_type_index: u32,
         /// The index of the data segment.
         array_data_index: u32,
     },
-    /// `array.init_elem` (opcode 0xFB 19), an aggregate instruction that copies references of an element segment to an array.
+    /// `array.init_elem` (opcode 0xFB 19), an aggregate instruction that copies references of an
+    /// element segment to an array.
     ArrayInitElem {
         /// The index of the array type.
         array_type_index: u32,
         /// The index of the element segment.
         array_elem_index: u32,
     },
-    /// `ref.test (ref ht)` (opcode 0xFB 20), a reference instruction that tests whether a reference has a type.
+    /// `ref.test (ref ht)` (opcode 0xFB 20), a reference instruction that tests whether a reference
+    /// has a type.
     RefTestNonNull(HeapType),
-    /// `ref.test (ref null ht)` (opcode 0xFB 21), a reference instruction that tests whether a reference has a type.
+    /// `ref.test (ref null ht)` (opcode 0xFB 21), a reference instruction that tests whether a
+    /// reference has a type.
     RefTestNullable(HeapType),
-    /// `ref.cast (ref ht)` (opcode 0xFB 22), a reference instruction that casts a reference to a type, or traps.
+    /// `ref.cast (ref ht)` (opcode 0xFB 22), a reference instruction that casts a reference to a
+    /// type, or traps.
     RefCastNonNull(HeapType),
-    /// `ref.cast (ref null ht)` (opcode 0xFB 23), a reference instruction that casts a reference to a type, or traps.
+    /// `ref.cast (ref null ht)` (opcode 0xFB 23), a reference instruction that casts a reference to
+    /// a type, or traps.
     RefCastNullable(HeapType),
-    /// `br_on_cast` (opcode 0xFB 24), a control instruction that branches to a label if a reference has a type.
+    /// `br_on_cast` (opcode 0xFB 24), a control instruction that branches to a label if a reference
+    /// has a type.
     BrOnCast {
         /// The label of the branch.
         relative_depth: u32,
@@ -338,7 +384,8 @@ pub enum Instruction<'a, A: Allocator = Global> {
         /// The type that the operand is cast to.
         to_ref_type: RefType,
     },
-    /// `br_on_cast_fail` (opcode 0xFB 25), a control instruction that branches to a label if a reference does not have a type.
+    /// `br_on_cast_fail` (opcode 0xFB 25), a control instruction that branches to a label if a
+    /// reference does not have a type.
     BrOnCastFail {
         /// The label of the branch.
         relative_depth: u32,
@@ -347,17 +394,23 @@ pub enum Instruction<'a, A: Allocator = Global> {
         /// The type that the operand is cast to.
         to_ref_type: RefType,
     },
-    /// `struct.new_desc` (opcode 0xFB 32), an instruction of the custom descriptors proposal that makes a structure of given values, with a descriptor.
+    /// `struct.new_desc` (opcode 0xFB 32), an instruction of the custom descriptors proposal that
+    /// makes a structure of given values, with a descriptor.
     StructNewDesc(u32),
-    /// `struct.new_default_desc` (opcode 0xFB 33), an instruction of the custom descriptors proposal that makes a structure of default values, with a descriptor.
+    /// `struct.new_default_desc` (opcode 0xFB 33), an instruction of the custom descriptors
+    /// proposal that makes a structure of default values, with a descriptor.
     StructNewDefaultDesc(u32),
-    /// `ref.get_desc` (opcode 0xFB 34), an instruction of the custom descriptors proposal that reads the descriptor of a structure.
+    /// `ref.get_desc` (opcode 0xFB 34), an instruction of the custom descriptors proposal that
+    /// reads the descriptor of a structure.
     RefGetDesc(u32),
-    /// `ref.cast_desc_eq (ref ht)` (opcode 0xFB 35), an instruction of the custom descriptors proposal that casts a reference to the type of a descriptor, or traps.
+    /// `ref.cast_desc_eq (ref ht)` (opcode 0xFB 35), an instruction of the custom descriptors
+    /// proposal that casts a reference to the type of a descriptor, or traps.
     RefCastDescEqNonNull(HeapType),
-    /// `ref.cast_desc_eq (ref null ht)` (opcode 0xFB 36), an instruction of the custom descriptors proposal that casts a reference to the type of a descriptor, or traps.
+    /// `ref.cast_desc_eq (ref null ht)` (opcode 0xFB 36), an instruction of the custom descriptors
+    /// proposal that casts a reference to the type of a descriptor, or traps.
     RefCastDescEqNullable(HeapType),
-    /// `br_on_cast_desc_eq` (opcode 0xFB 37), an instruction of the custom descriptors proposal that branches to a label if a reference has a descriptor.
+    /// `br_on_cast_desc_eq` (opcode 0xFB 37), an instruction of the custom descriptors proposal
+    /// that branches to a label if a reference has a descriptor.
     BrOnCastDescEq {
         /// The label of the branch.
         relative_depth: u32,
@@ -366,7 +419,8 @@ pub enum Instruction<'a, A: Allocator = Global> {
         /// The type that the operand is cast to.
         to_ref_type: RefType,
     },
-    /// `br_on_cast_desc_eq_fail` (opcode 0xFB 38), an instruction of the custom descriptors proposal that branches to a label if a reference does not have a descriptor.
+    /// `br_on_cast_desc_eq_fail` (opcode 0xFB 38), an instruction of the custom descriptors
+    /// proposal that branches to a label if a reference does not have a descriptor.
     BrOnCastDescEqFail {
         /// The label of the branch.
         relative_depth: u32,
@@ -375,7 +429,8 @@ pub enum Instruction<'a, A: Allocator = Global> {
         /// The type that the operand is cast to.
         to_ref_type: RefType,
     },
-    /// `memory.init` (opcode 0xFC 8), a memory instruction that copies bytes of a data segment to a memory.
+    /// `memory.init` (opcode 0xFC 8), a memory instruction that copies bytes of a data segment to a
+    /// memory.
     MemoryInit {
         /// The index of the data segment.
         data_index: u32,
@@ -384,16 +439,19 @@ pub enum Instruction<'a, A: Allocator = Global> {
     },
     /// `data.drop` (opcode 0xFC 9), a memory instruction that drops a data segment.
     DataDrop(u32),
-    /// `memory.copy` (opcode 0xFC 10), a memory instruction that copies bytes from one memory to another.
+    /// `memory.copy` (opcode 0xFC 10), a memory instruction that copies bytes from one memory to
+    /// another.
     MemoryCopy {
         /// The index of the destination memory.
         dst_mem: u32,
         /// The index of the source memory.
         src_mem: u32,
     },
-    /// `memory.fill` (opcode 0xFC 11), a memory instruction that sets bytes of a memory to one value.
+    /// `memory.fill` (opcode 0xFC 11), a memory instruction that sets bytes of a memory to one
+    /// value.
     MemoryFill(u32),
-    /// `table.init` (opcode 0xFC 12), a table instruction that copies elements of an element segment to a table.
+    /// `table.init` (opcode 0xFC 12), a table instruction that copies elements of an element
+    /// segment to a table.
     TableInit {
         /// The index of the element segment.
         elem_index: u32,
@@ -402,7 +460,8 @@ pub enum Instruction<'a, A: Allocator = Global> {
     },
     /// `elem.drop` (opcode 0xFC 13), a table instruction that drops an element segment.
     ElemDrop(u32),
-    /// `table.copy` (opcode 0xFC 14), a table instruction that copies elements from one table to another.
+    /// `table.copy` (opcode 0xFC 14), a table instruction that copies elements from one table to
+    /// another.
     TableCopy {
         /// The index of the destination table.
         dst_table: u32,
@@ -411,11 +470,14 @@ pub enum Instruction<'a, A: Allocator = Global> {
     },
     /// `table.grow` (opcode 0xFC 15), a table instruction that grows a table.
     TableGrow(u32),
-    /// `table.size` (opcode 0xFC 16), a table instruction that returns the number of elements of a table.
+    /// `table.size` (opcode 0xFC 16), a table instruction that returns the number of elements of a
+    /// table.
     TableSize(u32),
-    /// `table.fill` (opcode 0xFC 17), a table instruction that sets elements of a table to a reference.
+    /// `table.fill` (opcode 0xFC 17), a table instruction that sets elements of a table to a
+    /// reference.
     TableFill(u32),
-    /// `memory.discard` (opcode 0xFC 18), a memory instruction of the memory control proposal that discards pages of a memory.
+    /// `memory.discard` (opcode 0xFC 18), a memory instruction of the memory control proposal that
+    /// discards pages of a memory.
     MemoryDiscard(u32),
     /// Numeric instructions: the opcodes 45 to C4.
     Numeric(Numeric),

@@ -6,7 +6,8 @@ use crate::insn::op::Op;
 
 /// Numeric instructions: the opcodes 45 to C4.
 ///
-/// It is a case of [`Instruction`](crate::fallible::Instruction), which has a constant for each.
+/// It is a case of [`Instruction`](crate::fallible::Instruction), which has a constant for
+/// each.
 ///
 /// # Examples
 ///
@@ -90,9 +91,11 @@ pub enum Numeric {
     F64Le = 0x65,
     /// `f64.ge` (opcode 0x66), a numeric instruction that compares two numbers.
     F64Ge = 0x66,
-    /// `i32.clz` (opcode 0x67), a numeric instruction that counts the leading zero bits of an integer.
+    /// `i32.clz` (opcode 0x67), a numeric instruction that counts the leading zero bits of an
+    /// integer.
     I32Clz = 0x67,
-    /// `i32.ctz` (opcode 0x68), a numeric instruction that counts the trailing zero bits of an integer.
+    /// `i32.ctz` (opcode 0x68), a numeric instruction that counts the trailing zero bits of an
+    /// integer.
     I32Ctz = 0x68,
     /// `i32.popcnt` (opcode 0x69), a numeric instruction that counts the one bits of an integer.
     I32Popcnt = 0x69,
@@ -106,15 +109,19 @@ pub enum Numeric {
     I32DivS = 0x6D,
     /// `i32.div_u` (opcode 0x6E), a numeric instruction that divides two integers.
     I32DivU = 0x6E,
-    /// `i32.rem_s` (opcode 0x6F), a numeric instruction that computes the remainder of two integers.
+    /// `i32.rem_s` (opcode 0x6F), a numeric instruction that computes the remainder of two
+    /// integers.
     I32RemS = 0x6F,
-    /// `i32.rem_u` (opcode 0x70), a numeric instruction that computes the remainder of two integers.
+    /// `i32.rem_u` (opcode 0x70), a numeric instruction that computes the remainder of two
+    /// integers.
     I32RemU = 0x70,
-    /// `i32.and` (opcode 0x71), a numeric instruction that computes the bitwise and of two integers.
+    /// `i32.and` (opcode 0x71), a numeric instruction that computes the bitwise and of two
+    /// integers.
     I32And = 0x71,
     /// `i32.or` (opcode 0x72), a numeric instruction that computes the bitwise or of two integers.
     I32Or = 0x72,
-    /// `i32.xor` (opcode 0x73), a numeric instruction that computes the bitwise exclusive or of two integers.
+    /// `i32.xor` (opcode 0x73), a numeric instruction that computes the bitwise exclusive or of two
+    /// integers.
     I32Xor = 0x73,
     /// `i32.shl` (opcode 0x74), a numeric instruction that shifts an integer to the left.
     I32Shl = 0x74,
@@ -126,9 +133,11 @@ pub enum Numeric {
     I32Rotl = 0x77,
     /// `i32.rotr` (opcode 0x78), a numeric instruction that rotates an integer to the right.
     I32Rotr = 0x78,
-    /// `i64.clz` (opcode 0x79), a numeric instruction that counts the leading zero bits of an integer.
+    /// `i64.clz` (opcode 0x79), a numeric instruction that counts the leading zero bits of an
+    /// integer.
     I64Clz = 0x79,
-    /// `i64.ctz` (opcode 0x7A), a numeric instruction that counts the trailing zero bits of an integer.
+    /// `i64.ctz` (opcode 0x7A), a numeric instruction that counts the trailing zero bits of an
+    /// integer.
     I64Ctz = 0x7A,
     /// `i64.popcnt` (opcode 0x7B), a numeric instruction that counts the one bits of an integer.
     I64Popcnt = 0x7B,
@@ -142,15 +151,19 @@ pub enum Numeric {
     I64DivS = 0x7F,
     /// `i64.div_u` (opcode 0x80), a numeric instruction that divides two integers.
     I64DivU = 0x80,
-    /// `i64.rem_s` (opcode 0x81), a numeric instruction that computes the remainder of two integers.
+    /// `i64.rem_s` (opcode 0x81), a numeric instruction that computes the remainder of two
+    /// integers.
     I64RemS = 0x81,
-    /// `i64.rem_u` (opcode 0x82), a numeric instruction that computes the remainder of two integers.
+    /// `i64.rem_u` (opcode 0x82), a numeric instruction that computes the remainder of two
+    /// integers.
     I64RemU = 0x82,
-    /// `i64.and` (opcode 0x83), a numeric instruction that computes the bitwise and of two integers.
+    /// `i64.and` (opcode 0x83), a numeric instruction that computes the bitwise and of two
+    /// integers.
     I64And = 0x83,
     /// `i64.or` (opcode 0x84), a numeric instruction that computes the bitwise or of two integers.
     I64Or = 0x84,
-    /// `i64.xor` (opcode 0x85), a numeric instruction that computes the bitwise exclusive or of two integers.
+    /// `i64.xor` (opcode 0x85), a numeric instruction that computes the bitwise exclusive or of two
+    /// integers.
     I64Xor = 0x85,
     /// `i64.shl` (opcode 0x86), a numeric instruction that shifts an integer to the left.
     I64Shl = 0x86,
@@ -172,7 +185,8 @@ pub enum Numeric {
     F32Floor = 0x8E,
     /// `f32.trunc` (opcode 0x8F), a numeric instruction that rounds a float towards zero.
     F32Trunc = 0x8F,
-    /// `f32.nearest` (opcode 0x90), a numeric instruction that rounds a float to the nearest integer.
+    /// `f32.nearest` (opcode 0x90), a numeric instruction that rounds a float to the nearest
+    /// integer.
     F32Nearest = 0x90,
     /// `f32.sqrt` (opcode 0x91), a numeric instruction that computes the square root of a float.
     F32Sqrt = 0x91,
@@ -188,7 +202,8 @@ pub enum Numeric {
     F32Min = 0x96,
     /// `f32.max` (opcode 0x97), a numeric instruction that computes the maximum of two floats.
     F32Max = 0x97,
-    /// `f32.copysign` (opcode 0x98), a numeric instruction that copies the sign of a float to another.
+    /// `f32.copysign` (opcode 0x98), a numeric instruction that copies the sign of a float to
+    /// another.
     F32Copysign = 0x98,
     /// `f64.abs` (opcode 0x99), a numeric instruction that computes the absolute value of a float.
     F64Abs = 0x99,
@@ -200,7 +215,8 @@ pub enum Numeric {
     F64Floor = 0x9C,
     /// `f64.trunc` (opcode 0x9D), a numeric instruction that rounds a float towards zero.
     F64Trunc = 0x9D,
-    /// `f64.nearest` (opcode 0x9E), a numeric instruction that rounds a float to the nearest integer.
+    /// `f64.nearest` (opcode 0x9E), a numeric instruction that rounds a float to the nearest
+    /// integer.
     F64Nearest = 0x9E,
     /// `f64.sqrt` (opcode 0x9F), a numeric instruction that computes the square root of a float.
     F64Sqrt = 0x9F,
@@ -216,67 +232,94 @@ pub enum Numeric {
     F64Min = 0xA4,
     /// `f64.max` (opcode 0xA5), a numeric instruction that computes the maximum of two floats.
     F64Max = 0xA5,
-    /// `f64.copysign` (opcode 0xA6), a numeric instruction that copies the sign of a float to another.
+    /// `f64.copysign` (opcode 0xA6), a numeric instruction that copies the sign of a float to
+    /// another.
     F64Copysign = 0xA6,
-    /// `i32.wrap_i64` (opcode 0xA7), a numeric instruction that takes the lower 32 bits of an integer.
+    /// `i32.wrap_i64` (opcode 0xA7), a numeric instruction that takes the lower 32 bits of an
+    /// integer.
     I32WrapI64 = 0xA7,
-    /// `i32.trunc_f32_s` (opcode 0xA8), a numeric instruction that converts a float to an integer, or traps.
+    /// `i32.trunc_f32_s` (opcode 0xA8), a numeric instruction that converts a float to an integer,
+    /// or traps.
     I32TruncF32S = 0xA8,
-    /// `i32.trunc_f32_u` (opcode 0xA9), a numeric instruction that converts a float to an integer, or traps.
+    /// `i32.trunc_f32_u` (opcode 0xA9), a numeric instruction that converts a float to an integer,
+    /// or traps.
     I32TruncF32U = 0xA9,
-    /// `i32.trunc_f64_s` (opcode 0xAA), a numeric instruction that converts a float to an integer, or traps.
+    /// `i32.trunc_f64_s` (opcode 0xAA), a numeric instruction that converts a float to an integer,
+    /// or traps.
     I32TruncF64S = 0xAA,
-    /// `i32.trunc_f64_u` (opcode 0xAB), a numeric instruction that converts a float to an integer, or traps.
+    /// `i32.trunc_f64_u` (opcode 0xAB), a numeric instruction that converts a float to an integer,
+    /// or traps.
     I32TruncF64U = 0xAB,
     /// `i64.extend_i32_s` (opcode 0xAC), a numeric instruction that extends an integer to 64 bits.
     I64ExtendI32S = 0xAC,
     /// `i64.extend_i32_u` (opcode 0xAD), a numeric instruction that extends an integer to 64 bits.
     I64ExtendI32U = 0xAD,
-    /// `i64.trunc_f32_s` (opcode 0xAE), a numeric instruction that converts a float to an integer, or traps.
+    /// `i64.trunc_f32_s` (opcode 0xAE), a numeric instruction that converts a float to an integer,
+    /// or traps.
     I64TruncF32S = 0xAE,
-    /// `i64.trunc_f32_u` (opcode 0xAF), a numeric instruction that converts a float to an integer, or traps.
+    /// `i64.trunc_f32_u` (opcode 0xAF), a numeric instruction that converts a float to an integer,
+    /// or traps.
     I64TruncF32U = 0xAF,
-    /// `i64.trunc_f64_s` (opcode 0xB0), a numeric instruction that converts a float to an integer, or traps.
+    /// `i64.trunc_f64_s` (opcode 0xB0), a numeric instruction that converts a float to an integer,
+    /// or traps.
     I64TruncF64S = 0xB0,
-    /// `i64.trunc_f64_u` (opcode 0xB1), a numeric instruction that converts a float to an integer, or traps.
+    /// `i64.trunc_f64_u` (opcode 0xB1), a numeric instruction that converts a float to an integer,
+    /// or traps.
     I64TruncF64U = 0xB1,
-    /// `f32.convert_i32_s` (opcode 0xB2), a numeric instruction that converts an integer to a float.
+    /// `f32.convert_i32_s` (opcode 0xB2), a numeric instruction that converts an integer to a
+    /// float.
     F32ConvertI32S = 0xB2,
-    /// `f32.convert_i32_u` (opcode 0xB3), a numeric instruction that converts an integer to a float.
+    /// `f32.convert_i32_u` (opcode 0xB3), a numeric instruction that converts an integer to a
+    /// float.
     F32ConvertI32U = 0xB3,
-    /// `f32.convert_i64_s` (opcode 0xB4), a numeric instruction that converts an integer to a float.
+    /// `f32.convert_i64_s` (opcode 0xB4), a numeric instruction that converts an integer to a
+    /// float.
     F32ConvertI64S = 0xB4,
-    /// `f32.convert_i64_u` (opcode 0xB5), a numeric instruction that converts an integer to a float.
+    /// `f32.convert_i64_u` (opcode 0xB5), a numeric instruction that converts an integer to a
+    /// float.
     F32ConvertI64U = 0xB5,
     /// `f32.demote_f64` (opcode 0xB6), a numeric instruction that rounds a float to 32 bits.
     F32DemoteF64 = 0xB6,
-    /// `f64.convert_i32_s` (opcode 0xB7), a numeric instruction that converts an integer to a float.
+    /// `f64.convert_i32_s` (opcode 0xB7), a numeric instruction that converts an integer to a
+    /// float.
     F64ConvertI32S = 0xB7,
-    /// `f64.convert_i32_u` (opcode 0xB8), a numeric instruction that converts an integer to a float.
+    /// `f64.convert_i32_u` (opcode 0xB8), a numeric instruction that converts an integer to a
+    /// float.
     F64ConvertI32U = 0xB8,
-    /// `f64.convert_i64_s` (opcode 0xB9), a numeric instruction that converts an integer to a float.
+    /// `f64.convert_i64_s` (opcode 0xB9), a numeric instruction that converts an integer to a
+    /// float.
     F64ConvertI64S = 0xB9,
-    /// `f64.convert_i64_u` (opcode 0xBA), a numeric instruction that converts an integer to a float.
+    /// `f64.convert_i64_u` (opcode 0xBA), a numeric instruction that converts an integer to a
+    /// float.
     F64ConvertI64U = 0xBA,
     /// `f64.promote_f32` (opcode 0xBB), a numeric instruction that converts a float to 64 bits.
     F64PromoteF32 = 0xBB,
-    /// `i32.reinterpret_f32` (opcode 0xBC), a numeric instruction that takes the bits of a number as another type.
+    /// `i32.reinterpret_f32` (opcode 0xBC), a numeric instruction that takes the bits of a number
+    /// as another type.
     I32ReinterpretF32 = 0xBC,
-    /// `i64.reinterpret_f64` (opcode 0xBD), a numeric instruction that takes the bits of a number as another type.
+    /// `i64.reinterpret_f64` (opcode 0xBD), a numeric instruction that takes the bits of a number
+    /// as another type.
     I64ReinterpretF64 = 0xBD,
-    /// `f32.reinterpret_i32` (opcode 0xBE), a numeric instruction that takes the bits of a number as another type.
+    /// `f32.reinterpret_i32` (opcode 0xBE), a numeric instruction that takes the bits of a number
+    /// as another type.
     F32ReinterpretI32 = 0xBE,
-    /// `f64.reinterpret_i64` (opcode 0xBF), a numeric instruction that takes the bits of a number as another type.
+    /// `f64.reinterpret_i64` (opcode 0xBF), a numeric instruction that takes the bits of a number
+    /// as another type.
     F64ReinterpretI64 = 0xBF,
-    /// `i32.extend8_s` (opcode 0xC0), a numeric instruction that sign-extends the lower 8 bits of an integer.
+    /// `i32.extend8_s` (opcode 0xC0), a numeric instruction that sign-extends the lower 8 bits of
+    /// an integer.
     I32Extend8S = 0xC0,
-    /// `i32.extend16_s` (opcode 0xC1), a numeric instruction that sign-extends the lower 16 bits of an integer.
+    /// `i32.extend16_s` (opcode 0xC1), a numeric instruction that sign-extends the lower 16 bits of
+    /// an integer.
     I32Extend16S = 0xC1,
-    /// `i64.extend8_s` (opcode 0xC2), a numeric instruction that sign-extends the lower 8 bits of an integer.
+    /// `i64.extend8_s` (opcode 0xC2), a numeric instruction that sign-extends the lower 8 bits of
+    /// an integer.
     I64Extend8S = 0xC2,
-    /// `i64.extend16_s` (opcode 0xC3), a numeric instruction that sign-extends the lower 16 bits of an integer.
+    /// `i64.extend16_s` (opcode 0xC3), a numeric instruction that sign-extends the lower 16 bits of
+    /// an integer.
     I64Extend16S = 0xC3,
-    /// `i64.extend32_s` (opcode 0xC4), a numeric instruction that sign-extends the lower 32 bits of an integer.
+    /// `i64.extend32_s` (opcode 0xC4), a numeric instruction that sign-extends the lower 32 bits of
+    /// an integer.
     I64Extend32S = 0xC4,
 }
 
@@ -399,10 +442,12 @@ impl Instruction<'static> {
     /// `f64.ge` (opcode 0x66), a numeric instruction that compares two numbers.
     pub const F64Ge: Self = Instruction::Numeric(Numeric::F64Ge);
 
-    /// `i32.clz` (opcode 0x67), a numeric instruction that counts the leading zero bits of an integer.
+    /// `i32.clz` (opcode 0x67), a numeric instruction that counts the leading zero bits of an
+    /// integer.
     pub const I32Clz: Self = Instruction::Numeric(Numeric::I32Clz);
 
-    /// `i32.ctz` (opcode 0x68), a numeric instruction that counts the trailing zero bits of an integer.
+    /// `i32.ctz` (opcode 0x68), a numeric instruction that counts the trailing zero bits of an
+    /// integer.
     pub const I32Ctz: Self = Instruction::Numeric(Numeric::I32Ctz);
 
     /// `i32.popcnt` (opcode 0x69), a numeric instruction that counts the one bits of an integer.
@@ -423,19 +468,23 @@ impl Instruction<'static> {
     /// `i32.div_u` (opcode 0x6E), a numeric instruction that divides two integers.
     pub const I32DivU: Self = Instruction::Numeric(Numeric::I32DivU);
 
-    /// `i32.rem_s` (opcode 0x6F), a numeric instruction that computes the remainder of two integers.
+    /// `i32.rem_s` (opcode 0x6F), a numeric instruction that computes the remainder of two
+    /// integers.
     pub const I32RemS: Self = Instruction::Numeric(Numeric::I32RemS);
 
-    /// `i32.rem_u` (opcode 0x70), a numeric instruction that computes the remainder of two integers.
+    /// `i32.rem_u` (opcode 0x70), a numeric instruction that computes the remainder of two
+    /// integers.
     pub const I32RemU: Self = Instruction::Numeric(Numeric::I32RemU);
 
-    /// `i32.and` (opcode 0x71), a numeric instruction that computes the bitwise and of two integers.
+    /// `i32.and` (opcode 0x71), a numeric instruction that computes the bitwise and of two
+    /// integers.
     pub const I32And: Self = Instruction::Numeric(Numeric::I32And);
 
     /// `i32.or` (opcode 0x72), a numeric instruction that computes the bitwise or of two integers.
     pub const I32Or: Self = Instruction::Numeric(Numeric::I32Or);
 
-    /// `i32.xor` (opcode 0x73), a numeric instruction that computes the bitwise exclusive or of two integers.
+    /// `i32.xor` (opcode 0x73), a numeric instruction that computes the bitwise exclusive or of two
+    /// integers.
     pub const I32Xor: Self = Instruction::Numeric(Numeric::I32Xor);
 
     /// `i32.shl` (opcode 0x74), a numeric instruction that shifts an integer to the left.
@@ -453,10 +502,12 @@ impl Instruction<'static> {
     /// `i32.rotr` (opcode 0x78), a numeric instruction that rotates an integer to the right.
     pub const I32Rotr: Self = Instruction::Numeric(Numeric::I32Rotr);
 
-    /// `i64.clz` (opcode 0x79), a numeric instruction that counts the leading zero bits of an integer.
+    /// `i64.clz` (opcode 0x79), a numeric instruction that counts the leading zero bits of an
+    /// integer.
     pub const I64Clz: Self = Instruction::Numeric(Numeric::I64Clz);
 
-    /// `i64.ctz` (opcode 0x7A), a numeric instruction that counts the trailing zero bits of an integer.
+    /// `i64.ctz` (opcode 0x7A), a numeric instruction that counts the trailing zero bits of an
+    /// integer.
     pub const I64Ctz: Self = Instruction::Numeric(Numeric::I64Ctz);
 
     /// `i64.popcnt` (opcode 0x7B), a numeric instruction that counts the one bits of an integer.
@@ -477,19 +528,23 @@ impl Instruction<'static> {
     /// `i64.div_u` (opcode 0x80), a numeric instruction that divides two integers.
     pub const I64DivU: Self = Instruction::Numeric(Numeric::I64DivU);
 
-    /// `i64.rem_s` (opcode 0x81), a numeric instruction that computes the remainder of two integers.
+    /// `i64.rem_s` (opcode 0x81), a numeric instruction that computes the remainder of two
+    /// integers.
     pub const I64RemS: Self = Instruction::Numeric(Numeric::I64RemS);
 
-    /// `i64.rem_u` (opcode 0x82), a numeric instruction that computes the remainder of two integers.
+    /// `i64.rem_u` (opcode 0x82), a numeric instruction that computes the remainder of two
+    /// integers.
     pub const I64RemU: Self = Instruction::Numeric(Numeric::I64RemU);
 
-    /// `i64.and` (opcode 0x83), a numeric instruction that computes the bitwise and of two integers.
+    /// `i64.and` (opcode 0x83), a numeric instruction that computes the bitwise and of two
+    /// integers.
     pub const I64And: Self = Instruction::Numeric(Numeric::I64And);
 
     /// `i64.or` (opcode 0x84), a numeric instruction that computes the bitwise or of two integers.
     pub const I64Or: Self = Instruction::Numeric(Numeric::I64Or);
 
-    /// `i64.xor` (opcode 0x85), a numeric instruction that computes the bitwise exclusive or of two integers.
+    /// `i64.xor` (opcode 0x85), a numeric instruction that computes the bitwise exclusive or of two
+    /// integers.
     pub const I64Xor: Self = Instruction::Numeric(Numeric::I64Xor);
 
     /// `i64.shl` (opcode 0x86), a numeric instruction that shifts an integer to the left.
@@ -522,7 +577,8 @@ impl Instruction<'static> {
     /// `f32.trunc` (opcode 0x8F), a numeric instruction that rounds a float towards zero.
     pub const F32Trunc: Self = Instruction::Numeric(Numeric::F32Trunc);
 
-    /// `f32.nearest` (opcode 0x90), a numeric instruction that rounds a float to the nearest integer.
+    /// `f32.nearest` (opcode 0x90), a numeric instruction that rounds a float to the nearest
+    /// integer.
     pub const F32Nearest: Self = Instruction::Numeric(Numeric::F32Nearest);
 
     /// `f32.sqrt` (opcode 0x91), a numeric instruction that computes the square root of a float.
@@ -546,7 +602,8 @@ impl Instruction<'static> {
     /// `f32.max` (opcode 0x97), a numeric instruction that computes the maximum of two floats.
     pub const F32Max: Self = Instruction::Numeric(Numeric::F32Max);
 
-    /// `f32.copysign` (opcode 0x98), a numeric instruction that copies the sign of a float to another.
+    /// `f32.copysign` (opcode 0x98), a numeric instruction that copies the sign of a float to
+    /// another.
     pub const F32Copysign: Self = Instruction::Numeric(Numeric::F32Copysign);
 
     /// `f64.abs` (opcode 0x99), a numeric instruction that computes the absolute value of a float.
@@ -564,7 +621,8 @@ impl Instruction<'static> {
     /// `f64.trunc` (opcode 0x9D), a numeric instruction that rounds a float towards zero.
     pub const F64Trunc: Self = Instruction::Numeric(Numeric::F64Trunc);
 
-    /// `f64.nearest` (opcode 0x9E), a numeric instruction that rounds a float to the nearest integer.
+    /// `f64.nearest` (opcode 0x9E), a numeric instruction that rounds a float to the nearest
+    /// integer.
     pub const F64Nearest: Self = Instruction::Numeric(Numeric::F64Nearest);
 
     /// `f64.sqrt` (opcode 0x9F), a numeric instruction that computes the square root of a float.
@@ -588,22 +646,28 @@ impl Instruction<'static> {
     /// `f64.max` (opcode 0xA5), a numeric instruction that computes the maximum of two floats.
     pub const F64Max: Self = Instruction::Numeric(Numeric::F64Max);
 
-    /// `f64.copysign` (opcode 0xA6), a numeric instruction that copies the sign of a float to another.
+    /// `f64.copysign` (opcode 0xA6), a numeric instruction that copies the sign of a float to
+    /// another.
     pub const F64Copysign: Self = Instruction::Numeric(Numeric::F64Copysign);
 
-    /// `i32.wrap_i64` (opcode 0xA7), a numeric instruction that takes the lower 32 bits of an integer.
+    /// `i32.wrap_i64` (opcode 0xA7), a numeric instruction that takes the lower 32 bits of an
+    /// integer.
     pub const I32WrapI64: Self = Instruction::Numeric(Numeric::I32WrapI64);
 
-    /// `i32.trunc_f32_s` (opcode 0xA8), a numeric instruction that converts a float to an integer, or traps.
+    /// `i32.trunc_f32_s` (opcode 0xA8), a numeric instruction that converts a float to an integer,
+    /// or traps.
     pub const I32TruncF32S: Self = Instruction::Numeric(Numeric::I32TruncF32S);
 
-    /// `i32.trunc_f32_u` (opcode 0xA9), a numeric instruction that converts a float to an integer, or traps.
+    /// `i32.trunc_f32_u` (opcode 0xA9), a numeric instruction that converts a float to an integer,
+    /// or traps.
     pub const I32TruncF32U: Self = Instruction::Numeric(Numeric::I32TruncF32U);
 
-    /// `i32.trunc_f64_s` (opcode 0xAA), a numeric instruction that converts a float to an integer, or traps.
+    /// `i32.trunc_f64_s` (opcode 0xAA), a numeric instruction that converts a float to an integer,
+    /// or traps.
     pub const I32TruncF64S: Self = Instruction::Numeric(Numeric::I32TruncF64S);
 
-    /// `i32.trunc_f64_u` (opcode 0xAB), a numeric instruction that converts a float to an integer, or traps.
+    /// `i32.trunc_f64_u` (opcode 0xAB), a numeric instruction that converts a float to an integer,
+    /// or traps.
     pub const I32TruncF64U: Self = Instruction::Numeric(Numeric::I32TruncF64U);
 
     /// `i64.extend_i32_s` (opcode 0xAC), a numeric instruction that extends an integer to 64 bits.
@@ -612,72 +676,93 @@ impl Instruction<'static> {
     /// `i64.extend_i32_u` (opcode 0xAD), a numeric instruction that extends an integer to 64 bits.
     pub const I64ExtendI32U: Self = Instruction::Numeric(Numeric::I64ExtendI32U);
 
-    /// `i64.trunc_f32_s` (opcode 0xAE), a numeric instruction that converts a float to an integer, or traps.
+    /// `i64.trunc_f32_s` (opcode 0xAE), a numeric instruction that converts a float to an integer,
+    /// or traps.
     pub const I64TruncF32S: Self = Instruction::Numeric(Numeric::I64TruncF32S);
 
-    /// `i64.trunc_f32_u` (opcode 0xAF), a numeric instruction that converts a float to an integer, or traps.
+    /// `i64.trunc_f32_u` (opcode 0xAF), a numeric instruction that converts a float to an integer,
+    /// or traps.
     pub const I64TruncF32U: Self = Instruction::Numeric(Numeric::I64TruncF32U);
 
-    /// `i64.trunc_f64_s` (opcode 0xB0), a numeric instruction that converts a float to an integer, or traps.
+    /// `i64.trunc_f64_s` (opcode 0xB0), a numeric instruction that converts a float to an integer,
+    /// or traps.
     pub const I64TruncF64S: Self = Instruction::Numeric(Numeric::I64TruncF64S);
 
-    /// `i64.trunc_f64_u` (opcode 0xB1), a numeric instruction that converts a float to an integer, or traps.
+    /// `i64.trunc_f64_u` (opcode 0xB1), a numeric instruction that converts a float to an integer,
+    /// or traps.
     pub const I64TruncF64U: Self = Instruction::Numeric(Numeric::I64TruncF64U);
 
-    /// `f32.convert_i32_s` (opcode 0xB2), a numeric instruction that converts an integer to a float.
+    /// `f32.convert_i32_s` (opcode 0xB2), a numeric instruction that converts an integer to a
+    /// float.
     pub const F32ConvertI32S: Self = Instruction::Numeric(Numeric::F32ConvertI32S);
 
-    /// `f32.convert_i32_u` (opcode 0xB3), a numeric instruction that converts an integer to a float.
+    /// `f32.convert_i32_u` (opcode 0xB3), a numeric instruction that converts an integer to a
+    /// float.
     pub const F32ConvertI32U: Self = Instruction::Numeric(Numeric::F32ConvertI32U);
 
-    /// `f32.convert_i64_s` (opcode 0xB4), a numeric instruction that converts an integer to a float.
+    /// `f32.convert_i64_s` (opcode 0xB4), a numeric instruction that converts an integer to a
+    /// float.
     pub const F32ConvertI64S: Self = Instruction::Numeric(Numeric::F32ConvertI64S);
 
-    /// `f32.convert_i64_u` (opcode 0xB5), a numeric instruction that converts an integer to a float.
+    /// `f32.convert_i64_u` (opcode 0xB5), a numeric instruction that converts an integer to a
+    /// float.
     pub const F32ConvertI64U: Self = Instruction::Numeric(Numeric::F32ConvertI64U);
 
     /// `f32.demote_f64` (opcode 0xB6), a numeric instruction that rounds a float to 32 bits.
     pub const F32DemoteF64: Self = Instruction::Numeric(Numeric::F32DemoteF64);
 
-    /// `f64.convert_i32_s` (opcode 0xB7), a numeric instruction that converts an integer to a float.
+    /// `f64.convert_i32_s` (opcode 0xB7), a numeric instruction that converts an integer to a
+    /// float.
     pub const F64ConvertI32S: Self = Instruction::Numeric(Numeric::F64ConvertI32S);
 
-    /// `f64.convert_i32_u` (opcode 0xB8), a numeric instruction that converts an integer to a float.
+    /// `f64.convert_i32_u` (opcode 0xB8), a numeric instruction that converts an integer to a
+    /// float.
     pub const F64ConvertI32U: Self = Instruction::Numeric(Numeric::F64ConvertI32U);
 
-    /// `f64.convert_i64_s` (opcode 0xB9), a numeric instruction that converts an integer to a float.
+    /// `f64.convert_i64_s` (opcode 0xB9), a numeric instruction that converts an integer to a
+    /// float.
     pub const F64ConvertI64S: Self = Instruction::Numeric(Numeric::F64ConvertI64S);
 
-    /// `f64.convert_i64_u` (opcode 0xBA), a numeric instruction that converts an integer to a float.
+    /// `f64.convert_i64_u` (opcode 0xBA), a numeric instruction that converts an integer to a
+    /// float.
     pub const F64ConvertI64U: Self = Instruction::Numeric(Numeric::F64ConvertI64U);
 
     /// `f64.promote_f32` (opcode 0xBB), a numeric instruction that converts a float to 64 bits.
     pub const F64PromoteF32: Self = Instruction::Numeric(Numeric::F64PromoteF32);
 
-    /// `i32.reinterpret_f32` (opcode 0xBC), a numeric instruction that takes the bits of a number as another type.
+    /// `i32.reinterpret_f32` (opcode 0xBC), a numeric instruction that takes the bits of a number
+    /// as another type.
     pub const I32ReinterpretF32: Self = Instruction::Numeric(Numeric::I32ReinterpretF32);
 
-    /// `i64.reinterpret_f64` (opcode 0xBD), a numeric instruction that takes the bits of a number as another type.
+    /// `i64.reinterpret_f64` (opcode 0xBD), a numeric instruction that takes the bits of a number
+    /// as another type.
     pub const I64ReinterpretF64: Self = Instruction::Numeric(Numeric::I64ReinterpretF64);
 
-    /// `f32.reinterpret_i32` (opcode 0xBE), a numeric instruction that takes the bits of a number as another type.
+    /// `f32.reinterpret_i32` (opcode 0xBE), a numeric instruction that takes the bits of a number
+    /// as another type.
     pub const F32ReinterpretI32: Self = Instruction::Numeric(Numeric::F32ReinterpretI32);
 
-    /// `f64.reinterpret_i64` (opcode 0xBF), a numeric instruction that takes the bits of a number as another type.
+    /// `f64.reinterpret_i64` (opcode 0xBF), a numeric instruction that takes the bits of a number
+    /// as another type.
     pub const F64ReinterpretI64: Self = Instruction::Numeric(Numeric::F64ReinterpretI64);
 
-    /// `i32.extend8_s` (opcode 0xC0), a numeric instruction that sign-extends the lower 8 bits of an integer.
+    /// `i32.extend8_s` (opcode 0xC0), a numeric instruction that sign-extends the lower 8 bits of
+    /// an integer.
     pub const I32Extend8S: Self = Instruction::Numeric(Numeric::I32Extend8S);
 
-    /// `i32.extend16_s` (opcode 0xC1), a numeric instruction that sign-extends the lower 16 bits of an integer.
+    /// `i32.extend16_s` (opcode 0xC1), a numeric instruction that sign-extends the lower 16 bits of
+    /// an integer.
     pub const I32Extend16S: Self = Instruction::Numeric(Numeric::I32Extend16S);
 
-    /// `i64.extend8_s` (opcode 0xC2), a numeric instruction that sign-extends the lower 8 bits of an integer.
+    /// `i64.extend8_s` (opcode 0xC2), a numeric instruction that sign-extends the lower 8 bits of
+    /// an integer.
     pub const I64Extend8S: Self = Instruction::Numeric(Numeric::I64Extend8S);
 
-    /// `i64.extend16_s` (opcode 0xC3), a numeric instruction that sign-extends the lower 16 bits of an integer.
+    /// `i64.extend16_s` (opcode 0xC3), a numeric instruction that sign-extends the lower 16 bits of
+    /// an integer.
     pub const I64Extend16S: Self = Instruction::Numeric(Numeric::I64Extend16S);
 
-    /// `i64.extend32_s` (opcode 0xC4), a numeric instruction that sign-extends the lower 32 bits of an integer.
+    /// `i64.extend32_s` (opcode 0xC4), a numeric instruction that sign-extends the lower 32 bits of
+    /// an integer.
     pub const I64Extend32S: Self = Instruction::Numeric(Numeric::I64Extend32S);
 }

@@ -30,7 +30,8 @@ pub enum Op {
 
 /// The list of immediates of an opcode.
 ///
-/// [`Op::shape`](crate::fallible::Op::shape) returns it, and [`parts`](crate::fallible::Shape::parts) lists its immediates.
+/// [`Op::shape`](crate::fallible::Op::shape) returns it, and
+/// [`parts`](crate::fallible::Shape::parts) lists its immediates.
 ///
 /// # Examples
 ///

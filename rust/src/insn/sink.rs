@@ -10,7 +10,8 @@ use crate::immediates::{BlockType, Ieee32, Ieee64, MemArg};
 
 /// A buffer to which instructions are appended.
 ///
-/// [`Function`](crate::fallible::Function) and every [`Sink`](crate::fallible::Sink) are buffers. [`InstructionSink::new`](crate::fallible::InstructionSink::new) takes one.
+/// [`Function`](crate::fallible::Function) and every [`Sink`](crate::fallible::Sink) are
+/// buffers. [`InstructionSink::new`](crate::fallible::InstructionSink::new) takes one.
 ///
 /// # Examples
 ///
@@ -148,7 +149,8 @@ impl<A: Sink> Buffer for A {
 /// A call that fails leaves the buffer's bytes unchanged. The error is `TooLong` only if a list is
 /// too long.
 ///
-/// [`Function::instructions`](crate::fallible::Function::instructions) returns one. [`InstructionSink`](crate::InstructionSink) of the root has a call for each instruction.
+/// [`Function::instructions`](crate::fallible::Function::instructions) returns one.
+/// [`InstructionSink`](crate::InstructionSink) of the root has a call for each instruction.
 ///
 /// # Examples
 ///

@@ -6,7 +6,8 @@ use crate::insn::op::Op;
 
 /// Vector instructions without immediates: those after the prefix FD.
 ///
-/// It is a case of [`Instruction`](crate::fallible::Instruction), which has a constant for each.
+/// It is a case of [`Instruction`](crate::fallible::Instruction), which has a constant for
+/// each.
 ///
 /// # Examples
 ///
@@ -22,19 +23,26 @@ use crate::insn::op::Op;
 /// ```
 #[derive(Clone, Copy, Debug)]
 pub enum Vector {
-    /// `i8x16.swizzle` (opcode 0xFD 14), a vector instruction that selects lanes of a vector by those of another.
+    /// `i8x16.swizzle` (opcode 0xFD 14), a vector instruction that selects lanes of a vector by
+    /// those of another.
     I8x16Swizzle = 14,
-    /// `i8x16.splat` (opcode 0xFD 15), a vector instruction that copies a number to each lane of a vector.
+    /// `i8x16.splat` (opcode 0xFD 15), a vector instruction that copies a number to each lane of a
+    /// vector.
     I8x16Splat = 15,
-    /// `i16x8.splat` (opcode 0xFD 16), a vector instruction that copies a number to each lane of a vector.
+    /// `i16x8.splat` (opcode 0xFD 16), a vector instruction that copies a number to each lane of a
+    /// vector.
     I16x8Splat = 16,
-    /// `i32x4.splat` (opcode 0xFD 17), a vector instruction that copies a number to each lane of a vector.
+    /// `i32x4.splat` (opcode 0xFD 17), a vector instruction that copies a number to each lane of a
+    /// vector.
     I32x4Splat = 17,
-    /// `i64x2.splat` (opcode 0xFD 18), a vector instruction that copies a number to each lane of a vector.
+    /// `i64x2.splat` (opcode 0xFD 18), a vector instruction that copies a number to each lane of a
+    /// vector.
     I64x2Splat = 18,
-    /// `f32x4.splat` (opcode 0xFD 19), a vector instruction that copies a number to each lane of a vector.
+    /// `f32x4.splat` (opcode 0xFD 19), a vector instruction that copies a number to each lane of a
+    /// vector.
     F32x4Splat = 19,
-    /// `f64x2.splat` (opcode 0xFD 20), a vector instruction that copies a number to each lane of a vector.
+    /// `f64x2.splat` (opcode 0xFD 20), a vector instruction that copies a number to each lane of a
+    /// vector.
     F64x2Splat = 20,
     /// `i8x16.eq` (opcode 0xFD 35), a vector instruction that compares each lane of two vectors.
     I8x16Eq = 35,
@@ -122,221 +130,315 @@ pub enum Vector {
     F64x2Ge = 76,
     /// `v128.not` (opcode 0xFD 77), a vector instruction that inverts the bits of a vector.
     V128Not = 77,
-    /// `v128.and` (opcode 0xFD 78), a vector instruction that computes the bitwise and of two vectors.
+    /// `v128.and` (opcode 0xFD 78), a vector instruction that computes the bitwise and of two
+    /// vectors.
     V128And = 78,
-    /// `v128.andnot` (opcode 0xFD 79), a vector instruction that computes the bitwise and of a vector and the inverse of another.
+    /// `v128.andnot` (opcode 0xFD 79), a vector instruction that computes the bitwise and of a
+    /// vector and the inverse of another.
     V128AndNot = 79,
-    /// `v128.or` (opcode 0xFD 80), a vector instruction that computes the bitwise or of two vectors.
+    /// `v128.or` (opcode 0xFD 80), a vector instruction that computes the bitwise or of two
+    /// vectors.
     V128Or = 80,
-    /// `v128.xor` (opcode 0xFD 81), a vector instruction that computes the bitwise exclusive or of two vectors.
+    /// `v128.xor` (opcode 0xFD 81), a vector instruction that computes the bitwise exclusive or of
+    /// two vectors.
     V128Xor = 81,
-    /// `v128.bitselect` (opcode 0xFD 82), a vector instruction that selects bits of two vectors by the bits of a third.
+    /// `v128.bitselect` (opcode 0xFD 82), a vector instruction that selects bits of two vectors by
+    /// the bits of a third.
     V128Bitselect = 82,
-    /// `v128.any_true` (opcode 0xFD 83), a vector instruction that tests whether a bit of a vector is set.
+    /// `v128.any_true` (opcode 0xFD 83), a vector instruction that tests whether a bit of a vector
+    /// is set.
     V128AnyTrue = 83,
-    /// `f32x4.demote_f64x2_zero` (opcode 0xFD 94), a vector instruction that rounds the floats of a vector to 32 bits.
+    /// `f32x4.demote_f64x2_zero` (opcode 0xFD 94), a vector instruction that rounds the floats of a
+    /// vector to 32 bits.
     F32x4DemoteF64x2Zero = 94,
-    /// `f64x2.promote_low_f32x4` (opcode 0xFD 95), a vector instruction that converts the lower floats of a vector to 64 bits.
+    /// `f64x2.promote_low_f32x4` (opcode 0xFD 95), a vector instruction that converts the lower
+    /// floats of a vector to 64 bits.
     F64x2PromoteLowF32x4 = 95,
-    /// `i8x16.abs` (opcode 0xFD 96), a vector instruction that computes the absolute value of each lane of a vector.
+    /// `i8x16.abs` (opcode 0xFD 96), a vector instruction that computes the absolute value of each
+    /// lane of a vector.
     I8x16Abs = 96,
     /// `i8x16.neg` (opcode 0xFD 97), a vector instruction that negates each lane of a vector.
     I8x16Neg = 97,
-    /// `i8x16.popcnt` (opcode 0xFD 98), a vector instruction that counts the one bits of each lane of a vector.
+    /// `i8x16.popcnt` (opcode 0xFD 98), a vector instruction that counts the one bits of each lane
+    /// of a vector.
     I8x16Popcnt = 98,
-    /// `i8x16.all_true` (opcode 0xFD 99), a vector instruction that tests whether no lane of a vector is zero.
+    /// `i8x16.all_true` (opcode 0xFD 99), a vector instruction that tests whether no lane of a
+    /// vector is zero.
     I8x16AllTrue = 99,
-    /// `i8x16.bitmask` (opcode 0xFD 100), a vector instruction that collects the highest bit of each lane of a vector.
+    /// `i8x16.bitmask` (opcode 0xFD 100), a vector instruction that collects the highest bit of
+    /// each lane of a vector.
     I8x16Bitmask = 100,
-    /// `i8x16.narrow_i16x8_s` (opcode 0xFD 101), a vector instruction that narrows the lanes of two vectors, and saturates.
+    /// `i8x16.narrow_i16x8_s` (opcode 0xFD 101), a vector instruction that narrows the lanes of two
+    /// vectors, and saturates.
     I8x16NarrowI16x8S = 101,
-    /// `i8x16.narrow_i16x8_u` (opcode 0xFD 102), a vector instruction that narrows the lanes of two vectors, and saturates.
+    /// `i8x16.narrow_i16x8_u` (opcode 0xFD 102), a vector instruction that narrows the lanes of two
+    /// vectors, and saturates.
     I8x16NarrowI16x8U = 102,
     /// `f32x4.ceil` (opcode 0xFD 103), a vector instruction that rounds each lane of a vector up.
     F32x4Ceil = 103,
-    /// `f32x4.floor` (opcode 0xFD 104), a vector instruction that rounds each lane of a vector down.
+    /// `f32x4.floor` (opcode 0xFD 104), a vector instruction that rounds each lane of a vector
+    /// down.
     F32x4Floor = 104,
-    /// `f32x4.trunc` (opcode 0xFD 105), a vector instruction that rounds each lane of a vector towards zero.
+    /// `f32x4.trunc` (opcode 0xFD 105), a vector instruction that rounds each lane of a vector
+    /// towards zero.
     F32x4Trunc = 105,
-    /// `f32x4.nearest` (opcode 0xFD 106), a vector instruction that rounds each lane of a vector to the nearest integer.
+    /// `f32x4.nearest` (opcode 0xFD 106), a vector instruction that rounds each lane of a vector to
+    /// the nearest integer.
     F32x4Nearest = 106,
-    /// `i8x16.shl` (opcode 0xFD 107), a vector instruction that shifts each lane of a vector to the left.
+    /// `i8x16.shl` (opcode 0xFD 107), a vector instruction that shifts each lane of a vector to the
+    /// left.
     I8x16Shl = 107,
-    /// `i8x16.shr_s` (opcode 0xFD 108), a vector instruction that shifts each lane of a vector to the right.
+    /// `i8x16.shr_s` (opcode 0xFD 108), a vector instruction that shifts each lane of a vector to
+    /// the right.
     I8x16ShrS = 108,
-    /// `i8x16.shr_u` (opcode 0xFD 109), a vector instruction that shifts each lane of a vector to the right.
+    /// `i8x16.shr_u` (opcode 0xFD 109), a vector instruction that shifts each lane of a vector to
+    /// the right.
     I8x16ShrU = 109,
     /// `i8x16.add` (opcode 0xFD 110), a vector instruction that adds each lane of two vectors.
     I8x16Add = 110,
-    /// `i8x16.add_sat_s` (opcode 0xFD 111), a vector instruction that adds each lane of two vectors, and saturates.
+    /// `i8x16.add_sat_s` (opcode 0xFD 111), a vector instruction that adds each lane of two
+    /// vectors, and saturates.
     I8x16AddSatS = 111,
-    /// `i8x16.add_sat_u` (opcode 0xFD 112), a vector instruction that adds each lane of two vectors, and saturates.
+    /// `i8x16.add_sat_u` (opcode 0xFD 112), a vector instruction that adds each lane of two
+    /// vectors, and saturates.
     I8x16AddSatU = 112,
     /// `i8x16.sub` (opcode 0xFD 113), a vector instruction that subtracts each lane of two vectors.
     I8x16Sub = 113,
-    /// `i8x16.sub_sat_s` (opcode 0xFD 114), a vector instruction that subtracts each lane of two vectors, and saturates.
+    /// `i8x16.sub_sat_s` (opcode 0xFD 114), a vector instruction that subtracts each lane of two
+    /// vectors, and saturates.
     I8x16SubSatS = 114,
-    /// `i8x16.sub_sat_u` (opcode 0xFD 115), a vector instruction that subtracts each lane of two vectors, and saturates.
+    /// `i8x16.sub_sat_u` (opcode 0xFD 115), a vector instruction that subtracts each lane of two
+    /// vectors, and saturates.
     I8x16SubSatU = 115,
     /// `f64x2.ceil` (opcode 0xFD 116), a vector instruction that rounds each lane of a vector up.
     F64x2Ceil = 116,
-    /// `f64x2.floor` (opcode 0xFD 117), a vector instruction that rounds each lane of a vector down.
+    /// `f64x2.floor` (opcode 0xFD 117), a vector instruction that rounds each lane of a vector
+    /// down.
     F64x2Floor = 117,
-    /// `i8x16.min_s` (opcode 0xFD 118), a vector instruction that computes the minimum of each lane of two vectors.
+    /// `i8x16.min_s` (opcode 0xFD 118), a vector instruction that computes the minimum of each lane
+    /// of two vectors.
     I8x16MinS = 118,
-    /// `i8x16.min_u` (opcode 0xFD 119), a vector instruction that computes the minimum of each lane of two vectors.
+    /// `i8x16.min_u` (opcode 0xFD 119), a vector instruction that computes the minimum of each lane
+    /// of two vectors.
     I8x16MinU = 119,
-    /// `i8x16.max_s` (opcode 0xFD 120), a vector instruction that computes the maximum of each lane of two vectors.
+    /// `i8x16.max_s` (opcode 0xFD 120), a vector instruction that computes the maximum of each lane
+    /// of two vectors.
     I8x16MaxS = 120,
-    /// `i8x16.max_u` (opcode 0xFD 121), a vector instruction that computes the maximum of each lane of two vectors.
+    /// `i8x16.max_u` (opcode 0xFD 121), a vector instruction that computes the maximum of each lane
+    /// of two vectors.
     I8x16MaxU = 121,
-    /// `f64x2.trunc` (opcode 0xFD 122), a vector instruction that rounds each lane of a vector towards zero.
+    /// `f64x2.trunc` (opcode 0xFD 122), a vector instruction that rounds each lane of a vector
+    /// towards zero.
     F64x2Trunc = 122,
-    /// `i8x16.avgr_u` (opcode 0xFD 123), a vector instruction that averages each lane of two vectors, rounded up.
+    /// `i8x16.avgr_u` (opcode 0xFD 123), a vector instruction that averages each lane of two
+    /// vectors, rounded up.
     I8x16AvgrU = 123,
-    /// `i16x8.extadd_pairwise_i8x16_s` (opcode 0xFD 124), a vector instruction that adds neighbouring lanes of a vector to wider ones.
+    /// `i16x8.extadd_pairwise_i8x16_s` (opcode 0xFD 124), a vector instruction that adds
+    /// neighbouring lanes of a vector to wider ones.
     I16x8ExtAddPairwiseI8x16S = 124,
-    /// `i16x8.extadd_pairwise_i8x16_u` (opcode 0xFD 125), a vector instruction that adds neighbouring lanes of a vector to wider ones.
+    /// `i16x8.extadd_pairwise_i8x16_u` (opcode 0xFD 125), a vector instruction that adds
+    /// neighbouring lanes of a vector to wider ones.
     I16x8ExtAddPairwiseI8x16U = 125,
-    /// `i32x4.extadd_pairwise_i16x8_s` (opcode 0xFD 126), a vector instruction that adds neighbouring lanes of a vector to wider ones.
+    /// `i32x4.extadd_pairwise_i16x8_s` (opcode 0xFD 126), a vector instruction that adds
+    /// neighbouring lanes of a vector to wider ones.
     I32x4ExtAddPairwiseI16x8S = 126,
-    /// `i32x4.extadd_pairwise_i16x8_u` (opcode 0xFD 127), a vector instruction that adds neighbouring lanes of a vector to wider ones.
+    /// `i32x4.extadd_pairwise_i16x8_u` (opcode 0xFD 127), a vector instruction that adds
+    /// neighbouring lanes of a vector to wider ones.
     I32x4ExtAddPairwiseI16x8U = 127,
-    /// `i16x8.abs` (opcode 0xFD 128), a vector instruction that computes the absolute value of each lane of a vector.
+    /// `i16x8.abs` (opcode 0xFD 128), a vector instruction that computes the absolute value of each
+    /// lane of a vector.
     I16x8Abs = 128,
     /// `i16x8.neg` (opcode 0xFD 129), a vector instruction that negates each lane of a vector.
     I16x8Neg = 129,
-    /// `i16x8.q15mulr_sat_s` (opcode 0xFD 130), a vector instruction that multiplies each lane of two vectors as fixed-point numbers, rounded.
+    /// `i16x8.q15mulr_sat_s` (opcode 0xFD 130), a vector instruction that multiplies each lane of
+    /// two vectors as fixed-point numbers, rounded.
     I16x8Q15MulrSatS = 130,
-    /// `i16x8.all_true` (opcode 0xFD 131), a vector instruction that tests whether no lane of a vector is zero.
+    /// `i16x8.all_true` (opcode 0xFD 131), a vector instruction that tests whether no lane of a
+    /// vector is zero.
     I16x8AllTrue = 131,
-    /// `i16x8.bitmask` (opcode 0xFD 132), a vector instruction that collects the highest bit of each lane of a vector.
+    /// `i16x8.bitmask` (opcode 0xFD 132), a vector instruction that collects the highest bit of
+    /// each lane of a vector.
     I16x8Bitmask = 132,
-    /// `i16x8.narrow_i32x4_s` (opcode 0xFD 133), a vector instruction that narrows the lanes of two vectors, and saturates.
+    /// `i16x8.narrow_i32x4_s` (opcode 0xFD 133), a vector instruction that narrows the lanes of two
+    /// vectors, and saturates.
     I16x8NarrowI32x4S = 133,
-    /// `i16x8.narrow_i32x4_u` (opcode 0xFD 134), a vector instruction that narrows the lanes of two vectors, and saturates.
+    /// `i16x8.narrow_i32x4_u` (opcode 0xFD 134), a vector instruction that narrows the lanes of two
+    /// vectors, and saturates.
     I16x8NarrowI32x4U = 134,
-    /// `i16x8.extend_low_i8x16_s` (opcode 0xFD 135), a vector instruction that extends the lower lanes of a vector.
+    /// `i16x8.extend_low_i8x16_s` (opcode 0xFD 135), a vector instruction that extends the lower
+    /// lanes of a vector.
     I16x8ExtendLowI8x16S = 135,
-    /// `i16x8.extend_high_i8x16_s` (opcode 0xFD 136), a vector instruction that extends the upper lanes of a vector.
+    /// `i16x8.extend_high_i8x16_s` (opcode 0xFD 136), a vector instruction that extends the upper
+    /// lanes of a vector.
     I16x8ExtendHighI8x16S = 136,
-    /// `i16x8.extend_low_i8x16_u` (opcode 0xFD 137), a vector instruction that extends the lower lanes of a vector.
+    /// `i16x8.extend_low_i8x16_u` (opcode 0xFD 137), a vector instruction that extends the lower
+    /// lanes of a vector.
     I16x8ExtendLowI8x16U = 137,
-    /// `i16x8.extend_high_i8x16_u` (opcode 0xFD 138), a vector instruction that extends the upper lanes of a vector.
+    /// `i16x8.extend_high_i8x16_u` (opcode 0xFD 138), a vector instruction that extends the upper
+    /// lanes of a vector.
     I16x8ExtendHighI8x16U = 138,
-    /// `i16x8.shl` (opcode 0xFD 139), a vector instruction that shifts each lane of a vector to the left.
+    /// `i16x8.shl` (opcode 0xFD 139), a vector instruction that shifts each lane of a vector to the
+    /// left.
     I16x8Shl = 139,
-    /// `i16x8.shr_s` (opcode 0xFD 140), a vector instruction that shifts each lane of a vector to the right.
+    /// `i16x8.shr_s` (opcode 0xFD 140), a vector instruction that shifts each lane of a vector to
+    /// the right.
     I16x8ShrS = 140,
-    /// `i16x8.shr_u` (opcode 0xFD 141), a vector instruction that shifts each lane of a vector to the right.
+    /// `i16x8.shr_u` (opcode 0xFD 141), a vector instruction that shifts each lane of a vector to
+    /// the right.
     I16x8ShrU = 141,
     /// `i16x8.add` (opcode 0xFD 142), a vector instruction that adds each lane of two vectors.
     I16x8Add = 142,
-    /// `i16x8.add_sat_s` (opcode 0xFD 143), a vector instruction that adds each lane of two vectors, and saturates.
+    /// `i16x8.add_sat_s` (opcode 0xFD 143), a vector instruction that adds each lane of two
+    /// vectors, and saturates.
     I16x8AddSatS = 143,
-    /// `i16x8.add_sat_u` (opcode 0xFD 144), a vector instruction that adds each lane of two vectors, and saturates.
+    /// `i16x8.add_sat_u` (opcode 0xFD 144), a vector instruction that adds each lane of two
+    /// vectors, and saturates.
     I16x8AddSatU = 144,
     /// `i16x8.sub` (opcode 0xFD 145), a vector instruction that subtracts each lane of two vectors.
     I16x8Sub = 145,
-    /// `i16x8.sub_sat_s` (opcode 0xFD 146), a vector instruction that subtracts each lane of two vectors, and saturates.
+    /// `i16x8.sub_sat_s` (opcode 0xFD 146), a vector instruction that subtracts each lane of two
+    /// vectors, and saturates.
     I16x8SubSatS = 146,
-    /// `i16x8.sub_sat_u` (opcode 0xFD 147), a vector instruction that subtracts each lane of two vectors, and saturates.
+    /// `i16x8.sub_sat_u` (opcode 0xFD 147), a vector instruction that subtracts each lane of two
+    /// vectors, and saturates.
     I16x8SubSatU = 147,
-    /// `f64x2.nearest` (opcode 0xFD 148), a vector instruction that rounds each lane of a vector to the nearest integer.
+    /// `f64x2.nearest` (opcode 0xFD 148), a vector instruction that rounds each lane of a vector to
+    /// the nearest integer.
     F64x2Nearest = 148,
-    /// `i16x8.mul` (opcode 0xFD 149), a vector instruction that multiplies each lane of two vectors.
+    /// `i16x8.mul` (opcode 0xFD 149), a vector instruction that multiplies each lane of two
+    /// vectors.
     I16x8Mul = 149,
-    /// `i16x8.min_s` (opcode 0xFD 150), a vector instruction that computes the minimum of each lane of two vectors.
+    /// `i16x8.min_s` (opcode 0xFD 150), a vector instruction that computes the minimum of each lane
+    /// of two vectors.
     I16x8MinS = 150,
-    /// `i16x8.min_u` (opcode 0xFD 151), a vector instruction that computes the minimum of each lane of two vectors.
+    /// `i16x8.min_u` (opcode 0xFD 151), a vector instruction that computes the minimum of each lane
+    /// of two vectors.
     I16x8MinU = 151,
-    /// `i16x8.max_s` (opcode 0xFD 152), a vector instruction that computes the maximum of each lane of two vectors.
+    /// `i16x8.max_s` (opcode 0xFD 152), a vector instruction that computes the maximum of each lane
+    /// of two vectors.
     I16x8MaxS = 152,
-    /// `i16x8.max_u` (opcode 0xFD 153), a vector instruction that computes the maximum of each lane of two vectors.
+    /// `i16x8.max_u` (opcode 0xFD 153), a vector instruction that computes the maximum of each lane
+    /// of two vectors.
     I16x8MaxU = 153,
-    /// `i16x8.avgr_u` (opcode 0xFD 155), a vector instruction that averages each lane of two vectors, rounded up.
+    /// `i16x8.avgr_u` (opcode 0xFD 155), a vector instruction that averages each lane of two
+    /// vectors, rounded up.
     I16x8AvgrU = 155,
-    /// `i16x8.extmul_low_i8x16_s` (opcode 0xFD 156), a vector instruction that multiplies the lower lanes of two vectors to wider ones.
+    /// `i16x8.extmul_low_i8x16_s` (opcode 0xFD 156), a vector instruction that multiplies the lower
+    /// lanes of two vectors to wider ones.
     I16x8ExtMulLowI8x16S = 156,
-    /// `i16x8.extmul_high_i8x16_s` (opcode 0xFD 157), a vector instruction that multiplies the upper lanes of two vectors to wider ones.
+    /// `i16x8.extmul_high_i8x16_s` (opcode 0xFD 157), a vector instruction that multiplies the
+    /// upper lanes of two vectors to wider ones.
     I16x8ExtMulHighI8x16S = 157,
-    /// `i16x8.extmul_low_i8x16_u` (opcode 0xFD 158), a vector instruction that multiplies the lower lanes of two vectors to wider ones.
+    /// `i16x8.extmul_low_i8x16_u` (opcode 0xFD 158), a vector instruction that multiplies the lower
+    /// lanes of two vectors to wider ones.
     I16x8ExtMulLowI8x16U = 158,
-    /// `i16x8.extmul_high_i8x16_u` (opcode 0xFD 159), a vector instruction that multiplies the upper lanes of two vectors to wider ones.
+    /// `i16x8.extmul_high_i8x16_u` (opcode 0xFD 159), a vector instruction that multiplies the
+    /// upper lanes of two vectors to wider ones.
     I16x8ExtMulHighI8x16U = 159,
-    /// `i32x4.abs` (opcode 0xFD 160), a vector instruction that computes the absolute value of each lane of a vector.
+    /// `i32x4.abs` (opcode 0xFD 160), a vector instruction that computes the absolute value of each
+    /// lane of a vector.
     I32x4Abs = 160,
     /// `i32x4.neg` (opcode 0xFD 161), a vector instruction that negates each lane of a vector.
     I32x4Neg = 161,
-    /// `i32x4.all_true` (opcode 0xFD 163), a vector instruction that tests whether no lane of a vector is zero.
+    /// `i32x4.all_true` (opcode 0xFD 163), a vector instruction that tests whether no lane of a
+    /// vector is zero.
     I32x4AllTrue = 163,
-    /// `i32x4.bitmask` (opcode 0xFD 164), a vector instruction that collects the highest bit of each lane of a vector.
+    /// `i32x4.bitmask` (opcode 0xFD 164), a vector instruction that collects the highest bit of
+    /// each lane of a vector.
     I32x4Bitmask = 164,
-    /// `i32x4.extend_low_i16x8_s` (opcode 0xFD 167), a vector instruction that extends the lower lanes of a vector.
+    /// `i32x4.extend_low_i16x8_s` (opcode 0xFD 167), a vector instruction that extends the lower
+    /// lanes of a vector.
     I32x4ExtendLowI16x8S = 167,
-    /// `i32x4.extend_high_i16x8_s` (opcode 0xFD 168), a vector instruction that extends the upper lanes of a vector.
+    /// `i32x4.extend_high_i16x8_s` (opcode 0xFD 168), a vector instruction that extends the upper
+    /// lanes of a vector.
     I32x4ExtendHighI16x8S = 168,
-    /// `i32x4.extend_low_i16x8_u` (opcode 0xFD 169), a vector instruction that extends the lower lanes of a vector.
+    /// `i32x4.extend_low_i16x8_u` (opcode 0xFD 169), a vector instruction that extends the lower
+    /// lanes of a vector.
     I32x4ExtendLowI16x8U = 169,
-    /// `i32x4.extend_high_i16x8_u` (opcode 0xFD 170), a vector instruction that extends the upper lanes of a vector.
+    /// `i32x4.extend_high_i16x8_u` (opcode 0xFD 170), a vector instruction that extends the upper
+    /// lanes of a vector.
     I32x4ExtendHighI16x8U = 170,
-    /// `i32x4.shl` (opcode 0xFD 171), a vector instruction that shifts each lane of a vector to the left.
+    /// `i32x4.shl` (opcode 0xFD 171), a vector instruction that shifts each lane of a vector to the
+    /// left.
     I32x4Shl = 171,
-    /// `i32x4.shr_s` (opcode 0xFD 172), a vector instruction that shifts each lane of a vector to the right.
+    /// `i32x4.shr_s` (opcode 0xFD 172), a vector instruction that shifts each lane of a vector to
+    /// the right.
     I32x4ShrS = 172,
-    /// `i32x4.shr_u` (opcode 0xFD 173), a vector instruction that shifts each lane of a vector to the right.
+    /// `i32x4.shr_u` (opcode 0xFD 173), a vector instruction that shifts each lane of a vector to
+    /// the right.
     I32x4ShrU = 173,
     /// `i32x4.add` (opcode 0xFD 174), a vector instruction that adds each lane of two vectors.
     I32x4Add = 174,
     /// `i32x4.sub` (opcode 0xFD 177), a vector instruction that subtracts each lane of two vectors.
     I32x4Sub = 177,
-    /// `i32x4.mul` (opcode 0xFD 181), a vector instruction that multiplies each lane of two vectors.
+    /// `i32x4.mul` (opcode 0xFD 181), a vector instruction that multiplies each lane of two
+    /// vectors.
     I32x4Mul = 181,
-    /// `i32x4.min_s` (opcode 0xFD 182), a vector instruction that computes the minimum of each lane of two vectors.
+    /// `i32x4.min_s` (opcode 0xFD 182), a vector instruction that computes the minimum of each lane
+    /// of two vectors.
     I32x4MinS = 182,
-    /// `i32x4.min_u` (opcode 0xFD 183), a vector instruction that computes the minimum of each lane of two vectors.
+    /// `i32x4.min_u` (opcode 0xFD 183), a vector instruction that computes the minimum of each lane
+    /// of two vectors.
     I32x4MinU = 183,
-    /// `i32x4.max_s` (opcode 0xFD 184), a vector instruction that computes the maximum of each lane of two vectors.
+    /// `i32x4.max_s` (opcode 0xFD 184), a vector instruction that computes the maximum of each lane
+    /// of two vectors.
     I32x4MaxS = 184,
-    /// `i32x4.max_u` (opcode 0xFD 185), a vector instruction that computes the maximum of each lane of two vectors.
+    /// `i32x4.max_u` (opcode 0xFD 185), a vector instruction that computes the maximum of each lane
+    /// of two vectors.
     I32x4MaxU = 185,
-    /// `i32x4.dot_i16x8_s` (opcode 0xFD 186), a vector instruction that multiplies each lane of two vectors, and adds neighbouring products.
+    /// `i32x4.dot_i16x8_s` (opcode 0xFD 186), a vector instruction that multiplies each lane of two
+    /// vectors, and adds neighbouring products.
     I32x4DotI16x8S = 186,
-    /// `i32x4.extmul_low_i16x8_s` (opcode 0xFD 188), a vector instruction that multiplies the lower lanes of two vectors to wider ones.
+    /// `i32x4.extmul_low_i16x8_s` (opcode 0xFD 188), a vector instruction that multiplies the lower
+    /// lanes of two vectors to wider ones.
     I32x4ExtMulLowI16x8S = 188,
-    /// `i32x4.extmul_high_i16x8_s` (opcode 0xFD 189), a vector instruction that multiplies the upper lanes of two vectors to wider ones.
+    /// `i32x4.extmul_high_i16x8_s` (opcode 0xFD 189), a vector instruction that multiplies the
+    /// upper lanes of two vectors to wider ones.
     I32x4ExtMulHighI16x8S = 189,
-    /// `i32x4.extmul_low_i16x8_u` (opcode 0xFD 190), a vector instruction that multiplies the lower lanes of two vectors to wider ones.
+    /// `i32x4.extmul_low_i16x8_u` (opcode 0xFD 190), a vector instruction that multiplies the lower
+    /// lanes of two vectors to wider ones.
     I32x4ExtMulLowI16x8U = 190,
-    /// `i32x4.extmul_high_i16x8_u` (opcode 0xFD 191), a vector instruction that multiplies the upper lanes of two vectors to wider ones.
+    /// `i32x4.extmul_high_i16x8_u` (opcode 0xFD 191), a vector instruction that multiplies the
+    /// upper lanes of two vectors to wider ones.
     I32x4ExtMulHighI16x8U = 191,
-    /// `i64x2.abs` (opcode 0xFD 192), a vector instruction that computes the absolute value of each lane of a vector.
+    /// `i64x2.abs` (opcode 0xFD 192), a vector instruction that computes the absolute value of each
+    /// lane of a vector.
     I64x2Abs = 192,
     /// `i64x2.neg` (opcode 0xFD 193), a vector instruction that negates each lane of a vector.
     I64x2Neg = 193,
-    /// `i64x2.all_true` (opcode 0xFD 195), a vector instruction that tests whether no lane of a vector is zero.
+    /// `i64x2.all_true` (opcode 0xFD 195), a vector instruction that tests whether no lane of a
+    /// vector is zero.
     I64x2AllTrue = 195,
-    /// `i64x2.bitmask` (opcode 0xFD 196), a vector instruction that collects the highest bit of each lane of a vector.
+    /// `i64x2.bitmask` (opcode 0xFD 196), a vector instruction that collects the highest bit of
+    /// each lane of a vector.
     I64x2Bitmask = 196,
-    /// `i64x2.extend_low_i32x4_s` (opcode 0xFD 199), a vector instruction that extends the lower lanes of a vector.
+    /// `i64x2.extend_low_i32x4_s` (opcode 0xFD 199), a vector instruction that extends the lower
+    /// lanes of a vector.
     I64x2ExtendLowI32x4S = 199,
-    /// `i64x2.extend_high_i32x4_s` (opcode 0xFD 200), a vector instruction that extends the upper lanes of a vector.
+    /// `i64x2.extend_high_i32x4_s` (opcode 0xFD 200), a vector instruction that extends the upper
+    /// lanes of a vector.
     I64x2ExtendHighI32x4S = 200,
-    /// `i64x2.extend_low_i32x4_u` (opcode 0xFD 201), a vector instruction that extends the lower lanes of a vector.
+    /// `i64x2.extend_low_i32x4_u` (opcode 0xFD 201), a vector instruction that extends the lower
+    /// lanes of a vector.
     I64x2ExtendLowI32x4U = 201,
-    /// `i64x2.extend_high_i32x4_u` (opcode 0xFD 202), a vector instruction that extends the upper lanes of a vector.
+    /// `i64x2.extend_high_i32x4_u` (opcode 0xFD 202), a vector instruction that extends the upper
+    /// lanes of a vector.
     I64x2ExtendHighI32x4U = 202,
-    /// `i64x2.shl` (opcode 0xFD 203), a vector instruction that shifts each lane of a vector to the left.
+    /// `i64x2.shl` (opcode 0xFD 203), a vector instruction that shifts each lane of a vector to the
+    /// left.
     I64x2Shl = 203,
-    /// `i64x2.shr_s` (opcode 0xFD 204), a vector instruction that shifts each lane of a vector to the right.
+    /// `i64x2.shr_s` (opcode 0xFD 204), a vector instruction that shifts each lane of a vector to
+    /// the right.
     I64x2ShrS = 204,
-    /// `i64x2.shr_u` (opcode 0xFD 205), a vector instruction that shifts each lane of a vector to the right.
+    /// `i64x2.shr_u` (opcode 0xFD 205), a vector instruction that shifts each lane of a vector to
+    /// the right.
     I64x2ShrU = 205,
     /// `i64x2.add` (opcode 0xFD 206), a vector instruction that adds each lane of two vectors.
     I64x2Add = 206,
     /// `i64x2.sub` (opcode 0xFD 209), a vector instruction that subtracts each lane of two vectors.
     I64x2Sub = 209,
-    /// `i64x2.mul` (opcode 0xFD 213), a vector instruction that multiplies each lane of two vectors.
+    /// `i64x2.mul` (opcode 0xFD 213), a vector instruction that multiplies each lane of two
+    /// vectors.
     I64x2Mul = 213,
     /// `i64x2.eq` (opcode 0xFD 214), a vector instruction that compares each lane of two vectors.
     I64x2Eq = 214,
@@ -350,113 +452,159 @@ pub enum Vector {
     I64x2LeS = 218,
     /// `i64x2.ge_s` (opcode 0xFD 219), a vector instruction that compares each lane of two vectors.
     I64x2GeS = 219,
-    /// `i64x2.extmul_low_i32x4_s` (opcode 0xFD 220), a vector instruction that multiplies the lower lanes of two vectors to wider ones.
+    /// `i64x2.extmul_low_i32x4_s` (opcode 0xFD 220), a vector instruction that multiplies the lower
+    /// lanes of two vectors to wider ones.
     I64x2ExtMulLowI32x4S = 220,
-    /// `i64x2.extmul_high_i32x4_s` (opcode 0xFD 221), a vector instruction that multiplies the upper lanes of two vectors to wider ones.
+    /// `i64x2.extmul_high_i32x4_s` (opcode 0xFD 221), a vector instruction that multiplies the
+    /// upper lanes of two vectors to wider ones.
     I64x2ExtMulHighI32x4S = 221,
-    /// `i64x2.extmul_low_i32x4_u` (opcode 0xFD 222), a vector instruction that multiplies the lower lanes of two vectors to wider ones.
+    /// `i64x2.extmul_low_i32x4_u` (opcode 0xFD 222), a vector instruction that multiplies the lower
+    /// lanes of two vectors to wider ones.
     I64x2ExtMulLowI32x4U = 222,
-    /// `i64x2.extmul_high_i32x4_u` (opcode 0xFD 223), a vector instruction that multiplies the upper lanes of two vectors to wider ones.
+    /// `i64x2.extmul_high_i32x4_u` (opcode 0xFD 223), a vector instruction that multiplies the
+    /// upper lanes of two vectors to wider ones.
     I64x2ExtMulHighI32x4U = 223,
-    /// `f32x4.abs` (opcode 0xFD 224), a vector instruction that computes the absolute value of each lane of a vector.
+    /// `f32x4.abs` (opcode 0xFD 224), a vector instruction that computes the absolute value of each
+    /// lane of a vector.
     F32x4Abs = 224,
     /// `f32x4.neg` (opcode 0xFD 225), a vector instruction that negates each lane of a vector.
     F32x4Neg = 225,
-    /// `f32x4.sqrt` (opcode 0xFD 227), a vector instruction that computes the square root of each lane of a vector.
+    /// `f32x4.sqrt` (opcode 0xFD 227), a vector instruction that computes the square root of each
+    /// lane of a vector.
     F32x4Sqrt = 227,
     /// `f32x4.add` (opcode 0xFD 228), a vector instruction that adds each lane of two vectors.
     F32x4Add = 228,
     /// `f32x4.sub` (opcode 0xFD 229), a vector instruction that subtracts each lane of two vectors.
     F32x4Sub = 229,
-    /// `f32x4.mul` (opcode 0xFD 230), a vector instruction that multiplies each lane of two vectors.
+    /// `f32x4.mul` (opcode 0xFD 230), a vector instruction that multiplies each lane of two
+    /// vectors.
     F32x4Mul = 230,
     /// `f32x4.div` (opcode 0xFD 231), a vector instruction that divides each lane of two vectors.
     F32x4Div = 231,
-    /// `f32x4.min` (opcode 0xFD 232), a vector instruction that computes the minimum of each lane of two vectors.
+    /// `f32x4.min` (opcode 0xFD 232), a vector instruction that computes the minimum of each lane
+    /// of two vectors.
     F32x4Min = 232,
-    /// `f32x4.max` (opcode 0xFD 233), a vector instruction that computes the maximum of each lane of two vectors.
+    /// `f32x4.max` (opcode 0xFD 233), a vector instruction that computes the maximum of each lane
+    /// of two vectors.
     F32x4Max = 233,
-    /// `f32x4.pmin` (opcode 0xFD 234), a vector instruction that computes the pseudo-minimum of each lane of two vectors.
+    /// `f32x4.pmin` (opcode 0xFD 234), a vector instruction that computes the pseudo-minimum of
+    /// each lane of two vectors.
     F32x4PMin = 234,
-    /// `f32x4.pmax` (opcode 0xFD 235), a vector instruction that computes the pseudo-maximum of each lane of two vectors.
+    /// `f32x4.pmax` (opcode 0xFD 235), a vector instruction that computes the pseudo-maximum of
+    /// each lane of two vectors.
     F32x4PMax = 235,
-    /// `f64x2.abs` (opcode 0xFD 236), a vector instruction that computes the absolute value of each lane of a vector.
+    /// `f64x2.abs` (opcode 0xFD 236), a vector instruction that computes the absolute value of each
+    /// lane of a vector.
     F64x2Abs = 236,
     /// `f64x2.neg` (opcode 0xFD 237), a vector instruction that negates each lane of a vector.
     F64x2Neg = 237,
-    /// `f64x2.sqrt` (opcode 0xFD 239), a vector instruction that computes the square root of each lane of a vector.
+    /// `f64x2.sqrt` (opcode 0xFD 239), a vector instruction that computes the square root of each
+    /// lane of a vector.
     F64x2Sqrt = 239,
     /// `f64x2.add` (opcode 0xFD 240), a vector instruction that adds each lane of two vectors.
     F64x2Add = 240,
     /// `f64x2.sub` (opcode 0xFD 241), a vector instruction that subtracts each lane of two vectors.
     F64x2Sub = 241,
-    /// `f64x2.mul` (opcode 0xFD 242), a vector instruction that multiplies each lane of two vectors.
+    /// `f64x2.mul` (opcode 0xFD 242), a vector instruction that multiplies each lane of two
+    /// vectors.
     F64x2Mul = 242,
     /// `f64x2.div` (opcode 0xFD 243), a vector instruction that divides each lane of two vectors.
     F64x2Div = 243,
-    /// `f64x2.min` (opcode 0xFD 244), a vector instruction that computes the minimum of each lane of two vectors.
+    /// `f64x2.min` (opcode 0xFD 244), a vector instruction that computes the minimum of each lane
+    /// of two vectors.
     F64x2Min = 244,
-    /// `f64x2.max` (opcode 0xFD 245), a vector instruction that computes the maximum of each lane of two vectors.
+    /// `f64x2.max` (opcode 0xFD 245), a vector instruction that computes the maximum of each lane
+    /// of two vectors.
     F64x2Max = 245,
-    /// `f64x2.pmin` (opcode 0xFD 246), a vector instruction that computes the pseudo-minimum of each lane of two vectors.
+    /// `f64x2.pmin` (opcode 0xFD 246), a vector instruction that computes the pseudo-minimum of
+    /// each lane of two vectors.
     F64x2PMin = 246,
-    /// `f64x2.pmax` (opcode 0xFD 247), a vector instruction that computes the pseudo-maximum of each lane of two vectors.
+    /// `f64x2.pmax` (opcode 0xFD 247), a vector instruction that computes the pseudo-maximum of
+    /// each lane of two vectors.
     F64x2PMax = 247,
-    /// `i32x4.trunc_sat_f32x4_s` (opcode 0xFD 248), a vector instruction that converts the floats of a vector to integers.
+    /// `i32x4.trunc_sat_f32x4_s` (opcode 0xFD 248), a vector instruction that converts the floats
+    /// of a vector to integers.
     I32x4TruncSatF32x4S = 248,
-    /// `i32x4.trunc_sat_f32x4_u` (opcode 0xFD 249), a vector instruction that converts the floats of a vector to integers.
+    /// `i32x4.trunc_sat_f32x4_u` (opcode 0xFD 249), a vector instruction that converts the floats
+    /// of a vector to integers.
     I32x4TruncSatF32x4U = 249,
-    /// `f32x4.convert_i32x4_s` (opcode 0xFD 250), a vector instruction that converts the integers of a vector to floats.
+    /// `f32x4.convert_i32x4_s` (opcode 0xFD 250), a vector instruction that converts the integers
+    /// of a vector to floats.
     F32x4ConvertI32x4S = 250,
-    /// `f32x4.convert_i32x4_u` (opcode 0xFD 251), a vector instruction that converts the integers of a vector to floats.
+    /// `f32x4.convert_i32x4_u` (opcode 0xFD 251), a vector instruction that converts the integers
+    /// of a vector to floats.
     F32x4ConvertI32x4U = 251,
-    /// `i32x4.trunc_sat_f64x2_s_zero` (opcode 0xFD 252), a vector instruction that converts the floats of a vector to integers.
+    /// `i32x4.trunc_sat_f64x2_s_zero` (opcode 0xFD 252), a vector instruction that converts the
+    /// floats of a vector to integers.
     I32x4TruncSatF64x2SZero = 252,
-    /// `i32x4.trunc_sat_f64x2_u_zero` (opcode 0xFD 253), a vector instruction that converts the floats of a vector to integers.
+    /// `i32x4.trunc_sat_f64x2_u_zero` (opcode 0xFD 253), a vector instruction that converts the
+    /// floats of a vector to integers.
     I32x4TruncSatF64x2UZero = 253,
-    /// `f64x2.convert_low_i32x4_s` (opcode 0xFD 254), a vector instruction that converts the integers of a vector to floats.
+    /// `f64x2.convert_low_i32x4_s` (opcode 0xFD 254), a vector instruction that converts the
+    /// integers of a vector to floats.
     F64x2ConvertLowI32x4S = 254,
-    /// `f64x2.convert_low_i32x4_u` (opcode 0xFD 255), a vector instruction that converts the integers of a vector to floats.
+    /// `f64x2.convert_low_i32x4_u` (opcode 0xFD 255), a vector instruction that converts the
+    /// integers of a vector to floats.
     F64x2ConvertLowI32x4U = 255,
-    /// `i8x16.relaxed_swizzle` (opcode 0xFD 256), a relaxed vector instruction that selects lanes of a vector by those of another.
+    /// `i8x16.relaxed_swizzle` (opcode 0xFD 256), a relaxed vector instruction that selects lanes
+    /// of a vector by those of another.
     I8x16RelaxedSwizzle = 256,
-    /// `i32x4.relaxed_trunc_f32x4_s` (opcode 0xFD 257), a relaxed vector instruction that converts the floats of a vector to integers.
+    /// `i32x4.relaxed_trunc_f32x4_s` (opcode 0xFD 257), a relaxed vector instruction that converts
+    /// the floats of a vector to integers.
     I32x4RelaxedTruncF32x4S = 257,
-    /// `i32x4.relaxed_trunc_f32x4_u` (opcode 0xFD 258), a relaxed vector instruction that converts the floats of a vector to integers.
+    /// `i32x4.relaxed_trunc_f32x4_u` (opcode 0xFD 258), a relaxed vector instruction that converts
+    /// the floats of a vector to integers.
     I32x4RelaxedTruncF32x4U = 258,
-    /// `i32x4.relaxed_trunc_f64x2_s_zero` (opcode 0xFD 259), a relaxed vector instruction that converts the floats of a vector to integers.
+    /// `i32x4.relaxed_trunc_f64x2_s_zero` (opcode 0xFD 259), a relaxed vector instruction that
+    /// converts the floats of a vector to integers.
     I32x4RelaxedTruncF64x2SZero = 259,
-    /// `i32x4.relaxed_trunc_f64x2_u_zero` (opcode 0xFD 260), a relaxed vector instruction that converts the floats of a vector to integers.
+    /// `i32x4.relaxed_trunc_f64x2_u_zero` (opcode 0xFD 260), a relaxed vector instruction that
+    /// converts the floats of a vector to integers.
     I32x4RelaxedTruncF64x2UZero = 260,
-    /// `f32x4.relaxed_madd` (opcode 0xFD 261), a relaxed vector instruction that multiplies each lane of two vectors, and adds a third.
+    /// `f32x4.relaxed_madd` (opcode 0xFD 261), a relaxed vector instruction that multiplies each
+    /// lane of two vectors, and adds a third.
     F32x4RelaxedMadd = 261,
-    /// `f32x4.relaxed_nmadd` (opcode 0xFD 262), a relaxed vector instruction that multiplies each lane of two vectors, and subtracts the product from a third.
+    /// `f32x4.relaxed_nmadd` (opcode 0xFD 262), a relaxed vector instruction that multiplies each
+    /// lane of two vectors, and subtracts the product from a third.
     F32x4RelaxedNmadd = 262,
-    /// `f64x2.relaxed_madd` (opcode 0xFD 263), a relaxed vector instruction that multiplies each lane of two vectors, and adds a third.
+    /// `f64x2.relaxed_madd` (opcode 0xFD 263), a relaxed vector instruction that multiplies each
+    /// lane of two vectors, and adds a third.
     F64x2RelaxedMadd = 263,
-    /// `f64x2.relaxed_nmadd` (opcode 0xFD 264), a relaxed vector instruction that multiplies each lane of two vectors, and subtracts the product from a third.
+    /// `f64x2.relaxed_nmadd` (opcode 0xFD 264), a relaxed vector instruction that multiplies each
+    /// lane of two vectors, and subtracts the product from a third.
     F64x2RelaxedNmadd = 264,
-    /// `i8x16.relaxed_laneselect` (opcode 0xFD 265), a relaxed vector instruction that selects lanes of two vectors by a third.
+    /// `i8x16.relaxed_laneselect` (opcode 0xFD 265), a relaxed vector instruction that selects
+    /// lanes of two vectors by a third.
     I8x16RelaxedLaneselect = 265,
-    /// `i16x8.relaxed_laneselect` (opcode 0xFD 266), a relaxed vector instruction that selects lanes of two vectors by a third.
+    /// `i16x8.relaxed_laneselect` (opcode 0xFD 266), a relaxed vector instruction that selects
+    /// lanes of two vectors by a third.
     I16x8RelaxedLaneselect = 266,
-    /// `i32x4.relaxed_laneselect` (opcode 0xFD 267), a relaxed vector instruction that selects lanes of two vectors by a third.
+    /// `i32x4.relaxed_laneselect` (opcode 0xFD 267), a relaxed vector instruction that selects
+    /// lanes of two vectors by a third.
     I32x4RelaxedLaneselect = 267,
-    /// `i64x2.relaxed_laneselect` (opcode 0xFD 268), a relaxed vector instruction that selects lanes of two vectors by a third.
+    /// `i64x2.relaxed_laneselect` (opcode 0xFD 268), a relaxed vector instruction that selects
+    /// lanes of two vectors by a third.
     I64x2RelaxedLaneselect = 268,
-    /// `f32x4.relaxed_min` (opcode 0xFD 269), a relaxed vector instruction that computes the minimum of each lane of two vectors.
+    /// `f32x4.relaxed_min` (opcode 0xFD 269), a relaxed vector instruction that computes the
+    /// minimum of each lane of two vectors.
     F32x4RelaxedMin = 269,
-    /// `f32x4.relaxed_max` (opcode 0xFD 270), a relaxed vector instruction that computes the maximum of each lane of two vectors.
+    /// `f32x4.relaxed_max` (opcode 0xFD 270), a relaxed vector instruction that computes the
+    /// maximum of each lane of two vectors.
     F32x4RelaxedMax = 270,
-    /// `f64x2.relaxed_min` (opcode 0xFD 271), a relaxed vector instruction that computes the minimum of each lane of two vectors.
+    /// `f64x2.relaxed_min` (opcode 0xFD 271), a relaxed vector instruction that computes the
+    /// minimum of each lane of two vectors.
     F64x2RelaxedMin = 271,
-    /// `f64x2.relaxed_max` (opcode 0xFD 272), a relaxed vector instruction that computes the maximum of each lane of two vectors.
+    /// `f64x2.relaxed_max` (opcode 0xFD 272), a relaxed vector instruction that computes the
+    /// maximum of each lane of two vectors.
     F64x2RelaxedMax = 272,
-    /// `i16x8.relaxed_q15mulr_s` (opcode 0xFD 273), a relaxed vector instruction that multiplies each lane of two vectors as fixed-point numbers, rounded.
+    /// `i16x8.relaxed_q15mulr_s` (opcode 0xFD 273), a relaxed vector instruction that multiplies
+    /// each lane of two vectors as fixed-point numbers, rounded.
     I16x8RelaxedQ15mulrS = 273,
-    /// `i16x8.relaxed_dot_i8x16_i7x16_s` (opcode 0xFD 274), a relaxed vector instruction that multiplies each lane of two vectors, and adds neighbouring products.
+    /// `i16x8.relaxed_dot_i8x16_i7x16_s` (opcode 0xFD 274), a relaxed vector instruction that
+    /// multiplies each lane of two vectors, and adds neighbouring products.
     I16x8RelaxedDotI8x16I7x16S = 274,
-    /// `i32x4.relaxed_dot_i8x16_i7x16_add_s` (opcode 0xFD 275), a relaxed vector instruction that multiplies each lane of two vectors, and adds neighbouring products and a third vector.
+    /// `i32x4.relaxed_dot_i8x16_i7x16_add_s` (opcode 0xFD 275), a relaxed vector instruction that
+    /// multiplies each lane of two vectors, and adds neighbouring products and a third vector.
     I32x4RelaxedDotI8x16I7x16AddS = 275,
 }
 
@@ -477,25 +625,32 @@ impl Vector {
 
 /// Their names as instructions.
 impl Instruction<'static> {
-    /// `i8x16.swizzle` (opcode 0xFD 14), a vector instruction that selects lanes of a vector by those of another.
+    /// `i8x16.swizzle` (opcode 0xFD 14), a vector instruction that selects lanes of a vector by
+    /// those of another.
     pub const I8x16Swizzle: Self = Instruction::Vector(Vector::I8x16Swizzle);
 
-    /// `i8x16.splat` (opcode 0xFD 15), a vector instruction that copies a number to each lane of a vector.
+    /// `i8x16.splat` (opcode 0xFD 15), a vector instruction that copies a number to each lane of a
+    /// vector.
     pub const I8x16Splat: Self = Instruction::Vector(Vector::I8x16Splat);
 
-    /// `i16x8.splat` (opcode 0xFD 16), a vector instruction that copies a number to each lane of a vector.
+    /// `i16x8.splat` (opcode 0xFD 16), a vector instruction that copies a number to each lane of a
+    /// vector.
     pub const I16x8Splat: Self = Instruction::Vector(Vector::I16x8Splat);
 
-    /// `i32x4.splat` (opcode 0xFD 17), a vector instruction that copies a number to each lane of a vector.
+    /// `i32x4.splat` (opcode 0xFD 17), a vector instruction that copies a number to each lane of a
+    /// vector.
     pub const I32x4Splat: Self = Instruction::Vector(Vector::I32x4Splat);
 
-    /// `i64x2.splat` (opcode 0xFD 18), a vector instruction that copies a number to each lane of a vector.
+    /// `i64x2.splat` (opcode 0xFD 18), a vector instruction that copies a number to each lane of a
+    /// vector.
     pub const I64x2Splat: Self = Instruction::Vector(Vector::I64x2Splat);
 
-    /// `f32x4.splat` (opcode 0xFD 19), a vector instruction that copies a number to each lane of a vector.
+    /// `f32x4.splat` (opcode 0xFD 19), a vector instruction that copies a number to each lane of a
+    /// vector.
     pub const F32x4Splat: Self = Instruction::Vector(Vector::F32x4Splat);
 
-    /// `f64x2.splat` (opcode 0xFD 20), a vector instruction that copies a number to each lane of a vector.
+    /// `f64x2.splat` (opcode 0xFD 20), a vector instruction that copies a number to each lane of a
+    /// vector.
     pub const F64x2Splat: Self = Instruction::Vector(Vector::F64x2Splat);
 
     /// `i8x16.eq` (opcode 0xFD 35), a vector instruction that compares each lane of two vectors.
@@ -627,258 +782,331 @@ impl Instruction<'static> {
     /// `v128.not` (opcode 0xFD 77), a vector instruction that inverts the bits of a vector.
     pub const V128Not: Self = Instruction::Vector(Vector::V128Not);
 
-    /// `v128.and` (opcode 0xFD 78), a vector instruction that computes the bitwise and of two vectors.
+    /// `v128.and` (opcode 0xFD 78), a vector instruction that computes the bitwise and of two
+    /// vectors.
     pub const V128And: Self = Instruction::Vector(Vector::V128And);
 
-    /// `v128.andnot` (opcode 0xFD 79), a vector instruction that computes the bitwise and of a vector and the inverse of another.
+    /// `v128.andnot` (opcode 0xFD 79), a vector instruction that computes the bitwise and of a
+    /// vector and the inverse of another.
     pub const V128AndNot: Self = Instruction::Vector(Vector::V128AndNot);
 
-    /// `v128.or` (opcode 0xFD 80), a vector instruction that computes the bitwise or of two vectors.
+    /// `v128.or` (opcode 0xFD 80), a vector instruction that computes the bitwise or of two
+    /// vectors.
     pub const V128Or: Self = Instruction::Vector(Vector::V128Or);
 
-    /// `v128.xor` (opcode 0xFD 81), a vector instruction that computes the bitwise exclusive or of two vectors.
+    /// `v128.xor` (opcode 0xFD 81), a vector instruction that computes the bitwise exclusive or of
+    /// two vectors.
     pub const V128Xor: Self = Instruction::Vector(Vector::V128Xor);
 
-    /// `v128.bitselect` (opcode 0xFD 82), a vector instruction that selects bits of two vectors by the bits of a third.
+    /// `v128.bitselect` (opcode 0xFD 82), a vector instruction that selects bits of two vectors by
+    /// the bits of a third.
     pub const V128Bitselect: Self = Instruction::Vector(Vector::V128Bitselect);
 
-    /// `v128.any_true` (opcode 0xFD 83), a vector instruction that tests whether a bit of a vector is set.
+    /// `v128.any_true` (opcode 0xFD 83), a vector instruction that tests whether a bit of a vector
+    /// is set.
     pub const V128AnyTrue: Self = Instruction::Vector(Vector::V128AnyTrue);
 
-    /// `f32x4.demote_f64x2_zero` (opcode 0xFD 94), a vector instruction that rounds the floats of a vector to 32 bits.
+    /// `f32x4.demote_f64x2_zero` (opcode 0xFD 94), a vector instruction that rounds the floats of a
+    /// vector to 32 bits.
     pub const F32x4DemoteF64x2Zero: Self = Instruction::Vector(Vector::F32x4DemoteF64x2Zero);
 
-    /// `f64x2.promote_low_f32x4` (opcode 0xFD 95), a vector instruction that converts the lower floats of a vector to 64 bits.
+    /// `f64x2.promote_low_f32x4` (opcode 0xFD 95), a vector instruction that converts the lower
+    /// floats of a vector to 64 bits.
     pub const F64x2PromoteLowF32x4: Self = Instruction::Vector(Vector::F64x2PromoteLowF32x4);
 
-    /// `i8x16.abs` (opcode 0xFD 96), a vector instruction that computes the absolute value of each lane of a vector.
+    /// `i8x16.abs` (opcode 0xFD 96), a vector instruction that computes the absolute value of each
+    /// lane of a vector.
     pub const I8x16Abs: Self = Instruction::Vector(Vector::I8x16Abs);
 
     /// `i8x16.neg` (opcode 0xFD 97), a vector instruction that negates each lane of a vector.
     pub const I8x16Neg: Self = Instruction::Vector(Vector::I8x16Neg);
 
-    /// `i8x16.popcnt` (opcode 0xFD 98), a vector instruction that counts the one bits of each lane of a vector.
+    /// `i8x16.popcnt` (opcode 0xFD 98), a vector instruction that counts the one bits of each lane
+    /// of a vector.
     pub const I8x16Popcnt: Self = Instruction::Vector(Vector::I8x16Popcnt);
 
-    /// `i8x16.all_true` (opcode 0xFD 99), a vector instruction that tests whether no lane of a vector is zero.
+    /// `i8x16.all_true` (opcode 0xFD 99), a vector instruction that tests whether no lane of a
+    /// vector is zero.
     pub const I8x16AllTrue: Self = Instruction::Vector(Vector::I8x16AllTrue);
 
-    /// `i8x16.bitmask` (opcode 0xFD 100), a vector instruction that collects the highest bit of each lane of a vector.
+    /// `i8x16.bitmask` (opcode 0xFD 100), a vector instruction that collects the highest bit of
+    /// each lane of a vector.
     pub const I8x16Bitmask: Self = Instruction::Vector(Vector::I8x16Bitmask);
 
-    /// `i8x16.narrow_i16x8_s` (opcode 0xFD 101), a vector instruction that narrows the lanes of two vectors, and saturates.
+    /// `i8x16.narrow_i16x8_s` (opcode 0xFD 101), a vector instruction that narrows the lanes of two
+    /// vectors, and saturates.
     pub const I8x16NarrowI16x8S: Self = Instruction::Vector(Vector::I8x16NarrowI16x8S);
 
-    /// `i8x16.narrow_i16x8_u` (opcode 0xFD 102), a vector instruction that narrows the lanes of two vectors, and saturates.
+    /// `i8x16.narrow_i16x8_u` (opcode 0xFD 102), a vector instruction that narrows the lanes of two
+    /// vectors, and saturates.
     pub const I8x16NarrowI16x8U: Self = Instruction::Vector(Vector::I8x16NarrowI16x8U);
 
     /// `f32x4.ceil` (opcode 0xFD 103), a vector instruction that rounds each lane of a vector up.
     pub const F32x4Ceil: Self = Instruction::Vector(Vector::F32x4Ceil);
 
-    /// `f32x4.floor` (opcode 0xFD 104), a vector instruction that rounds each lane of a vector down.
+    /// `f32x4.floor` (opcode 0xFD 104), a vector instruction that rounds each lane of a vector
+    /// down.
     pub const F32x4Floor: Self = Instruction::Vector(Vector::F32x4Floor);
 
-    /// `f32x4.trunc` (opcode 0xFD 105), a vector instruction that rounds each lane of a vector towards zero.
+    /// `f32x4.trunc` (opcode 0xFD 105), a vector instruction that rounds each lane of a vector
+    /// towards zero.
     pub const F32x4Trunc: Self = Instruction::Vector(Vector::F32x4Trunc);
 
-    /// `f32x4.nearest` (opcode 0xFD 106), a vector instruction that rounds each lane of a vector to the nearest integer.
+    /// `f32x4.nearest` (opcode 0xFD 106), a vector instruction that rounds each lane of a vector to
+    /// the nearest integer.
     pub const F32x4Nearest: Self = Instruction::Vector(Vector::F32x4Nearest);
 
-    /// `i8x16.shl` (opcode 0xFD 107), a vector instruction that shifts each lane of a vector to the left.
+    /// `i8x16.shl` (opcode 0xFD 107), a vector instruction that shifts each lane of a vector to the
+    /// left.
     pub const I8x16Shl: Self = Instruction::Vector(Vector::I8x16Shl);
 
-    /// `i8x16.shr_s` (opcode 0xFD 108), a vector instruction that shifts each lane of a vector to the right.
+    /// `i8x16.shr_s` (opcode 0xFD 108), a vector instruction that shifts each lane of a vector to
+    /// the right.
     pub const I8x16ShrS: Self = Instruction::Vector(Vector::I8x16ShrS);
 
-    /// `i8x16.shr_u` (opcode 0xFD 109), a vector instruction that shifts each lane of a vector to the right.
+    /// `i8x16.shr_u` (opcode 0xFD 109), a vector instruction that shifts each lane of a vector to
+    /// the right.
     pub const I8x16ShrU: Self = Instruction::Vector(Vector::I8x16ShrU);
 
     /// `i8x16.add` (opcode 0xFD 110), a vector instruction that adds each lane of two vectors.
     pub const I8x16Add: Self = Instruction::Vector(Vector::I8x16Add);
 
-    /// `i8x16.add_sat_s` (opcode 0xFD 111), a vector instruction that adds each lane of two vectors, and saturates.
+    /// `i8x16.add_sat_s` (opcode 0xFD 111), a vector instruction that adds each lane of two
+    /// vectors, and saturates.
     pub const I8x16AddSatS: Self = Instruction::Vector(Vector::I8x16AddSatS);
 
-    /// `i8x16.add_sat_u` (opcode 0xFD 112), a vector instruction that adds each lane of two vectors, and saturates.
+    /// `i8x16.add_sat_u` (opcode 0xFD 112), a vector instruction that adds each lane of two
+    /// vectors, and saturates.
     pub const I8x16AddSatU: Self = Instruction::Vector(Vector::I8x16AddSatU);
 
     /// `i8x16.sub` (opcode 0xFD 113), a vector instruction that subtracts each lane of two vectors.
     pub const I8x16Sub: Self = Instruction::Vector(Vector::I8x16Sub);
 
-    /// `i8x16.sub_sat_s` (opcode 0xFD 114), a vector instruction that subtracts each lane of two vectors, and saturates.
+    /// `i8x16.sub_sat_s` (opcode 0xFD 114), a vector instruction that subtracts each lane of two
+    /// vectors, and saturates.
     pub const I8x16SubSatS: Self = Instruction::Vector(Vector::I8x16SubSatS);
 
-    /// `i8x16.sub_sat_u` (opcode 0xFD 115), a vector instruction that subtracts each lane of two vectors, and saturates.
+    /// `i8x16.sub_sat_u` (opcode 0xFD 115), a vector instruction that subtracts each lane of two
+    /// vectors, and saturates.
     pub const I8x16SubSatU: Self = Instruction::Vector(Vector::I8x16SubSatU);
 
     /// `f64x2.ceil` (opcode 0xFD 116), a vector instruction that rounds each lane of a vector up.
     pub const F64x2Ceil: Self = Instruction::Vector(Vector::F64x2Ceil);
 
-    /// `f64x2.floor` (opcode 0xFD 117), a vector instruction that rounds each lane of a vector down.
+    /// `f64x2.floor` (opcode 0xFD 117), a vector instruction that rounds each lane of a vector
+    /// down.
     pub const F64x2Floor: Self = Instruction::Vector(Vector::F64x2Floor);
 
-    /// `i8x16.min_s` (opcode 0xFD 118), a vector instruction that computes the minimum of each lane of two vectors.
+    /// `i8x16.min_s` (opcode 0xFD 118), a vector instruction that computes the minimum of each lane
+    /// of two vectors.
     pub const I8x16MinS: Self = Instruction::Vector(Vector::I8x16MinS);
 
-    /// `i8x16.min_u` (opcode 0xFD 119), a vector instruction that computes the minimum of each lane of two vectors.
+    /// `i8x16.min_u` (opcode 0xFD 119), a vector instruction that computes the minimum of each lane
+    /// of two vectors.
     pub const I8x16MinU: Self = Instruction::Vector(Vector::I8x16MinU);
 
-    /// `i8x16.max_s` (opcode 0xFD 120), a vector instruction that computes the maximum of each lane of two vectors.
+    /// `i8x16.max_s` (opcode 0xFD 120), a vector instruction that computes the maximum of each lane
+    /// of two vectors.
     pub const I8x16MaxS: Self = Instruction::Vector(Vector::I8x16MaxS);
 
-    /// `i8x16.max_u` (opcode 0xFD 121), a vector instruction that computes the maximum of each lane of two vectors.
+    /// `i8x16.max_u` (opcode 0xFD 121), a vector instruction that computes the maximum of each lane
+    /// of two vectors.
     pub const I8x16MaxU: Self = Instruction::Vector(Vector::I8x16MaxU);
 
-    /// `f64x2.trunc` (opcode 0xFD 122), a vector instruction that rounds each lane of a vector towards zero.
+    /// `f64x2.trunc` (opcode 0xFD 122), a vector instruction that rounds each lane of a vector
+    /// towards zero.
     pub const F64x2Trunc: Self = Instruction::Vector(Vector::F64x2Trunc);
 
-    /// `i8x16.avgr_u` (opcode 0xFD 123), a vector instruction that averages each lane of two vectors, rounded up.
+    /// `i8x16.avgr_u` (opcode 0xFD 123), a vector instruction that averages each lane of two
+    /// vectors, rounded up.
     pub const I8x16AvgrU: Self = Instruction::Vector(Vector::I8x16AvgrU);
 
-    /// `i16x8.extadd_pairwise_i8x16_s` (opcode 0xFD 124), a vector instruction that adds neighbouring lanes of a vector to wider ones.
+    /// `i16x8.extadd_pairwise_i8x16_s` (opcode 0xFD 124), a vector instruction that adds
+    /// neighbouring lanes of a vector to wider ones.
     pub const I16x8ExtAddPairwiseI8x16S: Self = Instruction::Vector(
         Vector::I16x8ExtAddPairwiseI8x16S,
     );
 
-    /// `i16x8.extadd_pairwise_i8x16_u` (opcode 0xFD 125), a vector instruction that adds neighbouring lanes of a vector to wider ones.
+    /// `i16x8.extadd_pairwise_i8x16_u` (opcode 0xFD 125), a vector instruction that adds
+    /// neighbouring lanes of a vector to wider ones.
     pub const I16x8ExtAddPairwiseI8x16U: Self = Instruction::Vector(
         Vector::I16x8ExtAddPairwiseI8x16U,
     );
 
-    /// `i32x4.extadd_pairwise_i16x8_s` (opcode 0xFD 126), a vector instruction that adds neighbouring lanes of a vector to wider ones.
+    /// `i32x4.extadd_pairwise_i16x8_s` (opcode 0xFD 126), a vector instruction that adds
+    /// neighbouring lanes of a vector to wider ones.
     pub const I32x4ExtAddPairwiseI16x8S: Self = Instruction::Vector(
         Vector::I32x4ExtAddPairwiseI16x8S,
     );
 
-    /// `i32x4.extadd_pairwise_i16x8_u` (opcode 0xFD 127), a vector instruction that adds neighbouring lanes of a vector to wider ones.
+    /// `i32x4.extadd_pairwise_i16x8_u` (opcode 0xFD 127), a vector instruction that adds
+    /// neighbouring lanes of a vector to wider ones.
     pub const I32x4ExtAddPairwiseI16x8U: Self = Instruction::Vector(
         Vector::I32x4ExtAddPairwiseI16x8U,
     );
 
-    /// `i16x8.abs` (opcode 0xFD 128), a vector instruction that computes the absolute value of each lane of a vector.
+    /// `i16x8.abs` (opcode 0xFD 128), a vector instruction that computes the absolute value of each
+    /// lane of a vector.
     pub const I16x8Abs: Self = Instruction::Vector(Vector::I16x8Abs);
 
     /// `i16x8.neg` (opcode 0xFD 129), a vector instruction that negates each lane of a vector.
     pub const I16x8Neg: Self = Instruction::Vector(Vector::I16x8Neg);
 
-    /// `i16x8.q15mulr_sat_s` (opcode 0xFD 130), a vector instruction that multiplies each lane of two vectors as fixed-point numbers, rounded.
+    /// `i16x8.q15mulr_sat_s` (opcode 0xFD 130), a vector instruction that multiplies each lane of
+    /// two vectors as fixed-point numbers, rounded.
     pub const I16x8Q15MulrSatS: Self = Instruction::Vector(Vector::I16x8Q15MulrSatS);
 
-    /// `i16x8.all_true` (opcode 0xFD 131), a vector instruction that tests whether no lane of a vector is zero.
+    /// `i16x8.all_true` (opcode 0xFD 131), a vector instruction that tests whether no lane of a
+    /// vector is zero.
     pub const I16x8AllTrue: Self = Instruction::Vector(Vector::I16x8AllTrue);
 
-    /// `i16x8.bitmask` (opcode 0xFD 132), a vector instruction that collects the highest bit of each lane of a vector.
+    /// `i16x8.bitmask` (opcode 0xFD 132), a vector instruction that collects the highest bit of
+    /// each lane of a vector.
     pub const I16x8Bitmask: Self = Instruction::Vector(Vector::I16x8Bitmask);
 
-    /// `i16x8.narrow_i32x4_s` (opcode 0xFD 133), a vector instruction that narrows the lanes of two vectors, and saturates.
+    /// `i16x8.narrow_i32x4_s` (opcode 0xFD 133), a vector instruction that narrows the lanes of two
+    /// vectors, and saturates.
     pub const I16x8NarrowI32x4S: Self = Instruction::Vector(Vector::I16x8NarrowI32x4S);
 
-    /// `i16x8.narrow_i32x4_u` (opcode 0xFD 134), a vector instruction that narrows the lanes of two vectors, and saturates.
+    /// `i16x8.narrow_i32x4_u` (opcode 0xFD 134), a vector instruction that narrows the lanes of two
+    /// vectors, and saturates.
     pub const I16x8NarrowI32x4U: Self = Instruction::Vector(Vector::I16x8NarrowI32x4U);
 
-    /// `i16x8.extend_low_i8x16_s` (opcode 0xFD 135), a vector instruction that extends the lower lanes of a vector.
+    /// `i16x8.extend_low_i8x16_s` (opcode 0xFD 135), a vector instruction that extends the lower
+    /// lanes of a vector.
     pub const I16x8ExtendLowI8x16S: Self = Instruction::Vector(Vector::I16x8ExtendLowI8x16S);
 
-    /// `i16x8.extend_high_i8x16_s` (opcode 0xFD 136), a vector instruction that extends the upper lanes of a vector.
+    /// `i16x8.extend_high_i8x16_s` (opcode 0xFD 136), a vector instruction that extends the upper
+    /// lanes of a vector.
     pub const I16x8ExtendHighI8x16S: Self = Instruction::Vector(Vector::I16x8ExtendHighI8x16S);
 
-    /// `i16x8.extend_low_i8x16_u` (opcode 0xFD 137), a vector instruction that extends the lower lanes of a vector.
+    /// `i16x8.extend_low_i8x16_u` (opcode 0xFD 137), a vector instruction that extends the lower
+    /// lanes of a vector.
     pub const I16x8ExtendLowI8x16U: Self = Instruction::Vector(Vector::I16x8ExtendLowI8x16U);
 
-    /// `i16x8.extend_high_i8x16_u` (opcode 0xFD 138), a vector instruction that extends the upper lanes of a vector.
+    /// `i16x8.extend_high_i8x16_u` (opcode 0xFD 138), a vector instruction that extends the upper
+    /// lanes of a vector.
     pub const I16x8ExtendHighI8x16U: Self = Instruction::Vector(Vector::I16x8ExtendHighI8x16U);
 
-    /// `i16x8.shl` (opcode 0xFD 139), a vector instruction that shifts each lane of a vector to the left.
+    /// `i16x8.shl` (opcode 0xFD 139), a vector instruction that shifts each lane of a vector to the
+    /// left.
     pub const I16x8Shl: Self = Instruction::Vector(Vector::I16x8Shl);
 
-    /// `i16x8.shr_s` (opcode 0xFD 140), a vector instruction that shifts each lane of a vector to the right.
+    /// `i16x8.shr_s` (opcode 0xFD 140), a vector instruction that shifts each lane of a vector to
+    /// the right.
     pub const I16x8ShrS: Self = Instruction::Vector(Vector::I16x8ShrS);
 
-    /// `i16x8.shr_u` (opcode 0xFD 141), a vector instruction that shifts each lane of a vector to the right.
+    /// `i16x8.shr_u` (opcode 0xFD 141), a vector instruction that shifts each lane of a vector to
+    /// the right.
     pub const I16x8ShrU: Self = Instruction::Vector(Vector::I16x8ShrU);
 
     /// `i16x8.add` (opcode 0xFD 142), a vector instruction that adds each lane of two vectors.
     pub const I16x8Add: Self = Instruction::Vector(Vector::I16x8Add);
 
-    /// `i16x8.add_sat_s` (opcode 0xFD 143), a vector instruction that adds each lane of two vectors, and saturates.
+    /// `i16x8.add_sat_s` (opcode 0xFD 143), a vector instruction that adds each lane of two
+    /// vectors, and saturates.
     pub const I16x8AddSatS: Self = Instruction::Vector(Vector::I16x8AddSatS);
 
-    /// `i16x8.add_sat_u` (opcode 0xFD 144), a vector instruction that adds each lane of two vectors, and saturates.
+    /// `i16x8.add_sat_u` (opcode 0xFD 144), a vector instruction that adds each lane of two
+    /// vectors, and saturates.
     pub const I16x8AddSatU: Self = Instruction::Vector(Vector::I16x8AddSatU);
 
     /// `i16x8.sub` (opcode 0xFD 145), a vector instruction that subtracts each lane of two vectors.
     pub const I16x8Sub: Self = Instruction::Vector(Vector::I16x8Sub);
 
-    /// `i16x8.sub_sat_s` (opcode 0xFD 146), a vector instruction that subtracts each lane of two vectors, and saturates.
+    /// `i16x8.sub_sat_s` (opcode 0xFD 146), a vector instruction that subtracts each lane of two
+    /// vectors, and saturates.
     pub const I16x8SubSatS: Self = Instruction::Vector(Vector::I16x8SubSatS);
 
-    /// `i16x8.sub_sat_u` (opcode 0xFD 147), a vector instruction that subtracts each lane of two vectors, and saturates.
+    /// `i16x8.sub_sat_u` (opcode 0xFD 147), a vector instruction that subtracts each lane of two
+    /// vectors, and saturates.
     pub const I16x8SubSatU: Self = Instruction::Vector(Vector::I16x8SubSatU);
 
-    /// `f64x2.nearest` (opcode 0xFD 148), a vector instruction that rounds each lane of a vector to the nearest integer.
+    /// `f64x2.nearest` (opcode 0xFD 148), a vector instruction that rounds each lane of a vector to
+    /// the nearest integer.
     pub const F64x2Nearest: Self = Instruction::Vector(Vector::F64x2Nearest);
 
-    /// `i16x8.mul` (opcode 0xFD 149), a vector instruction that multiplies each lane of two vectors.
+    /// `i16x8.mul` (opcode 0xFD 149), a vector instruction that multiplies each lane of two
+    /// vectors.
     pub const I16x8Mul: Self = Instruction::Vector(Vector::I16x8Mul);
 
-    /// `i16x8.min_s` (opcode 0xFD 150), a vector instruction that computes the minimum of each lane of two vectors.
+    /// `i16x8.min_s` (opcode 0xFD 150), a vector instruction that computes the minimum of each lane
+    /// of two vectors.
     pub const I16x8MinS: Self = Instruction::Vector(Vector::I16x8MinS);
 
-    /// `i16x8.min_u` (opcode 0xFD 151), a vector instruction that computes the minimum of each lane of two vectors.
+    /// `i16x8.min_u` (opcode 0xFD 151), a vector instruction that computes the minimum of each lane
+    /// of two vectors.
     pub const I16x8MinU: Self = Instruction::Vector(Vector::I16x8MinU);
 
-    /// `i16x8.max_s` (opcode 0xFD 152), a vector instruction that computes the maximum of each lane of two vectors.
+    /// `i16x8.max_s` (opcode 0xFD 152), a vector instruction that computes the maximum of each lane
+    /// of two vectors.
     pub const I16x8MaxS: Self = Instruction::Vector(Vector::I16x8MaxS);
 
-    /// `i16x8.max_u` (opcode 0xFD 153), a vector instruction that computes the maximum of each lane of two vectors.
+    /// `i16x8.max_u` (opcode 0xFD 153), a vector instruction that computes the maximum of each lane
+    /// of two vectors.
     pub const I16x8MaxU: Self = Instruction::Vector(Vector::I16x8MaxU);
 
-    /// `i16x8.avgr_u` (opcode 0xFD 155), a vector instruction that averages each lane of two vectors, rounded up.
+    /// `i16x8.avgr_u` (opcode 0xFD 155), a vector instruction that averages each lane of two
+    /// vectors, rounded up.
     pub const I16x8AvgrU: Self = Instruction::Vector(Vector::I16x8AvgrU);
 
-    /// `i16x8.extmul_low_i8x16_s` (opcode 0xFD 156), a vector instruction that multiplies the lower lanes of two vectors to wider ones.
+    /// `i16x8.extmul_low_i8x16_s` (opcode 0xFD 156), a vector instruction that multiplies the lower
+    /// lanes of two vectors to wider ones.
     pub const I16x8ExtMulLowI8x16S: Self = Instruction::Vector(Vector::I16x8ExtMulLowI8x16S);
 
-    /// `i16x8.extmul_high_i8x16_s` (opcode 0xFD 157), a vector instruction that multiplies the upper lanes of two vectors to wider ones.
+    /// `i16x8.extmul_high_i8x16_s` (opcode 0xFD 157), a vector instruction that multiplies the
+    /// upper lanes of two vectors to wider ones.
     pub const I16x8ExtMulHighI8x16S: Self = Instruction::Vector(Vector::I16x8ExtMulHighI8x16S);
 
-    /// `i16x8.extmul_low_i8x16_u` (opcode 0xFD 158), a vector instruction that multiplies the lower lanes of two vectors to wider ones.
+    /// `i16x8.extmul_low_i8x16_u` (opcode 0xFD 158), a vector instruction that multiplies the lower
+    /// lanes of two vectors to wider ones.
     pub const I16x8ExtMulLowI8x16U: Self = Instruction::Vector(Vector::I16x8ExtMulLowI8x16U);
 
-    /// `i16x8.extmul_high_i8x16_u` (opcode 0xFD 159), a vector instruction that multiplies the upper lanes of two vectors to wider ones.
+    /// `i16x8.extmul_high_i8x16_u` (opcode 0xFD 159), a vector instruction that multiplies the
+    /// upper lanes of two vectors to wider ones.
     pub const I16x8ExtMulHighI8x16U: Self = Instruction::Vector(Vector::I16x8ExtMulHighI8x16U);
 
-    /// `i32x4.abs` (opcode 0xFD 160), a vector instruction that computes the absolute value of each lane of a vector.
+    /// `i32x4.abs` (opcode 0xFD 160), a vector instruction that computes the absolute value of each
+    /// lane of a vector.
     pub const I32x4Abs: Self = Instruction::Vector(Vector::I32x4Abs);
 
     /// `i32x4.neg` (opcode 0xFD 161), a vector instruction that negates each lane of a vector.
     pub const I32x4Neg: Self = Instruction::Vector(Vector::I32x4Neg);
 
-    /// `i32x4.all_true` (opcode 0xFD 163), a vector instruction that tests whether no lane of a vector is zero.
+    /// `i32x4.all_true` (opcode 0xFD 163), a vector instruction that tests whether no lane of a
+    /// vector is zero.
     pub const I32x4AllTrue: Self = Instruction::Vector(Vector::I32x4AllTrue);
 
-    /// `i32x4.bitmask` (opcode 0xFD 164), a vector instruction that collects the highest bit of each lane of a vector.
+    /// `i32x4.bitmask` (opcode 0xFD 164), a vector instruction that collects the highest bit of
+    /// each lane of a vector.
     pub const I32x4Bitmask: Self = Instruction::Vector(Vector::I32x4Bitmask);
 
-    /// `i32x4.extend_low_i16x8_s` (opcode 0xFD 167), a vector instruction that extends the lower lanes of a vector.
+    /// `i32x4.extend_low_i16x8_s` (opcode 0xFD 167), a vector instruction that extends the lower
+    /// lanes of a vector.
     pub const I32x4ExtendLowI16x8S: Self = Instruction::Vector(Vector::I32x4ExtendLowI16x8S);
 
-    /// `i32x4.extend_high_i16x8_s` (opcode 0xFD 168), a vector instruction that extends the upper lanes of a vector.
+    /// `i32x4.extend_high_i16x8_s` (opcode 0xFD 168), a vector instruction that extends the upper
+    /// lanes of a vector.
     pub const I32x4ExtendHighI16x8S: Self = Instruction::Vector(Vector::I32x4ExtendHighI16x8S);
 
-    /// `i32x4.extend_low_i16x8_u` (opcode 0xFD 169), a vector instruction that extends the lower lanes of a vector.
+    /// `i32x4.extend_low_i16x8_u` (opcode 0xFD 169), a vector instruction that extends the lower
+    /// lanes of a vector.
     pub const I32x4ExtendLowI16x8U: Self = Instruction::Vector(Vector::I32x4ExtendLowI16x8U);
 
-    /// `i32x4.extend_high_i16x8_u` (opcode 0xFD 170), a vector instruction that extends the upper lanes of a vector.
+    /// `i32x4.extend_high_i16x8_u` (opcode 0xFD 170), a vector instruction that extends the upper
+    /// lanes of a vector.
     pub const I32x4ExtendHighI16x8U: Self = Instruction::Vector(Vector::I32x4ExtendHighI16x8U);
 
-    /// `i32x4.shl` (opcode 0xFD 171), a vector instruction that shifts each lane of a vector to the left.
+    /// `i32x4.shl` (opcode 0xFD 171), a vector instruction that shifts each lane of a vector to the
+    /// left.
     pub const I32x4Shl: Self = Instruction::Vector(Vector::I32x4Shl);
 
-    /// `i32x4.shr_s` (opcode 0xFD 172), a vector instruction that shifts each lane of a vector to the right.
+    /// `i32x4.shr_s` (opcode 0xFD 172), a vector instruction that shifts each lane of a vector to
+    /// the right.
     pub const I32x4ShrS: Self = Instruction::Vector(Vector::I32x4ShrS);
 
-    /// `i32x4.shr_u` (opcode 0xFD 173), a vector instruction that shifts each lane of a vector to the right.
+    /// `i32x4.shr_u` (opcode 0xFD 173), a vector instruction that shifts each lane of a vector to
+    /// the right.
     pub const I32x4ShrU: Self = Instruction::Vector(Vector::I32x4ShrU);
 
     /// `i32x4.add` (opcode 0xFD 174), a vector instruction that adds each lane of two vectors.
@@ -887,67 +1115,87 @@ impl Instruction<'static> {
     /// `i32x4.sub` (opcode 0xFD 177), a vector instruction that subtracts each lane of two vectors.
     pub const I32x4Sub: Self = Instruction::Vector(Vector::I32x4Sub);
 
-    /// `i32x4.mul` (opcode 0xFD 181), a vector instruction that multiplies each lane of two vectors.
+    /// `i32x4.mul` (opcode 0xFD 181), a vector instruction that multiplies each lane of two
+    /// vectors.
     pub const I32x4Mul: Self = Instruction::Vector(Vector::I32x4Mul);
 
-    /// `i32x4.min_s` (opcode 0xFD 182), a vector instruction that computes the minimum of each lane of two vectors.
+    /// `i32x4.min_s` (opcode 0xFD 182), a vector instruction that computes the minimum of each lane
+    /// of two vectors.
     pub const I32x4MinS: Self = Instruction::Vector(Vector::I32x4MinS);
 
-    /// `i32x4.min_u` (opcode 0xFD 183), a vector instruction that computes the minimum of each lane of two vectors.
+    /// `i32x4.min_u` (opcode 0xFD 183), a vector instruction that computes the minimum of each lane
+    /// of two vectors.
     pub const I32x4MinU: Self = Instruction::Vector(Vector::I32x4MinU);
 
-    /// `i32x4.max_s` (opcode 0xFD 184), a vector instruction that computes the maximum of each lane of two vectors.
+    /// `i32x4.max_s` (opcode 0xFD 184), a vector instruction that computes the maximum of each lane
+    /// of two vectors.
     pub const I32x4MaxS: Self = Instruction::Vector(Vector::I32x4MaxS);
 
-    /// `i32x4.max_u` (opcode 0xFD 185), a vector instruction that computes the maximum of each lane of two vectors.
+    /// `i32x4.max_u` (opcode 0xFD 185), a vector instruction that computes the maximum of each lane
+    /// of two vectors.
     pub const I32x4MaxU: Self = Instruction::Vector(Vector::I32x4MaxU);
 
-    /// `i32x4.dot_i16x8_s` (opcode 0xFD 186), a vector instruction that multiplies each lane of two vectors, and adds neighbouring products.
+    /// `i32x4.dot_i16x8_s` (opcode 0xFD 186), a vector instruction that multiplies each lane of two
+    /// vectors, and adds neighbouring products.
     pub const I32x4DotI16x8S: Self = Instruction::Vector(Vector::I32x4DotI16x8S);
 
-    /// `i32x4.extmul_low_i16x8_s` (opcode 0xFD 188), a vector instruction that multiplies the lower lanes of two vectors to wider ones.
+    /// `i32x4.extmul_low_i16x8_s` (opcode 0xFD 188), a vector instruction that multiplies the lower
+    /// lanes of two vectors to wider ones.
     pub const I32x4ExtMulLowI16x8S: Self = Instruction::Vector(Vector::I32x4ExtMulLowI16x8S);
 
-    /// `i32x4.extmul_high_i16x8_s` (opcode 0xFD 189), a vector instruction that multiplies the upper lanes of two vectors to wider ones.
+    /// `i32x4.extmul_high_i16x8_s` (opcode 0xFD 189), a vector instruction that multiplies the
+    /// upper lanes of two vectors to wider ones.
     pub const I32x4ExtMulHighI16x8S: Self = Instruction::Vector(Vector::I32x4ExtMulHighI16x8S);
 
-    /// `i32x4.extmul_low_i16x8_u` (opcode 0xFD 190), a vector instruction that multiplies the lower lanes of two vectors to wider ones.
+    /// `i32x4.extmul_low_i16x8_u` (opcode 0xFD 190), a vector instruction that multiplies the lower
+    /// lanes of two vectors to wider ones.
     pub const I32x4ExtMulLowI16x8U: Self = Instruction::Vector(Vector::I32x4ExtMulLowI16x8U);
 
-    /// `i32x4.extmul_high_i16x8_u` (opcode 0xFD 191), a vector instruction that multiplies the upper lanes of two vectors to wider ones.
+    /// `i32x4.extmul_high_i16x8_u` (opcode 0xFD 191), a vector instruction that multiplies the
+    /// upper lanes of two vectors to wider ones.
     pub const I32x4ExtMulHighI16x8U: Self = Instruction::Vector(Vector::I32x4ExtMulHighI16x8U);
 
-    /// `i64x2.abs` (opcode 0xFD 192), a vector instruction that computes the absolute value of each lane of a vector.
+    /// `i64x2.abs` (opcode 0xFD 192), a vector instruction that computes the absolute value of each
+    /// lane of a vector.
     pub const I64x2Abs: Self = Instruction::Vector(Vector::I64x2Abs);
 
     /// `i64x2.neg` (opcode 0xFD 193), a vector instruction that negates each lane of a vector.
     pub const I64x2Neg: Self = Instruction::Vector(Vector::I64x2Neg);
 
-    /// `i64x2.all_true` (opcode 0xFD 195), a vector instruction that tests whether no lane of a vector is zero.
+    /// `i64x2.all_true` (opcode 0xFD 195), a vector instruction that tests whether no lane of a
+    /// vector is zero.
     pub const I64x2AllTrue: Self = Instruction::Vector(Vector::I64x2AllTrue);
 
-    /// `i64x2.bitmask` (opcode 0xFD 196), a vector instruction that collects the highest bit of each lane of a vector.
+    /// `i64x2.bitmask` (opcode 0xFD 196), a vector instruction that collects the highest bit of
+    /// each lane of a vector.
     pub const I64x2Bitmask: Self = Instruction::Vector(Vector::I64x2Bitmask);
 
-    /// `i64x2.extend_low_i32x4_s` (opcode 0xFD 199), a vector instruction that extends the lower lanes of a vector.
+    /// `i64x2.extend_low_i32x4_s` (opcode 0xFD 199), a vector instruction that extends the lower
+    /// lanes of a vector.
     pub const I64x2ExtendLowI32x4S: Self = Instruction::Vector(Vector::I64x2ExtendLowI32x4S);
 
-    /// `i64x2.extend_high_i32x4_s` (opcode 0xFD 200), a vector instruction that extends the upper lanes of a vector.
+    /// `i64x2.extend_high_i32x4_s` (opcode 0xFD 200), a vector instruction that extends the upper
+    /// lanes of a vector.
     pub const I64x2ExtendHighI32x4S: Self = Instruction::Vector(Vector::I64x2ExtendHighI32x4S);
 
-    /// `i64x2.extend_low_i32x4_u` (opcode 0xFD 201), a vector instruction that extends the lower lanes of a vector.
+    /// `i64x2.extend_low_i32x4_u` (opcode 0xFD 201), a vector instruction that extends the lower
+    /// lanes of a vector.
     pub const I64x2ExtendLowI32x4U: Self = Instruction::Vector(Vector::I64x2ExtendLowI32x4U);
 
-    /// `i64x2.extend_high_i32x4_u` (opcode 0xFD 202), a vector instruction that extends the upper lanes of a vector.
+    /// `i64x2.extend_high_i32x4_u` (opcode 0xFD 202), a vector instruction that extends the upper
+    /// lanes of a vector.
     pub const I64x2ExtendHighI32x4U: Self = Instruction::Vector(Vector::I64x2ExtendHighI32x4U);
 
-    /// `i64x2.shl` (opcode 0xFD 203), a vector instruction that shifts each lane of a vector to the left.
+    /// `i64x2.shl` (opcode 0xFD 203), a vector instruction that shifts each lane of a vector to the
+    /// left.
     pub const I64x2Shl: Self = Instruction::Vector(Vector::I64x2Shl);
 
-    /// `i64x2.shr_s` (opcode 0xFD 204), a vector instruction that shifts each lane of a vector to the right.
+    /// `i64x2.shr_s` (opcode 0xFD 204), a vector instruction that shifts each lane of a vector to
+    /// the right.
     pub const I64x2ShrS: Self = Instruction::Vector(Vector::I64x2ShrS);
 
-    /// `i64x2.shr_u` (opcode 0xFD 205), a vector instruction that shifts each lane of a vector to the right.
+    /// `i64x2.shr_u` (opcode 0xFD 205), a vector instruction that shifts each lane of a vector to
+    /// the right.
     pub const I64x2ShrU: Self = Instruction::Vector(Vector::I64x2ShrU);
 
     /// `i64x2.add` (opcode 0xFD 206), a vector instruction that adds each lane of two vectors.
@@ -956,7 +1204,8 @@ impl Instruction<'static> {
     /// `i64x2.sub` (opcode 0xFD 209), a vector instruction that subtracts each lane of two vectors.
     pub const I64x2Sub: Self = Instruction::Vector(Vector::I64x2Sub);
 
-    /// `i64x2.mul` (opcode 0xFD 213), a vector instruction that multiplies each lane of two vectors.
+    /// `i64x2.mul` (opcode 0xFD 213), a vector instruction that multiplies each lane of two
+    /// vectors.
     pub const I64x2Mul: Self = Instruction::Vector(Vector::I64x2Mul);
 
     /// `i64x2.eq` (opcode 0xFD 214), a vector instruction that compares each lane of two vectors.
@@ -977,25 +1226,31 @@ impl Instruction<'static> {
     /// `i64x2.ge_s` (opcode 0xFD 219), a vector instruction that compares each lane of two vectors.
     pub const I64x2GeS: Self = Instruction::Vector(Vector::I64x2GeS);
 
-    /// `i64x2.extmul_low_i32x4_s` (opcode 0xFD 220), a vector instruction that multiplies the lower lanes of two vectors to wider ones.
+    /// `i64x2.extmul_low_i32x4_s` (opcode 0xFD 220), a vector instruction that multiplies the lower
+    /// lanes of two vectors to wider ones.
     pub const I64x2ExtMulLowI32x4S: Self = Instruction::Vector(Vector::I64x2ExtMulLowI32x4S);
 
-    /// `i64x2.extmul_high_i32x4_s` (opcode 0xFD 221), a vector instruction that multiplies the upper lanes of two vectors to wider ones.
+    /// `i64x2.extmul_high_i32x4_s` (opcode 0xFD 221), a vector instruction that multiplies the
+    /// upper lanes of two vectors to wider ones.
     pub const I64x2ExtMulHighI32x4S: Self = Instruction::Vector(Vector::I64x2ExtMulHighI32x4S);
 
-    /// `i64x2.extmul_low_i32x4_u` (opcode 0xFD 222), a vector instruction that multiplies the lower lanes of two vectors to wider ones.
+    /// `i64x2.extmul_low_i32x4_u` (opcode 0xFD 222), a vector instruction that multiplies the lower
+    /// lanes of two vectors to wider ones.
     pub const I64x2ExtMulLowI32x4U: Self = Instruction::Vector(Vector::I64x2ExtMulLowI32x4U);
 
-    /// `i64x2.extmul_high_i32x4_u` (opcode 0xFD 223), a vector instruction that multiplies the upper lanes of two vectors to wider ones.
+    /// `i64x2.extmul_high_i32x4_u` (opcode 0xFD 223), a vector instruction that multiplies the
+    /// upper lanes of two vectors to wider ones.
     pub const I64x2ExtMulHighI32x4U: Self = Instruction::Vector(Vector::I64x2ExtMulHighI32x4U);
 
-    /// `f32x4.abs` (opcode 0xFD 224), a vector instruction that computes the absolute value of each lane of a vector.
+    /// `f32x4.abs` (opcode 0xFD 224), a vector instruction that computes the absolute value of each
+    /// lane of a vector.
     pub const F32x4Abs: Self = Instruction::Vector(Vector::F32x4Abs);
 
     /// `f32x4.neg` (opcode 0xFD 225), a vector instruction that negates each lane of a vector.
     pub const F32x4Neg: Self = Instruction::Vector(Vector::F32x4Neg);
 
-    /// `f32x4.sqrt` (opcode 0xFD 227), a vector instruction that computes the square root of each lane of a vector.
+    /// `f32x4.sqrt` (opcode 0xFD 227), a vector instruction that computes the square root of each
+    /// lane of a vector.
     pub const F32x4Sqrt: Self = Instruction::Vector(Vector::F32x4Sqrt);
 
     /// `f32x4.add` (opcode 0xFD 228), a vector instruction that adds each lane of two vectors.
@@ -1004,31 +1259,38 @@ impl Instruction<'static> {
     /// `f32x4.sub` (opcode 0xFD 229), a vector instruction that subtracts each lane of two vectors.
     pub const F32x4Sub: Self = Instruction::Vector(Vector::F32x4Sub);
 
-    /// `f32x4.mul` (opcode 0xFD 230), a vector instruction that multiplies each lane of two vectors.
+    /// `f32x4.mul` (opcode 0xFD 230), a vector instruction that multiplies each lane of two
+    /// vectors.
     pub const F32x4Mul: Self = Instruction::Vector(Vector::F32x4Mul);
 
     /// `f32x4.div` (opcode 0xFD 231), a vector instruction that divides each lane of two vectors.
     pub const F32x4Div: Self = Instruction::Vector(Vector::F32x4Div);
 
-    /// `f32x4.min` (opcode 0xFD 232), a vector instruction that computes the minimum of each lane of two vectors.
+    /// `f32x4.min` (opcode 0xFD 232), a vector instruction that computes the minimum of each lane
+    /// of two vectors.
     pub const F32x4Min: Self = Instruction::Vector(Vector::F32x4Min);
 
-    /// `f32x4.max` (opcode 0xFD 233), a vector instruction that computes the maximum of each lane of two vectors.
+    /// `f32x4.max` (opcode 0xFD 233), a vector instruction that computes the maximum of each lane
+    /// of two vectors.
     pub const F32x4Max: Self = Instruction::Vector(Vector::F32x4Max);
 
-    /// `f32x4.pmin` (opcode 0xFD 234), a vector instruction that computes the pseudo-minimum of each lane of two vectors.
+    /// `f32x4.pmin` (opcode 0xFD 234), a vector instruction that computes the pseudo-minimum of
+    /// each lane of two vectors.
     pub const F32x4PMin: Self = Instruction::Vector(Vector::F32x4PMin);
 
-    /// `f32x4.pmax` (opcode 0xFD 235), a vector instruction that computes the pseudo-maximum of each lane of two vectors.
+    /// `f32x4.pmax` (opcode 0xFD 235), a vector instruction that computes the pseudo-maximum of
+    /// each lane of two vectors.
     pub const F32x4PMax: Self = Instruction::Vector(Vector::F32x4PMax);
 
-    /// `f64x2.abs` (opcode 0xFD 236), a vector instruction that computes the absolute value of each lane of a vector.
+    /// `f64x2.abs` (opcode 0xFD 236), a vector instruction that computes the absolute value of each
+    /// lane of a vector.
     pub const F64x2Abs: Self = Instruction::Vector(Vector::F64x2Abs);
 
     /// `f64x2.neg` (opcode 0xFD 237), a vector instruction that negates each lane of a vector.
     pub const F64x2Neg: Self = Instruction::Vector(Vector::F64x2Neg);
 
-    /// `f64x2.sqrt` (opcode 0xFD 239), a vector instruction that computes the square root of each lane of a vector.
+    /// `f64x2.sqrt` (opcode 0xFD 239), a vector instruction that computes the square root of each
+    /// lane of a vector.
     pub const F64x2Sqrt: Self = Instruction::Vector(Vector::F64x2Sqrt);
 
     /// `f64x2.add` (opcode 0xFD 240), a vector instruction that adds each lane of two vectors.
@@ -1037,112 +1299,145 @@ impl Instruction<'static> {
     /// `f64x2.sub` (opcode 0xFD 241), a vector instruction that subtracts each lane of two vectors.
     pub const F64x2Sub: Self = Instruction::Vector(Vector::F64x2Sub);
 
-    /// `f64x2.mul` (opcode 0xFD 242), a vector instruction that multiplies each lane of two vectors.
+    /// `f64x2.mul` (opcode 0xFD 242), a vector instruction that multiplies each lane of two
+    /// vectors.
     pub const F64x2Mul: Self = Instruction::Vector(Vector::F64x2Mul);
 
     /// `f64x2.div` (opcode 0xFD 243), a vector instruction that divides each lane of two vectors.
     pub const F64x2Div: Self = Instruction::Vector(Vector::F64x2Div);
 
-    /// `f64x2.min` (opcode 0xFD 244), a vector instruction that computes the minimum of each lane of two vectors.
+    /// `f64x2.min` (opcode 0xFD 244), a vector instruction that computes the minimum of each lane
+    /// of two vectors.
     pub const F64x2Min: Self = Instruction::Vector(Vector::F64x2Min);
 
-    /// `f64x2.max` (opcode 0xFD 245), a vector instruction that computes the maximum of each lane of two vectors.
+    /// `f64x2.max` (opcode 0xFD 245), a vector instruction that computes the maximum of each lane
+    /// of two vectors.
     pub const F64x2Max: Self = Instruction::Vector(Vector::F64x2Max);
 
-    /// `f64x2.pmin` (opcode 0xFD 246), a vector instruction that computes the pseudo-minimum of each lane of two vectors.
+    /// `f64x2.pmin` (opcode 0xFD 246), a vector instruction that computes the pseudo-minimum of
+    /// each lane of two vectors.
     pub const F64x2PMin: Self = Instruction::Vector(Vector::F64x2PMin);
 
-    /// `f64x2.pmax` (opcode 0xFD 247), a vector instruction that computes the pseudo-maximum of each lane of two vectors.
+    /// `f64x2.pmax` (opcode 0xFD 247), a vector instruction that computes the pseudo-maximum of
+    /// each lane of two vectors.
     pub const F64x2PMax: Self = Instruction::Vector(Vector::F64x2PMax);
 
-    /// `i32x4.trunc_sat_f32x4_s` (opcode 0xFD 248), a vector instruction that converts the floats of a vector to integers.
+    /// `i32x4.trunc_sat_f32x4_s` (opcode 0xFD 248), a vector instruction that converts the floats
+    /// of a vector to integers.
     pub const I32x4TruncSatF32x4S: Self = Instruction::Vector(Vector::I32x4TruncSatF32x4S);
 
-    /// `i32x4.trunc_sat_f32x4_u` (opcode 0xFD 249), a vector instruction that converts the floats of a vector to integers.
+    /// `i32x4.trunc_sat_f32x4_u` (opcode 0xFD 249), a vector instruction that converts the floats
+    /// of a vector to integers.
     pub const I32x4TruncSatF32x4U: Self = Instruction::Vector(Vector::I32x4TruncSatF32x4U);
 
-    /// `f32x4.convert_i32x4_s` (opcode 0xFD 250), a vector instruction that converts the integers of a vector to floats.
+    /// `f32x4.convert_i32x4_s` (opcode 0xFD 250), a vector instruction that converts the integers
+    /// of a vector to floats.
     pub const F32x4ConvertI32x4S: Self = Instruction::Vector(Vector::F32x4ConvertI32x4S);
 
-    /// `f32x4.convert_i32x4_u` (opcode 0xFD 251), a vector instruction that converts the integers of a vector to floats.
+    /// `f32x4.convert_i32x4_u` (opcode 0xFD 251), a vector instruction that converts the integers
+    /// of a vector to floats.
     pub const F32x4ConvertI32x4U: Self = Instruction::Vector(Vector::F32x4ConvertI32x4U);
 
-    /// `i32x4.trunc_sat_f64x2_s_zero` (opcode 0xFD 252), a vector instruction that converts the floats of a vector to integers.
+    /// `i32x4.trunc_sat_f64x2_s_zero` (opcode 0xFD 252), a vector instruction that converts the
+    /// floats of a vector to integers.
     pub const I32x4TruncSatF64x2SZero: Self = Instruction::Vector(Vector::I32x4TruncSatF64x2SZero);
 
-    /// `i32x4.trunc_sat_f64x2_u_zero` (opcode 0xFD 253), a vector instruction that converts the floats of a vector to integers.
+    /// `i32x4.trunc_sat_f64x2_u_zero` (opcode 0xFD 253), a vector instruction that converts the
+    /// floats of a vector to integers.
     pub const I32x4TruncSatF64x2UZero: Self = Instruction::Vector(Vector::I32x4TruncSatF64x2UZero);
 
-    /// `f64x2.convert_low_i32x4_s` (opcode 0xFD 254), a vector instruction that converts the integers of a vector to floats.
+    /// `f64x2.convert_low_i32x4_s` (opcode 0xFD 254), a vector instruction that converts the
+    /// integers of a vector to floats.
     pub const F64x2ConvertLowI32x4S: Self = Instruction::Vector(Vector::F64x2ConvertLowI32x4S);
 
-    /// `f64x2.convert_low_i32x4_u` (opcode 0xFD 255), a vector instruction that converts the integers of a vector to floats.
+    /// `f64x2.convert_low_i32x4_u` (opcode 0xFD 255), a vector instruction that converts the
+    /// integers of a vector to floats.
     pub const F64x2ConvertLowI32x4U: Self = Instruction::Vector(Vector::F64x2ConvertLowI32x4U);
 
-    /// `i8x16.relaxed_swizzle` (opcode 0xFD 256), a relaxed vector instruction that selects lanes of a vector by those of another.
+    /// `i8x16.relaxed_swizzle` (opcode 0xFD 256), a relaxed vector instruction that selects lanes
+    /// of a vector by those of another.
     pub const I8x16RelaxedSwizzle: Self = Instruction::Vector(Vector::I8x16RelaxedSwizzle);
 
-    /// `i32x4.relaxed_trunc_f32x4_s` (opcode 0xFD 257), a relaxed vector instruction that converts the floats of a vector to integers.
+    /// `i32x4.relaxed_trunc_f32x4_s` (opcode 0xFD 257), a relaxed vector instruction that converts
+    /// the floats of a vector to integers.
     pub const I32x4RelaxedTruncF32x4S: Self = Instruction::Vector(Vector::I32x4RelaxedTruncF32x4S);
 
-    /// `i32x4.relaxed_trunc_f32x4_u` (opcode 0xFD 258), a relaxed vector instruction that converts the floats of a vector to integers.
+    /// `i32x4.relaxed_trunc_f32x4_u` (opcode 0xFD 258), a relaxed vector instruction that converts
+    /// the floats of a vector to integers.
     pub const I32x4RelaxedTruncF32x4U: Self = Instruction::Vector(Vector::I32x4RelaxedTruncF32x4U);
 
-    /// `i32x4.relaxed_trunc_f64x2_s_zero` (opcode 0xFD 259), a relaxed vector instruction that converts the floats of a vector to integers.
+    /// `i32x4.relaxed_trunc_f64x2_s_zero` (opcode 0xFD 259), a relaxed vector instruction that
+    /// converts the floats of a vector to integers.
     pub const I32x4RelaxedTruncF64x2SZero: Self = Instruction::Vector(
         Vector::I32x4RelaxedTruncF64x2SZero,
     );
 
-    /// `i32x4.relaxed_trunc_f64x2_u_zero` (opcode 0xFD 260), a relaxed vector instruction that converts the floats of a vector to integers.
+    /// `i32x4.relaxed_trunc_f64x2_u_zero` (opcode 0xFD 260), a relaxed vector instruction that
+    /// converts the floats of a vector to integers.
     pub const I32x4RelaxedTruncF64x2UZero: Self = Instruction::Vector(
         Vector::I32x4RelaxedTruncF64x2UZero,
     );
 
-    /// `f32x4.relaxed_madd` (opcode 0xFD 261), a relaxed vector instruction that multiplies each lane of two vectors, and adds a third.
+    /// `f32x4.relaxed_madd` (opcode 0xFD 261), a relaxed vector instruction that multiplies each
+    /// lane of two vectors, and adds a third.
     pub const F32x4RelaxedMadd: Self = Instruction::Vector(Vector::F32x4RelaxedMadd);
 
-    /// `f32x4.relaxed_nmadd` (opcode 0xFD 262), a relaxed vector instruction that multiplies each lane of two vectors, and subtracts the product from a third.
+    /// `f32x4.relaxed_nmadd` (opcode 0xFD 262), a relaxed vector instruction that multiplies each
+    /// lane of two vectors, and subtracts the product from a third.
     pub const F32x4RelaxedNmadd: Self = Instruction::Vector(Vector::F32x4RelaxedNmadd);
 
-    /// `f64x2.relaxed_madd` (opcode 0xFD 263), a relaxed vector instruction that multiplies each lane of two vectors, and adds a third.
+    /// `f64x2.relaxed_madd` (opcode 0xFD 263), a relaxed vector instruction that multiplies each
+    /// lane of two vectors, and adds a third.
     pub const F64x2RelaxedMadd: Self = Instruction::Vector(Vector::F64x2RelaxedMadd);
 
-    /// `f64x2.relaxed_nmadd` (opcode 0xFD 264), a relaxed vector instruction that multiplies each lane of two vectors, and subtracts the product from a third.
+    /// `f64x2.relaxed_nmadd` (opcode 0xFD 264), a relaxed vector instruction that multiplies each
+    /// lane of two vectors, and subtracts the product from a third.
     pub const F64x2RelaxedNmadd: Self = Instruction::Vector(Vector::F64x2RelaxedNmadd);
 
-    /// `i8x16.relaxed_laneselect` (opcode 0xFD 265), a relaxed vector instruction that selects lanes of two vectors by a third.
+    /// `i8x16.relaxed_laneselect` (opcode 0xFD 265), a relaxed vector instruction that selects
+    /// lanes of two vectors by a third.
     pub const I8x16RelaxedLaneselect: Self = Instruction::Vector(Vector::I8x16RelaxedLaneselect);
 
-    /// `i16x8.relaxed_laneselect` (opcode 0xFD 266), a relaxed vector instruction that selects lanes of two vectors by a third.
+    /// `i16x8.relaxed_laneselect` (opcode 0xFD 266), a relaxed vector instruction that selects
+    /// lanes of two vectors by a third.
     pub const I16x8RelaxedLaneselect: Self = Instruction::Vector(Vector::I16x8RelaxedLaneselect);
 
-    /// `i32x4.relaxed_laneselect` (opcode 0xFD 267), a relaxed vector instruction that selects lanes of two vectors by a third.
+    /// `i32x4.relaxed_laneselect` (opcode 0xFD 267), a relaxed vector instruction that selects
+    /// lanes of two vectors by a third.
     pub const I32x4RelaxedLaneselect: Self = Instruction::Vector(Vector::I32x4RelaxedLaneselect);
 
-    /// `i64x2.relaxed_laneselect` (opcode 0xFD 268), a relaxed vector instruction that selects lanes of two vectors by a third.
+    /// `i64x2.relaxed_laneselect` (opcode 0xFD 268), a relaxed vector instruction that selects
+    /// lanes of two vectors by a third.
     pub const I64x2RelaxedLaneselect: Self = Instruction::Vector(Vector::I64x2RelaxedLaneselect);
 
-    /// `f32x4.relaxed_min` (opcode 0xFD 269), a relaxed vector instruction that computes the minimum of each lane of two vectors.
+    /// `f32x4.relaxed_min` (opcode 0xFD 269), a relaxed vector instruction that computes the
+    /// minimum of each lane of two vectors.
     pub const F32x4RelaxedMin: Self = Instruction::Vector(Vector::F32x4RelaxedMin);
 
-    /// `f32x4.relaxed_max` (opcode 0xFD 270), a relaxed vector instruction that computes the maximum of each lane of two vectors.
+    /// `f32x4.relaxed_max` (opcode 0xFD 270), a relaxed vector instruction that computes the
+    /// maximum of each lane of two vectors.
     pub const F32x4RelaxedMax: Self = Instruction::Vector(Vector::F32x4RelaxedMax);
 
-    /// `f64x2.relaxed_min` (opcode 0xFD 271), a relaxed vector instruction that computes the minimum of each lane of two vectors.
+    /// `f64x2.relaxed_min` (opcode 0xFD 271), a relaxed vector instruction that computes the
+    /// minimum of each lane of two vectors.
     pub const F64x2RelaxedMin: Self = Instruction::Vector(Vector::F64x2RelaxedMin);
 
-    /// `f64x2.relaxed_max` (opcode 0xFD 272), a relaxed vector instruction that computes the maximum of each lane of two vectors.
+    /// `f64x2.relaxed_max` (opcode 0xFD 272), a relaxed vector instruction that computes the
+    /// maximum of each lane of two vectors.
     pub const F64x2RelaxedMax: Self = Instruction::Vector(Vector::F64x2RelaxedMax);
 
-    /// `i16x8.relaxed_q15mulr_s` (opcode 0xFD 273), a relaxed vector instruction that multiplies each lane of two vectors as fixed-point numbers, rounded.
+    /// `i16x8.relaxed_q15mulr_s` (opcode 0xFD 273), a relaxed vector instruction that multiplies
+    /// each lane of two vectors as fixed-point numbers, rounded.
     pub const I16x8RelaxedQ15mulrS: Self = Instruction::Vector(Vector::I16x8RelaxedQ15mulrS);
 
-    /// `i16x8.relaxed_dot_i8x16_i7x16_s` (opcode 0xFD 274), a relaxed vector instruction that multiplies each lane of two vectors, and adds neighbouring products.
+    /// `i16x8.relaxed_dot_i8x16_i7x16_s` (opcode 0xFD 274), a relaxed vector instruction that
+    /// multiplies each lane of two vectors, and adds neighbouring products.
     pub const I16x8RelaxedDotI8x16I7x16S: Self = Instruction::Vector(
         Vector::I16x8RelaxedDotI8x16I7x16S,
     );
 
-    /// `i32x4.relaxed_dot_i8x16_i7x16_add_s` (opcode 0xFD 275), a relaxed vector instruction that multiplies each lane of two vectors, and adds neighbouring products and a third vector.
+    /// `i32x4.relaxed_dot_i8x16_i7x16_add_s` (opcode 0xFD 275), a relaxed vector instruction that
+    /// multiplies each lane of two vectors, and adds neighbouring products and a third vector.
     pub const I32x4RelaxedDotI8x16I7x16AddS: Self = Instruction::Vector(
         Vector::I32x4RelaxedDotI8x16I7x16AddS,
     );

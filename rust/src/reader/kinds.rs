@@ -12,7 +12,9 @@ use crate::types::{TypeEntry, append_types, read_types};
 
 /// A kind of section, which selects the reader of its payload.
 ///
-/// [`Section::kind`](crate::reader::Section::kind) returns it. [`read_section`](crate::reader::read_section) and [`shorten`](crate::reader::shorten) take it.
+/// [`Section::kind`](crate::reader::Section::kind) returns it.
+/// [`read_section`](crate::reader::read_section) and [`shorten`](crate::reader::shorten) take
+/// it.
 ///
 /// # Examples
 ///
@@ -119,7 +121,8 @@ impl SectionKind {
 /// The decoded items of a section. Names, data and raw bytes are slices of the input; lists are in
 /// memory of the allocator. They can be changed in place, and [`encode_items`] encodes them.
 ///
-/// [`Section::items`](crate::reader::Section::items) and [`read_section`](crate::reader::read_section) return it.
+/// [`Section::items`](crate::reader::Section::items) and
+/// [`read_section`](crate::reader::read_section) return it.
 ///
 /// # Examples
 ///

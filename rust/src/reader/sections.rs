@@ -172,7 +172,8 @@ impl<'a, A: Allocator + Copy> FusedIterator for Sections<'a, A> {}
 ///
 /// Calls that decode accept all encodings that the standard admits.
 ///
-/// [`Sections`](crate::reader::Sections) yields it, and [`Module::section`](crate::Module::section) copies it.
+/// [`Sections`](crate::reader::Sections) yields it, and
+/// [`Module::section`](crate::Module::section) copies it.
 ///
 /// # Examples
 ///

@@ -8,7 +8,8 @@ use crate::base::{Counted, Encode, EncodeOnce, Kind, Pieces, Result, Section};
 
 /// A kind of items that a section counts.
 ///
-/// A kind has no value: it is the type argument of [`CountedSection`](crate::fallible::CountedSection).
+/// A kind has no value: it is the type argument of
+/// [`CountedSection`](crate::fallible::CountedSection).
 ///
 /// # Examples
 ///
@@ -45,7 +46,8 @@ pub trait ItemKind: Kind {
 
 /// A record that can be added to a section of items of the kind `K`.
 ///
-/// [`Counted`](crate::fallible::Counted) takes such a record, and so does [`add_all`](crate::fallible::add_all).
+/// [`Counted`](crate::fallible::Counted) takes such a record, and so does
+/// [`add_all`](crate::fallible::add_all).
 ///
 /// # Examples
 ///
@@ -68,7 +70,9 @@ pub trait RecordOf<K>: Encode {}
 /// An adding call that returns an error leaves the section unchanged. The error is `TooLong` only
 /// if the section is full or the item does not fit, and `Memory` only if an allocation fails.
 ///
-/// It is the builder of core sections, such as [`ExportSection`](crate::fallible::ExportSection). The calls that add items are those of the kind `K`.
+/// It is the builder of core sections, such as
+/// [`ExportSection`](crate::fallible::ExportSection). The calls that add items are those of the
+/// kind `K`.
 ///
 /// # Examples
 ///

@@ -25,7 +25,8 @@ pub type ExportSection<A = Global> = CountedSection<ExportItems, A>;
 
 /// The kind of an export section's items: exports.
 ///
-/// It is the type argument of [`CountedSection`](crate::fallible::CountedSection) in [`ExportSection`](crate::fallible::ExportSection).
+/// It is the type argument of [`CountedSection`](crate::fallible::CountedSection) in
+/// [`ExportSection`](crate::fallible::ExportSection).
 ///
 /// # Examples
 ///
@@ -68,7 +69,8 @@ pub enum ExportKind {
 
 /// An export: a name, and the item that is exported under it.
 ///
-/// [`Items::Exports`](crate::reader::Items::Exports) has them. [`add_all`](crate::fallible::add_all) adds some.
+/// [`Items::Exports`](crate::reader::Items::Exports) has them.
+/// [`add_all`](crate::fallible::add_all) adds some.
 ///
 /// # Examples
 ///

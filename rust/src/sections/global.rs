@@ -30,7 +30,8 @@ pub type GlobalSection<A = Global> = CountedSection<GlobalItems, A>;
 
 /// The kind of a global section's items: types of globals, each with an initializer expression.
 ///
-/// It is the type argument of [`CountedSection`](crate::fallible::CountedSection) in [`GlobalSection`](crate::fallible::GlobalSection).
+/// It is the type argument of [`CountedSection`](crate::fallible::CountedSection) in
+/// [`GlobalSection`](crate::fallible::GlobalSection).
 ///
 /// # Examples
 ///
@@ -43,7 +44,23 @@ pub type GlobalSection<A = Global> = CountedSection<GlobalItems, A>;
 #[derive(Clone, Copy, Debug)]
 pub struct GlobalItems;
 
-// The type of a global.
+/// The type of a global, which [`GlobalSection::global`](crate::GlobalSection::global) takes,
+/// and [`EntityType::Global`](crate::EntityType::Global) for an imported one.
+///
+/// Core specification, Types, Global Types.
+///
+/// `val_type` is the type of its value. `shared` is of the shared-everything threads proposal.
+///
+/// # Examples
+///
+/// ```
+/// use dolzhytik::{Encode, GlobalType, ValType};
+///
+/// let mut bytes = Vec::new();
+/// GlobalType { val_type: ValType::I64, mutable: true, shared: false }.encode(&mut bytes);
+/// // i64: 7E. Flags: 1 for mutable.
+/// assert_eq!(bytes, [0x7E, 1]);
+/// ```
 #[derive(Clone, Copy, PartialEq, Eq, Hash, Debug)]
 pub struct GlobalType {
     /// The type of the value.

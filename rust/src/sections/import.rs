@@ -30,7 +30,8 @@ pub type ImportSection<A = Global> = CountedSection<ImportItems, A>;
 /// The kind of an import section's items: imports and groups of imports, each of which is one
 /// entry.
 ///
-/// It is the type argument of [`CountedSection`](crate::fallible::CountedSection) in [`ImportSection`](crate::fallible::ImportSection).
+/// It is the type argument of [`CountedSection`](crate::fallible::CountedSection) in
+/// [`ImportSection`](crate::fallible::ImportSection).
 ///
 /// # Examples
 ///
@@ -45,7 +46,8 @@ pub struct ImportItems;
 
 /// The type of an imported item.
 ///
-/// [`ImportSection::import`](crate::fallible::ImportSection) takes it. [`EntityType`](crate::EntityType) of the root converts from it and to it.
+/// [`ImportSection::import`](crate::fallible::ImportSection) takes it.
+/// [`EntityType`](crate::EntityType) of the root converts from it and to it.
 ///
 /// # Examples
 ///
@@ -210,7 +212,8 @@ pub struct ImportCompact<'a> {
 /// An import, or a group of imports from one module. A section accepts lists that are borrowed, or
 /// owned in memory of the section's type of allocator.
 ///
-/// [`ImportSection`](crate::fallible::ImportSection) takes it in `imports`, and [`Items::Imports`](crate::reader::Items::Imports) has them.
+/// [`ImportSection`](crate::fallible::ImportSection) takes it in `imports`, and
+/// [`Items::Imports`](crate::reader::Items::Imports) has them.
 ///
 /// # Examples
 ///

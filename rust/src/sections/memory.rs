@@ -26,7 +26,8 @@ pub type MemorySection<A = Global> = CountedSection<MemoryItems, A>;
 
 /// The kind of a memory section's items: memory types.
 ///
-/// It is the type argument of [`CountedSection`](crate::fallible::CountedSection) in [`MemorySection`](crate::fallible::MemorySection).
+/// It is the type argument of [`CountedSection`](crate::fallible::CountedSection) in
+/// [`MemorySection`](crate::fallible::MemorySection).
 ///
 /// # Examples
 ///
@@ -39,7 +40,32 @@ pub type MemorySection<A = Global> = CountedSection<MemoryItems, A>;
 #[derive(Clone, Copy, Debug)]
 pub struct MemoryItems;
 
-// The type of a memory. Sizes are in pages.
+/// The type of a memory, which [`MemorySection::memory`](crate::MemorySection::memory) takes,
+/// and [`EntityType::Memory`](crate::EntityType::Memory) for an imported one.
+///
+/// Core specification, Types, Memory Types.
+///
+/// `minimum` and `maximum` are its size in pages: the initial one, and the limit for
+/// `memory.grow`. `shared` is of the threads proposal, and `page_size_log2` of the custom page
+/// sizes proposal.
+///
+/// # Examples
+///
+/// ```
+/// use dolzhytik::{Encode, MemoryType};
+///
+/// let mut bytes = Vec::new();
+/// MemoryType {
+///     minimum: 1,
+///     maximum: Some(2),
+///     memory64: false,
+///     shared: false,
+///     page_size_log2: None,
+/// }
+/// .encode(&mut bytes);
+/// // Flags: 1 for a maximum. From 1 to 2 pages.
+/// assert_eq!(bytes, [1, 1, 2]);
+/// ```
 #[derive(Clone, Copy, PartialEq, Eq, Hash, Debug)]
 pub struct MemoryType {
     /// The initial size in pages.

@@ -32,7 +32,8 @@ pub type TableSection<A = Global> = CountedSection<TableItems, A>;
 
 /// The kind of a table section's items: table types, some with an initializer expression.
 ///
-/// It is the type argument of [`CountedSection`](crate::fallible::CountedSection) in [`TableSection`](crate::fallible::TableSection).
+/// It is the type argument of [`CountedSection`](crate::fallible::CountedSection) in
+/// [`TableSection`](crate::fallible::TableSection).
 ///
 /// # Examples
 ///
@@ -45,7 +46,31 @@ pub type TableSection<A = Global> = CountedSection<TableItems, A>;
 #[derive(Clone, Copy, Debug)]
 pub struct TableItems;
 
-// The type of a table. Sizes are in elements.
+/// The type of a table, which [`TableSection::table`](crate::TableSection::table) takes, and
+/// [`EntityType::Table`](crate::EntityType::Table) for an imported one.
+///
+/// Core specification, Types, Table Types.
+///
+/// `minimum` and `maximum` are its size in elements: the initial one, and the limit for
+/// `table.grow`. `shared` is of the shared-everything threads proposal.
+///
+/// # Examples
+///
+/// ```
+/// use dolzhytik::{Encode, RefType, TableType};
+///
+/// let mut bytes = Vec::new();
+/// TableType {
+///     element_type: RefType::FUNCREF,
+///     table64: true,
+///     minimum: 3,
+///     maximum: None,
+///     shared: false,
+/// }
+/// .encode(&mut bytes);
+/// // funcref: 70. Flags: 4 for indices of 64 bits. At least 3 elements.
+/// assert_eq!(bytes, [0x70, 4, 3]);
+/// ```
 #[derive(Clone, Copy, PartialEq, Eq, Hash, Debug)]
 pub struct TableType {
     /// The type of the elements.

@@ -25,7 +25,8 @@ pub type TagSection<A = Global> = CountedSection<TagItems, A>;
 
 /// The kind of a tag section's items: tag types.
 ///
-/// It is the type argument of [`CountedSection`](crate::fallible::CountedSection) in [`TagSection`](crate::fallible::TagSection).
+/// It is the type argument of [`CountedSection`](crate::fallible::CountedSection) in
+/// [`TagSection`](crate::fallible::TagSection).
 ///
 /// # Examples
 ///
@@ -61,7 +62,8 @@ pub enum TagKind {
 
 /// The type of a tag.
 ///
-/// [`TagSection`](crate::fallible::TagSection) takes it in `tag`, and [`Items::Tags`](crate::reader::Items::Tags) has them.
+/// [`TagSection`](crate::fallible::TagSection) takes it in `tag`, and
+/// [`Items::Tags`](crate::reader::Items::Tags) has them.
 ///
 /// # Examples
 ///

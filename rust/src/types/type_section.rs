@@ -244,7 +244,8 @@ impl<A: Allocator, B: Allocator> Counted<TypeEntry<B>> for TypeSection<A> {
 /// Adds one type to a section that it borrows. A call that returns an error leaves the section
 /// unchanged.
 ///
-/// [`TypeSection::ty`](crate::fallible::TypeSection::ty) returns it. Each of its calls adds one entry.
+/// [`TypeSection::ty`](crate::fallible::TypeSection::ty) returns it. Each of its calls adds one
+/// entry.
 ///
 /// # Examples
 ///

@@ -6,7 +6,25 @@ use crate::alloc::{Allocator, Global};
 use core::slice;
 use crate::base::{Encode, Lent, Result, ValType};
 
-// The type of the content of a field or an element: a value, or a packed integer.
+/// A storage type, which [`CoreTypeEncoder::array`](crate::CoreTypeEncoder::array) and
+/// [`FieldType`](crate::FieldType) take.
+///
+/// Core specification, Types, Composite Types.
+///
+/// `I8` and `I16` are packed integers, and `Val` is a value type. A [`ValType`](crate::ValType)
+/// converts to it.
+///
+/// # Examples
+///
+/// ```
+/// use dolzhytik::{Encode, StorageType, ValType};
+///
+/// let mut bytes = Vec::new();
+/// StorageType::I8.encode(&mut bytes);
+/// StorageType::from(ValType::I32).encode(&mut bytes);
+/// // i8: 78. i32: 7F.
+/// assert_eq!(bytes, [0x78, 0x7F]);
+/// ```
 #[derive(Clone, Copy, PartialEq, Eq, Hash, Debug)]
 pub enum StorageType {
     /// A packed integer of 8 bits: 78.
@@ -17,7 +35,23 @@ pub enum StorageType {
     Val(ValType),
 }
 
-// The type of a field, or of the elements of an array.
+/// A field of a structure, which [`CoreTypeEncoder::struct_`](crate::CoreTypeEncoder::struct_)
+/// takes.
+///
+/// Core specification, Types, Composite Types.
+///
+/// `element_type` is the type of its content, and `mutable` says whether it can be set.
+///
+/// # Examples
+///
+/// ```
+/// use dolzhytik::{Encode, FieldType, StorageType};
+///
+/// let mut bytes = Vec::new();
+/// FieldType { element_type: StorageType::I16, mutable: false }.encode(&mut bytes);
+/// // i16: 77. Immutable: 00.
+/// assert_eq!(bytes, [0x77, 0x00]);
+/// ```
 #[derive(Clone, Copy, PartialEq, Eq, Hash, Debug)]
 pub struct FieldType {
     /// The type of the content.
@@ -26,11 +60,38 @@ pub struct FieldType {
     pub mutable: bool,
 }
 
-// The type of an array.
+/// An array type: a case of [`CompositeInnerType`](crate::CompositeInnerType). To add one
+/// without a value, see [`CoreTypeEncoder::array`](crate::CoreTypeEncoder::array).
+///
+/// Core specification, Types, Composite Types.
+///
+/// # Examples
+///
+/// ```
+/// use dolzhytik::{ArrayType, Encode, FieldType, StorageType};
+///
+/// let mut bytes = Vec::new();
+/// ArrayType(FieldType { element_type: StorageType::I8, mutable: true }).encode(&mut bytes);
+/// // An array: 5E. i8: 78. Mutable: 01.
+/// assert_eq!(bytes, [0x5E, 0x78, 0x01]);
+/// ```
 #[derive(Clone, Copy, PartialEq, Eq, Hash, Debug)]
 pub struct ArrayType(pub FieldType);
 
-// The type of a continuation of the function type of this index.
+/// A continuation type, which [`CoreTypeEncoder::cont`](crate::CoreTypeEncoder::cont) takes.
+///
+/// The stack switching proposal defines it.
+///
+/// # Examples
+///
+/// ```
+/// use dolzhytik::{ContType, Encode};
+///
+/// let mut bytes = Vec::new();
+/// ContType(64).encode(&mut bytes);
+/// // A continuation: 5D. The index is signed LEB128: 64 is C0 00.
+/// assert_eq!(bytes, [0x5D, 0xC0, 0x00]);
+/// ```
 #[derive(Clone, Copy, PartialEq, Eq, Hash, Debug)]
 pub struct ContType(pub u32);
 
@@ -148,7 +209,8 @@ pub struct CompositeType<A: Allocator = Global> {
 /// A subtype: a composite type, an optional supertype, and whether it is final, so that it can have
 /// no subtypes.
 ///
-/// [`CoreTypeEncoder::subtype`](crate::fallible::CoreTypeEncoder::subtype) and [`rec`](crate::fallible::CoreTypeEncoder::rec) take it.
+/// [`CoreTypeEncoder::subtype`](crate::fallible::CoreTypeEncoder::subtype) and
+/// [`rec`](crate::fallible::CoreTypeEncoder::rec) take it.
 ///
 /// # Examples
 ///

@@ -46,7 +46,7 @@ FORMS = {
     'export': [(r'pub use [^;]* ;', r'(?:(?:# \[ doc \( alias = "[^"]*" \) \] )*pub (?:\( crate \) )?use [^;]* ; ?)+')],
     'path': [('crate', r'(?:in )?crate(?: : : \w+)+'), (r'wasm_\w+(?: : : laws)?|hex', r'(?:crate|dolzhytik)(?: : : \w+)+'), ('test_support|examples', r'crate : : \w+')],
     'link': [('', '')],
-    'moved': [('', '')],
+    'replaced': [('', '')],
     'alias': [('', r'(?:# \[ doc \( alias = "[^"]*" \) \] ?)+')],
     'module': [('mod', r'pub \( crate \) mod')],
     'border': [(r'extern "C"', ''), ('mod', r'pub \( crate \) mod')],

@@ -4,7 +4,8 @@ by the table of instructions.
 A file of tools/rustdoc has the texts of a library's items. `## NAME` or `## OWNER::NAME` begins the
 text of an item, lines `alias: WORD, WORD` are what search finds it by, lines `- NAME: TEXT` document
 its variants and fields (`VARIANT.FIELD` is a field of a variant), and what follows is appended to its
-doc comment. The tool stops at a text whose item is missing.
+doc comment, or replaces that of an item that the root of the package exports. The tool stops at a text
+whose item is missing.
 """
 from __future__ import annotations
 
@@ -75,7 +76,7 @@ def texts(crate: str) -> dict[str, Text]:
 
 @functools.lru_cache(maxsize=None)
 def at_the_root() -> frozenset[str]:
-    """Returns the names whose documentation the root of the package has."""
+    """Returns the names of definitions that the root of the package exports."""
     names = re.findall(r'^pub use crate::\w+::(\w+);$', text_of(TOP / HEAD), re.MULTILINE)
     return frozenset(names)
 
@@ -152,7 +153,7 @@ def add_beside(source: Source) -> None:
     table = instructions() if source.crate.name == 'wasm_insn' else {}
     for item in items(source):
         if item.kind in ('struct', 'enum', 'type', 'const', 'fn') and item.name in at_the_root():
-            move(source, item)
+            replace(source, item)
         text = own.get(item.name)
         if text:
             used().add((source.crate.name, item.name))
@@ -198,14 +199,14 @@ def drop_sketch(source: Source, item: Item) -> None:
     for first, last in zip(fences[::2], fences[1::2]):
         if source.tokens[docs[first]] == '/// ```text':
             before = first - 1 if first and source.tokens[docs[first - 1]] == '///' else first
-            source.edit(docs[before], docs[last] + 1, '', 'moved')
+            source.edit(docs[before], docs[last] + 1, '', 'replaced')
 
 
-def move(source: Source, item: Item) -> None:
-    """Makes a plain comment of the doc comment of an item whose documentation the root has."""
-    for at in range(source.with_docs(item.start), item.start):
-        if source.tokens[at].startswith('///'):
-            source.edit(at, at + 1, source.tokens[at][1:], 'moved')
+def replace(source: Source, item: Item) -> None:
+    """Erases the doc comment of an item that the root has too: its text is the documentation."""
+    first = source.with_docs(item.start)
+    if first < item.start:
+        source.edit(first, item.start, '', 'replaced')
 
 
 @functools.lru_cache(maxsize=None)

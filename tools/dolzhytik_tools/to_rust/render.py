@@ -35,14 +35,19 @@ def words_above(source: Source, heading: str, clauses: list[str]) -> str:
     return ' '.join(dict.fromkeys(filter(None, map(asked, clauses)))) if heading == 'Asks' else ''
 
 
+def wrapped(line: str) -> list[str]:
+    """Returns the lines of a paragraph."""
+    return textwrap.wrap(line, 92, break_long_words=False, break_on_hyphens=False) or ['']
+
+
 def beside(notes: Notes) -> list[str]:
     """Returns the lines that are appended to a doc comment before the clauses: prose, errors, and
     examples."""
     text = '\n'.join(notes.get('Text', []))
     prose, fence, example = text.partition('```')
-    lines = ['', *prose.strip().split('\n')] if prose.strip() else []
+    lines = ['', *(part for line in prose.strip().split('\n') for part in wrapped(line))] if prose.strip() else []
     if 'Errors' in notes:
-        lines += ['', '# Errors', '', *textwrap.wrap(notes['Errors'][0], 90, break_long_words=False, break_on_hyphens=False)]
+        lines += ['', '# Errors', '', *wrapped(notes['Errors'][0])]
     if example:
         lines += ['', '# Examples', '', *(fence + example).split('\n')]
     return lines
