@@ -38,16 +38,16 @@ mod values;
 // The documentation of these is that of their definitions, with the texts of tools/rustdoc. Words for
 // search are at the re-exports: rustdoc drops those of definitions.
 
-pub use crate::base::CORE_FUNCTION_SORT;
-pub use crate::base::CORE_FUNCTION_EXACT_SORT;
-pub use crate::base::CORE_GLOBAL_SORT;
-pub use crate::base::CORE_MEMORY_SORT;
-pub use crate::base::CORE_TABLE_SORT;
-pub use crate::base::CORE_TAG_SORT;
 #[doc(alias = "gc")]
 #[doc(alias = "any")]
 #[doc(alias = "exnref")]
 pub use crate::base::AbstractHeapType;
+pub use crate::base::CORE_FUNCTION_EXACT_SORT;
+pub use crate::base::CORE_FUNCTION_SORT;
+pub use crate::base::CORE_GLOBAL_SORT;
+pub use crate::base::CORE_MEMORY_SORT;
+pub use crate::base::CORE_TABLE_SORT;
+pub use crate::base::CORE_TAG_SORT;
 pub use crate::base::HeapType;
 #[doc(alias = "reference types")]
 pub use crate::base::RefType;
