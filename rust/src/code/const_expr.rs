@@ -71,6 +71,17 @@ impl<A: Allocator> ConstExpr<A> {
     ///
     /// Returns [`Memory`](crate::fallible::Refused::Memory) if an allocation fails.
     ///
+    /// # Examples
+    ///
+    /// ```
+    /// use dolzhytik::fallible::{ConstExpr, Encode, Global, Refused};
+    ///
+    /// let mut bytes = Vec::new();
+    /// ConstExpr::raw(Global, [0x41, 0x2A])?.encode(&mut bytes)?; // i32.const 42
+    /// assert_eq!(bytes, [0x41, 0x2A, 0x0B]);
+    /// # Ok::<(), Refused>(())
+    /// ```
+    ///
     /// # Asks
     ///
     /// The iterator ends.

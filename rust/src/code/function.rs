@@ -125,6 +125,17 @@ impl<A: Allocator> Function<A> {
     /// Returns [`Memory`](crate::fallible::Refused::Memory) if an allocation fails. The builder is
     /// then unchanged.
     ///
+    /// # Examples
+    ///
+    /// ```
+    /// use dolzhytik::fallible::{Function, Global, Refused};
+    ///
+    /// let mut body = Function::new(Global, [])?;
+    /// body.raw([0x41, 7, 0x0B])?; // i32.const 7, end
+    /// assert_eq!(body.into_raw_body()[..], [0, 0x41, 7, 0x0B]);
+    /// # Ok::<(), Refused>(())
+    /// ```
+    ///
     /// # Asks
     ///
     /// The iterator ends.
@@ -157,6 +168,20 @@ impl<A: Allocator> Function<A> {
     /// Returns the length of the raw body so far, in bytes. If the raw body decodes, this is the
     /// offset of the next instruction ([`offset`](crate::code::laws::offset)).
     ///
+    /// # Examples
+    ///
+    /// ```
+    /// use dolzhytik::fallible::{Function, Global, Refused};
+    ///
+    /// let mut body = Function::new(Global, [])?;
+    /// // No runs of locals: the count 0 is one byte.
+    /// assert_eq!(body.byte_len(), 1);
+    /// body.instructions().i32_const(7)?;
+    /// // i32.const 7: 41 07.
+    /// assert_eq!(body.byte_len(), 3);
+    /// # Ok::<(), Refused>(())
+    /// ```
+    ///
     /// # Proved
     ///
     /// ```text
@@ -164,6 +189,7 @@ impl<A: Allocator> Function<A> {
     /// ```
     ///
     /// [How to read clauses](crate::definitions).
+    #[doc(alias = "offset")]
     pub fn byte_len(&self) -> usize {
         self.bytes.len()
     }
@@ -191,6 +217,18 @@ impl<A: Allocator + Copy> Function<A> {
     ///
     /// Returns [`TooLong`](crate::fallible::Refused::TooLong) if a count or length would pass
     /// 4294967295, and [`Memory`](crate::fallible::Refused::Memory) if an allocation fails.
+    ///
+    /// # Examples
+    ///
+    /// ```
+    /// use dolzhytik::fallible::{Function, Global, Refused, ValType};
+    ///
+    /// let types = [ValType::I32, ValType::I32, ValType::F32];
+    /// let body = Function::new_with_locals_types(Global, types)?;
+    /// // Two runs: 2 of i32 (7F), and 1 of f32 (7D).
+    /// assert_eq!(body.into_raw_body()[..], [2, 2, 0x7F, 1, 0x7D]);
+    /// # Ok::<(), Refused>(())
+    /// ```
     ///
     /// # Asks
     ///

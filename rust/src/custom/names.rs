@@ -319,6 +319,18 @@ impl<A: Allocator> NameSection<A> {
     /// [`Memory`](crate::fallible::Refused::Memory) if an allocation fails. The builder is then
     /// unchanged.
     ///
+    /// # Examples
+    ///
+    /// ```
+    /// use dolzhytik::fallible::{Global, NameSection, Refused};
+    ///
+    /// let mut names = NameSection::new(Global);
+    /// names.module("m")?;
+    /// // Subsection 0, size 2, a name of one byte.
+    /// assert_eq!(names.as_custom().bytes.as_slice(), [0, 2, 1, b'm']);
+    /// # Ok::<(), Refused>(())
+    /// ```
+    ///
     /// # Proved
     ///
     /// The builder gains one entry with this encoding, or the call returns an error and changes nothing. A full builder, with 2^32 - 1 entries, returns `TooLong`.
@@ -668,6 +680,18 @@ impl<A: Allocator> NameSection<A> {
     /// entries, or if a count or length would pass 4294967295, and
     /// [`Memory`](crate::fallible::Refused::Memory) if an allocation fails. The builder is then
     /// unchanged.
+    ///
+    /// # Examples
+    ///
+    /// ```
+    /// use dolzhytik::fallible::{Global, NameSection, Refused};
+    ///
+    /// let mut names = NameSection::new(Global);
+    /// names.raw(99, &[1, 2])?;
+    /// // The id, the size, the content.
+    /// assert_eq!(names.as_custom().bytes.as_slice(), [99, 2, 1, 2]);
+    /// # Ok::<(), Refused>(())
+    /// ```
     ///
     /// # Proved
     ///

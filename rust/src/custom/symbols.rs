@@ -248,6 +248,20 @@ impl<A: Allocator> SymbolTable<A> {
     /// [`Memory`](crate::fallible::Refused::Memory) if an allocation fails. The builder is then
     /// unchanged.
     ///
+    /// # Examples
+    ///
+    /// ```
+    /// use dolzhytik::fallible::{Encode, Global, Refused, SymbolTable};
+    ///
+    /// let mut symbols = SymbolTable::new(Global);
+    /// symbols.function(0, 5, Some("f"))?;
+    /// let mut bytes = Vec::new();
+    /// symbols.encode(&mut bytes)?;
+    /// // Subsection 8, size 6, one symbol: a function (0), no flags, the index 5, "f".
+    /// assert_eq!(bytes, [8, 6, 1, 0, 0, 5, 1, b'f']);
+    /// # Ok::<(), Refused>(())
+    /// ```
+    ///
     /// # Proved
     ///
     /// The builder gains one entry with this encoding, or the call returns an error and changes nothing. A full builder, with 2^32 - 1 entries, returns `TooLong`.

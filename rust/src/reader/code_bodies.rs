@@ -279,6 +279,22 @@ impl<'a, A: Allocator + Copy> CodeBody<'a, A> {
 
     /// Returns an error of the visitor of its instructions with the offset in the module.
     ///
+    /// # Examples
+    ///
+    /// ```
+    /// use dolzhytik::fallible::Global;
+    /// use dolzhytik::reader::{ReadError, ReadFault, Sections};
+    ///
+    /// // A code section: id 10, size 4, one body, of size 2: no locals, and FF, no opcode.
+    /// let module = b"\0asm\x01\0\0\0\x0A\x04\x01\x02\0\xFF";
+    /// let section = Sections::new(Global, module)?.next().unwrap()?;
+    /// let body = section.bodies()?.next().unwrap()?;
+    /// let (_, mut instructions) = body.instructions()?;
+    /// let error = instructions.next().map_err(|error| body.locate(error)).unwrap_err();
+    /// assert_eq!((error.cause, error.offset), (ReadFault::UnknownOpcode, 13));
+    /// # Ok::<(), ReadError>(())
+    /// ```
+    ///
     /// # Proved
     ///
     /// ```text

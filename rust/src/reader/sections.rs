@@ -326,6 +326,20 @@ impl<'a, A: Allocator + Copy> Section<'a, A> {
     ///
     /// An error but `Memory` means that the payload does not decode as the section's kind.
     ///
+    /// # Examples
+    ///
+    /// ```
+    /// use dolzhytik::fallible::Global;
+    /// use dolzhytik::reader::{ReadError, Sections};
+    ///
+    /// // A function section of two functions; a custom section.
+    /// let module = b"\0asm\x01\0\0\0\x03\x03\x02\x05\x06\0\x02\x01a";
+    /// let counts: Result<Vec<_>, _> =
+    ///     Sections::new(Global, module)?.map(|section| section?.count()).collect();
+    /// assert_eq!(counts?, [Some(2), None]);
+    /// # Ok::<(), ReadError>(())
+    /// ```
+    ///
     /// # Proved
     ///
     /// After `Ok`: `found`. After an error: `none`, the bytes as a whole are no such encoding, unless the cause is `Memory`; `within`, the offset of the error is in the payload.

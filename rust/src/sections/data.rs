@@ -244,6 +244,21 @@ impl<A: Allocator> DataSection<A> {
     /// [`Memory`](crate::fallible::Refused::Memory) if an allocation fails. The builder is then
     /// unchanged.
     ///
+    /// # Examples
+    ///
+    /// ```
+    /// use dolzhytik::fallible::{ConstExpr, DataSection, Global, Refused};
+    ///
+    /// let offset = ConstExpr::i32_const(Global, 8)?;
+    /// let mut section = DataSection::new(Global);
+    /// section.active(0, &offset, *b"hi")?;
+    /// section.active(1, &offset, *b"hi")?;
+    /// // In memory 0: 0. In another memory: 2, and its index. i32.const 8 and end. Two bytes.
+    /// assert_eq!(section.piece(0), Some(&[0, 0x41, 8, 0x0B, 2, b'h', b'i'][..]));
+    /// assert_eq!(section.piece(1), Some(&[2, 1, 0x41, 8, 0x0B, 2, b'h', b'i'][..]));
+    /// # Ok::<(), Refused>(())
+    /// ```
+    ///
     /// # Asks
     ///
     /// The iterator ends, and yields as many items as it reports.
@@ -290,6 +305,18 @@ impl<A: Allocator> DataSection<A> {
     /// entries, or if a count or length would pass 4294967295, and
     /// [`Memory`](crate::fallible::Refused::Memory) if an allocation fails. The builder is then
     /// unchanged.
+    ///
+    /// # Examples
+    ///
+    /// ```
+    /// use dolzhytik::fallible::{DataSection, Global, Refused};
+    ///
+    /// let mut section = DataSection::new(Global);
+    /// section.passive(*b"hi")?;
+    /// // Passive: 1. Two bytes.
+    /// assert_eq!(section.piece(0), Some(&[1, 2, b'h', b'i'][..]));
+    /// # Ok::<(), Refused>(())
+    /// ```
     ///
     /// # Asks
     ///

@@ -452,6 +452,20 @@ impl<A: Allocator> ElementSection<A> {
     /// [`Memory`](crate::fallible::Refused::Memory) if an allocation fails. The builder is then
     /// unchanged.
     ///
+    /// # Examples
+    ///
+    /// ```
+    /// use dolzhytik::fallible::{ConstExpr, CowSlice, ElementSection, Elements, Global};
+    /// use dolzhytik::fallible::Refused;
+    ///
+    /// let offset = ConstExpr::i32_const(Global, 3)?;
+    /// let mut section = ElementSection::new(Global);
+    /// section.active(None, &offset, Elements::Functions(CowSlice::Borrowed(&[5])))?;
+    /// // In table 0: 0. i32.const 3 and end. One function, 5.
+    /// assert_eq!(section.piece(0), Some(&[0, 0x41, 3, 0x0B, 1, 5][..]));
+    /// # Ok::<(), Refused>(())
+    /// ```
+    ///
     /// # Proved
     ///
     /// The builder gains one entry with this encoding, or the call returns an error and changes nothing. A full builder, with 2^32 - 1 entries, returns `TooLong`.

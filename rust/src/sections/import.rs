@@ -385,6 +385,18 @@ impl<A: Allocator> ImportSection<A> {
     /// [`Memory`](crate::fallible::Refused::Memory) if an allocation fails. The builder is then
     /// unchanged.
     ///
+    /// # Examples
+    ///
+    /// ```
+    /// use dolzhytik::fallible::{EntityType, Global, ImportSection, Refused};
+    ///
+    /// let mut imports = ImportSection::new(Global);
+    /// imports.import("m", "f", EntityType::Function(5))?;
+    /// // "m", "f", a function (00) of type 5.
+    /// assert_eq!(imports.piece(0), Some(&b"\x01m\x01f\0\x05"[..]));
+    /// # Ok::<(), Refused>(())
+    /// ```
+    ///
     /// # Proved
     ///
     /// The builder gains one entry with this encoding, or the call returns an error and changes nothing. A full builder, with 2^32 - 1 entries, returns `TooLong`.

@@ -198,6 +198,27 @@ impl<A: Allocator> TableSection<A> {
     /// [`Memory`](crate::fallible::Refused::Memory) if an allocation fails. The builder is then
     /// unchanged.
     ///
+    /// # Examples
+    ///
+    /// ```
+    /// use dolzhytik::fallible::{ConstExpr, Global, HeapType, RefType, Refused};
+    /// use dolzhytik::fallible::{TableSection, TableType};
+    ///
+    /// let table_type = TableType {
+    ///     element_type: RefType::FUNCREF,
+    ///     table64: false,
+    ///     minimum: 3,
+    ///     maximum: None,
+    ///     shared: false,
+    /// };
+    /// let mut tables = TableSection::new(Global);
+    /// tables.table_with_init(table_type, &ConstExpr::ref_null(Global, HeapType::FUNC)?)?;
+    /// // 40 00; funcref (70), no maximum (0), at least 3 elements; ref.null func (D0 70), end.
+    /// let expected = [0x40, 0x00, 0x70, 0, 3, 0xD0, 0x70, 0x0B];
+    /// assert_eq!(tables.piece(0), Some(&expected[..]));
+    /// # Ok::<(), Refused>(())
+    /// ```
+    ///
     /// # Proved
     ///
     /// The builder gains one entry with this encoding, or the call returns an error and changes nothing. A full builder, with 2^32 - 1 entries, returns `TooLong`.

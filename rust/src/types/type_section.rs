@@ -299,6 +299,18 @@ impl<'a, A: Allocator> CoreTypeEncoder<'a, A> {
     /// [`Memory`](crate::fallible::Refused::Memory) if an allocation fails. The builder is then
     /// unchanged.
     ///
+    /// # Examples
+    ///
+    /// ```
+    /// use dolzhytik::fallible::{Global, Refused, StorageType, TypeSection};
+    ///
+    /// let mut types = TypeSection::new(Global);
+    /// types.ty().array(&StorageType::I8, true)?;
+    /// // An array: 5E. i8 (78), mutable (01).
+    /// assert_eq!(types.piece(0), Some(&[0x5E, 0x78, 0x01][..]));
+    /// # Ok::<(), Refused>(())
+    /// ```
+    ///
     /// # Proved
     ///
     /// The builder gains one entry with this encoding, or the call returns an error and changes nothing. A full builder, with 2^32 - 1 entries, returns `TooLong`.
@@ -326,6 +338,18 @@ impl<'a, A: Allocator> CoreTypeEncoder<'a, A> {
     /// Returns [`TooLong`](crate::fallible::Refused::TooLong) if the builder has 4294967295
     /// entries, and [`Memory`](crate::fallible::Refused::Memory) if an allocation fails. The
     /// builder is then unchanged.
+    ///
+    /// # Examples
+    ///
+    /// ```
+    /// use dolzhytik::fallible::{ContType, Global, Refused, TypeSection};
+    ///
+    /// let mut types = TypeSection::new(Global);
+    /// types.ty().cont(&ContType(64))?;
+    /// // A continuation: 5D. The index is signed LEB128: 64 is C0 00.
+    /// assert_eq!(types.piece(0), Some(&[0x5D, 0xC0, 0x00][..]));
+    /// # Ok::<(), Refused>(())
+    /// ```
     ///
     /// # Proved
     ///
@@ -425,6 +449,18 @@ impl<'a, A: Allocator> CoreTypeEncoder<'a, A> {
     /// entries, or if a count or length would pass 4294967295, and
     /// [`Memory`](crate::fallible::Refused::Memory) if an allocation fails. The builder is then
     /// unchanged.
+    ///
+    /// # Examples
+    ///
+    /// ```
+    /// use dolzhytik::fallible::{FieldType, Global, Refused, StorageType, TypeSection};
+    ///
+    /// let mut types = TypeSection::new(Global);
+    /// types.ty().struct_([FieldType { element_type: StorageType::I16, mutable: false }])?;
+    /// // A structure: 5F. One field, i16 (77), immutable (00).
+    /// assert_eq!(types.piece(0), Some(&[0x5F, 1, 0x77, 0x00][..]));
+    /// # Ok::<(), Refused>(())
+    /// ```
     ///
     /// # Asks
     ///
