@@ -88,7 +88,7 @@ pub fn payloads()
     ensures custom { DecodesPayloads (pair name any_bytes) }
 {}
 
-/// The same with padded LEB128.
+/// States [`payloads`] with padded LEB128.
 #[tactic(auto, using(crate::proofs::Payloads::padded_payloads))]
 pub fn padded_payloads()
     ensures bytes { DecodesPayloadsPadded any_bytes }
@@ -127,7 +127,7 @@ pub fn constants()
     ensures host_reference { EXTERNREF ≡ record { nullable = true; heap_type = Abstract false Extern } }
 {}
 
-/// With padded LEB128, as the standard allows them, the formats are unambiguous too. A minimal
+/// With padded LEB128, as the standard allows it, the formats are unambiguous too. A minimal
 /// encoding is also an encoding in this mode.
 #[tactic(auto, using(crate::proofs::BaseLaws::padded_laws, crate::proofs::ValTypeLaws::padded_types))]
 pub fn padded()

@@ -58,7 +58,7 @@ pub fn payloads()
     ensures code_section { DecodesPayloads (vec (size_prefixed body)) }
 {}
 
-/// The same with padded LEB128.
+/// States [`payloads`] with padded LEB128.
 #[tactic(auto, using(wasm_base::proofs::Payloads::padded_payloads))]
 pub fn padded_payloads()
     ensures raw_code { DecodesPayloadsPadded (vec (size_prefixed any_bytes)) }
@@ -74,8 +74,8 @@ pub fn calls<A: Allocator>()
     ensures labels { GrowsByLabels }
 {}
 
-/// The same with padded LEB128: the content of a code section, a body and a constant expression,
-/// call by call.
+/// States [`calls`] with padded LEB128: the content of a code section, a body and a constant
+/// expression, call by call.
 #[tactic(auto, using(crate::proofs::Calls::padded_calls))]
 pub fn padded_calls<A: Allocator>()
     ensures code { ContainsMoreBodiesPadded }

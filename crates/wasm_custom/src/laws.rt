@@ -108,8 +108,8 @@ pub fn calls()
     ensures producer_fields_encoding { IsVectorOf producer_encoding IsProducer }
 {}
 
-/// The same with padded LEB128, for the sections of entries: an entry may be a padded encoding of
-/// its item.
+/// States [`calls`] with padded LEB128, for the sections of entries: an entry may be a padded
+/// encoding of its item.
 #[tactic(auto, using(crate::proofs::Calls::sections, wasm_base::proofs::SectionLaws::held_padded))]
 pub fn padded_calls()
     ensures names { ContainsMorePadded name_items }
@@ -137,7 +137,7 @@ pub fn payloads()
     ensures customs { DecodesPayloads (pair name any_bytes) }
 {}
 
-/// The same with padded LEB128.
+/// States [`payloads`] with padded LEB128.
 #[tactic(auto, using(wasm_base::proofs::Payloads::padded_payloads))]
 pub fn padded_payloads()
     ensures names { DecodesPayloadsPadded name_payload }

@@ -99,7 +99,7 @@ pub fn calls()
     ensures tags { ContainsMore tag_items }
 {}
 
-/// The same with padded LEB128: a record may be well-formed but for padded LEB128 in its
+/// States [`calls`] with padded LEB128: a record may be well-formed but for padded LEB128 in its
 /// expressions, and an entry may be a padded encoding of its item.
 #[tactic(auto, using(crate::proofs::Calls::sections, wasm_base::proofs::SectionLaws::held_padded))]
 pub fn padded_calls()
@@ -136,7 +136,7 @@ pub fn payloads()
     ensures numbers { DecodesPayloads u32_format }
 {}
 
-/// The same with padded LEB128.
+/// States [`payloads`] with padded LEB128.
 #[tactic(auto, using(wasm_base::proofs::Payloads::padded_payloads))]
 pub fn padded_payloads()
     ensures functions { DecodesPayloadsPadded (vec u32_format) }
@@ -185,17 +185,17 @@ pub fn plain_table(table: TableType)
     ensures { IsTable table }
 {}
 
-/// Proves the same of a memory type.
+/// Proves that the numbers of a memory type are in range.
 pub fn plain_memory(memory: MemoryType)
     ensures { IsMemory memory }
 {}
 
-/// Proves the same of a global type.
+/// Proves that an index in the value type of a global type is in range.
 pub fn plain_global(global: GlobalType)
     ensures { IsGlobal global }
 {}
 
-/// Proves the same of the type of an import, whatever its kind.
+/// Proves that the numbers of the type of an import are in range, whatever its kind.
 pub fn plain_entity(entity: EntityType)
     ensures { IsEntity entity }
 {}

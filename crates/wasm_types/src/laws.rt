@@ -53,7 +53,7 @@ pub fn payloads()
     ensures { DecodesPayloads (vec type_item) }
 {}
 
-/// The same with padded LEB128.
+/// States [`payloads`] with padded LEB128.
 #[tactic(auto, using(wasm_base::proofs::Payloads::padded_payloads))]
 pub fn padded_payloads()
     ensures { DecodesPayloadsPadded (vec type_item) }

@@ -98,7 +98,7 @@ pub fn frames() {}
 /// Definitions: [`DecodesPayloads`](crate::definitions::base::modules::DecodesPayloads), [`any_bytes`](crate::definitions::base::formats::any_bytes), [`u32_format`](crate::definitions::base::formats::u32), [`custom`](crate::definitions::base::formats::custom), [`pair`](crate::definitions::base::formats::pair), [`name`](crate::definitions::base::formats::name). [How to read clauses](crate::definitions).
 pub fn payloads() {}
 
-/// The same with padded LEB128.
+/// States [`payloads`] with padded LEB128.
 ///
 /// # Proved
 ///
@@ -166,7 +166,7 @@ pub fn standard_types() {}
 /// [How to read clauses](crate::definitions).
 pub fn constants() {}
 
-/// With padded LEB128, as the standard allows them, the formats are unambiguous too. A minimal
+/// With padded LEB128, as the standard allows it, the formats are unambiguous too. A minimal
 /// encoding is also an encoding in this mode.
 ///
 /// # Proved

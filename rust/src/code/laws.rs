@@ -81,7 +81,7 @@ pub fn offset<A: Allocator>() {}
 /// Definitions: [`raw_code`](crate::definitions::code::code::raw_code), [`DecodesPayloads`](crate::definitions::base::modules::DecodesPayloads), [`vec`](crate::definitions::base::formats::vec), [`size_prefixed`](crate::definitions::base::formats::size_prefixed), [`any_bytes`](crate::definitions::base::formats::any_bytes), [`code_section`](crate::definitions::code::code::code_section), [`body`](crate::definitions::code::bodies::body). [How to read clauses](crate::definitions).
 pub fn payloads() {}
 
-/// The same with padded LEB128.
+/// States [`payloads`] with padded LEB128.
 ///
 /// # Proved
 ///
@@ -111,8 +111,8 @@ pub fn padded_payloads() {}
 /// Definitions: [`ContainsMoreBodies`](crate::definitions::code::laws::ContainsMoreBodies), [`GrowsByEncoding`](crate::definitions::code::laws::GrowsByEncoding), [`GrowsByLabels`](crate::definitions::code::laws::GrowsByLabels). [How to read clauses](crate::definitions).
 pub fn calls<A: Allocator>() {}
 
-/// The same with padded LEB128: the content of a code section, a body and a constant expression,
-/// call by call.
+/// States [`calls`] with padded LEB128: the content of a code section, a body and a constant
+/// expression, call by call.
 ///
 /// # Proved
 ///

@@ -113,8 +113,8 @@ pub fn padded() {}
 /// Definitions: [`ContainsMore`](crate::definitions::base::laws::ContainsMore), [`name_items`](crate::definitions::custom::names::name_items), [`link_items`](crate::definitions::custom::linking::link_items), [`object_items`](crate::definitions::custom::linking::object_items), [`field_items`](crate::definitions::custom::producers::field_items), [`hints`](crate::definitions::custom::hints::hints), [`hint_items`](crate::definitions::custom::hints::hint_items), [`module_items`](crate::definitions::custom::core_dumps::module_items), [`instance_items`](crate::definitions::custom::core_dumps::instance_items), [`frame_items`](crate::definitions::custom::core_stacks::frame_items), [`ListMore`](crate::definitions::custom::lists::ListMore), [`naming_encoding`](crate::definitions::custom::names::naming_encoding), [`IsNaming`](crate::definitions::custom::names::IsNaming), [`inside_encoding`](crate::definitions::custom::names::inside_encoding), [`IsInside`](crate::definitions::custom::names::IsInside), [`symbol_encoding`](crate::definitions::custom::symbols::symbol_encoding), [`IsGivenSymbol`](crate::definitions::custom::symbols::IsGivenSymbol), [`IsFullSymbol`](crate::definitions::custom::symbols::IsFullSymbol), [`segment_encoding`](crate::definitions::custom::segments::segment_encoding), [`IsSegment`](crate::definitions::custom::segments::IsSegment), [`init_encoding`](crate::definitions::custom::init_functions::init_encoding), [`IsInit`](crate::definitions::custom::init_functions::IsInit), [`comdat_symbol_encoding`](crate::definitions::custom::comdats::comdat_symbol_encoding), [`IsComdatSymbol`](crate::definitions::custom::comdats::IsComdatSymbol), [`comdat_encoding`](crate::definitions::custom::comdats::comdat_encoding), [`IsComdat`](crate::definitions::custom::comdats::IsComdat), [`producer_encoding`](crate::definitions::custom::producers::producer_encoding), [`IsProducer`](crate::definitions::custom::producers::IsProducer), [`IsVectorOf`](crate::definitions::custom::lists::IsVectorOf). [How to read clauses](crate::definitions).
 pub fn calls() {}
 
-/// The same with padded LEB128, for the sections of entries: an entry may be a padded encoding of
-/// its item.
+/// States [`calls`] with padded LEB128, for the sections of entries: an entry may be a padded
+/// encoding of its item.
 ///
 /// # Proved
 ///
@@ -156,7 +156,7 @@ pub fn padded_calls() {}
 /// Definitions: [`DecodesPayloads`](crate::definitions::base::modules::DecodesPayloads), [`name_payload`](crate::definitions::custom::names::name_payload), [`linking_payload`](crate::definitions::custom::linking::linking_payload), [`object_payload`](crate::definitions::custom::linking::object_payload), [`producers_payload`](crate::definitions::custom::producers::producers_payload), [`hints`](crate::definitions::custom::hints::hints), [`hints_payload`](crate::definitions::custom::hints::hints_payload), [`modules_payload`](crate::definitions::custom::core_dumps::modules_payload), [`instances_payload`](crate::definitions::custom::core_dumps::instances_payload), [`core_payload`](crate::definitions::custom::core_dumps::core_payload), [`stack_payload`](crate::definitions::custom::core_stacks::stack_payload), [`pair`](crate::definitions::base::formats::pair), [`name`](crate::definitions::base::formats::name), [`any_bytes`](crate::definitions::base::formats::any_bytes). [How to read clauses](crate::definitions).
 pub fn payloads() {}
 
-/// The same with padded LEB128.
+/// States [`payloads`] with padded LEB128.
 ///
 /// # Proved
 ///

@@ -116,7 +116,7 @@ pub fn plain_instruction<A: Allocator>(instruction: &Instruction<'_, A>) {
     arguments_ranged(instruction);
 }
 
-/// The same holds for each instruction of a list.
+/// Each instruction of a list is well-formed, under the conditions of [`plain_instruction`].
 ///
 /// # Proved
 ///

@@ -109,7 +109,7 @@ pub fn padded() {}
 /// Definitions: [`ContainsMore`](crate::definitions::base::laws::ContainsMore), [`function_items`](crate::definitions::sections::functions::function_items), [`table_items`](crate::definitions::sections::tables::table_items), [`memory_items`](crate::definitions::sections::memories::memory_items), [`global_items`](crate::definitions::sections::globals::global_items), [`export_items`](crate::definitions::sections::exports::export_items), [`element_items`](crate::definitions::sections::elements::element_items), [`data_items`](crate::definitions::sections::data_segments::data_items), [`import_items`](crate::definitions::sections::imports::import_items), [`tag_items`](crate::definitions::sections::tags::tag_items). [How to read clauses](crate::definitions).
 pub fn calls() {}
 
-/// The same with padded LEB128: a record may be well-formed but for padded LEB128 in its
+/// States [`calls`] with padded LEB128: a record may be well-formed but for padded LEB128 in its
 /// expressions, and an entry may be a padded encoding of its item.
 ///
 /// # Proved
@@ -167,7 +167,7 @@ pub fn given_elements<A: Allocator>() {}
 /// Definitions: [`DecodesPayloads`](crate::definitions::base::modules::DecodesPayloads), [`vec`](crate::definitions::base::formats::vec), [`u32_format`](crate::definitions::base::formats::u32), [`table_item`](crate::definitions::sections::tables::table_item), [`memory_type`](crate::definitions::sections::memories::memory_type), [`global_item`](crate::definitions::sections::globals::global_item), [`export`](crate::definitions::sections::exports::export), [`element`](crate::definitions::sections::elements::element), [`data_item`](crate::definitions::sections::data_segments::data_item), [`import_format`](crate::definitions::sections::imports::import_format), [`tag_type`](crate::definitions::sections::tags::tag_type). [How to read clauses](crate::definitions).
 pub fn payloads() {}
 
-/// The same with padded LEB128.
+/// States [`payloads`] with padded LEB128.
 ///
 /// # Proved
 ///
@@ -256,7 +256,7 @@ pub fn plain_exports(exports: &[Export<'_>]) {
 /// Definitions: [`IsTable`](crate::definitions::sections::tables::IsTable). [How to read clauses](crate::definitions).
 pub fn plain_table(table: TableType) {}
 
-/// Proves the same of a memory type.
+/// Proves that the numbers of a memory type are in range.
 ///
 /// # Proved
 ///
@@ -269,7 +269,7 @@ pub fn plain_table(table: TableType) {}
 /// Definitions: [`IsMemory`](crate::definitions::sections::memories::IsMemory). [How to read clauses](crate::definitions).
 pub fn plain_memory(memory: MemoryType) {}
 
-/// Proves the same of a global type.
+/// Proves that an index in the value type of a global type is in range.
 ///
 /// # Proved
 ///
@@ -282,7 +282,7 @@ pub fn plain_memory(memory: MemoryType) {}
 /// Definitions: [`IsGlobal`](crate::definitions::sections::globals::IsGlobal). [How to read clauses](crate::definitions).
 pub fn plain_global(global: GlobalType) {}
 
-/// Proves the same of the type of an import, whatever its kind.
+/// Proves that the numbers of the type of an import are in range, whatever its kind.
 ///
 /// # Proved
 ///

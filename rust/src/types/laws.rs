@@ -92,7 +92,7 @@ pub fn padded_calls() {}
 /// Definitions: [`DecodesPayloads`](crate::definitions::base::modules::DecodesPayloads), [`vec`](crate::definitions::base::formats::vec), [`type_item`](crate::definitions::types::rec_types::type_item). [How to read clauses](crate::definitions).
 pub fn payloads() {}
 
-/// The same with padded LEB128.
+/// States [`payloads`] with padded LEB128.
 ///
 /// # Proved
 ///
