@@ -1880,7 +1880,7 @@ impl InstructionSink<'_> {
         self.emit(&(0xE1_u8, argument_index, result_index))
     }
 
-    /// Appends `suspend` (opcode 0xE2), a control instruction of the stack switching proposal that suspends the continuation with a tag.
+    /// Appends `suspend` (opcode 0xE2), a control instruction of the stack switching proposal that suspends the current continuation with a tag.
     ///
     /// [`Instruction::Suspend`](super::Instruction::Suspend) is the same instruction as a value.
     #[inline]
@@ -2014,7 +2014,7 @@ impl InstructionSink<'_> {
         self.emit(&([0xFB, 0x05], struct_type_index, field_index))
     }
 
-    /// Appends `array.new` (opcode 0xFB 6), an aggregate instruction that makes an array of one value.
+    /// Appends `array.new` (opcode 0xFB 6), an aggregate instruction that makes an array with one value in each element.
     ///
     /// [`Instruction::ArrayNew`](super::Instruction::ArrayNew) is the same instruction as a value.
     #[doc(alias = "array.new")]
@@ -2023,7 +2023,7 @@ impl InstructionSink<'_> {
         self.emit(&([0xFB, 0x06], type_index))
     }
 
-    /// Appends `array.new_default` (opcode 0xFB 7), an aggregate instruction that makes an array of the default value.
+    /// Appends `array.new_default` (opcode 0xFB 7), an aggregate instruction that makes an array of default values.
     ///
     /// [`Instruction::ArrayNewDefault`](super::Instruction::ArrayNewDefault) is the same instruction as a value.
     #[doc(alias = "array.new_default")]
@@ -2283,7 +2283,7 @@ impl InstructionSink<'_> {
         self.emit(&([0xFB, 0x22], type_index))
     }
 
-    /// Appends `ref.cast_desc_eq (ref ht)` (opcode 0xFB 35), an instruction of the custom descriptors proposal that casts a reference to the type of a descriptor, or traps.
+    /// Appends `ref.cast_desc_eq (ref ht)` (opcode 0xFB 35), an instruction of the custom descriptors proposal that casts a reference that has the given descriptor, or traps.
     ///
     /// [`Instruction::RefCastDescEqNonNull`](super::Instruction::RefCastDescEqNonNull) is the same instruction as a value.
     #[doc(alias = "ref.cast_desc_eq")]
@@ -2292,7 +2292,7 @@ impl InstructionSink<'_> {
         self.emit(&([0xFB, 0x23], heap_type))
     }
 
-    /// Appends `ref.cast_desc_eq (ref null ht)` (opcode 0xFB 36), an instruction of the custom descriptors proposal that casts a reference to the type of a descriptor, or traps.
+    /// Appends `ref.cast_desc_eq (ref null ht)` (opcode 0xFB 36), an instruction of the custom descriptors proposal that casts a reference that has the given descriptor, or traps.
     ///
     /// [`Instruction::RefCastDescEqNullable`](super::Instruction::RefCastDescEqNullable) is the same instruction as a value.
     #[doc(alias = "ref.cast_desc_eq")]
@@ -2301,7 +2301,7 @@ impl InstructionSink<'_> {
         self.emit(&([0xFB, 0x24], heap_type))
     }
 
-    /// Appends `br_on_cast_desc_eq` (opcode 0xFB 37), an instruction of the custom descriptors proposal that branches to a label if a reference has a descriptor.
+    /// Appends `br_on_cast_desc_eq` (opcode 0xFB 37), an instruction of the custom descriptors proposal that branches to a label if a reference has the given descriptor.
     ///
     /// [`Instruction::BrOnCastDescEq`](super::Instruction::BrOnCastDescEq) is the same instruction as a value.
     #[inline]
@@ -2309,7 +2309,7 @@ impl InstructionSink<'_> {
         self.emit::<insn::Instruction>(&insn::Instruction::BrOnCastDescEq { relative_depth, from_ref_type, to_ref_type })
     }
 
-    /// Appends `br_on_cast_desc_eq_fail` (opcode 0xFB 38), an instruction of the custom descriptors proposal that branches to a label if a reference does not have a descriptor.
+    /// Appends `br_on_cast_desc_eq_fail` (opcode 0xFB 38), an instruction of the custom descriptors proposal that branches to a label if a reference does not have the given descriptor.
     ///
     /// [`Instruction::BrOnCastDescEqFail`](super::Instruction::BrOnCastDescEqFail) is the same instruction as a value.
     #[inline]

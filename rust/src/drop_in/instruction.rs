@@ -838,7 +838,7 @@ pub enum Instruction<'a> {
         /// The index of the type of the resulting continuation.
         result_index: u32,
     },
-    /// `suspend` (opcode 0xE2), a control instruction of the stack switching proposal that suspends the continuation with a tag.
+    /// `suspend` (opcode 0xE2), a control instruction of the stack switching proposal that suspends the current continuation with a tag.
     /// [`InstructionSink::suspend`](super::InstructionSink::suspend) appends it, with the immediate `tag_index`.
     Suspend(u32),
     /// `resume` (opcode 0xE3), a control instruction of the stack switching proposal that resumes a continuation.
@@ -919,11 +919,11 @@ pub enum Instruction<'a> {
         /// The index of the field.
         field_index: u32,
     },
-    /// `array.new` (opcode 0xFB 6), an aggregate instruction that makes an array of one value.
+    /// `array.new` (opcode 0xFB 6), an aggregate instruction that makes an array with one value in each element.
     /// [`InstructionSink::array_new`](super::InstructionSink::array_new) appends it, with the immediate `type_index`.
     #[doc(alias = "array.new")]
     ArrayNew(u32),
-    /// `array.new_default` (opcode 0xFB 7), an aggregate instruction that makes an array of the default value.
+    /// `array.new_default` (opcode 0xFB 7), an aggregate instruction that makes an array of default values.
     /// [`InstructionSink::array_new_default`](super::InstructionSink::array_new_default) appends it, with the immediate `type_index`.
     #[doc(alias = "array.new_default")]
     ArrayNewDefault(u32),
@@ -1073,15 +1073,15 @@ pub enum Instruction<'a> {
     /// [`InstructionSink::ref_get_desc`](super::InstructionSink::ref_get_desc) appends it, with the immediate `type_index`.
     #[doc(alias = "ref.get_desc")]
     RefGetDesc(u32),
-    /// `ref.cast_desc_eq (ref ht)` (opcode 0xFB 35), an instruction of the custom descriptors proposal that casts a reference to the type of a descriptor, or traps.
+    /// `ref.cast_desc_eq (ref ht)` (opcode 0xFB 35), an instruction of the custom descriptors proposal that casts a reference that has the given descriptor, or traps.
     /// [`InstructionSink::ref_cast_desc_eq_non_null`](super::InstructionSink::ref_cast_desc_eq_non_null) appends it, with the immediate `heap_type`.
     #[doc(alias = "ref.cast_desc_eq")]
     RefCastDescEqNonNull(HeapType),
-    /// `ref.cast_desc_eq (ref null ht)` (opcode 0xFB 36), an instruction of the custom descriptors proposal that casts a reference to the type of a descriptor, or traps.
+    /// `ref.cast_desc_eq (ref null ht)` (opcode 0xFB 36), an instruction of the custom descriptors proposal that casts a reference that has the given descriptor, or traps.
     /// [`InstructionSink::ref_cast_desc_eq_nullable`](super::InstructionSink::ref_cast_desc_eq_nullable) appends it, with the immediate `heap_type`.
     #[doc(alias = "ref.cast_desc_eq")]
     RefCastDescEqNullable(HeapType),
-    /// `br_on_cast_desc_eq` (opcode 0xFB 37), an instruction of the custom descriptors proposal that branches to a label if a reference has a descriptor.
+    /// `br_on_cast_desc_eq` (opcode 0xFB 37), an instruction of the custom descriptors proposal that branches to a label if a reference has the given descriptor.
     /// [`InstructionSink::br_on_cast_desc_eq`](super::InstructionSink::br_on_cast_desc_eq) appends it.
     BrOnCastDescEq {
         /// The label of the branch.
@@ -1091,7 +1091,7 @@ pub enum Instruction<'a> {
         /// The type that the operand is cast to.
         to_ref_type: RefType,
     },
-    /// `br_on_cast_desc_eq_fail` (opcode 0xFB 38), an instruction of the custom descriptors proposal that branches to a label if a reference does not have a descriptor.
+    /// `br_on_cast_desc_eq_fail` (opcode 0xFB 38), an instruction of the custom descriptors proposal that branches to a label if a reference does not have the given descriptor.
     /// [`InstructionSink::br_on_cast_desc_eq_fail`](super::InstructionSink::br_on_cast_desc_eq_fail) appends it.
     BrOnCastDescEqFail {
         /// The label of the branch.

@@ -225,7 +225,7 @@ pub enum Instruction<'a, A: Allocator = Global> {
         result_index: u32,
     },
     /// `suspend` (opcode 0xE2), a control instruction of the stack switching proposal that suspends
-    /// the continuation with a tag.
+    /// the current continuation with a tag.
     Suspend(u32),
     /// `resume` (opcode 0xE3), a control instruction of the stack switching proposal that resumes a
     /// continuation.
@@ -297,10 +297,11 @@ pub enum Instruction<'a, A: Allocator = Global> {
         /// The index of the field.
         field_index: u32,
     },
-    /// `array.new` (opcode 0xFB 6), an aggregate instruction that makes an array of one value.
+    /// `array.new` (opcode 0xFB 6), an aggregate instruction that makes an array with one value in
+    /// each element.
     ArrayNew(u32),
-    /// `array.new_default` (opcode 0xFB 7), an aggregate instruction that makes an array of the
-    /// default value.
+    /// `array.new_default` (opcode 0xFB 7), an aggregate instruction that makes an array of default
+    /// values.
     ArrayNewDefault(u32),
     /// `array.new_fixed` (opcode 0xFB 8), an aggregate instruction that makes an array of operands.
     ArrayNewFixed {
@@ -404,13 +405,13 @@ pub enum Instruction<'a, A: Allocator = Global> {
     /// reads the descriptor of a structure.
     RefGetDesc(u32),
     /// `ref.cast_desc_eq (ref ht)` (opcode 0xFB 35), an instruction of the custom descriptors
-    /// proposal that casts a reference to the type of a descriptor, or traps.
+    /// proposal that casts a reference that has the given descriptor, or traps.
     RefCastDescEqNonNull(HeapType),
     /// `ref.cast_desc_eq (ref null ht)` (opcode 0xFB 36), an instruction of the custom descriptors
-    /// proposal that casts a reference to the type of a descriptor, or traps.
+    /// proposal that casts a reference that has the given descriptor, or traps.
     RefCastDescEqNullable(HeapType),
     /// `br_on_cast_desc_eq` (opcode 0xFB 37), an instruction of the custom descriptors proposal
-    /// that branches to a label if a reference has a descriptor.
+    /// that branches to a label if a reference has the given descriptor.
     BrOnCastDescEq {
         /// The label of the branch.
         relative_depth: u32,
@@ -420,7 +421,7 @@ pub enum Instruction<'a, A: Allocator = Global> {
         to_ref_type: RefType,
     },
     /// `br_on_cast_desc_eq_fail` (opcode 0xFB 38), an instruction of the custom descriptors
-    /// proposal that branches to a label if a reference does not have a descriptor.
+    /// proposal that branches to a label if a reference does not have the given descriptor.
     BrOnCastDescEqFail {
         /// The label of the branch.
         relative_depth: u32,

@@ -295,9 +295,8 @@ impl<'a, A: Allocator> CoreTypeEncoder<'a, A> {
     /// # Errors
     ///
     /// Returns [`TooLong`](crate::fallible::Refused::TooLong) if the builder has 4294967295
-    /// entries, or if a count or length would pass 4294967295, and
-    /// [`Memory`](crate::fallible::Refused::Memory) if an allocation fails. The builder is then
-    /// unchanged.
+    /// entries, and [`Memory`](crate::fallible::Refused::Memory) if an allocation fails. The
+    /// builder is then unchanged.
     ///
     /// # Examples
     ///

@@ -299,6 +299,18 @@ def has_list(source: Source, item: Item) -> bool:
     return bool({'[', 'str', 'Instruction', 'I', 'V'} & set(words))
 
 
+def arguments(term: str) -> list[str]:
+    """Returns the arguments of a definition."""
+    found, depth = [''], 0
+    for character in term.partition(' ')[2]:
+        depth += {'(': 1, ')': -1}.get(character, 0)
+        if character == ' ' and depth == 0:
+            found.append('')
+        else:
+            found[-1] += character
+    return found
+
+
 def errors_of(terms: list[str], has_a_list: bool) -> str:
     """Returns the text of `# Errors` for the terms of a call's clauses."""
     if not terms:
@@ -306,7 +318,7 @@ def errors_of(terms: list[str], has_a_list: bool) -> str:
     unchanged = next((said for form, said in UNCHANGED for term in terms if re.match(form, term)), '')
     if any(re.fullmatch(r'result ≢ Err (?:\w+\.)?TooLong', term) for term in terms):
         why = ''
-    elif any(re.match(r'Adds \S+ ⊤ |Adds \([^()]*\) ⊤ ', term) for term in terms):
+    elif any(term.startswith('Adds ') and arguments(term)[1] == '⊤' for term in terms):
         why = FULL
     elif any(re.match(r'Adds', term) and not term.startswith('AddsInstruction') for term in terms):
         why = f'{FULL}, or {LONG}'
