@@ -8,8 +8,8 @@ ghost use Rattle.wasm_base.specs.declared.fault.ReadFault.TheVariants.{Memory, U
 use std::alloc::Allocator;
 use wasm_base::{DecodeError, Grammar, ReadFault, Readable};
 
-/// Returns the error of a name that is not `name`, and which `rest` follows. Its place is the last
-/// byte of the size prefix if the sizes differ, and otherwise the first byte that differs.
+/// Returns the error of a name that is not `name`, and which `rest` follows. It is at the last byte
+/// of the size prefix if the sizes differ, and otherwise at the first byte that differs.
 fn other_name(name: &str, known: &str, rest: &[u8]) -> DecodeError
     ensures { result.cause ≡ UnknownTag }
 {

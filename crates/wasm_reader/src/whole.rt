@@ -75,7 +75,7 @@ pub enum ModuleFault {
     Offsets { number: usize },
 }
 
-/// Returns the text of a fault.
+/// Returns the text of a cause.
 fn words(fault: &ReadFault) -> &'static str {
     text_of(fault)
 }

@@ -4,8 +4,8 @@
 use crate::alloc::Allocator;
 use crate::base::{DecodeError, Grammar, ReadFault, Readable};
 
-/// Returns the error of a name that is not `name`, and which `rest` follows. Its place is the last
-/// byte of the size prefix if the sizes differ, and otherwise the first byte that differs.
+/// Returns the error of a name that is not `name`, and which `rest` follows. It is at the last byte
+/// of the size prefix if the sizes differ, and otherwise at the first byte that differs.
 ///
 /// # Proved
 ///

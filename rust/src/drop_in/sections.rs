@@ -135,7 +135,7 @@ sections! {
     /// assert_eq!(bytes, [6, 1, 0x7F, 1, 0x41, 0x2A, 0x0B]);
     /// ```
     GlobalSection of Global
-    /// The export section: the items that a module gives to its host, by name.
+    /// The export section: the items that a module exports to its host, by name.
     ///
     /// Core specification, Modules, Export Section.
     ///

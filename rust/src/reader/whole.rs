@@ -76,7 +76,7 @@ pub enum ModuleFault {
         number: usize },
 }
 
-/// Returns the text of a fault.
+/// Returns the text of a cause.
 fn words(fault: &ReadFault) -> &'static str {
     text_of(fault)
 }

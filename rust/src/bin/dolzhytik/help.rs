@@ -312,7 +312,7 @@ impl Explained {
     }
 }
 
-/// Appends a name, and what it stands for in lines beside it.
+/// Appends a name, and its description in lines beside it.
 fn append(text: &mut String, column: usize, name: &str, says: &str) {
     let mut name = name;
     for line in says.lines() {
