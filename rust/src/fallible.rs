@@ -63,7 +63,8 @@
 //!
 //! This module and [`reader`](crate::reader) are the repository's libraries with the contracts erased. Written by hand
 //! are only [`Allocator`], [`Vec`], [`String`], [`Sink`], their impls and errors, and [`hex`]. Every other function is
-//! proved to be safe, to return, and to keep what its page has under **Proved**, word for word. Trusted are the prover,
+//! proved to be safe, to return, and to keep the clauses that its page has under **Proved**, word for word. The words
+//! above clauses are a summary. Trusted are the prover,
 //! the definitions that clauses name, `tools/to-rust`, which erases the contracts, the code written by hand, and rustc
 //! with its library.
 //!
