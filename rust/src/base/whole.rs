@@ -57,18 +57,21 @@ pub fn read_whole<'a, T: Readable<'a, A, G>, A: Allocator + Copy, G: Grammar>(
 /// Any error but `Memory` means that the bytes as a whole encode no such value.
 ///
 /// [`left`](crate::reader::DecodeError::left) of an error counts the bytes of `rest` too, as
-/// tests show.
+/// the example shows.
 ///
 /// # Examples
 ///
 /// ```
 /// use dolzhytik::fallible::Global;
-/// use dolzhytik::reader::{DecodeError, Padded, read_before};
+/// use dolzhytik::reader::{DecodeError, Padded, ReadFault, read_before};
 ///
 /// // The first three bytes are a name.
 /// let (sized, rest) = b"\x02ab\xFF".split_at(3);
 /// let name = read_before::<&str, Global, Padded>(sized, rest, Global)?;
 /// assert_eq!(name, "ab");
+/// // A name of three bytes, of which two are there: the error is just before `rest`.
+/// let error = read_before::<&str, Global, Padded>(b"\x03ab", rest, Global).unwrap_err();
+/// assert_eq!((error.cause(), error.left()), (ReadFault::Ended, 1));
 /// # Ok::<(), DecodeError>(())
 /// ```
 ///

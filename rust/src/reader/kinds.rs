@@ -193,14 +193,14 @@ pub enum Items<'a, A: Allocator = Global> {
         /// The frames.
         frames: Vec<CoreFrame<A>, A>,
     },
-    /// A custom section of another name.
+    /// A custom section as its name and data, such as one whose name no kind has.
     Custom {
         /// The name.
         name: &'a str,
         /// The data.
         bytes: &'a [u8],
     },
-    /// The payload of a section of an id above 13.
+    /// A payload as bytes, such as that of a section whose id is above 13.
     Raw(&'a [u8]),
     /// Types and recursion groups.
     Types(Vec<TypeEntry<A>, A>),

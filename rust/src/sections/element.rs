@@ -125,7 +125,7 @@ pub enum ElementMode<'a, A: Allocator = Global> {
 /// ```
 #[derive(Debug)]
 pub struct ElementSegment<'a, A: Allocator = Global> {
-    /// When the elements are used.
+    /// Whether instantiation copies the elements into a table.
     pub mode: ElementMode<'a, A>,
     /// The elements.
     pub elements: Elements<'a, A>,

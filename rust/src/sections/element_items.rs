@@ -157,7 +157,7 @@ pub enum ElementList<A: Allocator = Global> {
 /// ```
 #[derive(Debug)]
 pub struct ElementItem<A: Allocator = Global> {
-    /// When the elements are used.
+    /// Whether instantiation copies the elements into a table.
     pub mode: ElementItemMode<A>,
     /// The elements.
     pub elements: ElementList<A>,

@@ -35,7 +35,7 @@ pub struct TypeSection<A: Allocator = Global> {
 
 /// The kind of a type section's items: subtypes and recursion groups.
 ///
-/// It is the kind of [`TypeSection`](crate::fallible::TypeSection), of which only proofs speak.
+/// It is the kind of [`TypeSection`](crate::fallible::TypeSection). Only contracts name it.
 ///
 /// # Examples
 ///

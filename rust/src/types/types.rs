@@ -196,7 +196,7 @@ pub enum CompositeInnerType<A: Allocator = Global> {
 /// ```
 #[derive(Debug)]
 pub struct CompositeType<A: Allocator = Global> {
-    /// The type without these.
+    /// The function, array, structure or continuation type.
     pub inner: CompositeInnerType<A>,
     /// Whether threads share its values.
     pub shared: bool,
