@@ -53,7 +53,7 @@ pub trait Encode {
     ///
     /// # Proved
     ///
-    /// After `Ok`: `read`. In any case: `appends`; `too_many`. `appends`: The call appends the encoding, or returns an error and leaves the bytes as they were. If the value fits, the call never returns `TooLong`, and it succeeds within the spare capacity.
+    /// After `Ok`: `read`, the encoding decodes as the impl defines by `decoding`. In any case: `appends`; `too_many`, an `overlong` value gives `TooLong`. `appends`: The call appends the encoding, or returns an error and leaves the bytes as they were. If the value fits, the call never returns `TooLong`, and it succeeds within the spare capacity.
     ///
     /// ```text
     /// ensures appends { Appends (encoding self.now)

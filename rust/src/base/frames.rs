@@ -34,7 +34,7 @@ use crate::alloc::Allocator;
 ///
 /// # Proved
 ///
-/// After `Ok`: `ok`; `reserved`; `was_encodable`. After an error: `err`, the bytes of the sink are unchanged. In any case: `too_long`; `too_many`, more than 4294967295 give `TooLong`; `spare`; `capacity`, the capacity does not shrink.
+/// After `Ok`: `ok`, the sink gains the size; `reserved`, the sink has spare capacity for the payload; `was_encodable`, the size is at most 4294967295. After an error: `err`, the bytes of the sink are unchanged. In any case: `too_long`, a size of at most 4294967295 never gives `TooLong`; `too_many`, more than 4294967295 give `TooLong`; `spare`; `capacity`, the capacity does not shrink.
 ///
 /// ```text
 /// ensures ok { OnOk result (sink.new.items ≡ sink.old.items ++ unsigned_encoding size) }

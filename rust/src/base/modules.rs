@@ -34,7 +34,7 @@ impl<A: Allocator> Module<A> {
     ///
     /// # Proved
     ///
-    /// After `Ok`: `bytes`; `read`. In any case: `memory`, no error is `TooLong`. `read`: As `DecodesUniquely`, for a format that takes all of the bytes: `encoding` as a whole decodes to `x` alone.
+    /// After `Ok`: `bytes`, the module is the header; `read`. In any case: `memory`, no error is `TooLong`. `read`: As `DecodesUniquely`, for a format that takes all of the bytes: `encoding` as a whole decodes to `x` alone.
     ///
     /// ```text
     /// ensures bytes { IfOk result (λ m. m ≡ header) }
@@ -58,7 +58,7 @@ impl<A: Allocator> Module<A> {
     ///
     /// # Proved
     ///
-    /// After `Ok`: `ok`; `read`; `section`; `was_encodable`. After an error: `err`, the value is unchanged. In any case: `too_long`; `too_many`. `read`: Composition of modules: if the old bytes decode to some sections alone, the new bytes decode to these and one more. That section has this id, and any payload with the property.
+    /// After `Ok`: `ok`, the module gains the id and the encoding of the section; `read`; `section`, the encoding decodes as the impl defines by `decoding`; `was_encodable`, each count and length fits 32 bits. After an error: `err`, the value is unchanged. In any case: `too_long`, a section whose counts and lengths fit never gives `TooLong`; `too_many`, an `overlong` section gives `TooLong`. `read`: Composition of modules: if the old bytes decode to some sections alone, the new bytes decode to these and one more. That section has this id, and any payload with the property.
     ///
     /// ```text
     /// ensures ok { OnOk result

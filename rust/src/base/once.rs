@@ -115,7 +115,7 @@ pub struct BytesOf<I> {
 ///
 /// # Proved
 ///
-/// After `Ok`: `ok`. After an error: `refused`. In any case: `too_long`; `too_many`, more than 4294967295 give `TooLong`.
+/// After `Ok`: `ok`. After an error: `refused`, the error is `TooLong`. In any case: `too_long`; `too_many`, more than 4294967295 give `TooLong`.
 ///
 /// ```text
 /// ensures ok { IfOk result
@@ -155,7 +155,7 @@ fn count_of<I: ExactSizeIterator>(items: &I) -> Result<u32> {
 ///
 /// # Proved
 ///
-/// After `Ok`: `ok`. After an error: `refused`. In any case: `too_long`; `too_many`.
+/// After `Ok`: `ok`. After an error: `refused`, the error is `TooLong`. In any case: `too_long`; `too_many`.
 ///
 /// ```text
 /// ensures ok { IfOk result
@@ -198,7 +198,7 @@ where
 ///
 /// # Proved
 ///
-/// After `Ok`: `ok`. After an error: `refused`. In any case: `too_long`; `too_many`.
+/// After `Ok`: `ok`. After an error: `refused`, the error is `TooLong`. In any case: `too_long`; `too_many`.
 ///
 /// ```text
 /// ensures ok { IfOk result

@@ -69,7 +69,7 @@ pub trait Section: Encode {
     ///
     /// # Proved
     ///
-    /// After `Ok`: `read`. In any case: `appends`; `too_many`. `appends`: The call appends the encoding, or returns an error and leaves the bytes as they were. If the value fits, the call never returns `TooLong`, and it succeeds within the spare capacity.
+    /// After `Ok`: `read`, the encoding decodes as the impl defines by `decoding`. In any case: `appends`; `too_many`, an `overlong` section gives `TooLong`. `appends`: The call appends the encoding, or returns an error and leaves the bytes as they were. If the value fits, the call never returns `TooLong`, and it succeeds within the spare capacity.
     ///
     /// ```text
     /// ensures appends { Appends (id_of self.now ∷ Self.encoding self.now)

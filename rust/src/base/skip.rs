@@ -30,7 +30,7 @@ pub trait Skip<'a, A: Allocator + Copy, G: Grammar>: Layout {
     ///
     /// # Proved
     ///
-    /// After `Ok`: `found`. After an error: `none`, the bytes do not begin with such an encoding, unless the cause is `Memory`.
+    /// After `Ok`: `found`, an encoding is at the front, and the returned bytes follow it. After an error: `none`, the bytes do not begin with such an encoding, unless the cause is `Memory`.
     ///
     /// ```text
     /// ensures found { IfOk result
@@ -104,7 +104,7 @@ impl<'a, A: Allocator + Copy, G: Grammar, T: Readable<'a, A, G>> Skip<'a, A, G> 
 ///
 /// # Proved
 ///
-/// After `Ok`: `found`. After an error: `none`, the bytes do not begin with such an encoding, unless the cause is `Memory`.
+/// After `Ok`: `found`, a vector of this number of members is at the front, and the returned bytes follow it. After an error: `none`, the bytes do not begin with such an encoding, unless the cause is `Memory`.
 ///
 /// ```text
 /// ensures found { IfOk result

@@ -31,7 +31,7 @@ const BYTES_OF_ONE: usize = 4;
 ///
 /// # Proved
 ///
-/// After `Ok`: `found`. After an error: `none`, the bytes as a whole are no such encoding, unless the cause is `Memory`.
+/// After `Ok`: `found`, the bytes as a whole encode the instructions. After an error: `none`, the bytes as a whole are no such encoding, unless the cause is `Memory`.
 ///
 /// ```text
 /// ensures found { IfOk result
@@ -187,7 +187,7 @@ impl<A: Allocator> Shorten for Body<A> {
 ///
 /// # Proved
 ///
-/// After `Ok`: `found`. After an error: `none`, the bytes as a whole are no such encoding, unless the cause is `Memory`. In any case: `front`. `front`: The new bytes begin with the old ones.
+/// After `Ok`: `found`, the bytes encode a body, and the sink gains its minimal encoding, with the size prefix. After an error: `none`, the bytes as a whole are no such encoding, unless the cause is `Memory`. In any case: `front`. `front`: The new bytes begin with the old ones.
 ///
 /// ```text
 /// ensures found { OnOk result
@@ -238,7 +238,7 @@ fn write_body<A: Allocator + Copy, B: Sink>(
 ///
 /// # Proved
 ///
-/// After `Ok`: `found`. After an error: `none`, the bytes as a whole are no such encoding, unless the cause is `Memory`; `err`, the bytes of the sink are unchanged.
+/// After `Ok`: `found`, the bytes encode a body, and the sink gains its minimal encoding, with the size prefix. After an error: `none`, the bytes as a whole are no such encoding, unless the cause is `Memory`; `err`, the bytes of the sink are unchanged.
 ///
 /// ```text
 /// ensures found { OnOk result

@@ -95,7 +95,7 @@ impl<A: Allocator> ConstExpr<A> {
     ///
     /// # Proved
     ///
-    /// After `Ok`: `ok`. In any case: `memory`, no error is `TooLong`.
+    /// After `Ok`: `ok`, the expression is the bytes that the iterator yields. In any case: `memory`, no error is `TooLong`.
     ///
     /// ```text
     /// ensures ok { IfOk result (λ e. (it : I.IntoIter) × (xs : List ℕ)

@@ -149,7 +149,7 @@ impl<A: Allocator> Function<A> {
     ///
     /// # Proved
     ///
-    /// After `Ok`: `ok`. After an error: `err`, the value is unchanged. In any case: `memory`, no error is `TooLong`.
+    /// After `Ok`: `ok`, the body gains the bytes that the iterator yields. After an error: `err`, the value is unchanged. In any case: `memory`, no error is `TooLong`.
     ///
     /// ```text
     /// ensures ok { OnOk result ((it : I.IntoIter) × (xs : List ℕ)

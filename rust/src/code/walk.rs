@@ -91,7 +91,7 @@ impl<'a, A: Allocator + Copy> Instructions<'a, A> {
     ///
     /// # Proved
     ///
-    /// After `Ok`: `found`; `same`; `within`; `before`. After an error: `none`, the bytes as a whole are no such encoding, unless the cause is `Memory`. `found`: `bytes` is an encoding of `x` in this mode, followed by `rest`.
+    /// After `Ok`: `found`; `same`, the visitor is over these bytes; `within`, the offset is in the bytes, or at their end; `before`, the visitor has no immediates yet. After an error: `none`, the bytes as a whole are no such encoding, unless the cause is `Memory`. `found`: `bytes` is an encoding of `x` in this mode, followed by `rest`.
     ///
     /// ```text
     /// ensures found { IfOk result
@@ -147,7 +147,7 @@ impl<'a, A: Allocator + Copy> Instructions<'a, A, Standard> {
     ///
     /// # Proved
     ///
-    /// After `Ok`: `found`; `same`; `within`; `before`. After an error: `none`, the bytes as a whole are no such encoding, unless the cause is `Memory`. `found`: `bytes` is an encoding of `x` in this mode, followed by `rest`.
+    /// After `Ok`: `found`; `same`, the visitor is over these bytes; `within`, the offset is in the bytes, or at their end; `before`, the visitor has no immediates yet. After an error: `none`, the bytes as a whole are no such encoding, unless the cause is `Memory`. `found`: `bytes` is an encoding of `x` in this mode, followed by `rest`.
     ///
     /// ```text
     /// ensures found { IfOk result
@@ -191,7 +191,7 @@ impl<'a, A: Allocator + Copy, G: Grammar> Instructions<'a, A, G> {
     ///
     /// # Proved
     ///
-    /// After `Ok`: `found`; `same`; `within`; `before`. After an error: `none`, the bytes as a whole are no such encoding, unless the cause is `Memory`. `found`: `bytes` is an encoding of `x` in this mode, followed by `rest`.
+    /// After `Ok`: `found`; `same`, the visitor is over these bytes; `within`, the offset is in the bytes, or at their end; `before`, the visitor has no immediates yet. After an error: `none`, the bytes as a whole are no such encoding, unless the cause is `Memory`. `found`: `bytes` is an encoding of `x` in this mode, followed by `rest`.
     ///
     /// ```text
     /// ensures found { IfOk result
@@ -220,7 +220,7 @@ impl<'a, A: Allocator + Copy, G: Grammar> Instructions<'a, A, G> {
     ///
     /// # Proved
     ///
-    /// After `Ok`: `offset`; `found`; `further`. After an error: `stays`, the offset is unchanged; `none`, the bytes do not begin with such an encoding, unless the cause is `Memory`. In any case: `same`. `found`: `bytes` is an encoding of `x` in this mode, followed by `rest`.
+    /// After `Ok`: `offset`; `found`; `further`. After an error: `stays`, the offset is unchanged; `none`, the bytes do not begin with such an encoding, unless the cause is `Memory`. In any case: `same`, the bytes stay the same. `found`: `bytes` is an encoding of `x` in this mode, followed by `rest`.
     ///
     /// ```text
     /// ensures offset { IfOk result (λ step. step.offset ≡ self.old.offset) }
@@ -260,7 +260,7 @@ impl<'a, A: Allocator + Copy, G: Grammar> Instructions<'a, A, G> {
     ///
     /// # Proved
     ///
-    /// After `Ok`: `offset`, the step has the old offset; `found`; `further`; `end`; `ended`, `None` changes nothing. After an error: `stays`, the offset is unchanged; `none`, the bytes do not begin with such an encoding, unless the cause is `Memory`; `left`. In any case: `same`.
+    /// After `Ok`: `offset`, the step has the old offset; `found`, an instruction of this opcode and these immediates was next; `further`, the offset grows, and is in the bytes or at their end; `end`, `None` says that no bytes were left; `ended`, `None` changes nothing. After an error: `stays`, the offset is unchanged; `none`, the bytes do not begin with such an encoding, unless the cause is `Memory`; `left`, bytes were left. In any case: `same`, the bytes stay the same.
     ///
     /// ```text
     /// ensures offset { IfOk result
@@ -315,7 +315,7 @@ impl<'a, A: Allocator + Copy, G: Grammar> Instructions<'a, A, G> {
     ///
     /// # Proved
     ///
-    /// After `Ok`: `offset`, the step has the old offset; `found`; `further`; `end`; `ended`, `None` changes nothing. After an error: `stays`, the offset is unchanged; `none`, the bytes do not begin with such an encoding, unless the cause is `Memory`. In any case: `same`.
+    /// After `Ok`: `offset`, the step has the old offset; `found`, an instruction of this opcode and these immediates was next, and is no `end`; `further`, the offset grows, and is in the bytes or at their end; `end`, `None` says that an `end` is next; `ended`, `None` changes nothing. After an error: `stays`, the offset is unchanged; `none`, the bytes do not begin with such an encoding, unless the cause is `Memory`. In any case: `same`, the bytes stay the same.
     ///
     /// ```text
     /// ensures offset { IfOk result

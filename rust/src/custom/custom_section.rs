@@ -10,7 +10,7 @@ use crate::base::{CowSlice, CowStr, Encode, Refused, Result, Section, SectionId,
 ///
 /// # Proved
 ///
-/// After `Ok`: `ok`; `reserved`; `was_encodable`. After an error: `err`, the bytes of the sink are unchanged. In any case: `too_long`; `too_many`, more than 4294967295 give `TooLong`; `spare`; `capacity`, the capacity does not shrink.
+/// After `Ok`: `ok`; `reserved`, the sink has spare capacity for the payload; `was_encodable`. After an error: `err`, the bytes of the sink are unchanged. In any case: `too_long`; `too_many`, more than 4294967295 give `TooLong`; `spare`; `capacity`, the capacity does not shrink.
 ///
 /// ```text
 /// ensures ok { OnOk result

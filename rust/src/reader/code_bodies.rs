@@ -73,7 +73,7 @@ impl<'a, A: Allocator + Copy> Section<'a, A> {
     ///
     /// # Proved
     ///
-    /// After `Ok`: `id`; `found`; `end`. After an error: `none`; `from`; `within`. `found`: `bytes` is an encoding of `x` in this mode, followed by `rest`.
+    /// After `Ok`: `id`, this is a code section; `found`; `end`, the iterator ends with the section. After an error: `none`, this is no code section, or its payload does not begin with a number, unless the cause is `Memory`; `from`, the offset of the error is not before this one; `within`, the offset of the error is not after the section. `found`: `bytes` is an encoding of `x` in this mode, followed by `rest`.
     ///
     /// ```text
     /// ensures id { IfOk result (λ _. self.now.section.id ≡ 10) }
@@ -248,7 +248,7 @@ impl<'a, A: Allocator + Copy> CodeBody<'a, A> {
     ///
     /// # Proved
     ///
-    /// After `Ok`: `found`; `same`; `inside`; `before`. After an error: `none`, the bytes as a whole are no such encoding, unless the cause is `Memory`; `from`; `within`. `found`: `bytes` is an encoding of `x` in this mode, followed by `rest`.
+    /// After `Ok`: `found`; `same`, the visitor is over the bytes of the body; `inside`, the offset is in the body, or at its end; `before`, the visitor has no immediates yet. After an error: `none`, the bytes as a whole are no such encoding, unless the cause is `Memory`; `from`, the offset of the error is not before this one; `within`, the offset of the error is not after the body. `found`: `bytes` is an encoding of `x` in this mode, followed by `rest`.
     ///
     /// ```text
     /// ensures found { IfOk result
@@ -296,6 +296,8 @@ impl<'a, A: Allocator + Copy> CodeBody<'a, A> {
     /// ```
     ///
     /// # Proved
+    ///
+    /// In any case: `cause`, the result has the cause of the error; `from`, the offset is not before the body; `within`, the offset is not after the body.
     ///
     /// ```text
     /// ensures cause { result.cause ≡ error.cause }

@@ -113,7 +113,7 @@ fn line_of<A: Allocator + Copy>(section: &Section<'_, A>) -> Result<Listed, Read
 ///
 /// # Proved
 ///
-/// After `Ok`: `found`. After an error: `none`; `header`. `found`: The bytes are a module whose sections have these lines.
+/// After `Ok`: `found`. After an error: `none`, the bytes stop being a module at this section, unless the cause is `Memory`; `header`, with the number 0 the cause is `Ended`, `UnknownTag` or `Memory`. `found`: The bytes are a module whose sections have these lines.
 ///
 /// ```text
 /// ensures found { IfOk result (λ lines. HasLines bytes.now lines.items) }

@@ -113,7 +113,7 @@ fn line_of<'a, A: Allocator + Copy>(section: &Section<'a, A>) -> Result<Outlined
 ///
 /// # Proved
 ///
-/// After `Ok`: `found`. After an error: `none`; `no_module`. `found`: The bytes are a module of sections that the lines describe.
+/// After `Ok`: `found`. After an error: `none`; `no_module`, the bytes are no module, unless the cause is `Memory`. `found`: The bytes are a module of sections that the lines describe.
 ///
 /// ```text
 /// ensures found { IfOk result (λ lines. HasOutline bytes.now lines.items) }

@@ -54,6 +54,8 @@ impl ReadError {
     ///
     /// # Proved
     ///
+    /// In any case: `cause`, the result has the cause of the error; `from`; `within`.
+    ///
     /// ```text
     /// ensures cause { result.cause ≡ error.cause }
     /// ensures from { end ≤ result.offset + size }

@@ -84,7 +84,7 @@ impl<'a, A: Allocator + Copy> Sections<'a, A> {
     ///
     /// # Proved
     ///
-    /// After `Ok`: `found`; `offset`; `same`. After an error: `none`, the bytes do not begin with such an encoding; `cause`; `within`.
+    /// After `Ok`: `found`, the module is the header, and then the bytes ahead of the iterator; `offset`, the offset is that after the header; `same`, the iterator is over these bytes. After an error: `none`, the bytes do not begin with such an encoding; `cause`, the cause is `Ended` or `UnknownTag`; `within`, the offset of the error is in the module, or at its end.
     ///
     /// ```text
     /// ensures found { IfOk result (λ it. module.now ≡ header ++ ahead it) }
@@ -292,6 +292,8 @@ impl<'a, A: Allocator + Copy> Section<'a, A> {
     ///
     /// # Proved
     ///
+    /// In any case: `start`, the range is as long as the payload; `end`, it ends with the section; `after`, it begins after the id.
+    ///
     /// ```text
     /// ensures start { result.start + length self.now.section.payload ≡ end_of self.now }
     /// ensures end { result.end ≡ end_of self.now }
@@ -342,7 +344,7 @@ impl<'a, A: Allocator + Copy> Section<'a, A> {
     ///
     /// # Proved
     ///
-    /// After `Ok`: `found`. After an error: `none`, the bytes as a whole are no such encoding, unless the cause is `Memory`; `within`, the offset of the error is in the payload.
+    /// After `Ok`: `found`, the payload encodes items, and the result is their number if they are counted. After an error: `none`, the bytes as a whole are no such encoding, unless the cause is `Memory`; `within`, the offset of the error is in the payload.
     ///
     /// ```text
     /// ensures found { IfOk result
@@ -378,7 +380,7 @@ impl<'a, A: Allocator + Copy> Section<'a, A> {
     ///
     /// # Proved
     ///
-    /// After `Ok`: `found`. After an error: `none`, the bytes as a whole are no such encoding, unless the cause is `Memory`; `within`, the offset of the error is in the payload.
+    /// After `Ok`: `found`, the payload encodes the items. After an error: `none`, the bytes as a whole are no such encoding, unless the cause is `Memory`; `within`, the offset of the error is in the payload.
     ///
     /// ```text
     /// ensures found { IfOk result

@@ -70,6 +70,64 @@ SAID = (
     (r'option_copied result ≡ slice_get self\.now index', 'the result is the entry at `index`, if there is one'),
     (r'result ≡ \[\]', 'the result has no entries'),
 )
+# What single clauses say.
+EXACT = {
+    'IfOk result (λ m. m ≡ header)': 'the module is the header',
+    'OnOk result (self.new ≡ self.old ++ (S.id_of section.now ∷ S.encoding section.now))': 'the module gains the id and the encoding of the section',
+    'OnOk result (S.decoding section.now)': 'the encoding decodes as the impl defines by `decoding`',
+    'OnOk result (decoding self.now)': 'the encoding decodes as the impl defines by `decoding`',
+    'OnOk result (Self.decoding self.now)': 'the encoding decodes as the impl defines by `decoding`',
+    'OnOk result (S.encodable section.now)': 'each count and length fits 32 bits',
+    'S.encodable section.now → result ≢ Err Refused.TooLong': 'a section whose counts and lengths fit never gives `TooLong`',
+    'S.overlong section.now → result ≡ Err Refused.TooLong': 'an `overlong` section gives `TooLong`',
+    'overlong self.now → result ≡ Err TooLong': 'an `overlong` value gives `TooLong`',
+    'Self.overlong self.now → result ≡ Err TooLong': 'an `overlong` section gives `TooLong`',
+    'OnOk result (sink.new.items ≡ sink.old.items ++ unsigned_encoding size)': 'the sink gains the size',
+    'OnOk result (vec_len sink.new + size ≤ vec_capacity sink.new)': 'the sink has spare capacity for the payload',
+    'OnOk result (size ≤ longest)': 'the size is at most 4294967295',
+    'size ≤ longest → result ≢ Err Refused.TooLong': 'a size of at most 4294967295 never gives `TooLong`',
+    'IfErr result (λ refused. refused ≡ TooLong)': 'the error is `TooLong`',
+    'IfOk result (λ rest. (x : Self.Value) × Decodes Self.format (padded_of G.grammar) bytes.now x rest.now)': 'an encoding is at the front, and the returned bytes follow it',
+    'IfOk result (λ x. (xs : List P.Value) × Decodes (vec P.format) (padded_of G.grammar) bytes.now xs x.1.now × (x.0 ≡ length xs))': 'a vector of this number of members is at the front, and the returned bytes follow it',
+    'IfOk result (λ x. members (instruction table) (padded_of G.grammar) bytes.now (map plain_view x.items))': 'the bytes as a whole encode the instructions',
+    'OnOk result ((x : BodyModel) × body padded bytes.now x × AppendsMinimal (size_prefixed body) x sink.old.items sink.new.items)': 'the bytes encode a body, and the sink gains its minimal encoding, with the size prefix',
+    'IfOk result (λ e. (it : I.IntoIter) × (xs : List ℕ) × I.into_iter_gives bytes it × Drains I.IntoIter.next_gives it xs × (e ≡ xs))': 'the expression is the bytes that the iterator yields',
+    'OnOk result ((it : I.IntoIter) × (xs : List ℕ) × I.into_iter_gives bytes it × Drains I.IntoIter.next_gives it xs × GrowsBy xs self.old self.new)': 'the body gains the bytes that the iterator yields',
+    'IfOk result (λ x. x.1.bytes ≡ bytes.now)': 'the visitor is over these bytes',
+    'IfOk result (λ x. x.1.bytes ≡ self.now.bytes)': 'the visitor is over the bytes of the body',
+    'IfOk result (λ x. x.1.offset ≤ length bytes.now)': 'the offset is in the bytes, or at their end',
+    'IfOk result (λ x. x.1.offset ≤ length self.now.bytes)': 'the offset is in the body, or at its end',
+    'IfOk result (λ x. x.1.arguments ≡ [])': 'the visitor has no immediates yet',
+    'IfOk result (λ next. IfSome next (λ step. Decodes (instruction table) (padded_of G.grammar) (ahead self.old) (record { op = step.op; arguments = self.new.arguments }) (ahead self.new)))': 'an instruction of this opcode and these immediates was next',
+    'IfOk result (λ next. IfSome next (λ step. Decodes (such IsNoEnd (instruction table)) (padded_of G.grammar) (ahead self.old) (record { op = step.op; arguments = self.new.arguments }) (ahead self.new)))': 'an instruction of this opcode and these immediates was next, and is no `end`',
+    'IfOk result (λ next. IfSome next (λ _. (self.old.offset < self.new.offset) × (self.new.offset ≤ length self.new.bytes)))': 'the offset grows, and is in the bytes or at their end',
+    'IfOk result (λ next. next ≡ None → ahead self.old ≡ [])': '`None` says that no bytes were left',
+    'IfOk result (λ next. next ≡ None → ahead self.old ≡ 0x0B ∷ drop (self.old.offset + 1) self.old.bytes)': '`None` says that an `end` is next',
+    'self.new.bytes ≡ self.old.bytes': 'the bytes stay the same',
+    'IfErr result (λ _. ahead self.old ≢ [])': 'bytes were left',
+    'IfOk result (λ _. self.now.section.id ≡ 10)': 'this is a code section',
+    'IfOk result (λ it. it.end ≡ end_of self.now)': 'the iterator ends with the section',
+    'IfErr result (λ e. e.cause ≢ Memory → (self.now.section.id ≢ 10) ⊎ Rejects u32 padded self.now.section.payload)': 'this is no code section, or its payload does not begin with a number, unless the cause is `Memory`',
+    'IfErr result (λ e. self.now.offset ≤ e.offset)': 'the offset of the error is not before this one',
+    'IfErr result (λ e. e.offset ≤ end_of self.now)': 'the offset of the error is not after the section',
+    'IfErr result (λ e. e.offset ≤ self.now.offset + length self.now.bytes)': 'the offset of the error is not after the body',
+    'result.cause ≡ error.cause': 'the result has the cause of the error',
+    'self.now.offset ≤ result.offset': 'the offset is not before the body',
+    'result.offset ≤ self.now.offset + length self.now.bytes': 'the offset is not after the body',
+    'IfErr result (λ e. e.1 ≢ Memory → StopsAt bytes.now e.0)': 'the bytes stop being a module at this section, unless the cause is `Memory`',
+    'IfErr result (λ e. e.0 ≡ 0 → e.1 ≢ Memory → (e.1 ≡ Ended) ⊎ (e.1 ≡ UnknownTag))': 'with the number 0 the cause is `Ended`, `UnknownTag` or `Memory`',
+    'IfErr result (λ e. e.1 ≢ Memory → RejectsWhole wasm_module padded bytes.now)': 'the bytes are no module, unless the cause is `Memory`',
+    'IfOk result (λ it. module.now ≡ header ++ ahead it)': 'the module is the header, and then the bytes ahead of the iterator',
+    'IfOk result (λ it. it.offset ≡ length header)': 'the offset is that after the header',
+    'IfOk result (λ it. it.bytes ≡ module.now)': 'the iterator is over these bytes',
+    'IfErr result (λ e. (e.cause ≡ Ended) ⊎ (e.cause ≡ UnknownTag))': 'the cause is `Ended` or `UnknownTag`',
+    'IfErr result (λ e. e.offset ≤ length module.now)': 'the offset of the error is in the module, or at its end',
+    'IfOk result (λ number. (x : Contents) × content (section_kind_of self.now.section) standard self.now.section.payload x × (number ≡ number_in x))': 'the payload encodes items, and the result is their number if they are counted',
+    'IfOk result (λ x. content (section_kind_of self.now.section) standard self.now.section.payload (contents_of x))': 'the payload encodes the items',
+    'result.start + length self.now.section.payload ≡ end_of self.now': 'the range is as long as the payload',
+    'result.end ≡ end_of self.now': 'it ends with the section',
+    'self.now.offset < result.start': 'it begins after the id',
+}
 # What `requires` clauses ask.
 ASKED = (
     (r'HasKnownLength .*', 'The iterator ends, and yields as many items as it reports.'),
@@ -148,7 +206,7 @@ def head(clause: str) -> str:
 
 def words_of(term: str) -> str:
     """Returns what a term of a known form says, or an empty line."""
-    return next((said for form, said in SAID if re.fullmatch(form, term)), '')
+    return EXACT.get(term) or next((said for form, said in SAID if re.fullmatch(form, term)), '')
 
 
 def told(name: str, term: str) -> str:
