@@ -255,8 +255,7 @@ impl<'a, A: Allocator + Copy, G: Grammar> Instructions<'a, A, G> {
     ///
     /// # Errors
     ///
-    /// Any error but `Memory` means that no instruction begins at the offset. The offset is then
-    /// unchanged.
+    /// Any error but `Memory` means that no instruction begins at the offset.
     ///
     /// # Proved
     ///
@@ -297,7 +296,6 @@ impl<'a, A: Allocator + Copy, G: Grammar> Instructions<'a, A, G> {
     /// # Errors
     ///
     /// Any error but `Memory` means that no instructions up to a final `end` begin at the offset.
-    /// The offset is then unchanged.
     ///
     /// # Examples
     ///
