@@ -8,6 +8,16 @@ use alloc_crate::collections::TryReserveError;
 use core::fmt;
 
 /// The error of a request for memory that was refused.
+///
+/// It converts to [`Refused::Memory`](crate::fallible::Refused::Memory), so that `?` passes it on.
+///
+/// ```
+/// use dolzhytik::fallible::{AllocError, Refused};
+///
+/// assert_eq!(Refused::from(AllocError), Refused::Memory);
+/// assert_eq!(AllocError.to_string(), "out of memory");
+/// ```
+#[doc(alias = "out of memory")]
 #[derive(Clone, Copy, PartialEq, Eq, Debug)]
 pub struct AllocError;
 
@@ -35,6 +45,21 @@ impl From<AllocError> for std::io::Error {
 
 /// The error of a refused request for memory, with the item that was to be stored: see
 /// [`Vec::push`](crate::fallible::Vec::push).
+///
+/// ```
+/// use dolzhytik::fallible::{AllocError, AllocFailed, Allocator, Vec};
+///
+/// struct Nothing;
+///
+/// impl Allocator for Nothing {
+///     fn grant(&self, _bytes: usize) -> Result<(), AllocError> {
+///         Err(AllocError)
+///     }
+/// }
+///
+/// let AllocFailed(item) = Vec::new(Nothing).push("item").unwrap_err();
+/// assert_eq!(item, "item");
+/// ```
 #[derive(Clone, Copy, PartialEq, Eq, Debug)]
 pub struct AllocFailed<T>(pub T);
 
@@ -71,6 +96,15 @@ pub trait Allocator {
 }
 
 /// The allocator that grants all requests: they fail only if the program's allocator fails.
+///
+/// ```
+/// use dolzhytik::fallible::{AllocError, Global, Vec};
+///
+/// let mut numbers = Vec::with_capacity(Global, 2)?;
+/// numbers.extend_from_slice(&[1, 2])?;
+/// assert_eq!(numbers[..], [1, 2]);
+/// # Ok::<(), AllocError>(())
+/// ```
 #[derive(Clone, Copy, PartialEq, Eq, Debug, Default)]
 pub struct Global;
 

@@ -1,9 +1,9 @@
 //! The proved builders, which return an error where those at the root panic or abort.
 //!
-//! Use them where a program must go on when memory runs out or a list is too long. A call that can fail returns
-//! [`Refused`] and leaves the builder unchanged ([`add_all`] returns how many items it added): [`Refused::Memory`] where
-//! memory is refused, and [`Refused::TooLong`] where a count, run or length would pass 4294967295. Calls that make
-//! something take an [`Allocator`] first. [`Global`] is the program's own; one of yours can hold a builder to a budget.
+//! Use them if a program must not end when memory runs out or a list is too long. A call that fails returns [`Refused`]
+//! and changes nothing: [`Refused::Memory`] if an allocation fails, and [`Refused::TooLong`] if a count, run or length
+//! would pass 4294967295. ([`add_all`] keeps the items before the failing one, and returns their number.) Calls that make
+//! a value take an [`Allocator`] first. [`Global`] is that of the program; one of your own can hold a builder to a budget.
 //!
 //! Builders have the names of those at the root, and [`From`] converts what is built here with [`Global`] to the root's
 //! type:
@@ -61,11 +61,11 @@
 //!
 //! # What is proved
 //!
-//! This module and [`reader`](crate::reader) are the repository's libraries with the contracts erased. Written by hand
-//! are only [`Allocator`], [`Vec`], [`String`], [`Sink`], their impls and errors, and [`hex`]. Every other function is
-//! proved to be safe, to return, and to keep what its page has under **Proved**, word for word. Trusted are the prover,
-//! the definitions that clauses name, `tools/to-rust`, which erases the contracts, the code written by hand, and rustc
-//! with its library.
+//! This module and [`reader`](crate::reader) are the repository's libraries with the contracts erased. Written by
+//! hand are only [`Allocator`], [`Vec`], [`String`], [`Sink`], their impls and errors, and [`hex`]. Every other
+//! function is proved to be safe, to return, and to keep the clauses that its page has under **Proved**, word for
+//! word. The words above clauses are a summary. Trusted are the prover, the definitions that clauses name,
+//! `tools/to-rust`, which erases the contracts, the code written by hand, and rustc with its library.
 //!
 //! [`definitions`](crate::definitions) has these definitions, and says how to read clauses. **Defined** has the words of
 //! a trait's clauses, such as `encoding`, the encoding.
@@ -80,14 +80,31 @@
 //! # What is asked
 //!
 //! **Asks** on a page is what the caller owes and types do not ensure: mostly that an iterator ends, or has the length
-//! that it reports. Otherwise a call may return something wrong or panic, but has no undefined behaviour. These calls ask:
+//! that it reports. Otherwise a call may return a wrong result or panic, but has no undefined behaviour. Calls ask this:
 //!
 #![doc = include_str!("asks.md")]
+
+// Names that the root or `reader` has too: rustdoc has one page for each, there. The globs below have
+// the same names.
+#[doc(no_inline)]
+pub use crate::reader::{
+    CoreFrame, ElementItem, ElementItemMode, ElementList, GlobalItem, LinkItem, NameItem, Segment,
+    Symbol, TableItem, TypeEntry,
+};
+#[doc(no_inline)]
+pub use crate::{
+    AbstractHeapType, ArrayType, BlockType, BranchHint, CORE_FUNCTION_EXACT_SORT,
+    CORE_FUNCTION_SORT, CORE_GLOBAL_SORT, CORE_MEMORY_SORT, CORE_TABLE_SORT, CORE_TAG_SORT, Catch,
+    ContType, CoreDumpValue, DataCountSection, DataSymbolDefinition, FieldType, GlobalType, Handle,
+    HeapType, Ieee32, Ieee64, Lane, MemArg, MemArgOrdering, MemArgTarget, MemoryType, Ordering,
+    RawCustomSection, RefType, StartSection, StorageType, TableType, ValType, encoding_size,
+};
 
 pub use crate::alloc::*;
 pub use crate::base::*;
 pub use crate::code::*;
 pub use crate::custom::*;
+#[allow(unused_imports)] // Each of its names is above.
 pub use crate::immediates::*;
 pub use crate::insn::*;
 pub use crate::sections::*;

@@ -4,6 +4,12 @@ use crate::string::String;
 use crate::vec::Vec;
 
 /// The error of text that does not decode.
+///
+/// ```
+/// use dolzhytik::fallible::{Global, hex};
+///
+/// assert_eq!(hex::decode(Global, "0g"), Err(hex::FromHexError::NoHex));
+/// ```
 #[derive(Clone, Copy, PartialEq, Eq, Debug)]
 pub enum FromHexError {
     /// The text is not an even number of hexadecimal digits.

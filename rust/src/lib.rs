@@ -6,11 +6,12 @@
 //! - [`Function`] is a body. [`InstructionSink`] has a call for each instruction, and
 //!   [`Instruction`] is one as a value. [`ConstExpr`] is a constant expression.
 //! - [`Encode`] and [`Section`] are the traits of what can be encoded: implement them for your own.
-//! - [`fallible`] has the proved builders, and the list of what calls ask of their callers.
-//! - [`reader`] decodes modules: begin with [`reader::Sections`].
-//! - [`definitions`] says what the words of contracts mean.
+//! - [`fallible`] has the proved builders, whose calls return errors, and says what is proved.
+//! - [`reader`] lists, decodes, edits and minimizes modules: begin with [`reader::Sections`].
+//! - [`definitions`] says how to read contracts, and what their words mean.
 #![no_std]
 #![forbid(unsafe_code)]
+#![warn(missing_docs)]
 
 // `alloc` is a module here.
 extern crate alloc as alloc_crate;

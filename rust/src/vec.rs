@@ -296,9 +296,17 @@ pub trait Sink: DerefMut<Target = [u8]> + Sealed {
     fn capacity(&self) -> usize;
 
     /// Reserves spare capacity for at least `more` bytes.
+    ///
+    /// # Errors
+    ///
+    /// Returns [`AllocError`] if the allocation fails.
     fn reserve(&mut self, more: usize) -> Result<(), AllocError>;
 
-    /// Appends a byte. On an error the sink is unchanged.
+    /// Appends a byte.
+    ///
+    /// # Errors
+    ///
+    /// Returns [`AllocError`] if an allocation fails. The sink is unchanged.
     fn push(&mut self, byte: u8) -> Result<(), AllocError>;
 
     /// Appends a byte to spare capacity. Without it the sink grows as a `std` vector does.
@@ -307,10 +315,18 @@ pub trait Sink: DerefMut<Target = [u8]> + Sealed {
     /// Appends two bytes to spare capacity. Without it the sink grows as a `std` vector does.
     fn push_both_reserved(&mut self, bytes: [u8; 2]);
 
-    /// Appends these bytes. On an error the sink is unchanged.
+    /// Appends these bytes.
+    ///
+    /// # Errors
+    ///
+    /// Returns [`AllocError`] if an allocation fails. The sink is unchanged.
     fn extend_from_slice(&mut self, bytes: &[u8]) -> Result<(), AllocError>;
 
-    /// Appends the bytes of the iterator. On an error the sink keeps those that were appended
+    /// Appends the bytes of the iterator.
+    ///
+    /// # Errors
+    ///
+    /// Returns [`AllocError`] if an allocation fails. The sink keeps the bytes that were appended
     /// before.
     fn extend<I: IntoIterator<Item = u8>>(&mut self, bytes: I) -> Result<(), AllocError>;
 

@@ -1,4 +1,4 @@
-// Sections of entries that are already encoded, with padded numbers.
+// Sections of entries that are already encoded, with padded LEB128.
 ghost use Rattle.std.specs.Prelude.{[], ◌∷◌, IfOk, OnOk, pos, neg_ℤ};
 ghost use Rattle.wasm_base.specs.Entries.{counted_format};
 ghost use Rattle.wasm_base.specs.Formats.{size_prefixed};

@@ -1,5 +1,5 @@
-/* WebAssembly modules for programs in C: recipes are assembled, the sections of modules are listed and outlined, and sections and modules are written as shortly
-   as can be. The numbers of causes and of kinds stand here alone. */
+/* Assembles, lists, outlines and minimizes WebAssembly modules. The page docs/C.md has an example
+   and the limits. */
 #ifndef DOLZHYTIK_H
 #define DOLZHYTIK_H
 
@@ -10,10 +10,11 @@
 extern "C" {
 #endif
 
-/* The answer of a call that has none, the number of items of a section whose items are not counted, and the place and the length of a name that is not there. */
+/* Returned by a call that fails. Also the number of items of a section whose items are not counted,
+   and the offset and length of a name that a section does not have. */
 #define DZ_NO_ANSWER UINT64_MAX
 
-/* What is wrong with a line of a recipe. dz_recipe_cause gives the text. */
+/* The causes of an error in a recipe. dz_recipe_cause returns their texts. */
 enum dz_recipe_cause {
     DZ_UNKNOWN_COMMAND = 1,
     DZ_BAD_NUMBER = 2,
@@ -27,8 +28,9 @@ enum dz_recipe_cause {
     DZ_UNUSED_LOCALS = 10
 };
 
-/* What is wrong with the bytes of a section or a module. dz_cause gives the text. DZ_NOT_SHORTEST is never given, since padded numbers are read; DZ_NO_KIND by
-   dz_shorten alone, and DZ_OFFSETS by dz_shorten_module alone. */
+/* The causes of an error in a section or a module. dz_cause returns their texts. No call sets
+   DZ_NOT_SHORTEST, since padded LEB128 decodes. Only dz_shorten sets DZ_NO_KIND, and only
+   dz_shorten_module DZ_OFFSETS. */
 enum dz_fault {
     DZ_ENDED = 1,
     DZ_NOT_SHORTEST = 2,
@@ -42,7 +44,8 @@ enum dz_fault {
     DZ_OFFSETS = 10
 };
 
-/* What a section is read as: a code section as functions' bodies, .., a custom section as its name and data, and any section as its bytes. */
+/* The kinds of sections, which select how dz_shorten decodes a payload. DZ_CUSTOM decodes a custom
+   section as its name and data, and DZ_RAW any section as bytes. */
 enum dz_kind {
     DZ_BODIES,
     DZ_SEGMENTS,
@@ -69,16 +72,19 @@ enum dz_kind {
     DZ_TYPES
 };
 
-/* A section of a module: how many items it has, how many bytes stand behind its size, and its id. */
+/* A section that dz_list returns: the number of its items, the size of its payload in bytes, and
+   its id. */
 typedef struct {
     uint64_t items;
     uint32_t size;
     uint32_t id;
 } dz_section;
 
-/* A section of a module, as an outline has it: how many items it has, if it is read as a section of its kind and these are counted (of a type section its entries: a recursion group is one); how many bytes of the module stand
-   before what its frame holds; how many stand before the name of a custom section, and how many bytes the name has (DZ_NO_ANSWER, both, where no name stands there); how many bytes
-   its frame holds; and its id. The name is no string of C: no 0 ends it. */
+/* A section that dz_outline returns. The number of items is there if the payload decodes as its
+   kind and its items are counted; a recursion group of a type section is one item. `offset` is that
+   of the payload in the module, and `size` is the size of the payload in bytes. `name_offset` and
+   `name_size` are of the name of a custom section, in the module; both are DZ_NO_ANSWER if there is
+   no name. No 0 ends a name. */
 typedef struct {
     uint64_t items;
     uint64_t offset;
@@ -88,50 +94,74 @@ typedef struct {
     uint32_t id;
 } dz_outlined;
 
-/* In all calls the caller owes: each pointer is valid for as many elements as its length says, and not null (for a length of 0 any pointer
-   that is not null will do); nobody else reads or writes what the call writes; and nothing that it writes overlaps anything else that is
-   handed in. */
+/* What each call requires:
+   - A pointer is valid for as many elements as its length says. It is not null, also for a length
+     of 0.
+   - No other thread reads or writes the memory that the call writes.
+   - That memory overlaps no other argument.
 
-/* Assembles a recipe of version 1. Answers how many bytes the module has, and copies them to the front of `out` where it has room for all of them. Where there
-   is no module the answer is DZ_NO_ANSWER, `out` is as it was, `*line` is the line of the first fault, counted from 1, or 0, and `*cause` is
-   one of dz_recipe_cause. Else both are 0. */
+   Each call that has `out` returns the size of its result, and copies the result to the front of
+   `out` only if all of it fits. A call that fails returns DZ_NO_ANSWER and leaves `out` unchanged.
+   */
+
+/* Assembles a recipe of version 1, and returns the size of the module in bytes. On an error,
+   `*line` is the first line with one, counted from 1, or 0 for an error after the last line, and
+   `*cause` is one of dz_recipe_cause. On success both are 0. */
 uint64_t dz_assemble(const uint8_t *recipe, size_t recipe_len, uint8_t *out, size_t out_len, uint64_t *line, uint32_t *cause);
 
-/* The same for a recipe of version 1 or 2. The causes from DZ_SURPLUS_WORD on are those of version 2. */
+/* Assembles a recipe of version 1 or 2, as dz_assemble does. The causes from DZ_SURPLUS_WORD on are
+   those of version 2. */
 uint64_t dz_assemble_versioned(const uint8_t *recipe, size_t recipe_len, uint8_t *out, size_t out_len, uint64_t *line, uint32_t *cause);
 
-/* Lists the sections of a module. Answers how many there are, and copies them to the front of `out` where it has room for all of them. Where the bytes
-   are no module the answer is DZ_NO_ANSWER, `out` is as it was, `*place` is the number of the section at which they are none, counted from 1, or 0 for
-   the header, and `*cause` is one of dz_fault (for the header DZ_ENDED or DZ_UNKNOWN_TAG). So it is where memory was refused (DZ_OUT_OF_MEMORY). Else both are 0. */
+/* Lists the sections of a module, and returns their number. Each is decoded as the kind of its id,
+   but a type section is any bytes. On an error, `*place` is the number of the first section that is
+   not of its kind, counted from 1, or 0 for the header, and `*cause` is one of dz_fault: DZ_ENDED
+   or DZ_UNKNOWN_TAG for the header. If an allocation failed, `*cause` is DZ_OUT_OF_MEMORY. On
+   success both are 0. */
 uint64_t dz_list(const uint8_t *module, size_t module_len, dz_section *out, size_t out_len, uint64_t *place, uint32_t *cause);
 
-/* Writes the one shortest text of the section of this kind (one of dz_kind) that the bytes begin with, from its size on, without its id. Answers how many
-   bytes the text has, which are at most as many as the section takes, and copies them to the front of `out` where it has room for all of them; `*taken` is how
-   many bytes the section takes, and `*cause` 0. Where no such section stands there, no kind has the number (DZ_NO_KIND) or memory was refused (DZ_OUT_OF_MEMORY),
-   the answer is DZ_NO_ANSWER, `out` is as it was, `*taken` is 0, and `*cause` is one of dz_fault. What follows a padded number moves: offsets into the section that
-   stand elsewhere (relocations, branch hints, DWARF, source maps) don't fit the text. Not read, so that the whole section is refused, are one-byte reference
-   types other than 70 and 6F (hexadecimal), and linking sections with comdats or section symbols, as most of LLVM's object files have. */
+/* Writes the minimal encoding of the section of this kind (one of dz_kind) at the front of the
+   bytes, from its size prefix on, without its id. Returns the size of the encoding in bytes, which
+   is at most `*taken`, the size of the section in the input. On an error, `*taken` is 0, and
+   `*cause` is one of dz_fault: DZ_NO_KIND if no kind has the number, DZ_OUT_OF_MEMORY if an
+   allocation failed. On success `*cause` is 0.
+
+   The bytes after padded LEB128 move. Offsets into the section from elsewhere (relocations, branch
+   hints, DWARF, source maps) are then wrong. A section with one-byte reference types other than
+   0x70 and 0x6F does not decode, and neither does a linking section with comdats or section
+   symbols, as most of LLVM's object files have. */
 uint64_t dz_shorten(uint32_t kind, const uint8_t *bytes, size_t bytes_len, uint8_t *out, size_t out_len, uint64_t *taken, uint32_t *cause);
 
-/* Outlines a module: a line for each section, whether it is read as its kind or not. Answers how many there are, and copies them to the front of `out` where it has room for all
-   of them. The entries of a type section are counted here, a recursion group as one, and a custom section is read as what its name stands for. Where the bytes are no header and frames of ids the answer is DZ_NO_ANSWER, `out` is as it
-   was, `*place` is the number of the first section that is none, counted from 1, or 0 for the header, and `*cause` is one of dz_fault. So it is where memory was refused
-   (DZ_OUT_OF_MEMORY). Else both are 0. */
+/* Outlines a module, and returns the number of its sections, whether they decode as their kinds or
+   not. The entries of a type section are counted, a recursion group as one. A custom section
+   decodes by the kind that its name selects. On an error, `*place` is the number of the first
+   section that is not an id and a size-prefixed payload, counted from 1, or 0 for the header, and
+   `*cause` is one of dz_fault. If an allocation failed, `*cause` is DZ_OUT_OF_MEMORY. On success
+   both are 0. */
 uint64_t dz_outline(const uint8_t *module, size_t module_len, dz_outlined *out, size_t out_len, uint64_t *place, uint32_t *cause);
 
-/* Writes a module with each section in its one shortest text. Answers how many bytes that has, which are at most as many as the module has, and copies them to the front of `out` where it
-   has room for all of them; `*kept` is how many sections are kept as they stand, since they are not read as sections of their kinds. What follows a padded number moves. So custom
-   sections that hold offsets (`linking`, `external_debug_info`, `build_id`, `sourceMappingURL`, and names that begin with `reloc.`, `.debug_` or `metadata.code.`) are left out where `drop_offsets` is not 0. Where it
-   is 0, a module that would lose offsets is refused: beside any of these the code and data sections must stay, byte for byte; beside `reloc.` the custom sections too; and beside `sourceMappingURL` the number
-   of bytes before each code section. `*place` is the number of the first section whose offsets would be lost, counted from 1, and `*cause` DZ_OFFSETS. Where the bytes are no module, or memory was refused, `*place` and `*cause` are as dz_outline has them. Where there is no text the answer is DZ_NO_ANSWER, `out` is as it was, and
-   `*kept` is 0; else `*place` and `*cause` are 0. */
+/* Writes a module with each section in its minimal encoding, and returns the size of that module in
+   bytes, which is at most the size of the input. `*kept` sections are unchanged, since they do not
+   decode as their kinds.
+
+   The bytes after padded LEB128 move. These custom sections hold offsets: `linking`,
+   `external_debug_info`, `build_id`, `sourceMappingURL`, and names that begin with `reloc.`,
+   `.debug_` or `metadata.code.`. If `drop_offsets` is not 0, they are left out. If it is 0, the
+   call fails for a module whose offsets might become wrong: with any of these sections, the code
+   and data sections must keep their bytes; with `reloc.`, so must the custom sections; with
+   `sourceMappingURL`, so must the number of bytes before each code section. `*place` is then the
+   number of the first section whose offsets would be wrong, counted from 1, and `*cause` is
+   DZ_OFFSETS.
+
+   If the bytes are no module, or an allocation failed, `*place` and `*cause` are those of
+   dz_outline. On an error `*kept` is 0, and on success `*place` and `*cause` are 0. */
 uint64_t dz_shorten_module(const uint8_t *module, size_t module_len, uint32_t drop_offsets, uint8_t *out, size_t out_len, uint64_t *kept, uint64_t *place, uint32_t *cause);
 
-/* The text of a number of dz_fault, in ASCII: the name of the cause, as `Ended`. Answers how many bytes it has, and copies them to the front of `out` where it has room for all of them; no
-   0 ends them. DZ_NO_ANSWER where no fault has the number, with `out` as it was. */
+/* Writes the text of a number of dz_fault in ASCII, such as `Ended`, and returns its length in
+   bytes. No 0 ends the text. Fails if no cause has the number. */
 uint64_t dz_cause(uint32_t cause, uint8_t *out, size_t out_len);
 
-/* The same of a number of dz_recipe_cause, which begins at 1 too: `bad hex`. */
+/* Writes the text of a number of dz_recipe_cause, such as `bad hex`, as dz_cause does. */
 uint64_t dz_recipe_cause(uint32_t cause, uint8_t *out, size_t out_len);
 
 #ifdef __cplusplus

@@ -507,7 +507,7 @@ pub fn assemble<A: Allocator + Copy>(alloc: A, lines: &str) -> Result<Vec<u8, A>
 ///   type, and `mut` before it if the global is mutable.
 /// - `table MIN` and `table MIN MAX` add a table of function references.
 /// - `elem I N ..` adds references to functions at the offset I of table 0.
-/// - `locals N TYPE` gives the next `body` so many locals, after those of earlier such lines.
+/// - `locals N TYPE` adds N locals to the next `body`, after those of earlier such lines.
 ///
 /// Types are `i32`, `i64`, `f32`, `f64`, `v128`, `funcref` and `externref`. A word that begins with
 /// `#` begins a comment, up to the end of the line, but not in the text of `name`. Words after

@@ -1,5 +1,6 @@
-//! The functions of `dolzhytik.h` on any platform. What each does stands in [`calls`], which is written from the proved source; here is the border: pointers and
-//! lengths become slices.
+//! The functions of `dolzhytik.h` on any platform.
+//!
+//! They turn pointers and lengths into slices, and call [`calls`], which `tools/to-rust` writes from the proved source.
 use calls::{DzOutlined, DzSection, causes, listing, minimal, outlining, recipes, whole};
 use dolzhytik::fallible::Global;
 use std::slice;
@@ -13,11 +14,11 @@ mod host;
 #[rustfmt::skip]
 mod calls;
 
-/// The list of so many items from this one on.
+/// Returns the slice of `len` items from `first` on.
 ///
 /// # Safety
 ///
-/// The pointer is valid for so many items, or there are none.
+/// The pointer is valid for `len` items, or `len` is 0.
 unsafe fn list<'a, T>(first: *const T, len: usize) -> &'a [T] {
     if len == 0 {
         return &[];
@@ -25,12 +26,12 @@ unsafe fn list<'a, T>(first: *const T, len: usize) -> &'a [T] {
     unsafe { slice::from_raw_parts(first, len) }
 }
 
-/// The room for so many items from this one on.
+/// Returns the slice of `len` items from `first` on, to write to.
 ///
 /// # Safety
 ///
-/// The pointer is valid for so many items, which nobody else reads or writes, or there are none.
-unsafe fn room<'a, T>(first: *mut T, len: usize) -> &'a mut [T] {
+/// The pointer is valid for `len` items, which nobody else reads or writes, or `len` is 0.
+unsafe fn output<'a, T>(first: *mut T, len: usize) -> &'a mut [T] {
     if len == 0 {
         return &mut [];
     }
@@ -41,7 +42,7 @@ unsafe fn room<'a, T>(first: *mut T, len: usize) -> &'a mut [T] {
 ///
 /// # Safety
 ///
-/// As the header says: pointers are valid for their lengths, and what is written overlaps nothing else.
+/// As the header says: pointers are valid for their lengths, and the memory that is written overlaps nothing else.
 #[unsafe(no_mangle)]
 pub unsafe extern "C" fn dz_assemble(
     recipe: *const u8,
@@ -52,7 +53,7 @@ pub unsafe extern "C" fn dz_assemble(
     cause: &mut u32,
 ) -> u64 {
     let recipe = unsafe { list(recipe, recipe_len) };
-    let out = unsafe { room(out, out_len) };
+    let out = unsafe { output(out, out_len) };
     recipes::dz_assemble(Global, recipe, out, line, cause)
 }
 
@@ -60,7 +61,7 @@ pub unsafe extern "C" fn dz_assemble(
 ///
 /// # Safety
 ///
-/// As the header says: pointers are valid for their lengths, and what is written overlaps nothing else.
+/// As the header says: pointers are valid for their lengths, and the memory that is written overlaps nothing else.
 #[unsafe(no_mangle)]
 pub unsafe extern "C" fn dz_assemble_versioned(
     recipe: *const u8,
@@ -71,7 +72,7 @@ pub unsafe extern "C" fn dz_assemble_versioned(
     cause: &mut u32,
 ) -> u64 {
     let recipe = unsafe { list(recipe, recipe_len) };
-    let out = unsafe { room(out, out_len) };
+    let out = unsafe { output(out, out_len) };
     recipes::dz_assemble_versioned(Global, recipe, out, line, cause)
 }
 
@@ -79,7 +80,7 @@ pub unsafe extern "C" fn dz_assemble_versioned(
 ///
 /// # Safety
 ///
-/// As the header says: pointers are valid for their lengths, and what is written overlaps nothing else.
+/// As the header says: pointers are valid for their lengths, and the memory that is written overlaps nothing else.
 #[unsafe(no_mangle)]
 pub unsafe extern "C" fn dz_list(
     module: *const u8,
@@ -90,7 +91,7 @@ pub unsafe extern "C" fn dz_list(
     cause: &mut u32,
 ) -> u64 {
     let module = unsafe { list(module, module_len) };
-    let out = unsafe { room(out, out_len) };
+    let out = unsafe { output(out, out_len) };
     listing::dz_list(Global, module, out, place, cause)
 }
 
@@ -98,7 +99,7 @@ pub unsafe extern "C" fn dz_list(
 ///
 /// # Safety
 ///
-/// As the header says: pointers are valid for their lengths, and what is written overlaps nothing else.
+/// As the header says: pointers are valid for their lengths, and the memory that is written overlaps nothing else.
 #[unsafe(no_mangle)]
 pub unsafe extern "C" fn dz_shorten(
     kind: u32,
@@ -110,7 +111,7 @@ pub unsafe extern "C" fn dz_shorten(
     cause: &mut u32,
 ) -> u64 {
     let bytes = unsafe { list(bytes, bytes_len) };
-    let out = unsafe { room(out, out_len) };
+    let out = unsafe { output(out, out_len) };
     minimal::dz_shorten(Global, kind, bytes, out, taken, cause)
 }
 
@@ -118,7 +119,7 @@ pub unsafe extern "C" fn dz_shorten(
 ///
 /// # Safety
 ///
-/// As the header says: pointers are valid for their lengths, and what is written overlaps nothing else.
+/// As the header says: pointers are valid for their lengths, and the memory that is written overlaps nothing else.
 #[unsafe(no_mangle)]
 pub unsafe extern "C" fn dz_outline(
     module: *const u8,
@@ -129,7 +130,7 @@ pub unsafe extern "C" fn dz_outline(
     cause: &mut u32,
 ) -> u64 {
     let module = unsafe { list(module, module_len) };
-    let out = unsafe { room(out, out_len) };
+    let out = unsafe { output(out, out_len) };
     outlining::dz_outline(Global, module, out, place, cause)
 }
 
@@ -137,7 +138,7 @@ pub unsafe extern "C" fn dz_outline(
 ///
 /// # Safety
 ///
-/// As the header says: pointers are valid for their lengths, and what is written overlaps nothing else.
+/// As the header says: pointers are valid for their lengths, and the memory that is written overlaps nothing else.
 #[unsafe(no_mangle)]
 #[allow(clippy::too_many_arguments, reason = "a slice is two of them")]
 pub unsafe extern "C" fn dz_shorten_module(
@@ -151,7 +152,7 @@ pub unsafe extern "C" fn dz_shorten_module(
     cause: &mut u32,
 ) -> u64 {
     let module = unsafe { list(module, module_len) };
-    let out = unsafe { room(out, out_len) };
+    let out = unsafe { output(out, out_len) };
     whole::dz_shorten_module(Global, module, drop_offsets, out, kept, place, cause)
 }
 
@@ -162,7 +163,7 @@ pub unsafe extern "C" fn dz_shorten_module(
 /// As the header says: the pointer is valid for its length, and nobody else reads or writes what is written.
 #[unsafe(no_mangle)]
 pub unsafe extern "C" fn dz_cause(cause: u32, out: *mut u8, out_len: usize) -> u64 {
-    causes::dz_cause(cause, unsafe { room(out, out_len) })
+    causes::dz_cause(cause, unsafe { output(out, out_len) })
 }
 
 /// The text of a cause of `dz_assemble`.
@@ -172,5 +173,5 @@ pub unsafe extern "C" fn dz_cause(cause: u32, out: *mut u8, out_len: usize) -> u
 /// As the header says: the pointer is valid for its length, and nobody else reads or writes what is written.
 #[unsafe(no_mangle)]
 pub unsafe extern "C" fn dz_recipe_cause(cause: u32, out: *mut u8, out_len: usize) -> u64 {
-    causes::dz_recipe_cause(cause, unsafe { room(out, out_len) })
+    causes::dz_recipe_cause(cause, unsafe { output(out, out_len) })
 }

@@ -6,6 +6,24 @@ use crate::base::sections::Section;
 
 /// A builder of a counted section, to which items of type `T` are added one by one.
 ///
+/// [`add_all`](crate::fallible::add_all) takes such a builder.
+///
+/// # Examples
+///
+/// ```
+/// use dolzhytik::fallible::{Counted, FunctionSection, Global, Refused};
+///
+/// fn twice<B: Counted<u32>>(builder: &mut B, index: u32) -> Result<(), Refused> {
+///     builder.add(&index)?;
+///     builder.add(&index)
+/// }
+///
+/// let mut functions = FunctionSection::new(Global);
+/// twice(&mut functions, 7)?;
+/// assert_eq!(functions.len(), 2);
+/// # Ok::<(), Refused>(())
+/// ```
+///
 /// # Defined
 ///
 /// ```text
@@ -31,6 +49,8 @@ pub trait Counted<T>: Section {
     ///
     /// # Proved
     ///
+    /// The builder gains one entry with this encoding, or the call returns an error and changes nothing. A full builder, with 2^32 - 1 entries, returns `TooLong`.
+    ///
     /// ```text
     /// ensures { Adds (item_encoding item.now) (item_encodable item.now) (pieces self.old)
     ///     (pieces self.new) result }
@@ -47,7 +67,20 @@ pub trait Counted<T>: Section {
 /// Returns the cause and the number of items that were added before the first failing one. These
 /// items stay in the builder.
 ///
+/// # Examples
+///
+/// ```
+/// use dolzhytik::fallible::{FunctionSection, Global, Refused, add_all};
+///
+/// let mut functions = FunctionSection::new(Global);
+/// add_all(&mut functions, &[0, 1, 300])?;
+/// assert_eq!(functions.len(), 3);
+/// # Ok::<(), (usize, Refused)>(())
+/// ```
+///
 /// # Proved
+///
+/// The builder gains all items; or it gains as many as the error reports, and the next item fails. The error is `TooLong` if the builder is full, and only then if the item fits.
 ///
 /// ```text
 /// ensures { AddsAll B.item_encoding B.item_encodable items.now (B.pieces builder.old)

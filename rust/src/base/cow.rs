@@ -8,9 +8,26 @@ use crate::base::refused::Result;
 use crate::alloc::{Allocator, Global};
 
 /// A slice of items that is borrowed, or owned as a `Vec`.
+///
+/// Values with lists take it: [`Elements`](crate::fallible::Elements),
+/// [`Instruction`](crate::fallible::Instruction) and
+/// [`CustomSection`](crate::fallible::CustomSection).
+///
+/// # Examples
+///
+/// ```
+/// use dolzhytik::fallible::{AllocError, CowSlice, Global, Vec};
+///
+/// let borrowed: CowSlice<'_, u32> = CowSlice::Borrowed(&[1, 2]);
+/// let owned = CowSlice::Owned(Vec::from_slice(Global, &[1, 2])?);
+/// assert_eq!(borrowed.as_slice(), owned.as_slice());
+/// # Ok::<(), AllocError>(())
+/// ```
 #[derive(Debug)]
 pub enum CowSlice<'a, T, A: Allocator = Global> {
+    /// A slice of the caller's.
     Borrowed(&'a [T]),
+    /// A vector of its own.
     Owned(Vec<T, A>),
 }
 
@@ -35,9 +52,13 @@ impl<'a, T, A: Allocator> CowSlice<'a, T, A> {
 impl<'a, T: Copy, A: Allocator + Copy> CowSlice<'a, T, A> {
     /// Returns the same items, and copies owned ones into memory of their own.
     ///
+    /// # Errors
+    ///
+    /// Returns [`Memory`](crate::fallible::Refused::Memory) if an allocation fails.
+    ///
     /// # Proved
     ///
-    /// After `Ok`: `same`. In any case: `memory`.
+    /// After `Ok`: `same`, the result has the same content. In any case: `memory`, no error is `TooLong`.
     ///
     /// ```text
     /// ensures same { IfOk result (λ cow. items_of cow ≡ items_of self.now) }
@@ -73,9 +94,24 @@ impl<T: Encode, A: Allocator> Encode for CowSlice<'_, T, A> {
 }
 
 /// A string that is borrowed, or owned as a `String`.
+///
+/// [`CustomSection`](crate::fallible::CustomSection) takes it.
+///
+/// # Examples
+///
+/// ```
+/// use dolzhytik::fallible::{AllocError, CowStr, Global, String};
+///
+/// let borrowed: CowStr<'_> = CowStr::Borrowed("name");
+/// let owned = CowStr::Owned(String::from_str(Global, "name")?);
+/// assert_eq!(borrowed.as_str(), owned.as_str());
+/// # Ok::<(), AllocError>(())
+/// ```
 #[derive(Debug)]
 pub enum CowStr<'a, A: Allocator = Global> {
+    /// A string of the caller's.
     Borrowed(&'a str),
+    /// A string of its own.
     Owned(String<A>),
 }
 
@@ -100,9 +136,13 @@ impl<'a, A: Allocator> CowStr<'a, A> {
 impl<'a, A: Allocator + Copy> CowStr<'a, A> {
     /// Returns the same string, and copies an owned one into memory of its own.
     ///
+    /// # Errors
+    ///
+    /// Returns [`Memory`](crate::fallible::Refused::Memory) if an allocation fails.
+    ///
     /// # Proved
     ///
-    /// After `Ok`: `same`. In any case: `memory`.
+    /// After `Ok`: `same`, the result has the same content. In any case: `memory`, no error is `TooLong`.
     ///
     /// ```text
     /// ensures same { IfOk result (λ cow. encoding_of cow ≡ encoding_of self.now) }

@@ -7,6 +7,17 @@ use core::fmt;
 
 /// The cause of a failed decoding. Any cause but `Memory` means that the bytes encode no such
 /// value. Tests show which of the other causes a call returns; no contract says that.
+///
+/// # Examples
+///
+/// ```
+/// use dolzhytik::fallible::Global;
+/// use dolzhytik::reader::{ReadFault, Sections};
+///
+/// let error = Sections::new(Global, b"\0asm").unwrap_err();
+/// assert_eq!(error.cause, ReadFault::Ended);
+/// assert_eq!(error.to_string(), "unexpected end of input at offset 0x4");
+/// ```
 #[derive(Clone, Copy, PartialEq, Eq, Debug)]
 pub enum ReadFault {
     /// The bytes end before the value does.
@@ -31,6 +42,22 @@ pub enum ReadFault {
 ///
 /// Both are in one number of 64 bits, so that a result with a slice has two words, and the slice's
 /// address is moved as a whole.
+///
+/// [`cause`](crate::reader::DecodeError::cause) says why decoding failed.
+/// [`left`](crate::reader::DecodeError::left) is the number of input bytes from the error on.
+///
+/// # Examples
+///
+/// ```
+/// use dolzhytik::fallible::Global;
+/// use dolzhytik::reader::{Padded, ReadFault, Readable};
+///
+/// let input = [0x02, b'a', 0xFF];
+/// let error = <&str as Readable<Global, Padded>>::read(&input, Global).unwrap_err();
+/// assert_eq!(error.cause(), ReadFault::NotUtf8);
+/// // The error is at the first byte of the name: two bytes are left.
+/// assert_eq!(error.left(), 2);
+/// ```
 #[derive(Clone, Copy, PartialEq, Eq)]
 pub struct DecodeError {
     /// The place times 256, and the number of the cause.

@@ -14,9 +14,27 @@ use crate::alloc::Allocator;
 
 /// Appends a size prefix, and reserves spare capacity for the payload that the caller appends next.
 ///
+/// # Errors
+///
+/// Returns [`TooLong`](crate::fallible::Refused::TooLong) if a count or length would pass
+/// 4294967295, and [`Memory`](crate::fallible::Refused::Memory) if an allocation fails. The
+/// bytes of the sink are then unchanged.
+///
+/// # Examples
+///
+/// ```
+/// use dolzhytik::fallible::{Refused, begin_size_prefixed};
+///
+/// let mut bytes = Vec::new();
+/// begin_size_prefixed(&mut bytes, 3)?;
+/// bytes.extend_from_slice(b"abc");
+/// assert_eq!(bytes, *b"\x03abc");
+/// # Ok::<(), Refused>(())
+/// ```
+///
 /// # Proved
 ///
-/// After `Ok`: `ok`, `reserved`, `was_encodable`. After an error: `err`. In any case: `too_long`, `too_many`, `spare`, `capacity`.
+/// After `Ok`: `ok`, the sink gains the size; `reserved`, the sink has spare capacity for the payload; `was_encodable`, the size is at most 4294967295. After an error: `err`, the bytes of the sink are unchanged. In any case: `too_long`, a size of at most 4294967295 never gives `TooLong`; `too_many`, more than 4294967295 give `TooLong`; `spare`; `capacity`, the capacity does not shrink.
 ///
 /// ```text
 /// ensures ok { OnOk result (sink.new.items ≡ sink.old.items ++ unsigned_encoding size) }
@@ -46,7 +64,26 @@ const SHORT: usize = 0x80;
 
 /// Appends the bytes with their size prefix.
 ///
+/// # Errors
+///
+/// Returns [`TooLong`](crate::fallible::Refused::TooLong) if a count or length would pass
+/// 4294967295, and [`Memory`](crate::fallible::Refused::Memory) if an allocation fails. The
+/// bytes of the sink are then unchanged.
+///
+/// # Examples
+///
+/// ```
+/// use dolzhytik::fallible::{Refused, encode_size_prefixed};
+///
+/// let mut bytes = Vec::new();
+/// encode_size_prefixed(&mut bytes, b"abc")?;
+/// assert_eq!(bytes, *b"\x03abc");
+/// # Ok::<(), Refused>(())
+/// ```
+///
 /// # Proved
+///
+/// In any case: `appends`; `too_many`, more than 4294967295 give `TooLong`. `appends`: The call appends the encoding, or returns an error and leaves the bytes as they were. If the value fits, the call never returns `TooLong`, and it succeeds within the spare capacity.
 ///
 /// ```text
 /// ensures appends { Appends (size_prefixed_encoding bytes.now)
@@ -71,6 +108,8 @@ pub fn encode_size_prefixed<A: Sink>(sink: &mut A, bytes: &[u8]) -> Result<()> {
 ///
 /// # Proved
 ///
+/// In any case: `appends`; `too_many`, more than 4294967295 give `TooLong`. `appends`: The call appends the encoding, or returns an error and leaves the bytes as they were. If the value fits, the call never returns `TooLong`, and it succeeds within the spare capacity.
+///
 /// ```text
 /// ensures appends { Appends (size_prefixed_encoding bytes.now)
 ///     (HasEncodableSize bytes.now) sink.old sink.new result }
@@ -88,7 +127,27 @@ fn encode_long_payload<A: Sink>(sink: &mut A, bytes: &[u8]) -> Result<()> {
 /// Appends a size prefix, then `count`, then the bytes. This is a counted section if the bytes are
 /// the encodings of `count` entries; the call does not check that.
 ///
+/// # Errors
+///
+/// Returns [`TooLong`](crate::fallible::Refused::TooLong) if a count or length would pass
+/// 4294967295, and [`Memory`](crate::fallible::Refused::Memory) if an allocation fails. The
+/// bytes of the sink are then unchanged.
+///
+/// # Examples
+///
+/// ```
+/// use dolzhytik::fallible::{Refused, encode_section};
+///
+/// let mut bytes = Vec::new();
+/// encode_section(&mut bytes, 2, &[7, 8])?;
+/// // The size of the payload, 3, and two entries.
+/// assert_eq!(bytes, [3, 2, 7, 8]);
+/// # Ok::<(), Refused>(())
+/// ```
+///
 /// # Proved
+///
+/// In any case: `appends`; `too_many`, more than 4294967295 give `TooLong`. `appends`: The call appends the encoding, or returns an error and leaves the bytes as they were. If the value fits, the call never returns `TooLong`, and it succeeds within the spare capacity.
 ///
 /// ```text
 /// ensures appends { Appends
@@ -108,6 +167,22 @@ pub fn encode_section<A: Sink>(sink: &mut A, count: u32, bytes: &[u8]) -> Result
 
 /// A size-prefixed value that occupies its payload to the last byte. Its own format determines its
 /// end too.
+///
+/// # Examples
+///
+/// ```
+/// use dolzhytik::fallible::Global;
+/// use dolzhytik::reader::{DecodeError, Padded, ReadFault, Readable, SizePrefixed};
+///
+/// type Number = SizePrefixed<u32>;
+/// let (SizePrefixed(number), _) =
+///     <Number as Readable<Global, Padded>>::read(&[1, 7], Global)?;
+/// assert_eq!(number, 7);
+/// // The size is 2, and the number has one byte.
+/// let error = <Number as Readable<Global, Padded>>::read(&[2, 7, 0], Global).err();
+/// assert_eq!(error.map(|error| error.cause()), Some(ReadFault::SizeMismatch));
+/// # Ok::<(), DecodeError>(())
+/// ```
 #[derive(Debug)]
 pub struct SizePrefixed<T>(pub T);
 
@@ -138,7 +213,29 @@ impl<'a, A: Allocator + Copy, G: Grammar, T: Readable<'a, A, G>> Readable<'a, A,
 /// Inserts the size of the bytes from `start` on before them, so that they become a size prefix and
 /// its payload.
 ///
+/// # Errors
+///
+/// Returns [`TooLong`](crate::fallible::Refused::TooLong) if a count or length would pass
+/// 4294967295, and [`Memory`](crate::fallible::Refused::Memory) if an allocation fails. The
+/// bytes of the sink are then unchanged.
+///
+/// # Examples
+///
+/// ```
+/// use dolzhytik::fallible::Refused;
+/// use dolzhytik::reader::prefix_size_since;
+///
+/// let mut bytes = b"old".to_vec();
+/// let start = bytes.len();
+/// bytes.extend_from_slice(b"abc");
+/// prefix_size_since(&mut bytes, start)?;
+/// assert_eq!(bytes, *b"old\x03abc");
+/// # Ok::<(), Refused>(())
+/// ```
+///
 /// # Asks
+///
+/// `start` is at most the number of bytes in the sink.
 ///
 /// ```text
 /// requires { start ≤ vec_len sink.old }
@@ -148,7 +245,7 @@ impl<'a, A: Allocator + Copy, G: Grammar, T: Readable<'a, A, G>> Readable<'a, A,
 ///
 /// # Proved
 ///
-/// After `Ok`: `sized`, `was_encodable`. After an error: `err`. In any case: `too_long`.
+/// After `Ok`: `sized`; `was_encodable`. After an error: `err`, the bytes of the sink are unchanged. In any case: `too_long`. `was_encodable`: The size of the bytes is at most 2^32 - 1.
 ///
 /// ```text
 /// ensures sized { OnOk result
@@ -171,7 +268,7 @@ pub fn prefix_size_since<B: Sink>(sink: &mut B, start: usize) -> Result<()> {
 ///
 /// # Proved
 ///
-/// After `Ok`: `ok`. In any case: `front`, `too_long`.
+/// After `Ok`: `ok`, the sink gains the minimal encoding. In any case: `front`; `too_long`, a value that has an encoding never gives `TooLong`. `front`: The new bytes begin with the old ones.
 ///
 /// ```text
 /// ensures ok { OnOk result

@@ -4,6 +4,25 @@
 /// The encodings that a decoder accepts. In each grammar a value has exactly one minimal encoding,
 /// and its numbers may be padded.
 ///
+/// [`Padded`](crate::reader::Padded) and [`Standard`](crate::reader::Standard) are the
+/// grammars. The page of [`reader`](crate::reader#grammars) says how they differ.
+///
+/// # Examples
+///
+/// ```
+/// use dolzhytik::fallible::{Global, RefType};
+/// use dolzhytik::reader::{DecodeError, Grammar, Padded, Readable, Standard};
+///
+/// fn read<G: Grammar>(bytes: &[u8]) -> Result<RefType, DecodeError> {
+///     Ok(<RefType as Readable<Global, G>>::read(bytes, Global)?.0)
+/// }
+///
+/// // `anyref` in one byte.
+/// assert!(read::<Padded>(&[0x6E]).is_err());
+/// assert!(read::<Standard>(&[0x6E])?.nullable);
+/// # Ok::<(), DecodeError>(())
+/// ```
+///
 /// # Defined
 ///
 /// ```text
@@ -27,6 +46,19 @@ pub trait Grammar {
 }
 
 /// The encodings that builders write, with padded numbers too.
+///
+/// # Examples
+///
+/// ```
+/// use dolzhytik::fallible::Global;
+/// use dolzhytik::reader::{DecodeError, Padded, Readable};
+///
+/// // 1 in two bytes, where one is minimal.
+/// let (number, rest) =
+///     <u32 as Readable<Global, Padded>>::read(&[0x81, 0x00, 0xFF], Global)?;
+/// assert_eq!((number, rest), (1, &[0xFF][..]));
+/// # Ok::<(), DecodeError>(())
+/// ```
 #[derive(Clone, Copy, PartialEq, Eq, Debug)]
 pub struct Padded;
 
@@ -46,6 +78,18 @@ impl Grammar for Padded {
 
 /// All encodings that the standard admits. A nullable reference to an abstract type may have one
 /// byte, for example.
+///
+/// # Examples
+///
+/// ```
+/// use dolzhytik::fallible::{Global, RefType};
+/// use dolzhytik::reader::{DecodeError, Readable, Standard};
+///
+/// // `externref` in two bytes, where one is usual: 63, and 6F for `extern`.
+/// let (ty, _) = <RefType as Readable<Global, Standard>>::read(&[0x63, 0x6F], Global)?;
+/// assert_eq!(ty, RefType::EXTERNREF);
+/// # Ok::<(), DecodeError>(())
+/// ```
 #[derive(Clone, Copy, PartialEq, Eq, Debug)]
 pub struct Standard;
 

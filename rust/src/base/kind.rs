@@ -3,6 +3,20 @@
 
 /// A kind of items, as a section of counted items has them.
 ///
+/// [`ItemKind`](crate::fallible::ItemKind) is a kind of core sections, and
+/// [`CustomKind`](crate::fallible::CustomKind) one of custom sections. A kind has no value: it
+/// is a type argument of a builder.
+///
+/// # Examples
+///
+/// ```
+/// use dolzhytik::fallible::{CountedSection, FunctionItems, FunctionSection, Global};
+///
+/// let functions: FunctionSection =
+///     CountedSection::<FunctionItems, Global>::new(Global);
+/// assert!(functions.is_empty());
+/// ```
+///
 /// # Defined
 ///
 /// ```text
@@ -11,8 +25,7 @@
 /// // The value to which an entry decodes.
 /// Item: { Type 0 }
 /// // The encoding of a record, when the record is well-formed, the item that it then
-///     encodes, and
-/// // the format of items.
+/// // encodes, and the format of items.
 /// kind: { KindOf Record Item }
 /// ```
 ///
@@ -22,6 +35,8 @@ pub trait Kind {
     /// item. The function does nothing.
     ///
     /// # Proved
+    ///
+    /// The laws of a kind of items: the format is unambiguous, and a well-formed record whose size fits encodes its normal form.
     ///
     /// ```text
     /// ensures { ItemLaws kind }

@@ -12,6 +12,8 @@
 ///
 /// # Proved
 ///
+/// `u32`, `u64`, `s32`, `s64`, `s33`: A format whose encodings determine their own end is unambiguous in every mode, with encodings as `HasEncodings` states. `u32_encodings`, `u64_encodings`, `s32_encodings`, `s64_encodings`, `s33_encodings`: Each value that fits has the minimal encoding `encoding x`.
+///
 /// ```text
 /// ensures u32 { Unambiguous u32_format }
 /// ensures u64 { Unambiguous u64_format }
@@ -35,6 +37,8 @@ pub fn numbers() {}
 /// of section ids and payloads.
 ///
 /// # Proved
+///
+/// `fixed_4`, `fixed_8`, `fixed_16`, `vec_bytes`, `vec_u32`, `vec_names`, `size_prefixed`, `name`, `custom`: A format whose encodings determine their own end is unambiguous in every mode, with encodings as `HasEncodings` states. `wasm_module`: A format that takes all of the bytes is unambiguous in every mode, with encodings as `HasEncodings` states. `fixed_4_encodings`, `fixed_8_encodings`, `fixed_16_encodings`, `vec_bytes_encodings`, `vec_u32_encodings`, `vec_names_encodings`, `size_prefixed_encodings`, `name_encodings`, `custom_encodings`, `module_encodings`: Each value that fits has the minimal encoding `encoding x`.
 ///
 /// ```text
 /// ensures fixed_4 { Unambiguous (little_endian 4) }
@@ -83,6 +87,8 @@ pub fn frames() {}
 ///
 /// # Proved
 ///
+/// `bytes`, `u32`, `custom`: If size-prefixed bytes decode to `x` alone, their payload decodes to `x` alone.
+///
 /// ```text
 /// ensures bytes { DecodesPayloads any_bytes }
 /// ensures u32 { DecodesPayloads u32_format }
@@ -95,6 +101,8 @@ pub fn payloads() {}
 /// The same with padded numbers.
 ///
 /// # Proved
+///
+/// `bytes`, `u32`, `custom`: As `DecodesPayloads`, for padded LEB128.
 ///
 /// ```text
 /// ensures bytes { DecodesPayloadsPadded any_bytes }
@@ -109,6 +117,8 @@ pub fn padded_payloads() {}
 /// 0x40, the empty block type.
 ///
 /// # Proved
+///
+/// `heap`, `reference`, `value`: A format whose encodings determine their own end is unambiguous in every mode, with encodings as `HasEncodings` states. `index`: Each encoding, in any mode, has a first byte with the property. `heap_encodings`, `reference_encodings`, `value_encodings`: Each value that fits has the minimal encoding `encoding x`.
 ///
 /// ```text
 /// ensures heap { Unambiguous heap_type }
@@ -160,6 +170,8 @@ pub fn constants() {}
 /// encoding is also an encoding in this mode.
 ///
 /// # Proved
+///
+/// `u32`, `u64`, `s32`, `s64`, `s33`, `fixed_4`, `fixed_8`, `fixed_16`, `vec_bytes`, `vec_u32`, `vec_names`, `size_prefixed`, `name`, `custom`, `heap_type`, `ref_type`, `val_type`: With padding allowed a format is unambiguous, and it keeps every minimal encoding. `wasm_module`: As `UnambiguousPadded`, for a format that takes all of the bytes.
 ///
 /// ```text
 /// ensures u32 { UnambiguousPadded u32_format }

@@ -18,7 +18,16 @@ const UNSIGNED_LIMIT: u64 = 0x80;
 /// 6 is the sign.
 const SIGNED_LIMIT: u64 = 0x40;
 
-/// Returns the length in bytes of the minimal unsigned encoding of `n`.
+/// Returns the number of bytes of a number as minimal LEB128, such as a count or a size prefix.
+///
+/// # Examples
+///
+/// ```
+/// use dolzhytik::encoding_size;
+///
+/// // Each byte has seven bits of the number.
+/// assert_eq!([encoding_size(127), encoding_size(128), encoding_size(u32::MAX)], [1, 2, 5]);
+/// ```
 ///
 /// # Proved
 ///
@@ -168,6 +177,8 @@ const MOST_GROUPS: usize = 10;
 ///
 /// # Proved
 ///
+/// The call appends the encoding, or returns an error and leaves the bytes as they were. If the value fits, the call never returns `TooLong`, and it succeeds within the spare capacity.
+///
 /// ```text
 /// ensures { Appends (groups_encoding negative limit n) ⊤ sink.old sink.new result }
 /// ```
@@ -203,6 +214,8 @@ fn append_groups<A: Sink>(
 ///
 /// # Proved
 ///
+/// The call appends the encoding, or returns an error and leaves the bytes as they were. If the value fits, the call never returns `TooLong`, and it succeeds within the spare capacity.
+///
 /// ```text
 /// ensures { Appends (groups_encoding negative limit n) ⊤ sink.old sink.new result }
 /// ```
@@ -233,6 +246,8 @@ fn append_counted_groups<A: Sink>(
 ///
 /// # Proved
 ///
+/// The call appends the encoding, or returns an error and leaves the bytes as they were. If the value fits, the call never returns `TooLong`, and it succeeds within the spare capacity.
+///
 /// ```text
 /// ensures { Appends (unsigned_encoding n) ⊤ sink.old sink.new result }
 /// ```
@@ -255,6 +270,8 @@ fn append_long_unsigned<A: Sink>(sink: &mut A, n: u64) -> Result<()> {
 ///
 /// # Proved
 ///
+/// The call appends the encoding, or returns an error and leaves the bytes as they were. If the value fits, the call never returns `TooLong`, and it succeeds within the spare capacity.
+///
 /// ```text
 /// ensures { Appends (groups_encoding negative SIGNED_LIMIT n) ⊤ sink.old sink.new result }
 /// ```
@@ -268,6 +285,8 @@ fn append_long_signed<A: Sink>(sink: &mut A, negative: bool, n: u64) -> Result<(
 /// Appends an unsigned number. Most have one byte, which is written here without a call.
 ///
 /// # Proved
+///
+/// The call appends the encoding, or returns an error and leaves the bytes as they were. If the value fits, the call never returns `TooLong`, and it succeeds within the spare capacity.
 ///
 /// ```text
 /// ensures { Appends (unsigned_encoding n) ⊤ sink.old sink.new result }
@@ -284,6 +303,8 @@ fn append_unsigned<A: Sink>(sink: &mut A, n: u64) -> Result<()> {
 }
 
 /// # Proved
+///
+/// The call appends the encoding, or returns an error and leaves the bytes as they were. If the value fits, the call never returns `TooLong`, and it succeeds within the spare capacity.
 ///
 /// ```text
 /// ensures { Appends (signed_encoding n) ⊤ sink.old sink.new result }
@@ -390,6 +411,21 @@ impl Encode for i64 {
 }
 
 /// The groups of seven bits at the front of bytes, the lowest group first.
+///
+/// [`read_groups`](crate::fallible::read_groups) returns it.
+///
+/// # Examples
+///
+/// ```
+/// use dolzhytik::fallible::{Groups, read_groups};
+///
+/// let Ok((Groups { sum, power, last }, rest)) = read_groups(&[0xAC, 0x02, 0xFF], 5)
+/// else {
+///     panic!("two groups are there");
+/// };
+/// // 2C and 02 are the groups: 0x02 * 128 + 0x2C = 300.
+/// assert_eq!((sum, power, last, rest), (300, 128 * 128, 0x02, &[0xFF][..]));
+/// ```
 #[derive(Clone, Copy, Debug)]
 pub struct Groups {
     /// The number that the groups encode without a sign.
@@ -403,7 +439,30 @@ pub struct Groups {
 /// Decodes the groups at the front, at most `limit` of them, and returns them with the remaining
 /// bytes.
 ///
+/// # Errors
+///
+/// An error means that the bytes do not begin with at most `limit` groups: `Ended` only if
+/// there are fewer bytes than `limit`, and `TooLarge` only if there are not.
+///
+/// # Examples
+///
+/// ```
+/// use dolzhytik::fallible::read_groups;
+/// use dolzhytik::reader::ReadFault;
+///
+/// assert_eq!(
+///     read_groups(&[0x80, 0x01], 5).map(|(groups, _)| groups.sum).ok(),
+///     Some(128)
+/// );
+/// assert_eq!(
+///     read_groups(&[0x80], 5).map_err(|error| error.cause()).err(),
+///     Some(ReadFault::Ended)
+/// );
+/// ```
+///
 /// # Asks
+///
+/// `limit` is at most 10.
 ///
 /// ```text
 /// requires { limit ≤ 10 }
@@ -413,7 +472,7 @@ pub struct Groups {
 ///
 /// # Proved
 ///
-/// After `Ok`: `found`, `power`, `below`. After an error: `none`, `ended`, `too_many`.
+/// After `Ok`: `found`; `power`; `below`. After an error: `none`, the bytes do not begin with such an encoding; `ended`; `too_many`. `found`: The bytes begin with LEB128 groups, followed by `rest`: their sum, 128 to the power of their number, and the last group.
 ///
 /// ```text
 /// ensures found { IfOk result
@@ -515,7 +574,7 @@ struct FewGroups {
 ///
 /// # Proved
 ///
-/// After `Ok`: `found`, `power`, `below`. After an error: `none`.
+/// After `Ok`: `found`; `power`; `below`. After an error: `none`, the bytes do not begin with such an encoding. `found`: The bytes begin with LEB128 groups, followed by `rest`: their sum, 128 to the power of their number, and the last group.
 ///
 /// ```text
 /// ensures found { IfOk result
@@ -580,7 +639,7 @@ fn signed_few(groups: FewGroups) -> i64 {
 ///
 /// # Proved
 ///
-/// After `Ok`: `found`. After an error: `none`.
+/// After `Ok`: `found`, the bytes begin with an encoding of the value, and the returned bytes follow it. After an error: `none`, the bytes do not begin with such an encoding, unless the cause is `Memory`.
 ///
 /// ```text
 /// ensures found { IfOk result
@@ -604,7 +663,7 @@ fn read_long_u32<G: Grammar>(bytes: &[u8]) -> Result<(u32, &[u8]), DecodeError> 
 ///
 /// # Proved
 ///
-/// After `Ok`: `found`. After an error: `none`.
+/// After `Ok`: `found`, the bytes begin with an encoding of the value, and the returned bytes follow it. After an error: `none`, the bytes do not begin with such an encoding, unless the cause is `Memory`.
 ///
 /// ```text
 /// ensures found { IfOk result
@@ -631,7 +690,7 @@ fn read_long_u64<G: Grammar>(bytes: &[u8]) -> Result<(u64, &[u8]), DecodeError> 
 ///
 /// # Proved
 ///
-/// After `Ok`: `found`. After an error: `none`.
+/// After `Ok`: `found`, the bytes begin with an encoding of the value, and the returned bytes follow it. After an error: `none`, the bytes do not begin with such an encoding, unless the cause is `Memory`.
 ///
 /// ```text
 /// ensures found { IfOk result
@@ -659,7 +718,7 @@ fn read_long_i32<G: Grammar>(bytes: &[u8]) -> Result<(i32, &[u8]), DecodeError> 
 ///
 /// # Proved
 ///
-/// After `Ok`: `found`. After an error: `none`.
+/// After `Ok`: `found`, the bytes begin with an encoding of the value, and the returned bytes follow it. After an error: `none`, the bytes do not begin with such an encoding, unless the cause is `Memory`.
 ///
 /// ```text
 /// ensures found { IfOk result
@@ -791,7 +850,7 @@ impl<'a, A: Allocator + Copy, G: Grammar> Readable<'a, A, G> for i64 {
 ///
 /// # Proved
 ///
-/// After `Ok`: `found`. After an error: `none`.
+/// After `Ok`: `found`, the bytes begin with an encoding of the value, and the returned bytes follow it. After an error: `none`, the bytes do not begin with such an encoding, unless the cause is `Memory`.
 ///
 /// ```text
 /// ensures found { IfOk result

@@ -40,8 +40,14 @@ pub use frames::{begin_size_prefixed, encode_section, encode_size_prefixed};
 pub(crate) use frames::{SizePrefixed, prefix_size_since};
 pub(crate) use grammar::{Grammar, Padded, Standard};
 pub use kind::Kind;
-pub use leb128::{Groups, encoding_size, read_groups};
+pub use leb128::{Groups, encoding_size};
+#[doc(alias = "leb128")]
+#[doc(alias = "varint")]
+#[doc(alias = "parse")]
+pub use leb128::read_groups;
 pub(crate) use leb128::read_index;
+#[doc(alias = "wasm")]
+#[doc(alias = "encoder")]
 pub use modules::Module;
 pub use once::{BytesOf, EncodeOnce, VecOf, bytes_of, vec_of};
 pub use parts::{Lent, Optional};
@@ -64,11 +70,20 @@ pub(crate) use whole::{read_before, read_to_end, read_whole};
 
 /// The names that decode, which `reader` exports.
 pub(crate) mod reading {
-    pub use super::fault::{DecodeError, ReadFault};
+    pub use super::fault::DecodeError;
+    #[doc(alias = "error")]
+    #[doc(alias = "malformed")]
+    pub use super::fault::ReadFault;
     pub use super::frames::{SizePrefixed, prefix_size_since};
     pub use super::grammar::{Grammar, Padded, Standard};
     pub use super::parts::read_optional;
-    pub use super::readable::{Layout, Readable};
+    pub use super::readable::Layout;
+    #[doc(alias = "parse")]
+    #[doc(alias = "decode")]
+    #[doc(alias = "leb128")]
+    pub use super::readable::Readable;
+    #[doc(alias = "minimize")]
+    #[doc(alias = "shrink")]
     pub use super::shorten::Shorten;
     pub use super::skip::{Dropped, Skip, skip_many};
     pub use super::vectors::append_all;

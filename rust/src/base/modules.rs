@@ -9,14 +9,16 @@ use crate::alloc::{Allocator, Global};
 /// A module: its header and the sections that were appended, as bytes.
 ///
 /// ```
+/// # fn example() -> Result<(), Box<dyn std::error::Error>> {
 /// # use dolzhytik::{fallible::*, reader::*};
-/// # fn example(alloc: Global) -> Result<(), Box<dyn std::error::Error>> {
-/// let mut module = Module::new(alloc)?;
+/// use dolzhytik::fallible::{Global, Module, RawSection};
+///
+/// let mut module = Module::new(Global)?;
 /// module.section(&RawSection { id: 1, bytes: &[0] })?;
 /// let bytes = module.finish();
 /// # Ok(())
 /// # }
-/// # example(Global).unwrap();
+/// # example().unwrap();
 /// ```
 #[derive(Debug)]
 pub struct Module<A: Allocator = Global> {
@@ -32,7 +34,7 @@ impl<A: Allocator> Module<A> {
     ///
     /// # Proved
     ///
-    /// After `Ok`: `bytes`, `read`. In any case: `memory`.
+    /// After `Ok`: `bytes`, the module is the header; `read`. In any case: `memory`, no error is `TooLong`. `read`: As `DecodesUniquely`, for a format that takes all of the bytes: `encoding` as a whole decodes to `x` alone.
     ///
     /// ```text
     /// ensures bytes { IfOk result (λ m. m ≡ header) }
@@ -56,7 +58,7 @@ impl<A: Allocator> Module<A> {
     ///
     /// # Proved
     ///
-    /// After `Ok`: `ok`, `read`, `section`, `was_encodable`. After an error: `err`. In any case: `too_long`, `too_many`.
+    /// After `Ok`: `ok`, the module gains the id and the encoding of the section; `read`; `section`, the encoding decodes as the impl defines by `decoding`; `was_encodable`, each count and length fits 32 bits. After an error: `err`, the value is unchanged. In any case: `too_long`, a section whose counts and lengths fit never gives `TooLong`; `too_many`, an `overlong` section gives `TooLong`. `read`: Composition of modules: if the old bytes decode to some sections alone, the new bytes decode to these and one more. That section has this id, and any payload with the property.
     ///
     /// ```text
     /// ensures ok { OnOk result
@@ -77,9 +79,13 @@ impl<A: Allocator> Module<A> {
 
     /// Returns a module of the same bytes, in memory of its own.
     ///
+    /// # Errors
+    ///
+    /// Returns [`Memory`](crate::fallible::Refused::Memory) if an allocation fails.
+    ///
     /// # Proved
     ///
-    /// After `Ok`: `same`. In any case: `memory`.
+    /// After `Ok`: `same`, the result equals the value. In any case: `memory`, no error is `TooLong`.
     ///
     /// ```text
     /// ensures same { IfOk result (λ m. m ≡ self.now) }
@@ -106,6 +112,7 @@ impl<A: Allocator> Module<A> {
     /// ```
     ///
     /// [How to read clauses](crate::definitions).
+    #[doc(alias = "bytes")]
     pub fn finish(self) -> Vec<u8, A> {
         self.bytes
     }

@@ -43,6 +43,8 @@ impl Encode for &str {
 impl<'a> Layout for &'a [u8] {
     /// # Proved
     ///
+    /// A format whose encodings determine their own end is unambiguous in every mode, with encodings as `HasEncodings` states.
+    ///
     /// ```text
     /// ensures { Unambiguous (size_prefixed any_bytes) }
     /// ```
@@ -74,6 +76,8 @@ impl<'a, A: Allocator + Copy, G: Grammar> Readable<'a, A, G> for &'a [u8] {
 /// Definitions: [`name`](crate::definitions::base::formats::name). [How to read clauses](crate::definitions).
 impl<'a> Layout for &'a str {
     /// # Proved
+    ///
+    /// A format whose encodings determine their own end is unambiguous in every mode, with encodings as `HasEncodings` states.
     ///
     /// ```text
     /// ensures { Unambiguous name }

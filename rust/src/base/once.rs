@@ -12,6 +12,21 @@ use crate::base::refused::{Refused, Result};
 /// `encode_once` returns [`Refused`], and leaves the sink unchanged, if an allocation fails or the
 /// encoding does not fit.
 ///
+/// [`vec_of`](crate::fallible::vec_of) and [`bytes_of`](crate::fallible::bytes_of) return such
+/// values.
+///
+/// # Examples
+///
+/// ```
+/// use dolzhytik::fallible::{EncodeOnce, Refused, vec_of};
+///
+/// let mut bytes = Vec::new();
+/// vec_of([1_u32, 300].into_iter())?.encode_once(&mut bytes)?;
+/// // Two numbers: 1, and 300 = 2 * 128 + 44.
+/// assert_eq!(bytes, [2, 1, 0xAC, 0x02]);
+/// # Ok::<(), Refused>(())
+/// ```
+///
 /// # Defined
 ///
 /// ```text
@@ -28,7 +43,15 @@ use crate::base::refused::{Refused, Result};
 pub trait EncodeOnce {
     /// Appends an encoding of the value. On an error, the bytes of the sink are unchanged.
     ///
+    /// # Errors
+    ///
+    /// Returns [`TooLong`](crate::fallible::Refused::TooLong) if a count or length would pass
+    /// 4294967295, and [`Memory`](crate::fallible::Refused::Memory) if an allocation fails. The
+    /// bytes of the sink are then unchanged.
+    ///
     /// # Asks
+    ///
+    /// Each iterator in the value ends, and yields as many items as it reports: the impl says so by `lawful`.
     ///
     /// ```text
     /// requires { lawful self }
@@ -37,6 +60,8 @@ pub trait EncodeOnce {
     /// [How to read clauses](crate::definitions).
     ///
     /// # Proved
+    ///
+    /// The call appends one of the encodings that the value may have, or returns an error and leaves the bytes as they were.
     ///
     /// ```text
     /// ensures { AppendsOnce (gives self) (encodable self) sink.old sink.new result }
@@ -47,6 +72,18 @@ pub trait EncodeOnce {
 }
 
 /// The vector of an iterator's items, counted before the first item was requested: see [`vec_of`].
+///
+/// # Examples
+///
+/// ```
+/// use dolzhytik::fallible::{EncodeOnce, Refused, VecOf, vec_of};
+///
+/// let squares: VecOf<_> = vec_of((1_u32..4).map(|n| n * n).collect::<Vec<_>>())?;
+/// let mut bytes = Vec::new();
+/// squares.encode_once(&mut bytes)?;
+/// assert_eq!(bytes, [3, 1, 4, 9]);
+/// # Ok::<(), Refused>(())
+/// ```
 #[derive(Debug)]
 pub struct VecOf<I> {
     items: I,
@@ -55,6 +92,18 @@ pub struct VecOf<I> {
 
 /// The vector of an iterator's bytes, counted before the first byte was requested: see
 /// [`bytes_of`].
+///
+/// # Examples
+///
+/// ```
+/// use dolzhytik::fallible::{BytesOf, EncodeOnce, Refused, bytes_of};
+///
+/// let data: BytesOf<_> = bytes_of(*b"hi")?;
+/// let mut bytes = Vec::new();
+/// data.encode_once(&mut bytes)?;
+/// assert_eq!(bytes, [2, b'h', b'i']);
+/// # Ok::<(), Refused>(())
+/// ```
 #[derive(Debug)]
 pub struct BytesOf<I> {
     items: I,
@@ -66,7 +115,7 @@ pub struct BytesOf<I> {
 ///
 /// # Proved
 ///
-/// After `Ok`: `ok`. After an error: `refused`. In any case: `too_long`, `too_many`.
+/// After `Ok`: `ok`. After an error: `refused`, the error is `TooLong`. In any case: `too_long`; `too_many`, more than 4294967295 give `TooLong`.
 ///
 /// ```text
 /// ensures ok { IfOk result
@@ -92,9 +141,21 @@ fn count_of<I: ExactSizeIterator>(items: &I) -> Result<u32> {
 /// Returns `TooLong` if the iterator reports more than 4294967295 elements. It never returns
 /// `Memory`.
 ///
+/// # Examples
+///
+/// ```
+/// use dolzhytik::fallible::{EncodeOnce, Refused, ValType, vec_of};
+///
+/// let mut bytes = Vec::new();
+/// vec_of([ValType::I32, ValType::F64])?.encode_once(&mut bytes)?;
+/// // Two types: i32 is 7F, f64 is 7C.
+/// assert_eq!(bytes, [2, 0x7F, 0x7C]);
+/// # Ok::<(), Refused>(())
+/// ```
+///
 /// # Proved
 ///
-/// After `Ok`: `ok`. After an error: `refused`. In any case: `too_long`, `too_many`.
+/// After `Ok`: `ok`. After an error: `refused`, the error is `TooLong`. In any case: `too_long`; `too_many`.
 ///
 /// ```text
 /// ensures ok { IfOk result
@@ -124,9 +185,20 @@ where
 ///
 /// Returns `TooLong` if the iterator reports more than 4294967295 bytes. It never returns `Memory`.
 ///
+/// # Examples
+///
+/// ```
+/// use dolzhytik::fallible::{EncodeOnce, Refused, bytes_of};
+///
+/// let mut bytes = Vec::new();
+/// bytes_of("hi".bytes())?.encode_once(&mut bytes)?;
+/// assert_eq!(bytes, [2, b'h', b'i']);
+/// # Ok::<(), Refused>(())
+/// ```
+///
 /// # Proved
 ///
-/// After `Ok`: `ok`. After an error: `refused`. In any case: `too_long`, `too_many`.
+/// After `Ok`: `ok`. After an error: `refused`, the error is `TooLong`. In any case: `too_long`; `too_many`.
 ///
 /// ```text
 /// ensures ok { IfOk result
@@ -227,6 +299,8 @@ fn next_block<I: Iterator<Item = u8>>(items: &mut I) -> [u8; BLOCK] {
 /// [How to read clauses](crate::definitions).
 ///
 /// # Proved
+///
+/// In any case: `appends`; `ready`; `capacity`, the capacity does not shrink.
 ///
 /// ```text
 /// ensures appends { (xs : List ℕ) × Yields I.next_gives items.old xs items.new

@@ -10,6 +10,24 @@ use crate::base::refused::Result;
 use crate::alloc::Allocator;
 
 /// A borrowed value as a component of an encoding.
+///
+/// [`Encode`](crate::fallible::Encode) is implemented for values, and not for references to
+/// them. `Lent` makes a component of a tuple of a reference.
+///
+/// # Examples
+///
+/// ```
+/// use dolzhytik::fallible::{Encode, Lent, Refused, ValType};
+///
+/// fn local(ty: &ValType, sink: &mut Vec<u8>) -> Result<(), Refused> {
+///     (1_u32, Lent(ty)).encode(sink)
+/// }
+///
+/// let mut bytes = Vec::new();
+/// local(&ValType::I32, &mut bytes)?;
+/// assert_eq!(bytes, [1, 0x7F]);
+/// # Ok::<(), Refused>(())
+/// ```
 #[derive(Debug)]
 pub struct Lent<'a, T>(pub &'a T);
 
@@ -31,6 +49,19 @@ impl<T: Encode> Encode for Lent<'_, T> {
 }
 
 /// An optional component of an encoding.
+///
+/// # Examples
+///
+/// ```
+/// use dolzhytik::fallible::{Encode, Optional, Refused};
+///
+/// let mut bytes = Vec::new();
+/// (1_u8, Optional(Some(5_u32))).encode(&mut bytes)?;
+/// (0_u8, Optional::<u32>(None)).encode(&mut bytes)?;
+/// // `None` has no bytes.
+/// assert_eq!(bytes, [1, 5, 0]);
+/// # Ok::<(), Refused>(())
+/// ```
 #[derive(Clone, Copy, Debug)]
 pub struct Optional<T>(pub Option<T>);
 
@@ -60,9 +91,21 @@ impl<T: Encode> Encode for Optional<T> {
 ///
 /// Any error but `Memory` means that the flag is set, and no such value is at the front.
 ///
+/// # Examples
+///
+/// ```
+/// use dolzhytik::fallible::Global;
+/// use dolzhytik::reader::{DecodeError, Padded, read_optional};
+///
+/// let (some, _) = read_optional::<u32, Global, Padded>(true, &[5], Global)?;
+/// let (none, rest) = read_optional::<u32, Global, Padded>(false, &[5], Global)?;
+/// assert_eq!((some, none, rest), (Some(5), None, &[5][..]));
+/// # Ok::<(), DecodeError>(())
+/// ```
+///
 /// # Proved
 ///
-/// After `Ok`: `found`. After an error: `none`.
+/// After `Ok`: `found`, the bytes begin with an encoding of the value, and the returned bytes follow it. After an error: `none`, the bytes do not begin with such an encoding, unless the cause is `Memory`.
 ///
 /// ```text
 /// ensures found { IfOk result

@@ -18,6 +18,25 @@ use crate::alloc::{Allocator, Global};
 /// An adding call that returns an error leaves the entries unchanged. The error is
 /// [`Refused::TooLong`] only if there are 4294967295 entries already or the item does not fit, and
 /// [`Refused::Memory`] only if an allocation fails.
+///
+/// The builders consist of it. Use it for a section of your own.
+///
+/// # Examples
+///
+/// ```
+/// use dolzhytik::fallible::{Encode, Global, Pieces, Refused};
+///
+/// let mut entries = Pieces::new(Global);
+/// entries.add(b"ab")?;
+/// entries.add_encoded(&300_u32)?;
+/// assert_eq!((entries.len(), entries.get(1)), (2, Some(&[0xAC, 0x02][..])));
+///
+/// let mut bytes = Vec::new();
+/// entries.encode(&mut bytes)?;
+/// // The size of the payload, 5; two entries.
+/// assert_eq!(bytes, [5, 2, b'a', b'b', 0xAC, 0x02]);
+/// # Ok::<(), Refused>(())
+/// ```
 #[derive(Debug)]
 pub struct Pieces<A: Allocator = Global> {
     bytes: Vec<u8, A>,
@@ -76,6 +95,8 @@ impl<A: Allocator> Pieces<A> {
     ///
     /// # Proved
     ///
+    /// The result is true exactly if there are no entries.
+    ///
     /// ```text
     /// ensures { IsTrue result ↔ (length self.now ≡ 0) }
     /// ```
@@ -116,6 +137,8 @@ impl<A: Allocator> Pieces<A> {
     ///
     /// # Proved
     ///
+    /// The result is the entry at `index`, if there is one.
+    ///
     /// ```text
     /// ensures { option_copied result ≡ slice_get self.now index }
     /// ```
@@ -133,7 +156,15 @@ impl<A: Allocator> Pieces<A> {
 
     /// Adds an entry of these bytes.
     ///
+    /// # Errors
+    ///
+    /// Returns [`TooLong`](crate::fallible::Refused::TooLong) if the builder has 4294967295
+    /// entries, and [`Memory`](crate::fallible::Refused::Memory) if an allocation fails. The
+    /// builder is then unchanged.
+    ///
     /// # Proved
+    ///
+    /// The builder gains one entry with this encoding, or the call returns an error and changes nothing. A full builder, with 2^32 - 1 entries, returns `TooLong`.
     ///
     /// ```text
     /// ensures { Adds entry.now ⊤ self.old self.new result }
@@ -154,7 +185,16 @@ impl<A: Allocator> Pieces<A> {
 
     /// Adds the encoding of the item as an entry. It is encoded directly into the buffer.
     ///
+    /// # Errors
+    ///
+    /// Returns [`TooLong`](crate::fallible::Refused::TooLong) if the builder has 4294967295
+    /// entries, or if a count or length would pass 4294967295, and
+    /// [`Memory`](crate::fallible::Refused::Memory) if an allocation fails. The builder is then
+    /// unchanged.
+    ///
     /// # Proved
+    ///
+    /// The builder gains one entry with this encoding, or the call returns an error and changes nothing. A full builder, with 2^32 - 1 entries, returns `TooLong`.
     ///
     /// ```text
     /// ensures { Adds (T.encoding item.now) (T.encodable item.now) self.old self.new result }
@@ -176,7 +216,16 @@ impl<A: Allocator> Pieces<A> {
     /// Adds an encoding of the item as an entry, and consumes the item. It is encoded directly into
     /// the buffer.
     ///
+    /// # Errors
+    ///
+    /// Returns [`TooLong`](crate::fallible::Refused::TooLong) if the builder has 4294967295
+    /// entries, or if a count or length would pass 4294967295, and
+    /// [`Memory`](crate::fallible::Refused::Memory) if an allocation fails. The builder is then
+    /// unchanged.
+    ///
     /// # Asks
+    ///
+    /// Each iterator in the value ends, and yields as many items as it reports: the impl says so by `lawful`.
     ///
     /// ```text
     /// requires { T.lawful item }
@@ -185,6 +234,8 @@ impl<A: Allocator> Pieces<A> {
     /// [How to read clauses](crate::definitions).
     ///
     /// # Proved
+    ///
+    /// The builder gains one entry with one of these encodings, or the call returns an error and changes nothing. A full builder, with 2^32 - 1 entries, returns `TooLong`.
     ///
     /// ```text
     /// ensures { AddsOnce (T.gives item) (T.encodable item) self.old self.new result }
@@ -209,6 +260,8 @@ impl<A: Allocator + Copy> Pieces<A> {
     ///
     /// # Proved
     ///
+    /// The result has no entries.
+    ///
     /// ```text
     /// ensures { result ≡ [] }
     /// ```
@@ -223,9 +276,13 @@ impl<A: Allocator + Copy> Pieces<A> {
 
     /// Returns the same entries, in memory of their own.
     ///
+    /// # Errors
+    ///
+    /// Returns [`Memory`](crate::fallible::Refused::Memory) if an allocation fails.
+    ///
     /// # Proved
     ///
-    /// After `Ok`: `same`. In any case: `memory`.
+    /// After `Ok`: `same`, the result equals the value. In any case: `memory`, no error is `TooLong`.
     ///
     /// ```text
     /// ensures same { IfOk result (λ pieces. pieces ≡ self.now) }

@@ -7,6 +7,19 @@ use crate::alloc::Allocator;
 
 /// A value with a format, which defines the bytes that encode it.
 ///
+/// [`Readable`](crate::reader::Readable), [`Skip`](crate::reader::Skip) and
+/// [`Shorten`](crate::reader::Shorten) have the calls of such values.
+///
+/// # Examples
+///
+/// ```
+/// use dolzhytik::fallible::ValType;
+/// use dolzhytik::reader::Layout;
+///
+/// // A law of the format, which the prover has checked. The call does nothing.
+/// <ValType as Layout>::laws();
+/// ```
+///
 /// # Defined
 ///
 /// ```text
@@ -26,6 +39,8 @@ pub trait Layout {
     ///
     /// # Proved
     ///
+    /// A format whose encodings determine their own end is unambiguous in every mode, with encodings as `HasEncodings` states.
+    ///
     /// ```text
     /// ensures { Unambiguous format }
     /// ```
@@ -36,6 +51,20 @@ pub trait Layout {
 
 /// A value that can be decoded from the front of bytes. Lists are allocated in `A`; names and bytes
 /// are slices of the input.
+///
+/// # Examples
+///
+/// ```
+/// use dolzhytik::fallible::{Global, ValType};
+/// use dolzhytik::reader::{DecodeError, Padded, Readable};
+///
+/// let bytes = [0x7F, 0xAC, 0x02];
+/// let (ty, rest) = <ValType as Readable<Global, Padded>>::read(&bytes, Global)?;
+/// let (number, rest) = <u32 as Readable<Global, Padded>>::read(rest, Global)?;
+/// // i32, and 0x02 * 128 + 0x2C.
+/// assert_eq!((ty, number, rest.len()), (ValType::I32, 300, 0));
+/// # Ok::<(), DecodeError>(())
+/// ```
 pub trait Readable<'a, A: Allocator + Copy, G: Grammar>: Layout + Sized {
     /// Decodes the value at the front, in the grammar `G`, and returns it with the remaining bytes.
     ///
@@ -45,7 +74,7 @@ pub trait Readable<'a, A: Allocator + Copy, G: Grammar>: Layout + Sized {
     ///
     /// # Proved
     ///
-    /// After `Ok`: `found`. After an error: `none`.
+    /// After `Ok`: `found`, the bytes begin with an encoding of the value, and the returned bytes follow it. After an error: `none`, the bytes do not begin with such an encoding, unless the cause is `Memory`.
     ///
     /// ```text
     /// ensures found { IfOk result

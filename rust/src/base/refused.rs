@@ -6,6 +6,28 @@ use core::result;
 
 /// The error of a call that appends to a sink or adds to a builder. Unless its documentation says
 /// otherwise, such a call changes nothing.
+///
+/// # Examples
+///
+/// ```
+/// use dolzhytik::fallible::{
+///     AllocError, Allocator, ExportKind, ExportSection, Refused,
+/// };
+///
+/// /// Refuses each request for memory.
+/// #[derive(Clone, Copy)]
+/// struct Nothing;
+///
+/// impl Allocator for Nothing {
+///     fn grant(&self, _bytes: usize) -> Result<(), AllocError> {
+///         Err(AllocError)
+///     }
+/// }
+///
+/// let mut exports = ExportSection::new(Nothing);
+/// assert_eq!(exports.export("f", ExportKind::Func, 0), Err(Refused::Memory));
+/// assert!(exports.is_empty());
+/// ```
 #[derive(Clone, Copy, PartialEq, Eq, Debug)]
 pub enum Refused {
     /// An allocation failed. Tests show that calls return it in no other case; no contract says
@@ -16,6 +38,22 @@ pub enum Refused {
 }
 
 /// The result of a call that can fail with [`Refused`].
+///
+/// # Examples
+///
+/// ```
+/// use dolzhytik::fallible::{Encode, Refused, Result};
+///
+/// fn encoded(n: u32) -> Result<Vec<u8>> {
+///     let mut bytes = Vec::new();
+///     n.encode(&mut bytes)?;
+///     Ok(bytes)
+/// }
+///
+/// // 128 has two groups of seven bits.
+/// assert_eq!(encoded(128)?, [0x80, 0x01]);
+/// # Ok::<(), Refused>(())
+/// ```
 pub type Result<T, E = Refused> = result::Result<T, E>;
 
 /// # Defined

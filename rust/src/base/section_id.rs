@@ -2,21 +2,46 @@
 // The ids of sections, and the sorts of imports and exports.
 
 /// The ids of sections, as the core specification ("Modules") and its proposals define them.
+///
+/// [`SectionId`](crate::SectionId) of the root converts from it and to it.
+///
+/// # Examples
+///
+/// ```
+/// use dolzhytik::fallible::{RawSection, Section, SectionId};
+///
+/// let start = RawSection { id: SectionId::Start.into(), bytes: &[0] };
+/// assert_eq!(start.id(), 8);
+/// ```
 #[derive(Clone, Copy, PartialEq, Eq, Debug)]
 pub enum SectionId {
+    /// Custom sections, such as names.
     Custom = 0,
+    /// The type section.
     Types = 1,
+    /// The import section.
     Import = 2,
+    /// The function section.
     Function = 3,
+    /// The table section.
     Table = 4,
+    /// The memory section.
     Memory = 5,
+    /// The global section.
     Global = 6,
+    /// The export section.
     Export = 7,
+    /// The start section.
     Start = 8,
+    /// The element section.
     Element = 9,
+    /// The code section.
     Code = 10,
+    /// The data section.
     Data = 11,
+    /// The data count section.
     DataCount = 12,
+    /// The tag section.
     Tag = 13,
 }
 
@@ -33,22 +58,34 @@ impl From<SectionId> for u8 {
     }
 }
 
-/// The sort of functions in imports and exports.
+/// The kind byte of functions in the encodings of imports and exports.
+///
+/// Core specification, Modules, Export Section.
 pub const CORE_FUNCTION_SORT: u8 = 0x00;
 
-/// The sort of tables in imports and exports.
+/// The kind byte of tables in the encodings of imports and exports.
+///
+/// Core specification, Modules, Export Section.
 pub const CORE_TABLE_SORT: u8 = 0x01;
 
-/// The sort of memories in imports and exports.
+/// The kind byte of memories in the encodings of imports and exports.
+///
+/// Core specification, Modules, Export Section.
 pub const CORE_MEMORY_SORT: u8 = 0x02;
 
-/// The sort of globals in imports and exports.
+/// The kind byte of globals in the encodings of imports and exports.
+///
+/// Core specification, Modules, Export Section.
 pub const CORE_GLOBAL_SORT: u8 = 0x03;
 
-/// The sort of tags in imports and exports.
+/// The kind byte of tags in the encodings of imports and exports.
+///
+/// Core specification, Modules, Export Section.
 pub const CORE_TAG_SORT: u8 = 0x04;
 
-/// The sort of functions of an exact type in imports and exports.
+/// The kind byte of functions of exactly one type in the encodings of imports and exports, by
+/// the custom descriptors proposal.
+/// [`EntityType::FunctionExact`](crate::EntityType::FunctionExact) is encoded with it.
 pub const CORE_FUNCTION_EXACT_SORT: u8 = 0x20;
 
 // The sorts of the standard's "Binary Format", and the sort of the proposal for exact types.

@@ -8,6 +8,22 @@ use crate::base::refused::{Refused, Result};
 
 /// A section of a module: an id, and an encoding from which a reader decodes the section's items.
 ///
+/// [`Module::section`](crate::fallible::Module::section) takes it.
+///
+/// # Examples
+///
+/// ```
+/// use dolzhytik::fallible::{FunctionSection, Global, Refused, Section};
+///
+/// let mut functions = FunctionSection::new(Global);
+/// functions.function(5)?;
+/// let mut bytes = Vec::new();
+/// functions.append_to(&mut bytes)?;
+/// // Id 3, size 2, one function, of type 5.
+/// assert_eq!((functions.id(), &bytes[..]), (3, &[3, 2, 1, 5][..]));
+/// # Ok::<(), Refused>(())
+/// ```
+///
 /// # Defined
 ///
 /// ```text
@@ -25,7 +41,7 @@ use crate::base::refused::{Refused, Result};
 /// sized: { (section : Self) (bytes : List ℕ) → Self.encodable section
 ///     → payload section bytes → IsSizePrefixed (Self.encoding section) bytes }
 /// // The headline: `encode` promises at least that the encoding decodes to the items
-///     alone.
+/// // alone.
 /// decodes_back: { (section : Self) → Self.decoding section
 ///     → DecodesBack format (says section) (Self.encoding section) }
 /// ```
@@ -45,9 +61,15 @@ pub trait Section: Encode {
 
     /// Appends the id and the encoding. On an error, the bytes of `dst` are unchanged.
     ///
+    /// # Errors
+    ///
+    /// Returns [`TooLong`](crate::fallible::Refused::TooLong) if a count or length would pass
+    /// 4294967295, and [`Memory`](crate::fallible::Refused::Memory) if an allocation fails. The
+    /// bytes of the sink are then unchanged.
+    ///
     /// # Proved
     ///
-    /// After `Ok`: `read`. In any case: `appends`, `too_many`.
+    /// After `Ok`: `read`, the encoding decodes as the impl defines by `decoding`. In any case: `appends`; `too_many`, an `overlong` section gives `TooLong`. `appends`: The call appends the encoding, or returns an error and leaves the bytes as they were. If the value fits, the call never returns `TooLong`, and it succeeds within the spare capacity.
     ///
     /// ```text
     /// ensures appends { Appends (id_of self.now ∷ Self.encoding self.now)
@@ -74,9 +96,23 @@ pub trait Section: Encode {
 }
 
 /// A section of raw bytes, which become its payload.
+///
+/// # Examples
+///
+/// ```
+/// use dolzhytik::fallible::{RawSection, Refused, Section};
+///
+/// let mut bytes = Vec::new();
+/// RawSection { id: 3, bytes: &[1, 5] }.append_to(&mut bytes)?;
+/// // Id 3, size 2, and the payload.
+/// assert_eq!(bytes, [3, 2, 1, 5]);
+/// # Ok::<(), Refused>(())
+/// ```
 #[derive(Clone, Copy, Debug)]
 pub struct RawSection<'a> {
+    /// The id of the section.
     pub id: u8,
+    /// The payload, without its size prefix.
     pub bytes: &'a [u8],
 }
 

@@ -6,14 +6,33 @@ use crate::base::readable::Layout;
 use crate::base::refused::Result;
 
 /// A decoded value, or a component of one, that can be written in its minimal encoding.
+///
+/// # Examples
+///
+/// ```
+/// use dolzhytik::fallible::Global;
+/// use dolzhytik::reader::{DecodeError, Padded, Readable, Shorten};
+///
+/// let (number, _) =
+///     <u32 as Readable<Global, Padded>>::read(&[0x85, 0x80, 0x00], Global)?;
+/// let mut minimal = Vec::new();
+/// number.append_minimal(&mut minimal)?;
+/// assert_eq!(minimal, [5]);
+/// # Ok::<(), DecodeError>(())
+/// ```
 pub trait Shorten: Layout {
     /// Writes the minimal encoding of the value after the old bytes. An impl defines it, and
     /// callers use [`append_minimal`](Shorten::append_minimal): after an error of this method,
     /// part of the encoding may be in the sink.
     ///
+    /// # Errors
+    ///
+    /// Returns [`TooLong`](crate::fallible::Refused::TooLong) if a count or length would pass
+    /// 4294967295, and [`Memory`](crate::fallible::Refused::Memory) if an allocation fails.
+    ///
     /// # Proved
     ///
-    /// After `Ok`: `ok`. In any case: `front`, `too_long`.
+    /// After `Ok`: `ok`, the sink gains the minimal encoding. In any case: `front`; `too_long`, a value that has an encoding never gives `TooLong`. `front`: The new bytes begin with the old ones.
     ///
     /// ```text
     /// ensures ok { OnOk result
@@ -27,9 +46,15 @@ pub trait Shorten: Layout {
 
     /// Appends the minimal encoding of the value. On an error, the sink is unchanged.
     ///
+    /// # Errors
+    ///
+    /// Returns [`TooLong`](crate::fallible::Refused::TooLong) if a count or length would pass
+    /// 4294967295, and [`Memory`](crate::fallible::Refused::Memory) if an allocation fails. The
+    /// bytes of the sink are then unchanged.
+    ///
     /// # Proved
     ///
-    /// After `Ok`: `ok`. After an error: `err`. In any case: `too_long`.
+    /// After `Ok`: `ok`, the sink gains the minimal encoding. After an error: `err`, the bytes of the sink are unchanged. In any case: `too_long`, a value that has an encoding never gives `TooLong`.
     ///
     /// ```text
     /// ensures ok { OnOk result

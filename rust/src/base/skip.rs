@@ -8,6 +8,19 @@ use crate::alloc::Allocator;
 
 /// A value at the front of bytes, as for [`Readable`], that is skipped to reach the remaining
 /// bytes.
+///
+/// # Examples
+///
+/// ```
+/// use dolzhytik::fallible::Global;
+/// use dolzhytik::reader::{DecodeError, Expression, Padded, Skip};
+///
+/// // i32.const 7, end; then another byte.
+/// let rest =
+///     <Expression as Skip<Global, Padded>>::skip(&[0x41, 7, 0x0B, 0xFF], Global)?;
+/// assert_eq!(rest, [0xFF]);
+/// # Ok::<(), DecodeError>(())
+/// ```
 pub trait Skip<'a, A: Allocator + Copy, G: Grammar>: Layout {
     /// Skips the value at the front, in the grammar `G`, and returns the remaining bytes.
     ///
@@ -17,7 +30,7 @@ pub trait Skip<'a, A: Allocator + Copy, G: Grammar>: Layout {
     ///
     /// # Proved
     ///
-    /// After `Ok`: `found`. After an error: `none`.
+    /// After `Ok`: `found`, an encoding is at the front, and the returned bytes follow it. After an error: `none`, the bytes do not begin with such an encoding, unless the cause is `Memory`.
     ///
     /// ```text
     /// ensures found { IfOk result
@@ -32,6 +45,19 @@ pub trait Skip<'a, A: Allocator + Copy, G: Grammar>: Layout {
 }
 
 /// A value that is decoded, and dropped at once.
+///
+/// It makes a [`Readable`](crate::reader::Readable) value one to skip.
+///
+/// # Examples
+///
+/// ```
+/// use dolzhytik::fallible::Global;
+/// use dolzhytik::reader::{DecodeError, Dropped, Padded, Skip};
+///
+/// let rest = <Dropped<&str> as Skip<Global, Padded>>::skip(b"\x02abc", Global)?;
+/// assert_eq!(rest, *b"c");
+/// # Ok::<(), DecodeError>(())
+/// ```
 pub struct Dropped<T>(T);
 
 /// # Defined
@@ -63,9 +89,22 @@ impl<'a, A: Allocator + Copy, G: Grammar, T: Readable<'a, A, G>> Skip<'a, A, G> 
 ///
 /// Any error but `Memory` means that no such vector is at the front.
 ///
+/// # Examples
+///
+/// ```
+/// use dolzhytik::fallible::Global;
+/// use dolzhytik::reader::{DecodeError, Dropped, Padded, skip_many};
+///
+/// // Two numbers, then another byte.
+/// let (count, rest) =
+///     skip_many::<Dropped<u32>, Global, Padded>(&[2, 5, 6, 0xFF], Global)?;
+/// assert_eq!((count, rest), (2, &[0xFF][..]));
+/// # Ok::<(), DecodeError>(())
+/// ```
+///
 /// # Proved
 ///
-/// After `Ok`: `found`. After an error: `none`.
+/// After `Ok`: `found`, a vector of this number of members is at the front, and the returned bytes follow it. After an error: `none`, the bytes do not begin with such an encoding, unless the cause is `Memory`.
 ///
 /// ```text
 /// ensures found { IfOk result

@@ -15,6 +15,8 @@ use crate::alloc::Allocator;
 ///
 /// # Proved
 ///
+/// The call appends the encoding, or returns an error and leaves the bytes as they were. If the value fits, the call never returns `TooLong`, and it succeeds within the spare capacity.
+///
 /// ```text
 /// ensures { Appends (S.encoding first.now ++ T.encoding second.now)
 ///     (S.encodable first.now × T.encodable second.now) sink.old sink.new result }

@@ -11,30 +11,82 @@ use crate::base::refused::Result;
 use crate::base::shorten::Shorten;
 use crate::alloc::Allocator;
 
-/// The heap types that have a name, as the core specification ("Heap Types") and its proposals
-/// define them.
+/// An abstract heap type, such as `func` or `any`, which a [`HeapType`](crate::HeapType) holds.
+///
+/// Core specification, Types, Heap Types.
+///
+/// A case has the name of the type in the text format, and the byte of its encoding as its
+/// number. `Cont` and `NoCont` are of the stack switching proposal.
+///
+/// # Examples
+///
+/// ```
+/// use dolzhytik::{AbstractHeapType, Encode};
+///
+/// let mut bytes = Vec::new();
+/// AbstractHeapType::Any.encode(&mut bytes);
+/// // any: 6E.
+/// assert_eq!(bytes, [0x6E]);
+/// ```
 #[derive(Clone, Copy, PartialEq, Eq, Hash, Debug)]
 pub enum AbstractHeapType {
+    /// `func` (70): functions.
     Func = 0x70,
+    /// `extern` (6F): references of the host.
     Extern = 0x6F,
+    /// `any` (6E): all internal references.
     Any = 0x6E,
+    /// `eq` (6D): references that can be compared.
     Eq = 0x6D,
+    /// `i31` (6C): integers of 31 bits.
     I31 = 0x6C,
+    /// `struct` (6B): structures.
     Struct = 0x6B,
+    /// `array` (6A): arrays.
     Array = 0x6A,
+    /// `exn` (69): exceptions.
     Exn = 0x69,
+    /// `noexn` (74): no exception.
     NoExn = 0x74,
+    /// `nofunc` (73): no function.
     NoFunc = 0x73,
+    /// `noextern` (72): no reference of the host.
     NoExtern = 0x72,
+    /// `none` (71): no internal reference.
     None = 0x71,
+    /// `cont` (68): continuations.
     Cont = 0x68,
+    /// `nocont` (75): no continuation.
     NoCont = 0x75,
 }
 
-/// The type of the values that a reference refers to.
+/// A heap type: the type of the values that a [`RefType`](crate::RefType) refers to, and an
+/// operand of `ref.null`, `ref.test` and `ref.cast`.
+///
+/// Core specification, Types, Heap Types.
+///
+/// `Abstract` is a type with a name: `shared`, of the shared-everything threads proposal, says
+/// whether threads share its values. `Exact` is of the custom descriptors proposal.
+///
+/// # Examples
+///
+/// ```
+/// use dolzhytik::{Encode, HeapType, Instruction};
+///
+/// let mut bytes = Vec::new();
+/// Instruction::RefNull(HeapType::FUNC).encode(&mut bytes);
+/// Instruction::RefNull(HeapType::Concrete(64)).encode(&mut bytes);
+/// // ref.null func: D0 70. ref.null of type 64: D0, and 64 as signed LEB128, C0 00.
+/// assert_eq!(bytes, [0xD0, 0x70, 0xD0, 0xC0, 0x00]);
+/// ```
 #[derive(Clone, Copy, PartialEq, Eq, Hash, Debug)]
 pub enum HeapType {
-    Abstract { shared: bool, ty: AbstractHeapType },
+    /// A type with a name.
+    Abstract {
+        /// Whether threads share its values.
+        shared: bool,
+        /// The type.
+        ty: AbstractHeapType },
     /// The type of this index, and its subtypes.
     Concrete(u32),
     /// Exactly the type of this index.
@@ -55,10 +107,31 @@ impl HeapType {
     };
 }
 
-/// A reference type, nullable or not.
+/// A reference type: the element type of a [`TableType`](crate::TableType) and of
+/// [`Elements::Expressions`](crate::Elements::Expressions), and a case of
+/// [`ValType`](crate::ValType).
+///
+/// Core specification, Types, Reference Types.
+///
+/// `nullable` says whether null is a value of the type. `heap_type` is the type of the values
+/// that references refer to.
+///
+/// # Examples
+///
+/// ```
+/// use dolzhytik::{AbstractHeapType, Encode, RefType};
+///
+/// let mut bytes = Vec::new();
+/// RefType::FUNCREF.encode(&mut bytes);
+/// RefType::new_abstract(AbstractHeapType::Eq, false, false).encode(&mut bytes);
+/// // funcref: 70. A reference to eq (6D) that is not null: 64 6D.
+/// assert_eq!(bytes, [0x70, 0x64, 0x6D]);
+/// ```
 #[derive(Clone, Copy, PartialEq, Eq, Hash, Debug)]
 pub struct RefType {
+    /// Whether null is a value of the type.
     pub nullable: bool,
+    /// The type of the values that references refer to.
     pub heap_type: HeapType,
 }
 
@@ -76,14 +149,39 @@ impl RefType {
     };
 }
 
-/// The type of a value: a number, a vector or a reference.
+/// A value type: the type of parameters, results, locals and globals.
+///
+/// [`Function::new`](crate::Function::new),
+/// [`CoreTypeEncoder::function`](crate::CoreTypeEncoder::function) and
+/// [`GlobalType`](crate::GlobalType) take it. Core specification, Types, Value Types.
+///
+/// `I32` and `I64` are integers, `F32` and `F64` floats, `V128` vectors of 128 bits, and `Ref`
+/// is a reference type. Their encodings are 7F, 7E, 7D, 7C, 7B, and that of the
+/// [`RefType`](crate::RefType).
+///
+/// # Examples
+///
+/// ```
+/// use dolzhytik::{Encode, ValType};
+///
+/// let mut bytes = Vec::new();
+/// [ValType::I32, ValType::F64, ValType::FUNCREF][..].encode(&mut bytes);
+/// // Three types: 7F, 7C, 70.
+/// assert_eq!(bytes, [3, 0x7F, 0x7C, 0x70]);
+/// ```
 #[derive(Clone, Copy, PartialEq, Eq, Hash, Debug)]
 pub enum ValType {
+    /// An integer of 32 bits: 7F.
     I32,
+    /// An integer of 64 bits: 7E.
     I64,
+    /// A float of 32 bits: 7D.
     F32,
+    /// A float of 64 bits: 7C.
     F64,
+    /// A vector of 128 bits: 7B.
     V128,
+    /// A reference.
     Ref(RefType),
 }
 
@@ -148,6 +246,8 @@ impl RefType {
     /// reference types have a byte of their own.
     ///
     /// # Proved
+    ///
+    /// The call appends the encoding, or returns an error and leaves the bytes as they were. If the value fits, the call never returns `TooLong`, and it succeeds within the spare capacity.
     ///
     /// ```text
     /// ensures { Appends (cond self.nullable 0x63 0x64 ∷ heap_encoding self.heap_type) ⊤
@@ -376,7 +476,7 @@ fn short_ref<G: Grammar>(byte: u8) -> Option<RefType> {
 ///
 /// # Proved
 ///
-/// After `Ok`: `found`. After an error: `none`.
+/// After `Ok`: `found`, the bytes begin with an encoding of the value, and the returned bytes follow it. After an error: `none`, the bytes do not begin with such an encoding, unless the cause is `Memory`.
 ///
 /// ```text
 /// ensures found { IfOk result
@@ -451,7 +551,7 @@ impl<'a, A: Allocator + Copy, G: Grammar> Readable<'a, A, G> for RefType {
 ///
 /// # Proved
 ///
-/// After `Ok`: `found`. After an error: `none`.
+/// After `Ok`: `found`, the bytes begin with an encoding of the value, and the returned bytes follow it. After an error: `none`, the bytes do not begin with such an encoding, unless the cause is `Memory`.
 ///
 /// ```text
 /// ensures found { IfOk result

@@ -40,7 +40,27 @@ impl<T: Encode> Encode for &[T] {
 /// On an error, the bytes of the sink are unchanged. If the reported length exceeds 4294967295, the
 /// call returns `TooLong`, and requests no element, as tests show.
 ///
+/// # Errors
+///
+/// Returns [`TooLong`](crate::fallible::Refused::TooLong) if a count or length would pass
+/// 4294967295, and [`Memory`](crate::fallible::Refused::Memory) if an allocation fails. The
+/// bytes of the sink are then unchanged.
+///
+/// # Examples
+///
+/// ```
+/// use dolzhytik::fallible::{Refused, encode_vec};
+///
+/// let mut bytes = vec![0x11];
+/// encode_vec([5_u32, 128], &mut bytes)?;
+/// // Two numbers: 5, and 128 = 1 * 128 + 0.
+/// assert_eq!(bytes, [0x11, 2, 5, 0x80, 0x01]);
+/// # Ok::<(), Refused>(())
+/// ```
+///
 /// # Asks
+///
+/// The iterator ends, and yields as many items as it reports.
 ///
 /// ```text
 /// requires { HasKnownLength V.into_iter_gives V.IntoIter.can_next V.IntoIter.next_gives
@@ -50,6 +70,8 @@ impl<T: Encode> Encode for &[T] {
 /// Definitions: [`HasKnownLength`](crate::definitions::base::iterators::HasKnownLength). [How to read clauses](crate::definitions).
 ///
 /// # Proved
+///
+/// The call appends the vector of the items that the iterator yields, or returns an error and leaves the bytes as they were. More than 2^32 - 1 items give `TooLong`.
 ///
 /// ```text
 /// ensures { AppendsVec V.into_iter_gives V.IntoIter.next_gives V.IntoIter.remaining
@@ -104,7 +126,7 @@ impl<'a, A: Allocator + Copy, G: Grammar, T: Readable<'a, A, G>> Readable<'a, A,
 ///
 /// # Proved
 ///
-/// After `Ok`: `ok`. In any case: `front`, `too_long`.
+/// After `Ok`: `ok`, the sink gains the minimal encoding. In any case: `front`; `too_long`, a value that has an encoding never gives `TooLong`. `front`: The new bytes begin with the old ones.
 ///
 /// ```text
 /// ensures ok { OnOk result
@@ -126,9 +148,29 @@ fn write_all<T: Shorten, B: Sink>(items: &[T], sink: &mut B) -> Result<()> {
 /// Appends the minimal encodings of the values, one after another. On an error, the sink is
 /// unchanged.
 ///
+/// The number of items is not among them.
+///
+/// # Errors
+///
+/// Returns [`TooLong`](crate::fallible::Refused::TooLong) if a count or length would pass
+/// 4294967295, and [`Memory`](crate::fallible::Refused::Memory) if an allocation fails. The
+/// bytes of the sink are then unchanged.
+///
+/// # Examples
+///
+/// ```
+/// use dolzhytik::fallible::Refused;
+/// use dolzhytik::reader::append_all;
+///
+/// let mut bytes = Vec::new();
+/// append_all(&[5_u32, 300], &mut bytes)?;
+/// assert_eq!(bytes, [5, 0xAC, 0x02]);
+/// # Ok::<(), Refused>(())
+/// ```
+///
 /// # Proved
 ///
-/// After `Ok`: `ok`. After an error: `err`. In any case: `too_long`.
+/// After `Ok`: `ok`, the sink gains the minimal encoding. After an error: `err`, the bytes of the sink are unchanged. In any case: `too_long`, a value that has an encoding never gives `TooLong`.
 ///
 /// ```text
 /// ensures ok { OnOk result

@@ -13,9 +13,21 @@ use crate::alloc::Allocator;
 ///
 /// Any error but `Memory` means that the bytes as a whole encode no such value.
 ///
+/// # Examples
+///
+/// ```
+/// use dolzhytik::fallible::Global;
+/// use dolzhytik::reader::{DecodeError, Padded, read_whole};
+///
+/// let name = read_whole::<&str, Global, Padded>(b"\x02ab", Global)?;
+/// assert_eq!(name, "ab");
+/// assert!(read_whole::<&str, Global, Padded>(b"\x02abc", Global).is_err());
+/// # Ok::<(), DecodeError>(())
+/// ```
+///
 /// # Proved
 ///
-/// After `Ok`: `found`. After an error: `none`.
+/// After `Ok`: `found`, the bytes as a whole encode the value. After an error: `none`, the bytes as a whole are no such encoding, unless the cause is `Memory`.
 ///
 /// ```text
 /// ensures found { IfOk result (λ x. T.format (padded_of G.grammar) bytes.now (T.view x)) }
@@ -44,9 +56,28 @@ pub fn read_whole<'a, T: Readable<'a, A, G>, A: Allocator + Copy, G: Grammar>(
 ///
 /// Any error but `Memory` means that the bytes as a whole encode no such value.
 ///
+/// [`left`](crate::reader::DecodeError::left) of an error counts the bytes of `rest` too, as
+/// the example shows.
+///
+/// # Examples
+///
+/// ```
+/// use dolzhytik::fallible::Global;
+/// use dolzhytik::reader::{DecodeError, Padded, ReadFault, read_before};
+///
+/// // The first three bytes are a name.
+/// let (sized, rest) = b"\x02ab\xFF".split_at(3);
+/// let name = read_before::<&str, Global, Padded>(sized, rest, Global)?;
+/// assert_eq!(name, "ab");
+/// // A name of three bytes, of which two are there: the error is just before `rest`.
+/// let error = read_before::<&str, Global, Padded>(b"\x03ab", rest, Global).unwrap_err();
+/// assert_eq!((error.cause(), error.left()), (ReadFault::Ended, 1));
+/// # Ok::<(), DecodeError>(())
+/// ```
+///
 /// # Proved
 ///
-/// After `Ok`: `found`. After an error: `none`.
+/// After `Ok`: `found`, the bytes as a whole encode the value. After an error: `none`, the bytes as a whole are no such encoding, unless the cause is `Memory`.
 ///
 /// ```text
 /// ensures found { IfOk result (λ x. T.format (padded_of G.grammar) bytes.now (T.view x)) }
@@ -73,7 +104,20 @@ pub fn read_before<'a, T: Readable<'a, A, G>, A: Allocator + Copy, G: Grammar>(
 ///
 /// Any error but `Memory` means that the bytes as a whole encode no such values.
 ///
+/// # Examples
+///
+/// ```
+/// use dolzhytik::fallible::Global;
+/// use dolzhytik::reader::{DecodeError, Padded, read_to_end};
+///
+/// let numbers = read_to_end::<u32, Global, Padded>(&[5, 0xAC, 0x02], Global)?;
+/// assert_eq!(numbers[..], [5, 300]);
+/// # Ok::<(), DecodeError>(())
+/// ```
+///
 /// # Asks
+///
+/// No encoding of a value is empty.
 ///
 /// ```text
 /// requires { BeginsWith (λ b. Unit {0}) T.format }
@@ -83,7 +127,7 @@ pub fn read_before<'a, T: Readable<'a, A, G>, A: Allocator + Copy, G: Grammar>(
 ///
 /// # Proved
 ///
-/// After `Ok`: `found`. After an error: `none`.
+/// After `Ok`: `found`, the bytes as a whole encode the value. After an error: `none`, the bytes as a whole are no such encoding, unless the cause is `Memory`.
 ///
 /// ```text
 /// ensures found { IfOk result

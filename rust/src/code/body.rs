@@ -17,9 +17,21 @@ const BYTES_OF_ONE: usize = 4;
 ///
 /// Any error but `Memory` means that the bytes as a whole encode no instructions.
 ///
+/// # Examples
+///
+/// ```
+/// use dolzhytik::fallible::{Global, Op};
+/// use dolzhytik::reader::{DecodeError, Padded, read_code};
+///
+/// // local.get 0, drop, end.
+/// let code = read_code::<Global, Padded>(&[0x20, 0, 0x1A, 0x0B], Global)?;
+/// assert_eq!((code.len(), code[1].op), (3, Op::Byte(0x1A)));
+/// # Ok::<(), DecodeError>(())
+/// ```
+///
 /// # Proved
 ///
-/// After `Ok`: `found`. After an error: `none`.
+/// After `Ok`: `found`, the bytes as a whole encode the instructions. After an error: `none`, the bytes as a whole are no such encoding, unless the cause is `Memory`.
 ///
 /// ```text
 /// ensures found { IfOk result
@@ -51,7 +63,7 @@ pub fn read_code<'a, A: Allocator + Copy, G: Grammar>(
 ///
 /// # Proved
 ///
-/// After `Ok`: `ok`. In any case: `front`, `too_long`.
+/// After `Ok`: `ok`, the sink gains the minimal encoding. In any case: `front`; `too_long`, a value that has an encoding never gives `TooLong`. `front`: The new bytes begin with the old ones.
 ///
 /// ```text
 /// ensures ok { OnOk result
@@ -75,9 +87,26 @@ pub(crate) fn append_code<A: Allocator, B: Sink>(
 
 /// A function body: the runs of its locals, each a count and a type, and its instructions,
 /// including each `End`.
+///
+/// [`Items::Bodies`](crate::reader::Items::Bodies) has them.
+///
+/// # Examples
+///
+/// ```
+/// use dolzhytik::fallible::{Global, Op, ValType};
+/// use dolzhytik::reader::{DecodeError, Padded, read_body};
+///
+/// // One run of locals, 2 of i32 (7F); nop (01), end (0B).
+/// let body = read_body::<Global, Padded>(&[1, 2, 0x7F, 0x01, 0x0B], Global)?;
+/// assert_eq!(body.runs[..], [(2, ValType::I32)]);
+/// assert!(body.code.iter().map(|it| it.op).eq([Op::Byte(0x01), Op::Byte(0x0B)]));
+/// # Ok::<(), DecodeError>(())
+/// ```
 #[derive(Debug)]
 pub struct Body<A: Allocator = Global> {
+    /// The runs of locals: their number, and their type.
     pub runs: Vec<(u32, ValType), A>,
+    /// The instructions, with the final `end`.
     pub code: Vec<Plain<A>, A>,
 }
 
@@ -87,9 +116,21 @@ pub struct Body<A: Allocator = Global> {
 ///
 /// Any error but `Memory` means that the bytes as a whole encode no body.
 ///
+/// # Examples
+///
+/// ```
+/// use dolzhytik::fallible::Global;
+/// use dolzhytik::reader::{DecodeError, Padded, read_body};
+///
+/// // No locals; end.
+/// let body = read_body::<Global, Padded>(&[0, 0x0B], Global)?;
+/// assert_eq!((body.runs.len(), body.code.len()), (0, 1));
+/// # Ok::<(), DecodeError>(())
+/// ```
+///
 /// # Proved
 ///
-/// After `Ok`: `found`. After an error: `none`.
+/// After `Ok`: `found`, the bytes as a whole encode the value. After an error: `none`, the bytes as a whole are no such encoding, unless the cause is `Memory`.
 ///
 /// ```text
 /// ensures found { IfOk result (λ x. body (padded_of G.grammar) bytes.now (body_view x)) }
@@ -146,7 +187,7 @@ impl<A: Allocator> Shorten for Body<A> {
 ///
 /// # Proved
 ///
-/// After `Ok`: `found`. After an error: `none`. In any case: `front`.
+/// After `Ok`: `found`, the bytes encode a body, and the sink gains its minimal encoding, with the size prefix. After an error: `none`, the bytes as a whole are no such encoding, unless the cause is `Memory`. In any case: `front`. `front`: The new bytes begin with the old ones.
 ///
 /// ```text
 /// ensures found { OnOk result
@@ -177,18 +218,27 @@ fn write_body<A: Allocator + Copy, B: Sink>(
 /// bytes are those of the body without its size prefix. The call visits the instructions, and keeps
 /// one at a time. On an error, the sink is unchanged.
 ///
-/// ```text
-/// shorten_body(&[0x80, 0x00, 0x20, 0x81, 0x00, 0x0B], alloc, &mut out)?;
-/// // 04 00 20 01 0B was appended: a body of no locals, `LocalGet(1)` and `End`
-/// ```
-///
 /// # Errors
 ///
 /// Any error but `Memory` means that the bytes as a whole encode no body.
 ///
+/// # Examples
+///
+/// ```
+/// use dolzhytik::fallible::Global;
+/// use dolzhytik::reader::{DecodeError, shorten_body};
+///
+/// let mut minimal = Vec::new();
+/// // No locals; local.get with a padded index, 1 in two bytes; end.
+/// shorten_body(&[0, 0x20, 0x81, 0x00, 0x0B], Global, &mut minimal)?;
+/// // The size, 4, and the body.
+/// assert_eq!(minimal, [4, 0, 0x20, 1, 0x0B]);
+/// # Ok::<(), DecodeError>(())
+/// ```
+///
 /// # Proved
 ///
-/// After `Ok`: `found`. After an error: `none`, `err`.
+/// After `Ok`: `found`, the bytes encode a body, and the sink gains its minimal encoding, with the size prefix. After an error: `none`, the bytes as a whole are no such encoding, unless the cause is `Memory`; `err`, the bytes of the sink are unchanged.
 ///
 /// ```text
 /// ensures found { OnOk result
@@ -217,7 +267,7 @@ pub fn shorten_body<A: Allocator + Copy, B: Sink>(
 ///
 /// # Proved
 ///
-/// After `Ok`: `found`. After an error: `none`.
+/// After `Ok`: `found`. After an error: `none`, the bytes as a whole are no such encoding, unless the cause is `Memory`.
 ///
 /// ```text
 /// ensures found { OnOk result
@@ -246,7 +296,7 @@ fn skip_code<'a, A: Allocator + Copy, G: Grammar>(
 ///
 /// # Proved
 ///
-/// After `Ok`: `found`. After an error: `none`.
+/// After `Ok`: `found`. After an error: `none`, the bytes as a whole are no such encoding, unless the cause is `Memory`.
 ///
 /// ```text
 /// ensures found { OnOk result ((x : BodyModel) × body (padded_of G.grammar) bytes.now x) }

@@ -10,15 +10,17 @@ use crate::base::{Counted, Encode, Pieces, Result, Section, SectionId, encode_si
 /// entry is a raw body with its size prefix.
 ///
 /// ```
+/// # fn example() -> Result<(), Box<dyn std::error::Error>> {
 /// # use dolzhytik::{fallible::*, reader::*};
-/// # fn example(alloc: Global) -> Result<(), Box<dyn std::error::Error>> {
-/// # let mut module = Module::new(alloc)?;
-/// let mut code = CodeSection::new(alloc);
+/// use dolzhytik::fallible::{CodeSection, Global, Module};
+///
+/// let mut module = Module::new(Global)?;
+/// let mut code = CodeSection::new(Global);
 /// code.raw(&[0x00, 0x0B])?;
 /// module.section(&code)?;
 /// # Ok(())
 /// # }
-/// # example(Global).unwrap();
+/// # example().unwrap();
 /// ```
 ///
 /// # Errors
@@ -83,6 +85,8 @@ impl<A: Allocator> CodeSection<A> {
     ///
     /// # Proved
     ///
+    /// The result is true exactly if there are no entries.
+    ///
     /// ```text
     /// ensures { IsTrue result ↔ (length self.now ≡ 0) }
     /// ```
@@ -96,6 +100,8 @@ impl<A: Allocator> CodeSection<A> {
     ///
     /// # Proved
     ///
+    /// The result is the entry at `index`, if there is one.
+    ///
     /// ```text
     /// ensures { option_copied result ≡ slice_get self.now index }
     /// ```
@@ -107,7 +113,16 @@ impl<A: Allocator> CodeSection<A> {
 
     /// Adds a function body.
     ///
+    /// # Errors
+    ///
+    /// Returns [`TooLong`](crate::fallible::Refused::TooLong) if the builder has 4294967295
+    /// entries, or if a count or length would pass 4294967295, and
+    /// [`Memory`](crate::fallible::Refused::Memory) if an allocation fails. The builder is then
+    /// unchanged.
+    ///
     /// # Proved
+    ///
+    /// The builder gains one entry with this encoding, or the call returns an error and changes nothing. A full builder, with 2^32 - 1 entries, returns `TooLong`.
     ///
     /// ```text
     /// ensures { Adds (size_prefixed_encoding function.now)
@@ -121,7 +136,16 @@ impl<A: Allocator> CodeSection<A> {
 
     /// Adds a raw body, as `Function::into_raw_body` returns it.
     ///
+    /// # Errors
+    ///
+    /// Returns [`TooLong`](crate::fallible::Refused::TooLong) if the builder has 4294967295
+    /// entries, or if a count or length would pass 4294967295, and
+    /// [`Memory`](crate::fallible::Refused::Memory) if an allocation fails. The builder is then
+    /// unchanged.
+    ///
     /// # Proved
+    ///
+    /// The builder gains one entry with this encoding, or the call returns an error and changes nothing. A full builder, with 2^32 - 1 entries, returns `TooLong`.
     ///
     /// ```text
     /// ensures { Adds (size_prefixed_encoding body.now)
@@ -139,6 +163,8 @@ impl<A: Allocator + Copy> CodeSection<A> {
     ///
     /// # Proved
     ///
+    /// The result has no entries.
+    ///
     /// ```text
     /// ensures { result ≡ [] }
     /// ```
@@ -152,9 +178,13 @@ impl<A: Allocator + Copy> CodeSection<A> {
 
     /// Returns a section of the same bodies, in memory of its own.
     ///
+    /// # Errors
+    ///
+    /// Returns [`Memory`](crate::fallible::Refused::Memory) if an allocation fails.
+    ///
     /// # Proved
     ///
-    /// After `Ok`: `same`. In any case: `memory`.
+    /// After `Ok`: `same`, the result equals the value. In any case: `memory`, no error is `TooLong`.
     ///
     /// ```text
     /// ensures same { IfOk result (λ section. section ≡ self.now) }

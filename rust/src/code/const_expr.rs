@@ -19,6 +19,23 @@ use crate::insn::{Ieee32, Ieee64, Instruction, InstructionSink};
 ///
 /// Its calls return `Memory` if an allocation fails. `extended` alone can return `TooLong`: then an
 /// instruction has a list that is too long.
+///
+/// Globals, tables, and offsets of segments have such an expression. Its `end` is not part of
+/// it: the encoding adds it.
+///
+/// # Examples
+///
+/// ```
+/// use dolzhytik::fallible::{ConstExpr, Encode, Global, Refused};
+///
+/// let sum = ConstExpr::i32_const(Global, 64)?.with_i32_const(1)?.with_i32_add()?;
+/// let mut bytes = Vec::new();
+/// sum.encode(&mut bytes)?;
+/// // i32.const 64: 41, and 64 as signed LEB128, C0 00. i32.const 1: 41 01. i32.add:
+/// // 6A. end: 0B.
+/// assert_eq!(bytes, [0x41, 0xC0, 0x00, 0x41, 0x01, 0x6A, 0x0B]);
+/// # Ok::<(), Refused>(())
+/// ```
 #[derive(Debug)]
 pub struct ConstExpr<A: Allocator = Global> {
     first: Option<First>,
@@ -32,6 +49,8 @@ impl<A: Allocator> ConstExpr<A> {
     /// Returns an expression without instructions, and allocates nothing.
     ///
     /// # Proved
+    ///
+    /// The result has no entries.
     ///
     /// ```text
     /// ensures { result ≡ [] }
@@ -48,7 +67,24 @@ impl<A: Allocator> ConstExpr<A> {
     /// Returns the expression of these bytes, which should encode instructions. The call does not
     /// check that.
     ///
+    /// # Errors
+    ///
+    /// Returns [`Memory`](crate::fallible::Refused::Memory) if an allocation fails.
+    ///
+    /// # Examples
+    ///
+    /// ```
+    /// use dolzhytik::fallible::{ConstExpr, Encode, Global, Refused};
+    ///
+    /// let mut bytes = Vec::new();
+    /// ConstExpr::raw(Global, [0x41, 0x2A])?.encode(&mut bytes)?; // i32.const 42
+    /// assert_eq!(bytes, [0x41, 0x2A, 0x0B]);
+    /// # Ok::<(), Refused>(())
+    /// ```
+    ///
     /// # Asks
+    ///
+    /// The iterator ends.
     ///
     /// ```text
     /// requires { (it : I.IntoIter) → I.into_iter_gives bytes it
@@ -59,7 +95,7 @@ impl<A: Allocator> ConstExpr<A> {
     ///
     /// # Proved
     ///
-    /// After `Ok`: `ok`. In any case: `memory`.
+    /// After `Ok`: `ok`, the expression is the bytes that the iterator yields. In any case: `memory`, no error is `TooLong`.
     ///
     /// ```text
     /// ensures ok { IfOk result (λ e. (it : I.IntoIter) × (xs : List ℕ)
@@ -78,7 +114,28 @@ impl<A: Allocator> ConstExpr<A> {
 
     /// Returns the expression of the instructions, one after another.
     ///
+    /// # Errors
+    ///
+    /// Returns [`TooLong`](crate::fallible::Refused::TooLong) if a count or length would pass
+    /// 4294967295, and [`Memory`](crate::fallible::Refused::Memory) if an allocation fails.
+    ///
+    /// # Examples
+    ///
+    /// ```
+    /// use dolzhytik::fallible::{ConstExpr, Encode, Global, Instruction, Refused};
+    ///
+    /// let made =
+    ///     ConstExpr::extended(Global, [Instruction::I32Const(1), Instruction::RefI31])?;
+    /// let mut bytes = Vec::new();
+    /// made.encode(&mut bytes)?;
+    /// // i32.const 1: 41 01. ref.i31: FB 1C. end: 0B.
+    /// assert_eq!(bytes, [0x41, 0x01, 0xFB, 0x1C, 0x0B]);
+    /// # Ok::<(), Refused>(())
+    /// ```
+    ///
     /// # Asks
+    ///
+    /// The iterator ends.
     ///
     /// ```text
     /// requires { (it : I.IntoIter) → I.into_iter_gives instructions it
@@ -88,6 +145,8 @@ impl<A: Allocator> ConstExpr<A> {
     /// [How to read clauses](crate::definitions).
     ///
     /// # Proved
+    ///
+    /// The expression stores the encodings of the instructions that the iterator yields. If all of them fit, the call never returns `TooLong`.
     ///
     /// ```text
     /// ensures { StoresGiven I.into_iter_gives I.IntoIter.next_gives instructions result }
@@ -120,6 +179,8 @@ impl<A: Allocator> ConstExpr<A> {
     ///
     /// # Proved
     ///
+    /// The bytes gain the encoding of `i`. If `i` is well-formed and the old bytes minimally encode instructions, the new bytes encode these and the normal form of `i`.
+    ///
     /// ```text
     /// ensures { Stores (instruction_of first) [] result }
     /// ```
@@ -136,9 +197,13 @@ impl<A: Allocator> ConstExpr<A> {
 
     /// Returns the expression of `GlobalGet` alone.
     ///
+    /// # Errors
+    ///
+    /// Returns [`Memory`](crate::fallible::Refused::Memory) if an allocation fails.
+    ///
     /// # Proved
     ///
-    /// After `Ok`: `stores`. In any case: `memory`.
+    /// After `Ok`: `stores`. In any case: `memory`, no error is `TooLong`. `stores`: The bytes gain the encoding of `i`. If `i` is well-formed and the old bytes minimally encode instructions, the new bytes encode these and the normal form of `i`.
     ///
     /// ```text
     /// ensures stores { IfOk result (Stores (Instruction.GlobalGet index) []) }
@@ -153,9 +218,13 @@ impl<A: Allocator> ConstExpr<A> {
 
     /// Returns the expression of `RefNull` alone.
     ///
+    /// # Errors
+    ///
+    /// Returns [`Memory`](crate::fallible::Refused::Memory) if an allocation fails.
+    ///
     /// # Proved
     ///
-    /// After `Ok`: `stores`. In any case: `memory`.
+    /// After `Ok`: `stores`. In any case: `memory`, no error is `TooLong`. `stores`: The bytes gain the encoding of `i`. If `i` is well-formed and the old bytes minimally encode instructions, the new bytes encode these and the normal form of `i`.
     ///
     /// ```text
     /// ensures stores { IfOk result (Stores (Instruction.RefNull ty) []) }
@@ -170,9 +239,13 @@ impl<A: Allocator> ConstExpr<A> {
 
     /// Returns the expression of `RefFunc` alone.
     ///
+    /// # Errors
+    ///
+    /// Returns [`Memory`](crate::fallible::Refused::Memory) if an allocation fails.
+    ///
     /// # Proved
     ///
-    /// After `Ok`: `stores`. In any case: `memory`.
+    /// After `Ok`: `stores`. In any case: `memory`, no error is `TooLong`. `stores`: The bytes gain the encoding of `i`. If `i` is well-formed and the old bytes minimally encode instructions, the new bytes encode these and the normal form of `i`.
     ///
     /// ```text
     /// ensures stores { IfOk result (Stores (Instruction.RefFunc function_index) []) }
@@ -187,9 +260,13 @@ impl<A: Allocator> ConstExpr<A> {
 
     /// Returns the expression of `I32Const` alone.
     ///
+    /// # Errors
+    ///
+    /// Returns [`Memory`](crate::fallible::Refused::Memory) if an allocation fails.
+    ///
     /// # Proved
     ///
-    /// After `Ok`: `stores`. In any case: `memory`.
+    /// After `Ok`: `stores`. In any case: `memory`, no error is `TooLong`. `stores`: The bytes gain the encoding of `i`. If `i` is well-formed and the old bytes minimally encode instructions, the new bytes encode these and the normal form of `i`.
     ///
     /// ```text
     /// ensures stores { IfOk result (Stores (Instruction.I32Const value) []) }
@@ -204,9 +281,13 @@ impl<A: Allocator> ConstExpr<A> {
 
     /// Returns the expression of `I64Const` alone.
     ///
+    /// # Errors
+    ///
+    /// Returns [`Memory`](crate::fallible::Refused::Memory) if an allocation fails.
+    ///
     /// # Proved
     ///
-    /// After `Ok`: `stores`. In any case: `memory`.
+    /// After `Ok`: `stores`. In any case: `memory`, no error is `TooLong`. `stores`: The bytes gain the encoding of `i`. If `i` is well-formed and the old bytes minimally encode instructions, the new bytes encode these and the normal form of `i`.
     ///
     /// ```text
     /// ensures stores { IfOk result (Stores (Instruction.I64Const value) []) }
@@ -221,9 +302,13 @@ impl<A: Allocator> ConstExpr<A> {
 
     /// Returns the expression of `F32Const` alone.
     ///
+    /// # Errors
+    ///
+    /// Returns [`Memory`](crate::fallible::Refused::Memory) if an allocation fails.
+    ///
     /// # Proved
     ///
-    /// After `Ok`: `stores`. In any case: `memory`.
+    /// After `Ok`: `stores`. In any case: `memory`, no error is `TooLong`. `stores`: The bytes gain the encoding of `i`. If `i` is well-formed and the old bytes minimally encode instructions, the new bytes encode these and the normal form of `i`.
     ///
     /// ```text
     /// ensures stores { IfOk result (Stores (Instruction.F32Const value) []) }
@@ -238,9 +323,13 @@ impl<A: Allocator> ConstExpr<A> {
 
     /// Returns the expression of `F64Const` alone.
     ///
+    /// # Errors
+    ///
+    /// Returns [`Memory`](crate::fallible::Refused::Memory) if an allocation fails.
+    ///
     /// # Proved
     ///
-    /// After `Ok`: `stores`. In any case: `memory`.
+    /// After `Ok`: `stores`. In any case: `memory`, no error is `TooLong`. `stores`: The bytes gain the encoding of `i`. If `i` is well-formed and the old bytes minimally encode instructions, the new bytes encode these and the normal form of `i`.
     ///
     /// ```text
     /// ensures stores { IfOk result (Stores (Instruction.F64Const value) []) }
@@ -255,9 +344,13 @@ impl<A: Allocator> ConstExpr<A> {
 
     /// Returns the expression of `V128Const` alone.
     ///
+    /// # Errors
+    ///
+    /// Returns [`Memory`](crate::fallible::Refused::Memory) if an allocation fails.
+    ///
     /// # Proved
     ///
-    /// After `Ok`: `stores`. In any case: `memory`.
+    /// After `Ok`: `stores`. In any case: `memory`, no error is `TooLong`. `stores`: The bytes gain the encoding of `i`. If `i` is well-formed and the old bytes minimally encode instructions, the new bytes encode these and the normal form of `i`.
     ///
     /// ```text
     /// ensures stores { IfOk result
@@ -273,9 +366,13 @@ impl<A: Allocator> ConstExpr<A> {
 
     /// Appends `GlobalGet` to the expression.
     ///
+    /// # Errors
+    ///
+    /// Returns [`Memory`](crate::fallible::Refused::Memory) if an allocation fails.
+    ///
     /// # Proved
     ///
-    /// After `Ok`: `stores`. In any case: `memory`.
+    /// After `Ok`: `stores`. In any case: `memory`, no error is `TooLong`. `stores`: The bytes gain the encoding of `i`. If `i` is well-formed and the old bytes minimally encode instructions, the new bytes encode these and the normal form of `i`.
     ///
     /// ```text
     /// ensures stores { IfOk result (Stores (Instruction.GlobalGet index) self) }
@@ -291,9 +388,13 @@ impl<A: Allocator> ConstExpr<A> {
 
     /// Appends `RefNull` to the expression.
     ///
+    /// # Errors
+    ///
+    /// Returns [`Memory`](crate::fallible::Refused::Memory) if an allocation fails.
+    ///
     /// # Proved
     ///
-    /// After `Ok`: `stores`. In any case: `memory`.
+    /// After `Ok`: `stores`. In any case: `memory`, no error is `TooLong`. `stores`: The bytes gain the encoding of `i`. If `i` is well-formed and the old bytes minimally encode instructions, the new bytes encode these and the normal form of `i`.
     ///
     /// ```text
     /// ensures stores { IfOk result (Stores (Instruction.RefNull ty) self) }
@@ -309,9 +410,13 @@ impl<A: Allocator> ConstExpr<A> {
 
     /// Appends `RefFunc` to the expression.
     ///
+    /// # Errors
+    ///
+    /// Returns [`Memory`](crate::fallible::Refused::Memory) if an allocation fails.
+    ///
     /// # Proved
     ///
-    /// After `Ok`: `stores`. In any case: `memory`.
+    /// After `Ok`: `stores`. In any case: `memory`, no error is `TooLong`. `stores`: The bytes gain the encoding of `i`. If `i` is well-formed and the old bytes minimally encode instructions, the new bytes encode these and the normal form of `i`.
     ///
     /// ```text
     /// ensures stores { IfOk result (Stores (Instruction.RefFunc function_index) self) }
@@ -327,9 +432,13 @@ impl<A: Allocator> ConstExpr<A> {
 
     /// Appends `I32Const` to the expression.
     ///
+    /// # Errors
+    ///
+    /// Returns [`Memory`](crate::fallible::Refused::Memory) if an allocation fails.
+    ///
     /// # Proved
     ///
-    /// After `Ok`: `stores`. In any case: `memory`.
+    /// After `Ok`: `stores`. In any case: `memory`, no error is `TooLong`. `stores`: The bytes gain the encoding of `i`. If `i` is well-formed and the old bytes minimally encode instructions, the new bytes encode these and the normal form of `i`.
     ///
     /// ```text
     /// ensures stores { IfOk result (Stores (Instruction.I32Const value) self) }
@@ -345,9 +454,13 @@ impl<A: Allocator> ConstExpr<A> {
 
     /// Appends `I64Const` to the expression.
     ///
+    /// # Errors
+    ///
+    /// Returns [`Memory`](crate::fallible::Refused::Memory) if an allocation fails.
+    ///
     /// # Proved
     ///
-    /// After `Ok`: `stores`. In any case: `memory`.
+    /// After `Ok`: `stores`. In any case: `memory`, no error is `TooLong`. `stores`: The bytes gain the encoding of `i`. If `i` is well-formed and the old bytes minimally encode instructions, the new bytes encode these and the normal form of `i`.
     ///
     /// ```text
     /// ensures stores { IfOk result (Stores (Instruction.I64Const value) self) }
@@ -363,9 +476,13 @@ impl<A: Allocator> ConstExpr<A> {
 
     /// Appends `F32Const` to the expression.
     ///
+    /// # Errors
+    ///
+    /// Returns [`Memory`](crate::fallible::Refused::Memory) if an allocation fails.
+    ///
     /// # Proved
     ///
-    /// After `Ok`: `stores`. In any case: `memory`.
+    /// After `Ok`: `stores`. In any case: `memory`, no error is `TooLong`. `stores`: The bytes gain the encoding of `i`. If `i` is well-formed and the old bytes minimally encode instructions, the new bytes encode these and the normal form of `i`.
     ///
     /// ```text
     /// ensures stores { IfOk result (Stores (Instruction.F32Const value) self) }
@@ -381,9 +498,13 @@ impl<A: Allocator> ConstExpr<A> {
 
     /// Appends `F64Const` to the expression.
     ///
+    /// # Errors
+    ///
+    /// Returns [`Memory`](crate::fallible::Refused::Memory) if an allocation fails.
+    ///
     /// # Proved
     ///
-    /// After `Ok`: `stores`. In any case: `memory`.
+    /// After `Ok`: `stores`. In any case: `memory`, no error is `TooLong`. `stores`: The bytes gain the encoding of `i`. If `i` is well-formed and the old bytes minimally encode instructions, the new bytes encode these and the normal form of `i`.
     ///
     /// ```text
     /// ensures stores { IfOk result (Stores (Instruction.F64Const value) self) }
@@ -399,9 +520,13 @@ impl<A: Allocator> ConstExpr<A> {
 
     /// Appends `V128Const` to the expression.
     ///
+    /// # Errors
+    ///
+    /// Returns [`Memory`](crate::fallible::Refused::Memory) if an allocation fails.
+    ///
     /// # Proved
     ///
-    /// After `Ok`: `stores`. In any case: `memory`.
+    /// After `Ok`: `stores`. In any case: `memory`, no error is `TooLong`. `stores`: The bytes gain the encoding of `i`. If `i` is well-formed and the old bytes minimally encode instructions, the new bytes encode these and the normal form of `i`.
     ///
     /// ```text
     /// ensures stores { IfOk result
@@ -418,9 +543,13 @@ impl<A: Allocator> ConstExpr<A> {
 
     /// Appends `I32Add` to the expression.
     ///
+    /// # Errors
+    ///
+    /// Returns [`Memory`](crate::fallible::Refused::Memory) if an allocation fails.
+    ///
     /// # Proved
     ///
-    /// After `Ok`: `stores`. In any case: `memory`.
+    /// After `Ok`: `stores`. In any case: `memory`, no error is `TooLong`. `stores`: The bytes gain the encoding of `i`. If `i` is well-formed and the old bytes minimally encode instructions, the new bytes encode these and the normal form of `i`.
     ///
     /// ```text
     /// ensures stores { IfOk result (Stores (Instruction.Numeric Numeric.I32Add) self) }
@@ -436,9 +565,13 @@ impl<A: Allocator> ConstExpr<A> {
 
     /// Appends `I32Sub` to the expression.
     ///
+    /// # Errors
+    ///
+    /// Returns [`Memory`](crate::fallible::Refused::Memory) if an allocation fails.
+    ///
     /// # Proved
     ///
-    /// After `Ok`: `stores`. In any case: `memory`.
+    /// After `Ok`: `stores`. In any case: `memory`, no error is `TooLong`. `stores`: The bytes gain the encoding of `i`. If `i` is well-formed and the old bytes minimally encode instructions, the new bytes encode these and the normal form of `i`.
     ///
     /// ```text
     /// ensures stores { IfOk result (Stores (Instruction.Numeric Numeric.I32Sub) self) }
@@ -454,9 +587,13 @@ impl<A: Allocator> ConstExpr<A> {
 
     /// Appends `I32Mul` to the expression.
     ///
+    /// # Errors
+    ///
+    /// Returns [`Memory`](crate::fallible::Refused::Memory) if an allocation fails.
+    ///
     /// # Proved
     ///
-    /// After `Ok`: `stores`. In any case: `memory`.
+    /// After `Ok`: `stores`. In any case: `memory`, no error is `TooLong`. `stores`: The bytes gain the encoding of `i`. If `i` is well-formed and the old bytes minimally encode instructions, the new bytes encode these and the normal form of `i`.
     ///
     /// ```text
     /// ensures stores { IfOk result (Stores (Instruction.Numeric Numeric.I32Mul) self) }
@@ -472,9 +609,13 @@ impl<A: Allocator> ConstExpr<A> {
 
     /// Appends `I64Add` to the expression.
     ///
+    /// # Errors
+    ///
+    /// Returns [`Memory`](crate::fallible::Refused::Memory) if an allocation fails.
+    ///
     /// # Proved
     ///
-    /// After `Ok`: `stores`. In any case: `memory`.
+    /// After `Ok`: `stores`. In any case: `memory`, no error is `TooLong`. `stores`: The bytes gain the encoding of `i`. If `i` is well-formed and the old bytes minimally encode instructions, the new bytes encode these and the normal form of `i`.
     ///
     /// ```text
     /// ensures stores { IfOk result (Stores (Instruction.Numeric Numeric.I64Add) self) }
@@ -490,9 +631,13 @@ impl<A: Allocator> ConstExpr<A> {
 
     /// Appends `I64Sub` to the expression.
     ///
+    /// # Errors
+    ///
+    /// Returns [`Memory`](crate::fallible::Refused::Memory) if an allocation fails.
+    ///
     /// # Proved
     ///
-    /// After `Ok`: `stores`. In any case: `memory`.
+    /// After `Ok`: `stores`. In any case: `memory`, no error is `TooLong`. `stores`: The bytes gain the encoding of `i`. If `i` is well-formed and the old bytes minimally encode instructions, the new bytes encode these and the normal form of `i`.
     ///
     /// ```text
     /// ensures stores { IfOk result (Stores (Instruction.Numeric Numeric.I64Sub) self) }
@@ -508,9 +653,13 @@ impl<A: Allocator> ConstExpr<A> {
 
     /// Appends `I64Mul` to the expression.
     ///
+    /// # Errors
+    ///
+    /// Returns [`Memory`](crate::fallible::Refused::Memory) if an allocation fails.
+    ///
     /// # Proved
     ///
-    /// After `Ok`: `stores`. In any case: `memory`.
+    /// After `Ok`: `stores`. In any case: `memory`, no error is `TooLong`. `stores`: The bytes gain the encoding of `i`. If `i` is well-formed and the old bytes minimally encode instructions, the new bytes encode these and the normal form of `i`.
     ///
     /// ```text
     /// ensures stores { IfOk result (Stores (Instruction.Numeric Numeric.I64Mul) self) }
@@ -526,7 +675,19 @@ impl<A: Allocator> ConstExpr<A> {
 
     /// Returns the index of `RefFunc`, if the expression begins with it.
     ///
+    /// # Examples
+    ///
+    /// ```
+    /// use dolzhytik::fallible::{ConstExpr, Global, Refused};
+    ///
+    /// assert_eq!(ConstExpr::ref_func(Global, 7)?.get_ref_func(), Some(7));
+    /// assert_eq!(ConstExpr::i32_const(Global, 7)?.get_ref_func(), None);
+    /// # Ok::<(), Refused>(())
+    /// ```
+    ///
     /// # Proved
+    ///
+    /// `answer` is `Some f` exactly if the bytes begin with `ref.func f`.
     ///
     /// ```text
     /// ensures { IsRefFunc self.now result }
@@ -544,6 +705,8 @@ impl<A: Allocator> ConstExpr<A> {
 /// Returns the index of `RefFunc`, if the bytes begin with it.
 ///
 /// # Proved
+///
+/// `answer` is `Some f` exactly if the bytes begin with `ref.func f`.
 ///
 /// ```text
 /// ensures { IsRefFunc bytes.now result }
@@ -571,6 +734,8 @@ pub(crate) fn function_at_front(bytes: &[u8]) -> Option<u32> {
 ///
 /// # Asks
 ///
+/// The iterator ends.
+///
 /// ```text
 /// requires { (it : I.IntoIter) → I.into_iter_gives elements it
 ///     → I.IntoIter.can_next it × IsFinite (I.IntoIter.remaining it) }
@@ -579,6 +744,8 @@ pub(crate) fn function_at_front(bytes: &[u8]) -> Option<u32> {
 /// [How to read clauses](crate::definitions).
 ///
 /// # Proved
+///
+/// If the call succeeds, the buffer gains the encodings of the items that the iterator yields. If all items fit, the call never returns `TooLong`.
 ///
 /// ```text
 /// ensures { AppendsEach I.into_iter_gives I.IntoIter.next_gives T.encodable T.encoding
@@ -599,9 +766,13 @@ fn encode_each<T: Encode, I: IntoIterator<Item = T>, A: Sink>(
 impl<A: Allocator + Copy> ConstExpr<A> {
     /// Returns the same expression, in memory of its own.
     ///
+    /// # Errors
+    ///
+    /// Returns [`Memory`](crate::fallible::Refused::Memory) if an allocation fails.
+    ///
     /// # Proved
     ///
-    /// After `Ok`: `same`. In any case: `memory`.
+    /// After `Ok`: `same`, the result equals the value. In any case: `memory`, no error is `TooLong`.
     ///
     /// ```text
     /// ensures same { IfOk result (λ e. e ≡ self.now) }

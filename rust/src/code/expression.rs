@@ -11,6 +11,21 @@ use crate::insn::Plain;
 pub(crate) const END: u8 = 0x0B;
 
 /// The instructions of a constant expression, without its final `End`.
+///
+/// # Examples
+///
+/// ```
+/// use dolzhytik::fallible::Global;
+/// use dolzhytik::reader::{Arg, DecodeError, Expression, Padded, Readable};
+///
+/// // i32.const 7; end; then another byte.
+/// let bytes = [0x41, 7, 0x0B, 0xFF];
+/// let (Expression(code), rest) =
+///     <Expression as Readable<Global, Padded>>::read(&bytes, Global)?;
+/// assert!(matches!(code[0].args[..], [Arg::S32(7)]));
+/// assert_eq!(rest, [0xFF]);
+/// # Ok::<(), DecodeError>(())
+/// ```
 #[derive(Debug)]
 pub struct Expression<A: Allocator = Global>(pub Vec<Plain<A>, A>);
 

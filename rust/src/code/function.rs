@@ -10,17 +10,19 @@ use crate::insn::{Buffer, Instruction, InstructionSink};
 /// A function, modelled as its raw body: the runs of its locals, and its instructions.
 ///
 /// ```
+/// # fn example() -> Result<(), Box<dyn std::error::Error>> {
 /// # use dolzhytik::{fallible::*, reader::*};
-/// # fn example(alloc: Global) -> Result<(), Box<dyn std::error::Error>> {
-/// # let mut code = CodeSection::new(alloc);
-/// let mut function = Function::new(alloc, [(1, ValType::I32)])?;
+/// use dolzhytik::fallible::{CodeSection, Function, Global, ValType};
+///
+/// let mut code = CodeSection::new(Global);
+/// let mut function = Function::new(Global, [(1, ValType::I32)])?;
 /// let mut instructions = function.instructions();
 /// instructions.local_get(0)?;
 /// instructions.end()?;
 /// code.function(&function)?;
 /// # Ok(())
 /// # }
-/// # example(Global).unwrap();
+/// # example().unwrap();
 /// ```
 ///
 /// # Errors
@@ -40,7 +42,14 @@ impl<A: Allocator> Function<A> {
     /// the length that the locals report exceeds 4294967295, the call returns `TooLong`, and
     /// requests none of them, as tests show.
     ///
+    /// # Errors
+    ///
+    /// Returns [`TooLong`](crate::fallible::Refused::TooLong) if a count or length would pass
+    /// 4294967295, and [`Memory`](crate::fallible::Refused::Memory) if an allocation fails.
+    ///
     /// # Asks
+    ///
+    /// The iterator ends, and yields as many items as it reports.
     ///
     /// ```text
     /// requires { HasKnownLength V.into_iter_gives V.IntoIter.can_next V.IntoIter.next_gives
@@ -50,6 +59,8 @@ impl<A: Allocator> Function<A> {
     /// Definitions: [`HasKnownLength`](crate::definitions::base::iterators::HasKnownLength). [How to read clauses](crate::definitions).
     ///
     /// # Proved
+    ///
+    /// The new function has the runs that the iterator yields. More than 2^32 - 1 runs give `TooLong`.
     ///
     /// ```text
     /// ensures { BeginsWithRuns V.into_iter_gives V.IntoIter.next_gives V.IntoIter.remaining
@@ -86,7 +97,15 @@ impl<A: Allocator> Function<A> {
 
     /// Appends an instruction.
     ///
+    /// # Errors
+    ///
+    /// Returns [`TooLong`](crate::fallible::Refused::TooLong) if a count or length would pass
+    /// 4294967295, and [`Memory`](crate::fallible::Refused::Memory) if an allocation fails. The
+    /// builder is then unchanged.
+    ///
     /// # Proved
+    ///
+    /// The body gains the encoding of the instruction, or the call returns an error and changes nothing.
     ///
     /// ```text
     /// ensures { AddsInstruction instruction.now self.old self.new result }
@@ -99,7 +118,25 @@ impl<A: Allocator> Function<A> {
 
     /// Appends bytes, which should encode instructions. The call does not check that.
     ///
+    /// # Errors
+    ///
+    /// Returns [`Memory`](crate::fallible::Refused::Memory) if an allocation fails. The builder is
+    /// then unchanged.
+    ///
+    /// # Examples
+    ///
+    /// ```
+    /// use dolzhytik::fallible::{Function, Global, Refused};
+    ///
+    /// let mut body = Function::new(Global, [])?;
+    /// body.raw([0x41, 7, 0x0B])?; // i32.const 7, end
+    /// assert_eq!(body.into_raw_body()[..], [0, 0x41, 7, 0x0B]);
+    /// # Ok::<(), Refused>(())
+    /// ```
+    ///
     /// # Asks
+    ///
+    /// The iterator ends.
     ///
     /// ```text
     /// requires { (it : I.IntoIter) → I.into_iter_gives bytes it
@@ -110,7 +147,7 @@ impl<A: Allocator> Function<A> {
     ///
     /// # Proved
     ///
-    /// After `Ok`: `ok`. After an error: `err`. In any case: `memory`.
+    /// After `Ok`: `ok`, the body gains the bytes that the iterator yields. After an error: `err`, the value is unchanged. In any case: `memory`, no error is `TooLong`.
     ///
     /// ```text
     /// ensures ok { OnOk result ((it : I.IntoIter) × (xs : List ℕ)
@@ -129,6 +166,20 @@ impl<A: Allocator> Function<A> {
     /// Returns the length of the raw body so far, in bytes. If the raw body decodes, this is the
     /// offset of the next instruction ([`offset`](crate::code::laws::offset)).
     ///
+    /// # Examples
+    ///
+    /// ```
+    /// use dolzhytik::fallible::{Function, Global, Refused};
+    ///
+    /// let mut body = Function::new(Global, [])?;
+    /// // No runs of locals: the count 0 is one byte.
+    /// assert_eq!(body.byte_len(), 1);
+    /// body.instructions().i32_const(7)?;
+    /// // i32.const 7: 41 07.
+    /// assert_eq!(body.byte_len(), 3);
+    /// # Ok::<(), Refused>(())
+    /// ```
+    ///
     /// # Proved
     ///
     /// ```text
@@ -136,6 +187,7 @@ impl<A: Allocator> Function<A> {
     /// ```
     ///
     /// [How to read clauses](crate::definitions).
+    #[doc(alias = "offset")]
     pub fn byte_len(&self) -> usize {
         self.bytes.len()
     }
@@ -159,7 +211,26 @@ impl<A: Allocator + Copy> Function<A> {
     /// Returns a function with locals of these types: `new` of their runs. Neighbours of one type
     /// form one run.
     ///
+    /// # Errors
+    ///
+    /// Returns [`TooLong`](crate::fallible::Refused::TooLong) if a count or length would pass
+    /// 4294967295, and [`Memory`](crate::fallible::Refused::Memory) if an allocation fails.
+    ///
+    /// # Examples
+    ///
+    /// ```
+    /// use dolzhytik::fallible::{Function, Global, Refused, ValType};
+    ///
+    /// let types = [ValType::I32, ValType::I32, ValType::F32];
+    /// let body = Function::new_with_locals_types(Global, types)?;
+    /// // Two runs: 2 of i32 (7F), and 1 of f32 (7D).
+    /// assert_eq!(body.into_raw_body()[..], [2, 2, 0x7F, 1, 0x7D]);
+    /// # Ok::<(), Refused>(())
+    /// ```
+    ///
     /// # Asks
+    ///
+    /// The iterator ends.
     ///
     /// ```text
     /// requires { (it : I.IntoIter) → I.into_iter_gives locals it
@@ -169,6 +240,8 @@ impl<A: Allocator + Copy> Function<A> {
     /// [How to read clauses](crate::definitions).
     ///
     /// # Proved
+    ///
+    /// The new function has the canonical runs of the types that the iterator yields. If the runs of the types fit, the call never returns `TooLong`.
     ///
     /// ```text
     /// ensures { BeginsWithTypes I.into_iter_gives I.IntoIter.next_gives locals result }
@@ -185,9 +258,13 @@ impl<A: Allocator + Copy> Function<A> {
 
     /// Returns the same function, in memory of its own.
     ///
+    /// # Errors
+    ///
+    /// Returns [`Memory`](crate::fallible::Refused::Memory) if an allocation fails.
+    ///
     /// # Proved
     ///
-    /// After `Ok`: `same`. In any case: `memory`.
+    /// After `Ok`: `same`, the result equals the value. In any case: `memory`, no error is `TooLong`.
     ///
     /// ```text
     /// ensures same { IfOk result (λ f. f ≡ self.now) }
@@ -259,6 +336,8 @@ impl<A: Allocator> Buffer for Function<A> {
 ///
 /// # Asks
 ///
+/// The iterator ends.
+///
 /// ```text
 /// requires { (it : I.IntoIter) → I.into_iter_gives bytes it
 ///     → I.IntoIter.can_next it × IsFinite (I.IntoIter.remaining it) }
@@ -268,7 +347,7 @@ impl<A: Allocator> Buffer for Function<A> {
 ///
 /// # Proved
 ///
-/// After `Ok`: `ok`. After an error: `err`. In any case: `memory`.
+/// After `Ok`: `ok`. After an error: `err`, the bytes of the sink are unchanged. In any case: `memory`, no error is `TooLong`.
 ///
 /// ```text
 /// ensures ok { OnOk result ((it : I.IntoIter) × (xs : List ℕ)

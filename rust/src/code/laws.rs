@@ -15,6 +15,8 @@ use crate::alloc::Allocator;
 ///
 /// # Proved
 ///
+/// `unambiguous`: A format whose encodings determine their own end is unambiguous in every mode, with encodings as `HasEncodings` states. `encodings`: Each value that fits has the minimal encoding `encoding x`.
+///
 /// ```text
 /// ensures unambiguous { Unambiguous expression }
 /// ensures encodings { HasMinimalEncodings expression IsEncodablePlainExpression
@@ -27,6 +29,8 @@ pub fn expressions() {}
 /// The formats of bodies and of code sections, of raw bodies and of decoded ones, are unambiguous.
 ///
 /// # Proved
+///
+/// `body`: A format that takes all of the bytes is unambiguous in every mode, with encodings as `HasEncodings` states. `size_prefixed`, `raw_code`, `code_section`: A format whose encodings determine their own end is unambiguous in every mode, with encodings as `HasEncodings` states. `body_encodings`, `size_prefixed_encodings`, `raw_code_encodings`, `code_section_encodings`: Each value that fits has the minimal encoding `encoding x`.
 ///
 /// ```text
 /// ensures body { UnambiguousWhole body }
@@ -52,6 +56,8 @@ pub fn bodies() {}
 ///
 /// # Proved
 ///
+/// `begins`: The length of a raw body is the offset of the next instruction. If more bytes follow and the whole encodes a body, an instruction begins at that offset.
+///
 /// ```text
 /// ensures begins { HasOffsets }
 /// ensures added { (i : Instruction A) → FindsAdded i }
@@ -65,6 +71,8 @@ pub fn offset<A: Allocator>() {}
 ///
 /// # Proved
 ///
+/// `raw_code`, `code_section`: If size-prefixed bytes decode to `x` alone, their payload decodes to `x` alone.
+///
 /// ```text
 /// ensures raw_code { DecodesPayloads (vec (size_prefixed any_bytes)) }
 /// ensures code_section { DecodesPayloads (vec (size_prefixed body)) }
@@ -76,6 +84,8 @@ pub fn payloads() {}
 /// The same with padded numbers.
 ///
 /// # Proved
+///
+/// `raw_code`, `code_section`: As `DecodesPayloads`, for padded LEB128.
 ///
 /// ```text
 /// ensures raw_code { DecodesPayloadsPadded (vec (size_prefixed any_bytes)) }
@@ -89,6 +99,8 @@ pub fn padded_payloads() {}
 /// named call of a sink appends to it.
 ///
 /// # Proved
+///
+/// `code`: A code section without entries holds no bodies. An entry with a raw body adds the body that it minimally encodes. `add_all` adds its entries as if one by one. `labels`: A body that gains the encoding of `br_table`, with labels in range that fit their count and a default label in range, gains the instruction.
 ///
 /// ```text
 /// ensures code { ContainsMoreBodies }
@@ -104,6 +116,8 @@ pub fn calls<A: Allocator>() {}
 ///
 /// # Proved
 ///
+/// `code`: A code section holds, padded, all that it holds in minimal encodings. An entry with a raw body adds the body that it encodes, possibly padded. `add_all` adds its entries as if one by one. `body`: A minimal encoding of a body is a possibly padded one, and gains the instructions that raw bytes encode, possibly padded. `expression`: A minimal expression is a possibly padded one. Two stored expressions, one after another, store the instructions of both. With `end` they are an expression.
+///
 /// ```text
 /// ensures code { ContainsMoreBodiesPadded }
 /// ensures body { GrowsPadded }
@@ -117,6 +131,8 @@ pub fn padded_calls<A: Allocator>() {}
 /// With padded numbers the formats are unambiguous too.
 ///
 /// # Proved
+///
+/// `expression`, `size_prefixed`, `raw_code`, `code_section`: With padding allowed a format is unambiguous, and it keeps every minimal encoding. `body`: As `UnambiguousPadded`, for a format that takes all of the bytes.
 ///
 /// ```text
 /// ensures expression { UnambiguousPadded expression }
@@ -147,6 +163,8 @@ pub fn locals() {}
 ///
 /// # Proved
 ///
+/// `cut`, `padded_of`: With minimal LEB128 no value decodes from the front of the bytes, whatever follows them.
+///
 /// ```text
 /// ensures cut { RejectsAllAfter code_section (6 ∷ 1 ∷ 4 ∷ 0 ∷ 40 ∷ 16 ∷ 0 ∷ []) }
 /// ensures padded_of { RejectsAllAfter code_section (5 ∷ 1 ∷ 3 ∷ 128 ∷ 0 ∷ 11 ∷ []) }
@@ -160,6 +178,8 @@ pub fn rejections() {}
 /// at that raw body's length. It has then visited exactly that body.
 ///
 /// # Proved
+///
+/// The reader of a body starts after its runs and advances by an instruction. After as many instructions as a raw body has, it is at that body's length and has visited that body.
 ///
 /// ```text
 /// ensures { OffsetLaws }

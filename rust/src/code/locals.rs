@@ -9,6 +9,8 @@ use crate::base::{Refused, Result, ValType};
 ///
 /// # Asks
 ///
+/// The iterator ends.
+///
 /// ```text
 /// requires { (it : I.IntoIter) → I.into_iter_gives types it
 ///     → I.IntoIter.can_next it × IsFinite (I.IntoIter.remaining it) }
@@ -17,6 +19,8 @@ use crate::base::{Refused, Result, ValType};
 /// [How to read clauses](crate::definitions).
 ///
 /// # Proved
+///
+/// The vector has the canonical runs of the types that the iterator yields. If the runs of the types fit, the call never returns `TooLong`.
 ///
 /// ```text
 /// ensures { GathersRuns I.into_iter_gives I.IntoIter.next_gives types result }
@@ -52,7 +56,7 @@ fn continues(last: ValType, ty: ValType) -> bool {
 ///
 /// # Proved
 ///
-/// After `Ok`: `more`. In any case: `counted`, `full`, `too_many`.
+/// After `Ok`: `more`. In any case: `counted`; `full`; `too_many`. `more`: The new runs have one more local of this type, and are canonical if the old ones are.
 ///
 /// ```text
 /// ensures more { OnOk result (MoreRuns ty runs.old.items runs.new.items) }

@@ -13,15 +13,33 @@ pub(crate) mod locals;
 pub(crate) mod walk;
 
 pub(crate) use body::{Body, read_body, read_code, shorten_body};
+#[doc(alias = "bodies")]
 pub use code_section::CodeSection;
+#[doc(alias = "initializer")]
+#[doc(alias = "constant expression")]
 pub use const_expr::ConstExpr;
 pub(crate) use expression::Expression;
+#[doc(alias = "body")]
+#[doc(alias = "func")]
+#[doc(alias = "locals")]
 pub use function::Function;
 pub(crate) use walk::{Instructions, Step};
 
 /// The names that decode, which `reader` exports.
 pub(crate) mod reading {
-    pub use super::body::{Body, read_body, read_code, shorten_body};
+    pub use super::body::Body;
+    #[doc(alias = "parse")]
+    #[doc(alias = "disassemble")]
+    pub use super::body::read_body;
+    #[doc(alias = "parse")]
+    #[doc(alias = "disassemble")]
+    pub use super::body::read_code;
+    #[doc(alias = "minimize")]
+    pub use super::body::shorten_body;
     pub use super::expression::Expression;
-    pub use super::walk::{Instructions, Step};
+    pub use super::walk::Step;
+    #[doc(alias = "disassemble")]
+    #[doc(alias = "opcode")]
+    #[doc(alias = "operators")]
+    pub use super::walk::Instructions;
 }

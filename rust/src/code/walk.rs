@@ -12,17 +12,29 @@ use crate::insn::{Arg, Op, read_instruction_into};
 /// one instruction, in memory that it reuses: lists in arguments apart, it allocates nothing after
 /// the first instruction that has arguments.
 ///
-/// ```text
-/// let (_runs, mut instructions) = Instructions::of_body(bytes, alloc)?;
-/// while let Some(step) = instructions.next()? {
-///     // step.op begins at step.offset, and instructions.args() are its arguments
-/// }
-/// ```
-///
 /// # Errors
 ///
 /// Any error but `Memory` means that the bytes at the offset encode no instruction, and for
 /// `next_before_end` no expression.
+///
+/// # Examples
+///
+/// ```
+/// use dolzhytik::fallible::{Global, Op};
+/// use dolzhytik::reader::{Arg, DecodeError, Instructions};
+///
+/// // local.get 5: 20 05. i32.add: 6A. end: 0B.
+/// let mut instructions = Instructions::new(&[0x20, 5, 0x6A, 0x0B], Global);
+/// let mut found = vec![];
+/// while let Some(step) = instructions.next()? {
+///     found.push((step.offset, step.op, instructions.args().len()));
+/// }
+/// assert_eq!(
+///     found,
+///     [(0, Op::Byte(0x20), 1), (2, Op::Byte(0x6A), 0), (3, Op::Byte(0x0B), 0)]
+/// );
+/// # Ok::<(), DecodeError>(())
+/// ```
 #[derive(Debug)]
 pub struct Instructions<'a, A: Allocator = Global, G: Grammar = Padded> {
     bytes: &'a [u8],
@@ -32,9 +44,25 @@ pub struct Instructions<'a, A: Allocator = Global, G: Grammar = Padded> {
 }
 
 /// A visited instruction: its offset in bytes, and its opcode.
+///
+/// [`Instructions::next`](crate::reader::Instructions::next) returns it. The immediates are
+/// [`Instructions::args`](crate::reader::Instructions::args), until the next call.
+///
+/// # Examples
+///
+/// ```
+/// use dolzhytik::fallible::{Global, Op};
+/// use dolzhytik::reader::{DecodeError, Instructions, Step};
+///
+/// let mut instructions = Instructions::new(&[0x0B], Global);
+/// assert_eq!(instructions.next()?, Some(Step { offset: 0, op: Op::Byte(0x0B) }));
+/// # Ok::<(), DecodeError>(())
+/// ```
 #[derive(Clone, Copy, PartialEq, Eq, Debug)]
 pub struct Step {
+    /// The offset of the instruction.
     pub offset: usize,
+    /// The opcode.
     pub op: Op,
 }
 
@@ -57,9 +85,13 @@ impl<'a, A: Allocator + Copy> Instructions<'a, A> {
     /// The bytes are those of the body without its size prefix. Offsets count from the first byte,
     /// before the runs. Padded numbers are accepted.
     ///
+    /// # Errors
+    ///
+    /// Any error but `Memory` means that the bytes as a whole encode no body.
+    ///
     /// # Proved
     ///
-    /// After `Ok`: `found`, `same`, `within`, `before`. After an error: `none`.
+    /// After `Ok`: `found`; `same`, the visitor is over these bytes; `within`, the offset is in the bytes, or at their end; `before`, the visitor has no immediates yet. After an error: `none`, the bytes as a whole are no such encoding, unless the cause is `Memory`. `found`: `bytes` is an encoding of `x` in this mode, followed by `rest`.
     ///
     /// ```text
     /// ensures found { IfOk result
@@ -95,9 +127,27 @@ impl<'a, A: Allocator + Copy> Instructions<'a, A, Standard> {
     /// Decodes the runs of a body's locals, as [`of_body`](Instructions::of_body) does, and accepts
     /// all encodings that the standard admits.
     ///
+    /// # Errors
+    ///
+    /// Any error but `Memory` means that the bytes as a whole encode no body.
+    ///
+    /// # Examples
+    ///
+    /// ```
+    /// use dolzhytik::fallible::{Global, Op, ValType};
+    /// use dolzhytik::reader::{DecodeError, Instructions};
+    ///
+    /// // One run of locals, 1 of i64 (7E); end.
+    /// let (runs, mut instructions) =
+    ///     Instructions::of_standard_body(&[1, 1, 0x7E, 0x0B], Global)?;
+    /// assert_eq!((&runs[..], instructions.offset()), (&[(1, ValType::I64)][..], 3));
+    /// assert_eq!(instructions.next()?.map(|step| step.op), Some(Op::Byte(0x0B)));
+    /// # Ok::<(), DecodeError>(())
+    /// ```
+    ///
     /// # Proved
     ///
-    /// After `Ok`: `found`, `same`, `within`, `before`. After an error: `none`.
+    /// After `Ok`: `found`; `same`, the visitor is over these bytes; `within`, the offset is in the bytes, or at their end; `before`, the visitor has no immediates yet. After an error: `none`, the bytes as a whole are no such encoding, unless the cause is `Memory`. `found`: `bytes` is an encoding of `x` in this mode, followed by `rest`.
     ///
     /// ```text
     /// ensures found { IfOk result
@@ -141,7 +191,7 @@ impl<'a, A: Allocator + Copy, G: Grammar> Instructions<'a, A, G> {
     ///
     /// # Proved
     ///
-    /// After `Ok`: `found`, `same`, `within`, `before`. After an error: `none`.
+    /// After `Ok`: `found`; `same`, the visitor is over these bytes; `within`, the offset is in the bytes, or at their end; `before`, the visitor has no immediates yet. After an error: `none`, the bytes as a whole are no such encoding, unless the cause is `Memory`. `found`: `bytes` is an encoding of `x` in this mode, followed by `rest`.
     ///
     /// ```text
     /// ensures found { IfOk result
@@ -170,7 +220,7 @@ impl<'a, A: Allocator + Copy, G: Grammar> Instructions<'a, A, G> {
     ///
     /// # Proved
     ///
-    /// After `Ok`: `offset`, `found`, `further`. After an error: `stays`, `none`. In any case: `same`.
+    /// After `Ok`: `offset`; `found`; `further`. After an error: `stays`, the offset is unchanged; `none`, the bytes do not begin with such an encoding, unless the cause is `Memory`. In any case: `same`, the bytes stay the same. `found`: `bytes` is an encoding of `x` in this mode, followed by `rest`.
     ///
     /// ```text
     /// ensures offset { IfOk result (λ step. step.offset ≡ self.old.offset) }
@@ -203,9 +253,13 @@ impl<'a, A: Allocator + Copy, G: Grammar> Instructions<'a, A, G> {
     /// Visits the next instruction, or returns `None` at the end of the bytes. After an error the
     /// offset is unchanged.
     ///
+    /// # Errors
+    ///
+    /// Any error but `Memory` means that no instruction begins at the offset.
+    ///
     /// # Proved
     ///
-    /// After `Ok`: `offset`, `found`, `further`, `end`, `ended`. After an error: `stays`, `none`, `left`. In any case: `same`.
+    /// After `Ok`: `offset`, the step has the old offset; `found`, an instruction of this opcode and these immediates was next; `further`, the offset grows, and is in the bytes or at their end; `end`, `None` says that no bytes were left; `ended`, `None` changes nothing. After an error: `stays`, the offset is unchanged; `none`, the bytes do not begin with such an encoding, unless the cause is `Memory`; `left`, bytes were left. In any case: `same`, the bytes stay the same.
     ///
     /// ```text
     /// ensures offset { IfOk result
@@ -239,9 +293,27 @@ impl<'a, A: Allocator + Copy, G: Grammar> Instructions<'a, A, G> {
     /// Visits the next instruction of an expression, or returns `None` at its final `End`, which
     /// the visitor does not pass. After an error the offset is unchanged.
     ///
+    /// # Errors
+    ///
+    /// Any error but `Memory` means that no instructions up to a final `end` begin at the offset.
+    ///
+    /// # Examples
+    ///
+    /// ```
+    /// use dolzhytik::fallible::Global;
+    /// use dolzhytik::reader::{DecodeError, Instructions};
+    ///
+    /// // i32.const 7, end; then another byte.
+    /// let mut instructions = Instructions::new(&[0x41, 7, 0x0B, 0xFF], Global);
+    /// assert!(instructions.next_before_end()?.is_some());
+    /// assert!(instructions.next_before_end()?.is_none());
+    /// assert_eq!(instructions.rest(), [0x0B, 0xFF]);
+    /// # Ok::<(), DecodeError>(())
+    /// ```
+    ///
     /// # Proved
     ///
-    /// After `Ok`: `offset`, `found`, `further`, `end`, `ended`. After an error: `stays`, `none`. In any case: `same`.
+    /// After `Ok`: `offset`, the step has the old offset; `found`, an instruction of this opcode and these immediates was next, and is no `end`; `further`, the offset grows, and is in the bytes or at their end; `end`, `None` says that an `end` is next; `ended`, `None` changes nothing. After an error: `stays`, the offset is unchanged; `none`, the bytes do not begin with such an encoding, unless the cause is `Memory`. In any case: `same`, the bytes stay the same.
     ///
     /// ```text
     /// ensures offset { IfOk result

@@ -7,9 +7,38 @@ use crate::alloc::{Allocator, Global};
 use crate::base::{DecodeError, Encode, Grammar, Layout, Lent, Readable, Result, Shorten};
 
 /// The members of a COMDAT group, in the order in which they are added.
+///
+/// It is a [`CountedList`](crate::fallible::CountedList), which
+/// [`Comdats`](crate::fallible::Comdats) takes.
+///
+/// # Examples
+///
+/// ```
+/// use dolzhytik::fallible::{ComdatSymbols, Encode, Global, Refused};
+///
+/// let mut members = ComdatSymbols::new(Global);
+/// members.symbol(1, 7)?;
+/// let mut bytes = vec![];
+/// members.encode(&mut bytes)?;
+/// // One member: a function (1) of the index 7.
+/// assert_eq!(bytes, [1, 1, 7]);
+/// # Ok::<(), Refused>(())
+/// ```
 pub type ComdatSymbols<A = Global> = CountedList<ComdatSymbolMembers, A>;
 
 /// The kind of the members of a list of a group's members.
+///
+/// It is the type argument of [`CountedList`](crate::fallible::CountedList) in
+/// [`ComdatSymbols`](crate::fallible::ComdatSymbols).
+///
+/// # Examples
+///
+/// ```
+/// use dolzhytik::fallible::{ComdatSymbolMembers, ComdatSymbols, Global, ListKind};
+///
+/// let list = ComdatSymbols::new(Global);
+/// assert_eq!((list.len(), ComdatSymbolMembers::subsection()), (0, None));
+/// ```
 #[derive(Clone, Copy, Debug)]
 pub struct ComdatSymbolMembers;
 
@@ -33,7 +62,15 @@ impl<A: Allocator> ComdatSymbols<A> {
     /// Adds a member of this kind, with its index among those of the kind. The kind is 0 for a data
     /// segment, 1 for a function, 2 for a global, 3 for a tag, 4 for a table, and 5 for a section.
     ///
+    /// # Errors
+    ///
+    /// Returns [`TooLong`](crate::fallible::Refused::TooLong) if the builder has 4294967295
+    /// entries, and [`Memory`](crate::fallible::Refused::Memory) if an allocation fails. The
+    /// builder is then unchanged.
+    ///
     /// # Proved
+    ///
+    /// The builder gains one entry with this encoding, or the call returns an error and changes nothing. A full builder, with 2^32 - 1 entries, returns `TooLong`.
     ///
     /// ```text
     /// ensures { Adds (kind ∷ unsigned_encoding index) ⊤ self.old self.new result }
@@ -49,19 +86,33 @@ impl<A: Allocator> ComdatSymbols<A> {
 /// subsection 7 of a linking section.
 ///
 /// ```
+/// # fn example() -> Result<(), Box<dyn std::error::Error>> {
 /// # use dolzhytik::{fallible::*, reader::*};
-/// # fn example(alloc: Global) -> Result<(), Box<dyn std::error::Error>> {
-/// let mut members = ComdatSymbols::new(alloc);
+/// use dolzhytik::fallible::{ComdatSymbols, Comdats, Global};
+///
+/// let mut members = ComdatSymbols::new(Global);
 /// members.symbol(1, 0)?;
-/// let mut comdats = Comdats::new(alloc);
+/// let mut comdats = Comdats::new(Global);
 /// comdats.comdat("_Z1fIiET_S0_", 0, &members)?;
 /// # Ok(())
 /// # }
-/// # example(Global).unwrap();
+/// # example().unwrap();
 /// ```
 pub type Comdats<A = Global> = CountedList<ComdatMembers, A>;
 
 /// The kind of the members of a list of groups.
+///
+/// It is the type argument of [`CountedList`](crate::fallible::CountedList) in
+/// [`Comdats`](crate::fallible::Comdats).
+///
+/// # Examples
+///
+/// ```
+/// use dolzhytik::fallible::{ComdatMembers, Comdats, Global, ListKind};
+///
+/// let list = Comdats::new(Global);
+/// assert_eq!((list.len(), ComdatMembers::subsection()), (0, Some(7)));
+/// ```
 #[derive(Clone, Copy, Debug)]
 pub struct ComdatMembers;
 
@@ -84,7 +135,16 @@ impl ListKind for ComdatMembers {
 impl<A: Allocator> Comdats<A> {
     /// Adds a group. In the tool conventions, `flags` are 0.
     ///
+    /// # Errors
+    ///
+    /// Returns [`TooLong`](crate::fallible::Refused::TooLong) if the builder has 4294967295
+    /// entries, or if a count or length would pass 4294967295, and
+    /// [`Memory`](crate::fallible::Refused::Memory) if an allocation fails. The builder is then
+    /// unchanged.
+    ///
     /// # Proved
+    ///
+    /// The builder gains one entry with this encoding, or the call returns an error and changes nothing. A full builder, with 2^32 - 1 entries, returns `TooLong`.
     ///
     /// ```text
     /// ensures { Adds (size_prefixed_encoding name.now
@@ -105,6 +165,21 @@ impl<A: Allocator> Comdats<A> {
 }
 
 /// A member of a COMDAT group.
+///
+/// It is a member of [`Comdat`](crate::fallible::Comdat).
+///
+/// # Examples
+///
+/// ```
+/// use dolzhytik::fallible::{ComdatSymbol, Global};
+/// use dolzhytik::reader::{DecodeError, Readable, Standard};
+///
+/// // A function (1) of the index 7.
+/// let (member, _) =
+///     <ComdatSymbol as Readable<Global, Standard>>::read(&[1, 7], Global)?;
+/// assert_eq!((member.kind, member.index), (1, 7));
+/// # Ok::<(), DecodeError>(())
+/// ```
 #[derive(Clone, Copy, Debug)]
 pub struct ComdatSymbol {
     /// The kind of the member: 0 is a data segment, 1 a function, 2 a global, 3 a tag, 4 a table,
@@ -143,11 +218,31 @@ impl Shorten for ComdatSymbol {
 
 /// A decoded COMDAT group: a linker keeps the members of one group of this name, and discards those
 /// of the others.
+///
+/// It is an item of [`LinkItem::Comdats`](crate::reader::LinkItem::Comdats).
+///
+/// # Examples
+///
+/// ```
+/// use dolzhytik::fallible::{Comdat, Global};
+/// use dolzhytik::reader::{DecodeError, Readable, Standard};
+///
+/// // "f", no flags, one member: a function (1) of the index 7.
+/// let bytes = [1, b'f', 0, 1, 1, 7];
+/// let (group, _) = <Comdat as Readable<Global, Standard>>::read(&bytes, Global)?;
+/// assert_eq!(
+///     (group.name, group.symbols[0].kind, group.symbols[0].index),
+///     ("f", 1, 7)
+/// );
+/// # Ok::<(), DecodeError>(())
+/// ```
 #[derive(Debug)]
 pub struct Comdat<'a, A: Allocator = Global> {
+    /// The name of the group.
     pub name: &'a str,
     /// 0 in the tool conventions.
     pub flags: u32,
+    /// The members.
     pub symbols: Vec<ComdatSymbol, A>,
 }
 
@@ -162,6 +257,8 @@ pub struct Comdat<'a, A: Allocator = Global> {
 /// Definitions: [`ComdatModel`](crate::definitions::custom::comdats::Comdat), [`comdat`](crate::definitions::custom::comdats::comdat), [`comdat_view`](crate::definitions::custom::comdats::comdat_view). [How to read clauses](crate::definitions).
 impl<'a, A: Allocator> Layout for Comdat<'a, A> {
     /// # Proved
+    ///
+    /// A format whose encodings determine their own end is unambiguous in every mode, with encodings as `HasEncodings` states.
     ///
     /// ```text
     /// ensures { Unambiguous comdat }

@@ -14,13 +14,15 @@ use crate::base::{DecodeError, Encode, Grammar, Kind, Readable, Result, Section,
 /// process.
 ///
 /// ```
+/// # fn example() -> Result<(), Box<dyn std::error::Error>> {
 /// # use dolzhytik::{fallible::*, reader::*};
-/// # fn example(alloc: Global) -> Result<(), Box<dyn std::error::Error>> {
-/// # let mut module = Module::new(alloc)?;
-/// module.section(&CoreDumpSection::new(alloc, "a.wasm")?)?;
+/// use dolzhytik::fallible::{CoreDumpSection, Global, Module};
+///
+/// let mut module = Module::new(Global)?;
+/// module.section(&CoreDumpSection::new(Global, "a.wasm")?)?;
 /// # Ok(())
 /// # }
-/// # example(Global).unwrap();
+/// # example().unwrap();
 /// ```
 ///
 /// # Errors
@@ -35,9 +37,14 @@ pub struct CoreDumpSection<A: Allocator = Global> {
 impl<A: Allocator> CoreDumpSection<A> {
     /// Returns the section of the process of this name.
     ///
+    /// # Errors
+    ///
+    /// Returns [`TooLong`](crate::fallible::Refused::TooLong) if a count or length would pass
+    /// 4294967295, and [`Memory`](crate::fallible::Refused::Memory) if an allocation fails.
+    ///
     /// # Proved
     ///
-    /// After `Ok`: `is`, `was_encodable`. In any case: `too_long`.
+    /// After `Ok`: `is`; `was_encodable`. In any case: `too_long`. `was_encodable`: The size of the bytes is at most 2^32 - 1.
     ///
     /// ```text
     /// ensures is { IfOk result (λ s. s ≡ marked_encoding name.now) }
@@ -54,9 +61,13 @@ impl<A: Allocator> CoreDumpSection<A> {
 
     /// Returns the same section, in memory of its own.
     ///
+    /// # Errors
+    ///
+    /// Returns [`Memory`](crate::fallible::Refused::Memory) if an allocation fails.
+    ///
     /// # Proved
     ///
-    /// After `Ok`: `same`. In any case: `memory`.
+    /// After `Ok`: `same`, the result equals the value. In any case: `memory`, no error is `TooLong`.
     ///
     /// ```text
     /// ensures same { IfOk result (λ s. s ≡ self.now) }
@@ -117,19 +128,33 @@ impl<A: Allocator> Section for CoreDumpSection<A> {
 /// The `coremodules` section: the modules of the process, by their names.
 ///
 /// ```
+/// # fn example() -> Result<(), Box<dyn std::error::Error>> {
 /// # use dolzhytik::{fallible::*, reader::*};
-/// # fn example(alloc: Global) -> Result<(), Box<dyn std::error::Error>> {
-/// # let mut module = Module::new(alloc)?;
-/// let mut modules = CoreDumpModulesSection::new(alloc);
+/// use dolzhytik::fallible::{CoreDumpModulesSection, Global, Module};
+///
+/// let mut module = Module::new(Global)?;
+/// let mut modules = CoreDumpModulesSection::new(Global);
 /// modules.module("a.wasm")?;
 /// module.section(&modules)?;
 /// # Ok(())
 /// # }
-/// # example(Global).unwrap();
+/// # example().unwrap();
 /// ```
 pub type CoreDumpModulesSection<A = Global> = CustomEntries<ModuleItems, A>;
 
 /// The kind of the items of a modules section: their names.
+///
+/// It is the type argument of [`CustomEntries`](crate::fallible::CustomEntries) in
+/// [`CoreDumpModulesSection`](crate::fallible::CoreDumpModulesSection).
+///
+/// # Examples
+///
+/// ```
+/// use dolzhytik::fallible::{CoreDumpModulesSection, CustomKind, Global, ModuleItems};
+///
+/// let section = CoreDumpModulesSection::new(Global);
+/// assert_eq!((section.len(), ModuleItems::name()), (0, "coremodules"));
+/// ```
 #[derive(Clone, Copy, Debug)]
 pub struct ModuleItems;
 
@@ -175,7 +200,16 @@ impl CustomKind for ModuleItems {
 impl<A: Allocator> CoreDumpModulesSection<A> {
     /// Adds a module.
     ///
+    /// # Errors
+    ///
+    /// Returns [`TooLong`](crate::fallible::Refused::TooLong) if the builder has 4294967295
+    /// entries, or if a count or length would pass 4294967295, and
+    /// [`Memory`](crate::fallible::Refused::Memory) if an allocation fails. The builder is then
+    /// unchanged.
+    ///
     /// # Proved
+    ///
+    /// The builder gains one entry with this encoding, or the call returns an error and changes nothing. A full builder, with 2^32 - 1 entries, returns `TooLong`.
     ///
     /// ```text
     /// ensures { Adds (marked_encoding name.now)
@@ -189,9 +223,13 @@ impl<A: Allocator> CoreDumpModulesSection<A> {
 
     /// Returns the section as a custom section, with its data in memory of their own.
     ///
+    /// # Errors
+    ///
+    /// Returns [`Memory`](crate::fallible::Refused::Memory) if an allocation fails.
+    ///
     /// # Proved
     ///
-    /// After `Ok`: `same`. In any case: `memory`.
+    /// After `Ok`: `same`. In any case: `memory`, no error is `TooLong`.
     ///
     /// ```text
     /// ensures same { IfOk result
@@ -209,19 +247,35 @@ impl<A: Allocator> CoreDumpModulesSection<A> {
 /// The `coreinstances` section: the instances of the process. `len` is their number.
 ///
 /// ```
+/// # fn example() -> Result<(), Box<dyn std::error::Error>> {
 /// # use dolzhytik::{fallible::*, reader::*};
-/// # fn example(alloc: Global) -> Result<(), Box<dyn std::error::Error>> {
-/// # let mut module = Module::new(alloc)?;
-/// let mut instances = CoreDumpInstancesSection::new(alloc);
+/// use dolzhytik::fallible::{CoreDumpInstancesSection, Global, Module};
+///
+/// let mut module = Module::new(Global)?;
+/// let mut instances = CoreDumpInstancesSection::new(Global);
 /// instances.instance(0, [0], [0, 1])?;
 /// module.section(&instances)?;
 /// # Ok(())
 /// # }
-/// # example(Global).unwrap();
+/// # example().unwrap();
 /// ```
 pub type CoreDumpInstancesSection<A = Global> = CustomEntries<InstanceItems, A>;
 
 /// The kind of the items of an instances section.
+///
+/// It is the type argument of [`CustomEntries`](crate::fallible::CustomEntries) in
+/// [`CoreDumpInstancesSection`](crate::fallible::CoreDumpInstancesSection).
+///
+/// # Examples
+///
+/// ```
+/// use dolzhytik::fallible::{
+///     CoreDumpInstancesSection, CustomKind, Global, InstanceItems,
+/// };
+///
+/// let section = CoreDumpInstancesSection::new(Global);
+/// assert_eq!((section.len(), InstanceItems::name()), (0, "coreinstances"));
+/// ```
 #[derive(Clone, Copy, Debug)]
 pub struct InstanceItems;
 
@@ -268,7 +322,16 @@ impl<A: Allocator> CoreDumpInstancesSection<A> {
     /// Adds an instance of the module, with these memories and globals. If there are too many of
     /// either, it returns `TooLong` and requests none, as tests show.
     ///
+    /// # Errors
+    ///
+    /// Returns [`TooLong`](crate::fallible::Refused::TooLong) if the builder has 4294967295
+    /// entries, or if a count or length would pass 4294967295, and
+    /// [`Memory`](crate::fallible::Refused::Memory) if an allocation fails. The builder is then
+    /// unchanged.
+    ///
     /// # Asks
+    ///
+    /// The iterator ends, and yields as many items as it reports.
     ///
     /// ```text
     /// requires memories { HasKnownLength M.into_iter_gives M.IntoIter.can_next
@@ -280,6 +343,8 @@ impl<A: Allocator> CoreDumpInstancesSection<A> {
     /// Definitions: [`HasKnownLength`](crate::definitions::base::iterators::HasKnownLength). [How to read clauses](crate::definitions).
     ///
     /// # Proved
+    ///
+    /// As `AddsList`, for an entry of two lists.
     ///
     /// ```text
     /// ensures { AddsTwoLists M.into_iter_gives M.IntoIter.next_gives M.IntoIter.remaining
@@ -308,9 +373,13 @@ impl<A: Allocator> CoreDumpInstancesSection<A> {
 
     /// Returns the section as a custom section, with its data in memory of their own.
     ///
+    /// # Errors
+    ///
+    /// Returns [`Memory`](crate::fallible::Refused::Memory) if an allocation fails.
+    ///
     /// # Proved
     ///
-    /// After `Ok`: `same`. In any case: `memory`.
+    /// After `Ok`: `same`. In any case: `memory`, no error is `TooLong`.
     ///
     /// ```text
     /// ensures same { IfOk result
@@ -331,9 +400,21 @@ impl<A: Allocator> CoreDumpInstancesSection<A> {
 ///
 /// Any error but `Memory` means that the bytes are not such a payload.
 ///
+/// # Examples
+///
+/// ```
+/// use dolzhytik::fallible::{Global, read_process};
+/// use dolzhytik::reader::{DecodeError, Padded};
+///
+/// // "core", 00, "test".
+/// let name = read_process::<Global, Padded>(b"\x04core\0\x04test", Global)?;
+/// assert_eq!(name, "test");
+/// # Ok::<(), DecodeError>(())
+/// ```
+///
 /// # Proved
 ///
-/// After `Ok`: `found`. After an error: `none`.
+/// After `Ok`: `found`. After an error: `none`, the bytes as a whole are no such encoding, unless the cause is `Memory`.
 ///
 /// ```text
 /// ensures found { IfOk result (λ x. core_payload (padded_of G.grammar) bytes.now x.now) }
@@ -364,6 +445,8 @@ pub fn read_process<'a, A: Allocator + Copy, G: Grammar>(
 impl<'a> ItemsAs<&'a str> for ModuleItems {
     /// # Proved
     ///
+    /// A format whose encodings determine their own end is unambiguous in every mode, with encodings as `HasEncodings` states.
+    ///
     /// ```text
     /// ensures { Unambiguous marked_name }
     /// ```
@@ -389,9 +472,21 @@ impl<'a, A: Allocator + Copy, G: Grammar> DecodesItems<'a, &'a str, A, G> for Mo
 ///
 /// Any error but `Memory` means that the bytes are not such a payload.
 ///
+/// # Examples
+///
+/// ```
+/// use dolzhytik::fallible::{Global, read_modules};
+/// use dolzhytik::reader::{DecodeError, Padded};
+///
+/// // "coremodules"; one module: 00, "m".
+/// let names = read_modules::<Global, Padded>(b"\x0Bcoremodules\x01\0\x01m", Global)?;
+/// assert_eq!(names[..], ["m"]);
+/// # Ok::<(), DecodeError>(())
+/// ```
+///
 /// # Proved
 ///
-/// After `Ok`: `found`. After an error: `none`.
+/// After `Ok`: `found`. After an error: `none`, the bytes as a whole are no such encoding, unless the cause is `Memory`.
 ///
 /// ```text
 /// ensures found { IfOk result
@@ -457,9 +552,23 @@ impl<'a, A: Allocator + Copy, G: Grammar> DecodesItems<'a, (u32, Vec<u32, A>, Ve
 ///
 /// Any error but `Memory` means that the bytes are not such a payload.
 ///
+/// # Examples
+///
+/// ```
+/// use dolzhytik::fallible::{Global, read_instances};
+/// use dolzhytik::reader::{DecodeError, Padded};
+///
+/// // "coreinstances"; one instance: 00, module 0, one memory, 42, one global, 17.
+/// let payload = b"\x0Dcoreinstances\x01\0\0\x01\x2A\x01\x11";
+/// let instances = read_instances::<Global, Padded>(payload, Global)?;
+/// let (module, memories, globals) = &instances[0];
+/// assert_eq!((*module, &memories[..], &globals[..]), (0, &[42][..], &[17][..]));
+/// # Ok::<(), DecodeError>(())
+/// ```
+///
 /// # Proved
 ///
-/// After `Ok`: `found`. After an error: `none`.
+/// After `Ok`: `found`. After an error: `none`, the bytes as a whole are no such encoding, unless the cause is `Memory`.
 ///
 /// ```text
 /// ensures found { IfOk result
@@ -482,7 +591,7 @@ pub fn read_instances<'a, A: Allocator + Copy, G: Grammar>(
 ///
 /// # Proved
 ///
-/// After `Ok`: `ok`. In any case: `front`, `too_long`.
+/// After `Ok`: `ok`, the sink gains the minimal encoding. In any case: `front`; `too_long`, a value that has an encoding never gives `TooLong`. `front`: The new bytes begin with the old ones.
 ///
 /// ```text
 /// ensures ok { OnOk result
@@ -502,7 +611,7 @@ pub(crate) fn append_marked<B: Sink>(name: &str, sink: &mut B) -> Result<()> {
 ///
 /// # Proved
 ///
-/// After `Ok`: `ok`. In any case: `front`, `too_long`.
+/// After `Ok`: `ok`, the sink gains the minimal encoding. In any case: `front`; `too_long`, a value that has an encoding never gives `TooLong`. `front`: The new bytes begin with the old ones.
 ///
 /// ```text
 /// ensures ok { OnOk result
@@ -520,9 +629,26 @@ fn write_process<B: Sink>(name: &str, sink: &mut B) -> Result<()> {
 /// Appends the minimal encoding of the payload of the section of this process. On an error, the
 /// sink is unchanged.
 ///
+/// # Errors
+///
+/// Returns [`TooLong`](crate::fallible::Refused::TooLong) if a count or length would pass
+/// 4294967295, and [`Memory`](crate::fallible::Refused::Memory) if an allocation fails. The
+/// bytes of the sink are then unchanged.
+///
+/// # Examples
+///
+/// ```
+/// use dolzhytik::fallible::{Refused, append_process};
+///
+/// let mut payload = vec![];
+/// append_process("test", &mut payload)?;
+/// assert_eq!(payload, *b"\x04core\0\x04test");
+/// # Ok::<(), Refused>(())
+/// ```
+///
 /// # Proved
 ///
-/// After `Ok`: `ok`. After an error: `err`. In any case: `too_long`.
+/// After `Ok`: `ok`, the sink gains the minimal encoding. After an error: `err`, the bytes of the sink are unchanged. In any case: `too_long`, a value that has an encoding never gives `TooLong`.
 ///
 /// ```text
 /// ensures ok { OnOk result
@@ -544,9 +670,26 @@ pub fn append_process<B: Sink>(name: &str, sink: &mut B) -> Result<()> {
 /// Appends the minimal encoding of the payload of a section of these modules. On an error, the sink
 /// is unchanged.
 ///
+/// # Errors
+///
+/// Returns [`TooLong`](crate::fallible::Refused::TooLong) if a count or length would pass
+/// 4294967295, and [`Memory`](crate::fallible::Refused::Memory) if an allocation fails. The
+/// bytes of the sink are then unchanged.
+///
+/// # Examples
+///
+/// ```
+/// use dolzhytik::fallible::{Refused, append_modules};
+///
+/// let mut payload = vec![];
+/// append_modules(&["m"], &mut payload)?;
+/// assert_eq!(payload, *b"\x0Bcoremodules\x01\0\x01m");
+/// # Ok::<(), Refused>(())
+/// ```
+///
 /// # Proved
 ///
-/// After `Ok`: `ok`. After an error: `err`. In any case: `too_long`.
+/// After `Ok`: `ok`, the sink gains the minimal encoding. After an error: `err`, the bytes of the sink are unchanged. In any case: `too_long`, a value that has an encoding never gives `TooLong`.
 ///
 /// ```text
 /// ensures ok { OnOk result
@@ -565,9 +708,26 @@ pub fn append_modules<B: Sink>(names: &[&str], sink: &mut B) -> Result<()> {
 /// Appends the minimal encoding of the payload of a section of these instances. On an error, the
 /// sink is unchanged.
 ///
+/// # Errors
+///
+/// Returns [`TooLong`](crate::fallible::Refused::TooLong) if a count or length would pass
+/// 4294967295, and [`Memory`](crate::fallible::Refused::Memory) if an allocation fails. The
+/// bytes of the sink are then unchanged.
+///
+/// # Examples
+///
+/// ```
+/// use dolzhytik::fallible::{Global, Refused, append_instances};
+///
+/// let mut payload = vec![];
+/// append_instances::<Global, _>(&[], &mut payload)?;
+/// assert_eq!(payload, *b"\x0Dcoreinstances\0");
+/// # Ok::<(), Refused>(())
+/// ```
+///
 /// # Proved
 ///
-/// After `Ok`: `ok`. After an error: `err`. In any case: `too_long`.
+/// After `Ok`: `ok`, the sink gains the minimal encoding. After an error: `err`, the bytes of the sink are unchanged. In any case: `too_long`, a value that has an encoding never gives `TooLong`.
 ///
 /// ```text
 /// ensures ok { OnOk result

@@ -15,13 +15,15 @@ use crate::base::{CowSlice, CowStr, DecodeError, Encode, Grammar, Layout, Pieces
 /// of each frame. The former are the byte 00 and the name of the thread.
 ///
 /// ```
+/// # fn example() -> Result<(), Box<dyn std::error::Error>> {
 /// # use dolzhytik::{fallible::*, reader::*};
-/// # fn example(alloc: Global) -> Result<(), Box<dyn std::error::Error>> {
-/// let mut stack = CoreDumpStackSection::new(alloc, "main")?;
+/// use dolzhytik::fallible::{CoreDumpStackSection, CoreDumpValue, Global};
+///
+/// let mut stack = CoreDumpStackSection::new(Global, "main")?;
 /// stack.frame(0, 42, 51, [CoreDumpValue::I32(1)], [CoreDumpValue::Missing])?;
 /// # Ok(())
 /// # }
-/// # example(Global).unwrap();
+/// # example().unwrap();
 /// ```
 ///
 /// # Errors
@@ -37,9 +39,14 @@ pub struct CoreDumpStackSection<A: Allocator = Global> {
 impl<A: Allocator + Copy> CoreDumpStackSection<A> {
     /// Returns the stack of the thread of this name, without frames.
     ///
+    /// # Errors
+    ///
+    /// Returns [`TooLong`](crate::fallible::Refused::TooLong) if a count or length would pass
+    /// 4294967295, and [`Memory`](crate::fallible::Refused::Memory) if an allocation fails.
+    ///
     /// # Proved
     ///
-    /// After `Ok`: `is`, `was_encodable`. In any case: `too_long`.
+    /// After `Ok`: `is`; `was_encodable`. In any case: `too_long`. `was_encodable`: The size of the bytes is at most 2^32 - 1.
     ///
     /// ```text
     /// ensures is { IfOk result (λ s. s ≡ (marked_encoding thread_name.now, [])) }
@@ -59,9 +66,13 @@ impl<A: Allocator + Copy> CoreDumpStackSection<A> {
 
     /// Returns the same stack, in memory of its own.
     ///
+    /// # Errors
+    ///
+    /// Returns [`Memory`](crate::fallible::Refused::Memory) if an allocation fails.
+    ///
     /// # Proved
     ///
-    /// After `Ok`: `same`. In any case: `memory`.
+    /// After `Ok`: `same`, the result equals the value. In any case: `memory`, no error is `TooLong`.
     ///
     /// ```text
     /// ensures same { IfOk result (λ s. s ≡ self.now) }
@@ -82,7 +93,16 @@ impl<A: Allocator> CoreDumpStackSection<A> {
     /// its operand stack. If there are too many values in either list, it returns `TooLong` and
     /// requests none, as tests show.
     ///
+    /// # Errors
+    ///
+    /// Returns [`TooLong`](crate::fallible::Refused::TooLong) if the builder has 4294967295
+    /// entries, or if a count or length would pass 4294967295, and
+    /// [`Memory`](crate::fallible::Refused::Memory) if an allocation fails. The builder is then
+    /// unchanged.
+    ///
     /// # Asks
+    ///
+    /// The iterator ends, and yields as many items as it reports.
     ///
     /// ```text
     /// requires locals { HasKnownLength L.into_iter_gives L.IntoIter.can_next
@@ -94,6 +114,8 @@ impl<A: Allocator> CoreDumpStackSection<A> {
     /// Definitions: [`HasKnownLength`](crate::definitions::base::iterators::HasKnownLength). [How to read clauses](crate::definitions).
     ///
     /// # Proved
+    ///
+    /// `adds`: As `AddsList`, for an entry of two lists.
     ///
     /// ```text
     /// ensures adds { AddsTwoLists L.into_iter_gives L.IntoIter.next_gives L.IntoIter.remaining
@@ -123,9 +145,13 @@ impl<A: Allocator> CoreDumpStackSection<A> {
 
     /// Returns the section as a custom section, with its data in memory of their own.
     ///
+    /// # Errors
+    ///
+    /// Returns [`Memory`](crate::fallible::Refused::Memory) if an allocation fails.
+    ///
     /// # Proved
     ///
-    /// After `Ok`: `same`. In any case: `memory`.
+    /// After `Ok`: `same`. In any case: `memory`, no error is `TooLong`.
     ///
     /// ```text
     /// ensures same { IfOk result
@@ -184,13 +210,33 @@ impl<A: Allocator> Section for CoreDumpStackSection<A> {
 }
 
 /// A decoded frame of a stack.
+///
+/// [`Items::CoreStack`](crate::reader::Items::CoreStack) has them.
+///
+/// # Examples
+///
+/// ```
+/// use dolzhytik::fallible::{CoreDumpValue, Global};
+/// use dolzhytik::reader::{CoreFrame, DecodeError, Padded, Readable};
+///
+/// // 00, instance 0, function 42, offset 51, one local of type i32 (7F), no values.
+/// let bytes = [0, 0, 42, 51, 1, 0x7F, 1, 0];
+/// let (frame, _) = <CoreFrame as Readable<Global, Padded>>::read(&bytes, Global)?;
+/// assert_eq!((frame.funcidx, frame.codeoffset), (42, 51));
+/// assert!(matches!(frame.locals[..], [CoreDumpValue::I32(1)]));
+/// # Ok::<(), DecodeError>(())
+/// ```
 #[derive(Debug)]
 pub struct CoreFrame<A: Allocator = Global> {
+    /// The index of the instance.
     pub instanceidx: u32,
+    /// The index of the function.
     pub funcidx: u32,
     /// The offset in the function.
     pub codeoffset: u32,
+    /// The values of the locals.
     pub locals: Vec<CoreDumpValue, A>,
+    /// The values of the operand stack.
     pub stack: Vec<CoreDumpValue, A>,
 }
 
@@ -235,9 +281,22 @@ impl<'a, A: Allocator + Copy, G: Grammar> Readable<'a, A, G> for CoreFrame<A> {
 ///
 /// Any error but `Memory` means that the bytes are not such a payload.
 ///
+/// # Examples
+///
+/// ```
+/// use dolzhytik::fallible::{Global, read_stack};
+/// use dolzhytik::reader::{DecodeError, Padded};
+///
+/// // "corestack", 00, "t"; no frames.
+/// let (thread, frames) =
+///     read_stack::<Global, Padded>(b"\x09corestack\0\x01t\0", Global)?;
+/// assert_eq!((thread, frames.len()), ("t", 0));
+/// # Ok::<(), DecodeError>(())
+/// ```
+///
 /// # Proved
 ///
-/// After `Ok`: `found`. After an error: `none`.
+/// After `Ok`: `found`. After an error: `none`, the bytes as a whole are no such encoding, unless the cause is `Memory`.
 ///
 /// ```text
 /// ensures found { IfOk result
@@ -275,7 +334,7 @@ impl<A: Allocator> Shorten for CoreFrame<A> {
 ///
 /// # Proved
 ///
-/// After `Ok`: `ok`. In any case: `front`, `too_long`.
+/// After `Ok`: `ok`, the sink gains the minimal encoding. In any case: `front`; `too_long`, a value that has an encoding never gives `TooLong`. `front`: The new bytes begin with the old ones.
 ///
 /// ```text
 /// ensures ok { OnOk result
@@ -301,9 +360,26 @@ fn write_stack<A: Allocator, B: Sink>(
 /// Appends the minimal encoding of the payload of the section of this stack. On an error, the sink
 /// is unchanged.
 ///
+/// # Errors
+///
+/// Returns [`TooLong`](crate::fallible::Refused::TooLong) if a count or length would pass
+/// 4294967295, and [`Memory`](crate::fallible::Refused::Memory) if an allocation fails. The
+/// bytes of the sink are then unchanged.
+///
+/// # Examples
+///
+/// ```
+/// use dolzhytik::fallible::{Global, Refused, Vec, append_stack};
+///
+/// let mut payload = vec![];
+/// append_stack("t", &Vec::new(Global), &mut payload)?;
+/// assert_eq!(payload, *b"\x09corestack\0\x01t\0");
+/// # Ok::<(), Refused>(())
+/// ```
+///
 /// # Proved
 ///
-/// After `Ok`: `ok`. After an error: `err`. In any case: `too_long`.
+/// After `Ok`: `ok`, the sink gains the minimal encoding. After an error: `err`, the bytes of the sink are unchanged. In any case: `too_long`, a value that has an encoding never gives `TooLong`.
 ///
 /// ```text
 /// ensures ok { OnOk result

@@ -6,13 +6,37 @@ use crate::alloc::Allocator;
 use crate::base::{DecodeError, Encode, Grammar, Layout, ReadFault, Readable, Result};
 use crate::immediates::{Ieee32, Ieee64};
 
-/// A value of a local or of the stack, or none if it was optimized away.
+/// A value in a core dump, which
+/// [`CoreDumpStackSection::frame`](crate::CoreDumpStackSection::frame) takes.
+///
+/// The tool conventions define it in
+/// [Coredump](https://github.com/WebAssembly/tool-conventions/blob/main/Coredump.md).
+///
+/// The cases are integers and floats of 32 and 64 bits, and `Missing` for a value that is not
+/// known.
+///
+/// # Examples
+///
+/// ```
+/// use dolzhytik::{CoreDumpValue, Encode};
+///
+/// let mut bytes = Vec::new();
+/// CoreDumpValue::Missing.encode(&mut bytes);
+/// CoreDumpValue::I32(-1).encode(&mut bytes);
+/// // A missing value: 01. An i32, 7F, of value -1 as signed LEB128, 7F.
+/// assert_eq!(bytes, [0x01, 0x7F, 0x7F]);
+/// ```
 #[derive(Clone, Copy, Debug)]
 pub enum CoreDumpValue {
+    /// A value that is not known: 01.
     Missing,
+    /// An integer of 32 bits: 7F.
     I32(i32),
+    /// An integer of 64 bits: 7E.
     I64(i64),
+    /// A float of 32 bits: 7D.
     F32(Ieee32),
+    /// A float of 64 bits: 7C.
     F64(Ieee64),
 }
 

@@ -28,6 +28,8 @@ pub(crate) trait ItemsAs<T>: CustomKind {
     ///
     /// # Proved
     ///
+    /// A format whose encodings determine their own end is unambiguous in every mode, with encodings as `HasEncodings` states.
+    ///
     /// ```text
     /// ensures { Unambiguous format }
     /// ```
@@ -38,9 +40,14 @@ pub(crate) trait ItemsAs<T>: CustomKind {
     /// Appends the minimal encoding of the item, if any bytes decode to it. After an error, part of
     /// the encoding may follow the old bytes.
     ///
+    /// # Errors
+    ///
+    /// Returns [`TooLong`](crate::fallible::Refused::TooLong) if a count or length would pass
+    /// 4294967295, and [`Memory`](crate::fallible::Refused::Memory) if an allocation fails.
+    ///
     /// # Proved
     ///
-    /// After `Ok`: `ok`. In any case: `front`, `too_long`.
+    /// After `Ok`: `ok`, the sink gains the minimal encoding. In any case: `front`; `too_long`, a value that has an encoding never gives `TooLong`. `front`: The new bytes begin with the old ones.
     ///
     /// ```text
     /// ensures ok { OnOk result
@@ -59,7 +66,7 @@ pub(crate) trait DecodesItems<'a, T, A: Allocator + Copy, G: Grammar>: ItemsAs<T
     ///
     /// # Proved
     ///
-    /// After `Ok`: `found`. After an error: `none`.
+    /// After `Ok`: `found`, the bytes begin with an encoding of the value, and the returned bytes follow it. After an error: `none`, the bytes do not begin with such an encoding, unless the cause is `Memory`.
     ///
     /// ```text
     /// ensures found { IfOk result
@@ -77,7 +84,7 @@ pub(crate) trait DecodesItems<'a, T, A: Allocator + Copy, G: Grammar>: ItemsAs<T
 ///
 /// # Proved
 ///
-/// After `Ok`: `found`. After an error: `none`.
+/// After `Ok`: `found`, the bytes begin with an encoding of the value, and the returned bytes follow it. After an error: `none`, the bytes do not begin with such an encoding, unless the cause is `Memory`.
 ///
 /// ```text
 /// ensures found { IfOk result
@@ -107,7 +114,7 @@ fn read_items<'a, K: DecodesItems<'a, T, A, G>, T, A: Allocator + Copy, G: Gramm
 ///
 /// # Proved
 ///
-/// After `Ok`: `found`. After an error: `none`.
+/// After `Ok`: `found`. After an error: `none`, the bytes as a whole are no such encoding, unless the cause is `Memory`.
 ///
 /// ```text
 /// ensures found { IfOk result
@@ -140,7 +147,7 @@ pub(crate) fn read_counted<
 ///
 /// # Proved
 ///
-/// After `Ok`: `ok`. In any case: `front`, `too_long`.
+/// After `Ok`: `ok`, the sink gains the minimal encoding. In any case: `front`; `too_long`, a value that has an encoding never gives `TooLong`. `front`: The new bytes begin with the old ones.
 ///
 /// ```text
 /// ensures ok { OnOk result
@@ -165,7 +172,7 @@ fn append_items<K: ItemsAs<T>, T, B: Sink>(items: &[T], sink: &mut B) -> Result<
 ///
 /// # Proved
 ///
-/// After `Ok`: `ok`. In any case: `front`, `too_long`.
+/// After `Ok`: `ok`, the sink gains the minimal encoding. In any case: `front`; `too_long`, a value that has an encoding never gives `TooLong`. `front`: The new bytes begin with the old ones.
 ///
 /// ```text
 /// ensures ok { OnOk result
@@ -187,7 +194,7 @@ fn write_counted<K: ItemsAs<T>, T, B: Sink>(items: &[T], sink: &mut B) -> Result
 ///
 /// # Proved
 ///
-/// After `Ok`: `ok`. After an error: `err`. In any case: `too_long`.
+/// After `Ok`: `ok`, the sink gains the minimal encoding. After an error: `err`, the bytes of the sink are unchanged. In any case: `too_long`, a value that has an encoding never gives `TooLong`.
 ///
 /// ```text
 /// ensures ok { OnOk result

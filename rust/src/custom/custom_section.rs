@@ -10,7 +10,7 @@ use crate::base::{CowSlice, CowStr, Encode, Refused, Result, Section, SectionId,
 ///
 /// # Proved
 ///
-/// After `Ok`: `ok`, `reserved`, `was_encodable`. After an error: `err`. In any case: `too_long`, `too_many`, `spare`, `capacity`.
+/// After `Ok`: `ok`; `reserved`, the sink has spare capacity for the payload; `was_encodable`. After an error: `err`, the bytes of the sink are unchanged. In any case: `too_long`; `too_many`, more than 4294967295 give `TooLong`; `spare`; `capacity`, the capacity does not shrink.
 ///
 /// ```text
 /// ensures ok { OnOk result
@@ -54,10 +54,12 @@ pub(crate) fn begin_custom<A: Sink>(
 /// A custom section of any name and data.
 ///
 /// ```
+/// # fn example() -> Result<(), Box<dyn std::error::Error>> {
 /// # use dolzhytik::{fallible::*, reader::*};
-/// # fn example(alloc: Global) -> Result<(), Box<dyn std::error::Error>> {
-/// # let mut module = Module::new(alloc)?;
-/// # let bytes = *b"\0\x01";
+/// use dolzhytik::fallible::{CowSlice, CowStr, CustomSection, Global, Module};
+///
+/// let mut module = Module::new(Global)?;
+/// let bytes = *b"\0\x01";
 /// let section: CustomSection<'_> = CustomSection {
 ///     name: CowStr::Borrowed("test"),
 ///     bytes: CowSlice::Borrowed(&[11, 22, 33, 44]),
@@ -65,10 +67,11 @@ pub(crate) fn begin_custom<A: Sink>(
 /// module.section(&section)?;
 /// # Ok(())
 /// # }
-/// # example(Global).unwrap();
+/// # example().unwrap();
 /// ```
 #[derive(Debug)]
 pub struct CustomSection<'a, A: Allocator = Global> {
+    /// The name.
     pub name: CowStr<'a, A>,
     /// The data.
     pub bytes: CowSlice<'a, u8, A>,
@@ -77,9 +80,13 @@ pub struct CustomSection<'a, A: Allocator = Global> {
 impl<'a, A: Allocator + Copy> CustomSection<'a, A> {
     /// Returns the same name and data, and copies owned ones into memory of their own.
     ///
+    /// # Errors
+    ///
+    /// Returns [`Memory`](crate::fallible::Refused::Memory) if an allocation fails.
+    ///
     /// # Proved
     ///
-    /// After `Ok`: `same`. In any case: `memory`.
+    /// After `Ok`: `same`. In any case: `memory`, no error is `TooLong`.
     ///
     /// ```text
     /// ensures same { IfOk result

@@ -10,6 +10,24 @@ use crate::base::{CowSlice, CowStr, Encode, EncodeOnce, Kind, Pieces, Result, Se
 /// A kind of custom section: its items, its name, the bytes before its entries, and whether the
 /// entries are counted.
 ///
+/// A kind has no value: it is the type argument of
+/// [`CustomEntries`](crate::fallible::CustomEntries).
+///
+/// # Examples
+///
+/// ```
+/// use dolzhytik::fallible::{CustomKind, NameItems, ProducerItems};
+///
+/// fn name_of<K: CustomKind>() -> &'static str {
+///     K::name()
+/// }
+///
+/// assert_eq!(
+///     [name_of::<NameItems>(), name_of::<ProducerItems>()],
+///     ["name", "producers"]
+/// );
+/// ```
+///
 /// # Defined
 ///
 /// ```text
@@ -62,6 +80,8 @@ pub trait CustomKind: Kind {
     ///
     /// # Proved
     ///
+    /// The laws of a kind of custom section, in addition to those of its items. Its name is UTF-8, and its front is encoded in an unambiguous format. If items are not counted, none of them is empty.
+    ///
     /// ```text
     /// ensures { CustomLayoutLaws Self.kind.format name front front_format counted }
     /// ```
@@ -76,6 +96,25 @@ pub trait CustomKind: Kind {
 ///
 /// An adding call that returns an error leaves the section unchanged. The error is `TooLong` only
 /// if the section is full or the item does not fit, and `Memory` only if an allocation fails.
+///
+/// It is the builder of custom sections, such as [`NameSection`](crate::fallible::NameSection).
+/// The calls that add entries are those of the kind `K`.
+///
+/// # Examples
+///
+/// ```
+/// use dolzhytik::fallible::{CoreDumpModulesSection, CustomEntries, Global, Refused};
+///
+/// /// Returns whether a section of any kind has entries.
+/// fn has_entries<K>(section: &CustomEntries<K>) -> bool {
+///     !section.is_empty()
+/// }
+///
+/// let mut modules = CoreDumpModulesSection::new(Global);
+/// modules.module("a.wasm")?;
+/// assert!(has_entries(&modules));
+/// # Ok::<(), Refused>(())
+/// ```
 #[derive(Debug)]
 pub struct CustomEntries<K, A: Allocator = Global> {
     pieces: Pieces<A>,
@@ -100,6 +139,8 @@ impl<K, A: Allocator> CustomEntries<K, A> {
     ///
     /// # Proved
     ///
+    /// The result is true exactly if there are no entries.
+    ///
     /// ```text
     /// ensures { IsTrue result ↔ (length self.now ≡ 0) }
     /// ```
@@ -112,6 +153,8 @@ impl<K, A: Allocator> CustomEntries<K, A> {
     /// Adds the encoding of the record as an entry.
     ///
     /// # Proved
+    ///
+    /// The builder gains one entry with this encoding, or the call returns an error and changes nothing. A full builder, with 2^32 - 1 entries, returns `TooLong`.
     ///
     /// ```text
     /// ensures { Adds (T.encoding given.now) (T.encodable given.now) self.old self.new result }
@@ -126,6 +169,8 @@ impl<K, A: Allocator> CustomEntries<K, A> {
     ///
     /// # Asks
     ///
+    /// Each iterator in the value ends, and yields as many items as it reports: the impl says so by `lawful`.
+    ///
     /// ```text
     /// requires { T.lawful item }
     /// ```
@@ -133,6 +178,8 @@ impl<K, A: Allocator> CustomEntries<K, A> {
     /// [How to read clauses](crate::definitions).
     ///
     /// # Proved
+    ///
+    /// The builder gains one entry with one of these encodings, or the call returns an error and changes nothing. A full builder, with 2^32 - 1 entries, returns `TooLong`.
     ///
     /// ```text
     /// ensures { AddsOnce (T.gives item) (T.encodable item) self.old self.new result }
@@ -162,6 +209,8 @@ impl<K, A: Allocator + Copy> CustomEntries<K, A> {
     ///
     /// # Proved
     ///
+    /// The result has no entries.
+    ///
     /// ```text
     /// ensures { result ≡ [] }
     /// ```
@@ -176,9 +225,13 @@ impl<K, A: Allocator + Copy> CustomEntries<K, A> {
 
     /// Returns a section of the same entries, in memory of its own.
     ///
+    /// # Errors
+    ///
+    /// Returns [`Memory`](crate::fallible::Refused::Memory) if an allocation fails.
+    ///
     /// # Proved
     ///
-    /// After `Ok`: `same`. In any case: `memory`.
+    /// After `Ok`: `same`, the result equals the value. In any case: `memory`, no error is `TooLong`.
     ///
     /// ```text
     /// ensures same { IfOk result (λ section. section ≡ self.now) }
@@ -199,7 +252,7 @@ impl<K: CustomKind, A: Allocator> CustomEntries<K, A> {
     ///
     /// # Proved
     ///
-    /// After `Ok`: `same`. In any case: `memory`.
+    /// After `Ok`: `same`. In any case: `memory`, no error is `TooLong`.
     ///
     /// ```text
     /// ensures same { IfOk result
@@ -295,6 +348,8 @@ fn data_size<B: Allocator>(front: &[u8], count: Count, pieces: &Pieces<B>) -> us
 ///
 /// # Proved
 ///
+/// In any case: `appends`; `few`; `too_many`, more than 4294967295 give `TooLong`. `appends`: The call appends the encoding, or returns an error and leaves the bytes as they were. If the value fits, the call never returns `TooLong`, and it succeeds within the spare capacity.
+///
 /// ```text
 /// ensures appends { Appends
 ///     (named_encoding name.now (entries_encoding front.now counted pieces.now))
@@ -330,7 +385,7 @@ pub(crate) fn encode_entries<A: Sink, B: Allocator>(
 ///
 /// # Proved
 ///
-/// After `Ok`: `same`. In any case: `memory`.
+/// After `Ok`: `same`. In any case: `memory`, no error is `TooLong`.
 ///
 /// ```text
 /// ensures same { IfOk result

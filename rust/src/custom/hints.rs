@@ -12,25 +12,56 @@ use crate::base::{DecodeError, Encode, Grammar, Kind, Layout, ReadFault, Readabl
 /// function. It belongs before the code section.
 ///
 /// ```
+/// # fn example() -> Result<(), Box<dyn std::error::Error>> {
 /// # use dolzhytik::{fallible::*, reader::*};
-/// # fn example(alloc: Global) -> Result<(), Box<dyn std::error::Error>> {
-/// let mut function = Function::new(alloc, [])?;
+/// use dolzhytik::fallible::{
+///     BlockType, BranchHint, BranchHints, Function, Global, Instruction,
+/// };
+///
+/// let mut function = Function::new(Global, [])?;
 /// function.instruction(&Instruction::I32Const(1))?;
 /// let offset = function.byte_len() as u32;
 /// function.instruction(&Instruction::If(BlockType::Empty))?;
-/// let mut hints = BranchHints::new(alloc);
+/// let mut hints = BranchHints::new(Global);
 /// hints.function_hints(0, [BranchHint { branch_func_offset: offset, branch_hint_value: 1 }])?;
 /// # Ok(())
 /// # }
-/// # example(Global).unwrap();
+/// # example().unwrap();
 /// ```
 pub type BranchHints<A = Global> = CustomEntries<HintItems, A>;
 
 /// The kind of a branch hint section's items: the hints of one function each.
+///
+/// It is the type argument of [`CustomEntries`](crate::fallible::CustomEntries) in
+/// [`BranchHints`](crate::fallible::BranchHints).
+///
+/// # Examples
+///
+/// ```
+/// use dolzhytik::fallible::{BranchHints, CustomKind, Global, HintItems};
+///
+/// let section = BranchHints::new(Global);
+/// assert_eq!((section.len(), HintItems::name()), (0, "metadata.code.branch_hint"));
+/// ```
 #[derive(Clone, Copy, Debug)]
 pub struct HintItems;
 
-/// A branch hint: the likely direction of a branch.
+/// A branch hint, which [`BranchHints::function_hints`](crate::BranchHints::function_hints)
+/// takes: the offset of a branch and its likely direction.
+///
+/// The branch hinting proposal defines it. `branch_func_offset` is the offset of the branch in
+/// its body, as [`Function::byte_len`](crate::Function::byte_len) returns it, and
+/// `branch_hint_value` is 1 for a likely branch and 0 for an unlikely one.
+///
+/// # Examples
+///
+/// ```
+/// use dolzhytik::{BranchHint, BranchHints};
+///
+/// let mut hints = BranchHints::new();
+/// hints.function_hints(7, [BranchHint { branch_func_offset: 3, branch_hint_value: 1 }]);
+/// assert_eq!(hints.len(), 1);
+/// ```
 #[derive(Clone, Copy, Debug)]
 pub struct BranchHint {
     /// The offset of the branch instruction in the raw body of its function, in bytes.
@@ -98,7 +129,16 @@ impl<A: Allocator> BranchHints<A> {
     /// Adds the hints of a function. If there are too many hints, it returns `TooLong` and requests
     /// none, as tests show.
     ///
+    /// # Errors
+    ///
+    /// Returns [`TooLong`](crate::fallible::Refused::TooLong) if the builder has 4294967295
+    /// entries, or if a count or length would pass 4294967295, and
+    /// [`Memory`](crate::fallible::Refused::Memory) if an allocation fails. The builder is then
+    /// unchanged.
+    ///
     /// # Asks
+    ///
+    /// The iterator ends, and yields as many items as it reports.
     ///
     /// ```text
     /// requires { HasKnownLength H.into_iter_gives H.IntoIter.can_next H.IntoIter.next_gives
@@ -108,6 +148,8 @@ impl<A: Allocator> BranchHints<A> {
     /// Definitions: [`HasKnownLength`](crate::definitions::base::iterators::HasKnownLength). [How to read clauses](crate::definitions).
     ///
     /// # Proved
+    ///
+    /// The builder gains one entry of the items that the iterator yields, or the call returns an error and changes nothing. It returns `TooLong` if there are too many items, and never if all items fit and items and entries are few enough.
     ///
     /// ```text
     /// ensures { AddsList H.into_iter_gives H.IntoIter.next_gives H.IntoIter.remaining hints
@@ -220,9 +262,26 @@ impl<'a, A: Allocator + Copy, G: Grammar> DecodesItems<'a, (u32, Vec<BranchHint,
 ///
 /// Any error but `Memory` means that the bytes are not such a payload.
 ///
+/// # Examples
+///
+/// ```
+/// use dolzhytik::fallible::{Global, read_hints};
+/// use dolzhytik::reader::{DecodeError, Padded};
+///
+/// // The name; one function, 7, of one hint: offset 3, one byte, likely.
+/// let payload = b"\x19metadata.code.branch_hint\x01\x07\x01\x03\x01\x01";
+/// let functions = read_hints::<Global, Padded>(payload, Global)?;
+/// let (function, hints) = &functions[0];
+/// assert_eq!(
+///     (*function, hints[0].branch_func_offset, hints[0].branch_hint_value),
+///     (7, 3, 1)
+/// );
+/// # Ok::<(), DecodeError>(())
+/// ```
+///
 /// # Proved
 ///
-/// After `Ok`: `found`. After an error: `none`.
+/// After `Ok`: `found`. After an error: `none`, the bytes as a whole are no such encoding, unless the cause is `Memory`.
 ///
 /// ```text
 /// ensures found { IfOk result
@@ -243,9 +302,27 @@ pub fn read_hints<'a, A: Allocator + Copy, G: Grammar>(
 /// Appends the minimal encoding of the payload of a section of these hints. On an error, the sink
 /// is unchanged.
 ///
+/// # Errors
+///
+/// Returns [`TooLong`](crate::fallible::Refused::TooLong) if a count or length would pass
+/// 4294967295, and [`Memory`](crate::fallible::Refused::Memory) if an allocation fails. The
+/// bytes of the sink are then unchanged.
+///
+/// # Examples
+///
+/// ```
+/// use dolzhytik::fallible::{Global, Refused, append_hints};
+///
+/// let mut payload = vec![];
+/// append_hints::<Global, _>(&[], &mut payload)?;
+/// // The name, no functions.
+/// assert_eq!(payload, *b"\x19metadata.code.branch_hint\0");
+/// # Ok::<(), Refused>(())
+/// ```
+///
 /// # Proved
 ///
-/// After `Ok`: `ok`. After an error: `err`. In any case: `too_long`.
+/// After `Ok`: `ok`, the sink gains the minimal encoding. After an error: `err`, the bytes of the sink are unchanged. In any case: `too_long`, a value that has an encoding never gives `TooLong`.
 ///
 /// ```text
 /// ensures ok { OnOk result

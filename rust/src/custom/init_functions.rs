@@ -10,17 +10,31 @@ use crate::base::{DecodeError, Grammar, Layout, Readable, Result, Shorten};
 /// subsection 6 of a linking section.
 ///
 /// ```
+/// # fn example() -> Result<(), Box<dyn std::error::Error>> {
 /// # use dolzhytik::{fallible::*, reader::*};
-/// # fn example(alloc: Global) -> Result<(), Box<dyn std::error::Error>> {
-/// let mut functions = InitFunctions::new(alloc);
+/// use dolzhytik::fallible::{Global, InitFunctions};
+///
+/// let mut functions = InitFunctions::new(Global);
 /// functions.function(65535, 0)?;
 /// # Ok(())
 /// # }
-/// # example(Global).unwrap();
+/// # example().unwrap();
 /// ```
 pub type InitFunctions<A = Global> = CountedList<InitMembers, A>;
 
 /// The kind of the members of a list of init functions.
+///
+/// It is the type argument of [`CountedList`](crate::fallible::CountedList) in
+/// [`InitFunctions`](crate::fallible::InitFunctions).
+///
+/// # Examples
+///
+/// ```
+/// use dolzhytik::fallible::{Global, InitFunctions, InitMembers, ListKind};
+///
+/// let list = InitFunctions::new(Global);
+/// assert_eq!((list.len(), InitMembers::subsection()), (0, Some(6)));
+/// ```
 #[derive(Clone, Copy, Debug)]
 pub struct InitMembers;
 
@@ -43,7 +57,15 @@ impl ListKind for InitMembers {
 impl<A: Allocator> InitFunctions<A> {
     /// Adds the function of this symbol. Functions of a lower priority are called first.
     ///
+    /// # Errors
+    ///
+    /// Returns [`TooLong`](crate::fallible::Refused::TooLong) if the builder has 4294967295
+    /// entries, and [`Memory`](crate::fallible::Refused::Memory) if an allocation fails. The
+    /// builder is then unchanged.
+    ///
     /// # Proved
+    ///
+    /// The builder gains one entry with this encoding, or the call returns an error and changes nothing. A full builder, with 2^32 - 1 entries, returns `TooLong`.
     ///
     /// ```text
     /// ensures { Adds (unsigned_encoding priority ++ unsigned_encoding symbol) ⊤ self.old
@@ -57,6 +79,21 @@ impl<A: Allocator> InitFunctions<A> {
 }
 
 /// A function that the linked module calls when it starts.
+///
+/// It is an item of [`LinkItem::InitFunctions`](crate::reader::LinkItem::InitFunctions).
+///
+/// # Examples
+///
+/// ```
+/// use dolzhytik::fallible::{Global, InitFunction};
+/// use dolzhytik::reader::{DecodeError, Readable, Standard};
+///
+/// // The priority 10, the symbol 3.
+/// let (function, _) =
+///     <InitFunction as Readable<Global, Standard>>::read(&[10, 3], Global)?;
+/// assert_eq!((function.priority, function.symbol), (10, 3));
+/// # Ok::<(), DecodeError>(())
+/// ```
 #[derive(Clone, Copy, Debug)]
 pub struct InitFunction {
     /// Functions of a lower priority are called first.

@@ -10,6 +10,8 @@
 ///
 /// # Proved
 ///
+/// `names`, `linking`, `objects`, `producers`, `hints`, `modules`, `instances`, `core`, `stack`, `customs`, `subsections`, `links`, `symbols`, `object_links`, `object_symbols`, `segments`, `init_functions`, `comdat_symbols`, `comdats`, `fields`, `functions_hints`, `marked_names`, `single_instances`, `frames`, `values`: A format whose encodings determine their own end is unambiguous in every mode, with encodings as `HasEncodings` states. `name_laws`, `linking_items`, `object_laws`, `producer_laws`, `hint_laws`, `module_laws`, `instance_laws`, `layout_laws`: The laws of a kind of items: the format is unambiguous, and a well-formed record whose size fits encodes its normal form.
+///
 /// ```text
 /// ensures names { Unambiguous (size_prefixed name_payload) }
 /// ensures linking { Unambiguous (size_prefixed linking_payload) }
@@ -54,6 +56,8 @@ pub fn sections() {}
 ///
 /// # Proved
 ///
+/// `names`, `linking`, `objects`, `producers`, `hints`, `modules`, `instances`, `core`, `stack`, `customs`: With padding allowed a format is unambiguous, and it keeps every minimal encoding.
+///
 /// ```text
 /// ensures names { UnambiguousPadded (size_prefixed name_payload) }
 /// ensures linking { UnambiguousPadded (size_prefixed linking_payload) }
@@ -74,6 +78,8 @@ pub fn padded() {}
 /// call that adds a well-formed record. A list encodes the vector of its members.
 ///
 /// # Proved
+///
+/// `names`, `linking`, `objects`, `producers`, `hints`, `modules`, `instances`, `frames`: A section without entries holds no items. The entry of a well-formed record adds its normal form, and an entry of raw bytes adds the item that they minimally encode. `add_all` adds its records as if one by one. `name_maps`, `indirect_maps`, `symbol_tables`, `object_symbols`, `segments`, `init_functions`, `comdat_symbols`, `comdats`, `producer_fields`: A list without entries holds no members. An entry that is the encoding of a member adds this member, if the list is not full. `name_maps_encoding`, `indirect_maps_encoding`, `symbol_tables_encoding`, `object_symbols_encoding`, `segments_encoding`, `init_functions_encoding`, `comdat_symbols_encoding`, `comdats_encoding`, `producer_fields_encoding`: The encoding of a list that holds members is the vector of these members.
 ///
 /// ```text
 /// ensures names { ContainsMore name_items }
@@ -112,6 +118,8 @@ pub fn calls() {}
 ///
 /// # Proved
 ///
+/// `names`, `linking`, `objects`, `producers`, `hints`, `modules`, `instances`: As `ContainsMore`, for padded LEB128. A section holds all that it holds in minimal encodings. A record that is well-formed, with possibly padded expressions, adds its normal form. Raw bytes add the item that they encode, possibly padded.
+///
 /// ```text
 /// ensures names { ContainsMorePadded name_items }
 /// ensures linking { ContainsMorePadded link_items }
@@ -129,6 +137,8 @@ pub fn padded_calls() {}
 /// payload decodes to these alone.
 ///
 /// # Proved
+///
+/// `names`, `linking`, `objects`, `producers`, `hints`, `modules`, `instances`, `core`, `stack`, `customs`: If size-prefixed bytes decode to `x` alone, their payload decodes to `x` alone.
 ///
 /// ```text
 /// ensures names { DecodesPayloads name_payload }
@@ -149,6 +159,8 @@ pub fn payloads() {}
 /// The same with padded numbers.
 ///
 /// # Proved
+///
+/// `names`, `linking`, `objects`, `producers`, `hints`, `modules`, `instances`, `core`, `stack`, `customs`: As `DecodesPayloads`, for padded LEB128.
 ///
 /// ```text
 /// ensures names { DecodesPayloadsPadded name_payload }
@@ -172,6 +184,8 @@ pub fn padded_payloads() {}
 ///
 /// # Proved
 ///
+/// `decoded`, `encoded`, `minimal_decoded`, `minimal_encoded`, `built`: Every encoding by `S` is an encoding of the same value by `T`.
+///
 /// ```text
 /// ensures decoded { IsIncludedIn (linking_payload standard) (object_payload standard) }
 /// ensures encoded { IsIncludedIn (object_payload standard) (linking_payload standard) }
@@ -190,6 +204,8 @@ pub fn object_linking() {}
 /// hints, a value has two bytes. In that of links, a defined function has no name.
 ///
 /// # Proved
+///
+/// `long_value`, `no_name`: In neither mode of the builders' grammar does a value decode from the front of the bytes, whatever follows them.
 ///
 /// ```text
 /// ensures long_value { RejectsAllAfterPadded (size_prefixed hints_payload)

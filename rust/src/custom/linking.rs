@@ -17,21 +17,35 @@ use crate::base::{DecodeError, Encode, Grammar, Kind, Layout, ReadFault, Readabl
 /// format. Each call adds a subsection, and `new` allocates nothing.
 ///
 /// ```
+/// # fn example() -> Result<(), Box<dyn std::error::Error>> {
 /// # use dolzhytik::{fallible::*, reader::*};
-/// # fn example(alloc: Global) -> Result<(), Box<dyn std::error::Error>> {
-/// # let mut module = Module::new(alloc)?;
-/// let mut symbols = SymbolTable::new(alloc);
+/// use dolzhytik::fallible::{Global, LinkingSection, Module, SymbolTable};
+///
+/// let mut module = Module::new(Global)?;
+/// let mut symbols = SymbolTable::new(Global);
 /// symbols.function(SymbolTable::WASM_SYM_EXPORTED, 0, Some("f"))?;
-/// let mut linking = LinkingSection::new(alloc);
+/// let mut linking = LinkingSection::new(Global);
 /// linking.symbol_table(&symbols)?;
 /// module.section(&linking)?;
 /// # Ok(())
 /// # }
-/// # example(Global).unwrap();
+/// # example().unwrap();
 /// ```
 pub type LinkingSection<A = Global> = CustomEntries<LinkingItems, A>;
 
 /// The kind of a linking section's items: subsections.
+///
+/// It is the type argument of [`CustomEntries`](crate::fallible::CustomEntries) in
+/// [`LinkingSection`](crate::fallible::LinkingSection).
+///
+/// # Examples
+///
+/// ```
+/// use dolzhytik::fallible::{CustomKind, Global, LinkingItems, LinkingSection};
+///
+/// let section = LinkingSection::new(Global);
+/// assert_eq!((section.len(), LinkingItems::name()), (0, "linking"));
+/// ```
 #[derive(Clone, Copy, Debug)]
 pub struct LinkingItems;
 
@@ -77,7 +91,16 @@ impl CustomKind for LinkingItems {
 impl<A: Allocator> LinkingSection<A> {
     /// Adds the symbols.
     ///
+    /// # Errors
+    ///
+    /// Returns [`TooLong`](crate::fallible::Refused::TooLong) if the builder has 4294967295
+    /// entries, or if a count or length would pass 4294967295, and
+    /// [`Memory`](crate::fallible::Refused::Memory) if an allocation fails. The builder is then
+    /// unchanged.
+    ///
     /// # Proved
+    ///
+    /// The builder gains one entry with this encoding, or the call returns an error and changes nothing. A full builder, with 2^32 - 1 entries, returns `TooLong`.
     ///
     /// ```text
     /// ensures { Adds (subsection_encoding 8 (list_encoding symbols.now))
@@ -91,7 +114,16 @@ impl<A: Allocator> LinkingSection<A> {
 
     /// Adds the architecture of the target.
     ///
+    /// # Errors
+    ///
+    /// Returns [`TooLong`](crate::fallible::Refused::TooLong) if the builder has 4294967295
+    /// entries, or if a count or length would pass 4294967295, and
+    /// [`Memory`](crate::fallible::Refused::Memory) if an allocation fails. The builder is then
+    /// unchanged.
+    ///
     /// # Proved
+    ///
+    /// The builder gains one entry with this encoding, or the call returns an error and changes nothing. A full builder, with 2^32 - 1 entries, returns `TooLong`.
     ///
     /// ```text
     /// ensures { Adds (subsection_encoding 9 (size_prefixed_encoding name.now))
@@ -113,6 +145,26 @@ const VERSION: u32 = 2;
 
 /// A decoded subsection of a linking section. The builders' grammar has symbol tables and
 /// architectures alone.
+///
+/// [`Items::Linking`](crate::reader::Items::Linking) has them.
+///
+/// # Examples
+///
+/// ```
+/// use dolzhytik::fallible::{Global, read_links};
+/// use dolzhytik::reader::{DecodeError, LinkItem, Padded, Symbol};
+///
+/// // "linking", version 2; a symbol table: 8, size 6, one symbol: a function (0), no
+/// // flags, the index 5, "f".
+/// let payload = b"\x07linking\x02\x08\x06\x01\0\0\x05\x01f";
+/// let items = read_links::<Global, Padded>(payload, Global)?;
+/// let LinkItem::Symbols(symbols) = &items[0] else { panic!("another subsection") };
+/// assert!(matches!(
+///     symbols[..],
+///     [Symbol::Function { index: 5, name: Some("f"), .. }]
+/// ));
+/// # Ok::<(), DecodeError>(())
+/// ```
 #[derive(Debug)]
 pub enum LinkItem<'a, A: Allocator = Global> {
     /// The data segments, in the order of the data section.
@@ -131,7 +183,7 @@ pub enum LinkItem<'a, A: Allocator = Global> {
 ///
 /// # Proved
 ///
-/// After `Ok`: `found`. After an error: `none`.
+/// After `Ok`: `found`, the bytes begin with an encoding of the value, and the returned bytes follow it. After an error: `none`, the bytes do not begin with such an encoding, unless the cause is `Memory`.
 ///
 /// ```text
 /// ensures found { IfOk result
@@ -164,6 +216,8 @@ fn read_vector<'a, T: Readable<'a, A, G>, A: Allocator + Copy, G: Grammar>(
 /// Definitions: [`LinkModel`](crate::definitions::custom::linking::LinkItem), [`link`](crate::definitions::custom::linking::link), [`link_view`](crate::definitions::custom::linking::link_view). [How to read clauses](crate::definitions).
 impl<'a, A: Allocator> Layout for LinkItem<'a, A> {
     /// # Proved
+    ///
+    /// A format whose encodings determine their own end is unambiguous in every mode, with encodings as `HasEncodings` states.
     ///
     /// ```text
     /// ensures { Unambiguous link }
@@ -213,7 +267,7 @@ impl<'a, A: Allocator + Copy + 'a, G: Grammar> Readable<'a, A, G> for LinkItem<'
 ///
 /// # Proved
 ///
-/// After `Ok`: `found`. After an error: `none`.
+/// After `Ok`: `found`. After an error: `none`, the bytes do not begin with such an encoding, unless the cause is `Memory`. `found`: `bytes` is an encoding of `x` in this mode, followed by `rest`.
 ///
 /// ```text
 /// ensures found { IfOk result
@@ -243,9 +297,21 @@ fn after_version<'a, A: Allocator + Copy, G: Grammar>(
 ///
 /// Any error but `Memory` means that the bytes are not such a payload.
 ///
+/// # Examples
+///
+/// ```
+/// use dolzhytik::fallible::{Global, read_links};
+/// use dolzhytik::reader::{DecodeError, Padded};
+///
+/// // "linking", version 2, no subsections.
+/// let items = read_links::<Global, Padded>(b"\x07linking\x02", Global)?;
+/// assert!(items.is_empty());
+/// # Ok::<(), DecodeError>(())
+/// ```
+///
 /// # Proved
 ///
-/// After `Ok`: `found`. After an error: `none`.
+/// After `Ok`: `found`. After an error: `none`, the bytes as a whole are no such encoding, unless the cause is `Memory`.
 ///
 /// ```text
 /// ensures found { IfOk result
@@ -270,7 +336,7 @@ pub fn read_links<'a, A: Allocator + Copy + 'a, G: Grammar>(
 ///
 /// # Proved
 ///
-/// After `Ok`: `ok`. In any case: `front`, `too_long`.
+/// After `Ok`: `ok`, the sink gains the minimal encoding. In any case: `front`; `too_long`, a value that has an encoding never gives `TooLong`. `front`: The new bytes begin with the old ones.
 ///
 /// ```text
 /// ensures ok { OnOk result
@@ -298,7 +364,7 @@ fn append_vector<T: Shorten, A: Allocator, B: Sink>(
 ///
 /// # Proved
 ///
-/// After `Ok`: `ok`. In any case: `front`, `too_long`.
+/// After `Ok`: `ok`, the sink gains the minimal encoding. In any case: `front`; `too_long`, a value that has an encoding never gives `TooLong`. `front`: The new bytes begin with the old ones.
 ///
 /// ```text
 /// ensures ok { OnOk result
@@ -332,7 +398,7 @@ impl<'a, A: Allocator> Shorten for LinkItem<'a, A> {
 ///
 /// # Proved
 ///
-/// After `Ok`: `ok`. In any case: `front`, `too_long`.
+/// After `Ok`: `ok`, the sink gains the minimal encoding. In any case: `front`; `too_long`, a value that has an encoding never gives `TooLong`. `front`: The new bytes begin with the old ones.
 ///
 /// ```text
 /// ensures ok { OnOk result
@@ -356,9 +422,26 @@ fn write_links<A: Allocator, B: Sink>(
 /// Appends the minimal encoding of the payload of a linking section of these subsections. On an
 /// error, the sink is unchanged.
 ///
+/// # Errors
+///
+/// Returns [`TooLong`](crate::fallible::Refused::TooLong) if a count or length would pass
+/// 4294967295, and [`Memory`](crate::fallible::Refused::Memory) if an allocation fails. The
+/// bytes of the sink are then unchanged.
+///
+/// # Examples
+///
+/// ```
+/// use dolzhytik::fallible::{Global, Refused, append_links};
+///
+/// let mut payload = vec![];
+/// append_links::<Global, _>(&[], &mut payload)?;
+/// assert_eq!(payload, *b"\x07linking\x02");
+/// # Ok::<(), Refused>(())
+/// ```
+///
 /// # Proved
 ///
-/// After `Ok`: `ok`. After an error: `err`. In any case: `too_long`.
+/// After `Ok`: `ok`, the sink gains the minimal encoding. After an error: `err`, the bytes of the sink are unchanged. In any case: `too_long`, a value that has an encoding never gives `TooLong`.
 ///
 /// ```text
 /// ensures ok { OnOk result

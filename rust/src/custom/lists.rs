@@ -9,6 +9,21 @@ use crate::base::{Encode, Pieces, Result, encoding_size};
 
 /// A kind of members of a list, and their encoding.
 ///
+/// A kind has no value: it is the type argument of
+/// [`CountedList`](crate::fallible::CountedList).
+///
+/// # Examples
+///
+/// ```
+/// use dolzhytik::fallible::{ListKind, NameMembers, SymbolMembers};
+///
+/// // A symbol table is the subsection 8 of a linking section.
+/// assert_eq!(
+///     (SymbolMembers::subsection(), NameMembers::subsection()),
+///     (Some(8), None)
+/// );
+/// ```
+///
 /// # Defined
 ///
 /// ```text
@@ -19,8 +34,7 @@ use crate::base::{Encode, Pieces, Result, encoding_size};
 /// // A property of each member that is added.
 /// is_member: { Member → Type 0 }
 /// // The id of the subsection that a list is encoded as, or none if it is encoded as a
-///     vector
-/// // alone.
+/// // vector alone.
 /// subsection: { Option ℕ }
 /// ```
 ///
@@ -44,6 +58,23 @@ pub trait ListKind {
 ///
 /// An adding call that returns an error leaves the list unchanged. The error is `TooLong` only if
 /// the list is full or the member does not fit, and `Memory` only if an allocation fails.
+///
+/// It is a list in a custom section, such as [`NameMap`](crate::fallible::NameMap). The calls
+/// that add members are those of the kind `K`.
+///
+/// # Examples
+///
+/// ```
+/// use dolzhytik::fallible::{Encode, Global, NameMap, Refused};
+///
+/// let mut names = NameMap::new(Global);
+/// names.append(5, "f")?;
+/// let mut bytes = vec![];
+/// names.encode(&mut bytes)?;
+/// // One name: the index 5, "f".
+/// assert_eq!(bytes, *b"\x01\x05\x01f");
+/// # Ok::<(), Refused>(())
+/// ```
 #[derive(Debug)]
 pub struct CountedList<K: ListKind, A: Allocator = Global> {
     pieces: Pieces<A>,
@@ -70,6 +101,8 @@ impl<K: ListKind, A: Allocator> CountedList<K, A> {
     ///
     /// # Proved
     ///
+    /// The result is true exactly if there are no entries.
+    ///
     /// ```text
     /// ensures { IsTrue result ↔ (length self.now ≡ 0) }
     /// ```
@@ -92,6 +125,8 @@ impl<K: ListKind, A: Allocator> CountedList<K, A> {
     ///
     /// # Proved
     ///
+    /// The builder gains one entry with this encoding, or the call returns an error and changes nothing. A full builder, with 2^32 - 1 entries, returns `TooLong`.
+    ///
     /// ```text
     /// ensures { Adds (T.encoding given.now) (T.encodable given.now) self.old self.new result }
     /// ```
@@ -105,6 +140,8 @@ impl<K: ListKind, A: Allocator> CountedList<K, A> {
     /// Proves that the entries are the encodings of a list of members. The function does nothing.
     ///
     /// # Proved
+    ///
+    /// The pieces are the encodings of some members with the property.
     ///
     /// ```text
     /// ensures { ContainsList K.member_encoding K.is_member self.now }
@@ -121,6 +158,8 @@ impl<K: ListKind, A: Allocator + Copy> CountedList<K, A> {
     ///
     /// # Proved
     ///
+    /// The result has no entries.
+    ///
     /// ```text
     /// ensures { result ≡ [] }
     /// ```
@@ -135,9 +174,13 @@ impl<K: ListKind, A: Allocator + Copy> CountedList<K, A> {
 
     /// Returns a list of the same entries, in memory of its own.
     ///
+    /// # Errors
+    ///
+    /// Returns [`Memory`](crate::fallible::Refused::Memory) if an allocation fails.
+    ///
     /// # Proved
     ///
-    /// After `Ok`: `same`. In any case: `memory`.
+    /// After `Ok`: `same`, the result equals the value. In any case: `memory`, no error is `TooLong`.
     ///
     /// ```text
     /// ensures same { IfOk result (λ l. l ≡ self.now) }

@@ -8,7 +8,7 @@ use crate::base::{DecodeError, Grammar, Layout, ReadFault, Readable};
 ///
 /// # Proved
 ///
-/// After `Ok`: `found`. After an error: `none`.
+/// After `Ok`: `found`, the bytes begin with an encoding of the value, and the returned bytes follow it. After an error: `none`, the bytes do not begin with such an encoding, unless the cause is `Memory`.
 ///
 /// ```text
 /// ensures found { IfOk result
@@ -48,6 +48,8 @@ pub(crate) struct MarkedName<'a>(pub &'a str);
 /// Definitions: [`marked_name`](crate::definitions::custom::core_dumps::marked_name). [How to read clauses](crate::definitions).
 impl<'a> Layout for MarkedName<'a> {
     /// # Proved
+    ///
+    /// A format whose encodings determine their own end is unambiguous in every mode, with encodings as `HasEncodings` states.
     ///
     /// ```text
     /// ensures { Unambiguous marked_name }

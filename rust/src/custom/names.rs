@@ -12,9 +12,37 @@ use crate::base::{CowSlice, CowStr, DecodeError, Encode, Grammar, Kind, Layout, 
 
 /// A name map: indices and their names. The calls check neither their order nor whether an index is
 /// repeated.
+///
+/// It is a [`CountedList`](crate::fallible::CountedList), which
+/// [`NameSection`](crate::fallible::NameSection) takes.
+///
+/// # Examples
+///
+/// ```
+/// use dolzhytik::fallible::{Global, NameMap, NameSection, Refused};
+///
+/// let mut functions = NameMap::new(Global);
+/// functions.append(0, "main")?;
+/// let mut names = NameSection::new(Global);
+/// names.functions(&functions)?;
+/// assert_eq!(names.len(), 1);
+/// # Ok::<(), Refused>(())
+/// ```
 pub type NameMap<A = Global> = CountedList<NameMembers, A>;
 
 /// The kind of a name map's members: an index, and its name.
+///
+/// It is the type argument of [`CountedList`](crate::fallible::CountedList) in
+/// [`NameMap`](crate::fallible::NameMap).
+///
+/// # Examples
+///
+/// ```
+/// use dolzhytik::fallible::{Global, ListKind, NameMap, NameMembers};
+///
+/// let list = NameMap::new(Global);
+/// assert_eq!((list.len(), NameMembers::subsection()), (0, None));
+/// ```
 #[derive(Clone, Copy, Debug)]
 pub struct NameMembers;
 
@@ -37,7 +65,16 @@ impl ListKind for NameMembers {
 impl<A: Allocator> NameMap<A> {
     /// Adds the name of this index.
     ///
+    /// # Errors
+    ///
+    /// Returns [`TooLong`](crate::fallible::Refused::TooLong) if the builder has 4294967295
+    /// entries, or if a count or length would pass 4294967295, and
+    /// [`Memory`](crate::fallible::Refused::Memory) if an allocation fails. The builder is then
+    /// unchanged.
+    ///
     /// # Proved
+    ///
+    /// The builder gains one entry with this encoding, or the call returns an error and changes nothing. A full builder, with 2^32 - 1 entries, returns `TooLong`.
     ///
     /// ```text
     /// ensures { Adds (unsigned_encoding index ++ size_prefixed_encoding name.now)
@@ -84,9 +121,40 @@ impl Encode for IndexedName<'_> {
 
 /// An indirect name map: indices, each with a name map for the items in it, such as the locals of
 /// functions. The calls check neither their order nor whether an index is repeated.
+///
+/// It is a [`CountedList`](crate::fallible::CountedList), which
+/// [`NameSection`](crate::fallible::NameSection) takes.
+///
+/// # Examples
+///
+/// ```
+/// use dolzhytik::fallible::{Encode, Global, IndirectNameMap, NameMap, Refused};
+///
+/// let mut parameters = NameMap::new(Global);
+/// parameters.append(0, "x")?;
+/// let mut locals = IndirectNameMap::new(Global);
+/// locals.append(5, &parameters)?;
+/// let mut bytes = vec![];
+/// locals.encode(&mut bytes)?;
+/// // One function, 5, of one name: the index 0, "x".
+/// assert_eq!(bytes, [1, 5, 1, 0, 1, b'x']);
+/// # Ok::<(), Refused>(())
+/// ```
 pub type IndirectNameMap<A = Global> = CountedList<IndirectMembers, A>;
 
 /// The kind of an indirect name map's members: an index, and the names of the items in it.
+///
+/// It is the type argument of [`CountedList`](crate::fallible::CountedList) in
+/// [`IndirectNameMap`](crate::fallible::IndirectNameMap).
+///
+/// # Examples
+///
+/// ```
+/// use dolzhytik::fallible::{Global, IndirectMembers, IndirectNameMap, ListKind};
+///
+/// let list = IndirectNameMap::new(Global);
+/// assert_eq!((list.len(), IndirectMembers::subsection()), (0, None));
+/// ```
 #[derive(Clone, Copy, Debug)]
 pub struct IndirectMembers;
 
@@ -109,7 +177,15 @@ impl ListKind for IndirectMembers {
 impl<A: Allocator> IndirectNameMap<A> {
     /// Adds the names of the items in this index.
     ///
+    /// # Errors
+    ///
+    /// Returns [`TooLong`](crate::fallible::Refused::TooLong) if the builder has 4294967295
+    /// entries, and [`Memory`](crate::fallible::Refused::Memory) if an allocation fails. The
+    /// builder is then unchanged.
+    ///
     /// # Proved
+    ///
+    /// The builder gains one entry with this encoding, or the call returns an error and changes nothing. A full builder, with 2^32 - 1 entries, returns `TooLong`.
     ///
     /// ```text
     /// ensures { Adds (unsigned_encoding index ++ list_encoding names.now) ⊤ self.old self.new
@@ -127,22 +203,36 @@ impl<A: Allocator> IndirectNameMap<A> {
 /// order of the calls.
 ///
 /// ```
+/// # fn example() -> Result<(), Box<dyn std::error::Error>> {
 /// # use dolzhytik::{fallible::*, reader::*};
-/// # fn example(alloc: Global) -> Result<(), Box<dyn std::error::Error>> {
-/// # let mut module = Module::new(alloc)?;
-/// let mut functions = NameMap::new(alloc);
+/// use dolzhytik::fallible::{Global, Module, NameMap, NameSection};
+///
+/// let mut module = Module::new(Global)?;
+/// let mut functions = NameMap::new(Global);
 /// functions.append(0, "f")?;
-/// let mut names = NameSection::new(alloc);
+/// let mut names = NameSection::new(Global);
 /// names.module("m")?;
 /// names.functions(&functions)?;
 /// module.section(&names)?;
 /// # Ok(())
 /// # }
-/// # example(Global).unwrap();
+/// # example().unwrap();
 /// ```
 pub type NameSection<A = Global> = CustomEntries<NameItems, A>;
 
 /// The kind of a name section's items: subsections.
+///
+/// It is the type argument of [`CustomEntries`](crate::fallible::CustomEntries) in
+/// [`NameSection`](crate::fallible::NameSection).
+///
+/// # Examples
+///
+/// ```
+/// use dolzhytik::fallible::{CustomKind, Global, NameItems, NameSection};
+///
+/// let section = NameSection::new(Global);
+/// assert_eq!((section.len(), NameItems::name()), (0, "name"));
+/// ```
 #[derive(Clone, Copy, Debug)]
 pub struct NameItems;
 
@@ -190,6 +280,8 @@ impl<A: Allocator> NameSection<A> {
     ///
     /// # Proved
     ///
+    /// The builder gains one entry with this encoding, or the call returns an error and changes nothing. A full builder, with 2^32 - 1 entries, returns `TooLong`.
+    ///
     /// ```text
     /// ensures { Adds (subsection_encoding id (list_encoding names.now))
     ///     (HasEncodableSize (list_encoding names.now) × ⊤) self.old self.new result }
@@ -205,6 +297,8 @@ impl<A: Allocator> NameSection<A> {
     ///
     /// # Proved
     ///
+    /// The builder gains one entry with this encoding, or the call returns an error and changes nothing. A full builder, with 2^32 - 1 entries, returns `TooLong`.
+    ///
     /// ```text
     /// ensures { Adds (subsection_encoding id (list_encoding names.now))
     ///     (HasEncodableSize (list_encoding names.now) × ⊤) self.old self.new result }
@@ -218,7 +312,28 @@ impl<A: Allocator> NameSection<A> {
 
     /// Adds the name of the module.
     ///
+    /// # Errors
+    ///
+    /// Returns [`TooLong`](crate::fallible::Refused::TooLong) if the builder has 4294967295
+    /// entries, or if a count or length would pass 4294967295, and
+    /// [`Memory`](crate::fallible::Refused::Memory) if an allocation fails. The builder is then
+    /// unchanged.
+    ///
+    /// # Examples
+    ///
+    /// ```
+    /// use dolzhytik::fallible::{Global, NameSection, Refused};
+    ///
+    /// let mut names = NameSection::new(Global);
+    /// names.module("m")?;
+    /// // Subsection 0, size 2, a name of one byte.
+    /// assert_eq!(names.as_custom().bytes.as_slice(), [0, 2, 1, b'm']);
+    /// # Ok::<(), Refused>(())
+    /// ```
+    ///
     /// # Proved
+    ///
+    /// The builder gains one entry with this encoding, or the call returns an error and changes nothing. A full builder, with 2^32 - 1 entries, returns `TooLong`.
     ///
     /// ```text
     /// ensures { Adds (subsection_encoding 0 (size_prefixed_encoding name.now))
@@ -236,7 +351,16 @@ impl<A: Allocator> NameSection<A> {
 
     /// Adds the names of functions.
     ///
+    /// # Errors
+    ///
+    /// Returns [`TooLong`](crate::fallible::Refused::TooLong) if the builder has 4294967295
+    /// entries, or if a count or length would pass 4294967295, and
+    /// [`Memory`](crate::fallible::Refused::Memory) if an allocation fails. The builder is then
+    /// unchanged.
+    ///
     /// # Proved
+    ///
+    /// The builder gains one entry with this encoding, or the call returns an error and changes nothing. A full builder, with 2^32 - 1 entries, returns `TooLong`.
     ///
     /// ```text
     /// ensures { Adds (subsection_encoding 1 (list_encoding names.now))
@@ -250,7 +374,16 @@ impl<A: Allocator> NameSection<A> {
 
     /// Adds the names of types.
     ///
+    /// # Errors
+    ///
+    /// Returns [`TooLong`](crate::fallible::Refused::TooLong) if the builder has 4294967295
+    /// entries, or if a count or length would pass 4294967295, and
+    /// [`Memory`](crate::fallible::Refused::Memory) if an allocation fails. The builder is then
+    /// unchanged.
+    ///
     /// # Proved
+    ///
+    /// The builder gains one entry with this encoding, or the call returns an error and changes nothing. A full builder, with 2^32 - 1 entries, returns `TooLong`.
     ///
     /// ```text
     /// ensures { Adds (subsection_encoding 4 (list_encoding names.now))
@@ -264,7 +397,16 @@ impl<A: Allocator> NameSection<A> {
 
     /// Adds the names of tables.
     ///
+    /// # Errors
+    ///
+    /// Returns [`TooLong`](crate::fallible::Refused::TooLong) if the builder has 4294967295
+    /// entries, or if a count or length would pass 4294967295, and
+    /// [`Memory`](crate::fallible::Refused::Memory) if an allocation fails. The builder is then
+    /// unchanged.
+    ///
     /// # Proved
+    ///
+    /// The builder gains one entry with this encoding, or the call returns an error and changes nothing. A full builder, with 2^32 - 1 entries, returns `TooLong`.
     ///
     /// ```text
     /// ensures { Adds (subsection_encoding 5 (list_encoding names.now))
@@ -278,7 +420,16 @@ impl<A: Allocator> NameSection<A> {
 
     /// Adds the names of memories.
     ///
+    /// # Errors
+    ///
+    /// Returns [`TooLong`](crate::fallible::Refused::TooLong) if the builder has 4294967295
+    /// entries, or if a count or length would pass 4294967295, and
+    /// [`Memory`](crate::fallible::Refused::Memory) if an allocation fails. The builder is then
+    /// unchanged.
+    ///
     /// # Proved
+    ///
+    /// The builder gains one entry with this encoding, or the call returns an error and changes nothing. A full builder, with 2^32 - 1 entries, returns `TooLong`.
     ///
     /// ```text
     /// ensures { Adds (subsection_encoding 6 (list_encoding names.now))
@@ -292,7 +443,16 @@ impl<A: Allocator> NameSection<A> {
 
     /// Adds the names of globals.
     ///
+    /// # Errors
+    ///
+    /// Returns [`TooLong`](crate::fallible::Refused::TooLong) if the builder has 4294967295
+    /// entries, or if a count or length would pass 4294967295, and
+    /// [`Memory`](crate::fallible::Refused::Memory) if an allocation fails. The builder is then
+    /// unchanged.
+    ///
     /// # Proved
+    ///
+    /// The builder gains one entry with this encoding, or the call returns an error and changes nothing. A full builder, with 2^32 - 1 entries, returns `TooLong`.
     ///
     /// ```text
     /// ensures { Adds (subsection_encoding 7 (list_encoding names.now))
@@ -306,7 +466,16 @@ impl<A: Allocator> NameSection<A> {
 
     /// Adds the names of element segments.
     ///
+    /// # Errors
+    ///
+    /// Returns [`TooLong`](crate::fallible::Refused::TooLong) if the builder has 4294967295
+    /// entries, or if a count or length would pass 4294967295, and
+    /// [`Memory`](crate::fallible::Refused::Memory) if an allocation fails. The builder is then
+    /// unchanged.
+    ///
     /// # Proved
+    ///
+    /// The builder gains one entry with this encoding, or the call returns an error and changes nothing. A full builder, with 2^32 - 1 entries, returns `TooLong`.
     ///
     /// ```text
     /// ensures { Adds (subsection_encoding 8 (list_encoding names.now))
@@ -320,7 +489,16 @@ impl<A: Allocator> NameSection<A> {
 
     /// Adds the names of data segments.
     ///
+    /// # Errors
+    ///
+    /// Returns [`TooLong`](crate::fallible::Refused::TooLong) if the builder has 4294967295
+    /// entries, or if a count or length would pass 4294967295, and
+    /// [`Memory`](crate::fallible::Refused::Memory) if an allocation fails. The builder is then
+    /// unchanged.
+    ///
     /// # Proved
+    ///
+    /// The builder gains one entry with this encoding, or the call returns an error and changes nothing. A full builder, with 2^32 - 1 entries, returns `TooLong`.
     ///
     /// ```text
     /// ensures { Adds (subsection_encoding 9 (list_encoding names.now))
@@ -334,7 +512,16 @@ impl<A: Allocator> NameSection<A> {
 
     /// Adds the names of tags. The same as `tags`.
     ///
+    /// # Errors
+    ///
+    /// Returns [`TooLong`](crate::fallible::Refused::TooLong) if the builder has 4294967295
+    /// entries, or if a count or length would pass 4294967295, and
+    /// [`Memory`](crate::fallible::Refused::Memory) if an allocation fails. The builder is then
+    /// unchanged.
+    ///
     /// # Proved
+    ///
+    /// The builder gains one entry with this encoding, or the call returns an error and changes nothing. A full builder, with 2^32 - 1 entries, returns `TooLong`.
     ///
     /// ```text
     /// ensures { Adds (subsection_encoding 11 (list_encoding names.now))
@@ -348,7 +535,16 @@ impl<A: Allocator> NameSection<A> {
 
     /// Adds the names of tags.
     ///
+    /// # Errors
+    ///
+    /// Returns [`TooLong`](crate::fallible::Refused::TooLong) if the builder has 4294967295
+    /// entries, or if a count or length would pass 4294967295, and
+    /// [`Memory`](crate::fallible::Refused::Memory) if an allocation fails. The builder is then
+    /// unchanged.
+    ///
     /// # Proved
+    ///
+    /// The builder gains one entry with this encoding, or the call returns an error and changes nothing. A full builder, with 2^32 - 1 entries, returns `TooLong`.
     ///
     /// ```text
     /// ensures { Adds (subsection_encoding 11 (list_encoding names.now))
@@ -362,7 +558,16 @@ impl<A: Allocator> NameSection<A> {
 
     /// Adds the names of the locals of functions, including parameters.
     ///
+    /// # Errors
+    ///
+    /// Returns [`TooLong`](crate::fallible::Refused::TooLong) if the builder has 4294967295
+    /// entries, or if a count or length would pass 4294967295, and
+    /// [`Memory`](crate::fallible::Refused::Memory) if an allocation fails. The builder is then
+    /// unchanged.
+    ///
     /// # Proved
+    ///
+    /// The builder gains one entry with this encoding, or the call returns an error and changes nothing. A full builder, with 2^32 - 1 entries, returns `TooLong`.
     ///
     /// ```text
     /// ensures { Adds (subsection_encoding 2 (list_encoding names.now))
@@ -376,7 +581,16 @@ impl<A: Allocator> NameSection<A> {
 
     /// Adds the names of the labels of functions.
     ///
+    /// # Errors
+    ///
+    /// Returns [`TooLong`](crate::fallible::Refused::TooLong) if the builder has 4294967295
+    /// entries, or if a count or length would pass 4294967295, and
+    /// [`Memory`](crate::fallible::Refused::Memory) if an allocation fails. The builder is then
+    /// unchanged.
+    ///
     /// # Proved
+    ///
+    /// The builder gains one entry with this encoding, or the call returns an error and changes nothing. A full builder, with 2^32 - 1 entries, returns `TooLong`.
     ///
     /// ```text
     /// ensures { Adds (subsection_encoding 3 (list_encoding names.now))
@@ -390,7 +604,16 @@ impl<A: Allocator> NameSection<A> {
 
     /// Adds the names of the fields of types.
     ///
+    /// # Errors
+    ///
+    /// Returns [`TooLong`](crate::fallible::Refused::TooLong) if the builder has 4294967295
+    /// entries, or if a count or length would pass 4294967295, and
+    /// [`Memory`](crate::fallible::Refused::Memory) if an allocation fails. The builder is then
+    /// unchanged.
+    ///
     /// # Proved
+    ///
+    /// The builder gains one entry with this encoding, or the call returns an error and changes nothing. A full builder, with 2^32 - 1 entries, returns `TooLong`.
     ///
     /// ```text
     /// ensures { Adds (subsection_encoding 10 (list_encoding names.now))
@@ -404,7 +627,16 @@ impl<A: Allocator> NameSection<A> {
 
     /// Adds the names of the parameters of function types.
     ///
+    /// # Errors
+    ///
+    /// Returns [`TooLong`](crate::fallible::Refused::TooLong) if the builder has 4294967295
+    /// entries, or if a count or length would pass 4294967295, and
+    /// [`Memory`](crate::fallible::Refused::Memory) if an allocation fails. The builder is then
+    /// unchanged.
+    ///
     /// # Proved
+    ///
+    /// The builder gains one entry with this encoding, or the call returns an error and changes nothing. A full builder, with 2^32 - 1 entries, returns `TooLong`.
     ///
     /// ```text
     /// ensures { Adds (subsection_encoding 12 (list_encoding names.now))
@@ -418,7 +650,16 @@ impl<A: Allocator> NameSection<A> {
 
     /// Adds the names of the parameters of tags.
     ///
+    /// # Errors
+    ///
+    /// Returns [`TooLong`](crate::fallible::Refused::TooLong) if the builder has 4294967295
+    /// entries, or if a count or length would pass 4294967295, and
+    /// [`Memory`](crate::fallible::Refused::Memory) if an allocation fails. The builder is then
+    /// unchanged.
+    ///
     /// # Proved
+    ///
+    /// The builder gains one entry with this encoding, or the call returns an error and changes nothing. A full builder, with 2^32 - 1 entries, returns `TooLong`.
     ///
     /// ```text
     /// ensures { Adds (subsection_encoding 13 (list_encoding names.now))
@@ -433,7 +674,28 @@ impl<A: Allocator> NameSection<A> {
     /// Adds a subsection of this id, whose content is already encoded. The call does not check the
     /// content.
     ///
+    /// # Errors
+    ///
+    /// Returns [`TooLong`](crate::fallible::Refused::TooLong) if the builder has 4294967295
+    /// entries, or if a count or length would pass 4294967295, and
+    /// [`Memory`](crate::fallible::Refused::Memory) if an allocation fails. The builder is then
+    /// unchanged.
+    ///
+    /// # Examples
+    ///
+    /// ```
+    /// use dolzhytik::fallible::{Global, NameSection, Refused};
+    ///
+    /// let mut names = NameSection::new(Global);
+    /// names.raw(99, &[1, 2])?;
+    /// // The id, the size, the content.
+    /// assert_eq!(names.as_custom().bytes.as_slice(), [99, 2, 1, 2]);
+    /// # Ok::<(), Refused>(())
+    /// ```
+    ///
     /// # Proved
+    ///
+    /// The builder gains one entry with this encoding, or the call returns an error and changes nothing. A full builder, with 2^32 - 1 entries, returns `TooLong`.
     ///
     /// ```text
     /// ensures { Adds (subsection_encoding id content.now)
@@ -467,24 +729,48 @@ impl<A: Allocator> NameSection<A> {
 }
 
 /// A decoded subsection of a name section.
+///
+/// [`Items::Names`](crate::reader::Items::Names) has them.
+///
+/// # Examples
+///
+/// ```
+/// use dolzhytik::fallible::{Global, read_names};
+/// use dolzhytik::reader::{DecodeError, NameItem, Padded};
+///
+/// // "name"; the subsection 1, functions: size 4, one name: the index 5, "f".
+/// let payload = b"\x04name\x01\x04\x01\x05\x01f";
+/// let items = read_names::<Global, Padded>(payload, Global)?;
+/// let NameItem::Map { id: 1, names } = &items[0] else {
+///     panic!("another subsection")
+/// };
+/// assert_eq!(names[..], [(5, "f")]);
+/// # Ok::<(), DecodeError>(())
+/// ```
 #[derive(Debug)]
 pub enum NameItem<'a, A: Allocator = Global> {
     /// The name of the module.
     Module(&'a str),
     /// A name map: indices of the kind that the id selects, such as functions, and their names.
     Map {
+        /// The id of the subsection.
         id: u8,
+        /// The indices and the names.
         names: Vec<(u32, &'a str), A>,
     },
     /// An indirect name map: indices of the outer kind, such as functions for locals, each with the
     /// indices and names in it.
     Indirect {
+        /// The id of the subsection.
         id: u8,
+        /// The indices, and the names of each.
         maps: Vec<(u32, Vec<(u32, &'a str), A>), A>,
     },
     /// A subsection of another id.
     Other {
+        /// The id of the subsection.
         id: u8,
+        /// The content, without its size prefix.
         bytes: &'a [u8],
     },
 }
@@ -520,7 +806,7 @@ fn name_kind_of(id: u8) -> NameKind {
 ///
 /// # Proved
 ///
-/// After `Ok`: `found`. After an error: `none`.
+/// After `Ok`: `found`. After an error: `none`, the bytes as a whole are no such encoding, unless the cause is `Memory`.
 ///
 /// ```text
 /// ensures found { IfOk result
@@ -569,6 +855,8 @@ fn fill_subsection<'a, A: Allocator + Copy + 'a, G: Grammar>(
 impl<'a, A: Allocator> Layout for NameItem<'a, A> {
     /// # Proved
     ///
+    /// A format whose encodings determine their own end is unambiguous in every mode, with encodings as `HasEncodings` states.
+    ///
     /// ```text
     /// ensures { Unambiguous subsection }
     /// ```
@@ -592,9 +880,21 @@ impl<'a, A: Allocator + Copy + 'a, G: Grammar> Readable<'a, A, G> for NameItem<'
 ///
 /// Any error but `Memory` means that the bytes are not such a payload.
 ///
+/// # Examples
+///
+/// ```
+/// use dolzhytik::fallible::{Global, read_names};
+/// use dolzhytik::reader::{DecodeError, NameItem, Padded};
+///
+/// // "name"; the subsection 0: size 2, the name of the module.
+/// let items = read_names::<Global, Padded>(b"\x04name\0\x02\x01m", Global)?;
+/// assert!(matches!(items[..], [NameItem::Module("m")]));
+/// # Ok::<(), DecodeError>(())
+/// ```
+///
 /// # Proved
 ///
-/// After `Ok`: `found`. After an error: `none`.
+/// After `Ok`: `found`. After an error: `none`, the bytes as a whole are no such encoding, unless the cause is `Memory`.
 ///
 /// ```text
 /// ensures found { IfOk result
@@ -637,7 +937,7 @@ impl<'a, A: Allocator> NameItem<'a, A> {
     ///
     /// # Proved
     ///
-    /// After `Ok`: `ok`. In any case: `front`, `too_long`.
+    /// After `Ok`: `ok`, the sink gains the minimal encoding. In any case: `front`; `too_long`, a value that has an encoding never gives `TooLong`. `front`: The new bytes begin with the old ones.
     ///
     /// ```text
     /// ensures ok { OnOk result
@@ -678,7 +978,7 @@ impl<'a, A: Allocator> Shorten for NameItem<'a, A> {
 ///
 /// # Proved
 ///
-/// After `Ok`: `ok`. In any case: `front`, `too_long`.
+/// After `Ok`: `ok`, the sink gains the minimal encoding. In any case: `front`; `too_long`, a value that has an encoding never gives `TooLong`. `front`: The new bytes begin with the old ones.
 ///
 /// ```text
 /// ensures ok { OnOk result
@@ -701,9 +1001,27 @@ fn write_names<A: Allocator, B: Sink>(
 /// Appends the minimal encoding of the payload of a name section of these subsections. On an error,
 /// the sink is unchanged.
 ///
+/// # Errors
+///
+/// Returns [`TooLong`](crate::fallible::Refused::TooLong) if a count or length would pass
+/// 4294967295, and [`Memory`](crate::fallible::Refused::Memory) if an allocation fails. The
+/// bytes of the sink are then unchanged.
+///
+/// # Examples
+///
+/// ```
+/// use dolzhytik::fallible::{Global, Refused, append_names};
+/// use dolzhytik::reader::NameItem;
+///
+/// let mut payload = vec![];
+/// append_names::<Global, _>(&[NameItem::Module("m")], &mut payload)?;
+/// assert_eq!(payload, *b"\x04name\0\x02\x01m");
+/// # Ok::<(), Refused>(())
+/// ```
+///
 /// # Proved
 ///
-/// After `Ok`: `ok`. After an error: `err`. In any case: `too_long`.
+/// After `Ok`: `ok`, the sink gains the minimal encoding. After an error: `err`, the bytes of the sink are unchanged. In any case: `too_long`, a value that has an encoding never gives `TooLong`.
 ///
 /// ```text
 /// ensures ok { OnOk result

@@ -18,24 +18,40 @@ use crate::base::{Kind, Result};
 /// grammar `Standard`. Those of a `LinkingSection` decode in the builders' grammar too.
 ///
 /// ```
+/// # fn example() -> Result<(), Box<dyn std::error::Error>> {
 /// # use dolzhytik::{fallible::*, reader::*};
-/// # fn example(alloc: Global) -> Result<(), Box<dyn std::error::Error>> {
-/// # let mut module = Module::new(alloc)?;
-/// let mut symbols = ObjectSymbols::new(alloc);
+/// use dolzhytik::fallible::{
+///     Global, Module, ObjectLinking, ObjectSymbols, SegmentInfos, SymbolTable,
+/// };
+///
+/// let mut module = Module::new(Global)?;
+/// let mut symbols = ObjectSymbols::new(Global);
 /// symbols.section(SymbolTable::WASM_SYM_BINDING_LOCAL, 8)?;
-/// let mut segments = SegmentInfos::new(alloc);
+/// let mut segments = SegmentInfos::new(Global);
 /// segments.segment(".rodata.greeting", 0, 0)?;
-/// let mut linking = ObjectLinking::new(alloc);
+/// let mut linking = ObjectLinking::new(Global);
 /// linking.symbol_table(&symbols)?;
 /// linking.segments(&segments)?;
 /// module.section(&linking)?;
 /// # Ok(())
 /// # }
-/// # example(Global).unwrap();
+/// # example().unwrap();
 /// ```
 pub type ObjectLinking<A = Global> = CustomEntries<ObjectLinkingItems, A>;
 
 /// The kind of the items of an object file's linking section: subsections.
+///
+/// It is the type argument of [`CustomEntries`](crate::fallible::CustomEntries) in
+/// [`ObjectLinking`](crate::fallible::ObjectLinking).
+///
+/// # Examples
+///
+/// ```
+/// use dolzhytik::fallible::{CustomKind, Global, ObjectLinking, ObjectLinkingItems};
+///
+/// let section = ObjectLinking::new(Global);
+/// assert_eq!((section.len(), ObjectLinkingItems::name()), (0, "linking"));
+/// ```
 #[derive(Clone, Copy, Debug)]
 pub struct ObjectLinkingItems;
 
@@ -81,7 +97,16 @@ impl CustomKind for ObjectLinkingItems {
 impl<A: Allocator> ObjectLinking<A> {
     /// Adds the segments.
     ///
+    /// # Errors
+    ///
+    /// Returns [`TooLong`](crate::fallible::Refused::TooLong) if the builder has 4294967295
+    /// entries, or if a count or length would pass 4294967295, and
+    /// [`Memory`](crate::fallible::Refused::Memory) if an allocation fails. The builder is then
+    /// unchanged.
+    ///
     /// # Proved
+    ///
+    /// The builder gains one entry with this encoding, or the call returns an error and changes nothing. A full builder, with 2^32 - 1 entries, returns `TooLong`.
     ///
     /// ```text
     /// ensures { Adds (subsection_encoding 5 (list_encoding segments.now))
@@ -95,7 +120,16 @@ impl<A: Allocator> ObjectLinking<A> {
 
     /// Adds the init functions.
     ///
+    /// # Errors
+    ///
+    /// Returns [`TooLong`](crate::fallible::Refused::TooLong) if the builder has 4294967295
+    /// entries, or if a count or length would pass 4294967295, and
+    /// [`Memory`](crate::fallible::Refused::Memory) if an allocation fails. The builder is then
+    /// unchanged.
+    ///
     /// # Proved
+    ///
+    /// The builder gains one entry with this encoding, or the call returns an error and changes nothing. A full builder, with 2^32 - 1 entries, returns `TooLong`.
     ///
     /// ```text
     /// ensures { Adds (subsection_encoding 6 (list_encoding functions.now))
@@ -109,7 +143,16 @@ impl<A: Allocator> ObjectLinking<A> {
 
     /// Adds the COMDAT groups.
     ///
+    /// # Errors
+    ///
+    /// Returns [`TooLong`](crate::fallible::Refused::TooLong) if the builder has 4294967295
+    /// entries, or if a count or length would pass 4294967295, and
+    /// [`Memory`](crate::fallible::Refused::Memory) if an allocation fails. The builder is then
+    /// unchanged.
+    ///
     /// # Proved
+    ///
+    /// The builder gains one entry with this encoding, or the call returns an error and changes nothing. A full builder, with 2^32 - 1 entries, returns `TooLong`.
     ///
     /// ```text
     /// ensures { Adds (subsection_encoding 7 (list_encoding comdats.now))
@@ -123,7 +166,16 @@ impl<A: Allocator> ObjectLinking<A> {
 
     /// Adds the symbols.
     ///
+    /// # Errors
+    ///
+    /// Returns [`TooLong`](crate::fallible::Refused::TooLong) if the builder has 4294967295
+    /// entries, or if a count or length would pass 4294967295, and
+    /// [`Memory`](crate::fallible::Refused::Memory) if an allocation fails. The builder is then
+    /// unchanged.
+    ///
     /// # Proved
+    ///
+    /// The builder gains one entry with this encoding, or the call returns an error and changes nothing. A full builder, with 2^32 - 1 entries, returns `TooLong`.
     ///
     /// ```text
     /// ensures { Adds (subsection_encoding 8 (list_encoding symbols.now))
@@ -137,7 +189,16 @@ impl<A: Allocator> ObjectLinking<A> {
 
     /// Adds the architecture of the target, which is not in the tool conventions.
     ///
+    /// # Errors
+    ///
+    /// Returns [`TooLong`](crate::fallible::Refused::TooLong) if the builder has 4294967295
+    /// entries, or if a count or length would pass 4294967295, and
+    /// [`Memory`](crate::fallible::Refused::Memory) if an allocation fails. The builder is then
+    /// unchanged.
+    ///
     /// # Proved
+    ///
+    /// The builder gains one entry with this encoding, or the call returns an error and changes nothing. A full builder, with 2^32 - 1 entries, returns `TooLong`.
     ///
     /// ```text
     /// ensures { Adds (subsection_encoding 9 (size_prefixed_encoding name.now))

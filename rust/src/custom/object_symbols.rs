@@ -11,18 +11,32 @@ use crate::base::{Optional, Result};
 /// the flags.
 ///
 /// ```
+/// # fn example() -> Result<(), Box<dyn std::error::Error>> {
 /// # use dolzhytik::{fallible::*, reader::*};
-/// # fn example(alloc: Global) -> Result<(), Box<dyn std::error::Error>> {
-/// let mut symbols = ObjectSymbols::new(alloc);
+/// use dolzhytik::fallible::{Global, ObjectSymbols, SymbolTable};
+///
+/// let mut symbols = ObjectSymbols::new(Global);
 /// symbols.function(SymbolTable::WASM_SYM_EXPORTED, 0, Some("f"))?;
 /// symbols.section(SymbolTable::WASM_SYM_BINDING_LOCAL, 8)?;
 /// # Ok(())
 /// # }
-/// # example(Global).unwrap();
+/// # example().unwrap();
 /// ```
 pub type ObjectSymbols<A = Global> = CountedList<ObjectSymbolMembers, A>;
 
 /// The kind of the members of an object file's symbol table.
+///
+/// It is the type argument of [`CountedList`](crate::fallible::CountedList) in
+/// [`ObjectSymbols`](crate::fallible::ObjectSymbols).
+///
+/// # Examples
+///
+/// ```
+/// use dolzhytik::fallible::{Global, ListKind, ObjectSymbolMembers, ObjectSymbols};
+///
+/// let list = ObjectSymbols::new(Global);
+/// assert_eq!((list.len(), ObjectSymbolMembers::subsection()), (0, Some(8)));
+/// ```
 #[derive(Clone, Copy, Debug)]
 pub struct ObjectSymbolMembers;
 
@@ -47,6 +61,8 @@ impl<A: Allocator> ObjectSymbols<A> {
     ///
     /// # Proved
     ///
+    /// The builder gains one entry with this encoding, or the call returns an error and changes nothing. A full builder, with 2^32 - 1 entries, returns `TooLong`.
+    ///
     /// ```text
     /// ensures { Adds (indexed_encoding kind flags index
     ///         (optional_encoding (λ n. size_prefixed_encoding n.now) name.entry))
@@ -68,7 +84,16 @@ impl<A: Allocator> ObjectSymbols<A> {
     /// Adds a function. A function has a name if it is defined here, or if `flags` say that its
     /// name is explicit. The call does not check that `name` agrees.
     ///
+    /// # Errors
+    ///
+    /// Returns [`TooLong`](crate::fallible::Refused::TooLong) if the builder has 4294967295
+    /// entries, or if a count or length would pass 4294967295, and
+    /// [`Memory`](crate::fallible::Refused::Memory) if an allocation fails. The builder is then
+    /// unchanged.
+    ///
     /// # Proved
+    ///
+    /// The builder gains one entry with this encoding, or the call returns an error and changes nothing. A full builder, with 2^32 - 1 entries, returns `TooLong`.
     ///
     /// ```text
     /// ensures { Adds (indexed_encoding kinds.Function flags index
@@ -83,7 +108,16 @@ impl<A: Allocator> ObjectSymbols<A> {
 
     /// Adds a global. It has a name in the same cases as in `function`.
     ///
+    /// # Errors
+    ///
+    /// Returns [`TooLong`](crate::fallible::Refused::TooLong) if the builder has 4294967295
+    /// entries, or if a count or length would pass 4294967295, and
+    /// [`Memory`](crate::fallible::Refused::Memory) if an allocation fails. The builder is then
+    /// unchanged.
+    ///
     /// # Proved
+    ///
+    /// The builder gains one entry with this encoding, or the call returns an error and changes nothing. A full builder, with 2^32 - 1 entries, returns `TooLong`.
     ///
     /// ```text
     /// ensures { Adds (indexed_encoding kinds.Global flags index
@@ -98,7 +132,16 @@ impl<A: Allocator> ObjectSymbols<A> {
 
     /// Adds a tag. It has a name in the same cases as in `function`.
     ///
+    /// # Errors
+    ///
+    /// Returns [`TooLong`](crate::fallible::Refused::TooLong) if the builder has 4294967295
+    /// entries, or if a count or length would pass 4294967295, and
+    /// [`Memory`](crate::fallible::Refused::Memory) if an allocation fails. The builder is then
+    /// unchanged.
+    ///
     /// # Proved
+    ///
+    /// The builder gains one entry with this encoding, or the call returns an error and changes nothing. A full builder, with 2^32 - 1 entries, returns `TooLong`.
     ///
     /// ```text
     /// ensures { Adds (indexed_encoding kinds.Tag flags index
@@ -113,7 +156,16 @@ impl<A: Allocator> ObjectSymbols<A> {
 
     /// Adds a table. It has a name in the same cases as in `function`.
     ///
+    /// # Errors
+    ///
+    /// Returns [`TooLong`](crate::fallible::Refused::TooLong) if the builder has 4294967295
+    /// entries, or if a count or length would pass 4294967295, and
+    /// [`Memory`](crate::fallible::Refused::Memory) if an allocation fails. The builder is then
+    /// unchanged.
+    ///
     /// # Proved
+    ///
+    /// The builder gains one entry with this encoding, or the call returns an error and changes nothing. A full builder, with 2^32 - 1 entries, returns `TooLong`.
     ///
     /// ```text
     /// ensures { Adds (indexed_encoding kinds.Table flags index
@@ -129,7 +181,16 @@ impl<A: Allocator> ObjectSymbols<A> {
     /// Adds data. Data have a definition unless `flags` say that they are undefined. The call does
     /// not check that `definition` agrees.
     ///
+    /// # Errors
+    ///
+    /// Returns [`TooLong`](crate::fallible::Refused::TooLong) if the builder has 4294967295
+    /// entries, or if a count or length would pass 4294967295, and
+    /// [`Memory`](crate::fallible::Refused::Memory) if an allocation fails. The builder is then
+    /// unchanged.
+    ///
     /// # Proved
+    ///
+    /// The builder gains one entry with this encoding, or the call returns an error and changes nothing. A full builder, with 2^32 - 1 entries, returns `TooLong`.
     ///
     /// ```text
     /// ensures { Adds (of_data_encoding flags name.now
@@ -150,7 +211,15 @@ impl<A: Allocator> ObjectSymbols<A> {
 
     /// Adds the section of this index in the module.
     ///
+    /// # Errors
+    ///
+    /// Returns [`TooLong`](crate::fallible::Refused::TooLong) if the builder has 4294967295
+    /// entries, and [`Memory`](crate::fallible::Refused::Memory) if an allocation fails. The
+    /// builder is then unchanged.
+    ///
     /// # Proved
+    ///
+    /// The builder gains one entry with this encoding, or the call returns an error and changes nothing. A full builder, with 2^32 - 1 entries, returns `TooLong`.
     ///
     /// ```text
     /// ensures { Adds (of_section_encoding flags section) ⊤ self.old self.new result }

@@ -9,9 +9,38 @@ use crate::alloc::{Allocator, Global};
 use crate::base::{DecodeError, Grammar, Kind, Lent, Readable, Result, Shorten};
 
 /// The values of a producers field: the tools that produced the module, and their versions.
+///
+/// It is a [`CountedList`](crate::fallible::CountedList), which
+/// [`ProducersSection`](crate::fallible::ProducersSection) takes.
+///
+/// # Examples
+///
+/// ```
+/// use dolzhytik::fallible::{Encode, Global, ProducersField, Refused};
+///
+/// let mut languages = ProducersField::new(Global);
+/// languages.value("C", "99")?;
+/// let mut bytes = vec![];
+/// languages.encode(&mut bytes)?;
+/// // One value: "C", "99".
+/// assert_eq!(bytes, *b"\x01\x01C\x0299");
+/// # Ok::<(), Refused>(())
+/// ```
 pub type ProducersField<A = Global> = CountedList<ValueMembers, A>;
 
 /// The kind of a field's members: a name, and its version.
+///
+/// It is the type argument of [`CountedList`](crate::fallible::CountedList) in
+/// [`ProducersField`](crate::fallible::ProducersField).
+///
+/// # Examples
+///
+/// ```
+/// use dolzhytik::fallible::{Global, ListKind, ProducersField, ValueMembers};
+///
+/// let list = ProducersField::new(Global);
+/// assert_eq!((list.len(), ValueMembers::subsection()), (0, None));
+/// ```
 #[derive(Clone, Copy, Debug)]
 pub struct ValueMembers;
 
@@ -34,7 +63,16 @@ impl ListKind for ValueMembers {
 impl<A: Allocator> ProducersField<A> {
     /// Adds a value.
     ///
+    /// # Errors
+    ///
+    /// Returns [`TooLong`](crate::fallible::Refused::TooLong) if the builder has 4294967295
+    /// entries, or if a count or length would pass 4294967295, and
+    /// [`Memory`](crate::fallible::Refused::Memory) if an allocation fails. The builder is then
+    /// unchanged.
+    ///
     /// # Proved
+    ///
+    /// The builder gains one entry with this encoding, or the call returns an error and changes nothing. A full builder, with 2^32 - 1 entries, returns `TooLong`.
     ///
     /// ```text
     /// ensures { Adds (size_prefixed_encoding name.now ++ size_prefixed_encoding version.now)
@@ -51,21 +89,35 @@ impl<A: Allocator> ProducersField<A> {
 /// The producers section: the languages and tools that produced the module.
 ///
 /// ```
+/// # fn example() -> Result<(), Box<dyn std::error::Error>> {
 /// # use dolzhytik::{fallible::*, reader::*};
-/// # fn example(alloc: Global) -> Result<(), Box<dyn std::error::Error>> {
-/// # let mut module = Module::new(alloc)?;
-/// let mut field = ProducersField::new(alloc);
+/// use dolzhytik::fallible::{Global, Module, ProducersField, ProducersSection};
+///
+/// let mut module = Module::new(Global)?;
+/// let mut field = ProducersField::new(Global);
 /// field.value("clang", "14.0.4")?;
-/// let mut producers = ProducersSection::new(alloc);
+/// let mut producers = ProducersSection::new(Global);
 /// producers.field("processed-by", &field)?;
 /// module.section(&producers)?;
 /// # Ok(())
 /// # }
-/// # example(Global).unwrap();
+/// # example().unwrap();
 /// ```
 pub type ProducersSection<A = Global> = CustomEntries<ProducerItems, A>;
 
 /// The kind of a producers section's items: fields.
+///
+/// It is the type argument of [`CustomEntries`](crate::fallible::CustomEntries) in
+/// [`ProducersSection`](crate::fallible::ProducersSection).
+///
+/// # Examples
+///
+/// ```
+/// use dolzhytik::fallible::{CustomKind, Global, ProducerItems, ProducersSection};
+///
+/// let section = ProducersSection::new(Global);
+/// assert_eq!((section.len(), ProducerItems::name()), (0, "producers"));
+/// ```
 #[derive(Clone, Copy, Debug)]
 pub struct ProducerItems;
 
@@ -111,7 +163,16 @@ impl CustomKind for ProducerItems {
 impl<A: Allocator> ProducersSection<A> {
     /// Adds a field, such as `language`, `processed-by` or `sdk`.
     ///
+    /// # Errors
+    ///
+    /// Returns [`TooLong`](crate::fallible::Refused::TooLong) if the builder has 4294967295
+    /// entries, or if a count or length would pass 4294967295, and
+    /// [`Memory`](crate::fallible::Refused::Memory) if an allocation fails. The builder is then
+    /// unchanged.
+    ///
     /// # Proved
+    ///
+    /// The builder gains one entry with this encoding, or the call returns an error and changes nothing. A full builder, with 2^32 - 1 entries, returns `TooLong`.
     ///
     /// ```text
     /// ensures { Adds (size_prefixed_encoding name.now ++ list_encoding values.now)
@@ -135,6 +196,8 @@ impl<A: Allocator> ProducersSection<A> {
 /// Definitions: [`Field`](crate::definitions::custom::producers::Field), [`field`](crate::definitions::custom::producers::field), [`field_view`](crate::definitions::custom::producers::field_view). [How to read clauses](crate::definitions).
 impl<'a, A: Allocator> ItemsAs<(&'a str, Vec<(&'a str, &'a str), A>)> for ProducerItems {
     /// # Proved
+    ///
+    /// A format whose encodings determine their own end is unambiguous in every mode, with encodings as `HasEncodings` states.
     ///
     /// ```text
     /// ensures { Unambiguous field }
@@ -172,9 +235,22 @@ impl<'a, A: Allocator + Copy + 'a, G: Grammar> DecodesItems<
 ///
 /// Any error but `Memory` means that the bytes are not such a payload.
 ///
+/// # Examples
+///
+/// ```
+/// use dolzhytik::fallible::{Global, read_producers};
+/// use dolzhytik::reader::{DecodeError, Padded};
+///
+/// // "producers"; one field, "language", of one value: "C", "99".
+/// let payload = b"\x09producers\x01\x08language\x01\x01C\x0299";
+/// let fields = read_producers::<Global, Padded>(payload, Global)?;
+/// assert_eq!((fields[0].0, &fields[0].1[..]), ("language", &[("C", "99")][..]));
+/// # Ok::<(), DecodeError>(())
+/// ```
+///
 /// # Proved
 ///
-/// After `Ok`: `found`. After an error: `none`.
+/// After `Ok`: `found`. After an error: `none`, the bytes as a whole are no such encoding, unless the cause is `Memory`.
 ///
 /// ```text
 /// ensures found { IfOk result
@@ -195,9 +271,27 @@ pub fn read_producers<'a, A: Allocator + Copy + 'a, G: Grammar>(
 /// Appends the minimal encoding of the payload of a producers section of these fields. On an error,
 /// the sink is unchanged.
 ///
+/// # Errors
+///
+/// Returns [`TooLong`](crate::fallible::Refused::TooLong) if a count or length would pass
+/// 4294967295, and [`Memory`](crate::fallible::Refused::Memory) if an allocation fails. The
+/// bytes of the sink are then unchanged.
+///
+/// # Examples
+///
+/// ```
+/// use dolzhytik::fallible::{Global, Refused, Vec, append_producers};
+///
+/// let mut payload = vec![];
+/// append_producers(&Vec::new(Global), &mut payload)?;
+/// // "producers", no fields.
+/// assert_eq!(payload, *b"\x09producers\0");
+/// # Ok::<(), Refused>(())
+/// ```
+///
 /// # Proved
 ///
-/// After `Ok`: `ok`. After an error: `err`. In any case: `too_long`.
+/// After `Ok`: `ok`, the sink gains the minimal encoding. After an error: `err`, the bytes of the sink are unchanged. In any case: `too_long`, a value that has an encoding never gives `TooLong`.
 ///
 /// ```text
 /// ensures ok { OnOk result

@@ -4,17 +4,20 @@
 use crate::vec::Sink;
 use crate::base::{Encode, Result, Section, SectionId};
 
-/// A custom section of raw bytes, including its size prefix. If they are not a size prefix, a name
-/// and data, then a reader of the module decodes something else there, or fails.
+/// A custom section as it is in a module, size prefix included, which
+/// [`Module::section`](crate::Module::section) copies.
+///
+/// To have the size prefix and the name written, use [`CustomSection`](crate::CustomSection).
+///
+/// # Examples
 ///
 /// ```
-/// # use dolzhytik::{fallible::*, reader::*};
-/// # fn example(alloc: Global) -> Result<(), Box<dyn std::error::Error>> {
-/// # let mut module = Module::new(alloc)?;
-/// module.section(&RawCustomSection(&[2, 1, b'a']))?;
-/// # Ok(())
-/// # }
-/// # example(Global).unwrap();
+/// use dolzhytik::{RawCustomSection, Section};
+///
+/// let mut bytes = Vec::new();
+/// RawCustomSection(b"\x04\x01ahi").append_to(&mut bytes);
+/// // Id 0, and the bytes: size 4, a name of one byte, "a", and the data.
+/// assert_eq!(bytes, *b"\0\x04\x01ahi");
 /// ```
 #[derive(Clone, Copy, Debug)]
 pub struct RawCustomSection<'a>(pub &'a [u8]);

@@ -10,17 +10,31 @@ use crate::base::{DecodeError, Grammar, Layout, Readable, Result, Shorten};
 /// section. They are encoded as subsection 5 of a linking section.
 ///
 /// ```
+/// # fn example() -> Result<(), Box<dyn std::error::Error>> {
 /// # use dolzhytik::{fallible::*, reader::*};
-/// # fn example(alloc: Global) -> Result<(), Box<dyn std::error::Error>> {
-/// let mut segments = SegmentInfos::new(alloc);
+/// use dolzhytik::fallible::{Global, SegmentInfos};
+///
+/// let mut segments = SegmentInfos::new(Global);
 /// segments.segment(".rodata.greeting", 0, 0)?;
 /// # Ok(())
 /// # }
-/// # example(Global).unwrap();
+/// # example().unwrap();
 /// ```
 pub type SegmentInfos<A = Global> = CountedList<SegmentMembers, A>;
 
 /// The kind of the members of a list of segments.
+///
+/// It is the type argument of [`CountedList`](crate::fallible::CountedList) in
+/// [`SegmentInfos`](crate::fallible::SegmentInfos).
+///
+/// # Examples
+///
+/// ```
+/// use dolzhytik::fallible::{Global, ListKind, SegmentInfos, SegmentMembers};
+///
+/// let list = SegmentInfos::new(Global);
+/// assert_eq!((list.len(), SegmentMembers::subsection()), (0, Some(5)));
+/// ```
 #[derive(Clone, Copy, Debug)]
 pub struct SegmentMembers;
 
@@ -43,7 +57,16 @@ impl ListKind for SegmentMembers {
 impl<A: Allocator> SegmentInfos<A> {
     /// Adds a segment. Its alignment is 2 to the power `alignment`, in bytes.
     ///
+    /// # Errors
+    ///
+    /// Returns [`TooLong`](crate::fallible::Refused::TooLong) if the builder has 4294967295
+    /// entries, or if a count or length would pass 4294967295, and
+    /// [`Memory`](crate::fallible::Refused::Memory) if an allocation fails. The builder is then
+    /// unchanged.
+    ///
     /// # Proved
+    ///
+    /// The builder gains one entry with this encoding, or the call returns an error and changes nothing. A full builder, with 2^32 - 1 entries, returns `TooLong`.
     ///
     /// ```text
     /// ensures { Adds (size_prefixed_encoding name.now
@@ -59,11 +82,28 @@ impl<A: Allocator> SegmentInfos<A> {
 
 /// The name, the alignment and the flags of a data segment, for a linker. The segments of a module
 /// are listed in the order of its data section.
+///
+/// It is an item of [`LinkItem::Segments`](crate::reader::LinkItem::Segments).
+///
+/// # Examples
+///
+/// ```
+/// use dolzhytik::fallible::{Global, SegmentInfo};
+/// use dolzhytik::reader::{DecodeError, Readable, Standard};
+///
+/// // ".data", the alignment 2 (4 bytes), no flags.
+/// let bytes = b"\x05.data\x02\0";
+/// let (info, _) = <SegmentInfo as Readable<Global, Standard>>::read(bytes, Global)?;
+/// assert_eq!((info.name, info.alignment), (".data", 2));
+/// # Ok::<(), DecodeError>(())
+/// ```
 #[derive(Clone, Copy, Debug)]
 pub struct SegmentInfo<'a> {
+    /// The name of the segment.
     pub name: &'a str,
     /// The exponent of the alignment: 2 to this power is the alignment in bytes.
     pub alignment: u32,
+    /// The flags.
     pub flags: u32,
 }
 
@@ -78,6 +118,8 @@ pub struct SegmentInfo<'a> {
 /// Definitions: [`SegmentModel`](crate::definitions::custom::segments::SegmentInfo), [`segment`](crate::definitions::custom::segments::segment), [`segment_view`](crate::definitions::custom::segments::segment_view). [How to read clauses](crate::definitions).
 impl<'a> Layout for SegmentInfo<'a> {
     /// # Proved
+    ///
+    /// A format whose encodings determine their own end is unambiguous in every mode, with encodings as `HasEncodings` states.
     ///
     /// ```text
     /// ensures { Unambiguous segment }

@@ -63,6 +63,8 @@ impl Content for RawContent<'_> {
 ///
 /// # Proved
 ///
+/// The call appends the encoding, or returns an error and leaves the bytes as they were. If the value fits, the call never returns `TooLong`, and it succeeds within the spare capacity.
+///
 /// ```text
 /// ensures { Appends (size_prefixed_encoding (T.encoding content.now))
 ///     (HasEncodableSize (T.encoding content.now) × T.encodable content.now) sink.old
@@ -84,6 +86,8 @@ fn encode_content<T: Content, A: Sink>(sink: &mut A, content: &T) -> Result<()> 
 /// request.
 ///
 /// # Proved
+///
+/// In any case: `same`; `memory`, no error is `TooLong`; `spare`; `capacity`, the capacity does not shrink.
 ///
 /// ```text
 /// ensures same { sink.new.items ≡ sink.old.items }

@@ -12,17 +12,31 @@ use crate::base::{DecodeError, Encode, Grammar, Layout, Optional, ReadFault, Rea
 /// subsection 8 of a linking section. `ObjectSymbols` has further kinds of symbols.
 ///
 /// ```
+/// # fn example() -> Result<(), Box<dyn std::error::Error>> {
 /// # use dolzhytik::{fallible::*, reader::*};
-/// # fn example(alloc: Global) -> Result<(), Box<dyn std::error::Error>> {
-/// let mut symbols = SymbolTable::new(alloc);
+/// use dolzhytik::fallible::{Global, SymbolTable};
+///
+/// let mut symbols = SymbolTable::new(Global);
 /// symbols.function(SymbolTable::WASM_SYM_EXPORTED, 0, Some("f"))?;
 /// # Ok(())
 /// # }
-/// # example(Global).unwrap();
+/// # example().unwrap();
 /// ```
 pub type SymbolTable<A = Global> = CountedList<SymbolMembers, A>;
 
 /// The kind of a symbol table's members.
+///
+/// It is the type argument of [`CountedList`](crate::fallible::CountedList) in
+/// [`SymbolTable`](crate::fallible::SymbolTable).
+///
+/// # Examples
+///
+/// ```
+/// use dolzhytik::fallible::{Global, ListKind, SymbolMembers, SymbolTable};
+///
+/// let list = SymbolTable::new(Global);
+/// assert_eq!((list.len(), SymbolMembers::subsection()), (0, Some(8)));
+/// ```
 #[derive(Clone, Copy, Debug)]
 pub struct SymbolMembers;
 
@@ -42,7 +56,23 @@ impl ListKind for SymbolMembers {
     }
 }
 
-/// The location of the bytes of a data symbol.
+/// The bytes of a data symbol, which [`SymbolTable::data`](crate::SymbolTable::data) takes.
+///
+/// The tool conventions define it in
+/// [Linking](https://github.com/WebAssembly/tool-conventions/blob/main/Linking.md).
+///
+/// # Examples
+///
+/// ```
+/// use dolzhytik::{DataSymbolDefinition, Encode, SymbolTable};
+///
+/// let mut symbols = SymbolTable::new();
+/// symbols.data(0, "d", Some(DataSymbolDefinition { index: 2, offset: 16, size: 8 }));
+/// let mut bytes = Vec::new();
+/// symbols.encode(&mut bytes);
+/// // Subsection 8, size 8, one symbol: data (1), no flags, "d", segment 2, offset 16, size 8.
+/// assert_eq!(bytes, [8, 8, 1, 1, 0, 1, b'd', 2, 16, 8]);
+/// ```
 #[derive(Clone, Copy, Debug)]
 pub struct DataSymbolDefinition {
     /// The index of the data segment.
@@ -70,11 +100,26 @@ impl Encode for DataSymbolDefinition {
 }
 
 /// The kind of a symbol with an index.
+///
+/// # Examples
+///
+/// ```
+/// use dolzhytik::fallible::{Encode, Refused, SymbolKind};
+///
+/// let mut bytes = vec![];
+/// SymbolKind::Table.encode(&mut bytes)?;
+/// assert_eq!(bytes, [0x05]);
+/// # Ok::<(), Refused>(())
+/// ```
 #[derive(Clone, Copy, Debug)]
 pub enum SymbolKind {
+    /// A function: 00.
     Function = 0x00,
+    /// A global: 02.
     Global = 0x02,
+    /// A tag: 04.
     Tag = 0x04,
+    /// A table: 05.
     Table = 0x05,
 }
 
@@ -173,6 +218,8 @@ impl<A: Allocator> SymbolTable<A> {
     ///
     /// # Proved
     ///
+    /// The builder gains one entry with this encoding, or the call returns an error and changes nothing. A full builder, with 2^32 - 1 entries, returns `TooLong`.
+    ///
     /// ```text
     /// ensures { Adds (indexed_encoding kind flags index
     ///         (optional_encoding (λ n. size_prefixed_encoding n.now) name.entry))
@@ -194,7 +241,30 @@ impl<A: Allocator> SymbolTable<A> {
     /// Adds a function. A function has a name if it is defined here, or if `flags` say that its
     /// name is explicit. The call does not check that `name` agrees.
     ///
+    /// # Errors
+    ///
+    /// Returns [`TooLong`](crate::fallible::Refused::TooLong) if the builder has 4294967295
+    /// entries, or if a count or length would pass 4294967295, and
+    /// [`Memory`](crate::fallible::Refused::Memory) if an allocation fails. The builder is then
+    /// unchanged.
+    ///
+    /// # Examples
+    ///
+    /// ```
+    /// use dolzhytik::fallible::{Encode, Global, Refused, SymbolTable};
+    ///
+    /// let mut symbols = SymbolTable::new(Global);
+    /// symbols.function(0, 5, Some("f"))?;
+    /// let mut bytes = Vec::new();
+    /// symbols.encode(&mut bytes)?;
+    /// // Subsection 8, size 6, one symbol: a function (0), no flags, the index 5, "f".
+    /// assert_eq!(bytes, [8, 6, 1, 0, 0, 5, 1, b'f']);
+    /// # Ok::<(), Refused>(())
+    /// ```
+    ///
     /// # Proved
+    ///
+    /// The builder gains one entry with this encoding, or the call returns an error and changes nothing. A full builder, with 2^32 - 1 entries, returns `TooLong`.
     ///
     /// ```text
     /// ensures { Adds (indexed_encoding kinds.Function flags index
@@ -209,7 +279,16 @@ impl<A: Allocator> SymbolTable<A> {
 
     /// Adds a global. It has a name in the same cases as in `function`.
     ///
+    /// # Errors
+    ///
+    /// Returns [`TooLong`](crate::fallible::Refused::TooLong) if the builder has 4294967295
+    /// entries, or if a count or length would pass 4294967295, and
+    /// [`Memory`](crate::fallible::Refused::Memory) if an allocation fails. The builder is then
+    /// unchanged.
+    ///
     /// # Proved
+    ///
+    /// The builder gains one entry with this encoding, or the call returns an error and changes nothing. A full builder, with 2^32 - 1 entries, returns `TooLong`.
     ///
     /// ```text
     /// ensures { Adds (indexed_encoding kinds.Global flags index
@@ -224,7 +303,16 @@ impl<A: Allocator> SymbolTable<A> {
 
     /// Adds a table. It has a name in the same cases as in `function`.
     ///
+    /// # Errors
+    ///
+    /// Returns [`TooLong`](crate::fallible::Refused::TooLong) if the builder has 4294967295
+    /// entries, or if a count or length would pass 4294967295, and
+    /// [`Memory`](crate::fallible::Refused::Memory) if an allocation fails. The builder is then
+    /// unchanged.
+    ///
     /// # Proved
+    ///
+    /// The builder gains one entry with this encoding, or the call returns an error and changes nothing. A full builder, with 2^32 - 1 entries, returns `TooLong`.
     ///
     /// ```text
     /// ensures { Adds (indexed_encoding kinds.Table flags index
@@ -240,7 +328,16 @@ impl<A: Allocator> SymbolTable<A> {
     /// Adds data. Data have a definition unless `flags` say that they are undefined. The call does
     /// not check that `definition` agrees.
     ///
+    /// # Errors
+    ///
+    /// Returns [`TooLong`](crate::fallible::Refused::TooLong) if the builder has 4294967295
+    /// entries, or if a count or length would pass 4294967295, and
+    /// [`Memory`](crate::fallible::Refused::Memory) if an allocation fails. The builder is then
+    /// unchanged.
+    ///
     /// # Proved
+    ///
+    /// The builder gains one entry with this encoding, or the call returns an error and changes nothing. A full builder, with 2^32 - 1 entries, returns `TooLong`.
     ///
     /// ```text
     /// ensures { Adds (of_data_encoding flags name.now
@@ -261,39 +358,73 @@ impl<A: Allocator> SymbolTable<A> {
 }
 
 /// A decoded symbol. If its flags say that it has no explicit name, its name is that of the import.
+///
+/// [`LinkItem::Symbols`](crate::reader::LinkItem::Symbols) has them.
+///
+/// # Examples
+///
+/// ```
+/// use dolzhytik::fallible::Global;
+/// use dolzhytik::reader::{DecodeError, Padded, Readable, Symbol};
+///
+/// // A data symbol (1), undefined (10), "d".
+/// let (symbol, _) =
+///     <Symbol as Readable<Global, Padded>>::read(&[1, 0x10, 1, b'd'], Global)?;
+/// assert!(matches!(symbol, Symbol::DataSymbol { name: "d", definition: None, .. }));
+/// # Ok::<(), DecodeError>(())
+/// ```
 #[derive(Clone, Copy, Debug)]
 pub enum Symbol<'a> {
+    /// A function.
     Function {
+        /// The flags.
         flags: u32,
+        /// The index of the function.
         index: u32,
+        /// The name, unless it is that of the import.
         name: Option<&'a str>,
     },
+    /// A global.
     Global {
+        /// The flags.
         flags: u32,
+        /// The index of the global.
         index: u32,
+        /// The name, unless it is that of the import.
         name: Option<&'a str>,
     },
+    /// A table.
     Table {
+        /// The flags.
         flags: u32,
+        /// The index of the table.
         index: u32,
+        /// The name, unless it is that of the import.
         name: Option<&'a str>,
     },
+    /// Bytes of a data segment.
     DataSymbol {
+        /// The flags.
         flags: u32,
+        /// The name.
         name: &'a str,
         /// `None` if the flags say that the data are not defined in this module.
         definition: Option<DataSymbolDefinition>,
     },
     /// A section, which only the standard's grammar has as a symbol.
     Section {
+        /// The flags.
         flags: u32,
         /// The index of the section in the module.
         section: u32,
     },
     /// A tag, which only the standard's grammar has as a symbol.
     Tag {
+        /// The flags.
         flags: u32,
+        /// The index of the tag.
         index: u32,
+        /// The name, unless it is that of the import.
         name: Option<&'a str>,
     },
 }
@@ -331,7 +462,7 @@ fn has_definition(flags: u32) -> bool {
 ///
 /// # Proved
 ///
-/// After `Ok`: `found`. After an error: `none`.
+/// After `Ok`: `found`, the bytes begin with an encoding of the value, and the returned bytes follow it. After an error: `none`, the bytes do not begin with such an encoding, unless the cause is `Memory`.
 ///
 /// ```text
 /// ensures found { IfOk result
@@ -391,7 +522,7 @@ impl<'a, A: Allocator + Copy, G: Grammar> Readable<'a, A, G> for DataSymbolDefin
 ///
 /// # Proved
 ///
-/// After `Ok`: `found`. After an error: `none`.
+/// After `Ok`: `found`, the bytes begin with an encoding of the value, and the returned bytes follow it. After an error: `none`, the bytes do not begin with such an encoding, unless the cause is `Memory`.
 ///
 /// ```text
 /// ensures found { IfOk result
@@ -420,7 +551,7 @@ fn read_definition<'a, A: Allocator + Copy, G: Grammar>(
 ///
 /// # Proved
 ///
-/// After `Ok`: `found`. After an error: `none`.
+/// After `Ok`: `found`, the bytes begin with an encoding of the value, and the returned bytes follow it. After an error: `none`, the bytes do not begin with such an encoding, unless the cause is `Memory`.
 ///
 /// ```text
 /// ensures found { IfOk result
@@ -452,7 +583,7 @@ fn read_data<'a, A: Allocator + Copy, G: Grammar>(
 ///
 /// # Proved
 ///
-/// After `Ok`: `found`. After an error: `none`.
+/// After `Ok`: `found`, the bytes begin with an encoding of the value, and the returned bytes follow it. After an error: `none`, the bytes do not begin with such an encoding, unless the cause is `Memory`.
 ///
 /// ```text
 /// ensures found { IfOk result
@@ -483,6 +614,8 @@ fn read_section<'a, A: Allocator + Copy, G: Grammar>(
 /// Definitions: [`SymbolModel`](crate::definitions::custom::symbols::Symbol), [`symbol`](crate::definitions::custom::symbols::symbol), [`symbol_view`](crate::definitions::custom::symbols::symbol_view). [How to read clauses](crate::definitions).
 impl<'a> Layout for Symbol<'a> {
     /// # Proved
+    ///
+    /// A format whose encodings determine their own end is unambiguous in every mode, with encodings as `HasEncodings` states.
     ///
     /// ```text
     /// ensures { Unambiguous symbol }
@@ -531,7 +664,7 @@ impl<'a, A: Allocator + Copy, G: Grammar> Readable<'a, A, G> for Symbol<'a> {
 ///
 /// # Proved
 ///
-/// After `Ok`: `ok`. In any case: `front`, `too_long`.
+/// After `Ok`: `ok`, the sink gains the minimal encoding. In any case: `front`; `too_long`, a value that has an encoding never gives `TooLong`. `front`: The new bytes begin with the old ones.
 ///
 /// ```text
 /// ensures ok { OnOk result
@@ -554,7 +687,7 @@ fn append_name<B: Sink>(flags: u32, name: Option<&str>, sink: &mut B) -> Result<
 ///
 /// # Proved
 ///
-/// After `Ok`: `ok`. In any case: `front`, `too_long`.
+/// After `Ok`: `ok`, the sink gains the minimal encoding. In any case: `front`; `too_long`, a value that has an encoding never gives `TooLong`. `front`: The new bytes begin with the old ones.
 ///
 /// ```text
 /// ensures ok { OnOk result
@@ -585,7 +718,7 @@ fn append_indexed<B: Sink>(
 ///
 /// # Proved
 ///
-/// After `Ok`: `ok`. In any case: `front`, `too_long`.
+/// After `Ok`: `ok`, the sink gains the minimal encoding. In any case: `front`; `too_long`, a value that has an encoding never gives `TooLong`. `front`: The new bytes begin with the old ones.
 ///
 /// ```text
 /// ensures ok { OnOk result
@@ -613,7 +746,7 @@ fn append_definition<B: Sink>(
 ///
 /// # Proved
 ///
-/// After `Ok`: `ok`. In any case: `front`, `too_long`.
+/// After `Ok`: `ok`, the sink gains the minimal encoding. In any case: `front`; `too_long`, a value that has an encoding never gives `TooLong`. `front`: The new bytes begin with the old ones.
 ///
 /// ```text
 /// ensures ok { OnOk result
@@ -641,7 +774,7 @@ fn append_data<B: Sink>(
 ///
 /// # Proved
 ///
-/// After `Ok`: `ok`. In any case: `front`, `too_long`.
+/// After `Ok`: `ok`, the sink gains the minimal encoding. In any case: `front`; `too_long`, no error is `TooLong`. `front`: The new bytes begin with the old ones.
 ///
 /// ```text
 /// ensures ok { OnOk result

@@ -202,7 +202,7 @@ pub trait decoding {
     ///
     /// Definitions: [`Format`](formats::Format), [`minimal`](numbers::Mode), [`Mode`](numbers::Mode), [`Decodes`](decoding::Decodes).
     type DecodesUniquely;
-    /// The same for a format that takes all of the bytes: `encoding` as a whole decodes to `x` alone.
+    /// As [`DecodesUniquely`](decoding::DecodesUniquely), for a format that takes all of the bytes: `encoding` as a whole decodes to `x` alone.
     ///
     /// ```text
     /// pub record DecodesWhole {X : Type 0} (F : Format X) (encoding : List ℕ) (x : X)
@@ -226,7 +226,7 @@ pub trait decoding {
     ///
     /// Definitions: [`Format`](formats::Format), [`padded`](numbers::Mode), [`Decodes`](decoding::Decodes).
     type DecodesUniquelyPadded;
-    /// The same for a format that takes all of the bytes.
+    /// As [`DecodesUniquelyPadded`](decoding::DecodesUniquelyPadded), for a format that takes all of the bytes.
     ///
     /// ```text
     /// pub record DecodesWholePadded {X : Type 0} (F : Format X) (encoding : List ℕ) (x : X)
@@ -335,7 +335,7 @@ pub trait decoding {
     ///
     /// Definitions: [`Format`](formats::Format), [`DeterminesPrefix`](decoding::DeterminesPrefix), [`padded`](numbers::Mode), [`IsIncludedIn`](decoding::IsIncludedIn), [`minimal`](numbers::Mode).
     type UnambiguousPadded;
-    /// The same for a format that takes all of the bytes.
+    /// As [`UnambiguousPadded`](decoding::UnambiguousPadded), for a format that takes all of the bytes.
     ///
     /// ```text
     /// pub record UnambiguousWholePadded {X : Type 0} (F : Format X) : Type 0 where
@@ -1237,7 +1237,7 @@ pub trait laws {
     ///
     /// Definitions: [`Kind`](entries::Kind), [`ContainsItems`](entries::ContainsItems), [`minimal`](numbers::Mode).
     type ContainsMore;
-    /// The same for padded LEB128. A section holds all that it holds in minimal encodings. A record that is well-formed, with possibly padded expressions, adds its normal form. Raw bytes add the item that they encode, possibly padded.
+    /// As [`ContainsMore`](laws::ContainsMore), for padded LEB128. A section holds all that it holds in minimal encodings. A record that is well-formed, with possibly padded expressions, adds its normal form. Raw bytes add the item that they encode, possibly padded.
     ///
     /// ```text
     /// pub record ContainsMorePadded {Record Item : Type 0} (kind : Kind Record Item)
@@ -1408,7 +1408,7 @@ pub trait modules {
     ///
     /// Definitions: [`Format`](formats::Format), [`IsSizePrefixed`](encodings::IsSizePrefixed), [`DecodesUniquely`](decoding::DecodesUniquely), [`size_prefixed`](formats::size_prefixed), [`DecodesWhole`](decoding::DecodesWhole).
     type DecodesPayloads;
-    /// The same for padded LEB128.
+    /// As [`DecodesPayloads`](modules::DecodesPayloads), for padded LEB128.
     ///
     /// ```text
     /// pub record DecodesPayloadsPadded {X : Type 0} (F : Format X) : Type 0 where

@@ -28,7 +28,7 @@ pub trait adding {
     ///
     /// Definitions: [`IsEncodableVec`](super::base::encodings::IsEncodableVec), [`longest`](super::base::encodings::longest).
     type AddsList;
-    /// The same for an entry of two lists.
+    /// As [`AddsList`](adding::AddsList), for an entry of two lists.
     ///
     /// ```text
     /// pub record AddsTwoLists {U S V R T W : Type 0} (becomes : U → S → Type 0)
@@ -1942,7 +1942,7 @@ pub trait symbols {
     /// IsBuiltKind _ = Unit {0}
     /// ```
     type IsBuiltKind;
-    /// The same for a symbol of a `SymbolTable`, which is neither a tag nor a section.
+    /// As [`IsFullSymbol`](symbols::IsFullSymbol), for a symbol of a `SymbolTable`, which is neither a tag nor a section.
     ///
     /// ```text
     /// abbrev pub IsGivenSymbol : Symbol → Type 0

@@ -13,9 +13,9 @@ use alloc_crate::vec::Vec;
 /// any `Vec<u8>`. Each call returns the sink, so that calls form a chain. A call takes the
 /// immediates of its instruction as arguments. An [`Instruction`] is the same as a value.
 ///
-/// Calls that [`fallible::InstructionSink`](crate::fallible::InstructionSink) also has are written
-/// by those. The others append an opcode and its immediates by the proved `encode` of each. Blocks
-/// and types are not checked.
+/// The proved calls of [`fallible::InstructionSink`](crate::fallible::InstructionSink) encode the
+/// instructions that it has. Others are appended by the proved `encode` of their opcode and of each
+/// immediate. Blocks and types are not checked.
 ///
 /// ```
 /// use dolzhytik::InstructionSink;

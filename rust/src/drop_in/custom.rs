@@ -306,6 +306,10 @@ debugged!(
 impl NameMap {
     /// Appends the name of the item with this index. Add them in the order of indices, each once:
     /// the call does not check it.
+    ///
+    /// # Panics
+    ///
+    /// Panics if there are 4294967295 names, or if the length of the name would pass 4294967295.
     #[inline]
     pub fn append(&mut self, idx: u32, name: &str) {
         done(self.0.append(idx, name))
@@ -320,6 +324,10 @@ impl NameMap {
 impl IndirectNameMap {
     /// Appends the names of the items in the item with this index. Add them in the order of
     /// indices, each once: the call does not check it.
+    ///
+    /// # Panics
+    ///
+    /// Panics if there are 4294967295 entries.
     pub fn append(&mut self, idx: u32, names: &NameMap) {
         done(self.0.append(idx, &names.0))
     }
@@ -330,6 +338,11 @@ macro_rules! subsections {
     ($map:ident: $($call:ident $id:literal $what:literal)*) => {
         $(
             #[doc = concat!("Appends subsection ", $id, ": the names of ", $what, ".")]
+            ///
+            /// # Panics
+            ///
+            /// Panics if the section has 4294967295 subsections, or if the size of one would pass
+            /// 4294967295.
             pub fn $call(&mut self, names: &$map) {
                 done(self.0.$call(&names.0))
             }
@@ -339,6 +352,10 @@ macro_rules! subsections {
 
 impl NameSection {
     /// Appends subsection 0: the name of the module.
+    ///
+    /// # Panics
+    ///
+    /// Panics if the section has 4294967295 entries, or if the length of a name would pass 4294967295.
     pub fn module(&mut self, name: &str) {
         done(self.0.module(name))
     }
@@ -366,6 +383,10 @@ impl NameSection {
     }
 
     /// Appends a subsection of this id and raw content. The size prefix is added.
+    ///
+    /// # Panics
+    ///
+    /// Panics if the section has 4294967295 subsections, or if the size of one would pass 4294967295.
     pub fn raw(&mut self, id: u8, data: &[u8]) {
         done(self.0.raw(id, data))
     }
@@ -378,12 +399,20 @@ impl NameSection {
 
 impl LinkingSection {
     /// Appends subsection 8: a symbol table.
+    ///
+    /// # Panics
+    ///
+    /// Panics if the section has 4294967295 subsections, or if the size of one would pass 4294967295.
     pub fn symbol_table(&mut self, symbol_table: &SymbolTable) -> &mut Self {
         done(self.0.symbol_table(&symbol_table.0));
         self
     }
 
     /// Appends subsection 9: the architecture of the target.
+    ///
+    /// # Panics
+    ///
+    /// Panics if the section has 4294967295 subsections, or if the size of one would pass 4294967295.
     pub fn target_arch(&mut self, arch: &str) -> &mut Self {
         done(self.0.target_arch(arch));
         self
@@ -409,6 +438,10 @@ impl SymbolTable {
     /// Appends the symbol of the function with this index. An undefined symbol takes its name from
     /// the import, and `None` here, unless it has the flag
     /// [`WASM_SYM_EXPLICIT_NAME`](SymbolTable::WASM_SYM_EXPLICIT_NAME).
+    ///
+    /// # Panics
+    ///
+    /// Panics if there are 4294967295 symbols, or if the length of the name would pass 4294967295.
     pub fn function(&mut self, flags: u32, index: u32, name: Option<&str>) -> &mut Self {
         done(self.0.function(flags, index, name));
         self
@@ -416,6 +449,10 @@ impl SymbolTable {
 
     /// Appends the symbol of the global with this index, as [`function`](SymbolTable::function)
     /// does.
+    ///
+    /// # Panics
+    ///
+    /// Panics if there are 4294967295 symbols, or if the length of the name would pass 4294967295.
     pub fn global(&mut self, flags: u32, index: u32, name: Option<&str>) -> &mut Self {
         done(self.0.global(flags, index, name));
         self
@@ -423,12 +460,20 @@ impl SymbolTable {
 
     /// Appends the symbol of the table with this index, as [`function`](SymbolTable::function)
     /// does.
+    ///
+    /// # Panics
+    ///
+    /// Panics if there are 4294967295 symbols, or if the length of the name would pass 4294967295.
     pub fn table(&mut self, flags: u32, index: u32, name: Option<&str>) -> &mut Self {
         done(self.0.table(flags, index, name));
         self
     }
 
     /// Appends the symbol of bytes in a data segment, or an undefined one without a definition.
+    ///
+    /// # Panics
+    ///
+    /// Panics if there are 4294967295 symbols, or if the length of the name would pass 4294967295.
     pub fn data(
         &mut self,
         flags: u32,
@@ -442,6 +487,10 @@ impl SymbolTable {
 
 impl ProducersSection {
     /// Appends the field of this name, such as `language`, with its values.
+    ///
+    /// # Panics
+    ///
+    /// Panics if there are 4294967295 fields, or if the length of the name would pass 4294967295.
     pub fn field(&mut self, name: &str, values: &ProducersField) -> &mut Self {
         done(self.0.field(name, &values.0));
         self
@@ -450,6 +499,10 @@ impl ProducersSection {
 
 impl ProducersField {
     /// Appends a value, such as the name of a tool, and its version.
+    ///
+    /// # Panics
+    ///
+    /// Panics if there are 4294967295 values, or if the length of a string would pass 4294967295.
     pub fn value(&mut self, name: &str, version: &str) -> &mut Self {
         done(self.0.value(name, version));
         self
@@ -479,6 +532,10 @@ impl CoreDumpModulesSection {
     }
 
     /// Appends a module of this name.
+    ///
+    /// # Panics
+    ///
+    /// Panics if there are 4294967295 modules, or if the length of the name would pass 4294967295.
     pub fn module(&mut self, module_name: impl AsRef<str>) -> &mut Self {
         done(self.0.module(module_name.as_ref()));
         self
@@ -593,6 +650,10 @@ section!(CoreDumpStackSection of Custom);
 
 impl CoreDumpStackSection {
     /// Creates the section without frames, for the thread of this name.
+    ///
+    /// # Panics
+    ///
+    /// Panics if the length of the name would pass 4294967295.
     pub fn new(name: impl Into<String>) -> Self {
         let name = name.into();
         CoreDumpStackSection(done(custom::CoreDumpStackSection::new(Global, &name)))

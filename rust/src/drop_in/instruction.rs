@@ -17,9 +17,10 @@ use core::slice;
 /// `encode` of [`Encode`] appends its bytes to a list. Each case also has a named call of
 /// [`InstructionSink`](super::InstructionSink), which takes its immediates as arguments.
 ///
-/// The line of a case has the instruction's name in the text format, the bytes of its opcode in
-/// hexadecimal, and its class. Instructions whose line names no proposal are defined in the core
-/// specification, Binary Format, [Instructions].
+/// The line of a case has the instruction's name in the text format, its opcode, its class, and what
+/// it does. An opcode is one byte, such as 0x6A, or a prefix and a number as unsigned LEB128, such as
+/// 0xFC 10. Instructions whose line names no proposal are defined in the core specification, Binary
+/// Format, [Instructions].
 ///
 /// The enum is `non_exhaustive`: a `match` outside this package needs a wildcard. To decode
 /// instructions, see [`reader::CodeBody::instructions`](crate::reader::CodeBody::instructions).
@@ -45,791 +46,791 @@ use core::slice;
 #[derive(Clone, Debug)]
 #[non_exhaustive]
 pub enum Instruction<'a> {
-    /// `unreachable`, opcode `00`, a control instruction.
-    /// Its call is [`unreachable`](super::InstructionSink::unreachable).
+    /// `unreachable` (opcode 0x00), a control instruction that traps.
+    /// [`InstructionSink::unreachable`](super::InstructionSink::unreachable) appends it.
     Unreachable,
-    /// `nop`, opcode `01`, a control instruction.
-    /// Its call is [`nop`](super::InstructionSink::nop).
+    /// `nop` (opcode 0x01), a control instruction that does nothing.
+    /// [`InstructionSink::nop`](super::InstructionSink::nop) appends it.
     Nop,
-    /// `block`, opcode `02`, a control instruction.
-    /// Its call is [`block`](super::InstructionSink::block), with the immediate `block_type`.
+    /// `block` (opcode 0x02), a control instruction that begins a block, with its label at the end.
+    /// [`InstructionSink::block`](super::InstructionSink::block) appends it, with the immediate `block_type`.
     Block(BlockType),
-    /// `loop`, opcode `03`, a control instruction.
-    /// Its call is [`loop_`](super::InstructionSink::loop_), with the immediate `block_type`.
+    /// `loop` (opcode 0x03), a control instruction that begins a block, with its label at the start.
+    /// [`InstructionSink::loop_`](super::InstructionSink::loop_) appends it, with the immediate `block_type`.
     Loop(BlockType),
-    /// `if`, opcode `04`, a control instruction.
-    /// Its call is [`if_`](super::InstructionSink::if_), with the immediate `block_type`.
+    /// `if` (opcode 0x04), a control instruction that begins a block that is executed if the operand is not zero.
+    /// [`InstructionSink::if_`](super::InstructionSink::if_) appends it, with the immediate `block_type`.
     If(BlockType),
-    /// `else`, opcode `05`, a delimiter of control instructions.
-    /// Its call is [`else_`](super::InstructionSink::else_).
+    /// `else` (opcode 0x05), a delimiter of control instructions that begins the branch of an `if` for zero.
+    /// [`InstructionSink::else_`](super::InstructionSink::else_) appends it.
     Else,
-    /// `try`, opcode `06`, a control instruction of the legacy exception handling proposal.
-    /// Its call is [`try_`](super::InstructionSink::try_), with the immediate `block_type`.
+    /// `try` (opcode 0x06), a control instruction of the legacy exception handling proposal that begins a block with handlers of exceptions.
+    /// [`InstructionSink::try_`](super::InstructionSink::try_) appends it, with the immediate `block_type`.
     Try(BlockType),
-    /// `catch`, opcode `07`, a control instruction of the legacy exception handling proposal.
-    /// Its call is [`catch`](super::InstructionSink::catch), with the immediate `tag_index`.
+    /// `catch` (opcode 0x07), a control instruction of the legacy exception handling proposal that begins the handler of exceptions with a tag.
+    /// [`InstructionSink::catch`](super::InstructionSink::catch) appends it, with the immediate `tag_index`.
     Catch(u32),
-    /// `throw`, opcode `08`, a control instruction.
-    /// Its call is [`throw`](super::InstructionSink::throw), with the immediate `tag_index`.
+    /// `throw` (opcode 0x08), a control instruction that throws an exception with a tag.
+    /// [`InstructionSink::throw`](super::InstructionSink::throw) appends it, with the immediate `tag_index`.
     Throw(u32),
-    /// `rethrow`, opcode `09`, a control instruction of the legacy exception handling proposal.
-    /// Its call is [`rethrow`](super::InstructionSink::rethrow), with the immediate `label`.
+    /// `rethrow` (opcode 0x09), a control instruction of the legacy exception handling proposal that throws a caught exception again.
+    /// [`InstructionSink::rethrow`](super::InstructionSink::rethrow) appends it, with the immediate `label`.
     Rethrow(u32),
-    /// `throw_ref`, opcode `0A`, a control instruction.
-    /// Its call is [`throw_ref`](super::InstructionSink::throw_ref).
+    /// `throw_ref` (opcode 0x0A), a control instruction that throws the exception of a reference.
+    /// [`InstructionSink::throw_ref`](super::InstructionSink::throw_ref) appends it.
     ThrowRef,
-    /// `end`, opcode `0B`, a delimiter of control instructions and expressions.
-    /// Its call is [`end`](super::InstructionSink::end).
+    /// `end` (opcode 0x0B), a delimiter of control instructions and expressions that ends a block, a body or a constant expression.
+    /// [`InstructionSink::end`](super::InstructionSink::end) appends it.
     End,
-    /// `br`, opcode `0C`, a control instruction.
-    /// Its call is [`br`](super::InstructionSink::br), with the immediate `label`.
+    /// `br` (opcode 0x0C), a control instruction that branches to a label.
+    /// [`InstructionSink::br`](super::InstructionSink::br) appends it, with the immediate `label`.
     Br(u32),
-    /// `br_if`, opcode `0D`, a control instruction.
-    /// Its call is [`br_if`](super::InstructionSink::br_if), with the immediate `label`.
+    /// `br_if` (opcode 0x0D), a control instruction that branches to a label if the operand is not zero.
+    /// [`InstructionSink::br_if`](super::InstructionSink::br_if) appends it, with the immediate `label`.
     BrIf(u32),
-    /// `br_table`, opcode `0E`, a control instruction.
-    /// Its call is [`br_table`](super::InstructionSink::br_table), with the immediates `labels` and `default`.
+    /// `br_table` (opcode 0x0E), a control instruction that branches to one of several labels, selected by an index.
+    /// [`InstructionSink::br_table`](super::InstructionSink::br_table) appends it, with the immediates `labels` and `default`.
     BrTable(Cow<'a, [u32]>, u32),
-    /// `return`, opcode `0F`, a control instruction.
-    /// Its call is [`return_`](super::InstructionSink::return_).
+    /// `return` (opcode 0x0F), a control instruction that returns from the function.
+    /// [`InstructionSink::return_`](super::InstructionSink::return_) appends it.
     Return,
-    /// `call`, opcode `10`, a control instruction.
-    /// Its call is [`call`](super::InstructionSink::call), with the immediate `function_index`.
+    /// `call` (opcode 0x10), a control instruction that calls a function.
+    /// [`InstructionSink::call`](super::InstructionSink::call) appends it, with the immediate `function_index`.
     Call(u32),
-    /// `call_indirect`, opcode `11`, a control instruction.
-    /// Its call is [`call_indirect`](super::InstructionSink::call_indirect).
+    /// `call_indirect` (opcode 0x11), a control instruction that calls a function of a table.
+    /// [`InstructionSink::call_indirect`](super::InstructionSink::call_indirect) appends it.
     CallIndirect {
         /// The index of the function type.
         type_index: u32,
         /// The index of the table.
         table_index: u32,
     },
-    /// `return_call`, opcode `12`, a control instruction.
-    /// Its call is [`return_call`](super::InstructionSink::return_call), with the immediate `function_index`.
+    /// `return_call` (opcode 0x12), a control instruction that calls a function, and returns its results.
+    /// [`InstructionSink::return_call`](super::InstructionSink::return_call) appends it, with the immediate `function_index`.
     ReturnCall(u32),
-    /// `return_call_indirect`, opcode `13`, a control instruction.
-    /// Its call is [`return_call_indirect`](super::InstructionSink::return_call_indirect).
+    /// `return_call_indirect` (opcode 0x13), a control instruction that calls a function of a table, and returns its results.
+    /// [`InstructionSink::return_call_indirect`](super::InstructionSink::return_call_indirect) appends it.
     ReturnCallIndirect {
         /// The index of the function type.
         type_index: u32,
         /// The index of the table.
         table_index: u32,
     },
-    /// `call_ref`, opcode `14`, a control instruction.
-    /// Its call is [`call_ref`](super::InstructionSink::call_ref), with the immediate `type_index`.
+    /// `call_ref` (opcode 0x14), a control instruction that calls the function of a reference.
+    /// [`InstructionSink::call_ref`](super::InstructionSink::call_ref) appends it, with the immediate `type_index`.
     CallRef(u32),
-    /// `return_call_ref`, opcode `15`, a control instruction.
-    /// Its call is [`return_call_ref`](super::InstructionSink::return_call_ref), with the immediate `type_index`.
+    /// `return_call_ref` (opcode 0x15), a control instruction that calls the function of a reference, and returns its results.
+    /// [`InstructionSink::return_call_ref`](super::InstructionSink::return_call_ref) appends it, with the immediate `type_index`.
     ReturnCallRef(u32),
-    /// `delegate`, opcode `18`, a control instruction of the legacy exception handling proposal.
-    /// Its call is [`delegate`](super::InstructionSink::delegate), with the immediate `label`.
+    /// `delegate` (opcode 0x18), a control instruction of the legacy exception handling proposal that ends a `try`, and passes its exceptions to an outer block.
+    /// [`InstructionSink::delegate`](super::InstructionSink::delegate) appends it, with the immediate `label`.
     Delegate(u32),
-    /// `catch_all`, opcode `19`, a control instruction of the legacy exception handling proposal.
-    /// Its call is [`catch_all`](super::InstructionSink::catch_all).
+    /// `catch_all` (opcode 0x19), a control instruction of the legacy exception handling proposal that begins the handler of all exceptions.
+    /// [`InstructionSink::catch_all`](super::InstructionSink::catch_all) appends it.
     CatchAll,
-    /// `drop`, opcode `1A`, a parametric instruction.
-    /// Its call is [`drop`](super::InstructionSink::drop).
+    /// `drop` (opcode 0x1A), a parametric instruction that drops a value.
+    /// [`InstructionSink::drop`](super::InstructionSink::drop) appends it.
     Drop,
-    /// `select`, opcode `1B`, a parametric instruction.
-    /// Its call is [`select`](super::InstructionSink::select).
+    /// `select` (opcode 0x1B), a parametric instruction that selects one of two values by a condition.
+    /// [`InstructionSink::select`](super::InstructionSink::select) appends it.
     Select,
-    /// `select (result t)`, opcode `1C`, a parametric instruction.
-    /// Its call is [`typed_select`](super::InstructionSink::typed_select), with the immediate `ty`.
+    /// `select (result t)` (opcode 0x1C), a parametric instruction that selects one of two values by a condition.
+    /// [`InstructionSink::typed_select`](super::InstructionSink::typed_select) appends it, with the immediate `ty`.
     TypedSelect(ValType),
-    /// `select (result t*)`, opcode `1C`, a parametric instruction.
-    /// Its call is [`typed_select_multi`](super::InstructionSink::typed_select_multi), with the immediate `types`.
+    /// `select (result t*)` (opcode 0x1C), a parametric instruction that selects one of two values by a condition.
+    /// [`InstructionSink::typed_select_multi`](super::InstructionSink::typed_select_multi) appends it, with the immediate `types`.
     TypedSelectMulti(Cow<'a, [ValType]>),
-    /// `try_table`, opcode `1F`, a control instruction.
-    /// Its call is [`try_table`](super::InstructionSink::try_table), with the immediates `block_type` and `catches`.
+    /// `try_table` (opcode 0x1F), a control instruction that begins a block with catch clauses.
+    /// [`InstructionSink::try_table`](super::InstructionSink::try_table) appends it, with the immediates `block_type` and `catches`.
     TryTable(BlockType, Cow<'a, [Catch]>),
-    /// `local.get`, opcode `20`, a variable instruction.
-    /// Its call is [`local_get`](super::InstructionSink::local_get), with the immediate `local_index`.
+    /// `local.get` (opcode 0x20), a variable instruction that reads a local.
+    /// [`InstructionSink::local_get`](super::InstructionSink::local_get) appends it, with the immediate `local_index`.
     #[doc(alias = "local.get")]
     LocalGet(u32),
-    /// `local.set`, opcode `21`, a variable instruction.
-    /// Its call is [`local_set`](super::InstructionSink::local_set), with the immediate `local_index`.
+    /// `local.set` (opcode 0x21), a variable instruction that writes a local.
+    /// [`InstructionSink::local_set`](super::InstructionSink::local_set) appends it, with the immediate `local_index`.
     #[doc(alias = "local.set")]
     LocalSet(u32),
-    /// `local.tee`, opcode `22`, a variable instruction.
-    /// Its call is [`local_tee`](super::InstructionSink::local_tee), with the immediate `local_index`.
+    /// `local.tee` (opcode 0x22), a variable instruction that writes a local, and keeps the value.
+    /// [`InstructionSink::local_tee`](super::InstructionSink::local_tee) appends it, with the immediate `local_index`.
     #[doc(alias = "local.tee")]
     LocalTee(u32),
-    /// `global.get`, opcode `23`, a variable instruction.
-    /// Its call is [`global_get`](super::InstructionSink::global_get), with the immediate `global_index`.
+    /// `global.get` (opcode 0x23), a variable instruction that reads a global.
+    /// [`InstructionSink::global_get`](super::InstructionSink::global_get) appends it, with the immediate `global_index`.
     #[doc(alias = "global.get")]
     GlobalGet(u32),
-    /// `global.set`, opcode `24`, a variable instruction.
-    /// Its call is [`global_set`](super::InstructionSink::global_set), with the immediate `global_index`.
+    /// `global.set` (opcode 0x24), a variable instruction that writes a global.
+    /// [`InstructionSink::global_set`](super::InstructionSink::global_set) appends it, with the immediate `global_index`.
     #[doc(alias = "global.set")]
     GlobalSet(u32),
-    /// `table.get`, opcode `25`, a table instruction.
-    /// Its call is [`table_get`](super::InstructionSink::table_get), with the immediate `table`.
+    /// `table.get` (opcode 0x25), a table instruction that reads an element of a table.
+    /// [`InstructionSink::table_get`](super::InstructionSink::table_get) appends it, with the immediate `table`.
     #[doc(alias = "table.get")]
     TableGet(u32),
-    /// `table.set`, opcode `26`, a table instruction.
-    /// Its call is [`table_set`](super::InstructionSink::table_set), with the immediate `table`.
+    /// `table.set` (opcode 0x26), a table instruction that writes an element of a table.
+    /// [`InstructionSink::table_set`](super::InstructionSink::table_set) appends it, with the immediate `table`.
     #[doc(alias = "table.set")]
     TableSet(u32),
-    /// `i32.load`, opcode `28`, a memory instruction.
-    /// Its call is [`i32_load`](super::InstructionSink::i32_load), with the immediate `memarg`.
+    /// `i32.load` (opcode 0x28), a memory instruction that loads a number from a memory.
+    /// [`InstructionSink::i32_load`](super::InstructionSink::i32_load) appends it, with the immediate `memarg`.
     #[doc(alias = "i32.load")]
     I32Load(MemArg),
-    /// `i64.load`, opcode `29`, a memory instruction.
-    /// Its call is [`i64_load`](super::InstructionSink::i64_load), with the immediate `memarg`.
+    /// `i64.load` (opcode 0x29), a memory instruction that loads a number from a memory.
+    /// [`InstructionSink::i64_load`](super::InstructionSink::i64_load) appends it, with the immediate `memarg`.
     #[doc(alias = "i64.load")]
     I64Load(MemArg),
-    /// `f32.load`, opcode `2A`, a memory instruction.
-    /// Its call is [`f32_load`](super::InstructionSink::f32_load), with the immediate `memarg`.
+    /// `f32.load` (opcode 0x2A), a memory instruction that loads a number from a memory.
+    /// [`InstructionSink::f32_load`](super::InstructionSink::f32_load) appends it, with the immediate `memarg`.
     #[doc(alias = "f32.load")]
     F32Load(MemArg),
-    /// `f64.load`, opcode `2B`, a memory instruction.
-    /// Its call is [`f64_load`](super::InstructionSink::f64_load), with the immediate `memarg`.
+    /// `f64.load` (opcode 0x2B), a memory instruction that loads a number from a memory.
+    /// [`InstructionSink::f64_load`](super::InstructionSink::f64_load) appends it, with the immediate `memarg`.
     #[doc(alias = "f64.load")]
     F64Load(MemArg),
-    /// `i32.load8_s`, opcode `2C`, a memory instruction.
-    /// Its call is [`i32_load8_s`](super::InstructionSink::i32_load8_s), with the immediate `memarg`.
+    /// `i32.load8_s` (opcode 0x2C), a memory instruction that loads a number from a memory.
+    /// [`InstructionSink::i32_load8_s`](super::InstructionSink::i32_load8_s) appends it, with the immediate `memarg`.
     #[doc(alias = "i32.load8_s")]
     I32Load8S(MemArg),
-    /// `i32.load8_u`, opcode `2D`, a memory instruction.
-    /// Its call is [`i32_load8_u`](super::InstructionSink::i32_load8_u), with the immediate `memarg`.
+    /// `i32.load8_u` (opcode 0x2D), a memory instruction that loads a number from a memory.
+    /// [`InstructionSink::i32_load8_u`](super::InstructionSink::i32_load8_u) appends it, with the immediate `memarg`.
     #[doc(alias = "i32.load8_u")]
     I32Load8U(MemArg),
-    /// `i32.load16_s`, opcode `2E`, a memory instruction.
-    /// Its call is [`i32_load16_s`](super::InstructionSink::i32_load16_s), with the immediate `memarg`.
+    /// `i32.load16_s` (opcode 0x2E), a memory instruction that loads a number from a memory.
+    /// [`InstructionSink::i32_load16_s`](super::InstructionSink::i32_load16_s) appends it, with the immediate `memarg`.
     #[doc(alias = "i32.load16_s")]
     I32Load16S(MemArg),
-    /// `i32.load16_u`, opcode `2F`, a memory instruction.
-    /// Its call is [`i32_load16_u`](super::InstructionSink::i32_load16_u), with the immediate `memarg`.
+    /// `i32.load16_u` (opcode 0x2F), a memory instruction that loads a number from a memory.
+    /// [`InstructionSink::i32_load16_u`](super::InstructionSink::i32_load16_u) appends it, with the immediate `memarg`.
     #[doc(alias = "i32.load16_u")]
     I32Load16U(MemArg),
-    /// `i64.load8_s`, opcode `30`, a memory instruction.
-    /// Its call is [`i64_load8_s`](super::InstructionSink::i64_load8_s), with the immediate `memarg`.
+    /// `i64.load8_s` (opcode 0x30), a memory instruction that loads a number from a memory.
+    /// [`InstructionSink::i64_load8_s`](super::InstructionSink::i64_load8_s) appends it, with the immediate `memarg`.
     #[doc(alias = "i64.load8_s")]
     I64Load8S(MemArg),
-    /// `i64.load8_u`, opcode `31`, a memory instruction.
-    /// Its call is [`i64_load8_u`](super::InstructionSink::i64_load8_u), with the immediate `memarg`.
+    /// `i64.load8_u` (opcode 0x31), a memory instruction that loads a number from a memory.
+    /// [`InstructionSink::i64_load8_u`](super::InstructionSink::i64_load8_u) appends it, with the immediate `memarg`.
     #[doc(alias = "i64.load8_u")]
     I64Load8U(MemArg),
-    /// `i64.load16_s`, opcode `32`, a memory instruction.
-    /// Its call is [`i64_load16_s`](super::InstructionSink::i64_load16_s), with the immediate `memarg`.
+    /// `i64.load16_s` (opcode 0x32), a memory instruction that loads a number from a memory.
+    /// [`InstructionSink::i64_load16_s`](super::InstructionSink::i64_load16_s) appends it, with the immediate `memarg`.
     #[doc(alias = "i64.load16_s")]
     I64Load16S(MemArg),
-    /// `i64.load16_u`, opcode `33`, a memory instruction.
-    /// Its call is [`i64_load16_u`](super::InstructionSink::i64_load16_u), with the immediate `memarg`.
+    /// `i64.load16_u` (opcode 0x33), a memory instruction that loads a number from a memory.
+    /// [`InstructionSink::i64_load16_u`](super::InstructionSink::i64_load16_u) appends it, with the immediate `memarg`.
     #[doc(alias = "i64.load16_u")]
     I64Load16U(MemArg),
-    /// `i64.load32_s`, opcode `34`, a memory instruction.
-    /// Its call is [`i64_load32_s`](super::InstructionSink::i64_load32_s), with the immediate `memarg`.
+    /// `i64.load32_s` (opcode 0x34), a memory instruction that loads a number from a memory.
+    /// [`InstructionSink::i64_load32_s`](super::InstructionSink::i64_load32_s) appends it, with the immediate `memarg`.
     #[doc(alias = "i64.load32_s")]
     I64Load32S(MemArg),
-    /// `i64.load32_u`, opcode `35`, a memory instruction.
-    /// Its call is [`i64_load32_u`](super::InstructionSink::i64_load32_u), with the immediate `memarg`.
+    /// `i64.load32_u` (opcode 0x35), a memory instruction that loads a number from a memory.
+    /// [`InstructionSink::i64_load32_u`](super::InstructionSink::i64_load32_u) appends it, with the immediate `memarg`.
     #[doc(alias = "i64.load32_u")]
     I64Load32U(MemArg),
-    /// `i32.store`, opcode `36`, a memory instruction.
-    /// Its call is [`i32_store`](super::InstructionSink::i32_store), with the immediate `memarg`.
+    /// `i32.store` (opcode 0x36), a memory instruction that stores a number to a memory.
+    /// [`InstructionSink::i32_store`](super::InstructionSink::i32_store) appends it, with the immediate `memarg`.
     #[doc(alias = "i32.store")]
     I32Store(MemArg),
-    /// `i64.store`, opcode `37`, a memory instruction.
-    /// Its call is [`i64_store`](super::InstructionSink::i64_store), with the immediate `memarg`.
+    /// `i64.store` (opcode 0x37), a memory instruction that stores a number to a memory.
+    /// [`InstructionSink::i64_store`](super::InstructionSink::i64_store) appends it, with the immediate `memarg`.
     #[doc(alias = "i64.store")]
     I64Store(MemArg),
-    /// `f32.store`, opcode `38`, a memory instruction.
-    /// Its call is [`f32_store`](super::InstructionSink::f32_store), with the immediate `memarg`.
+    /// `f32.store` (opcode 0x38), a memory instruction that stores a number to a memory.
+    /// [`InstructionSink::f32_store`](super::InstructionSink::f32_store) appends it, with the immediate `memarg`.
     #[doc(alias = "f32.store")]
     F32Store(MemArg),
-    /// `f64.store`, opcode `39`, a memory instruction.
-    /// Its call is [`f64_store`](super::InstructionSink::f64_store), with the immediate `memarg`.
+    /// `f64.store` (opcode 0x39), a memory instruction that stores a number to a memory.
+    /// [`InstructionSink::f64_store`](super::InstructionSink::f64_store) appends it, with the immediate `memarg`.
     #[doc(alias = "f64.store")]
     F64Store(MemArg),
-    /// `i32.store8`, opcode `3A`, a memory instruction.
-    /// Its call is [`i32_store8`](super::InstructionSink::i32_store8), with the immediate `memarg`.
+    /// `i32.store8` (opcode 0x3A), a memory instruction that stores a number to a memory.
+    /// [`InstructionSink::i32_store8`](super::InstructionSink::i32_store8) appends it, with the immediate `memarg`.
     #[doc(alias = "i32.store8")]
     I32Store8(MemArg),
-    /// `i32.store16`, opcode `3B`, a memory instruction.
-    /// Its call is [`i32_store16`](super::InstructionSink::i32_store16), with the immediate `memarg`.
+    /// `i32.store16` (opcode 0x3B), a memory instruction that stores a number to a memory.
+    /// [`InstructionSink::i32_store16`](super::InstructionSink::i32_store16) appends it, with the immediate `memarg`.
     #[doc(alias = "i32.store16")]
     I32Store16(MemArg),
-    /// `i64.store8`, opcode `3C`, a memory instruction.
-    /// Its call is [`i64_store8`](super::InstructionSink::i64_store8), with the immediate `memarg`.
+    /// `i64.store8` (opcode 0x3C), a memory instruction that stores a number to a memory.
+    /// [`InstructionSink::i64_store8`](super::InstructionSink::i64_store8) appends it, with the immediate `memarg`.
     #[doc(alias = "i64.store8")]
     I64Store8(MemArg),
-    /// `i64.store16`, opcode `3D`, a memory instruction.
-    /// Its call is [`i64_store16`](super::InstructionSink::i64_store16), with the immediate `memarg`.
+    /// `i64.store16` (opcode 0x3D), a memory instruction that stores a number to a memory.
+    /// [`InstructionSink::i64_store16`](super::InstructionSink::i64_store16) appends it, with the immediate `memarg`.
     #[doc(alias = "i64.store16")]
     I64Store16(MemArg),
-    /// `i64.store32`, opcode `3E`, a memory instruction.
-    /// Its call is [`i64_store32`](super::InstructionSink::i64_store32), with the immediate `memarg`.
+    /// `i64.store32` (opcode 0x3E), a memory instruction that stores a number to a memory.
+    /// [`InstructionSink::i64_store32`](super::InstructionSink::i64_store32) appends it, with the immediate `memarg`.
     #[doc(alias = "i64.store32")]
     I64Store32(MemArg),
-    /// `memory.size`, opcode `3F`, a memory instruction.
-    /// Its call is [`memory_size`](super::InstructionSink::memory_size), with the immediate `mem`.
+    /// `memory.size` (opcode 0x3F), a memory instruction that returns the size of a memory in pages.
+    /// [`InstructionSink::memory_size`](super::InstructionSink::memory_size) appends it, with the immediate `mem`.
     #[doc(alias = "memory.size")]
     MemorySize(u32),
-    /// `memory.grow`, opcode `40`, a memory instruction.
-    /// Its call is [`memory_grow`](super::InstructionSink::memory_grow), with the immediate `mem`.
+    /// `memory.grow` (opcode 0x40), a memory instruction that grows a memory by a number of pages.
+    /// [`InstructionSink::memory_grow`](super::InstructionSink::memory_grow) appends it, with the immediate `mem`.
     #[doc(alias = "memory.grow")]
     MemoryGrow(u32),
-    /// `i32.const`, opcode `41`, a numeric instruction.
-    /// Its call is [`i32_const`](super::InstructionSink::i32_const), with the immediate `value`.
+    /// `i32.const` (opcode 0x41), a numeric instruction that returns a constant.
+    /// [`InstructionSink::i32_const`](super::InstructionSink::i32_const) appends it, with the immediate `value`.
     #[doc(alias = "i32.const")]
     I32Const(i32),
-    /// `i64.const`, opcode `42`, a numeric instruction.
-    /// Its call is [`i64_const`](super::InstructionSink::i64_const), with the immediate `value`.
+    /// `i64.const` (opcode 0x42), a numeric instruction that returns a constant.
+    /// [`InstructionSink::i64_const`](super::InstructionSink::i64_const) appends it, with the immediate `value`.
     #[doc(alias = "i64.const")]
     I64Const(i64),
-    /// `f32.const`, opcode `43`, a numeric instruction.
-    /// Its call is [`f32_const`](super::InstructionSink::f32_const), with the immediate `value`.
+    /// `f32.const` (opcode 0x43), a numeric instruction that returns a constant.
+    /// [`InstructionSink::f32_const`](super::InstructionSink::f32_const) appends it, with the immediate `value`.
     #[doc(alias = "f32.const")]
     F32Const(Ieee32),
-    /// `f64.const`, opcode `44`, a numeric instruction.
-    /// Its call is [`f64_const`](super::InstructionSink::f64_const), with the immediate `value`.
+    /// `f64.const` (opcode 0x44), a numeric instruction that returns a constant.
+    /// [`InstructionSink::f64_const`](super::InstructionSink::f64_const) appends it, with the immediate `value`.
     #[doc(alias = "f64.const")]
     F64Const(Ieee64),
-    /// `i32.eqz`, opcode `45`, a numeric instruction.
-    /// Its call is [`i32_eqz`](super::InstructionSink::i32_eqz).
+    /// `i32.eqz` (opcode 0x45), a numeric instruction that tests whether an integer is zero.
+    /// [`InstructionSink::i32_eqz`](super::InstructionSink::i32_eqz) appends it.
     #[doc(alias = "i32.eqz")]
     I32Eqz,
-    /// `i32.eq`, opcode `46`, a numeric instruction.
-    /// Its call is [`i32_eq`](super::InstructionSink::i32_eq).
+    /// `i32.eq` (opcode 0x46), a numeric instruction that compares two numbers.
+    /// [`InstructionSink::i32_eq`](super::InstructionSink::i32_eq) appends it.
     #[doc(alias = "i32.eq")]
     I32Eq,
-    /// `i32.ne`, opcode `47`, a numeric instruction.
-    /// Its call is [`i32_ne`](super::InstructionSink::i32_ne).
+    /// `i32.ne` (opcode 0x47), a numeric instruction that compares two numbers.
+    /// [`InstructionSink::i32_ne`](super::InstructionSink::i32_ne) appends it.
     #[doc(alias = "i32.ne")]
     I32Ne,
-    /// `i32.lt_s`, opcode `48`, a numeric instruction.
-    /// Its call is [`i32_lt_s`](super::InstructionSink::i32_lt_s).
+    /// `i32.lt_s` (opcode 0x48), a numeric instruction that compares two numbers.
+    /// [`InstructionSink::i32_lt_s`](super::InstructionSink::i32_lt_s) appends it.
     #[doc(alias = "i32.lt_s")]
     I32LtS,
-    /// `i32.lt_u`, opcode `49`, a numeric instruction.
-    /// Its call is [`i32_lt_u`](super::InstructionSink::i32_lt_u).
+    /// `i32.lt_u` (opcode 0x49), a numeric instruction that compares two numbers.
+    /// [`InstructionSink::i32_lt_u`](super::InstructionSink::i32_lt_u) appends it.
     #[doc(alias = "i32.lt_u")]
     I32LtU,
-    /// `i32.gt_s`, opcode `4A`, a numeric instruction.
-    /// Its call is [`i32_gt_s`](super::InstructionSink::i32_gt_s).
+    /// `i32.gt_s` (opcode 0x4A), a numeric instruction that compares two numbers.
+    /// [`InstructionSink::i32_gt_s`](super::InstructionSink::i32_gt_s) appends it.
     #[doc(alias = "i32.gt_s")]
     I32GtS,
-    /// `i32.gt_u`, opcode `4B`, a numeric instruction.
-    /// Its call is [`i32_gt_u`](super::InstructionSink::i32_gt_u).
+    /// `i32.gt_u` (opcode 0x4B), a numeric instruction that compares two numbers.
+    /// [`InstructionSink::i32_gt_u`](super::InstructionSink::i32_gt_u) appends it.
     #[doc(alias = "i32.gt_u")]
     I32GtU,
-    /// `i32.le_s`, opcode `4C`, a numeric instruction.
-    /// Its call is [`i32_le_s`](super::InstructionSink::i32_le_s).
+    /// `i32.le_s` (opcode 0x4C), a numeric instruction that compares two numbers.
+    /// [`InstructionSink::i32_le_s`](super::InstructionSink::i32_le_s) appends it.
     #[doc(alias = "i32.le_s")]
     I32LeS,
-    /// `i32.le_u`, opcode `4D`, a numeric instruction.
-    /// Its call is [`i32_le_u`](super::InstructionSink::i32_le_u).
+    /// `i32.le_u` (opcode 0x4D), a numeric instruction that compares two numbers.
+    /// [`InstructionSink::i32_le_u`](super::InstructionSink::i32_le_u) appends it.
     #[doc(alias = "i32.le_u")]
     I32LeU,
-    /// `i32.ge_s`, opcode `4E`, a numeric instruction.
-    /// Its call is [`i32_ge_s`](super::InstructionSink::i32_ge_s).
+    /// `i32.ge_s` (opcode 0x4E), a numeric instruction that compares two numbers.
+    /// [`InstructionSink::i32_ge_s`](super::InstructionSink::i32_ge_s) appends it.
     #[doc(alias = "i32.ge_s")]
     I32GeS,
-    /// `i32.ge_u`, opcode `4F`, a numeric instruction.
-    /// Its call is [`i32_ge_u`](super::InstructionSink::i32_ge_u).
+    /// `i32.ge_u` (opcode 0x4F), a numeric instruction that compares two numbers.
+    /// [`InstructionSink::i32_ge_u`](super::InstructionSink::i32_ge_u) appends it.
     #[doc(alias = "i32.ge_u")]
     I32GeU,
-    /// `i64.eqz`, opcode `50`, a numeric instruction.
-    /// Its call is [`i64_eqz`](super::InstructionSink::i64_eqz).
+    /// `i64.eqz` (opcode 0x50), a numeric instruction that tests whether an integer is zero.
+    /// [`InstructionSink::i64_eqz`](super::InstructionSink::i64_eqz) appends it.
     #[doc(alias = "i64.eqz")]
     I64Eqz,
-    /// `i64.eq`, opcode `51`, a numeric instruction.
-    /// Its call is [`i64_eq`](super::InstructionSink::i64_eq).
+    /// `i64.eq` (opcode 0x51), a numeric instruction that compares two numbers.
+    /// [`InstructionSink::i64_eq`](super::InstructionSink::i64_eq) appends it.
     #[doc(alias = "i64.eq")]
     I64Eq,
-    /// `i64.ne`, opcode `52`, a numeric instruction.
-    /// Its call is [`i64_ne`](super::InstructionSink::i64_ne).
+    /// `i64.ne` (opcode 0x52), a numeric instruction that compares two numbers.
+    /// [`InstructionSink::i64_ne`](super::InstructionSink::i64_ne) appends it.
     #[doc(alias = "i64.ne")]
     I64Ne,
-    /// `i64.lt_s`, opcode `53`, a numeric instruction.
-    /// Its call is [`i64_lt_s`](super::InstructionSink::i64_lt_s).
+    /// `i64.lt_s` (opcode 0x53), a numeric instruction that compares two numbers.
+    /// [`InstructionSink::i64_lt_s`](super::InstructionSink::i64_lt_s) appends it.
     #[doc(alias = "i64.lt_s")]
     I64LtS,
-    /// `i64.lt_u`, opcode `54`, a numeric instruction.
-    /// Its call is [`i64_lt_u`](super::InstructionSink::i64_lt_u).
+    /// `i64.lt_u` (opcode 0x54), a numeric instruction that compares two numbers.
+    /// [`InstructionSink::i64_lt_u`](super::InstructionSink::i64_lt_u) appends it.
     #[doc(alias = "i64.lt_u")]
     I64LtU,
-    /// `i64.gt_s`, opcode `55`, a numeric instruction.
-    /// Its call is [`i64_gt_s`](super::InstructionSink::i64_gt_s).
+    /// `i64.gt_s` (opcode 0x55), a numeric instruction that compares two numbers.
+    /// [`InstructionSink::i64_gt_s`](super::InstructionSink::i64_gt_s) appends it.
     #[doc(alias = "i64.gt_s")]
     I64GtS,
-    /// `i64.gt_u`, opcode `56`, a numeric instruction.
-    /// Its call is [`i64_gt_u`](super::InstructionSink::i64_gt_u).
+    /// `i64.gt_u` (opcode 0x56), a numeric instruction that compares two numbers.
+    /// [`InstructionSink::i64_gt_u`](super::InstructionSink::i64_gt_u) appends it.
     #[doc(alias = "i64.gt_u")]
     I64GtU,
-    /// `i64.le_s`, opcode `57`, a numeric instruction.
-    /// Its call is [`i64_le_s`](super::InstructionSink::i64_le_s).
+    /// `i64.le_s` (opcode 0x57), a numeric instruction that compares two numbers.
+    /// [`InstructionSink::i64_le_s`](super::InstructionSink::i64_le_s) appends it.
     #[doc(alias = "i64.le_s")]
     I64LeS,
-    /// `i64.le_u`, opcode `58`, a numeric instruction.
-    /// Its call is [`i64_le_u`](super::InstructionSink::i64_le_u).
+    /// `i64.le_u` (opcode 0x58), a numeric instruction that compares two numbers.
+    /// [`InstructionSink::i64_le_u`](super::InstructionSink::i64_le_u) appends it.
     #[doc(alias = "i64.le_u")]
     I64LeU,
-    /// `i64.ge_s`, opcode `59`, a numeric instruction.
-    /// Its call is [`i64_ge_s`](super::InstructionSink::i64_ge_s).
+    /// `i64.ge_s` (opcode 0x59), a numeric instruction that compares two numbers.
+    /// [`InstructionSink::i64_ge_s`](super::InstructionSink::i64_ge_s) appends it.
     #[doc(alias = "i64.ge_s")]
     I64GeS,
-    /// `i64.ge_u`, opcode `5A`, a numeric instruction.
-    /// Its call is [`i64_ge_u`](super::InstructionSink::i64_ge_u).
+    /// `i64.ge_u` (opcode 0x5A), a numeric instruction that compares two numbers.
+    /// [`InstructionSink::i64_ge_u`](super::InstructionSink::i64_ge_u) appends it.
     #[doc(alias = "i64.ge_u")]
     I64GeU,
-    /// `f32.eq`, opcode `5B`, a numeric instruction.
-    /// Its call is [`f32_eq`](super::InstructionSink::f32_eq).
+    /// `f32.eq` (opcode 0x5B), a numeric instruction that compares two numbers.
+    /// [`InstructionSink::f32_eq`](super::InstructionSink::f32_eq) appends it.
     #[doc(alias = "f32.eq")]
     F32Eq,
-    /// `f32.ne`, opcode `5C`, a numeric instruction.
-    /// Its call is [`f32_ne`](super::InstructionSink::f32_ne).
+    /// `f32.ne` (opcode 0x5C), a numeric instruction that compares two numbers.
+    /// [`InstructionSink::f32_ne`](super::InstructionSink::f32_ne) appends it.
     #[doc(alias = "f32.ne")]
     F32Ne,
-    /// `f32.lt`, opcode `5D`, a numeric instruction.
-    /// Its call is [`f32_lt`](super::InstructionSink::f32_lt).
+    /// `f32.lt` (opcode 0x5D), a numeric instruction that compares two numbers.
+    /// [`InstructionSink::f32_lt`](super::InstructionSink::f32_lt) appends it.
     #[doc(alias = "f32.lt")]
     F32Lt,
-    /// `f32.gt`, opcode `5E`, a numeric instruction.
-    /// Its call is [`f32_gt`](super::InstructionSink::f32_gt).
+    /// `f32.gt` (opcode 0x5E), a numeric instruction that compares two numbers.
+    /// [`InstructionSink::f32_gt`](super::InstructionSink::f32_gt) appends it.
     #[doc(alias = "f32.gt")]
     F32Gt,
-    /// `f32.le`, opcode `5F`, a numeric instruction.
-    /// Its call is [`f32_le`](super::InstructionSink::f32_le).
+    /// `f32.le` (opcode 0x5F), a numeric instruction that compares two numbers.
+    /// [`InstructionSink::f32_le`](super::InstructionSink::f32_le) appends it.
     #[doc(alias = "f32.le")]
     F32Le,
-    /// `f32.ge`, opcode `60`, a numeric instruction.
-    /// Its call is [`f32_ge`](super::InstructionSink::f32_ge).
+    /// `f32.ge` (opcode 0x60), a numeric instruction that compares two numbers.
+    /// [`InstructionSink::f32_ge`](super::InstructionSink::f32_ge) appends it.
     #[doc(alias = "f32.ge")]
     F32Ge,
-    /// `f64.eq`, opcode `61`, a numeric instruction.
-    /// Its call is [`f64_eq`](super::InstructionSink::f64_eq).
+    /// `f64.eq` (opcode 0x61), a numeric instruction that compares two numbers.
+    /// [`InstructionSink::f64_eq`](super::InstructionSink::f64_eq) appends it.
     #[doc(alias = "f64.eq")]
     F64Eq,
-    /// `f64.ne`, opcode `62`, a numeric instruction.
-    /// Its call is [`f64_ne`](super::InstructionSink::f64_ne).
+    /// `f64.ne` (opcode 0x62), a numeric instruction that compares two numbers.
+    /// [`InstructionSink::f64_ne`](super::InstructionSink::f64_ne) appends it.
     #[doc(alias = "f64.ne")]
     F64Ne,
-    /// `f64.lt`, opcode `63`, a numeric instruction.
-    /// Its call is [`f64_lt`](super::InstructionSink::f64_lt).
+    /// `f64.lt` (opcode 0x63), a numeric instruction that compares two numbers.
+    /// [`InstructionSink::f64_lt`](super::InstructionSink::f64_lt) appends it.
     #[doc(alias = "f64.lt")]
     F64Lt,
-    /// `f64.gt`, opcode `64`, a numeric instruction.
-    /// Its call is [`f64_gt`](super::InstructionSink::f64_gt).
+    /// `f64.gt` (opcode 0x64), a numeric instruction that compares two numbers.
+    /// [`InstructionSink::f64_gt`](super::InstructionSink::f64_gt) appends it.
     #[doc(alias = "f64.gt")]
     F64Gt,
-    /// `f64.le`, opcode `65`, a numeric instruction.
-    /// Its call is [`f64_le`](super::InstructionSink::f64_le).
+    /// `f64.le` (opcode 0x65), a numeric instruction that compares two numbers.
+    /// [`InstructionSink::f64_le`](super::InstructionSink::f64_le) appends it.
     #[doc(alias = "f64.le")]
     F64Le,
-    /// `f64.ge`, opcode `66`, a numeric instruction.
-    /// Its call is [`f64_ge`](super::InstructionSink::f64_ge).
+    /// `f64.ge` (opcode 0x66), a numeric instruction that compares two numbers.
+    /// [`InstructionSink::f64_ge`](super::InstructionSink::f64_ge) appends it.
     #[doc(alias = "f64.ge")]
     F64Ge,
-    /// `i32.clz`, opcode `67`, a numeric instruction.
-    /// Its call is [`i32_clz`](super::InstructionSink::i32_clz).
+    /// `i32.clz` (opcode 0x67), a numeric instruction that counts the leading zero bits of an integer.
+    /// [`InstructionSink::i32_clz`](super::InstructionSink::i32_clz) appends it.
     #[doc(alias = "i32.clz")]
     I32Clz,
-    /// `i32.ctz`, opcode `68`, a numeric instruction.
-    /// Its call is [`i32_ctz`](super::InstructionSink::i32_ctz).
+    /// `i32.ctz` (opcode 0x68), a numeric instruction that counts the trailing zero bits of an integer.
+    /// [`InstructionSink::i32_ctz`](super::InstructionSink::i32_ctz) appends it.
     #[doc(alias = "i32.ctz")]
     I32Ctz,
-    /// `i32.popcnt`, opcode `69`, a numeric instruction.
-    /// Its call is [`i32_popcnt`](super::InstructionSink::i32_popcnt).
+    /// `i32.popcnt` (opcode 0x69), a numeric instruction that counts the one bits of an integer.
+    /// [`InstructionSink::i32_popcnt`](super::InstructionSink::i32_popcnt) appends it.
     #[doc(alias = "i32.popcnt")]
     I32Popcnt,
-    /// `i32.add`, opcode `6A`, a numeric instruction.
-    /// Its call is [`i32_add`](super::InstructionSink::i32_add).
+    /// `i32.add` (opcode 0x6A), a numeric instruction that adds two integers.
+    /// [`InstructionSink::i32_add`](super::InstructionSink::i32_add) appends it.
     #[doc(alias = "i32.add")]
     I32Add,
-    /// `i32.sub`, opcode `6B`, a numeric instruction.
-    /// Its call is [`i32_sub`](super::InstructionSink::i32_sub).
+    /// `i32.sub` (opcode 0x6B), a numeric instruction that subtracts two integers.
+    /// [`InstructionSink::i32_sub`](super::InstructionSink::i32_sub) appends it.
     #[doc(alias = "i32.sub")]
     I32Sub,
-    /// `i32.mul`, opcode `6C`, a numeric instruction.
-    /// Its call is [`i32_mul`](super::InstructionSink::i32_mul).
+    /// `i32.mul` (opcode 0x6C), a numeric instruction that multiplies two integers.
+    /// [`InstructionSink::i32_mul`](super::InstructionSink::i32_mul) appends it.
     #[doc(alias = "i32.mul")]
     I32Mul,
-    /// `i32.div_s`, opcode `6D`, a numeric instruction.
-    /// Its call is [`i32_div_s`](super::InstructionSink::i32_div_s).
+    /// `i32.div_s` (opcode 0x6D), a numeric instruction that divides two integers.
+    /// [`InstructionSink::i32_div_s`](super::InstructionSink::i32_div_s) appends it.
     #[doc(alias = "i32.div_s")]
     I32DivS,
-    /// `i32.div_u`, opcode `6E`, a numeric instruction.
-    /// Its call is [`i32_div_u`](super::InstructionSink::i32_div_u).
+    /// `i32.div_u` (opcode 0x6E), a numeric instruction that divides two integers.
+    /// [`InstructionSink::i32_div_u`](super::InstructionSink::i32_div_u) appends it.
     #[doc(alias = "i32.div_u")]
     I32DivU,
-    /// `i32.rem_s`, opcode `6F`, a numeric instruction.
-    /// Its call is [`i32_rem_s`](super::InstructionSink::i32_rem_s).
+    /// `i32.rem_s` (opcode 0x6F), a numeric instruction that computes the remainder of two integers.
+    /// [`InstructionSink::i32_rem_s`](super::InstructionSink::i32_rem_s) appends it.
     #[doc(alias = "i32.rem_s")]
     I32RemS,
-    /// `i32.rem_u`, opcode `70`, a numeric instruction.
-    /// Its call is [`i32_rem_u`](super::InstructionSink::i32_rem_u).
+    /// `i32.rem_u` (opcode 0x70), a numeric instruction that computes the remainder of two integers.
+    /// [`InstructionSink::i32_rem_u`](super::InstructionSink::i32_rem_u) appends it.
     #[doc(alias = "i32.rem_u")]
     I32RemU,
-    /// `i32.and`, opcode `71`, a numeric instruction.
-    /// Its call is [`i32_and`](super::InstructionSink::i32_and).
+    /// `i32.and` (opcode 0x71), a numeric instruction that computes the bitwise and of two integers.
+    /// [`InstructionSink::i32_and`](super::InstructionSink::i32_and) appends it.
     #[doc(alias = "i32.and")]
     I32And,
-    /// `i32.or`, opcode `72`, a numeric instruction.
-    /// Its call is [`i32_or`](super::InstructionSink::i32_or).
+    /// `i32.or` (opcode 0x72), a numeric instruction that computes the bitwise or of two integers.
+    /// [`InstructionSink::i32_or`](super::InstructionSink::i32_or) appends it.
     #[doc(alias = "i32.or")]
     I32Or,
-    /// `i32.xor`, opcode `73`, a numeric instruction.
-    /// Its call is [`i32_xor`](super::InstructionSink::i32_xor).
+    /// `i32.xor` (opcode 0x73), a numeric instruction that computes the bitwise exclusive or of two integers.
+    /// [`InstructionSink::i32_xor`](super::InstructionSink::i32_xor) appends it.
     #[doc(alias = "i32.xor")]
     I32Xor,
-    /// `i32.shl`, opcode `74`, a numeric instruction.
-    /// Its call is [`i32_shl`](super::InstructionSink::i32_shl).
+    /// `i32.shl` (opcode 0x74), a numeric instruction that shifts an integer to the left.
+    /// [`InstructionSink::i32_shl`](super::InstructionSink::i32_shl) appends it.
     #[doc(alias = "i32.shl")]
     I32Shl,
-    /// `i32.shr_s`, opcode `75`, a numeric instruction.
-    /// Its call is [`i32_shr_s`](super::InstructionSink::i32_shr_s).
+    /// `i32.shr_s` (opcode 0x75), a numeric instruction that shifts an integer to the right.
+    /// [`InstructionSink::i32_shr_s`](super::InstructionSink::i32_shr_s) appends it.
     #[doc(alias = "i32.shr_s")]
     I32ShrS,
-    /// `i32.shr_u`, opcode `76`, a numeric instruction.
-    /// Its call is [`i32_shr_u`](super::InstructionSink::i32_shr_u).
+    /// `i32.shr_u` (opcode 0x76), a numeric instruction that shifts an integer to the right.
+    /// [`InstructionSink::i32_shr_u`](super::InstructionSink::i32_shr_u) appends it.
     #[doc(alias = "i32.shr_u")]
     I32ShrU,
-    /// `i32.rotl`, opcode `77`, a numeric instruction.
-    /// Its call is [`i32_rotl`](super::InstructionSink::i32_rotl).
+    /// `i32.rotl` (opcode 0x77), a numeric instruction that rotates an integer to the left.
+    /// [`InstructionSink::i32_rotl`](super::InstructionSink::i32_rotl) appends it.
     #[doc(alias = "i32.rotl")]
     I32Rotl,
-    /// `i32.rotr`, opcode `78`, a numeric instruction.
-    /// Its call is [`i32_rotr`](super::InstructionSink::i32_rotr).
+    /// `i32.rotr` (opcode 0x78), a numeric instruction that rotates an integer to the right.
+    /// [`InstructionSink::i32_rotr`](super::InstructionSink::i32_rotr) appends it.
     #[doc(alias = "i32.rotr")]
     I32Rotr,
-    /// `i64.clz`, opcode `79`, a numeric instruction.
-    /// Its call is [`i64_clz`](super::InstructionSink::i64_clz).
+    /// `i64.clz` (opcode 0x79), a numeric instruction that counts the leading zero bits of an integer.
+    /// [`InstructionSink::i64_clz`](super::InstructionSink::i64_clz) appends it.
     #[doc(alias = "i64.clz")]
     I64Clz,
-    /// `i64.ctz`, opcode `7A`, a numeric instruction.
-    /// Its call is [`i64_ctz`](super::InstructionSink::i64_ctz).
+    /// `i64.ctz` (opcode 0x7A), a numeric instruction that counts the trailing zero bits of an integer.
+    /// [`InstructionSink::i64_ctz`](super::InstructionSink::i64_ctz) appends it.
     #[doc(alias = "i64.ctz")]
     I64Ctz,
-    /// `i64.popcnt`, opcode `7B`, a numeric instruction.
-    /// Its call is [`i64_popcnt`](super::InstructionSink::i64_popcnt).
+    /// `i64.popcnt` (opcode 0x7B), a numeric instruction that counts the one bits of an integer.
+    /// [`InstructionSink::i64_popcnt`](super::InstructionSink::i64_popcnt) appends it.
     #[doc(alias = "i64.popcnt")]
     I64Popcnt,
-    /// `i64.add`, opcode `7C`, a numeric instruction.
-    /// Its call is [`i64_add`](super::InstructionSink::i64_add).
+    /// `i64.add` (opcode 0x7C), a numeric instruction that adds two integers.
+    /// [`InstructionSink::i64_add`](super::InstructionSink::i64_add) appends it.
     #[doc(alias = "i64.add")]
     I64Add,
-    /// `i64.sub`, opcode `7D`, a numeric instruction.
-    /// Its call is [`i64_sub`](super::InstructionSink::i64_sub).
+    /// `i64.sub` (opcode 0x7D), a numeric instruction that subtracts two integers.
+    /// [`InstructionSink::i64_sub`](super::InstructionSink::i64_sub) appends it.
     #[doc(alias = "i64.sub")]
     I64Sub,
-    /// `i64.mul`, opcode `7E`, a numeric instruction.
-    /// Its call is [`i64_mul`](super::InstructionSink::i64_mul).
+    /// `i64.mul` (opcode 0x7E), a numeric instruction that multiplies two integers.
+    /// [`InstructionSink::i64_mul`](super::InstructionSink::i64_mul) appends it.
     #[doc(alias = "i64.mul")]
     I64Mul,
-    /// `i64.div_s`, opcode `7F`, a numeric instruction.
-    /// Its call is [`i64_div_s`](super::InstructionSink::i64_div_s).
+    /// `i64.div_s` (opcode 0x7F), a numeric instruction that divides two integers.
+    /// [`InstructionSink::i64_div_s`](super::InstructionSink::i64_div_s) appends it.
     #[doc(alias = "i64.div_s")]
     I64DivS,
-    /// `i64.div_u`, opcode `80`, a numeric instruction.
-    /// Its call is [`i64_div_u`](super::InstructionSink::i64_div_u).
+    /// `i64.div_u` (opcode 0x80), a numeric instruction that divides two integers.
+    /// [`InstructionSink::i64_div_u`](super::InstructionSink::i64_div_u) appends it.
     #[doc(alias = "i64.div_u")]
     I64DivU,
-    /// `i64.rem_s`, opcode `81`, a numeric instruction.
-    /// Its call is [`i64_rem_s`](super::InstructionSink::i64_rem_s).
+    /// `i64.rem_s` (opcode 0x81), a numeric instruction that computes the remainder of two integers.
+    /// [`InstructionSink::i64_rem_s`](super::InstructionSink::i64_rem_s) appends it.
     #[doc(alias = "i64.rem_s")]
     I64RemS,
-    /// `i64.rem_u`, opcode `82`, a numeric instruction.
-    /// Its call is [`i64_rem_u`](super::InstructionSink::i64_rem_u).
+    /// `i64.rem_u` (opcode 0x82), a numeric instruction that computes the remainder of two integers.
+    /// [`InstructionSink::i64_rem_u`](super::InstructionSink::i64_rem_u) appends it.
     #[doc(alias = "i64.rem_u")]
     I64RemU,
-    /// `i64.and`, opcode `83`, a numeric instruction.
-    /// Its call is [`i64_and`](super::InstructionSink::i64_and).
+    /// `i64.and` (opcode 0x83), a numeric instruction that computes the bitwise and of two integers.
+    /// [`InstructionSink::i64_and`](super::InstructionSink::i64_and) appends it.
     #[doc(alias = "i64.and")]
     I64And,
-    /// `i64.or`, opcode `84`, a numeric instruction.
-    /// Its call is [`i64_or`](super::InstructionSink::i64_or).
+    /// `i64.or` (opcode 0x84), a numeric instruction that computes the bitwise or of two integers.
+    /// [`InstructionSink::i64_or`](super::InstructionSink::i64_or) appends it.
     #[doc(alias = "i64.or")]
     I64Or,
-    /// `i64.xor`, opcode `85`, a numeric instruction.
-    /// Its call is [`i64_xor`](super::InstructionSink::i64_xor).
+    /// `i64.xor` (opcode 0x85), a numeric instruction that computes the bitwise exclusive or of two integers.
+    /// [`InstructionSink::i64_xor`](super::InstructionSink::i64_xor) appends it.
     #[doc(alias = "i64.xor")]
     I64Xor,
-    /// `i64.shl`, opcode `86`, a numeric instruction.
-    /// Its call is [`i64_shl`](super::InstructionSink::i64_shl).
+    /// `i64.shl` (opcode 0x86), a numeric instruction that shifts an integer to the left.
+    /// [`InstructionSink::i64_shl`](super::InstructionSink::i64_shl) appends it.
     #[doc(alias = "i64.shl")]
     I64Shl,
-    /// `i64.shr_s`, opcode `87`, a numeric instruction.
-    /// Its call is [`i64_shr_s`](super::InstructionSink::i64_shr_s).
+    /// `i64.shr_s` (opcode 0x87), a numeric instruction that shifts an integer to the right.
+    /// [`InstructionSink::i64_shr_s`](super::InstructionSink::i64_shr_s) appends it.
     #[doc(alias = "i64.shr_s")]
     I64ShrS,
-    /// `i64.shr_u`, opcode `88`, a numeric instruction.
-    /// Its call is [`i64_shr_u`](super::InstructionSink::i64_shr_u).
+    /// `i64.shr_u` (opcode 0x88), a numeric instruction that shifts an integer to the right.
+    /// [`InstructionSink::i64_shr_u`](super::InstructionSink::i64_shr_u) appends it.
     #[doc(alias = "i64.shr_u")]
     I64ShrU,
-    /// `i64.rotl`, opcode `89`, a numeric instruction.
-    /// Its call is [`i64_rotl`](super::InstructionSink::i64_rotl).
+    /// `i64.rotl` (opcode 0x89), a numeric instruction that rotates an integer to the left.
+    /// [`InstructionSink::i64_rotl`](super::InstructionSink::i64_rotl) appends it.
     #[doc(alias = "i64.rotl")]
     I64Rotl,
-    /// `i64.rotr`, opcode `8A`, a numeric instruction.
-    /// Its call is [`i64_rotr`](super::InstructionSink::i64_rotr).
+    /// `i64.rotr` (opcode 0x8A), a numeric instruction that rotates an integer to the right.
+    /// [`InstructionSink::i64_rotr`](super::InstructionSink::i64_rotr) appends it.
     #[doc(alias = "i64.rotr")]
     I64Rotr,
-    /// `f32.abs`, opcode `8B`, a numeric instruction.
-    /// Its call is [`f32_abs`](super::InstructionSink::f32_abs).
+    /// `f32.abs` (opcode 0x8B), a numeric instruction that computes the absolute value of a float.
+    /// [`InstructionSink::f32_abs`](super::InstructionSink::f32_abs) appends it.
     #[doc(alias = "f32.abs")]
     F32Abs,
-    /// `f32.neg`, opcode `8C`, a numeric instruction.
-    /// Its call is [`f32_neg`](super::InstructionSink::f32_neg).
+    /// `f32.neg` (opcode 0x8C), a numeric instruction that negates a float.
+    /// [`InstructionSink::f32_neg`](super::InstructionSink::f32_neg) appends it.
     #[doc(alias = "f32.neg")]
     F32Neg,
-    /// `f32.ceil`, opcode `8D`, a numeric instruction.
-    /// Its call is [`f32_ceil`](super::InstructionSink::f32_ceil).
+    /// `f32.ceil` (opcode 0x8D), a numeric instruction that rounds a float up.
+    /// [`InstructionSink::f32_ceil`](super::InstructionSink::f32_ceil) appends it.
     #[doc(alias = "f32.ceil")]
     F32Ceil,
-    /// `f32.floor`, opcode `8E`, a numeric instruction.
-    /// Its call is [`f32_floor`](super::InstructionSink::f32_floor).
+    /// `f32.floor` (opcode 0x8E), a numeric instruction that rounds a float down.
+    /// [`InstructionSink::f32_floor`](super::InstructionSink::f32_floor) appends it.
     #[doc(alias = "f32.floor")]
     F32Floor,
-    /// `f32.trunc`, opcode `8F`, a numeric instruction.
-    /// Its call is [`f32_trunc`](super::InstructionSink::f32_trunc).
+    /// `f32.trunc` (opcode 0x8F), a numeric instruction that rounds a float towards zero.
+    /// [`InstructionSink::f32_trunc`](super::InstructionSink::f32_trunc) appends it.
     #[doc(alias = "f32.trunc")]
     F32Trunc,
-    /// `f32.nearest`, opcode `90`, a numeric instruction.
-    /// Its call is [`f32_nearest`](super::InstructionSink::f32_nearest).
+    /// `f32.nearest` (opcode 0x90), a numeric instruction that rounds a float to the nearest integer.
+    /// [`InstructionSink::f32_nearest`](super::InstructionSink::f32_nearest) appends it.
     #[doc(alias = "f32.nearest")]
     F32Nearest,
-    /// `f32.sqrt`, opcode `91`, a numeric instruction.
-    /// Its call is [`f32_sqrt`](super::InstructionSink::f32_sqrt).
+    /// `f32.sqrt` (opcode 0x91), a numeric instruction that computes the square root of a float.
+    /// [`InstructionSink::f32_sqrt`](super::InstructionSink::f32_sqrt) appends it.
     #[doc(alias = "f32.sqrt")]
     F32Sqrt,
-    /// `f32.add`, opcode `92`, a numeric instruction.
-    /// Its call is [`f32_add`](super::InstructionSink::f32_add).
+    /// `f32.add` (opcode 0x92), a numeric instruction that adds two floats.
+    /// [`InstructionSink::f32_add`](super::InstructionSink::f32_add) appends it.
     #[doc(alias = "f32.add")]
     F32Add,
-    /// `f32.sub`, opcode `93`, a numeric instruction.
-    /// Its call is [`f32_sub`](super::InstructionSink::f32_sub).
+    /// `f32.sub` (opcode 0x93), a numeric instruction that subtracts two floats.
+    /// [`InstructionSink::f32_sub`](super::InstructionSink::f32_sub) appends it.
     #[doc(alias = "f32.sub")]
     F32Sub,
-    /// `f32.mul`, opcode `94`, a numeric instruction.
-    /// Its call is [`f32_mul`](super::InstructionSink::f32_mul).
+    /// `f32.mul` (opcode 0x94), a numeric instruction that multiplies two floats.
+    /// [`InstructionSink::f32_mul`](super::InstructionSink::f32_mul) appends it.
     #[doc(alias = "f32.mul")]
     F32Mul,
-    /// `f32.div`, opcode `95`, a numeric instruction.
-    /// Its call is [`f32_div`](super::InstructionSink::f32_div).
+    /// `f32.div` (opcode 0x95), a numeric instruction that divides two floats.
+    /// [`InstructionSink::f32_div`](super::InstructionSink::f32_div) appends it.
     #[doc(alias = "f32.div")]
     F32Div,
-    /// `f32.min`, opcode `96`, a numeric instruction.
-    /// Its call is [`f32_min`](super::InstructionSink::f32_min).
+    /// `f32.min` (opcode 0x96), a numeric instruction that computes the minimum of two floats.
+    /// [`InstructionSink::f32_min`](super::InstructionSink::f32_min) appends it.
     #[doc(alias = "f32.min")]
     F32Min,
-    /// `f32.max`, opcode `97`, a numeric instruction.
-    /// Its call is [`f32_max`](super::InstructionSink::f32_max).
+    /// `f32.max` (opcode 0x97), a numeric instruction that computes the maximum of two floats.
+    /// [`InstructionSink::f32_max`](super::InstructionSink::f32_max) appends it.
     #[doc(alias = "f32.max")]
     F32Max,
-    /// `f32.copysign`, opcode `98`, a numeric instruction.
-    /// Its call is [`f32_copysign`](super::InstructionSink::f32_copysign).
+    /// `f32.copysign` (opcode 0x98), a numeric instruction that copies the sign of a float to another.
+    /// [`InstructionSink::f32_copysign`](super::InstructionSink::f32_copysign) appends it.
     #[doc(alias = "f32.copysign")]
     F32Copysign,
-    /// `f64.abs`, opcode `99`, a numeric instruction.
-    /// Its call is [`f64_abs`](super::InstructionSink::f64_abs).
+    /// `f64.abs` (opcode 0x99), a numeric instruction that computes the absolute value of a float.
+    /// [`InstructionSink::f64_abs`](super::InstructionSink::f64_abs) appends it.
     #[doc(alias = "f64.abs")]
     F64Abs,
-    /// `f64.neg`, opcode `9A`, a numeric instruction.
-    /// Its call is [`f64_neg`](super::InstructionSink::f64_neg).
+    /// `f64.neg` (opcode 0x9A), a numeric instruction that negates a float.
+    /// [`InstructionSink::f64_neg`](super::InstructionSink::f64_neg) appends it.
     #[doc(alias = "f64.neg")]
     F64Neg,
-    /// `f64.ceil`, opcode `9B`, a numeric instruction.
-    /// Its call is [`f64_ceil`](super::InstructionSink::f64_ceil).
+    /// `f64.ceil` (opcode 0x9B), a numeric instruction that rounds a float up.
+    /// [`InstructionSink::f64_ceil`](super::InstructionSink::f64_ceil) appends it.
     #[doc(alias = "f64.ceil")]
     F64Ceil,
-    /// `f64.floor`, opcode `9C`, a numeric instruction.
-    /// Its call is [`f64_floor`](super::InstructionSink::f64_floor).
+    /// `f64.floor` (opcode 0x9C), a numeric instruction that rounds a float down.
+    /// [`InstructionSink::f64_floor`](super::InstructionSink::f64_floor) appends it.
     #[doc(alias = "f64.floor")]
     F64Floor,
-    /// `f64.trunc`, opcode `9D`, a numeric instruction.
-    /// Its call is [`f64_trunc`](super::InstructionSink::f64_trunc).
+    /// `f64.trunc` (opcode 0x9D), a numeric instruction that rounds a float towards zero.
+    /// [`InstructionSink::f64_trunc`](super::InstructionSink::f64_trunc) appends it.
     #[doc(alias = "f64.trunc")]
     F64Trunc,
-    /// `f64.nearest`, opcode `9E`, a numeric instruction.
-    /// Its call is [`f64_nearest`](super::InstructionSink::f64_nearest).
+    /// `f64.nearest` (opcode 0x9E), a numeric instruction that rounds a float to the nearest integer.
+    /// [`InstructionSink::f64_nearest`](super::InstructionSink::f64_nearest) appends it.
     #[doc(alias = "f64.nearest")]
     F64Nearest,
-    /// `f64.sqrt`, opcode `9F`, a numeric instruction.
-    /// Its call is [`f64_sqrt`](super::InstructionSink::f64_sqrt).
+    /// `f64.sqrt` (opcode 0x9F), a numeric instruction that computes the square root of a float.
+    /// [`InstructionSink::f64_sqrt`](super::InstructionSink::f64_sqrt) appends it.
     #[doc(alias = "f64.sqrt")]
     F64Sqrt,
-    /// `f64.add`, opcode `A0`, a numeric instruction.
-    /// Its call is [`f64_add`](super::InstructionSink::f64_add).
+    /// `f64.add` (opcode 0xA0), a numeric instruction that adds two floats.
+    /// [`InstructionSink::f64_add`](super::InstructionSink::f64_add) appends it.
     #[doc(alias = "f64.add")]
     F64Add,
-    /// `f64.sub`, opcode `A1`, a numeric instruction.
-    /// Its call is [`f64_sub`](super::InstructionSink::f64_sub).
+    /// `f64.sub` (opcode 0xA1), a numeric instruction that subtracts two floats.
+    /// [`InstructionSink::f64_sub`](super::InstructionSink::f64_sub) appends it.
     #[doc(alias = "f64.sub")]
     F64Sub,
-    /// `f64.mul`, opcode `A2`, a numeric instruction.
-    /// Its call is [`f64_mul`](super::InstructionSink::f64_mul).
+    /// `f64.mul` (opcode 0xA2), a numeric instruction that multiplies two floats.
+    /// [`InstructionSink::f64_mul`](super::InstructionSink::f64_mul) appends it.
     #[doc(alias = "f64.mul")]
     F64Mul,
-    /// `f64.div`, opcode `A3`, a numeric instruction.
-    /// Its call is [`f64_div`](super::InstructionSink::f64_div).
+    /// `f64.div` (opcode 0xA3), a numeric instruction that divides two floats.
+    /// [`InstructionSink::f64_div`](super::InstructionSink::f64_div) appends it.
     #[doc(alias = "f64.div")]
     F64Div,
-    /// `f64.min`, opcode `A4`, a numeric instruction.
-    /// Its call is [`f64_min`](super::InstructionSink::f64_min).
+    /// `f64.min` (opcode 0xA4), a numeric instruction that computes the minimum of two floats.
+    /// [`InstructionSink::f64_min`](super::InstructionSink::f64_min) appends it.
     #[doc(alias = "f64.min")]
     F64Min,
-    /// `f64.max`, opcode `A5`, a numeric instruction.
-    /// Its call is [`f64_max`](super::InstructionSink::f64_max).
+    /// `f64.max` (opcode 0xA5), a numeric instruction that computes the maximum of two floats.
+    /// [`InstructionSink::f64_max`](super::InstructionSink::f64_max) appends it.
     #[doc(alias = "f64.max")]
     F64Max,
-    /// `f64.copysign`, opcode `A6`, a numeric instruction.
-    /// Its call is [`f64_copysign`](super::InstructionSink::f64_copysign).
+    /// `f64.copysign` (opcode 0xA6), a numeric instruction that copies the sign of a float to another.
+    /// [`InstructionSink::f64_copysign`](super::InstructionSink::f64_copysign) appends it.
     #[doc(alias = "f64.copysign")]
     F64Copysign,
-    /// `i32.wrap_i64`, opcode `A7`, a numeric instruction.
-    /// Its call is [`i32_wrap_i64`](super::InstructionSink::i32_wrap_i64).
+    /// `i32.wrap_i64` (opcode 0xA7), a numeric instruction that takes the lower 32 bits of an integer.
+    /// [`InstructionSink::i32_wrap_i64`](super::InstructionSink::i32_wrap_i64) appends it.
     #[doc(alias = "i32.wrap_i64")]
     I32WrapI64,
-    /// `i32.trunc_f32_s`, opcode `A8`, a numeric instruction.
-    /// Its call is [`i32_trunc_f32_s`](super::InstructionSink::i32_trunc_f32_s).
+    /// `i32.trunc_f32_s` (opcode 0xA8), a numeric instruction that converts a float to an integer, or traps.
+    /// [`InstructionSink::i32_trunc_f32_s`](super::InstructionSink::i32_trunc_f32_s) appends it.
     #[doc(alias = "i32.trunc_f32_s")]
     I32TruncF32S,
-    /// `i32.trunc_f32_u`, opcode `A9`, a numeric instruction.
-    /// Its call is [`i32_trunc_f32_u`](super::InstructionSink::i32_trunc_f32_u).
+    /// `i32.trunc_f32_u` (opcode 0xA9), a numeric instruction that converts a float to an integer, or traps.
+    /// [`InstructionSink::i32_trunc_f32_u`](super::InstructionSink::i32_trunc_f32_u) appends it.
     #[doc(alias = "i32.trunc_f32_u")]
     I32TruncF32U,
-    /// `i32.trunc_f64_s`, opcode `AA`, a numeric instruction.
-    /// Its call is [`i32_trunc_f64_s`](super::InstructionSink::i32_trunc_f64_s).
+    /// `i32.trunc_f64_s` (opcode 0xAA), a numeric instruction that converts a float to an integer, or traps.
+    /// [`InstructionSink::i32_trunc_f64_s`](super::InstructionSink::i32_trunc_f64_s) appends it.
     #[doc(alias = "i32.trunc_f64_s")]
     I32TruncF64S,
-    /// `i32.trunc_f64_u`, opcode `AB`, a numeric instruction.
-    /// Its call is [`i32_trunc_f64_u`](super::InstructionSink::i32_trunc_f64_u).
+    /// `i32.trunc_f64_u` (opcode 0xAB), a numeric instruction that converts a float to an integer, or traps.
+    /// [`InstructionSink::i32_trunc_f64_u`](super::InstructionSink::i32_trunc_f64_u) appends it.
     #[doc(alias = "i32.trunc_f64_u")]
     I32TruncF64U,
-    /// `i64.extend_i32_s`, opcode `AC`, a numeric instruction.
-    /// Its call is [`i64_extend_i32_s`](super::InstructionSink::i64_extend_i32_s).
+    /// `i64.extend_i32_s` (opcode 0xAC), a numeric instruction that extends an integer to 64 bits.
+    /// [`InstructionSink::i64_extend_i32_s`](super::InstructionSink::i64_extend_i32_s) appends it.
     #[doc(alias = "i64.extend_i32_s")]
     I64ExtendI32S,
-    /// `i64.extend_i32_u`, opcode `AD`, a numeric instruction.
-    /// Its call is [`i64_extend_i32_u`](super::InstructionSink::i64_extend_i32_u).
+    /// `i64.extend_i32_u` (opcode 0xAD), a numeric instruction that extends an integer to 64 bits.
+    /// [`InstructionSink::i64_extend_i32_u`](super::InstructionSink::i64_extend_i32_u) appends it.
     #[doc(alias = "i64.extend_i32_u")]
     I64ExtendI32U,
-    /// `i64.trunc_f32_s`, opcode `AE`, a numeric instruction.
-    /// Its call is [`i64_trunc_f32_s`](super::InstructionSink::i64_trunc_f32_s).
+    /// `i64.trunc_f32_s` (opcode 0xAE), a numeric instruction that converts a float to an integer, or traps.
+    /// [`InstructionSink::i64_trunc_f32_s`](super::InstructionSink::i64_trunc_f32_s) appends it.
     #[doc(alias = "i64.trunc_f32_s")]
     I64TruncF32S,
-    /// `i64.trunc_f32_u`, opcode `AF`, a numeric instruction.
-    /// Its call is [`i64_trunc_f32_u`](super::InstructionSink::i64_trunc_f32_u).
+    /// `i64.trunc_f32_u` (opcode 0xAF), a numeric instruction that converts a float to an integer, or traps.
+    /// [`InstructionSink::i64_trunc_f32_u`](super::InstructionSink::i64_trunc_f32_u) appends it.
     #[doc(alias = "i64.trunc_f32_u")]
     I64TruncF32U,
-    /// `i64.trunc_f64_s`, opcode `B0`, a numeric instruction.
-    /// Its call is [`i64_trunc_f64_s`](super::InstructionSink::i64_trunc_f64_s).
+    /// `i64.trunc_f64_s` (opcode 0xB0), a numeric instruction that converts a float to an integer, or traps.
+    /// [`InstructionSink::i64_trunc_f64_s`](super::InstructionSink::i64_trunc_f64_s) appends it.
     #[doc(alias = "i64.trunc_f64_s")]
     I64TruncF64S,
-    /// `i64.trunc_f64_u`, opcode `B1`, a numeric instruction.
-    /// Its call is [`i64_trunc_f64_u`](super::InstructionSink::i64_trunc_f64_u).
+    /// `i64.trunc_f64_u` (opcode 0xB1), a numeric instruction that converts a float to an integer, or traps.
+    /// [`InstructionSink::i64_trunc_f64_u`](super::InstructionSink::i64_trunc_f64_u) appends it.
     #[doc(alias = "i64.trunc_f64_u")]
     I64TruncF64U,
-    /// `f32.convert_i32_s`, opcode `B2`, a numeric instruction.
-    /// Its call is [`f32_convert_i32_s`](super::InstructionSink::f32_convert_i32_s).
+    /// `f32.convert_i32_s` (opcode 0xB2), a numeric instruction that converts an integer to a float.
+    /// [`InstructionSink::f32_convert_i32_s`](super::InstructionSink::f32_convert_i32_s) appends it.
     #[doc(alias = "f32.convert_i32_s")]
     F32ConvertI32S,
-    /// `f32.convert_i32_u`, opcode `B3`, a numeric instruction.
-    /// Its call is [`f32_convert_i32_u`](super::InstructionSink::f32_convert_i32_u).
+    /// `f32.convert_i32_u` (opcode 0xB3), a numeric instruction that converts an integer to a float.
+    /// [`InstructionSink::f32_convert_i32_u`](super::InstructionSink::f32_convert_i32_u) appends it.
     #[doc(alias = "f32.convert_i32_u")]
     F32ConvertI32U,
-    /// `f32.convert_i64_s`, opcode `B4`, a numeric instruction.
-    /// Its call is [`f32_convert_i64_s`](super::InstructionSink::f32_convert_i64_s).
+    /// `f32.convert_i64_s` (opcode 0xB4), a numeric instruction that converts an integer to a float.
+    /// [`InstructionSink::f32_convert_i64_s`](super::InstructionSink::f32_convert_i64_s) appends it.
     #[doc(alias = "f32.convert_i64_s")]
     F32ConvertI64S,
-    /// `f32.convert_i64_u`, opcode `B5`, a numeric instruction.
-    /// Its call is [`f32_convert_i64_u`](super::InstructionSink::f32_convert_i64_u).
+    /// `f32.convert_i64_u` (opcode 0xB5), a numeric instruction that converts an integer to a float.
+    /// [`InstructionSink::f32_convert_i64_u`](super::InstructionSink::f32_convert_i64_u) appends it.
     #[doc(alias = "f32.convert_i64_u")]
     F32ConvertI64U,
-    /// `f32.demote_f64`, opcode `B6`, a numeric instruction.
-    /// Its call is [`f32_demote_f64`](super::InstructionSink::f32_demote_f64).
+    /// `f32.demote_f64` (opcode 0xB6), a numeric instruction that rounds a float to 32 bits.
+    /// [`InstructionSink::f32_demote_f64`](super::InstructionSink::f32_demote_f64) appends it.
     #[doc(alias = "f32.demote_f64")]
     F32DemoteF64,
-    /// `f64.convert_i32_s`, opcode `B7`, a numeric instruction.
-    /// Its call is [`f64_convert_i32_s`](super::InstructionSink::f64_convert_i32_s).
+    /// `f64.convert_i32_s` (opcode 0xB7), a numeric instruction that converts an integer to a float.
+    /// [`InstructionSink::f64_convert_i32_s`](super::InstructionSink::f64_convert_i32_s) appends it.
     #[doc(alias = "f64.convert_i32_s")]
     F64ConvertI32S,
-    /// `f64.convert_i32_u`, opcode `B8`, a numeric instruction.
-    /// Its call is [`f64_convert_i32_u`](super::InstructionSink::f64_convert_i32_u).
+    /// `f64.convert_i32_u` (opcode 0xB8), a numeric instruction that converts an integer to a float.
+    /// [`InstructionSink::f64_convert_i32_u`](super::InstructionSink::f64_convert_i32_u) appends it.
     #[doc(alias = "f64.convert_i32_u")]
     F64ConvertI32U,
-    /// `f64.convert_i64_s`, opcode `B9`, a numeric instruction.
-    /// Its call is [`f64_convert_i64_s`](super::InstructionSink::f64_convert_i64_s).
+    /// `f64.convert_i64_s` (opcode 0xB9), a numeric instruction that converts an integer to a float.
+    /// [`InstructionSink::f64_convert_i64_s`](super::InstructionSink::f64_convert_i64_s) appends it.
     #[doc(alias = "f64.convert_i64_s")]
     F64ConvertI64S,
-    /// `f64.convert_i64_u`, opcode `BA`, a numeric instruction.
-    /// Its call is [`f64_convert_i64_u`](super::InstructionSink::f64_convert_i64_u).
+    /// `f64.convert_i64_u` (opcode 0xBA), a numeric instruction that converts an integer to a float.
+    /// [`InstructionSink::f64_convert_i64_u`](super::InstructionSink::f64_convert_i64_u) appends it.
     #[doc(alias = "f64.convert_i64_u")]
     F64ConvertI64U,
-    /// `f64.promote_f32`, opcode `BB`, a numeric instruction.
-    /// Its call is [`f64_promote_f32`](super::InstructionSink::f64_promote_f32).
+    /// `f64.promote_f32` (opcode 0xBB), a numeric instruction that converts a float to 64 bits.
+    /// [`InstructionSink::f64_promote_f32`](super::InstructionSink::f64_promote_f32) appends it.
     #[doc(alias = "f64.promote_f32")]
     F64PromoteF32,
-    /// `i32.reinterpret_f32`, opcode `BC`, a numeric instruction.
-    /// Its call is [`i32_reinterpret_f32`](super::InstructionSink::i32_reinterpret_f32).
+    /// `i32.reinterpret_f32` (opcode 0xBC), a numeric instruction that takes the bits of a number as another type.
+    /// [`InstructionSink::i32_reinterpret_f32`](super::InstructionSink::i32_reinterpret_f32) appends it.
     #[doc(alias = "i32.reinterpret_f32")]
     I32ReinterpretF32,
-    /// `i64.reinterpret_f64`, opcode `BD`, a numeric instruction.
-    /// Its call is [`i64_reinterpret_f64`](super::InstructionSink::i64_reinterpret_f64).
+    /// `i64.reinterpret_f64` (opcode 0xBD), a numeric instruction that takes the bits of a number as another type.
+    /// [`InstructionSink::i64_reinterpret_f64`](super::InstructionSink::i64_reinterpret_f64) appends it.
     #[doc(alias = "i64.reinterpret_f64")]
     I64ReinterpretF64,
-    /// `f32.reinterpret_i32`, opcode `BE`, a numeric instruction.
-    /// Its call is [`f32_reinterpret_i32`](super::InstructionSink::f32_reinterpret_i32).
+    /// `f32.reinterpret_i32` (opcode 0xBE), a numeric instruction that takes the bits of a number as another type.
+    /// [`InstructionSink::f32_reinterpret_i32`](super::InstructionSink::f32_reinterpret_i32) appends it.
     #[doc(alias = "f32.reinterpret_i32")]
     F32ReinterpretI32,
-    /// `f64.reinterpret_i64`, opcode `BF`, a numeric instruction.
-    /// Its call is [`f64_reinterpret_i64`](super::InstructionSink::f64_reinterpret_i64).
+    /// `f64.reinterpret_i64` (opcode 0xBF), a numeric instruction that takes the bits of a number as another type.
+    /// [`InstructionSink::f64_reinterpret_i64`](super::InstructionSink::f64_reinterpret_i64) appends it.
     #[doc(alias = "f64.reinterpret_i64")]
     F64ReinterpretI64,
-    /// `i32.extend8_s`, opcode `C0`, a numeric instruction.
-    /// Its call is [`i32_extend8_s`](super::InstructionSink::i32_extend8_s).
+    /// `i32.extend8_s` (opcode 0xC0), a numeric instruction that sign-extends the lower 8 bits of an integer.
+    /// [`InstructionSink::i32_extend8_s`](super::InstructionSink::i32_extend8_s) appends it.
     #[doc(alias = "i32.extend8_s")]
     I32Extend8S,
-    /// `i32.extend16_s`, opcode `C1`, a numeric instruction.
-    /// Its call is [`i32_extend16_s`](super::InstructionSink::i32_extend16_s).
+    /// `i32.extend16_s` (opcode 0xC1), a numeric instruction that sign-extends the lower 16 bits of an integer.
+    /// [`InstructionSink::i32_extend16_s`](super::InstructionSink::i32_extend16_s) appends it.
     #[doc(alias = "i32.extend16_s")]
     I32Extend16S,
-    /// `i64.extend8_s`, opcode `C2`, a numeric instruction.
-    /// Its call is [`i64_extend8_s`](super::InstructionSink::i64_extend8_s).
+    /// `i64.extend8_s` (opcode 0xC2), a numeric instruction that sign-extends the lower 8 bits of an integer.
+    /// [`InstructionSink::i64_extend8_s`](super::InstructionSink::i64_extend8_s) appends it.
     #[doc(alias = "i64.extend8_s")]
     I64Extend8S,
-    /// `i64.extend16_s`, opcode `C3`, a numeric instruction.
-    /// Its call is [`i64_extend16_s`](super::InstructionSink::i64_extend16_s).
+    /// `i64.extend16_s` (opcode 0xC3), a numeric instruction that sign-extends the lower 16 bits of an integer.
+    /// [`InstructionSink::i64_extend16_s`](super::InstructionSink::i64_extend16_s) appends it.
     #[doc(alias = "i64.extend16_s")]
     I64Extend16S,
-    /// `i64.extend32_s`, opcode `C4`, a numeric instruction.
-    /// Its call is [`i64_extend32_s`](super::InstructionSink::i64_extend32_s).
+    /// `i64.extend32_s` (opcode 0xC4), a numeric instruction that sign-extends the lower 32 bits of an integer.
+    /// [`InstructionSink::i64_extend32_s`](super::InstructionSink::i64_extend32_s) appends it.
     #[doc(alias = "i64.extend32_s")]
     I64Extend32S,
-    /// `ref.null`, opcode `D0`, a reference instruction.
-    /// Its call is [`ref_null`](super::InstructionSink::ref_null), with the immediate `heap_type`.
+    /// `ref.null` (opcode 0xD0), a reference instruction that returns a null reference.
+    /// [`InstructionSink::ref_null`](super::InstructionSink::ref_null) appends it, with the immediate `heap_type`.
     #[doc(alias = "ref.null")]
     RefNull(HeapType),
-    /// `ref.is_null`, opcode `D1`, a reference instruction.
-    /// Its call is [`ref_is_null`](super::InstructionSink::ref_is_null).
+    /// `ref.is_null` (opcode 0xD1), a reference instruction that tests whether a reference is null.
+    /// [`InstructionSink::ref_is_null`](super::InstructionSink::ref_is_null) appends it.
     #[doc(alias = "ref.is_null")]
     RefIsNull,
-    /// `ref.func`, opcode `D2`, a reference instruction.
-    /// Its call is [`ref_func`](super::InstructionSink::ref_func), with the immediate `function_index`.
+    /// `ref.func` (opcode 0xD2), a reference instruction that returns a reference to a function.
+    /// [`InstructionSink::ref_func`](super::InstructionSink::ref_func) appends it, with the immediate `function_index`.
     #[doc(alias = "ref.func")]
     RefFunc(u32),
-    /// `ref.eq`, opcode `D3`, a reference instruction.
-    /// Its call is [`ref_eq`](super::InstructionSink::ref_eq).
+    /// `ref.eq` (opcode 0xD3), a reference instruction that compares two references.
+    /// [`InstructionSink::ref_eq`](super::InstructionSink::ref_eq) appends it.
     #[doc(alias = "ref.eq")]
     RefEq,
-    /// `ref.as_non_null`, opcode `D4`, a reference instruction.
-    /// Its call is [`ref_as_non_null`](super::InstructionSink::ref_as_non_null).
+    /// `ref.as_non_null` (opcode 0xD4), a reference instruction that traps if a reference is null.
+    /// [`InstructionSink::ref_as_non_null`](super::InstructionSink::ref_as_non_null) appends it.
     #[doc(alias = "ref.as_non_null")]
     RefAsNonNull,
-    /// `br_on_null`, opcode `D5`, a control instruction.
-    /// Its call is [`br_on_null`](super::InstructionSink::br_on_null), with the immediate `label`.
+    /// `br_on_null` (opcode 0xD5), a control instruction that branches to a label if a reference is null.
+    /// [`InstructionSink::br_on_null`](super::InstructionSink::br_on_null) appends it, with the immediate `label`.
     BrOnNull(u32),
-    /// `br_on_non_null`, opcode `D6`, a control instruction.
-    /// Its call is [`br_on_non_null`](super::InstructionSink::br_on_non_null), with the immediate `label`.
+    /// `br_on_non_null` (opcode 0xD6), a control instruction that branches to a label if a reference is not null.
+    /// [`InstructionSink::br_on_non_null`](super::InstructionSink::br_on_non_null) appends it, with the immediate `label`.
     BrOnNonNull(u32),
-    /// `cont.new`, opcode `E0`, a control instruction of the stack switching proposal.
-    /// Its call is [`cont_new`](super::InstructionSink::cont_new), with the immediate `type_index`.
+    /// `cont.new` (opcode 0xE0), a control instruction of the stack switching proposal that makes a continuation of a function.
+    /// [`InstructionSink::cont_new`](super::InstructionSink::cont_new) appends it, with the immediate `type_index`.
     #[doc(alias = "cont.new")]
     ContNew(u32),
-    /// `cont.bind`, opcode `E1`, a control instruction of the stack switching proposal.
-    /// Its call is [`cont_bind`](super::InstructionSink::cont_bind).
+    /// `cont.bind` (opcode 0xE1), a control instruction of the stack switching proposal that binds arguments to a continuation.
+    /// [`InstructionSink::cont_bind`](super::InstructionSink::cont_bind) appends it.
     #[doc(alias = "cont.bind")]
     ContBind {
         /// The index of the type of the bound continuation.
@@ -837,19 +838,19 @@ pub enum Instruction<'a> {
         /// The index of the type of the resulting continuation.
         result_index: u32,
     },
-    /// `suspend`, opcode `E2`, a control instruction of the stack switching proposal.
-    /// Its call is [`suspend`](super::InstructionSink::suspend), with the immediate `tag_index`.
+    /// `suspend` (opcode 0xE2), a control instruction of the stack switching proposal that suspends the current continuation with a tag.
+    /// [`InstructionSink::suspend`](super::InstructionSink::suspend) appends it, with the immediate `tag_index`.
     Suspend(u32),
-    /// `resume`, opcode `E3`, a control instruction of the stack switching proposal.
-    /// Its call is [`resume`](super::InstructionSink::resume).
+    /// `resume` (opcode 0xE3), a control instruction of the stack switching proposal that resumes a continuation.
+    /// [`InstructionSink::resume`](super::InstructionSink::resume) appends it.
     Resume {
         /// The index of the continuation type.
         cont_type_index: u32,
         /// The handlers.
         resume_table: Cow<'a, [Handle]>,
     },
-    /// `resume_throw`, opcode `E4`, a control instruction of the stack switching proposal.
-    /// Its call is [`resume_throw`](super::InstructionSink::resume_throw).
+    /// `resume_throw` (opcode 0xE4), a control instruction of the stack switching proposal that resumes a continuation by throwing an exception in it.
+    /// [`InstructionSink::resume_throw`](super::InstructionSink::resume_throw) appends it.
     ResumeThrow {
         /// The index of the continuation type.
         cont_type_index: u32,
@@ -858,32 +859,32 @@ pub enum Instruction<'a> {
         /// The handlers.
         resume_table: Cow<'a, [Handle]>,
     },
-    /// `resume_throw_ref`, opcode `E5`, a control instruction of the stack switching proposal.
-    /// Its call is [`resume_throw_ref`](super::InstructionSink::resume_throw_ref).
+    /// `resume_throw_ref` (opcode 0xE5), a control instruction of the stack switching proposal that resumes a continuation by throwing an exception in it.
+    /// [`InstructionSink::resume_throw_ref`](super::InstructionSink::resume_throw_ref) appends it.
     ResumeThrowRef {
         /// The index of the continuation type.
         cont_type_index: u32,
         /// The handlers.
         resume_table: Cow<'a, [Handle]>,
     },
-    /// `switch`, opcode `E6`, a control instruction of the stack switching proposal.
-    /// Its call is [`switch`](super::InstructionSink::switch).
+    /// `switch` (opcode 0xE6), a control instruction of the stack switching proposal that switches to another continuation.
+    /// [`InstructionSink::switch`](super::InstructionSink::switch) appends it.
     Switch {
         /// The index of the continuation type.
         cont_type_index: u32,
         /// The index of the tag.
         tag_index: u32,
     },
-    /// `struct.new`, opcode `FB 00`, an aggregate instruction.
-    /// Its call is [`struct_new`](super::InstructionSink::struct_new), with the immediate `type_index`.
+    /// `struct.new` (opcode 0xFB 0), an aggregate instruction that makes a structure of given values.
+    /// [`InstructionSink::struct_new`](super::InstructionSink::struct_new) appends it, with the immediate `type_index`.
     #[doc(alias = "struct.new")]
     StructNew(u32),
-    /// `struct.new_default`, opcode `FB 01`, an aggregate instruction.
-    /// Its call is [`struct_new_default`](super::InstructionSink::struct_new_default), with the immediate `type_index`.
+    /// `struct.new_default` (opcode 0xFB 1), an aggregate instruction that makes a structure of default values.
+    /// [`InstructionSink::struct_new_default`](super::InstructionSink::struct_new_default) appends it, with the immediate `type_index`.
     #[doc(alias = "struct.new_default")]
     StructNewDefault(u32),
-    /// `struct.get`, opcode `FB 02`, an aggregate instruction.
-    /// Its call is [`struct_get`](super::InstructionSink::struct_get).
+    /// `struct.get` (opcode 0xFB 2), an aggregate instruction that reads a field of a structure.
+    /// [`InstructionSink::struct_get`](super::InstructionSink::struct_get) appends it.
     #[doc(alias = "struct.get")]
     StructGet {
         /// The index of the structure type.
@@ -891,8 +892,8 @@ pub enum Instruction<'a> {
         /// The index of the field.
         field_index: u32,
     },
-    /// `struct.get_s`, opcode `FB 03`, an aggregate instruction.
-    /// Its call is [`struct_get_s`](super::InstructionSink::struct_get_s).
+    /// `struct.get_s` (opcode 0xFB 3), an aggregate instruction that reads a field of a structure, sign-extended.
+    /// [`InstructionSink::struct_get_s`](super::InstructionSink::struct_get_s) appends it.
     #[doc(alias = "struct.get_s")]
     StructGetS {
         /// The index of the structure type.
@@ -900,8 +901,8 @@ pub enum Instruction<'a> {
         /// The index of the field.
         field_index: u32,
     },
-    /// `struct.get_u`, opcode `FB 04`, an aggregate instruction.
-    /// Its call is [`struct_get_u`](super::InstructionSink::struct_get_u).
+    /// `struct.get_u` (opcode 0xFB 4), an aggregate instruction that reads a field of a structure, zero-extended.
+    /// [`InstructionSink::struct_get_u`](super::InstructionSink::struct_get_u) appends it.
     #[doc(alias = "struct.get_u")]
     StructGetU {
         /// The index of the structure type.
@@ -909,8 +910,8 @@ pub enum Instruction<'a> {
         /// The index of the field.
         field_index: u32,
     },
-    /// `struct.set`, opcode `FB 05`, an aggregate instruction.
-    /// Its call is [`struct_set`](super::InstructionSink::struct_set).
+    /// `struct.set` (opcode 0xFB 5), an aggregate instruction that writes a field of a structure.
+    /// [`InstructionSink::struct_set`](super::InstructionSink::struct_set) appends it.
     #[doc(alias = "struct.set")]
     StructSet {
         /// The index of the structure type.
@@ -918,16 +919,16 @@ pub enum Instruction<'a> {
         /// The index of the field.
         field_index: u32,
     },
-    /// `array.new`, opcode `FB 06`, an aggregate instruction.
-    /// Its call is [`array_new`](super::InstructionSink::array_new), with the immediate `type_index`.
+    /// `array.new` (opcode 0xFB 6), an aggregate instruction that makes an array with one value in each element.
+    /// [`InstructionSink::array_new`](super::InstructionSink::array_new) appends it, with the immediate `type_index`.
     #[doc(alias = "array.new")]
     ArrayNew(u32),
-    /// `array.new_default`, opcode `FB 07`, an aggregate instruction.
-    /// Its call is [`array_new_default`](super::InstructionSink::array_new_default), with the immediate `type_index`.
+    /// `array.new_default` (opcode 0xFB 7), an aggregate instruction that makes an array of default values.
+    /// [`InstructionSink::array_new_default`](super::InstructionSink::array_new_default) appends it, with the immediate `type_index`.
     #[doc(alias = "array.new_default")]
     ArrayNewDefault(u32),
-    /// `array.new_fixed`, opcode `FB 08`, an aggregate instruction.
-    /// Its call is [`array_new_fixed`](super::InstructionSink::array_new_fixed).
+    /// `array.new_fixed` (opcode 0xFB 8), an aggregate instruction that makes an array of operands.
+    /// [`InstructionSink::array_new_fixed`](super::InstructionSink::array_new_fixed) appends it.
     #[doc(alias = "array.new_fixed")]
     ArrayNewFixed {
         /// The index of the array type.
@@ -935,8 +936,8 @@ pub enum Instruction<'a> {
         /// The number of elements.
         array_size: u32,
     },
-    /// `array.new_data`, opcode `FB 09`, an aggregate instruction.
-    /// Its call is [`array_new_data`](super::InstructionSink::array_new_data).
+    /// `array.new_data` (opcode 0xFB 9), an aggregate instruction that makes an array of the bytes of a data segment.
+    /// [`InstructionSink::array_new_data`](super::InstructionSink::array_new_data) appends it.
     #[doc(alias = "array.new_data")]
     ArrayNewData {
         /// The index of the array type.
@@ -944,8 +945,8 @@ pub enum Instruction<'a> {
         /// The index of the data segment.
         array_data_index: u32,
     },
-    /// `array.new_elem`, opcode `FB 0A`, an aggregate instruction.
-    /// Its call is [`array_new_elem`](super::InstructionSink::array_new_elem).
+    /// `array.new_elem` (opcode 0xFB 10), an aggregate instruction that makes an array of the references of an element segment.
+    /// [`InstructionSink::array_new_elem`](super::InstructionSink::array_new_elem) appends it.
     #[doc(alias = "array.new_elem")]
     ArrayNewElem {
         /// The index of the array type.
@@ -953,32 +954,32 @@ pub enum Instruction<'a> {
         /// The index of the element segment.
         array_elem_index: u32,
     },
-    /// `array.get`, opcode `FB 0B`, an aggregate instruction.
-    /// Its call is [`array_get`](super::InstructionSink::array_get), with the immediate `type_index`.
+    /// `array.get` (opcode 0xFB 11), an aggregate instruction that reads an element of an array.
+    /// [`InstructionSink::array_get`](super::InstructionSink::array_get) appends it, with the immediate `type_index`.
     #[doc(alias = "array.get")]
     ArrayGet(u32),
-    /// `array.get_s`, opcode `FB 0C`, an aggregate instruction.
-    /// Its call is [`array_get_s`](super::InstructionSink::array_get_s), with the immediate `type_index`.
+    /// `array.get_s` (opcode 0xFB 12), an aggregate instruction that reads an element of an array, sign-extended.
+    /// [`InstructionSink::array_get_s`](super::InstructionSink::array_get_s) appends it, with the immediate `type_index`.
     #[doc(alias = "array.get_s")]
     ArrayGetS(u32),
-    /// `array.get_u`, opcode `FB 0D`, an aggregate instruction.
-    /// Its call is [`array_get_u`](super::InstructionSink::array_get_u), with the immediate `type_index`.
+    /// `array.get_u` (opcode 0xFB 13), an aggregate instruction that reads an element of an array, zero-extended.
+    /// [`InstructionSink::array_get_u`](super::InstructionSink::array_get_u) appends it, with the immediate `type_index`.
     #[doc(alias = "array.get_u")]
     ArrayGetU(u32),
-    /// `array.set`, opcode `FB 0E`, an aggregate instruction.
-    /// Its call is [`array_set`](super::InstructionSink::array_set), with the immediate `type_index`.
+    /// `array.set` (opcode 0xFB 14), an aggregate instruction that writes an element of an array.
+    /// [`InstructionSink::array_set`](super::InstructionSink::array_set) appends it, with the immediate `type_index`.
     #[doc(alias = "array.set")]
     ArraySet(u32),
-    /// `array.len`, opcode `FB 0F`, an aggregate instruction.
-    /// Its call is [`array_len`](super::InstructionSink::array_len).
+    /// `array.len` (opcode 0xFB 15), an aggregate instruction that returns the number of elements of an array.
+    /// [`InstructionSink::array_len`](super::InstructionSink::array_len) appends it.
     #[doc(alias = "array.len")]
     ArrayLen,
-    /// `array.fill`, opcode `FB 10`, an aggregate instruction.
-    /// Its call is [`array_fill`](super::InstructionSink::array_fill), with the immediate `type_index`.
+    /// `array.fill` (opcode 0xFB 16), an aggregate instruction that sets elements of an array to one value.
+    /// [`InstructionSink::array_fill`](super::InstructionSink::array_fill) appends it, with the immediate `type_index`.
     #[doc(alias = "array.fill")]
     ArrayFill(u32),
-    /// `array.copy`, opcode `FB 11`, an aggregate instruction.
-    /// Its call is [`array_copy`](super::InstructionSink::array_copy).
+    /// `array.copy` (opcode 0xFB 17), an aggregate instruction that copies elements from one array to another.
+    /// [`InstructionSink::array_copy`](super::InstructionSink::array_copy) appends it.
     #[doc(alias = "array.copy")]
     ArrayCopy {
         /// The index of the type of the destination.
@@ -986,8 +987,8 @@ pub enum Instruction<'a> {
         /// The index of the type of the source.
         array_type_index_src: u32,
     },
-    /// `array.init_data`, opcode `FB 12`, an aggregate instruction.
-    /// Its call is [`array_init_data`](super::InstructionSink::array_init_data).
+    /// `array.init_data` (opcode 0xFB 18), an aggregate instruction that copies bytes of a data segment to an array.
+    /// [`InstructionSink::array_init_data`](super::InstructionSink::array_init_data) appends it.
     #[doc(alias = "array.init_data")]
     ArrayInitData {
         /// The index of the array type.
@@ -995,8 +996,8 @@ pub enum Instruction<'a> {
         /// The index of the data segment.
         array_data_index: u32,
     },
-    /// `array.init_elem`, opcode `FB 13`, an aggregate instruction.
-    /// Its call is [`array_init_elem`](super::InstructionSink::array_init_elem).
+    /// `array.init_elem` (opcode 0xFB 19), an aggregate instruction that copies references of an element segment to an array.
+    /// [`InstructionSink::array_init_elem`](super::InstructionSink::array_init_elem) appends it.
     #[doc(alias = "array.init_elem")]
     ArrayInitElem {
         /// The index of the array type.
@@ -1004,24 +1005,24 @@ pub enum Instruction<'a> {
         /// The index of the element segment.
         array_elem_index: u32,
     },
-    /// `ref.test (ref ht)`, opcode `FB 14`, a reference instruction.
-    /// Its call is [`ref_test_non_null`](super::InstructionSink::ref_test_non_null), with the immediate `heap_type`.
+    /// `ref.test (ref ht)` (opcode 0xFB 20), a reference instruction that tests whether a reference has a type.
+    /// [`InstructionSink::ref_test_non_null`](super::InstructionSink::ref_test_non_null) appends it, with the immediate `heap_type`.
     #[doc(alias = "ref.test")]
     RefTestNonNull(HeapType),
-    /// `ref.test (ref null ht)`, opcode `FB 15`, a reference instruction.
-    /// Its call is [`ref_test_nullable`](super::InstructionSink::ref_test_nullable), with the immediate `heap_type`.
+    /// `ref.test (ref null ht)` (opcode 0xFB 21), a reference instruction that tests whether a reference has a type.
+    /// [`InstructionSink::ref_test_nullable`](super::InstructionSink::ref_test_nullable) appends it, with the immediate `heap_type`.
     #[doc(alias = "ref.test")]
     RefTestNullable(HeapType),
-    /// `ref.cast (ref ht)`, opcode `FB 16`, a reference instruction.
-    /// Its call is [`ref_cast_non_null`](super::InstructionSink::ref_cast_non_null), with the immediate `heap_type`.
+    /// `ref.cast (ref ht)` (opcode 0xFB 22), a reference instruction that casts a reference to a type, or traps.
+    /// [`InstructionSink::ref_cast_non_null`](super::InstructionSink::ref_cast_non_null) appends it, with the immediate `heap_type`.
     #[doc(alias = "ref.cast")]
     RefCastNonNull(HeapType),
-    /// `ref.cast (ref null ht)`, opcode `FB 17`, a reference instruction.
-    /// Its call is [`ref_cast_nullable`](super::InstructionSink::ref_cast_nullable), with the immediate `heap_type`.
+    /// `ref.cast (ref null ht)` (opcode 0xFB 23), a reference instruction that casts a reference to a type, or traps.
+    /// [`InstructionSink::ref_cast_nullable`](super::InstructionSink::ref_cast_nullable) appends it, with the immediate `heap_type`.
     #[doc(alias = "ref.cast")]
     RefCastNullable(HeapType),
-    /// `br_on_cast`, opcode `FB 18`, a control instruction.
-    /// Its call is [`br_on_cast`](super::InstructionSink::br_on_cast).
+    /// `br_on_cast` (opcode 0xFB 24), a control instruction that branches to a label if a reference has a type.
+    /// [`InstructionSink::br_on_cast`](super::InstructionSink::br_on_cast) appends it.
     BrOnCast {
         /// The label of the branch.
         relative_depth: u32,
@@ -1030,8 +1031,8 @@ pub enum Instruction<'a> {
         /// The type that the operand is cast to.
         to_ref_type: RefType,
     },
-    /// `br_on_cast_fail`, opcode `FB 19`, a control instruction.
-    /// Its call is [`br_on_cast_fail`](super::InstructionSink::br_on_cast_fail).
+    /// `br_on_cast_fail` (opcode 0xFB 25), a control instruction that branches to a label if a reference does not have a type.
+    /// [`InstructionSink::br_on_cast_fail`](super::InstructionSink::br_on_cast_fail) appends it.
     BrOnCastFail {
         /// The label of the branch.
         relative_depth: u32,
@@ -1040,48 +1041,48 @@ pub enum Instruction<'a> {
         /// The type that the operand is cast to.
         to_ref_type: RefType,
     },
-    /// `any.convert_extern`, opcode `FB 1A`, an aggregate instruction.
-    /// Its call is [`any_convert_extern`](super::InstructionSink::any_convert_extern).
+    /// `any.convert_extern` (opcode 0xFB 26), an aggregate instruction that converts an external reference to an internal one.
+    /// [`InstructionSink::any_convert_extern`](super::InstructionSink::any_convert_extern) appends it.
     #[doc(alias = "any.convert_extern")]
     AnyConvertExtern,
-    /// `extern.convert_any`, opcode `FB 1B`, an aggregate instruction.
-    /// Its call is [`extern_convert_any`](super::InstructionSink::extern_convert_any).
+    /// `extern.convert_any` (opcode 0xFB 27), an aggregate instruction that converts an internal reference to an external one.
+    /// [`InstructionSink::extern_convert_any`](super::InstructionSink::extern_convert_any) appends it.
     #[doc(alias = "extern.convert_any")]
     ExternConvertAny,
-    /// `ref.i31`, opcode `FB 1C`, an aggregate instruction.
-    /// Its call is [`ref_i31`](super::InstructionSink::ref_i31).
+    /// `ref.i31` (opcode 0xFB 28), an aggregate instruction that makes a reference of the lower 31 bits of an integer.
+    /// [`InstructionSink::ref_i31`](super::InstructionSink::ref_i31) appends it.
     #[doc(alias = "ref.i31")]
     RefI31,
-    /// `i31.get_s`, opcode `FB 1D`, an aggregate instruction.
-    /// Its call is [`i31_get_s`](super::InstructionSink::i31_get_s).
+    /// `i31.get_s` (opcode 0xFB 29), an aggregate instruction that reads the integer of 31 bits of a reference, sign-extended.
+    /// [`InstructionSink::i31_get_s`](super::InstructionSink::i31_get_s) appends it.
     #[doc(alias = "i31.get_s")]
     I31GetS,
-    /// `i31.get_u`, opcode `FB 1E`, an aggregate instruction.
-    /// Its call is [`i31_get_u`](super::InstructionSink::i31_get_u).
+    /// `i31.get_u` (opcode 0xFB 30), an aggregate instruction that reads the integer of 31 bits of a reference, zero-extended.
+    /// [`InstructionSink::i31_get_u`](super::InstructionSink::i31_get_u) appends it.
     #[doc(alias = "i31.get_u")]
     I31GetU,
-    /// `struct.new_desc`, opcode `FB 20`, an instruction of the custom descriptors proposal.
-    /// Its call is [`struct_new_desc`](super::InstructionSink::struct_new_desc), with the immediate `type_index`.
+    /// `struct.new_desc` (opcode 0xFB 32), an instruction of the custom descriptors proposal that makes a structure of given values, with a descriptor.
+    /// [`InstructionSink::struct_new_desc`](super::InstructionSink::struct_new_desc) appends it, with the immediate `type_index`.
     #[doc(alias = "struct.new_desc")]
     StructNewDesc(u32),
-    /// `struct.new_default_desc`, opcode `FB 21`, an instruction of the custom descriptors proposal.
-    /// Its call is [`struct_new_default_desc`](super::InstructionSink::struct_new_default_desc), with the immediate `type_index`.
+    /// `struct.new_default_desc` (opcode 0xFB 33), an instruction of the custom descriptors proposal that makes a structure of default values, with a descriptor.
+    /// [`InstructionSink::struct_new_default_desc`](super::InstructionSink::struct_new_default_desc) appends it, with the immediate `type_index`.
     #[doc(alias = "struct.new_default_desc")]
     StructNewDefaultDesc(u32),
-    /// `ref.get_desc`, opcode `FB 22`, an instruction of the custom descriptors proposal.
-    /// Its call is [`ref_get_desc`](super::InstructionSink::ref_get_desc), with the immediate `type_index`.
+    /// `ref.get_desc` (opcode 0xFB 34), an instruction of the custom descriptors proposal that reads the descriptor of a structure.
+    /// [`InstructionSink::ref_get_desc`](super::InstructionSink::ref_get_desc) appends it, with the immediate `type_index`.
     #[doc(alias = "ref.get_desc")]
     RefGetDesc(u32),
-    /// `ref.cast_desc_eq (ref ht)`, opcode `FB 23`, an instruction of the custom descriptors proposal.
-    /// Its call is [`ref_cast_desc_eq_non_null`](super::InstructionSink::ref_cast_desc_eq_non_null), with the immediate `heap_type`.
+    /// `ref.cast_desc_eq (ref ht)` (opcode 0xFB 35), an instruction of the custom descriptors proposal that casts a reference that has the given descriptor, or traps.
+    /// [`InstructionSink::ref_cast_desc_eq_non_null`](super::InstructionSink::ref_cast_desc_eq_non_null) appends it, with the immediate `heap_type`.
     #[doc(alias = "ref.cast_desc_eq")]
     RefCastDescEqNonNull(HeapType),
-    /// `ref.cast_desc_eq (ref null ht)`, opcode `FB 24`, an instruction of the custom descriptors proposal.
-    /// Its call is [`ref_cast_desc_eq_nullable`](super::InstructionSink::ref_cast_desc_eq_nullable), with the immediate `heap_type`.
+    /// `ref.cast_desc_eq (ref null ht)` (opcode 0xFB 36), an instruction of the custom descriptors proposal that casts a reference that has the given descriptor, or traps.
+    /// [`InstructionSink::ref_cast_desc_eq_nullable`](super::InstructionSink::ref_cast_desc_eq_nullable) appends it, with the immediate `heap_type`.
     #[doc(alias = "ref.cast_desc_eq")]
     RefCastDescEqNullable(HeapType),
-    /// `br_on_cast_desc_eq`, opcode `FB 25`, an instruction of the custom descriptors proposal.
-    /// Its call is [`br_on_cast_desc_eq`](super::InstructionSink::br_on_cast_desc_eq).
+    /// `br_on_cast_desc_eq` (opcode 0xFB 37), an instruction of the custom descriptors proposal that branches to a label if a reference has the given descriptor.
+    /// [`InstructionSink::br_on_cast_desc_eq`](super::InstructionSink::br_on_cast_desc_eq) appends it.
     BrOnCastDescEq {
         /// The label of the branch.
         relative_depth: u32,
@@ -1090,8 +1091,8 @@ pub enum Instruction<'a> {
         /// The type that the operand is cast to.
         to_ref_type: RefType,
     },
-    /// `br_on_cast_desc_eq_fail`, opcode `FB 26`, an instruction of the custom descriptors proposal.
-    /// Its call is [`br_on_cast_desc_eq_fail`](super::InstructionSink::br_on_cast_desc_eq_fail).
+    /// `br_on_cast_desc_eq_fail` (opcode 0xFB 38), an instruction of the custom descriptors proposal that branches to a label if a reference does not have the given descriptor.
+    /// [`InstructionSink::br_on_cast_desc_eq_fail`](super::InstructionSink::br_on_cast_desc_eq_fail) appends it.
     BrOnCastDescEqFail {
         /// The label of the branch.
         relative_depth: u32,
@@ -1100,40 +1101,40 @@ pub enum Instruction<'a> {
         /// The type that the operand is cast to.
         to_ref_type: RefType,
     },
-    /// `i32.trunc_sat_f32_s`, opcode `FC 00`, a numeric instruction.
-    /// Its call is [`i32_trunc_sat_f32_s`](super::InstructionSink::i32_trunc_sat_f32_s).
+    /// `i32.trunc_sat_f32_s` (opcode 0xFC 0), a numeric instruction that converts a float to an integer, and saturates.
+    /// [`InstructionSink::i32_trunc_sat_f32_s`](super::InstructionSink::i32_trunc_sat_f32_s) appends it.
     #[doc(alias = "i32.trunc_sat_f32_s")]
     I32TruncSatF32S,
-    /// `i32.trunc_sat_f32_u`, opcode `FC 01`, a numeric instruction.
-    /// Its call is [`i32_trunc_sat_f32_u`](super::InstructionSink::i32_trunc_sat_f32_u).
+    /// `i32.trunc_sat_f32_u` (opcode 0xFC 1), a numeric instruction that converts a float to an integer, and saturates.
+    /// [`InstructionSink::i32_trunc_sat_f32_u`](super::InstructionSink::i32_trunc_sat_f32_u) appends it.
     #[doc(alias = "i32.trunc_sat_f32_u")]
     I32TruncSatF32U,
-    /// `i32.trunc_sat_f64_s`, opcode `FC 02`, a numeric instruction.
-    /// Its call is [`i32_trunc_sat_f64_s`](super::InstructionSink::i32_trunc_sat_f64_s).
+    /// `i32.trunc_sat_f64_s` (opcode 0xFC 2), a numeric instruction that converts a float to an integer, and saturates.
+    /// [`InstructionSink::i32_trunc_sat_f64_s`](super::InstructionSink::i32_trunc_sat_f64_s) appends it.
     #[doc(alias = "i32.trunc_sat_f64_s")]
     I32TruncSatF64S,
-    /// `i32.trunc_sat_f64_u`, opcode `FC 03`, a numeric instruction.
-    /// Its call is [`i32_trunc_sat_f64_u`](super::InstructionSink::i32_trunc_sat_f64_u).
+    /// `i32.trunc_sat_f64_u` (opcode 0xFC 3), a numeric instruction that converts a float to an integer, and saturates.
+    /// [`InstructionSink::i32_trunc_sat_f64_u`](super::InstructionSink::i32_trunc_sat_f64_u) appends it.
     #[doc(alias = "i32.trunc_sat_f64_u")]
     I32TruncSatF64U,
-    /// `i64.trunc_sat_f32_s`, opcode `FC 04`, a numeric instruction.
-    /// Its call is [`i64_trunc_sat_f32_s`](super::InstructionSink::i64_trunc_sat_f32_s).
+    /// `i64.trunc_sat_f32_s` (opcode 0xFC 4), a numeric instruction that converts a float to an integer, and saturates.
+    /// [`InstructionSink::i64_trunc_sat_f32_s`](super::InstructionSink::i64_trunc_sat_f32_s) appends it.
     #[doc(alias = "i64.trunc_sat_f32_s")]
     I64TruncSatF32S,
-    /// `i64.trunc_sat_f32_u`, opcode `FC 05`, a numeric instruction.
-    /// Its call is [`i64_trunc_sat_f32_u`](super::InstructionSink::i64_trunc_sat_f32_u).
+    /// `i64.trunc_sat_f32_u` (opcode 0xFC 5), a numeric instruction that converts a float to an integer, and saturates.
+    /// [`InstructionSink::i64_trunc_sat_f32_u`](super::InstructionSink::i64_trunc_sat_f32_u) appends it.
     #[doc(alias = "i64.trunc_sat_f32_u")]
     I64TruncSatF32U,
-    /// `i64.trunc_sat_f64_s`, opcode `FC 06`, a numeric instruction.
-    /// Its call is [`i64_trunc_sat_f64_s`](super::InstructionSink::i64_trunc_sat_f64_s).
+    /// `i64.trunc_sat_f64_s` (opcode 0xFC 6), a numeric instruction that converts a float to an integer, and saturates.
+    /// [`InstructionSink::i64_trunc_sat_f64_s`](super::InstructionSink::i64_trunc_sat_f64_s) appends it.
     #[doc(alias = "i64.trunc_sat_f64_s")]
     I64TruncSatF64S,
-    /// `i64.trunc_sat_f64_u`, opcode `FC 07`, a numeric instruction.
-    /// Its call is [`i64_trunc_sat_f64_u`](super::InstructionSink::i64_trunc_sat_f64_u).
+    /// `i64.trunc_sat_f64_u` (opcode 0xFC 7), a numeric instruction that converts a float to an integer, and saturates.
+    /// [`InstructionSink::i64_trunc_sat_f64_u`](super::InstructionSink::i64_trunc_sat_f64_u) appends it.
     #[doc(alias = "i64.trunc_sat_f64_u")]
     I64TruncSatF64U,
-    /// `memory.init`, opcode `FC 08`, a memory instruction.
-    /// Its call is [`memory_init`](super::InstructionSink::memory_init).
+    /// `memory.init` (opcode 0xFC 8), a memory instruction that copies bytes of a data segment to a memory.
+    /// [`InstructionSink::memory_init`](super::InstructionSink::memory_init) appends it.
     #[doc(alias = "memory.init")]
     MemoryInit {
         /// The index of the memory.
@@ -1141,12 +1142,12 @@ pub enum Instruction<'a> {
         /// The index of the data segment.
         data_index: u32,
     },
-    /// `data.drop`, opcode `FC 09`, a memory instruction.
-    /// Its call is [`data_drop`](super::InstructionSink::data_drop), with the immediate `data_index`.
+    /// `data.drop` (opcode 0xFC 9), a memory instruction that drops a data segment.
+    /// [`InstructionSink::data_drop`](super::InstructionSink::data_drop) appends it, with the immediate `data_index`.
     #[doc(alias = "data.drop")]
     DataDrop(u32),
-    /// `memory.copy`, opcode `FC 0A`, a memory instruction.
-    /// Its call is [`memory_copy`](super::InstructionSink::memory_copy).
+    /// `memory.copy` (opcode 0xFC 10), a memory instruction that copies bytes from one memory to another.
+    /// [`InstructionSink::memory_copy`](super::InstructionSink::memory_copy) appends it.
     #[doc(alias = "memory.copy")]
     MemoryCopy {
         /// The index of the source memory.
@@ -1154,12 +1155,12 @@ pub enum Instruction<'a> {
         /// The index of the destination memory.
         dst_mem: u32,
     },
-    /// `memory.fill`, opcode `FC 0B`, a memory instruction.
-    /// Its call is [`memory_fill`](super::InstructionSink::memory_fill), with the immediate `mem`.
+    /// `memory.fill` (opcode 0xFC 11), a memory instruction that sets bytes of a memory to one value.
+    /// [`InstructionSink::memory_fill`](super::InstructionSink::memory_fill) appends it, with the immediate `mem`.
     #[doc(alias = "memory.fill")]
     MemoryFill(u32),
-    /// `table.init`, opcode `FC 0C`, a table instruction.
-    /// Its call is [`table_init`](super::InstructionSink::table_init).
+    /// `table.init` (opcode 0xFC 12), a table instruction that copies elements of an element segment to a table.
+    /// [`InstructionSink::table_init`](super::InstructionSink::table_init) appends it.
     #[doc(alias = "table.init")]
     TableInit {
         /// The index of the element segment.
@@ -1167,12 +1168,12 @@ pub enum Instruction<'a> {
         /// The index of the table.
         table: u32,
     },
-    /// `elem.drop`, opcode `FC 0D`, a table instruction.
-    /// Its call is [`elem_drop`](super::InstructionSink::elem_drop), with the immediate `elem_index`.
+    /// `elem.drop` (opcode 0xFC 13), a table instruction that drops an element segment.
+    /// [`InstructionSink::elem_drop`](super::InstructionSink::elem_drop) appends it, with the immediate `elem_index`.
     #[doc(alias = "elem.drop")]
     ElemDrop(u32),
-    /// `table.copy`, opcode `FC 0E`, a table instruction.
-    /// Its call is [`table_copy`](super::InstructionSink::table_copy).
+    /// `table.copy` (opcode 0xFC 14), a table instruction that copies elements from one table to another.
+    /// [`InstructionSink::table_copy`](super::InstructionSink::table_copy) appends it.
     #[doc(alias = "table.copy")]
     TableCopy {
         /// The index of the source table.
@@ -1180,376 +1181,376 @@ pub enum Instruction<'a> {
         /// The index of the destination table.
         dst_table: u32,
     },
-    /// `table.grow`, opcode `FC 0F`, a table instruction.
-    /// Its call is [`table_grow`](super::InstructionSink::table_grow), with the immediate `table`.
+    /// `table.grow` (opcode 0xFC 15), a table instruction that grows a table.
+    /// [`InstructionSink::table_grow`](super::InstructionSink::table_grow) appends it, with the immediate `table`.
     #[doc(alias = "table.grow")]
     TableGrow(u32),
-    /// `table.size`, opcode `FC 10`, a table instruction.
-    /// Its call is [`table_size`](super::InstructionSink::table_size), with the immediate `table`.
+    /// `table.size` (opcode 0xFC 16), a table instruction that returns the number of elements of a table.
+    /// [`InstructionSink::table_size`](super::InstructionSink::table_size) appends it, with the immediate `table`.
     #[doc(alias = "table.size")]
     TableSize(u32),
-    /// `table.fill`, opcode `FC 11`, a table instruction.
-    /// Its call is [`table_fill`](super::InstructionSink::table_fill), with the immediate `table`.
+    /// `table.fill` (opcode 0xFC 17), a table instruction that sets elements of a table to a reference.
+    /// [`InstructionSink::table_fill`](super::InstructionSink::table_fill) appends it, with the immediate `table`.
     #[doc(alias = "table.fill")]
     TableFill(u32),
-    /// `memory.discard`, opcode `FC 12`, a memory instruction of the memory control proposal.
-    /// Its call is [`memory_discard`](super::InstructionSink::memory_discard), with the immediate `mem`.
+    /// `memory.discard` (opcode 0xFC 18), a memory instruction of the memory control proposal that discards pages of a memory.
+    /// [`InstructionSink::memory_discard`](super::InstructionSink::memory_discard) appends it, with the immediate `mem`.
     #[doc(alias = "memory.discard")]
     MemoryDiscard(u32),
-    /// `i64.add128`, opcode `FC 13`, a numeric instruction of the wide arithmetic proposal.
-    /// Its call is [`i64_add128`](super::InstructionSink::i64_add128).
+    /// `i64.add128` (opcode 0xFC 19), a numeric instruction of the wide arithmetic proposal that adds two integers of 128 bits.
+    /// [`InstructionSink::i64_add128`](super::InstructionSink::i64_add128) appends it.
     #[doc(alias = "i64.add128")]
     I64Add128,
-    /// `i64.sub128`, opcode `FC 14`, a numeric instruction of the wide arithmetic proposal.
-    /// Its call is [`i64_sub128`](super::InstructionSink::i64_sub128).
+    /// `i64.sub128` (opcode 0xFC 20), a numeric instruction of the wide arithmetic proposal that subtracts two integers of 128 bits.
+    /// [`InstructionSink::i64_sub128`](super::InstructionSink::i64_sub128) appends it.
     #[doc(alias = "i64.sub128")]
     I64Sub128,
-    /// `i64.mul_wide_s`, opcode `FC 15`, a numeric instruction of the wide arithmetic proposal.
-    /// Its call is [`i64_mul_wide_s`](super::InstructionSink::i64_mul_wide_s).
+    /// `i64.mul_wide_s` (opcode 0xFC 21), a numeric instruction of the wide arithmetic proposal that multiplies two integers to 128 bits.
+    /// [`InstructionSink::i64_mul_wide_s`](super::InstructionSink::i64_mul_wide_s) appends it.
     #[doc(alias = "i64.mul_wide_s")]
     I64MulWideS,
-    /// `i64.mul_wide_u`, opcode `FC 16`, a numeric instruction of the wide arithmetic proposal.
-    /// Its call is [`i64_mul_wide_u`](super::InstructionSink::i64_mul_wide_u).
+    /// `i64.mul_wide_u` (opcode 0xFC 22), a numeric instruction of the wide arithmetic proposal that multiplies two integers to 128 bits.
+    /// [`InstructionSink::i64_mul_wide_u`](super::InstructionSink::i64_mul_wide_u) appends it.
     #[doc(alias = "i64.mul_wide_u")]
     I64MulWideU,
-    /// `v128.load`, opcode `FD 00`, a vector instruction.
-    /// Its call is [`v128_load`](super::InstructionSink::v128_load), with the immediate `memarg`.
+    /// `v128.load` (opcode 0xFD 0), a vector instruction that loads a vector from a memory.
+    /// [`InstructionSink::v128_load`](super::InstructionSink::v128_load) appends it, with the immediate `memarg`.
     #[doc(alias = "v128.load")]
     V128Load(MemArg),
-    /// `v128.load8x8_s`, opcode `FD 01`, a vector instruction.
-    /// Its call is [`v128_load8x8_s`](super::InstructionSink::v128_load8x8_s), with the immediate `memarg`.
+    /// `v128.load8x8_s` (opcode 0xFD 1), a vector instruction that loads numbers from a memory, and extends each to a lane.
+    /// [`InstructionSink::v128_load8x8_s`](super::InstructionSink::v128_load8x8_s) appends it, with the immediate `memarg`.
     #[doc(alias = "v128.load8x8_s")]
     V128Load8x8S(MemArg),
-    /// `v128.load8x8_u`, opcode `FD 02`, a vector instruction.
-    /// Its call is [`v128_load8x8_u`](super::InstructionSink::v128_load8x8_u), with the immediate `memarg`.
+    /// `v128.load8x8_u` (opcode 0xFD 2), a vector instruction that loads numbers from a memory, and extends each to a lane.
+    /// [`InstructionSink::v128_load8x8_u`](super::InstructionSink::v128_load8x8_u) appends it, with the immediate `memarg`.
     #[doc(alias = "v128.load8x8_u")]
     V128Load8x8U(MemArg),
-    /// `v128.load16x4_s`, opcode `FD 03`, a vector instruction.
-    /// Its call is [`v128_load16x4_s`](super::InstructionSink::v128_load16x4_s), with the immediate `memarg`.
+    /// `v128.load16x4_s` (opcode 0xFD 3), a vector instruction that loads numbers from a memory, and extends each to a lane.
+    /// [`InstructionSink::v128_load16x4_s`](super::InstructionSink::v128_load16x4_s) appends it, with the immediate `memarg`.
     #[doc(alias = "v128.load16x4_s")]
     V128Load16x4S(MemArg),
-    /// `v128.load16x4_u`, opcode `FD 04`, a vector instruction.
-    /// Its call is [`v128_load16x4_u`](super::InstructionSink::v128_load16x4_u), with the immediate `memarg`.
+    /// `v128.load16x4_u` (opcode 0xFD 4), a vector instruction that loads numbers from a memory, and extends each to a lane.
+    /// [`InstructionSink::v128_load16x4_u`](super::InstructionSink::v128_load16x4_u) appends it, with the immediate `memarg`.
     #[doc(alias = "v128.load16x4_u")]
     V128Load16x4U(MemArg),
-    /// `v128.load32x2_s`, opcode `FD 05`, a vector instruction.
-    /// Its call is [`v128_load32x2_s`](super::InstructionSink::v128_load32x2_s), with the immediate `memarg`.
+    /// `v128.load32x2_s` (opcode 0xFD 5), a vector instruction that loads numbers from a memory, and extends each to a lane.
+    /// [`InstructionSink::v128_load32x2_s`](super::InstructionSink::v128_load32x2_s) appends it, with the immediate `memarg`.
     #[doc(alias = "v128.load32x2_s")]
     V128Load32x2S(MemArg),
-    /// `v128.load32x2_u`, opcode `FD 06`, a vector instruction.
-    /// Its call is [`v128_load32x2_u`](super::InstructionSink::v128_load32x2_u), with the immediate `memarg`.
+    /// `v128.load32x2_u` (opcode 0xFD 6), a vector instruction that loads numbers from a memory, and extends each to a lane.
+    /// [`InstructionSink::v128_load32x2_u`](super::InstructionSink::v128_load32x2_u) appends it, with the immediate `memarg`.
     #[doc(alias = "v128.load32x2_u")]
     V128Load32x2U(MemArg),
-    /// `v128.load8_splat`, opcode `FD 07`, a vector instruction.
-    /// Its call is [`v128_load8_splat`](super::InstructionSink::v128_load8_splat), with the immediate `memarg`.
+    /// `v128.load8_splat` (opcode 0xFD 7), a vector instruction that loads a number from a memory, and copies it to each lane.
+    /// [`InstructionSink::v128_load8_splat`](super::InstructionSink::v128_load8_splat) appends it, with the immediate `memarg`.
     #[doc(alias = "v128.load8_splat")]
     V128Load8Splat(MemArg),
-    /// `v128.load16_splat`, opcode `FD 08`, a vector instruction.
-    /// Its call is [`v128_load16_splat`](super::InstructionSink::v128_load16_splat), with the immediate `memarg`.
+    /// `v128.load16_splat` (opcode 0xFD 8), a vector instruction that loads a number from a memory, and copies it to each lane.
+    /// [`InstructionSink::v128_load16_splat`](super::InstructionSink::v128_load16_splat) appends it, with the immediate `memarg`.
     #[doc(alias = "v128.load16_splat")]
     V128Load16Splat(MemArg),
-    /// `v128.load32_splat`, opcode `FD 09`, a vector instruction.
-    /// Its call is [`v128_load32_splat`](super::InstructionSink::v128_load32_splat), with the immediate `memarg`.
+    /// `v128.load32_splat` (opcode 0xFD 9), a vector instruction that loads a number from a memory, and copies it to each lane.
+    /// [`InstructionSink::v128_load32_splat`](super::InstructionSink::v128_load32_splat) appends it, with the immediate `memarg`.
     #[doc(alias = "v128.load32_splat")]
     V128Load32Splat(MemArg),
-    /// `v128.load64_splat`, opcode `FD 0A`, a vector instruction.
-    /// Its call is [`v128_load64_splat`](super::InstructionSink::v128_load64_splat), with the immediate `memarg`.
+    /// `v128.load64_splat` (opcode 0xFD 10), a vector instruction that loads a number from a memory, and copies it to each lane.
+    /// [`InstructionSink::v128_load64_splat`](super::InstructionSink::v128_load64_splat) appends it, with the immediate `memarg`.
     #[doc(alias = "v128.load64_splat")]
     V128Load64Splat(MemArg),
-    /// `v128.store`, opcode `FD 0B`, a vector instruction.
-    /// Its call is [`v128_store`](super::InstructionSink::v128_store), with the immediate `memarg`.
+    /// `v128.store` (opcode 0xFD 11), a vector instruction that stores a vector to a memory.
+    /// [`InstructionSink::v128_store`](super::InstructionSink::v128_store) appends it, with the immediate `memarg`.
     #[doc(alias = "v128.store")]
     V128Store(MemArg),
-    /// `v128.const`, opcode `FD 0C`, a vector instruction.
-    /// Its call is [`v128_const`](super::InstructionSink::v128_const), with the immediate `value`.
+    /// `v128.const` (opcode 0xFD 12), a vector instruction that returns a constant.
+    /// [`InstructionSink::v128_const`](super::InstructionSink::v128_const) appends it, with the immediate `value`.
     #[doc(alias = "v128.const")]
     V128Const(i128),
-    /// `i8x16.shuffle`, opcode `FD 0D`, a vector instruction.
-    /// Its call is [`i8x16_shuffle`](super::InstructionSink::i8x16_shuffle), with the immediate `lanes`.
+    /// `i8x16.shuffle` (opcode 0xFD 13), a vector instruction that selects lanes of two vectors by the immediates.
+    /// [`InstructionSink::i8x16_shuffle`](super::InstructionSink::i8x16_shuffle) appends it, with the immediate `lanes`.
     #[doc(alias = "i8x16.shuffle")]
     I8x16Shuffle([Lane; 16]),
-    /// `i8x16.swizzle`, opcode `FD 0E`, a vector instruction.
-    /// Its call is [`i8x16_swizzle`](super::InstructionSink::i8x16_swizzle).
+    /// `i8x16.swizzle` (opcode 0xFD 14), a vector instruction that selects lanes of a vector by those of another.
+    /// [`InstructionSink::i8x16_swizzle`](super::InstructionSink::i8x16_swizzle) appends it.
     #[doc(alias = "i8x16.swizzle")]
     I8x16Swizzle,
-    /// `i8x16.splat`, opcode `FD 0F`, a vector instruction.
-    /// Its call is [`i8x16_splat`](super::InstructionSink::i8x16_splat).
+    /// `i8x16.splat` (opcode 0xFD 15), a vector instruction that copies a number to each lane of a vector.
+    /// [`InstructionSink::i8x16_splat`](super::InstructionSink::i8x16_splat) appends it.
     #[doc(alias = "i8x16.splat")]
     I8x16Splat,
-    /// `i16x8.splat`, opcode `FD 10`, a vector instruction.
-    /// Its call is [`i16x8_splat`](super::InstructionSink::i16x8_splat).
+    /// `i16x8.splat` (opcode 0xFD 16), a vector instruction that copies a number to each lane of a vector.
+    /// [`InstructionSink::i16x8_splat`](super::InstructionSink::i16x8_splat) appends it.
     #[doc(alias = "i16x8.splat")]
     I16x8Splat,
-    /// `i32x4.splat`, opcode `FD 11`, a vector instruction.
-    /// Its call is [`i32x4_splat`](super::InstructionSink::i32x4_splat).
+    /// `i32x4.splat` (opcode 0xFD 17), a vector instruction that copies a number to each lane of a vector.
+    /// [`InstructionSink::i32x4_splat`](super::InstructionSink::i32x4_splat) appends it.
     #[doc(alias = "i32x4.splat")]
     I32x4Splat,
-    /// `i64x2.splat`, opcode `FD 12`, a vector instruction.
-    /// Its call is [`i64x2_splat`](super::InstructionSink::i64x2_splat).
+    /// `i64x2.splat` (opcode 0xFD 18), a vector instruction that copies a number to each lane of a vector.
+    /// [`InstructionSink::i64x2_splat`](super::InstructionSink::i64x2_splat) appends it.
     #[doc(alias = "i64x2.splat")]
     I64x2Splat,
-    /// `f32x4.splat`, opcode `FD 13`, a vector instruction.
-    /// Its call is [`f32x4_splat`](super::InstructionSink::f32x4_splat).
+    /// `f32x4.splat` (opcode 0xFD 19), a vector instruction that copies a number to each lane of a vector.
+    /// [`InstructionSink::f32x4_splat`](super::InstructionSink::f32x4_splat) appends it.
     #[doc(alias = "f32x4.splat")]
     F32x4Splat,
-    /// `f64x2.splat`, opcode `FD 14`, a vector instruction.
-    /// Its call is [`f64x2_splat`](super::InstructionSink::f64x2_splat).
+    /// `f64x2.splat` (opcode 0xFD 20), a vector instruction that copies a number to each lane of a vector.
+    /// [`InstructionSink::f64x2_splat`](super::InstructionSink::f64x2_splat) appends it.
     #[doc(alias = "f64x2.splat")]
     F64x2Splat,
-    /// `i8x16.extract_lane_s`, opcode `FD 15`, a vector instruction.
-    /// Its call is [`i8x16_extract_lane_s`](super::InstructionSink::i8x16_extract_lane_s), with the immediate `lane`.
+    /// `i8x16.extract_lane_s` (opcode 0xFD 21), a vector instruction that reads a lane of a vector.
+    /// [`InstructionSink::i8x16_extract_lane_s`](super::InstructionSink::i8x16_extract_lane_s) appends it, with the immediate `lane`.
     #[doc(alias = "i8x16.extract_lane_s")]
     I8x16ExtractLaneS(Lane),
-    /// `i8x16.extract_lane_u`, opcode `FD 16`, a vector instruction.
-    /// Its call is [`i8x16_extract_lane_u`](super::InstructionSink::i8x16_extract_lane_u), with the immediate `lane`.
+    /// `i8x16.extract_lane_u` (opcode 0xFD 22), a vector instruction that reads a lane of a vector.
+    /// [`InstructionSink::i8x16_extract_lane_u`](super::InstructionSink::i8x16_extract_lane_u) appends it, with the immediate `lane`.
     #[doc(alias = "i8x16.extract_lane_u")]
     I8x16ExtractLaneU(Lane),
-    /// `i8x16.replace_lane`, opcode `FD 17`, a vector instruction.
-    /// Its call is [`i8x16_replace_lane`](super::InstructionSink::i8x16_replace_lane), with the immediate `lane`.
+    /// `i8x16.replace_lane` (opcode 0xFD 23), a vector instruction that replaces a lane of a vector.
+    /// [`InstructionSink::i8x16_replace_lane`](super::InstructionSink::i8x16_replace_lane) appends it, with the immediate `lane`.
     #[doc(alias = "i8x16.replace_lane")]
     I8x16ReplaceLane(Lane),
-    /// `i16x8.extract_lane_s`, opcode `FD 18`, a vector instruction.
-    /// Its call is [`i16x8_extract_lane_s`](super::InstructionSink::i16x8_extract_lane_s), with the immediate `lane`.
+    /// `i16x8.extract_lane_s` (opcode 0xFD 24), a vector instruction that reads a lane of a vector.
+    /// [`InstructionSink::i16x8_extract_lane_s`](super::InstructionSink::i16x8_extract_lane_s) appends it, with the immediate `lane`.
     #[doc(alias = "i16x8.extract_lane_s")]
     I16x8ExtractLaneS(Lane),
-    /// `i16x8.extract_lane_u`, opcode `FD 19`, a vector instruction.
-    /// Its call is [`i16x8_extract_lane_u`](super::InstructionSink::i16x8_extract_lane_u), with the immediate `lane`.
+    /// `i16x8.extract_lane_u` (opcode 0xFD 25), a vector instruction that reads a lane of a vector.
+    /// [`InstructionSink::i16x8_extract_lane_u`](super::InstructionSink::i16x8_extract_lane_u) appends it, with the immediate `lane`.
     #[doc(alias = "i16x8.extract_lane_u")]
     I16x8ExtractLaneU(Lane),
-    /// `i16x8.replace_lane`, opcode `FD 1A`, a vector instruction.
-    /// Its call is [`i16x8_replace_lane`](super::InstructionSink::i16x8_replace_lane), with the immediate `lane`.
+    /// `i16x8.replace_lane` (opcode 0xFD 26), a vector instruction that replaces a lane of a vector.
+    /// [`InstructionSink::i16x8_replace_lane`](super::InstructionSink::i16x8_replace_lane) appends it, with the immediate `lane`.
     #[doc(alias = "i16x8.replace_lane")]
     I16x8ReplaceLane(Lane),
-    /// `i32x4.extract_lane`, opcode `FD 1B`, a vector instruction.
-    /// Its call is [`i32x4_extract_lane`](super::InstructionSink::i32x4_extract_lane), with the immediate `lane`.
+    /// `i32x4.extract_lane` (opcode 0xFD 27), a vector instruction that reads a lane of a vector.
+    /// [`InstructionSink::i32x4_extract_lane`](super::InstructionSink::i32x4_extract_lane) appends it, with the immediate `lane`.
     #[doc(alias = "i32x4.extract_lane")]
     I32x4ExtractLane(Lane),
-    /// `i32x4.replace_lane`, opcode `FD 1C`, a vector instruction.
-    /// Its call is [`i32x4_replace_lane`](super::InstructionSink::i32x4_replace_lane), with the immediate `lane`.
+    /// `i32x4.replace_lane` (opcode 0xFD 28), a vector instruction that replaces a lane of a vector.
+    /// [`InstructionSink::i32x4_replace_lane`](super::InstructionSink::i32x4_replace_lane) appends it, with the immediate `lane`.
     #[doc(alias = "i32x4.replace_lane")]
     I32x4ReplaceLane(Lane),
-    /// `i64x2.extract_lane`, opcode `FD 1D`, a vector instruction.
-    /// Its call is [`i64x2_extract_lane`](super::InstructionSink::i64x2_extract_lane), with the immediate `lane`.
+    /// `i64x2.extract_lane` (opcode 0xFD 29), a vector instruction that reads a lane of a vector.
+    /// [`InstructionSink::i64x2_extract_lane`](super::InstructionSink::i64x2_extract_lane) appends it, with the immediate `lane`.
     #[doc(alias = "i64x2.extract_lane")]
     I64x2ExtractLane(Lane),
-    /// `i64x2.replace_lane`, opcode `FD 1E`, a vector instruction.
-    /// Its call is [`i64x2_replace_lane`](super::InstructionSink::i64x2_replace_lane), with the immediate `lane`.
+    /// `i64x2.replace_lane` (opcode 0xFD 30), a vector instruction that replaces a lane of a vector.
+    /// [`InstructionSink::i64x2_replace_lane`](super::InstructionSink::i64x2_replace_lane) appends it, with the immediate `lane`.
     #[doc(alias = "i64x2.replace_lane")]
     I64x2ReplaceLane(Lane),
-    /// `f32x4.extract_lane`, opcode `FD 1F`, a vector instruction.
-    /// Its call is [`f32x4_extract_lane`](super::InstructionSink::f32x4_extract_lane), with the immediate `lane`.
+    /// `f32x4.extract_lane` (opcode 0xFD 31), a vector instruction that reads a lane of a vector.
+    /// [`InstructionSink::f32x4_extract_lane`](super::InstructionSink::f32x4_extract_lane) appends it, with the immediate `lane`.
     #[doc(alias = "f32x4.extract_lane")]
     F32x4ExtractLane(Lane),
-    /// `f32x4.replace_lane`, opcode `FD 20`, a vector instruction.
-    /// Its call is [`f32x4_replace_lane`](super::InstructionSink::f32x4_replace_lane), with the immediate `lane`.
+    /// `f32x4.replace_lane` (opcode 0xFD 32), a vector instruction that replaces a lane of a vector.
+    /// [`InstructionSink::f32x4_replace_lane`](super::InstructionSink::f32x4_replace_lane) appends it, with the immediate `lane`.
     #[doc(alias = "f32x4.replace_lane")]
     F32x4ReplaceLane(Lane),
-    /// `f64x2.extract_lane`, opcode `FD 21`, a vector instruction.
-    /// Its call is [`f64x2_extract_lane`](super::InstructionSink::f64x2_extract_lane), with the immediate `lane`.
+    /// `f64x2.extract_lane` (opcode 0xFD 33), a vector instruction that reads a lane of a vector.
+    /// [`InstructionSink::f64x2_extract_lane`](super::InstructionSink::f64x2_extract_lane) appends it, with the immediate `lane`.
     #[doc(alias = "f64x2.extract_lane")]
     F64x2ExtractLane(Lane),
-    /// `f64x2.replace_lane`, opcode `FD 22`, a vector instruction.
-    /// Its call is [`f64x2_replace_lane`](super::InstructionSink::f64x2_replace_lane), with the immediate `lane`.
+    /// `f64x2.replace_lane` (opcode 0xFD 34), a vector instruction that replaces a lane of a vector.
+    /// [`InstructionSink::f64x2_replace_lane`](super::InstructionSink::f64x2_replace_lane) appends it, with the immediate `lane`.
     #[doc(alias = "f64x2.replace_lane")]
     F64x2ReplaceLane(Lane),
-    /// `i8x16.eq`, opcode `FD 23`, a vector instruction.
-    /// Its call is [`i8x16_eq`](super::InstructionSink::i8x16_eq).
+    /// `i8x16.eq` (opcode 0xFD 35), a vector instruction that compares each lane of two vectors.
+    /// [`InstructionSink::i8x16_eq`](super::InstructionSink::i8x16_eq) appends it.
     #[doc(alias = "i8x16.eq")]
     I8x16Eq,
-    /// `i8x16.ne`, opcode `FD 24`, a vector instruction.
-    /// Its call is [`i8x16_ne`](super::InstructionSink::i8x16_ne).
+    /// `i8x16.ne` (opcode 0xFD 36), a vector instruction that compares each lane of two vectors.
+    /// [`InstructionSink::i8x16_ne`](super::InstructionSink::i8x16_ne) appends it.
     #[doc(alias = "i8x16.ne")]
     I8x16Ne,
-    /// `i8x16.lt_s`, opcode `FD 25`, a vector instruction.
-    /// Its call is [`i8x16_lt_s`](super::InstructionSink::i8x16_lt_s).
+    /// `i8x16.lt_s` (opcode 0xFD 37), a vector instruction that compares each lane of two vectors.
+    /// [`InstructionSink::i8x16_lt_s`](super::InstructionSink::i8x16_lt_s) appends it.
     #[doc(alias = "i8x16.lt_s")]
     I8x16LtS,
-    /// `i8x16.lt_u`, opcode `FD 26`, a vector instruction.
-    /// Its call is [`i8x16_lt_u`](super::InstructionSink::i8x16_lt_u).
+    /// `i8x16.lt_u` (opcode 0xFD 38), a vector instruction that compares each lane of two vectors.
+    /// [`InstructionSink::i8x16_lt_u`](super::InstructionSink::i8x16_lt_u) appends it.
     #[doc(alias = "i8x16.lt_u")]
     I8x16LtU,
-    /// `i8x16.gt_s`, opcode `FD 27`, a vector instruction.
-    /// Its call is [`i8x16_gt_s`](super::InstructionSink::i8x16_gt_s).
+    /// `i8x16.gt_s` (opcode 0xFD 39), a vector instruction that compares each lane of two vectors.
+    /// [`InstructionSink::i8x16_gt_s`](super::InstructionSink::i8x16_gt_s) appends it.
     #[doc(alias = "i8x16.gt_s")]
     I8x16GtS,
-    /// `i8x16.gt_u`, opcode `FD 28`, a vector instruction.
-    /// Its call is [`i8x16_gt_u`](super::InstructionSink::i8x16_gt_u).
+    /// `i8x16.gt_u` (opcode 0xFD 40), a vector instruction that compares each lane of two vectors.
+    /// [`InstructionSink::i8x16_gt_u`](super::InstructionSink::i8x16_gt_u) appends it.
     #[doc(alias = "i8x16.gt_u")]
     I8x16GtU,
-    /// `i8x16.le_s`, opcode `FD 29`, a vector instruction.
-    /// Its call is [`i8x16_le_s`](super::InstructionSink::i8x16_le_s).
+    /// `i8x16.le_s` (opcode 0xFD 41), a vector instruction that compares each lane of two vectors.
+    /// [`InstructionSink::i8x16_le_s`](super::InstructionSink::i8x16_le_s) appends it.
     #[doc(alias = "i8x16.le_s")]
     I8x16LeS,
-    /// `i8x16.le_u`, opcode `FD 2A`, a vector instruction.
-    /// Its call is [`i8x16_le_u`](super::InstructionSink::i8x16_le_u).
+    /// `i8x16.le_u` (opcode 0xFD 42), a vector instruction that compares each lane of two vectors.
+    /// [`InstructionSink::i8x16_le_u`](super::InstructionSink::i8x16_le_u) appends it.
     #[doc(alias = "i8x16.le_u")]
     I8x16LeU,
-    /// `i8x16.ge_s`, opcode `FD 2B`, a vector instruction.
-    /// Its call is [`i8x16_ge_s`](super::InstructionSink::i8x16_ge_s).
+    /// `i8x16.ge_s` (opcode 0xFD 43), a vector instruction that compares each lane of two vectors.
+    /// [`InstructionSink::i8x16_ge_s`](super::InstructionSink::i8x16_ge_s) appends it.
     #[doc(alias = "i8x16.ge_s")]
     I8x16GeS,
-    /// `i8x16.ge_u`, opcode `FD 2C`, a vector instruction.
-    /// Its call is [`i8x16_ge_u`](super::InstructionSink::i8x16_ge_u).
+    /// `i8x16.ge_u` (opcode 0xFD 44), a vector instruction that compares each lane of two vectors.
+    /// [`InstructionSink::i8x16_ge_u`](super::InstructionSink::i8x16_ge_u) appends it.
     #[doc(alias = "i8x16.ge_u")]
     I8x16GeU,
-    /// `i16x8.eq`, opcode `FD 2D`, a vector instruction.
-    /// Its call is [`i16x8_eq`](super::InstructionSink::i16x8_eq).
+    /// `i16x8.eq` (opcode 0xFD 45), a vector instruction that compares each lane of two vectors.
+    /// [`InstructionSink::i16x8_eq`](super::InstructionSink::i16x8_eq) appends it.
     #[doc(alias = "i16x8.eq")]
     I16x8Eq,
-    /// `i16x8.ne`, opcode `FD 2E`, a vector instruction.
-    /// Its call is [`i16x8_ne`](super::InstructionSink::i16x8_ne).
+    /// `i16x8.ne` (opcode 0xFD 46), a vector instruction that compares each lane of two vectors.
+    /// [`InstructionSink::i16x8_ne`](super::InstructionSink::i16x8_ne) appends it.
     #[doc(alias = "i16x8.ne")]
     I16x8Ne,
-    /// `i16x8.lt_s`, opcode `FD 2F`, a vector instruction.
-    /// Its call is [`i16x8_lt_s`](super::InstructionSink::i16x8_lt_s).
+    /// `i16x8.lt_s` (opcode 0xFD 47), a vector instruction that compares each lane of two vectors.
+    /// [`InstructionSink::i16x8_lt_s`](super::InstructionSink::i16x8_lt_s) appends it.
     #[doc(alias = "i16x8.lt_s")]
     I16x8LtS,
-    /// `i16x8.lt_u`, opcode `FD 30`, a vector instruction.
-    /// Its call is [`i16x8_lt_u`](super::InstructionSink::i16x8_lt_u).
+    /// `i16x8.lt_u` (opcode 0xFD 48), a vector instruction that compares each lane of two vectors.
+    /// [`InstructionSink::i16x8_lt_u`](super::InstructionSink::i16x8_lt_u) appends it.
     #[doc(alias = "i16x8.lt_u")]
     I16x8LtU,
-    /// `i16x8.gt_s`, opcode `FD 31`, a vector instruction.
-    /// Its call is [`i16x8_gt_s`](super::InstructionSink::i16x8_gt_s).
+    /// `i16x8.gt_s` (opcode 0xFD 49), a vector instruction that compares each lane of two vectors.
+    /// [`InstructionSink::i16x8_gt_s`](super::InstructionSink::i16x8_gt_s) appends it.
     #[doc(alias = "i16x8.gt_s")]
     I16x8GtS,
-    /// `i16x8.gt_u`, opcode `FD 32`, a vector instruction.
-    /// Its call is [`i16x8_gt_u`](super::InstructionSink::i16x8_gt_u).
+    /// `i16x8.gt_u` (opcode 0xFD 50), a vector instruction that compares each lane of two vectors.
+    /// [`InstructionSink::i16x8_gt_u`](super::InstructionSink::i16x8_gt_u) appends it.
     #[doc(alias = "i16x8.gt_u")]
     I16x8GtU,
-    /// `i16x8.le_s`, opcode `FD 33`, a vector instruction.
-    /// Its call is [`i16x8_le_s`](super::InstructionSink::i16x8_le_s).
+    /// `i16x8.le_s` (opcode 0xFD 51), a vector instruction that compares each lane of two vectors.
+    /// [`InstructionSink::i16x8_le_s`](super::InstructionSink::i16x8_le_s) appends it.
     #[doc(alias = "i16x8.le_s")]
     I16x8LeS,
-    /// `i16x8.le_u`, opcode `FD 34`, a vector instruction.
-    /// Its call is [`i16x8_le_u`](super::InstructionSink::i16x8_le_u).
+    /// `i16x8.le_u` (opcode 0xFD 52), a vector instruction that compares each lane of two vectors.
+    /// [`InstructionSink::i16x8_le_u`](super::InstructionSink::i16x8_le_u) appends it.
     #[doc(alias = "i16x8.le_u")]
     I16x8LeU,
-    /// `i16x8.ge_s`, opcode `FD 35`, a vector instruction.
-    /// Its call is [`i16x8_ge_s`](super::InstructionSink::i16x8_ge_s).
+    /// `i16x8.ge_s` (opcode 0xFD 53), a vector instruction that compares each lane of two vectors.
+    /// [`InstructionSink::i16x8_ge_s`](super::InstructionSink::i16x8_ge_s) appends it.
     #[doc(alias = "i16x8.ge_s")]
     I16x8GeS,
-    /// `i16x8.ge_u`, opcode `FD 36`, a vector instruction.
-    /// Its call is [`i16x8_ge_u`](super::InstructionSink::i16x8_ge_u).
+    /// `i16x8.ge_u` (opcode 0xFD 54), a vector instruction that compares each lane of two vectors.
+    /// [`InstructionSink::i16x8_ge_u`](super::InstructionSink::i16x8_ge_u) appends it.
     #[doc(alias = "i16x8.ge_u")]
     I16x8GeU,
-    /// `i32x4.eq`, opcode `FD 37`, a vector instruction.
-    /// Its call is [`i32x4_eq`](super::InstructionSink::i32x4_eq).
+    /// `i32x4.eq` (opcode 0xFD 55), a vector instruction that compares each lane of two vectors.
+    /// [`InstructionSink::i32x4_eq`](super::InstructionSink::i32x4_eq) appends it.
     #[doc(alias = "i32x4.eq")]
     I32x4Eq,
-    /// `i32x4.ne`, opcode `FD 38`, a vector instruction.
-    /// Its call is [`i32x4_ne`](super::InstructionSink::i32x4_ne).
+    /// `i32x4.ne` (opcode 0xFD 56), a vector instruction that compares each lane of two vectors.
+    /// [`InstructionSink::i32x4_ne`](super::InstructionSink::i32x4_ne) appends it.
     #[doc(alias = "i32x4.ne")]
     I32x4Ne,
-    /// `i32x4.lt_s`, opcode `FD 39`, a vector instruction.
-    /// Its call is [`i32x4_lt_s`](super::InstructionSink::i32x4_lt_s).
+    /// `i32x4.lt_s` (opcode 0xFD 57), a vector instruction that compares each lane of two vectors.
+    /// [`InstructionSink::i32x4_lt_s`](super::InstructionSink::i32x4_lt_s) appends it.
     #[doc(alias = "i32x4.lt_s")]
     I32x4LtS,
-    /// `i32x4.lt_u`, opcode `FD 3A`, a vector instruction.
-    /// Its call is [`i32x4_lt_u`](super::InstructionSink::i32x4_lt_u).
+    /// `i32x4.lt_u` (opcode 0xFD 58), a vector instruction that compares each lane of two vectors.
+    /// [`InstructionSink::i32x4_lt_u`](super::InstructionSink::i32x4_lt_u) appends it.
     #[doc(alias = "i32x4.lt_u")]
     I32x4LtU,
-    /// `i32x4.gt_s`, opcode `FD 3B`, a vector instruction.
-    /// Its call is [`i32x4_gt_s`](super::InstructionSink::i32x4_gt_s).
+    /// `i32x4.gt_s` (opcode 0xFD 59), a vector instruction that compares each lane of two vectors.
+    /// [`InstructionSink::i32x4_gt_s`](super::InstructionSink::i32x4_gt_s) appends it.
     #[doc(alias = "i32x4.gt_s")]
     I32x4GtS,
-    /// `i32x4.gt_u`, opcode `FD 3C`, a vector instruction.
-    /// Its call is [`i32x4_gt_u`](super::InstructionSink::i32x4_gt_u).
+    /// `i32x4.gt_u` (opcode 0xFD 60), a vector instruction that compares each lane of two vectors.
+    /// [`InstructionSink::i32x4_gt_u`](super::InstructionSink::i32x4_gt_u) appends it.
     #[doc(alias = "i32x4.gt_u")]
     I32x4GtU,
-    /// `i32x4.le_s`, opcode `FD 3D`, a vector instruction.
-    /// Its call is [`i32x4_le_s`](super::InstructionSink::i32x4_le_s).
+    /// `i32x4.le_s` (opcode 0xFD 61), a vector instruction that compares each lane of two vectors.
+    /// [`InstructionSink::i32x4_le_s`](super::InstructionSink::i32x4_le_s) appends it.
     #[doc(alias = "i32x4.le_s")]
     I32x4LeS,
-    /// `i32x4.le_u`, opcode `FD 3E`, a vector instruction.
-    /// Its call is [`i32x4_le_u`](super::InstructionSink::i32x4_le_u).
+    /// `i32x4.le_u` (opcode 0xFD 62), a vector instruction that compares each lane of two vectors.
+    /// [`InstructionSink::i32x4_le_u`](super::InstructionSink::i32x4_le_u) appends it.
     #[doc(alias = "i32x4.le_u")]
     I32x4LeU,
-    /// `i32x4.ge_s`, opcode `FD 3F`, a vector instruction.
-    /// Its call is [`i32x4_ge_s`](super::InstructionSink::i32x4_ge_s).
+    /// `i32x4.ge_s` (opcode 0xFD 63), a vector instruction that compares each lane of two vectors.
+    /// [`InstructionSink::i32x4_ge_s`](super::InstructionSink::i32x4_ge_s) appends it.
     #[doc(alias = "i32x4.ge_s")]
     I32x4GeS,
-    /// `i32x4.ge_u`, opcode `FD 40`, a vector instruction.
-    /// Its call is [`i32x4_ge_u`](super::InstructionSink::i32x4_ge_u).
+    /// `i32x4.ge_u` (opcode 0xFD 64), a vector instruction that compares each lane of two vectors.
+    /// [`InstructionSink::i32x4_ge_u`](super::InstructionSink::i32x4_ge_u) appends it.
     #[doc(alias = "i32x4.ge_u")]
     I32x4GeU,
-    /// `f32x4.eq`, opcode `FD 41`, a vector instruction.
-    /// Its call is [`f32x4_eq`](super::InstructionSink::f32x4_eq).
+    /// `f32x4.eq` (opcode 0xFD 65), a vector instruction that compares each lane of two vectors.
+    /// [`InstructionSink::f32x4_eq`](super::InstructionSink::f32x4_eq) appends it.
     #[doc(alias = "f32x4.eq")]
     F32x4Eq,
-    /// `f32x4.ne`, opcode `FD 42`, a vector instruction.
-    /// Its call is [`f32x4_ne`](super::InstructionSink::f32x4_ne).
+    /// `f32x4.ne` (opcode 0xFD 66), a vector instruction that compares each lane of two vectors.
+    /// [`InstructionSink::f32x4_ne`](super::InstructionSink::f32x4_ne) appends it.
     #[doc(alias = "f32x4.ne")]
     F32x4Ne,
-    /// `f32x4.lt`, opcode `FD 43`, a vector instruction.
-    /// Its call is [`f32x4_lt`](super::InstructionSink::f32x4_lt).
+    /// `f32x4.lt` (opcode 0xFD 67), a vector instruction that compares each lane of two vectors.
+    /// [`InstructionSink::f32x4_lt`](super::InstructionSink::f32x4_lt) appends it.
     #[doc(alias = "f32x4.lt")]
     F32x4Lt,
-    /// `f32x4.gt`, opcode `FD 44`, a vector instruction.
-    /// Its call is [`f32x4_gt`](super::InstructionSink::f32x4_gt).
+    /// `f32x4.gt` (opcode 0xFD 68), a vector instruction that compares each lane of two vectors.
+    /// [`InstructionSink::f32x4_gt`](super::InstructionSink::f32x4_gt) appends it.
     #[doc(alias = "f32x4.gt")]
     F32x4Gt,
-    /// `f32x4.le`, opcode `FD 45`, a vector instruction.
-    /// Its call is [`f32x4_le`](super::InstructionSink::f32x4_le).
+    /// `f32x4.le` (opcode 0xFD 69), a vector instruction that compares each lane of two vectors.
+    /// [`InstructionSink::f32x4_le`](super::InstructionSink::f32x4_le) appends it.
     #[doc(alias = "f32x4.le")]
     F32x4Le,
-    /// `f32x4.ge`, opcode `FD 46`, a vector instruction.
-    /// Its call is [`f32x4_ge`](super::InstructionSink::f32x4_ge).
+    /// `f32x4.ge` (opcode 0xFD 70), a vector instruction that compares each lane of two vectors.
+    /// [`InstructionSink::f32x4_ge`](super::InstructionSink::f32x4_ge) appends it.
     #[doc(alias = "f32x4.ge")]
     F32x4Ge,
-    /// `f64x2.eq`, opcode `FD 47`, a vector instruction.
-    /// Its call is [`f64x2_eq`](super::InstructionSink::f64x2_eq).
+    /// `f64x2.eq` (opcode 0xFD 71), a vector instruction that compares each lane of two vectors.
+    /// [`InstructionSink::f64x2_eq`](super::InstructionSink::f64x2_eq) appends it.
     #[doc(alias = "f64x2.eq")]
     F64x2Eq,
-    /// `f64x2.ne`, opcode `FD 48`, a vector instruction.
-    /// Its call is [`f64x2_ne`](super::InstructionSink::f64x2_ne).
+    /// `f64x2.ne` (opcode 0xFD 72), a vector instruction that compares each lane of two vectors.
+    /// [`InstructionSink::f64x2_ne`](super::InstructionSink::f64x2_ne) appends it.
     #[doc(alias = "f64x2.ne")]
     F64x2Ne,
-    /// `f64x2.lt`, opcode `FD 49`, a vector instruction.
-    /// Its call is [`f64x2_lt`](super::InstructionSink::f64x2_lt).
+    /// `f64x2.lt` (opcode 0xFD 73), a vector instruction that compares each lane of two vectors.
+    /// [`InstructionSink::f64x2_lt`](super::InstructionSink::f64x2_lt) appends it.
     #[doc(alias = "f64x2.lt")]
     F64x2Lt,
-    /// `f64x2.gt`, opcode `FD 4A`, a vector instruction.
-    /// Its call is [`f64x2_gt`](super::InstructionSink::f64x2_gt).
+    /// `f64x2.gt` (opcode 0xFD 74), a vector instruction that compares each lane of two vectors.
+    /// [`InstructionSink::f64x2_gt`](super::InstructionSink::f64x2_gt) appends it.
     #[doc(alias = "f64x2.gt")]
     F64x2Gt,
-    /// `f64x2.le`, opcode `FD 4B`, a vector instruction.
-    /// Its call is [`f64x2_le`](super::InstructionSink::f64x2_le).
+    /// `f64x2.le` (opcode 0xFD 75), a vector instruction that compares each lane of two vectors.
+    /// [`InstructionSink::f64x2_le`](super::InstructionSink::f64x2_le) appends it.
     #[doc(alias = "f64x2.le")]
     F64x2Le,
-    /// `f64x2.ge`, opcode `FD 4C`, a vector instruction.
-    /// Its call is [`f64x2_ge`](super::InstructionSink::f64x2_ge).
+    /// `f64x2.ge` (opcode 0xFD 76), a vector instruction that compares each lane of two vectors.
+    /// [`InstructionSink::f64x2_ge`](super::InstructionSink::f64x2_ge) appends it.
     #[doc(alias = "f64x2.ge")]
     F64x2Ge,
-    /// `v128.not`, opcode `FD 4D`, a vector instruction.
-    /// Its call is [`v128_not`](super::InstructionSink::v128_not).
+    /// `v128.not` (opcode 0xFD 77), a vector instruction that inverts the bits of a vector.
+    /// [`InstructionSink::v128_not`](super::InstructionSink::v128_not) appends it.
     #[doc(alias = "v128.not")]
     V128Not,
-    /// `v128.and`, opcode `FD 4E`, a vector instruction.
-    /// Its call is [`v128_and`](super::InstructionSink::v128_and).
+    /// `v128.and` (opcode 0xFD 78), a vector instruction that computes the bitwise and of two vectors.
+    /// [`InstructionSink::v128_and`](super::InstructionSink::v128_and) appends it.
     #[doc(alias = "v128.and")]
     V128And,
-    /// `v128.andnot`, opcode `FD 4F`, a vector instruction.
-    /// Its call is [`v128_andnot`](super::InstructionSink::v128_andnot).
+    /// `v128.andnot` (opcode 0xFD 79), a vector instruction that computes the bitwise and of a vector and the inverse of another.
+    /// [`InstructionSink::v128_andnot`](super::InstructionSink::v128_andnot) appends it.
     #[doc(alias = "v128.andnot")]
     V128AndNot,
-    /// `v128.or`, opcode `FD 50`, a vector instruction.
-    /// Its call is [`v128_or`](super::InstructionSink::v128_or).
+    /// `v128.or` (opcode 0xFD 80), a vector instruction that computes the bitwise or of two vectors.
+    /// [`InstructionSink::v128_or`](super::InstructionSink::v128_or) appends it.
     #[doc(alias = "v128.or")]
     V128Or,
-    /// `v128.xor`, opcode `FD 51`, a vector instruction.
-    /// Its call is [`v128_xor`](super::InstructionSink::v128_xor).
+    /// `v128.xor` (opcode 0xFD 81), a vector instruction that computes the bitwise exclusive or of two vectors.
+    /// [`InstructionSink::v128_xor`](super::InstructionSink::v128_xor) appends it.
     #[doc(alias = "v128.xor")]
     V128Xor,
-    /// `v128.bitselect`, opcode `FD 52`, a vector instruction.
-    /// Its call is [`v128_bitselect`](super::InstructionSink::v128_bitselect).
+    /// `v128.bitselect` (opcode 0xFD 82), a vector instruction that selects bits of two vectors by the bits of a third.
+    /// [`InstructionSink::v128_bitselect`](super::InstructionSink::v128_bitselect) appends it.
     #[doc(alias = "v128.bitselect")]
     V128Bitselect,
-    /// `v128.any_true`, opcode `FD 53`, a vector instruction.
-    /// Its call is [`v128_any_true`](super::InstructionSink::v128_any_true).
+    /// `v128.any_true` (opcode 0xFD 83), a vector instruction that tests whether a bit of a vector is set.
+    /// [`InstructionSink::v128_any_true`](super::InstructionSink::v128_any_true) appends it.
     #[doc(alias = "v128.any_true")]
     V128AnyTrue,
-    /// `v128.load8_lane`, opcode `FD 54`, a vector instruction.
-    /// Its call is [`v128_load8_lane`](super::InstructionSink::v128_load8_lane).
+    /// `v128.load8_lane` (opcode 0xFD 84), a vector instruction that loads one lane of a vector from a memory.
+    /// [`InstructionSink::v128_load8_lane`](super::InstructionSink::v128_load8_lane) appends it.
     #[doc(alias = "v128.load8_lane")]
     V128Load8Lane {
         /// The memory, the offset and the alignment.
@@ -1557,8 +1558,8 @@ pub enum Instruction<'a> {
         /// The index of the lane.
         lane: Lane,
     },
-    /// `v128.load16_lane`, opcode `FD 55`, a vector instruction.
-    /// Its call is [`v128_load16_lane`](super::InstructionSink::v128_load16_lane).
+    /// `v128.load16_lane` (opcode 0xFD 85), a vector instruction that loads one lane of a vector from a memory.
+    /// [`InstructionSink::v128_load16_lane`](super::InstructionSink::v128_load16_lane) appends it.
     #[doc(alias = "v128.load16_lane")]
     V128Load16Lane {
         /// The memory, the offset and the alignment.
@@ -1566,8 +1567,8 @@ pub enum Instruction<'a> {
         /// The index of the lane.
         lane: Lane,
     },
-    /// `v128.load32_lane`, opcode `FD 56`, a vector instruction.
-    /// Its call is [`v128_load32_lane`](super::InstructionSink::v128_load32_lane).
+    /// `v128.load32_lane` (opcode 0xFD 86), a vector instruction that loads one lane of a vector from a memory.
+    /// [`InstructionSink::v128_load32_lane`](super::InstructionSink::v128_load32_lane) appends it.
     #[doc(alias = "v128.load32_lane")]
     V128Load32Lane {
         /// The memory, the offset and the alignment.
@@ -1575,8 +1576,8 @@ pub enum Instruction<'a> {
         /// The index of the lane.
         lane: Lane,
     },
-    /// `v128.load64_lane`, opcode `FD 57`, a vector instruction.
-    /// Its call is [`v128_load64_lane`](super::InstructionSink::v128_load64_lane).
+    /// `v128.load64_lane` (opcode 0xFD 87), a vector instruction that loads one lane of a vector from a memory.
+    /// [`InstructionSink::v128_load64_lane`](super::InstructionSink::v128_load64_lane) appends it.
     #[doc(alias = "v128.load64_lane")]
     V128Load64Lane {
         /// The memory, the offset and the alignment.
@@ -1584,8 +1585,8 @@ pub enum Instruction<'a> {
         /// The index of the lane.
         lane: Lane,
     },
-    /// `v128.store8_lane`, opcode `FD 58`, a vector instruction.
-    /// Its call is [`v128_store8_lane`](super::InstructionSink::v128_store8_lane).
+    /// `v128.store8_lane` (opcode 0xFD 88), a vector instruction that stores one lane of a vector to a memory.
+    /// [`InstructionSink::v128_store8_lane`](super::InstructionSink::v128_store8_lane) appends it.
     #[doc(alias = "v128.store8_lane")]
     V128Store8Lane {
         /// The memory, the offset and the alignment.
@@ -1593,8 +1594,8 @@ pub enum Instruction<'a> {
         /// The index of the lane.
         lane: Lane,
     },
-    /// `v128.store16_lane`, opcode `FD 59`, a vector instruction.
-    /// Its call is [`v128_store16_lane`](super::InstructionSink::v128_store16_lane).
+    /// `v128.store16_lane` (opcode 0xFD 89), a vector instruction that stores one lane of a vector to a memory.
+    /// [`InstructionSink::v128_store16_lane`](super::InstructionSink::v128_store16_lane) appends it.
     #[doc(alias = "v128.store16_lane")]
     V128Store16Lane {
         /// The memory, the offset and the alignment.
@@ -1602,8 +1603,8 @@ pub enum Instruction<'a> {
         /// The index of the lane.
         lane: Lane,
     },
-    /// `v128.store32_lane`, opcode `FD 5A`, a vector instruction.
-    /// Its call is [`v128_store32_lane`](super::InstructionSink::v128_store32_lane).
+    /// `v128.store32_lane` (opcode 0xFD 90), a vector instruction that stores one lane of a vector to a memory.
+    /// [`InstructionSink::v128_store32_lane`](super::InstructionSink::v128_store32_lane) appends it.
     #[doc(alias = "v128.store32_lane")]
     V128Store32Lane {
         /// The memory, the offset and the alignment.
@@ -1611,8 +1612,8 @@ pub enum Instruction<'a> {
         /// The index of the lane.
         lane: Lane,
     },
-    /// `v128.store64_lane`, opcode `FD 5B`, a vector instruction.
-    /// Its call is [`v128_store64_lane`](super::InstructionSink::v128_store64_lane).
+    /// `v128.store64_lane` (opcode 0xFD 91), a vector instruction that stores one lane of a vector to a memory.
+    /// [`InstructionSink::v128_store64_lane`](super::InstructionSink::v128_store64_lane) appends it.
     #[doc(alias = "v128.store64_lane")]
     V128Store64Lane {
         /// The memory, the offset and the alignment.
@@ -1620,935 +1621,935 @@ pub enum Instruction<'a> {
         /// The index of the lane.
         lane: Lane,
     },
-    /// `v128.load32_zero`, opcode `FD 5C`, a vector instruction.
-    /// Its call is [`v128_load32_zero`](super::InstructionSink::v128_load32_zero), with the immediate `memarg`.
+    /// `v128.load32_zero` (opcode 0xFD 92), a vector instruction that loads a lane from a memory, and sets the others to zero.
+    /// [`InstructionSink::v128_load32_zero`](super::InstructionSink::v128_load32_zero) appends it, with the immediate `memarg`.
     #[doc(alias = "v128.load32_zero")]
     V128Load32Zero(MemArg),
-    /// `v128.load64_zero`, opcode `FD 5D`, a vector instruction.
-    /// Its call is [`v128_load64_zero`](super::InstructionSink::v128_load64_zero), with the immediate `memarg`.
+    /// `v128.load64_zero` (opcode 0xFD 93), a vector instruction that loads a lane from a memory, and sets the others to zero.
+    /// [`InstructionSink::v128_load64_zero`](super::InstructionSink::v128_load64_zero) appends it, with the immediate `memarg`.
     #[doc(alias = "v128.load64_zero")]
     V128Load64Zero(MemArg),
-    /// `f32x4.demote_f64x2_zero`, opcode `FD 5E`, a vector instruction.
-    /// Its call is [`f32x4_demote_f64x2_zero`](super::InstructionSink::f32x4_demote_f64x2_zero).
+    /// `f32x4.demote_f64x2_zero` (opcode 0xFD 94), a vector instruction that rounds the floats of a vector to 32 bits.
+    /// [`InstructionSink::f32x4_demote_f64x2_zero`](super::InstructionSink::f32x4_demote_f64x2_zero) appends it.
     #[doc(alias = "f32x4.demote_f64x2_zero")]
     F32x4DemoteF64x2Zero,
-    /// `f64x2.promote_low_f32x4`, opcode `FD 5F`, a vector instruction.
-    /// Its call is [`f64x2_promote_low_f32x4`](super::InstructionSink::f64x2_promote_low_f32x4).
+    /// `f64x2.promote_low_f32x4` (opcode 0xFD 95), a vector instruction that converts the lower floats of a vector to 64 bits.
+    /// [`InstructionSink::f64x2_promote_low_f32x4`](super::InstructionSink::f64x2_promote_low_f32x4) appends it.
     #[doc(alias = "f64x2.promote_low_f32x4")]
     F64x2PromoteLowF32x4,
-    /// `i8x16.abs`, opcode `FD 60`, a vector instruction.
-    /// Its call is [`i8x16_abs`](super::InstructionSink::i8x16_abs).
+    /// `i8x16.abs` (opcode 0xFD 96), a vector instruction that computes the absolute value of each lane of a vector.
+    /// [`InstructionSink::i8x16_abs`](super::InstructionSink::i8x16_abs) appends it.
     #[doc(alias = "i8x16.abs")]
     I8x16Abs,
-    /// `i8x16.neg`, opcode `FD 61`, a vector instruction.
-    /// Its call is [`i8x16_neg`](super::InstructionSink::i8x16_neg).
+    /// `i8x16.neg` (opcode 0xFD 97), a vector instruction that negates each lane of a vector.
+    /// [`InstructionSink::i8x16_neg`](super::InstructionSink::i8x16_neg) appends it.
     #[doc(alias = "i8x16.neg")]
     I8x16Neg,
-    /// `i8x16.popcnt`, opcode `FD 62`, a vector instruction.
-    /// Its call is [`i8x16_popcnt`](super::InstructionSink::i8x16_popcnt).
+    /// `i8x16.popcnt` (opcode 0xFD 98), a vector instruction that counts the one bits of each lane of a vector.
+    /// [`InstructionSink::i8x16_popcnt`](super::InstructionSink::i8x16_popcnt) appends it.
     #[doc(alias = "i8x16.popcnt")]
     I8x16Popcnt,
-    /// `i8x16.all_true`, opcode `FD 63`, a vector instruction.
-    /// Its call is [`i8x16_all_true`](super::InstructionSink::i8x16_all_true).
+    /// `i8x16.all_true` (opcode 0xFD 99), a vector instruction that tests whether no lane of a vector is zero.
+    /// [`InstructionSink::i8x16_all_true`](super::InstructionSink::i8x16_all_true) appends it.
     #[doc(alias = "i8x16.all_true")]
     I8x16AllTrue,
-    /// `i8x16.bitmask`, opcode `FD 64`, a vector instruction.
-    /// Its call is [`i8x16_bitmask`](super::InstructionSink::i8x16_bitmask).
+    /// `i8x16.bitmask` (opcode 0xFD 100), a vector instruction that collects the highest bit of each lane of a vector.
+    /// [`InstructionSink::i8x16_bitmask`](super::InstructionSink::i8x16_bitmask) appends it.
     #[doc(alias = "i8x16.bitmask")]
     I8x16Bitmask,
-    /// `i8x16.narrow_i16x8_s`, opcode `FD 65`, a vector instruction.
-    /// Its call is [`i8x16_narrow_i16x8_s`](super::InstructionSink::i8x16_narrow_i16x8_s).
+    /// `i8x16.narrow_i16x8_s` (opcode 0xFD 101), a vector instruction that narrows the lanes of two vectors, and saturates.
+    /// [`InstructionSink::i8x16_narrow_i16x8_s`](super::InstructionSink::i8x16_narrow_i16x8_s) appends it.
     #[doc(alias = "i8x16.narrow_i16x8_s")]
     I8x16NarrowI16x8S,
-    /// `i8x16.narrow_i16x8_u`, opcode `FD 66`, a vector instruction.
-    /// Its call is [`i8x16_narrow_i16x8_u`](super::InstructionSink::i8x16_narrow_i16x8_u).
+    /// `i8x16.narrow_i16x8_u` (opcode 0xFD 102), a vector instruction that narrows the lanes of two vectors, and saturates.
+    /// [`InstructionSink::i8x16_narrow_i16x8_u`](super::InstructionSink::i8x16_narrow_i16x8_u) appends it.
     #[doc(alias = "i8x16.narrow_i16x8_u")]
     I8x16NarrowI16x8U,
-    /// `f32x4.ceil`, opcode `FD 67`, a vector instruction.
-    /// Its call is [`f32x4_ceil`](super::InstructionSink::f32x4_ceil).
+    /// `f32x4.ceil` (opcode 0xFD 103), a vector instruction that rounds each lane of a vector up.
+    /// [`InstructionSink::f32x4_ceil`](super::InstructionSink::f32x4_ceil) appends it.
     #[doc(alias = "f32x4.ceil")]
     F32x4Ceil,
-    /// `f32x4.floor`, opcode `FD 68`, a vector instruction.
-    /// Its call is [`f32x4_floor`](super::InstructionSink::f32x4_floor).
+    /// `f32x4.floor` (opcode 0xFD 104), a vector instruction that rounds each lane of a vector down.
+    /// [`InstructionSink::f32x4_floor`](super::InstructionSink::f32x4_floor) appends it.
     #[doc(alias = "f32x4.floor")]
     F32x4Floor,
-    /// `f32x4.trunc`, opcode `FD 69`, a vector instruction.
-    /// Its call is [`f32x4_trunc`](super::InstructionSink::f32x4_trunc).
+    /// `f32x4.trunc` (opcode 0xFD 105), a vector instruction that rounds each lane of a vector towards zero.
+    /// [`InstructionSink::f32x4_trunc`](super::InstructionSink::f32x4_trunc) appends it.
     #[doc(alias = "f32x4.trunc")]
     F32x4Trunc,
-    /// `f32x4.nearest`, opcode `FD 6A`, a vector instruction.
-    /// Its call is [`f32x4_nearest`](super::InstructionSink::f32x4_nearest).
+    /// `f32x4.nearest` (opcode 0xFD 106), a vector instruction that rounds each lane of a vector to the nearest integer.
+    /// [`InstructionSink::f32x4_nearest`](super::InstructionSink::f32x4_nearest) appends it.
     #[doc(alias = "f32x4.nearest")]
     F32x4Nearest,
-    /// `i8x16.shl`, opcode `FD 6B`, a vector instruction.
-    /// Its call is [`i8x16_shl`](super::InstructionSink::i8x16_shl).
+    /// `i8x16.shl` (opcode 0xFD 107), a vector instruction that shifts each lane of a vector to the left.
+    /// [`InstructionSink::i8x16_shl`](super::InstructionSink::i8x16_shl) appends it.
     #[doc(alias = "i8x16.shl")]
     I8x16Shl,
-    /// `i8x16.shr_s`, opcode `FD 6C`, a vector instruction.
-    /// Its call is [`i8x16_shr_s`](super::InstructionSink::i8x16_shr_s).
+    /// `i8x16.shr_s` (opcode 0xFD 108), a vector instruction that shifts each lane of a vector to the right.
+    /// [`InstructionSink::i8x16_shr_s`](super::InstructionSink::i8x16_shr_s) appends it.
     #[doc(alias = "i8x16.shr_s")]
     I8x16ShrS,
-    /// `i8x16.shr_u`, opcode `FD 6D`, a vector instruction.
-    /// Its call is [`i8x16_shr_u`](super::InstructionSink::i8x16_shr_u).
+    /// `i8x16.shr_u` (opcode 0xFD 109), a vector instruction that shifts each lane of a vector to the right.
+    /// [`InstructionSink::i8x16_shr_u`](super::InstructionSink::i8x16_shr_u) appends it.
     #[doc(alias = "i8x16.shr_u")]
     I8x16ShrU,
-    /// `i8x16.add`, opcode `FD 6E`, a vector instruction.
-    /// Its call is [`i8x16_add`](super::InstructionSink::i8x16_add).
+    /// `i8x16.add` (opcode 0xFD 110), a vector instruction that adds each lane of two vectors.
+    /// [`InstructionSink::i8x16_add`](super::InstructionSink::i8x16_add) appends it.
     #[doc(alias = "i8x16.add")]
     I8x16Add,
-    /// `i8x16.add_sat_s`, opcode `FD 6F`, a vector instruction.
-    /// Its call is [`i8x16_add_sat_s`](super::InstructionSink::i8x16_add_sat_s).
+    /// `i8x16.add_sat_s` (opcode 0xFD 111), a vector instruction that adds each lane of two vectors, and saturates.
+    /// [`InstructionSink::i8x16_add_sat_s`](super::InstructionSink::i8x16_add_sat_s) appends it.
     #[doc(alias = "i8x16.add_sat_s")]
     I8x16AddSatS,
-    /// `i8x16.add_sat_u`, opcode `FD 70`, a vector instruction.
-    /// Its call is [`i8x16_add_sat_u`](super::InstructionSink::i8x16_add_sat_u).
+    /// `i8x16.add_sat_u` (opcode 0xFD 112), a vector instruction that adds each lane of two vectors, and saturates.
+    /// [`InstructionSink::i8x16_add_sat_u`](super::InstructionSink::i8x16_add_sat_u) appends it.
     #[doc(alias = "i8x16.add_sat_u")]
     I8x16AddSatU,
-    /// `i8x16.sub`, opcode `FD 71`, a vector instruction.
-    /// Its call is [`i8x16_sub`](super::InstructionSink::i8x16_sub).
+    /// `i8x16.sub` (opcode 0xFD 113), a vector instruction that subtracts each lane of two vectors.
+    /// [`InstructionSink::i8x16_sub`](super::InstructionSink::i8x16_sub) appends it.
     #[doc(alias = "i8x16.sub")]
     I8x16Sub,
-    /// `i8x16.sub_sat_s`, opcode `FD 72`, a vector instruction.
-    /// Its call is [`i8x16_sub_sat_s`](super::InstructionSink::i8x16_sub_sat_s).
+    /// `i8x16.sub_sat_s` (opcode 0xFD 114), a vector instruction that subtracts each lane of two vectors, and saturates.
+    /// [`InstructionSink::i8x16_sub_sat_s`](super::InstructionSink::i8x16_sub_sat_s) appends it.
     #[doc(alias = "i8x16.sub_sat_s")]
     I8x16SubSatS,
-    /// `i8x16.sub_sat_u`, opcode `FD 73`, a vector instruction.
-    /// Its call is [`i8x16_sub_sat_u`](super::InstructionSink::i8x16_sub_sat_u).
+    /// `i8x16.sub_sat_u` (opcode 0xFD 115), a vector instruction that subtracts each lane of two vectors, and saturates.
+    /// [`InstructionSink::i8x16_sub_sat_u`](super::InstructionSink::i8x16_sub_sat_u) appends it.
     #[doc(alias = "i8x16.sub_sat_u")]
     I8x16SubSatU,
-    /// `f64x2.ceil`, opcode `FD 74`, a vector instruction.
-    /// Its call is [`f64x2_ceil`](super::InstructionSink::f64x2_ceil).
+    /// `f64x2.ceil` (opcode 0xFD 116), a vector instruction that rounds each lane of a vector up.
+    /// [`InstructionSink::f64x2_ceil`](super::InstructionSink::f64x2_ceil) appends it.
     #[doc(alias = "f64x2.ceil")]
     F64x2Ceil,
-    /// `f64x2.floor`, opcode `FD 75`, a vector instruction.
-    /// Its call is [`f64x2_floor`](super::InstructionSink::f64x2_floor).
+    /// `f64x2.floor` (opcode 0xFD 117), a vector instruction that rounds each lane of a vector down.
+    /// [`InstructionSink::f64x2_floor`](super::InstructionSink::f64x2_floor) appends it.
     #[doc(alias = "f64x2.floor")]
     F64x2Floor,
-    /// `i8x16.min_s`, opcode `FD 76`, a vector instruction.
-    /// Its call is [`i8x16_min_s`](super::InstructionSink::i8x16_min_s).
+    /// `i8x16.min_s` (opcode 0xFD 118), a vector instruction that computes the minimum of each lane of two vectors.
+    /// [`InstructionSink::i8x16_min_s`](super::InstructionSink::i8x16_min_s) appends it.
     #[doc(alias = "i8x16.min_s")]
     I8x16MinS,
-    /// `i8x16.min_u`, opcode `FD 77`, a vector instruction.
-    /// Its call is [`i8x16_min_u`](super::InstructionSink::i8x16_min_u).
+    /// `i8x16.min_u` (opcode 0xFD 119), a vector instruction that computes the minimum of each lane of two vectors.
+    /// [`InstructionSink::i8x16_min_u`](super::InstructionSink::i8x16_min_u) appends it.
     #[doc(alias = "i8x16.min_u")]
     I8x16MinU,
-    /// `i8x16.max_s`, opcode `FD 78`, a vector instruction.
-    /// Its call is [`i8x16_max_s`](super::InstructionSink::i8x16_max_s).
+    /// `i8x16.max_s` (opcode 0xFD 120), a vector instruction that computes the maximum of each lane of two vectors.
+    /// [`InstructionSink::i8x16_max_s`](super::InstructionSink::i8x16_max_s) appends it.
     #[doc(alias = "i8x16.max_s")]
     I8x16MaxS,
-    /// `i8x16.max_u`, opcode `FD 79`, a vector instruction.
-    /// Its call is [`i8x16_max_u`](super::InstructionSink::i8x16_max_u).
+    /// `i8x16.max_u` (opcode 0xFD 121), a vector instruction that computes the maximum of each lane of two vectors.
+    /// [`InstructionSink::i8x16_max_u`](super::InstructionSink::i8x16_max_u) appends it.
     #[doc(alias = "i8x16.max_u")]
     I8x16MaxU,
-    /// `f64x2.trunc`, opcode `FD 7A`, a vector instruction.
-    /// Its call is [`f64x2_trunc`](super::InstructionSink::f64x2_trunc).
+    /// `f64x2.trunc` (opcode 0xFD 122), a vector instruction that rounds each lane of a vector towards zero.
+    /// [`InstructionSink::f64x2_trunc`](super::InstructionSink::f64x2_trunc) appends it.
     #[doc(alias = "f64x2.trunc")]
     F64x2Trunc,
-    /// `i8x16.avgr_u`, opcode `FD 7B`, a vector instruction.
-    /// Its call is [`i8x16_avgr_u`](super::InstructionSink::i8x16_avgr_u).
+    /// `i8x16.avgr_u` (opcode 0xFD 123), a vector instruction that averages each lane of two vectors, rounded up.
+    /// [`InstructionSink::i8x16_avgr_u`](super::InstructionSink::i8x16_avgr_u) appends it.
     #[doc(alias = "i8x16.avgr_u")]
     I8x16AvgrU,
-    /// `i16x8.extadd_pairwise_i8x16_s`, opcode `FD 7C`, a vector instruction.
-    /// Its call is [`i16x8_extadd_pairwise_i8x16_s`](super::InstructionSink::i16x8_extadd_pairwise_i8x16_s).
+    /// `i16x8.extadd_pairwise_i8x16_s` (opcode 0xFD 124), a vector instruction that adds neighbouring lanes of a vector to wider ones.
+    /// [`InstructionSink::i16x8_extadd_pairwise_i8x16_s`](super::InstructionSink::i16x8_extadd_pairwise_i8x16_s) appends it.
     #[doc(alias = "i16x8.extadd_pairwise_i8x16_s")]
     I16x8ExtAddPairwiseI8x16S,
-    /// `i16x8.extadd_pairwise_i8x16_u`, opcode `FD 7D`, a vector instruction.
-    /// Its call is [`i16x8_extadd_pairwise_i8x16_u`](super::InstructionSink::i16x8_extadd_pairwise_i8x16_u).
+    /// `i16x8.extadd_pairwise_i8x16_u` (opcode 0xFD 125), a vector instruction that adds neighbouring lanes of a vector to wider ones.
+    /// [`InstructionSink::i16x8_extadd_pairwise_i8x16_u`](super::InstructionSink::i16x8_extadd_pairwise_i8x16_u) appends it.
     #[doc(alias = "i16x8.extadd_pairwise_i8x16_u")]
     I16x8ExtAddPairwiseI8x16U,
-    /// `i32x4.extadd_pairwise_i16x8_s`, opcode `FD 7E`, a vector instruction.
-    /// Its call is [`i32x4_extadd_pairwise_i16x8_s`](super::InstructionSink::i32x4_extadd_pairwise_i16x8_s).
+    /// `i32x4.extadd_pairwise_i16x8_s` (opcode 0xFD 126), a vector instruction that adds neighbouring lanes of a vector to wider ones.
+    /// [`InstructionSink::i32x4_extadd_pairwise_i16x8_s`](super::InstructionSink::i32x4_extadd_pairwise_i16x8_s) appends it.
     #[doc(alias = "i32x4.extadd_pairwise_i16x8_s")]
     I32x4ExtAddPairwiseI16x8S,
-    /// `i32x4.extadd_pairwise_i16x8_u`, opcode `FD 7F`, a vector instruction.
-    /// Its call is [`i32x4_extadd_pairwise_i16x8_u`](super::InstructionSink::i32x4_extadd_pairwise_i16x8_u).
+    /// `i32x4.extadd_pairwise_i16x8_u` (opcode 0xFD 127), a vector instruction that adds neighbouring lanes of a vector to wider ones.
+    /// [`InstructionSink::i32x4_extadd_pairwise_i16x8_u`](super::InstructionSink::i32x4_extadd_pairwise_i16x8_u) appends it.
     #[doc(alias = "i32x4.extadd_pairwise_i16x8_u")]
     I32x4ExtAddPairwiseI16x8U,
-    /// `i16x8.abs`, opcode `FD 80 01`, a vector instruction.
-    /// Its call is [`i16x8_abs`](super::InstructionSink::i16x8_abs).
+    /// `i16x8.abs` (opcode 0xFD 128), a vector instruction that computes the absolute value of each lane of a vector.
+    /// [`InstructionSink::i16x8_abs`](super::InstructionSink::i16x8_abs) appends it.
     #[doc(alias = "i16x8.abs")]
     I16x8Abs,
-    /// `i16x8.neg`, opcode `FD 81 01`, a vector instruction.
-    /// Its call is [`i16x8_neg`](super::InstructionSink::i16x8_neg).
+    /// `i16x8.neg` (opcode 0xFD 129), a vector instruction that negates each lane of a vector.
+    /// [`InstructionSink::i16x8_neg`](super::InstructionSink::i16x8_neg) appends it.
     #[doc(alias = "i16x8.neg")]
     I16x8Neg,
-    /// `i16x8.q15mulr_sat_s`, opcode `FD 82 01`, a vector instruction.
-    /// Its call is [`i16x8_q15mulr_sat_s`](super::InstructionSink::i16x8_q15mulr_sat_s).
+    /// `i16x8.q15mulr_sat_s` (opcode 0xFD 130), a vector instruction that multiplies each lane of two vectors as fixed-point numbers, rounded.
+    /// [`InstructionSink::i16x8_q15mulr_sat_s`](super::InstructionSink::i16x8_q15mulr_sat_s) appends it.
     #[doc(alias = "i16x8.q15mulr_sat_s")]
     I16x8Q15MulrSatS,
-    /// `i16x8.all_true`, opcode `FD 83 01`, a vector instruction.
-    /// Its call is [`i16x8_all_true`](super::InstructionSink::i16x8_all_true).
+    /// `i16x8.all_true` (opcode 0xFD 131), a vector instruction that tests whether no lane of a vector is zero.
+    /// [`InstructionSink::i16x8_all_true`](super::InstructionSink::i16x8_all_true) appends it.
     #[doc(alias = "i16x8.all_true")]
     I16x8AllTrue,
-    /// `i16x8.bitmask`, opcode `FD 84 01`, a vector instruction.
-    /// Its call is [`i16x8_bitmask`](super::InstructionSink::i16x8_bitmask).
+    /// `i16x8.bitmask` (opcode 0xFD 132), a vector instruction that collects the highest bit of each lane of a vector.
+    /// [`InstructionSink::i16x8_bitmask`](super::InstructionSink::i16x8_bitmask) appends it.
     #[doc(alias = "i16x8.bitmask")]
     I16x8Bitmask,
-    /// `i16x8.narrow_i32x4_s`, opcode `FD 85 01`, a vector instruction.
-    /// Its call is [`i16x8_narrow_i32x4_s`](super::InstructionSink::i16x8_narrow_i32x4_s).
+    /// `i16x8.narrow_i32x4_s` (opcode 0xFD 133), a vector instruction that narrows the lanes of two vectors, and saturates.
+    /// [`InstructionSink::i16x8_narrow_i32x4_s`](super::InstructionSink::i16x8_narrow_i32x4_s) appends it.
     #[doc(alias = "i16x8.narrow_i32x4_s")]
     I16x8NarrowI32x4S,
-    /// `i16x8.narrow_i32x4_u`, opcode `FD 86 01`, a vector instruction.
-    /// Its call is [`i16x8_narrow_i32x4_u`](super::InstructionSink::i16x8_narrow_i32x4_u).
+    /// `i16x8.narrow_i32x4_u` (opcode 0xFD 134), a vector instruction that narrows the lanes of two vectors, and saturates.
+    /// [`InstructionSink::i16x8_narrow_i32x4_u`](super::InstructionSink::i16x8_narrow_i32x4_u) appends it.
     #[doc(alias = "i16x8.narrow_i32x4_u")]
     I16x8NarrowI32x4U,
-    /// `i16x8.extend_low_i8x16_s`, opcode `FD 87 01`, a vector instruction.
-    /// Its call is [`i16x8_extend_low_i8x16_s`](super::InstructionSink::i16x8_extend_low_i8x16_s).
+    /// `i16x8.extend_low_i8x16_s` (opcode 0xFD 135), a vector instruction that extends the lower lanes of a vector.
+    /// [`InstructionSink::i16x8_extend_low_i8x16_s`](super::InstructionSink::i16x8_extend_low_i8x16_s) appends it.
     #[doc(alias = "i16x8.extend_low_i8x16_s")]
     I16x8ExtendLowI8x16S,
-    /// `i16x8.extend_high_i8x16_s`, opcode `FD 88 01`, a vector instruction.
-    /// Its call is [`i16x8_extend_high_i8x16_s`](super::InstructionSink::i16x8_extend_high_i8x16_s).
+    /// `i16x8.extend_high_i8x16_s` (opcode 0xFD 136), a vector instruction that extends the upper lanes of a vector.
+    /// [`InstructionSink::i16x8_extend_high_i8x16_s`](super::InstructionSink::i16x8_extend_high_i8x16_s) appends it.
     #[doc(alias = "i16x8.extend_high_i8x16_s")]
     I16x8ExtendHighI8x16S,
-    /// `i16x8.extend_low_i8x16_u`, opcode `FD 89 01`, a vector instruction.
-    /// Its call is [`i16x8_extend_low_i8x16_u`](super::InstructionSink::i16x8_extend_low_i8x16_u).
+    /// `i16x8.extend_low_i8x16_u` (opcode 0xFD 137), a vector instruction that extends the lower lanes of a vector.
+    /// [`InstructionSink::i16x8_extend_low_i8x16_u`](super::InstructionSink::i16x8_extend_low_i8x16_u) appends it.
     #[doc(alias = "i16x8.extend_low_i8x16_u")]
     I16x8ExtendLowI8x16U,
-    /// `i16x8.extend_high_i8x16_u`, opcode `FD 8A 01`, a vector instruction.
-    /// Its call is [`i16x8_extend_high_i8x16_u`](super::InstructionSink::i16x8_extend_high_i8x16_u).
+    /// `i16x8.extend_high_i8x16_u` (opcode 0xFD 138), a vector instruction that extends the upper lanes of a vector.
+    /// [`InstructionSink::i16x8_extend_high_i8x16_u`](super::InstructionSink::i16x8_extend_high_i8x16_u) appends it.
     #[doc(alias = "i16x8.extend_high_i8x16_u")]
     I16x8ExtendHighI8x16U,
-    /// `i16x8.shl`, opcode `FD 8B 01`, a vector instruction.
-    /// Its call is [`i16x8_shl`](super::InstructionSink::i16x8_shl).
+    /// `i16x8.shl` (opcode 0xFD 139), a vector instruction that shifts each lane of a vector to the left.
+    /// [`InstructionSink::i16x8_shl`](super::InstructionSink::i16x8_shl) appends it.
     #[doc(alias = "i16x8.shl")]
     I16x8Shl,
-    /// `i16x8.shr_s`, opcode `FD 8C 01`, a vector instruction.
-    /// Its call is [`i16x8_shr_s`](super::InstructionSink::i16x8_shr_s).
+    /// `i16x8.shr_s` (opcode 0xFD 140), a vector instruction that shifts each lane of a vector to the right.
+    /// [`InstructionSink::i16x8_shr_s`](super::InstructionSink::i16x8_shr_s) appends it.
     #[doc(alias = "i16x8.shr_s")]
     I16x8ShrS,
-    /// `i16x8.shr_u`, opcode `FD 8D 01`, a vector instruction.
-    /// Its call is [`i16x8_shr_u`](super::InstructionSink::i16x8_shr_u).
+    /// `i16x8.shr_u` (opcode 0xFD 141), a vector instruction that shifts each lane of a vector to the right.
+    /// [`InstructionSink::i16x8_shr_u`](super::InstructionSink::i16x8_shr_u) appends it.
     #[doc(alias = "i16x8.shr_u")]
     I16x8ShrU,
-    /// `i16x8.add`, opcode `FD 8E 01`, a vector instruction.
-    /// Its call is [`i16x8_add`](super::InstructionSink::i16x8_add).
+    /// `i16x8.add` (opcode 0xFD 142), a vector instruction that adds each lane of two vectors.
+    /// [`InstructionSink::i16x8_add`](super::InstructionSink::i16x8_add) appends it.
     #[doc(alias = "i16x8.add")]
     I16x8Add,
-    /// `i16x8.add_sat_s`, opcode `FD 8F 01`, a vector instruction.
-    /// Its call is [`i16x8_add_sat_s`](super::InstructionSink::i16x8_add_sat_s).
+    /// `i16x8.add_sat_s` (opcode 0xFD 143), a vector instruction that adds each lane of two vectors, and saturates.
+    /// [`InstructionSink::i16x8_add_sat_s`](super::InstructionSink::i16x8_add_sat_s) appends it.
     #[doc(alias = "i16x8.add_sat_s")]
     I16x8AddSatS,
-    /// `i16x8.add_sat_u`, opcode `FD 90 01`, a vector instruction.
-    /// Its call is [`i16x8_add_sat_u`](super::InstructionSink::i16x8_add_sat_u).
+    /// `i16x8.add_sat_u` (opcode 0xFD 144), a vector instruction that adds each lane of two vectors, and saturates.
+    /// [`InstructionSink::i16x8_add_sat_u`](super::InstructionSink::i16x8_add_sat_u) appends it.
     #[doc(alias = "i16x8.add_sat_u")]
     I16x8AddSatU,
-    /// `i16x8.sub`, opcode `FD 91 01`, a vector instruction.
-    /// Its call is [`i16x8_sub`](super::InstructionSink::i16x8_sub).
+    /// `i16x8.sub` (opcode 0xFD 145), a vector instruction that subtracts each lane of two vectors.
+    /// [`InstructionSink::i16x8_sub`](super::InstructionSink::i16x8_sub) appends it.
     #[doc(alias = "i16x8.sub")]
     I16x8Sub,
-    /// `i16x8.sub_sat_s`, opcode `FD 92 01`, a vector instruction.
-    /// Its call is [`i16x8_sub_sat_s`](super::InstructionSink::i16x8_sub_sat_s).
+    /// `i16x8.sub_sat_s` (opcode 0xFD 146), a vector instruction that subtracts each lane of two vectors, and saturates.
+    /// [`InstructionSink::i16x8_sub_sat_s`](super::InstructionSink::i16x8_sub_sat_s) appends it.
     #[doc(alias = "i16x8.sub_sat_s")]
     I16x8SubSatS,
-    /// `i16x8.sub_sat_u`, opcode `FD 93 01`, a vector instruction.
-    /// Its call is [`i16x8_sub_sat_u`](super::InstructionSink::i16x8_sub_sat_u).
+    /// `i16x8.sub_sat_u` (opcode 0xFD 147), a vector instruction that subtracts each lane of two vectors, and saturates.
+    /// [`InstructionSink::i16x8_sub_sat_u`](super::InstructionSink::i16x8_sub_sat_u) appends it.
     #[doc(alias = "i16x8.sub_sat_u")]
     I16x8SubSatU,
-    /// `f64x2.nearest`, opcode `FD 94 01`, a vector instruction.
-    /// Its call is [`f64x2_nearest`](super::InstructionSink::f64x2_nearest).
+    /// `f64x2.nearest` (opcode 0xFD 148), a vector instruction that rounds each lane of a vector to the nearest integer.
+    /// [`InstructionSink::f64x2_nearest`](super::InstructionSink::f64x2_nearest) appends it.
     #[doc(alias = "f64x2.nearest")]
     F64x2Nearest,
-    /// `i16x8.mul`, opcode `FD 95 01`, a vector instruction.
-    /// Its call is [`i16x8_mul`](super::InstructionSink::i16x8_mul).
+    /// `i16x8.mul` (opcode 0xFD 149), a vector instruction that multiplies each lane of two vectors.
+    /// [`InstructionSink::i16x8_mul`](super::InstructionSink::i16x8_mul) appends it.
     #[doc(alias = "i16x8.mul")]
     I16x8Mul,
-    /// `i16x8.min_s`, opcode `FD 96 01`, a vector instruction.
-    /// Its call is [`i16x8_min_s`](super::InstructionSink::i16x8_min_s).
+    /// `i16x8.min_s` (opcode 0xFD 150), a vector instruction that computes the minimum of each lane of two vectors.
+    /// [`InstructionSink::i16x8_min_s`](super::InstructionSink::i16x8_min_s) appends it.
     #[doc(alias = "i16x8.min_s")]
     I16x8MinS,
-    /// `i16x8.min_u`, opcode `FD 97 01`, a vector instruction.
-    /// Its call is [`i16x8_min_u`](super::InstructionSink::i16x8_min_u).
+    /// `i16x8.min_u` (opcode 0xFD 151), a vector instruction that computes the minimum of each lane of two vectors.
+    /// [`InstructionSink::i16x8_min_u`](super::InstructionSink::i16x8_min_u) appends it.
     #[doc(alias = "i16x8.min_u")]
     I16x8MinU,
-    /// `i16x8.max_s`, opcode `FD 98 01`, a vector instruction.
-    /// Its call is [`i16x8_max_s`](super::InstructionSink::i16x8_max_s).
+    /// `i16x8.max_s` (opcode 0xFD 152), a vector instruction that computes the maximum of each lane of two vectors.
+    /// [`InstructionSink::i16x8_max_s`](super::InstructionSink::i16x8_max_s) appends it.
     #[doc(alias = "i16x8.max_s")]
     I16x8MaxS,
-    /// `i16x8.max_u`, opcode `FD 99 01`, a vector instruction.
-    /// Its call is [`i16x8_max_u`](super::InstructionSink::i16x8_max_u).
+    /// `i16x8.max_u` (opcode 0xFD 153), a vector instruction that computes the maximum of each lane of two vectors.
+    /// [`InstructionSink::i16x8_max_u`](super::InstructionSink::i16x8_max_u) appends it.
     #[doc(alias = "i16x8.max_u")]
     I16x8MaxU,
-    /// `i16x8.avgr_u`, opcode `FD 9B 01`, a vector instruction.
-    /// Its call is [`i16x8_avgr_u`](super::InstructionSink::i16x8_avgr_u).
+    /// `i16x8.avgr_u` (opcode 0xFD 155), a vector instruction that averages each lane of two vectors, rounded up.
+    /// [`InstructionSink::i16x8_avgr_u`](super::InstructionSink::i16x8_avgr_u) appends it.
     #[doc(alias = "i16x8.avgr_u")]
     I16x8AvgrU,
-    /// `i16x8.extmul_low_i8x16_s`, opcode `FD 9C 01`, a vector instruction.
-    /// Its call is [`i16x8_extmul_low_i8x16_s`](super::InstructionSink::i16x8_extmul_low_i8x16_s).
+    /// `i16x8.extmul_low_i8x16_s` (opcode 0xFD 156), a vector instruction that multiplies the lower lanes of two vectors to wider ones.
+    /// [`InstructionSink::i16x8_extmul_low_i8x16_s`](super::InstructionSink::i16x8_extmul_low_i8x16_s) appends it.
     #[doc(alias = "i16x8.extmul_low_i8x16_s")]
     I16x8ExtMulLowI8x16S,
-    /// `i16x8.extmul_high_i8x16_s`, opcode `FD 9D 01`, a vector instruction.
-    /// Its call is [`i16x8_extmul_high_i8x16_s`](super::InstructionSink::i16x8_extmul_high_i8x16_s).
+    /// `i16x8.extmul_high_i8x16_s` (opcode 0xFD 157), a vector instruction that multiplies the upper lanes of two vectors to wider ones.
+    /// [`InstructionSink::i16x8_extmul_high_i8x16_s`](super::InstructionSink::i16x8_extmul_high_i8x16_s) appends it.
     #[doc(alias = "i16x8.extmul_high_i8x16_s")]
     I16x8ExtMulHighI8x16S,
-    /// `i16x8.extmul_low_i8x16_u`, opcode `FD 9E 01`, a vector instruction.
-    /// Its call is [`i16x8_extmul_low_i8x16_u`](super::InstructionSink::i16x8_extmul_low_i8x16_u).
+    /// `i16x8.extmul_low_i8x16_u` (opcode 0xFD 158), a vector instruction that multiplies the lower lanes of two vectors to wider ones.
+    /// [`InstructionSink::i16x8_extmul_low_i8x16_u`](super::InstructionSink::i16x8_extmul_low_i8x16_u) appends it.
     #[doc(alias = "i16x8.extmul_low_i8x16_u")]
     I16x8ExtMulLowI8x16U,
-    /// `i16x8.extmul_high_i8x16_u`, opcode `FD 9F 01`, a vector instruction.
-    /// Its call is [`i16x8_extmul_high_i8x16_u`](super::InstructionSink::i16x8_extmul_high_i8x16_u).
+    /// `i16x8.extmul_high_i8x16_u` (opcode 0xFD 159), a vector instruction that multiplies the upper lanes of two vectors to wider ones.
+    /// [`InstructionSink::i16x8_extmul_high_i8x16_u`](super::InstructionSink::i16x8_extmul_high_i8x16_u) appends it.
     #[doc(alias = "i16x8.extmul_high_i8x16_u")]
     I16x8ExtMulHighI8x16U,
-    /// `i32x4.abs`, opcode `FD A0 01`, a vector instruction.
-    /// Its call is [`i32x4_abs`](super::InstructionSink::i32x4_abs).
+    /// `i32x4.abs` (opcode 0xFD 160), a vector instruction that computes the absolute value of each lane of a vector.
+    /// [`InstructionSink::i32x4_abs`](super::InstructionSink::i32x4_abs) appends it.
     #[doc(alias = "i32x4.abs")]
     I32x4Abs,
-    /// `i32x4.neg`, opcode `FD A1 01`, a vector instruction.
-    /// Its call is [`i32x4_neg`](super::InstructionSink::i32x4_neg).
+    /// `i32x4.neg` (opcode 0xFD 161), a vector instruction that negates each lane of a vector.
+    /// [`InstructionSink::i32x4_neg`](super::InstructionSink::i32x4_neg) appends it.
     #[doc(alias = "i32x4.neg")]
     I32x4Neg,
-    /// `i32x4.all_true`, opcode `FD A3 01`, a vector instruction.
-    /// Its call is [`i32x4_all_true`](super::InstructionSink::i32x4_all_true).
+    /// `i32x4.all_true` (opcode 0xFD 163), a vector instruction that tests whether no lane of a vector is zero.
+    /// [`InstructionSink::i32x4_all_true`](super::InstructionSink::i32x4_all_true) appends it.
     #[doc(alias = "i32x4.all_true")]
     I32x4AllTrue,
-    /// `i32x4.bitmask`, opcode `FD A4 01`, a vector instruction.
-    /// Its call is [`i32x4_bitmask`](super::InstructionSink::i32x4_bitmask).
+    /// `i32x4.bitmask` (opcode 0xFD 164), a vector instruction that collects the highest bit of each lane of a vector.
+    /// [`InstructionSink::i32x4_bitmask`](super::InstructionSink::i32x4_bitmask) appends it.
     #[doc(alias = "i32x4.bitmask")]
     I32x4Bitmask,
-    /// `i32x4.extend_low_i16x8_s`, opcode `FD A7 01`, a vector instruction.
-    /// Its call is [`i32x4_extend_low_i16x8_s`](super::InstructionSink::i32x4_extend_low_i16x8_s).
+    /// `i32x4.extend_low_i16x8_s` (opcode 0xFD 167), a vector instruction that extends the lower lanes of a vector.
+    /// [`InstructionSink::i32x4_extend_low_i16x8_s`](super::InstructionSink::i32x4_extend_low_i16x8_s) appends it.
     #[doc(alias = "i32x4.extend_low_i16x8_s")]
     I32x4ExtendLowI16x8S,
-    /// `i32x4.extend_high_i16x8_s`, opcode `FD A8 01`, a vector instruction.
-    /// Its call is [`i32x4_extend_high_i16x8_s`](super::InstructionSink::i32x4_extend_high_i16x8_s).
+    /// `i32x4.extend_high_i16x8_s` (opcode 0xFD 168), a vector instruction that extends the upper lanes of a vector.
+    /// [`InstructionSink::i32x4_extend_high_i16x8_s`](super::InstructionSink::i32x4_extend_high_i16x8_s) appends it.
     #[doc(alias = "i32x4.extend_high_i16x8_s")]
     I32x4ExtendHighI16x8S,
-    /// `i32x4.extend_low_i16x8_u`, opcode `FD A9 01`, a vector instruction.
-    /// Its call is [`i32x4_extend_low_i16x8_u`](super::InstructionSink::i32x4_extend_low_i16x8_u).
+    /// `i32x4.extend_low_i16x8_u` (opcode 0xFD 169), a vector instruction that extends the lower lanes of a vector.
+    /// [`InstructionSink::i32x4_extend_low_i16x8_u`](super::InstructionSink::i32x4_extend_low_i16x8_u) appends it.
     #[doc(alias = "i32x4.extend_low_i16x8_u")]
     I32x4ExtendLowI16x8U,
-    /// `i32x4.extend_high_i16x8_u`, opcode `FD AA 01`, a vector instruction.
-    /// Its call is [`i32x4_extend_high_i16x8_u`](super::InstructionSink::i32x4_extend_high_i16x8_u).
+    /// `i32x4.extend_high_i16x8_u` (opcode 0xFD 170), a vector instruction that extends the upper lanes of a vector.
+    /// [`InstructionSink::i32x4_extend_high_i16x8_u`](super::InstructionSink::i32x4_extend_high_i16x8_u) appends it.
     #[doc(alias = "i32x4.extend_high_i16x8_u")]
     I32x4ExtendHighI16x8U,
-    /// `i32x4.shl`, opcode `FD AB 01`, a vector instruction.
-    /// Its call is [`i32x4_shl`](super::InstructionSink::i32x4_shl).
+    /// `i32x4.shl` (opcode 0xFD 171), a vector instruction that shifts each lane of a vector to the left.
+    /// [`InstructionSink::i32x4_shl`](super::InstructionSink::i32x4_shl) appends it.
     #[doc(alias = "i32x4.shl")]
     I32x4Shl,
-    /// `i32x4.shr_s`, opcode `FD AC 01`, a vector instruction.
-    /// Its call is [`i32x4_shr_s`](super::InstructionSink::i32x4_shr_s).
+    /// `i32x4.shr_s` (opcode 0xFD 172), a vector instruction that shifts each lane of a vector to the right.
+    /// [`InstructionSink::i32x4_shr_s`](super::InstructionSink::i32x4_shr_s) appends it.
     #[doc(alias = "i32x4.shr_s")]
     I32x4ShrS,
-    /// `i32x4.shr_u`, opcode `FD AD 01`, a vector instruction.
-    /// Its call is [`i32x4_shr_u`](super::InstructionSink::i32x4_shr_u).
+    /// `i32x4.shr_u` (opcode 0xFD 173), a vector instruction that shifts each lane of a vector to the right.
+    /// [`InstructionSink::i32x4_shr_u`](super::InstructionSink::i32x4_shr_u) appends it.
     #[doc(alias = "i32x4.shr_u")]
     I32x4ShrU,
-    /// `i32x4.add`, opcode `FD AE 01`, a vector instruction.
-    /// Its call is [`i32x4_add`](super::InstructionSink::i32x4_add).
+    /// `i32x4.add` (opcode 0xFD 174), a vector instruction that adds each lane of two vectors.
+    /// [`InstructionSink::i32x4_add`](super::InstructionSink::i32x4_add) appends it.
     #[doc(alias = "i32x4.add")]
     I32x4Add,
-    /// `i32x4.sub`, opcode `FD B1 01`, a vector instruction.
-    /// Its call is [`i32x4_sub`](super::InstructionSink::i32x4_sub).
+    /// `i32x4.sub` (opcode 0xFD 177), a vector instruction that subtracts each lane of two vectors.
+    /// [`InstructionSink::i32x4_sub`](super::InstructionSink::i32x4_sub) appends it.
     #[doc(alias = "i32x4.sub")]
     I32x4Sub,
-    /// `i32x4.mul`, opcode `FD B5 01`, a vector instruction.
-    /// Its call is [`i32x4_mul`](super::InstructionSink::i32x4_mul).
+    /// `i32x4.mul` (opcode 0xFD 181), a vector instruction that multiplies each lane of two vectors.
+    /// [`InstructionSink::i32x4_mul`](super::InstructionSink::i32x4_mul) appends it.
     #[doc(alias = "i32x4.mul")]
     I32x4Mul,
-    /// `i32x4.min_s`, opcode `FD B6 01`, a vector instruction.
-    /// Its call is [`i32x4_min_s`](super::InstructionSink::i32x4_min_s).
+    /// `i32x4.min_s` (opcode 0xFD 182), a vector instruction that computes the minimum of each lane of two vectors.
+    /// [`InstructionSink::i32x4_min_s`](super::InstructionSink::i32x4_min_s) appends it.
     #[doc(alias = "i32x4.min_s")]
     I32x4MinS,
-    /// `i32x4.min_u`, opcode `FD B7 01`, a vector instruction.
-    /// Its call is [`i32x4_min_u`](super::InstructionSink::i32x4_min_u).
+    /// `i32x4.min_u` (opcode 0xFD 183), a vector instruction that computes the minimum of each lane of two vectors.
+    /// [`InstructionSink::i32x4_min_u`](super::InstructionSink::i32x4_min_u) appends it.
     #[doc(alias = "i32x4.min_u")]
     I32x4MinU,
-    /// `i32x4.max_s`, opcode `FD B8 01`, a vector instruction.
-    /// Its call is [`i32x4_max_s`](super::InstructionSink::i32x4_max_s).
+    /// `i32x4.max_s` (opcode 0xFD 184), a vector instruction that computes the maximum of each lane of two vectors.
+    /// [`InstructionSink::i32x4_max_s`](super::InstructionSink::i32x4_max_s) appends it.
     #[doc(alias = "i32x4.max_s")]
     I32x4MaxS,
-    /// `i32x4.max_u`, opcode `FD B9 01`, a vector instruction.
-    /// Its call is [`i32x4_max_u`](super::InstructionSink::i32x4_max_u).
+    /// `i32x4.max_u` (opcode 0xFD 185), a vector instruction that computes the maximum of each lane of two vectors.
+    /// [`InstructionSink::i32x4_max_u`](super::InstructionSink::i32x4_max_u) appends it.
     #[doc(alias = "i32x4.max_u")]
     I32x4MaxU,
-    /// `i32x4.dot_i16x8_s`, opcode `FD BA 01`, a vector instruction.
-    /// Its call is [`i32x4_dot_i16x8_s`](super::InstructionSink::i32x4_dot_i16x8_s).
+    /// `i32x4.dot_i16x8_s` (opcode 0xFD 186), a vector instruction that multiplies each lane of two vectors, and adds neighbouring products.
+    /// [`InstructionSink::i32x4_dot_i16x8_s`](super::InstructionSink::i32x4_dot_i16x8_s) appends it.
     #[doc(alias = "i32x4.dot_i16x8_s")]
     I32x4DotI16x8S,
-    /// `i32x4.extmul_low_i16x8_s`, opcode `FD BC 01`, a vector instruction.
-    /// Its call is [`i32x4_extmul_low_i16x8_s`](super::InstructionSink::i32x4_extmul_low_i16x8_s).
+    /// `i32x4.extmul_low_i16x8_s` (opcode 0xFD 188), a vector instruction that multiplies the lower lanes of two vectors to wider ones.
+    /// [`InstructionSink::i32x4_extmul_low_i16x8_s`](super::InstructionSink::i32x4_extmul_low_i16x8_s) appends it.
     #[doc(alias = "i32x4.extmul_low_i16x8_s")]
     I32x4ExtMulLowI16x8S,
-    /// `i32x4.extmul_high_i16x8_s`, opcode `FD BD 01`, a vector instruction.
-    /// Its call is [`i32x4_extmul_high_i16x8_s`](super::InstructionSink::i32x4_extmul_high_i16x8_s).
+    /// `i32x4.extmul_high_i16x8_s` (opcode 0xFD 189), a vector instruction that multiplies the upper lanes of two vectors to wider ones.
+    /// [`InstructionSink::i32x4_extmul_high_i16x8_s`](super::InstructionSink::i32x4_extmul_high_i16x8_s) appends it.
     #[doc(alias = "i32x4.extmul_high_i16x8_s")]
     I32x4ExtMulHighI16x8S,
-    /// `i32x4.extmul_low_i16x8_u`, opcode `FD BE 01`, a vector instruction.
-    /// Its call is [`i32x4_extmul_low_i16x8_u`](super::InstructionSink::i32x4_extmul_low_i16x8_u).
+    /// `i32x4.extmul_low_i16x8_u` (opcode 0xFD 190), a vector instruction that multiplies the lower lanes of two vectors to wider ones.
+    /// [`InstructionSink::i32x4_extmul_low_i16x8_u`](super::InstructionSink::i32x4_extmul_low_i16x8_u) appends it.
     #[doc(alias = "i32x4.extmul_low_i16x8_u")]
     I32x4ExtMulLowI16x8U,
-    /// `i32x4.extmul_high_i16x8_u`, opcode `FD BF 01`, a vector instruction.
-    /// Its call is [`i32x4_extmul_high_i16x8_u`](super::InstructionSink::i32x4_extmul_high_i16x8_u).
+    /// `i32x4.extmul_high_i16x8_u` (opcode 0xFD 191), a vector instruction that multiplies the upper lanes of two vectors to wider ones.
+    /// [`InstructionSink::i32x4_extmul_high_i16x8_u`](super::InstructionSink::i32x4_extmul_high_i16x8_u) appends it.
     #[doc(alias = "i32x4.extmul_high_i16x8_u")]
     I32x4ExtMulHighI16x8U,
-    /// `i64x2.abs`, opcode `FD C0 01`, a vector instruction.
-    /// Its call is [`i64x2_abs`](super::InstructionSink::i64x2_abs).
+    /// `i64x2.abs` (opcode 0xFD 192), a vector instruction that computes the absolute value of each lane of a vector.
+    /// [`InstructionSink::i64x2_abs`](super::InstructionSink::i64x2_abs) appends it.
     #[doc(alias = "i64x2.abs")]
     I64x2Abs,
-    /// `i64x2.neg`, opcode `FD C1 01`, a vector instruction.
-    /// Its call is [`i64x2_neg`](super::InstructionSink::i64x2_neg).
+    /// `i64x2.neg` (opcode 0xFD 193), a vector instruction that negates each lane of a vector.
+    /// [`InstructionSink::i64x2_neg`](super::InstructionSink::i64x2_neg) appends it.
     #[doc(alias = "i64x2.neg")]
     I64x2Neg,
-    /// `i64x2.all_true`, opcode `FD C3 01`, a vector instruction.
-    /// Its call is [`i64x2_all_true`](super::InstructionSink::i64x2_all_true).
+    /// `i64x2.all_true` (opcode 0xFD 195), a vector instruction that tests whether no lane of a vector is zero.
+    /// [`InstructionSink::i64x2_all_true`](super::InstructionSink::i64x2_all_true) appends it.
     #[doc(alias = "i64x2.all_true")]
     I64x2AllTrue,
-    /// `i64x2.bitmask`, opcode `FD C4 01`, a vector instruction.
-    /// Its call is [`i64x2_bitmask`](super::InstructionSink::i64x2_bitmask).
+    /// `i64x2.bitmask` (opcode 0xFD 196), a vector instruction that collects the highest bit of each lane of a vector.
+    /// [`InstructionSink::i64x2_bitmask`](super::InstructionSink::i64x2_bitmask) appends it.
     #[doc(alias = "i64x2.bitmask")]
     I64x2Bitmask,
-    /// `i64x2.extend_low_i32x4_s`, opcode `FD C7 01`, a vector instruction.
-    /// Its call is [`i64x2_extend_low_i32x4_s`](super::InstructionSink::i64x2_extend_low_i32x4_s).
+    /// `i64x2.extend_low_i32x4_s` (opcode 0xFD 199), a vector instruction that extends the lower lanes of a vector.
+    /// [`InstructionSink::i64x2_extend_low_i32x4_s`](super::InstructionSink::i64x2_extend_low_i32x4_s) appends it.
     #[doc(alias = "i64x2.extend_low_i32x4_s")]
     I64x2ExtendLowI32x4S,
-    /// `i64x2.extend_high_i32x4_s`, opcode `FD C8 01`, a vector instruction.
-    /// Its call is [`i64x2_extend_high_i32x4_s`](super::InstructionSink::i64x2_extend_high_i32x4_s).
+    /// `i64x2.extend_high_i32x4_s` (opcode 0xFD 200), a vector instruction that extends the upper lanes of a vector.
+    /// [`InstructionSink::i64x2_extend_high_i32x4_s`](super::InstructionSink::i64x2_extend_high_i32x4_s) appends it.
     #[doc(alias = "i64x2.extend_high_i32x4_s")]
     I64x2ExtendHighI32x4S,
-    /// `i64x2.extend_low_i32x4_u`, opcode `FD C9 01`, a vector instruction.
-    /// Its call is [`i64x2_extend_low_i32x4_u`](super::InstructionSink::i64x2_extend_low_i32x4_u).
+    /// `i64x2.extend_low_i32x4_u` (opcode 0xFD 201), a vector instruction that extends the lower lanes of a vector.
+    /// [`InstructionSink::i64x2_extend_low_i32x4_u`](super::InstructionSink::i64x2_extend_low_i32x4_u) appends it.
     #[doc(alias = "i64x2.extend_low_i32x4_u")]
     I64x2ExtendLowI32x4U,
-    /// `i64x2.extend_high_i32x4_u`, opcode `FD CA 01`, a vector instruction.
-    /// Its call is [`i64x2_extend_high_i32x4_u`](super::InstructionSink::i64x2_extend_high_i32x4_u).
+    /// `i64x2.extend_high_i32x4_u` (opcode 0xFD 202), a vector instruction that extends the upper lanes of a vector.
+    /// [`InstructionSink::i64x2_extend_high_i32x4_u`](super::InstructionSink::i64x2_extend_high_i32x4_u) appends it.
     #[doc(alias = "i64x2.extend_high_i32x4_u")]
     I64x2ExtendHighI32x4U,
-    /// `i64x2.shl`, opcode `FD CB 01`, a vector instruction.
-    /// Its call is [`i64x2_shl`](super::InstructionSink::i64x2_shl).
+    /// `i64x2.shl` (opcode 0xFD 203), a vector instruction that shifts each lane of a vector to the left.
+    /// [`InstructionSink::i64x2_shl`](super::InstructionSink::i64x2_shl) appends it.
     #[doc(alias = "i64x2.shl")]
     I64x2Shl,
-    /// `i64x2.shr_s`, opcode `FD CC 01`, a vector instruction.
-    /// Its call is [`i64x2_shr_s`](super::InstructionSink::i64x2_shr_s).
+    /// `i64x2.shr_s` (opcode 0xFD 204), a vector instruction that shifts each lane of a vector to the right.
+    /// [`InstructionSink::i64x2_shr_s`](super::InstructionSink::i64x2_shr_s) appends it.
     #[doc(alias = "i64x2.shr_s")]
     I64x2ShrS,
-    /// `i64x2.shr_u`, opcode `FD CD 01`, a vector instruction.
-    /// Its call is [`i64x2_shr_u`](super::InstructionSink::i64x2_shr_u).
+    /// `i64x2.shr_u` (opcode 0xFD 205), a vector instruction that shifts each lane of a vector to the right.
+    /// [`InstructionSink::i64x2_shr_u`](super::InstructionSink::i64x2_shr_u) appends it.
     #[doc(alias = "i64x2.shr_u")]
     I64x2ShrU,
-    /// `i64x2.add`, opcode `FD CE 01`, a vector instruction.
-    /// Its call is [`i64x2_add`](super::InstructionSink::i64x2_add).
+    /// `i64x2.add` (opcode 0xFD 206), a vector instruction that adds each lane of two vectors.
+    /// [`InstructionSink::i64x2_add`](super::InstructionSink::i64x2_add) appends it.
     #[doc(alias = "i64x2.add")]
     I64x2Add,
-    /// `i64x2.sub`, opcode `FD D1 01`, a vector instruction.
-    /// Its call is [`i64x2_sub`](super::InstructionSink::i64x2_sub).
+    /// `i64x2.sub` (opcode 0xFD 209), a vector instruction that subtracts each lane of two vectors.
+    /// [`InstructionSink::i64x2_sub`](super::InstructionSink::i64x2_sub) appends it.
     #[doc(alias = "i64x2.sub")]
     I64x2Sub,
-    /// `i64x2.mul`, opcode `FD D5 01`, a vector instruction.
-    /// Its call is [`i64x2_mul`](super::InstructionSink::i64x2_mul).
+    /// `i64x2.mul` (opcode 0xFD 213), a vector instruction that multiplies each lane of two vectors.
+    /// [`InstructionSink::i64x2_mul`](super::InstructionSink::i64x2_mul) appends it.
     #[doc(alias = "i64x2.mul")]
     I64x2Mul,
-    /// `i64x2.eq`, opcode `FD D6 01`, a vector instruction.
-    /// Its call is [`i64x2_eq`](super::InstructionSink::i64x2_eq).
+    /// `i64x2.eq` (opcode 0xFD 214), a vector instruction that compares each lane of two vectors.
+    /// [`InstructionSink::i64x2_eq`](super::InstructionSink::i64x2_eq) appends it.
     #[doc(alias = "i64x2.eq")]
     I64x2Eq,
-    /// `i64x2.ne`, opcode `FD D7 01`, a vector instruction.
-    /// Its call is [`i64x2_ne`](super::InstructionSink::i64x2_ne).
+    /// `i64x2.ne` (opcode 0xFD 215), a vector instruction that compares each lane of two vectors.
+    /// [`InstructionSink::i64x2_ne`](super::InstructionSink::i64x2_ne) appends it.
     #[doc(alias = "i64x2.ne")]
     I64x2Ne,
-    /// `i64x2.lt_s`, opcode `FD D8 01`, a vector instruction.
-    /// Its call is [`i64x2_lt_s`](super::InstructionSink::i64x2_lt_s).
+    /// `i64x2.lt_s` (opcode 0xFD 216), a vector instruction that compares each lane of two vectors.
+    /// [`InstructionSink::i64x2_lt_s`](super::InstructionSink::i64x2_lt_s) appends it.
     #[doc(alias = "i64x2.lt_s")]
     I64x2LtS,
-    /// `i64x2.gt_s`, opcode `FD D9 01`, a vector instruction.
-    /// Its call is [`i64x2_gt_s`](super::InstructionSink::i64x2_gt_s).
+    /// `i64x2.gt_s` (opcode 0xFD 217), a vector instruction that compares each lane of two vectors.
+    /// [`InstructionSink::i64x2_gt_s`](super::InstructionSink::i64x2_gt_s) appends it.
     #[doc(alias = "i64x2.gt_s")]
     I64x2GtS,
-    /// `i64x2.le_s`, opcode `FD DA 01`, a vector instruction.
-    /// Its call is [`i64x2_le_s`](super::InstructionSink::i64x2_le_s).
+    /// `i64x2.le_s` (opcode 0xFD 218), a vector instruction that compares each lane of two vectors.
+    /// [`InstructionSink::i64x2_le_s`](super::InstructionSink::i64x2_le_s) appends it.
     #[doc(alias = "i64x2.le_s")]
     I64x2LeS,
-    /// `i64x2.ge_s`, opcode `FD DB 01`, a vector instruction.
-    /// Its call is [`i64x2_ge_s`](super::InstructionSink::i64x2_ge_s).
+    /// `i64x2.ge_s` (opcode 0xFD 219), a vector instruction that compares each lane of two vectors.
+    /// [`InstructionSink::i64x2_ge_s`](super::InstructionSink::i64x2_ge_s) appends it.
     #[doc(alias = "i64x2.ge_s")]
     I64x2GeS,
-    /// `i64x2.extmul_low_i32x4_s`, opcode `FD DC 01`, a vector instruction.
-    /// Its call is [`i64x2_extmul_low_i32x4_s`](super::InstructionSink::i64x2_extmul_low_i32x4_s).
+    /// `i64x2.extmul_low_i32x4_s` (opcode 0xFD 220), a vector instruction that multiplies the lower lanes of two vectors to wider ones.
+    /// [`InstructionSink::i64x2_extmul_low_i32x4_s`](super::InstructionSink::i64x2_extmul_low_i32x4_s) appends it.
     #[doc(alias = "i64x2.extmul_low_i32x4_s")]
     I64x2ExtMulLowI32x4S,
-    /// `i64x2.extmul_high_i32x4_s`, opcode `FD DD 01`, a vector instruction.
-    /// Its call is [`i64x2_extmul_high_i32x4_s`](super::InstructionSink::i64x2_extmul_high_i32x4_s).
+    /// `i64x2.extmul_high_i32x4_s` (opcode 0xFD 221), a vector instruction that multiplies the upper lanes of two vectors to wider ones.
+    /// [`InstructionSink::i64x2_extmul_high_i32x4_s`](super::InstructionSink::i64x2_extmul_high_i32x4_s) appends it.
     #[doc(alias = "i64x2.extmul_high_i32x4_s")]
     I64x2ExtMulHighI32x4S,
-    /// `i64x2.extmul_low_i32x4_u`, opcode `FD DE 01`, a vector instruction.
-    /// Its call is [`i64x2_extmul_low_i32x4_u`](super::InstructionSink::i64x2_extmul_low_i32x4_u).
+    /// `i64x2.extmul_low_i32x4_u` (opcode 0xFD 222), a vector instruction that multiplies the lower lanes of two vectors to wider ones.
+    /// [`InstructionSink::i64x2_extmul_low_i32x4_u`](super::InstructionSink::i64x2_extmul_low_i32x4_u) appends it.
     #[doc(alias = "i64x2.extmul_low_i32x4_u")]
     I64x2ExtMulLowI32x4U,
-    /// `i64x2.extmul_high_i32x4_u`, opcode `FD DF 01`, a vector instruction.
-    /// Its call is [`i64x2_extmul_high_i32x4_u`](super::InstructionSink::i64x2_extmul_high_i32x4_u).
+    /// `i64x2.extmul_high_i32x4_u` (opcode 0xFD 223), a vector instruction that multiplies the upper lanes of two vectors to wider ones.
+    /// [`InstructionSink::i64x2_extmul_high_i32x4_u`](super::InstructionSink::i64x2_extmul_high_i32x4_u) appends it.
     #[doc(alias = "i64x2.extmul_high_i32x4_u")]
     I64x2ExtMulHighI32x4U,
-    /// `f32x4.abs`, opcode `FD E0 01`, a vector instruction.
-    /// Its call is [`f32x4_abs`](super::InstructionSink::f32x4_abs).
+    /// `f32x4.abs` (opcode 0xFD 224), a vector instruction that computes the absolute value of each lane of a vector.
+    /// [`InstructionSink::f32x4_abs`](super::InstructionSink::f32x4_abs) appends it.
     #[doc(alias = "f32x4.abs")]
     F32x4Abs,
-    /// `f32x4.neg`, opcode `FD E1 01`, a vector instruction.
-    /// Its call is [`f32x4_neg`](super::InstructionSink::f32x4_neg).
+    /// `f32x4.neg` (opcode 0xFD 225), a vector instruction that negates each lane of a vector.
+    /// [`InstructionSink::f32x4_neg`](super::InstructionSink::f32x4_neg) appends it.
     #[doc(alias = "f32x4.neg")]
     F32x4Neg,
-    /// `f32x4.sqrt`, opcode `FD E3 01`, a vector instruction.
-    /// Its call is [`f32x4_sqrt`](super::InstructionSink::f32x4_sqrt).
+    /// `f32x4.sqrt` (opcode 0xFD 227), a vector instruction that computes the square root of each lane of a vector.
+    /// [`InstructionSink::f32x4_sqrt`](super::InstructionSink::f32x4_sqrt) appends it.
     #[doc(alias = "f32x4.sqrt")]
     F32x4Sqrt,
-    /// `f32x4.add`, opcode `FD E4 01`, a vector instruction.
-    /// Its call is [`f32x4_add`](super::InstructionSink::f32x4_add).
+    /// `f32x4.add` (opcode 0xFD 228), a vector instruction that adds each lane of two vectors.
+    /// [`InstructionSink::f32x4_add`](super::InstructionSink::f32x4_add) appends it.
     #[doc(alias = "f32x4.add")]
     F32x4Add,
-    /// `f32x4.sub`, opcode `FD E5 01`, a vector instruction.
-    /// Its call is [`f32x4_sub`](super::InstructionSink::f32x4_sub).
+    /// `f32x4.sub` (opcode 0xFD 229), a vector instruction that subtracts each lane of two vectors.
+    /// [`InstructionSink::f32x4_sub`](super::InstructionSink::f32x4_sub) appends it.
     #[doc(alias = "f32x4.sub")]
     F32x4Sub,
-    /// `f32x4.mul`, opcode `FD E6 01`, a vector instruction.
-    /// Its call is [`f32x4_mul`](super::InstructionSink::f32x4_mul).
+    /// `f32x4.mul` (opcode 0xFD 230), a vector instruction that multiplies each lane of two vectors.
+    /// [`InstructionSink::f32x4_mul`](super::InstructionSink::f32x4_mul) appends it.
     #[doc(alias = "f32x4.mul")]
     F32x4Mul,
-    /// `f32x4.div`, opcode `FD E7 01`, a vector instruction.
-    /// Its call is [`f32x4_div`](super::InstructionSink::f32x4_div).
+    /// `f32x4.div` (opcode 0xFD 231), a vector instruction that divides each lane of two vectors.
+    /// [`InstructionSink::f32x4_div`](super::InstructionSink::f32x4_div) appends it.
     #[doc(alias = "f32x4.div")]
     F32x4Div,
-    /// `f32x4.min`, opcode `FD E8 01`, a vector instruction.
-    /// Its call is [`f32x4_min`](super::InstructionSink::f32x4_min).
+    /// `f32x4.min` (opcode 0xFD 232), a vector instruction that computes the minimum of each lane of two vectors.
+    /// [`InstructionSink::f32x4_min`](super::InstructionSink::f32x4_min) appends it.
     #[doc(alias = "f32x4.min")]
     F32x4Min,
-    /// `f32x4.max`, opcode `FD E9 01`, a vector instruction.
-    /// Its call is [`f32x4_max`](super::InstructionSink::f32x4_max).
+    /// `f32x4.max` (opcode 0xFD 233), a vector instruction that computes the maximum of each lane of two vectors.
+    /// [`InstructionSink::f32x4_max`](super::InstructionSink::f32x4_max) appends it.
     #[doc(alias = "f32x4.max")]
     F32x4Max,
-    /// `f32x4.pmin`, opcode `FD EA 01`, a vector instruction.
-    /// Its call is [`f32x4_pmin`](super::InstructionSink::f32x4_pmin).
+    /// `f32x4.pmin` (opcode 0xFD 234), a vector instruction that computes the pseudo-minimum of each lane of two vectors.
+    /// [`InstructionSink::f32x4_pmin`](super::InstructionSink::f32x4_pmin) appends it.
     #[doc(alias = "f32x4.pmin")]
     F32x4PMin,
-    /// `f32x4.pmax`, opcode `FD EB 01`, a vector instruction.
-    /// Its call is [`f32x4_pmax`](super::InstructionSink::f32x4_pmax).
+    /// `f32x4.pmax` (opcode 0xFD 235), a vector instruction that computes the pseudo-maximum of each lane of two vectors.
+    /// [`InstructionSink::f32x4_pmax`](super::InstructionSink::f32x4_pmax) appends it.
     #[doc(alias = "f32x4.pmax")]
     F32x4PMax,
-    /// `f64x2.abs`, opcode `FD EC 01`, a vector instruction.
-    /// Its call is [`f64x2_abs`](super::InstructionSink::f64x2_abs).
+    /// `f64x2.abs` (opcode 0xFD 236), a vector instruction that computes the absolute value of each lane of a vector.
+    /// [`InstructionSink::f64x2_abs`](super::InstructionSink::f64x2_abs) appends it.
     #[doc(alias = "f64x2.abs")]
     F64x2Abs,
-    /// `f64x2.neg`, opcode `FD ED 01`, a vector instruction.
-    /// Its call is [`f64x2_neg`](super::InstructionSink::f64x2_neg).
+    /// `f64x2.neg` (opcode 0xFD 237), a vector instruction that negates each lane of a vector.
+    /// [`InstructionSink::f64x2_neg`](super::InstructionSink::f64x2_neg) appends it.
     #[doc(alias = "f64x2.neg")]
     F64x2Neg,
-    /// `f64x2.sqrt`, opcode `FD EF 01`, a vector instruction.
-    /// Its call is [`f64x2_sqrt`](super::InstructionSink::f64x2_sqrt).
+    /// `f64x2.sqrt` (opcode 0xFD 239), a vector instruction that computes the square root of each lane of a vector.
+    /// [`InstructionSink::f64x2_sqrt`](super::InstructionSink::f64x2_sqrt) appends it.
     #[doc(alias = "f64x2.sqrt")]
     F64x2Sqrt,
-    /// `f64x2.add`, opcode `FD F0 01`, a vector instruction.
-    /// Its call is [`f64x2_add`](super::InstructionSink::f64x2_add).
+    /// `f64x2.add` (opcode 0xFD 240), a vector instruction that adds each lane of two vectors.
+    /// [`InstructionSink::f64x2_add`](super::InstructionSink::f64x2_add) appends it.
     #[doc(alias = "f64x2.add")]
     F64x2Add,
-    /// `f64x2.sub`, opcode `FD F1 01`, a vector instruction.
-    /// Its call is [`f64x2_sub`](super::InstructionSink::f64x2_sub).
+    /// `f64x2.sub` (opcode 0xFD 241), a vector instruction that subtracts each lane of two vectors.
+    /// [`InstructionSink::f64x2_sub`](super::InstructionSink::f64x2_sub) appends it.
     #[doc(alias = "f64x2.sub")]
     F64x2Sub,
-    /// `f64x2.mul`, opcode `FD F2 01`, a vector instruction.
-    /// Its call is [`f64x2_mul`](super::InstructionSink::f64x2_mul).
+    /// `f64x2.mul` (opcode 0xFD 242), a vector instruction that multiplies each lane of two vectors.
+    /// [`InstructionSink::f64x2_mul`](super::InstructionSink::f64x2_mul) appends it.
     #[doc(alias = "f64x2.mul")]
     F64x2Mul,
-    /// `f64x2.div`, opcode `FD F3 01`, a vector instruction.
-    /// Its call is [`f64x2_div`](super::InstructionSink::f64x2_div).
+    /// `f64x2.div` (opcode 0xFD 243), a vector instruction that divides each lane of two vectors.
+    /// [`InstructionSink::f64x2_div`](super::InstructionSink::f64x2_div) appends it.
     #[doc(alias = "f64x2.div")]
     F64x2Div,
-    /// `f64x2.min`, opcode `FD F4 01`, a vector instruction.
-    /// Its call is [`f64x2_min`](super::InstructionSink::f64x2_min).
+    /// `f64x2.min` (opcode 0xFD 244), a vector instruction that computes the minimum of each lane of two vectors.
+    /// [`InstructionSink::f64x2_min`](super::InstructionSink::f64x2_min) appends it.
     #[doc(alias = "f64x2.min")]
     F64x2Min,
-    /// `f64x2.max`, opcode `FD F5 01`, a vector instruction.
-    /// Its call is [`f64x2_max`](super::InstructionSink::f64x2_max).
+    /// `f64x2.max` (opcode 0xFD 245), a vector instruction that computes the maximum of each lane of two vectors.
+    /// [`InstructionSink::f64x2_max`](super::InstructionSink::f64x2_max) appends it.
     #[doc(alias = "f64x2.max")]
     F64x2Max,
-    /// `f64x2.pmin`, opcode `FD F6 01`, a vector instruction.
-    /// Its call is [`f64x2_pmin`](super::InstructionSink::f64x2_pmin).
+    /// `f64x2.pmin` (opcode 0xFD 246), a vector instruction that computes the pseudo-minimum of each lane of two vectors.
+    /// [`InstructionSink::f64x2_pmin`](super::InstructionSink::f64x2_pmin) appends it.
     #[doc(alias = "f64x2.pmin")]
     F64x2PMin,
-    /// `f64x2.pmax`, opcode `FD F7 01`, a vector instruction.
-    /// Its call is [`f64x2_pmax`](super::InstructionSink::f64x2_pmax).
+    /// `f64x2.pmax` (opcode 0xFD 247), a vector instruction that computes the pseudo-maximum of each lane of two vectors.
+    /// [`InstructionSink::f64x2_pmax`](super::InstructionSink::f64x2_pmax) appends it.
     #[doc(alias = "f64x2.pmax")]
     F64x2PMax,
-    /// `i32x4.trunc_sat_f32x4_s`, opcode `FD F8 01`, a vector instruction.
-    /// Its call is [`i32x4_trunc_sat_f32x4_s`](super::InstructionSink::i32x4_trunc_sat_f32x4_s).
+    /// `i32x4.trunc_sat_f32x4_s` (opcode 0xFD 248), a vector instruction that converts the floats of a vector to integers.
+    /// [`InstructionSink::i32x4_trunc_sat_f32x4_s`](super::InstructionSink::i32x4_trunc_sat_f32x4_s) appends it.
     #[doc(alias = "i32x4.trunc_sat_f32x4_s")]
     I32x4TruncSatF32x4S,
-    /// `i32x4.trunc_sat_f32x4_u`, opcode `FD F9 01`, a vector instruction.
-    /// Its call is [`i32x4_trunc_sat_f32x4_u`](super::InstructionSink::i32x4_trunc_sat_f32x4_u).
+    /// `i32x4.trunc_sat_f32x4_u` (opcode 0xFD 249), a vector instruction that converts the floats of a vector to integers.
+    /// [`InstructionSink::i32x4_trunc_sat_f32x4_u`](super::InstructionSink::i32x4_trunc_sat_f32x4_u) appends it.
     #[doc(alias = "i32x4.trunc_sat_f32x4_u")]
     I32x4TruncSatF32x4U,
-    /// `f32x4.convert_i32x4_s`, opcode `FD FA 01`, a vector instruction.
-    /// Its call is [`f32x4_convert_i32x4_s`](super::InstructionSink::f32x4_convert_i32x4_s).
+    /// `f32x4.convert_i32x4_s` (opcode 0xFD 250), a vector instruction that converts the integers of a vector to floats.
+    /// [`InstructionSink::f32x4_convert_i32x4_s`](super::InstructionSink::f32x4_convert_i32x4_s) appends it.
     #[doc(alias = "f32x4.convert_i32x4_s")]
     F32x4ConvertI32x4S,
-    /// `f32x4.convert_i32x4_u`, opcode `FD FB 01`, a vector instruction.
-    /// Its call is [`f32x4_convert_i32x4_u`](super::InstructionSink::f32x4_convert_i32x4_u).
+    /// `f32x4.convert_i32x4_u` (opcode 0xFD 251), a vector instruction that converts the integers of a vector to floats.
+    /// [`InstructionSink::f32x4_convert_i32x4_u`](super::InstructionSink::f32x4_convert_i32x4_u) appends it.
     #[doc(alias = "f32x4.convert_i32x4_u")]
     F32x4ConvertI32x4U,
-    /// `i32x4.trunc_sat_f64x2_s_zero`, opcode `FD FC 01`, a vector instruction.
-    /// Its call is [`i32x4_trunc_sat_f64x2_s_zero`](super::InstructionSink::i32x4_trunc_sat_f64x2_s_zero).
+    /// `i32x4.trunc_sat_f64x2_s_zero` (opcode 0xFD 252), a vector instruction that converts the floats of a vector to integers.
+    /// [`InstructionSink::i32x4_trunc_sat_f64x2_s_zero`](super::InstructionSink::i32x4_trunc_sat_f64x2_s_zero) appends it.
     #[doc(alias = "i32x4.trunc_sat_f64x2_s_zero")]
     I32x4TruncSatF64x2SZero,
-    /// `i32x4.trunc_sat_f64x2_u_zero`, opcode `FD FD 01`, a vector instruction.
-    /// Its call is [`i32x4_trunc_sat_f64x2_u_zero`](super::InstructionSink::i32x4_trunc_sat_f64x2_u_zero).
+    /// `i32x4.trunc_sat_f64x2_u_zero` (opcode 0xFD 253), a vector instruction that converts the floats of a vector to integers.
+    /// [`InstructionSink::i32x4_trunc_sat_f64x2_u_zero`](super::InstructionSink::i32x4_trunc_sat_f64x2_u_zero) appends it.
     #[doc(alias = "i32x4.trunc_sat_f64x2_u_zero")]
     I32x4TruncSatF64x2UZero,
-    /// `f64x2.convert_low_i32x4_s`, opcode `FD FE 01`, a vector instruction.
-    /// Its call is [`f64x2_convert_low_i32x4_s`](super::InstructionSink::f64x2_convert_low_i32x4_s).
+    /// `f64x2.convert_low_i32x4_s` (opcode 0xFD 254), a vector instruction that converts the integers of a vector to floats.
+    /// [`InstructionSink::f64x2_convert_low_i32x4_s`](super::InstructionSink::f64x2_convert_low_i32x4_s) appends it.
     #[doc(alias = "f64x2.convert_low_i32x4_s")]
     F64x2ConvertLowI32x4S,
-    /// `f64x2.convert_low_i32x4_u`, opcode `FD FF 01`, a vector instruction.
-    /// Its call is [`f64x2_convert_low_i32x4_u`](super::InstructionSink::f64x2_convert_low_i32x4_u).
+    /// `f64x2.convert_low_i32x4_u` (opcode 0xFD 255), a vector instruction that converts the integers of a vector to floats.
+    /// [`InstructionSink::f64x2_convert_low_i32x4_u`](super::InstructionSink::f64x2_convert_low_i32x4_u) appends it.
     #[doc(alias = "f64x2.convert_low_i32x4_u")]
     F64x2ConvertLowI32x4U,
-    /// `i8x16.relaxed_swizzle`, opcode `FD 80 02`, a relaxed vector instruction.
-    /// Its call is [`i8x16_relaxed_swizzle`](super::InstructionSink::i8x16_relaxed_swizzle).
+    /// `i8x16.relaxed_swizzle` (opcode 0xFD 256), a relaxed vector instruction that selects lanes of a vector by those of another.
+    /// [`InstructionSink::i8x16_relaxed_swizzle`](super::InstructionSink::i8x16_relaxed_swizzle) appends it.
     #[doc(alias = "i8x16.relaxed_swizzle")]
     I8x16RelaxedSwizzle,
-    /// `i32x4.relaxed_trunc_f32x4_s`, opcode `FD 81 02`, a relaxed vector instruction.
-    /// Its call is [`i32x4_relaxed_trunc_f32x4_s`](super::InstructionSink::i32x4_relaxed_trunc_f32x4_s).
+    /// `i32x4.relaxed_trunc_f32x4_s` (opcode 0xFD 257), a relaxed vector instruction that converts the floats of a vector to integers.
+    /// [`InstructionSink::i32x4_relaxed_trunc_f32x4_s`](super::InstructionSink::i32x4_relaxed_trunc_f32x4_s) appends it.
     #[doc(alias = "i32x4.relaxed_trunc_f32x4_s")]
     I32x4RelaxedTruncF32x4S,
-    /// `i32x4.relaxed_trunc_f32x4_u`, opcode `FD 82 02`, a relaxed vector instruction.
-    /// Its call is [`i32x4_relaxed_trunc_f32x4_u`](super::InstructionSink::i32x4_relaxed_trunc_f32x4_u).
+    /// `i32x4.relaxed_trunc_f32x4_u` (opcode 0xFD 258), a relaxed vector instruction that converts the floats of a vector to integers.
+    /// [`InstructionSink::i32x4_relaxed_trunc_f32x4_u`](super::InstructionSink::i32x4_relaxed_trunc_f32x4_u) appends it.
     #[doc(alias = "i32x4.relaxed_trunc_f32x4_u")]
     I32x4RelaxedTruncF32x4U,
-    /// `i32x4.relaxed_trunc_f64x2_s_zero`, opcode `FD 83 02`, a relaxed vector instruction.
-    /// Its call is [`i32x4_relaxed_trunc_f64x2_s_zero`](super::InstructionSink::i32x4_relaxed_trunc_f64x2_s_zero).
+    /// `i32x4.relaxed_trunc_f64x2_s_zero` (opcode 0xFD 259), a relaxed vector instruction that converts the floats of a vector to integers.
+    /// [`InstructionSink::i32x4_relaxed_trunc_f64x2_s_zero`](super::InstructionSink::i32x4_relaxed_trunc_f64x2_s_zero) appends it.
     #[doc(alias = "i32x4.relaxed_trunc_f64x2_s_zero")]
     I32x4RelaxedTruncF64x2SZero,
-    /// `i32x4.relaxed_trunc_f64x2_u_zero`, opcode `FD 84 02`, a relaxed vector instruction.
-    /// Its call is [`i32x4_relaxed_trunc_f64x2_u_zero`](super::InstructionSink::i32x4_relaxed_trunc_f64x2_u_zero).
+    /// `i32x4.relaxed_trunc_f64x2_u_zero` (opcode 0xFD 260), a relaxed vector instruction that converts the floats of a vector to integers.
+    /// [`InstructionSink::i32x4_relaxed_trunc_f64x2_u_zero`](super::InstructionSink::i32x4_relaxed_trunc_f64x2_u_zero) appends it.
     #[doc(alias = "i32x4.relaxed_trunc_f64x2_u_zero")]
     I32x4RelaxedTruncF64x2UZero,
-    /// `f32x4.relaxed_madd`, opcode `FD 85 02`, a relaxed vector instruction.
-    /// Its call is [`f32x4_relaxed_madd`](super::InstructionSink::f32x4_relaxed_madd).
+    /// `f32x4.relaxed_madd` (opcode 0xFD 261), a relaxed vector instruction that multiplies each lane of two vectors, and adds a third.
+    /// [`InstructionSink::f32x4_relaxed_madd`](super::InstructionSink::f32x4_relaxed_madd) appends it.
     #[doc(alias = "f32x4.relaxed_madd")]
     F32x4RelaxedMadd,
-    /// `f32x4.relaxed_nmadd`, opcode `FD 86 02`, a relaxed vector instruction.
-    /// Its call is [`f32x4_relaxed_nmadd`](super::InstructionSink::f32x4_relaxed_nmadd).
+    /// `f32x4.relaxed_nmadd` (opcode 0xFD 262), a relaxed vector instruction that multiplies each lane of two vectors, and subtracts the product from a third.
+    /// [`InstructionSink::f32x4_relaxed_nmadd`](super::InstructionSink::f32x4_relaxed_nmadd) appends it.
     #[doc(alias = "f32x4.relaxed_nmadd")]
     F32x4RelaxedNmadd,
-    /// `f64x2.relaxed_madd`, opcode `FD 87 02`, a relaxed vector instruction.
-    /// Its call is [`f64x2_relaxed_madd`](super::InstructionSink::f64x2_relaxed_madd).
+    /// `f64x2.relaxed_madd` (opcode 0xFD 263), a relaxed vector instruction that multiplies each lane of two vectors, and adds a third.
+    /// [`InstructionSink::f64x2_relaxed_madd`](super::InstructionSink::f64x2_relaxed_madd) appends it.
     #[doc(alias = "f64x2.relaxed_madd")]
     F64x2RelaxedMadd,
-    /// `f64x2.relaxed_nmadd`, opcode `FD 88 02`, a relaxed vector instruction.
-    /// Its call is [`f64x2_relaxed_nmadd`](super::InstructionSink::f64x2_relaxed_nmadd).
+    /// `f64x2.relaxed_nmadd` (opcode 0xFD 264), a relaxed vector instruction that multiplies each lane of two vectors, and subtracts the product from a third.
+    /// [`InstructionSink::f64x2_relaxed_nmadd`](super::InstructionSink::f64x2_relaxed_nmadd) appends it.
     #[doc(alias = "f64x2.relaxed_nmadd")]
     F64x2RelaxedNmadd,
-    /// `i8x16.relaxed_laneselect`, opcode `FD 89 02`, a relaxed vector instruction.
-    /// Its call is [`i8x16_relaxed_laneselect`](super::InstructionSink::i8x16_relaxed_laneselect).
+    /// `i8x16.relaxed_laneselect` (opcode 0xFD 265), a relaxed vector instruction that selects lanes of two vectors by a third.
+    /// [`InstructionSink::i8x16_relaxed_laneselect`](super::InstructionSink::i8x16_relaxed_laneselect) appends it.
     #[doc(alias = "i8x16.relaxed_laneselect")]
     I8x16RelaxedLaneselect,
-    /// `i16x8.relaxed_laneselect`, opcode `FD 8A 02`, a relaxed vector instruction.
-    /// Its call is [`i16x8_relaxed_laneselect`](super::InstructionSink::i16x8_relaxed_laneselect).
+    /// `i16x8.relaxed_laneselect` (opcode 0xFD 266), a relaxed vector instruction that selects lanes of two vectors by a third.
+    /// [`InstructionSink::i16x8_relaxed_laneselect`](super::InstructionSink::i16x8_relaxed_laneselect) appends it.
     #[doc(alias = "i16x8.relaxed_laneselect")]
     I16x8RelaxedLaneselect,
-    /// `i32x4.relaxed_laneselect`, opcode `FD 8B 02`, a relaxed vector instruction.
-    /// Its call is [`i32x4_relaxed_laneselect`](super::InstructionSink::i32x4_relaxed_laneselect).
+    /// `i32x4.relaxed_laneselect` (opcode 0xFD 267), a relaxed vector instruction that selects lanes of two vectors by a third.
+    /// [`InstructionSink::i32x4_relaxed_laneselect`](super::InstructionSink::i32x4_relaxed_laneselect) appends it.
     #[doc(alias = "i32x4.relaxed_laneselect")]
     I32x4RelaxedLaneselect,
-    /// `i64x2.relaxed_laneselect`, opcode `FD 8C 02`, a relaxed vector instruction.
-    /// Its call is [`i64x2_relaxed_laneselect`](super::InstructionSink::i64x2_relaxed_laneselect).
+    /// `i64x2.relaxed_laneselect` (opcode 0xFD 268), a relaxed vector instruction that selects lanes of two vectors by a third.
+    /// [`InstructionSink::i64x2_relaxed_laneselect`](super::InstructionSink::i64x2_relaxed_laneselect) appends it.
     #[doc(alias = "i64x2.relaxed_laneselect")]
     I64x2RelaxedLaneselect,
-    /// `f32x4.relaxed_min`, opcode `FD 8D 02`, a relaxed vector instruction.
-    /// Its call is [`f32x4_relaxed_min`](super::InstructionSink::f32x4_relaxed_min).
+    /// `f32x4.relaxed_min` (opcode 0xFD 269), a relaxed vector instruction that computes the minimum of each lane of two vectors.
+    /// [`InstructionSink::f32x4_relaxed_min`](super::InstructionSink::f32x4_relaxed_min) appends it.
     #[doc(alias = "f32x4.relaxed_min")]
     F32x4RelaxedMin,
-    /// `f32x4.relaxed_max`, opcode `FD 8E 02`, a relaxed vector instruction.
-    /// Its call is [`f32x4_relaxed_max`](super::InstructionSink::f32x4_relaxed_max).
+    /// `f32x4.relaxed_max` (opcode 0xFD 270), a relaxed vector instruction that computes the maximum of each lane of two vectors.
+    /// [`InstructionSink::f32x4_relaxed_max`](super::InstructionSink::f32x4_relaxed_max) appends it.
     #[doc(alias = "f32x4.relaxed_max")]
     F32x4RelaxedMax,
-    /// `f64x2.relaxed_min`, opcode `FD 8F 02`, a relaxed vector instruction.
-    /// Its call is [`f64x2_relaxed_min`](super::InstructionSink::f64x2_relaxed_min).
+    /// `f64x2.relaxed_min` (opcode 0xFD 271), a relaxed vector instruction that computes the minimum of each lane of two vectors.
+    /// [`InstructionSink::f64x2_relaxed_min`](super::InstructionSink::f64x2_relaxed_min) appends it.
     #[doc(alias = "f64x2.relaxed_min")]
     F64x2RelaxedMin,
-    /// `f64x2.relaxed_max`, opcode `FD 90 02`, a relaxed vector instruction.
-    /// Its call is [`f64x2_relaxed_max`](super::InstructionSink::f64x2_relaxed_max).
+    /// `f64x2.relaxed_max` (opcode 0xFD 272), a relaxed vector instruction that computes the maximum of each lane of two vectors.
+    /// [`InstructionSink::f64x2_relaxed_max`](super::InstructionSink::f64x2_relaxed_max) appends it.
     #[doc(alias = "f64x2.relaxed_max")]
     F64x2RelaxedMax,
-    /// `i16x8.relaxed_q15mulr_s`, opcode `FD 91 02`, a relaxed vector instruction.
-    /// Its call is [`i16x8_relaxed_q15mulr_s`](super::InstructionSink::i16x8_relaxed_q15mulr_s).
+    /// `i16x8.relaxed_q15mulr_s` (opcode 0xFD 273), a relaxed vector instruction that multiplies each lane of two vectors as fixed-point numbers, rounded.
+    /// [`InstructionSink::i16x8_relaxed_q15mulr_s`](super::InstructionSink::i16x8_relaxed_q15mulr_s) appends it.
     #[doc(alias = "i16x8.relaxed_q15mulr_s")]
     I16x8RelaxedQ15mulrS,
-    /// `i16x8.relaxed_dot_i8x16_i7x16_s`, opcode `FD 92 02`, a relaxed vector instruction.
-    /// Its call is [`i16x8_relaxed_dot_i8x16_i7x16_s`](super::InstructionSink::i16x8_relaxed_dot_i8x16_i7x16_s).
+    /// `i16x8.relaxed_dot_i8x16_i7x16_s` (opcode 0xFD 274), a relaxed vector instruction that multiplies each lane of two vectors, and adds neighbouring products.
+    /// [`InstructionSink::i16x8_relaxed_dot_i8x16_i7x16_s`](super::InstructionSink::i16x8_relaxed_dot_i8x16_i7x16_s) appends it.
     #[doc(alias = "i16x8.relaxed_dot_i8x16_i7x16_s")]
     I16x8RelaxedDotI8x16I7x16S,
-    /// `i32x4.relaxed_dot_i8x16_i7x16_add_s`, opcode `FD 93 02`, a relaxed vector instruction.
-    /// Its call is [`i32x4_relaxed_dot_i8x16_i7x16_add_s`](super::InstructionSink::i32x4_relaxed_dot_i8x16_i7x16_add_s).
+    /// `i32x4.relaxed_dot_i8x16_i7x16_add_s` (opcode 0xFD 275), a relaxed vector instruction that multiplies each lane of two vectors, and adds neighbouring products and a third vector.
+    /// [`InstructionSink::i32x4_relaxed_dot_i8x16_i7x16_add_s`](super::InstructionSink::i32x4_relaxed_dot_i8x16_i7x16_add_s) appends it.
     #[doc(alias = "i32x4.relaxed_dot_i8x16_i7x16_add_s")]
     I32x4RelaxedDotI8x16I7x16AddS,
-    /// `memory.atomic.notify`, opcode `FE 00`, an atomic instruction of the threads proposal.
-    /// Its call is [`memory_atomic_notify`](super::InstructionSink::memory_atomic_notify), with the immediate `memarg`.
+    /// `memory.atomic.notify` (opcode 0xFE 0), an atomic instruction of the threads proposal that wakes threads that wait at an address.
+    /// [`InstructionSink::memory_atomic_notify`](super::InstructionSink::memory_atomic_notify) appends it, with the immediate `memarg`.
     #[doc(alias = "memory.atomic.notify")]
     MemoryAtomicNotify(MemArg),
-    /// `memory.atomic.wait32`, opcode `FE 01`, an atomic instruction of the threads proposal.
-    /// Its call is [`memory_atomic_wait32`](super::InstructionSink::memory_atomic_wait32), with the immediate `memarg`.
+    /// `memory.atomic.wait32` (opcode 0xFE 1), an atomic instruction of the threads proposal that waits at an address for a notification.
+    /// [`InstructionSink::memory_atomic_wait32`](super::InstructionSink::memory_atomic_wait32) appends it, with the immediate `memarg`.
     #[doc(alias = "memory.atomic.wait32")]
     MemoryAtomicWait32(MemArg),
-    /// `memory.atomic.wait64`, opcode `FE 02`, an atomic instruction of the threads proposal.
-    /// Its call is [`memory_atomic_wait64`](super::InstructionSink::memory_atomic_wait64), with the immediate `memarg`.
+    /// `memory.atomic.wait64` (opcode 0xFE 2), an atomic instruction of the threads proposal that waits at an address for a notification.
+    /// [`InstructionSink::memory_atomic_wait64`](super::InstructionSink::memory_atomic_wait64) appends it, with the immediate `memarg`.
     #[doc(alias = "memory.atomic.wait64")]
     MemoryAtomicWait64(MemArg),
-    /// `atomic.fence`, opcode `FE 03`, an atomic instruction of the threads proposal.
-    /// Its call is [`atomic_fence`](super::InstructionSink::atomic_fence), with the immediate `ordering`.
+    /// `atomic.fence` (opcode 0xFE 3), an atomic instruction of the threads proposal that orders the accesses before and after it.
+    /// [`InstructionSink::atomic_fence`](super::InstructionSink::atomic_fence) appends it, with the immediate `ordering`.
     #[doc(alias = "atomic.fence")]
     AtomicFence(Ordering),
-    /// `pause`, opcode `FE 04`, an instruction of the shared-everything threads proposal.
-    /// Its call is [`pause`](super::InstructionSink::pause).
+    /// `pause` (opcode 0xFE 4), an instruction of the shared-everything threads proposal that hints that the thread waits in a loop.
+    /// [`InstructionSink::pause`](super::InstructionSink::pause) appends it.
     Pause,
-    /// `i32.atomic.load`, opcode `FE 10`, an atomic instruction of the threads proposal.
-    /// Its call is [`i32_atomic_load`](super::InstructionSink::i32_atomic_load), with the immediate `memarg`.
+    /// `i32.atomic.load` (opcode 0xFE 16), an atomic instruction of the threads proposal that loads a number from a memory.
+    /// [`InstructionSink::i32_atomic_load`](super::InstructionSink::i32_atomic_load) appends it, with the immediate `memarg`.
     #[doc(alias = "i32.atomic.load")]
     I32AtomicLoad(MemArg),
-    /// `i64.atomic.load`, opcode `FE 11`, an atomic instruction of the threads proposal.
-    /// Its call is [`i64_atomic_load`](super::InstructionSink::i64_atomic_load), with the immediate `memarg`.
+    /// `i64.atomic.load` (opcode 0xFE 17), an atomic instruction of the threads proposal that loads a number from a memory.
+    /// [`InstructionSink::i64_atomic_load`](super::InstructionSink::i64_atomic_load) appends it, with the immediate `memarg`.
     #[doc(alias = "i64.atomic.load")]
     I64AtomicLoad(MemArg),
-    /// `i32.atomic.load8_u`, opcode `FE 12`, an atomic instruction of the threads proposal.
-    /// Its call is [`i32_atomic_load8_u`](super::InstructionSink::i32_atomic_load8_u), with the immediate `memarg`.
+    /// `i32.atomic.load8_u` (opcode 0xFE 18), an atomic instruction of the threads proposal that loads a number from a memory.
+    /// [`InstructionSink::i32_atomic_load8_u`](super::InstructionSink::i32_atomic_load8_u) appends it, with the immediate `memarg`.
     #[doc(alias = "i32.atomic.load8_u")]
     I32AtomicLoad8U(MemArg),
-    /// `i32.atomic.load16_u`, opcode `FE 13`, an atomic instruction of the threads proposal.
-    /// Its call is [`i32_atomic_load16_u`](super::InstructionSink::i32_atomic_load16_u), with the immediate `memarg`.
+    /// `i32.atomic.load16_u` (opcode 0xFE 19), an atomic instruction of the threads proposal that loads a number from a memory.
+    /// [`InstructionSink::i32_atomic_load16_u`](super::InstructionSink::i32_atomic_load16_u) appends it, with the immediate `memarg`.
     #[doc(alias = "i32.atomic.load16_u")]
     I32AtomicLoad16U(MemArg),
-    /// `i64.atomic.load8_u`, opcode `FE 14`, an atomic instruction of the threads proposal.
-    /// Its call is [`i64_atomic_load8_u`](super::InstructionSink::i64_atomic_load8_u), with the immediate `memarg`.
+    /// `i64.atomic.load8_u` (opcode 0xFE 20), an atomic instruction of the threads proposal that loads a number from a memory.
+    /// [`InstructionSink::i64_atomic_load8_u`](super::InstructionSink::i64_atomic_load8_u) appends it, with the immediate `memarg`.
     #[doc(alias = "i64.atomic.load8_u")]
     I64AtomicLoad8U(MemArg),
-    /// `i64.atomic.load16_u`, opcode `FE 15`, an atomic instruction of the threads proposal.
-    /// Its call is [`i64_atomic_load16_u`](super::InstructionSink::i64_atomic_load16_u), with the immediate `memarg`.
+    /// `i64.atomic.load16_u` (opcode 0xFE 21), an atomic instruction of the threads proposal that loads a number from a memory.
+    /// [`InstructionSink::i64_atomic_load16_u`](super::InstructionSink::i64_atomic_load16_u) appends it, with the immediate `memarg`.
     #[doc(alias = "i64.atomic.load16_u")]
     I64AtomicLoad16U(MemArg),
-    /// `i64.atomic.load32_u`, opcode `FE 16`, an atomic instruction of the threads proposal.
-    /// Its call is [`i64_atomic_load32_u`](super::InstructionSink::i64_atomic_load32_u), with the immediate `memarg`.
+    /// `i64.atomic.load32_u` (opcode 0xFE 22), an atomic instruction of the threads proposal that loads a number from a memory.
+    /// [`InstructionSink::i64_atomic_load32_u`](super::InstructionSink::i64_atomic_load32_u) appends it, with the immediate `memarg`.
     #[doc(alias = "i64.atomic.load32_u")]
     I64AtomicLoad32U(MemArg),
-    /// `i32.atomic.store`, opcode `FE 17`, an atomic instruction of the threads proposal.
-    /// Its call is [`i32_atomic_store`](super::InstructionSink::i32_atomic_store), with the immediate `memarg`.
+    /// `i32.atomic.store` (opcode 0xFE 23), an atomic instruction of the threads proposal that stores a number to a memory.
+    /// [`InstructionSink::i32_atomic_store`](super::InstructionSink::i32_atomic_store) appends it, with the immediate `memarg`.
     #[doc(alias = "i32.atomic.store")]
     I32AtomicStore(MemArg),
-    /// `i64.atomic.store`, opcode `FE 18`, an atomic instruction of the threads proposal.
-    /// Its call is [`i64_atomic_store`](super::InstructionSink::i64_atomic_store), with the immediate `memarg`.
+    /// `i64.atomic.store` (opcode 0xFE 24), an atomic instruction of the threads proposal that stores a number to a memory.
+    /// [`InstructionSink::i64_atomic_store`](super::InstructionSink::i64_atomic_store) appends it, with the immediate `memarg`.
     #[doc(alias = "i64.atomic.store")]
     I64AtomicStore(MemArg),
-    /// `i32.atomic.store8`, opcode `FE 19`, an atomic instruction of the threads proposal.
-    /// Its call is [`i32_atomic_store8`](super::InstructionSink::i32_atomic_store8), with the immediate `memarg`.
+    /// `i32.atomic.store8` (opcode 0xFE 25), an atomic instruction of the threads proposal that stores a number to a memory.
+    /// [`InstructionSink::i32_atomic_store8`](super::InstructionSink::i32_atomic_store8) appends it, with the immediate `memarg`.
     #[doc(alias = "i32.atomic.store8")]
     I32AtomicStore8(MemArg),
-    /// `i32.atomic.store16`, opcode `FE 1A`, an atomic instruction of the threads proposal.
-    /// Its call is [`i32_atomic_store16`](super::InstructionSink::i32_atomic_store16), with the immediate `memarg`.
+    /// `i32.atomic.store16` (opcode 0xFE 26), an atomic instruction of the threads proposal that stores a number to a memory.
+    /// [`InstructionSink::i32_atomic_store16`](super::InstructionSink::i32_atomic_store16) appends it, with the immediate `memarg`.
     #[doc(alias = "i32.atomic.store16")]
     I32AtomicStore16(MemArg),
-    /// `i64.atomic.store8`, opcode `FE 1B`, an atomic instruction of the threads proposal.
-    /// Its call is [`i64_atomic_store8`](super::InstructionSink::i64_atomic_store8), with the immediate `memarg`.
+    /// `i64.atomic.store8` (opcode 0xFE 27), an atomic instruction of the threads proposal that stores a number to a memory.
+    /// [`InstructionSink::i64_atomic_store8`](super::InstructionSink::i64_atomic_store8) appends it, with the immediate `memarg`.
     #[doc(alias = "i64.atomic.store8")]
     I64AtomicStore8(MemArg),
-    /// `i64.atomic.store16`, opcode `FE 1C`, an atomic instruction of the threads proposal.
-    /// Its call is [`i64_atomic_store16`](super::InstructionSink::i64_atomic_store16), with the immediate `memarg`.
+    /// `i64.atomic.store16` (opcode 0xFE 28), an atomic instruction of the threads proposal that stores a number to a memory.
+    /// [`InstructionSink::i64_atomic_store16`](super::InstructionSink::i64_atomic_store16) appends it, with the immediate `memarg`.
     #[doc(alias = "i64.atomic.store16")]
     I64AtomicStore16(MemArg),
-    /// `i64.atomic.store32`, opcode `FE 1D`, an atomic instruction of the threads proposal.
-    /// Its call is [`i64_atomic_store32`](super::InstructionSink::i64_atomic_store32), with the immediate `memarg`.
+    /// `i64.atomic.store32` (opcode 0xFE 29), an atomic instruction of the threads proposal that stores a number to a memory.
+    /// [`InstructionSink::i64_atomic_store32`](super::InstructionSink::i64_atomic_store32) appends it, with the immediate `memarg`.
     #[doc(alias = "i64.atomic.store32")]
     I64AtomicStore32(MemArg),
-    /// `i32.atomic.rmw.add`, opcode `FE 1E`, an atomic instruction of the threads proposal.
-    /// Its call is [`i32_atomic_rmw_add`](super::InstructionSink::i32_atomic_rmw_add), with the immediate `memarg`.
+    /// `i32.atomic.rmw.add` (opcode 0xFE 30), an atomic instruction of the threads proposal that adds to a number in a memory, and returns the old value.
+    /// [`InstructionSink::i32_atomic_rmw_add`](super::InstructionSink::i32_atomic_rmw_add) appends it, with the immediate `memarg`.
     #[doc(alias = "i32.atomic.rmw.add")]
     I32AtomicRmwAdd(MemArg),
-    /// `i64.atomic.rmw.add`, opcode `FE 1F`, an atomic instruction of the threads proposal.
-    /// Its call is [`i64_atomic_rmw_add`](super::InstructionSink::i64_atomic_rmw_add), with the immediate `memarg`.
+    /// `i64.atomic.rmw.add` (opcode 0xFE 31), an atomic instruction of the threads proposal that adds to a number in a memory, and returns the old value.
+    /// [`InstructionSink::i64_atomic_rmw_add`](super::InstructionSink::i64_atomic_rmw_add) appends it, with the immediate `memarg`.
     #[doc(alias = "i64.atomic.rmw.add")]
     I64AtomicRmwAdd(MemArg),
-    /// `i32.atomic.rmw8.add_u`, opcode `FE 20`, an atomic instruction of the threads proposal.
-    /// Its call is [`i32_atomic_rmw8_add_u`](super::InstructionSink::i32_atomic_rmw8_add_u), with the immediate `memarg`.
+    /// `i32.atomic.rmw8.add_u` (opcode 0xFE 32), an atomic instruction of the threads proposal that adds to a number in a memory, and returns the old value.
+    /// [`InstructionSink::i32_atomic_rmw8_add_u`](super::InstructionSink::i32_atomic_rmw8_add_u) appends it, with the immediate `memarg`.
     #[doc(alias = "i32.atomic.rmw8.add_u")]
     I32AtomicRmw8AddU(MemArg),
-    /// `i32.atomic.rmw16.add_u`, opcode `FE 21`, an atomic instruction of the threads proposal.
-    /// Its call is [`i32_atomic_rmw16_add_u`](super::InstructionSink::i32_atomic_rmw16_add_u), with the immediate `memarg`.
+    /// `i32.atomic.rmw16.add_u` (opcode 0xFE 33), an atomic instruction of the threads proposal that adds to a number in a memory, and returns the old value.
+    /// [`InstructionSink::i32_atomic_rmw16_add_u`](super::InstructionSink::i32_atomic_rmw16_add_u) appends it, with the immediate `memarg`.
     #[doc(alias = "i32.atomic.rmw16.add_u")]
     I32AtomicRmw16AddU(MemArg),
-    /// `i64.atomic.rmw8.add_u`, opcode `FE 22`, an atomic instruction of the threads proposal.
-    /// Its call is [`i64_atomic_rmw8_add_u`](super::InstructionSink::i64_atomic_rmw8_add_u), with the immediate `memarg`.
+    /// `i64.atomic.rmw8.add_u` (opcode 0xFE 34), an atomic instruction of the threads proposal that adds to a number in a memory, and returns the old value.
+    /// [`InstructionSink::i64_atomic_rmw8_add_u`](super::InstructionSink::i64_atomic_rmw8_add_u) appends it, with the immediate `memarg`.
     #[doc(alias = "i64.atomic.rmw8.add_u")]
     I64AtomicRmw8AddU(MemArg),
-    /// `i64.atomic.rmw16.add_u`, opcode `FE 23`, an atomic instruction of the threads proposal.
-    /// Its call is [`i64_atomic_rmw16_add_u`](super::InstructionSink::i64_atomic_rmw16_add_u), with the immediate `memarg`.
+    /// `i64.atomic.rmw16.add_u` (opcode 0xFE 35), an atomic instruction of the threads proposal that adds to a number in a memory, and returns the old value.
+    /// [`InstructionSink::i64_atomic_rmw16_add_u`](super::InstructionSink::i64_atomic_rmw16_add_u) appends it, with the immediate `memarg`.
     #[doc(alias = "i64.atomic.rmw16.add_u")]
     I64AtomicRmw16AddU(MemArg),
-    /// `i64.atomic.rmw32.add_u`, opcode `FE 24`, an atomic instruction of the threads proposal.
-    /// Its call is [`i64_atomic_rmw32_add_u`](super::InstructionSink::i64_atomic_rmw32_add_u), with the immediate `memarg`.
+    /// `i64.atomic.rmw32.add_u` (opcode 0xFE 36), an atomic instruction of the threads proposal that adds to a number in a memory, and returns the old value.
+    /// [`InstructionSink::i64_atomic_rmw32_add_u`](super::InstructionSink::i64_atomic_rmw32_add_u) appends it, with the immediate `memarg`.
     #[doc(alias = "i64.atomic.rmw32.add_u")]
     I64AtomicRmw32AddU(MemArg),
-    /// `i32.atomic.rmw.sub`, opcode `FE 25`, an atomic instruction of the threads proposal.
-    /// Its call is [`i32_atomic_rmw_sub`](super::InstructionSink::i32_atomic_rmw_sub), with the immediate `memarg`.
+    /// `i32.atomic.rmw.sub` (opcode 0xFE 37), an atomic instruction of the threads proposal that subtracts from a number in a memory, and returns the old value.
+    /// [`InstructionSink::i32_atomic_rmw_sub`](super::InstructionSink::i32_atomic_rmw_sub) appends it, with the immediate `memarg`.
     #[doc(alias = "i32.atomic.rmw.sub")]
     I32AtomicRmwSub(MemArg),
-    /// `i64.atomic.rmw.sub`, opcode `FE 26`, an atomic instruction of the threads proposal.
-    /// Its call is [`i64_atomic_rmw_sub`](super::InstructionSink::i64_atomic_rmw_sub), with the immediate `memarg`.
+    /// `i64.atomic.rmw.sub` (opcode 0xFE 38), an atomic instruction of the threads proposal that subtracts from a number in a memory, and returns the old value.
+    /// [`InstructionSink::i64_atomic_rmw_sub`](super::InstructionSink::i64_atomic_rmw_sub) appends it, with the immediate `memarg`.
     #[doc(alias = "i64.atomic.rmw.sub")]
     I64AtomicRmwSub(MemArg),
-    /// `i32.atomic.rmw8.sub_u`, opcode `FE 27`, an atomic instruction of the threads proposal.
-    /// Its call is [`i32_atomic_rmw8_sub_u`](super::InstructionSink::i32_atomic_rmw8_sub_u), with the immediate `memarg`.
+    /// `i32.atomic.rmw8.sub_u` (opcode 0xFE 39), an atomic instruction of the threads proposal that subtracts from a number in a memory, and returns the old value.
+    /// [`InstructionSink::i32_atomic_rmw8_sub_u`](super::InstructionSink::i32_atomic_rmw8_sub_u) appends it, with the immediate `memarg`.
     #[doc(alias = "i32.atomic.rmw8.sub_u")]
     I32AtomicRmw8SubU(MemArg),
-    /// `i32.atomic.rmw16.sub_u`, opcode `FE 28`, an atomic instruction of the threads proposal.
-    /// Its call is [`i32_atomic_rmw16_sub_u`](super::InstructionSink::i32_atomic_rmw16_sub_u), with the immediate `memarg`.
+    /// `i32.atomic.rmw16.sub_u` (opcode 0xFE 40), an atomic instruction of the threads proposal that subtracts from a number in a memory, and returns the old value.
+    /// [`InstructionSink::i32_atomic_rmw16_sub_u`](super::InstructionSink::i32_atomic_rmw16_sub_u) appends it, with the immediate `memarg`.
     #[doc(alias = "i32.atomic.rmw16.sub_u")]
     I32AtomicRmw16SubU(MemArg),
-    /// `i64.atomic.rmw8.sub_u`, opcode `FE 29`, an atomic instruction of the threads proposal.
-    /// Its call is [`i64_atomic_rmw8_sub_u`](super::InstructionSink::i64_atomic_rmw8_sub_u), with the immediate `memarg`.
+    /// `i64.atomic.rmw8.sub_u` (opcode 0xFE 41), an atomic instruction of the threads proposal that subtracts from a number in a memory, and returns the old value.
+    /// [`InstructionSink::i64_atomic_rmw8_sub_u`](super::InstructionSink::i64_atomic_rmw8_sub_u) appends it, with the immediate `memarg`.
     #[doc(alias = "i64.atomic.rmw8.sub_u")]
     I64AtomicRmw8SubU(MemArg),
-    /// `i64.atomic.rmw16.sub_u`, opcode `FE 2A`, an atomic instruction of the threads proposal.
-    /// Its call is [`i64_atomic_rmw16_sub_u`](super::InstructionSink::i64_atomic_rmw16_sub_u), with the immediate `memarg`.
+    /// `i64.atomic.rmw16.sub_u` (opcode 0xFE 42), an atomic instruction of the threads proposal that subtracts from a number in a memory, and returns the old value.
+    /// [`InstructionSink::i64_atomic_rmw16_sub_u`](super::InstructionSink::i64_atomic_rmw16_sub_u) appends it, with the immediate `memarg`.
     #[doc(alias = "i64.atomic.rmw16.sub_u")]
     I64AtomicRmw16SubU(MemArg),
-    /// `i64.atomic.rmw32.sub_u`, opcode `FE 2B`, an atomic instruction of the threads proposal.
-    /// Its call is [`i64_atomic_rmw32_sub_u`](super::InstructionSink::i64_atomic_rmw32_sub_u), with the immediate `memarg`.
+    /// `i64.atomic.rmw32.sub_u` (opcode 0xFE 43), an atomic instruction of the threads proposal that subtracts from a number in a memory, and returns the old value.
+    /// [`InstructionSink::i64_atomic_rmw32_sub_u`](super::InstructionSink::i64_atomic_rmw32_sub_u) appends it, with the immediate `memarg`.
     #[doc(alias = "i64.atomic.rmw32.sub_u")]
     I64AtomicRmw32SubU(MemArg),
-    /// `i32.atomic.rmw.and`, opcode `FE 2C`, an atomic instruction of the threads proposal.
-    /// Its call is [`i32_atomic_rmw_and`](super::InstructionSink::i32_atomic_rmw_and), with the immediate `memarg`.
+    /// `i32.atomic.rmw.and` (opcode 0xFE 44), an atomic instruction of the threads proposal that sets a number in a memory to its bitwise and with an operand, and returns the old value.
+    /// [`InstructionSink::i32_atomic_rmw_and`](super::InstructionSink::i32_atomic_rmw_and) appends it, with the immediate `memarg`.
     #[doc(alias = "i32.atomic.rmw.and")]
     I32AtomicRmwAnd(MemArg),
-    /// `i64.atomic.rmw.and`, opcode `FE 2D`, an atomic instruction of the threads proposal.
-    /// Its call is [`i64_atomic_rmw_and`](super::InstructionSink::i64_atomic_rmw_and), with the immediate `memarg`.
+    /// `i64.atomic.rmw.and` (opcode 0xFE 45), an atomic instruction of the threads proposal that sets a number in a memory to its bitwise and with an operand, and returns the old value.
+    /// [`InstructionSink::i64_atomic_rmw_and`](super::InstructionSink::i64_atomic_rmw_and) appends it, with the immediate `memarg`.
     #[doc(alias = "i64.atomic.rmw.and")]
     I64AtomicRmwAnd(MemArg),
-    /// `i32.atomic.rmw8.and_u`, opcode `FE 2E`, an atomic instruction of the threads proposal.
-    /// Its call is [`i32_atomic_rmw8_and_u`](super::InstructionSink::i32_atomic_rmw8_and_u), with the immediate `memarg`.
+    /// `i32.atomic.rmw8.and_u` (opcode 0xFE 46), an atomic instruction of the threads proposal that sets a number in a memory to its bitwise and with an operand, and returns the old value.
+    /// [`InstructionSink::i32_atomic_rmw8_and_u`](super::InstructionSink::i32_atomic_rmw8_and_u) appends it, with the immediate `memarg`.
     #[doc(alias = "i32.atomic.rmw8.and_u")]
     I32AtomicRmw8AndU(MemArg),
-    /// `i32.atomic.rmw16.and_u`, opcode `FE 2F`, an atomic instruction of the threads proposal.
-    /// Its call is [`i32_atomic_rmw16_and_u`](super::InstructionSink::i32_atomic_rmw16_and_u), with the immediate `memarg`.
+    /// `i32.atomic.rmw16.and_u` (opcode 0xFE 47), an atomic instruction of the threads proposal that sets a number in a memory to its bitwise and with an operand, and returns the old value.
+    /// [`InstructionSink::i32_atomic_rmw16_and_u`](super::InstructionSink::i32_atomic_rmw16_and_u) appends it, with the immediate `memarg`.
     #[doc(alias = "i32.atomic.rmw16.and_u")]
     I32AtomicRmw16AndU(MemArg),
-    /// `i64.atomic.rmw8.and_u`, opcode `FE 30`, an atomic instruction of the threads proposal.
-    /// Its call is [`i64_atomic_rmw8_and_u`](super::InstructionSink::i64_atomic_rmw8_and_u), with the immediate `memarg`.
+    /// `i64.atomic.rmw8.and_u` (opcode 0xFE 48), an atomic instruction of the threads proposal that sets a number in a memory to its bitwise and with an operand, and returns the old value.
+    /// [`InstructionSink::i64_atomic_rmw8_and_u`](super::InstructionSink::i64_atomic_rmw8_and_u) appends it, with the immediate `memarg`.
     #[doc(alias = "i64.atomic.rmw8.and_u")]
     I64AtomicRmw8AndU(MemArg),
-    /// `i64.atomic.rmw16.and_u`, opcode `FE 31`, an atomic instruction of the threads proposal.
-    /// Its call is [`i64_atomic_rmw16_and_u`](super::InstructionSink::i64_atomic_rmw16_and_u), with the immediate `memarg`.
+    /// `i64.atomic.rmw16.and_u` (opcode 0xFE 49), an atomic instruction of the threads proposal that sets a number in a memory to its bitwise and with an operand, and returns the old value.
+    /// [`InstructionSink::i64_atomic_rmw16_and_u`](super::InstructionSink::i64_atomic_rmw16_and_u) appends it, with the immediate `memarg`.
     #[doc(alias = "i64.atomic.rmw16.and_u")]
     I64AtomicRmw16AndU(MemArg),
-    /// `i64.atomic.rmw32.and_u`, opcode `FE 32`, an atomic instruction of the threads proposal.
-    /// Its call is [`i64_atomic_rmw32_and_u`](super::InstructionSink::i64_atomic_rmw32_and_u), with the immediate `memarg`.
+    /// `i64.atomic.rmw32.and_u` (opcode 0xFE 50), an atomic instruction of the threads proposal that sets a number in a memory to its bitwise and with an operand, and returns the old value.
+    /// [`InstructionSink::i64_atomic_rmw32_and_u`](super::InstructionSink::i64_atomic_rmw32_and_u) appends it, with the immediate `memarg`.
     #[doc(alias = "i64.atomic.rmw32.and_u")]
     I64AtomicRmw32AndU(MemArg),
-    /// `i32.atomic.rmw.or`, opcode `FE 33`, an atomic instruction of the threads proposal.
-    /// Its call is [`i32_atomic_rmw_or`](super::InstructionSink::i32_atomic_rmw_or), with the immediate `memarg`.
+    /// `i32.atomic.rmw.or` (opcode 0xFE 51), an atomic instruction of the threads proposal that sets a number in a memory to its bitwise or with an operand, and returns the old value.
+    /// [`InstructionSink::i32_atomic_rmw_or`](super::InstructionSink::i32_atomic_rmw_or) appends it, with the immediate `memarg`.
     #[doc(alias = "i32.atomic.rmw.or")]
     I32AtomicRmwOr(MemArg),
-    /// `i64.atomic.rmw.or`, opcode `FE 34`, an atomic instruction of the threads proposal.
-    /// Its call is [`i64_atomic_rmw_or`](super::InstructionSink::i64_atomic_rmw_or), with the immediate `memarg`.
+    /// `i64.atomic.rmw.or` (opcode 0xFE 52), an atomic instruction of the threads proposal that sets a number in a memory to its bitwise or with an operand, and returns the old value.
+    /// [`InstructionSink::i64_atomic_rmw_or`](super::InstructionSink::i64_atomic_rmw_or) appends it, with the immediate `memarg`.
     #[doc(alias = "i64.atomic.rmw.or")]
     I64AtomicRmwOr(MemArg),
-    /// `i32.atomic.rmw8.or_u`, opcode `FE 35`, an atomic instruction of the threads proposal.
-    /// Its call is [`i32_atomic_rmw8_or_u`](super::InstructionSink::i32_atomic_rmw8_or_u), with the immediate `memarg`.
+    /// `i32.atomic.rmw8.or_u` (opcode 0xFE 53), an atomic instruction of the threads proposal that sets a number in a memory to its bitwise or with an operand, and returns the old value.
+    /// [`InstructionSink::i32_atomic_rmw8_or_u`](super::InstructionSink::i32_atomic_rmw8_or_u) appends it, with the immediate `memarg`.
     #[doc(alias = "i32.atomic.rmw8.or_u")]
     I32AtomicRmw8OrU(MemArg),
-    /// `i32.atomic.rmw16.or_u`, opcode `FE 36`, an atomic instruction of the threads proposal.
-    /// Its call is [`i32_atomic_rmw16_or_u`](super::InstructionSink::i32_atomic_rmw16_or_u), with the immediate `memarg`.
+    /// `i32.atomic.rmw16.or_u` (opcode 0xFE 54), an atomic instruction of the threads proposal that sets a number in a memory to its bitwise or with an operand, and returns the old value.
+    /// [`InstructionSink::i32_atomic_rmw16_or_u`](super::InstructionSink::i32_atomic_rmw16_or_u) appends it, with the immediate `memarg`.
     #[doc(alias = "i32.atomic.rmw16.or_u")]
     I32AtomicRmw16OrU(MemArg),
-    /// `i64.atomic.rmw8.or_u`, opcode `FE 37`, an atomic instruction of the threads proposal.
-    /// Its call is [`i64_atomic_rmw8_or_u`](super::InstructionSink::i64_atomic_rmw8_or_u), with the immediate `memarg`.
+    /// `i64.atomic.rmw8.or_u` (opcode 0xFE 55), an atomic instruction of the threads proposal that sets a number in a memory to its bitwise or with an operand, and returns the old value.
+    /// [`InstructionSink::i64_atomic_rmw8_or_u`](super::InstructionSink::i64_atomic_rmw8_or_u) appends it, with the immediate `memarg`.
     #[doc(alias = "i64.atomic.rmw8.or_u")]
     I64AtomicRmw8OrU(MemArg),
-    /// `i64.atomic.rmw16.or_u`, opcode `FE 38`, an atomic instruction of the threads proposal.
-    /// Its call is [`i64_atomic_rmw16_or_u`](super::InstructionSink::i64_atomic_rmw16_or_u), with the immediate `memarg`.
+    /// `i64.atomic.rmw16.or_u` (opcode 0xFE 56), an atomic instruction of the threads proposal that sets a number in a memory to its bitwise or with an operand, and returns the old value.
+    /// [`InstructionSink::i64_atomic_rmw16_or_u`](super::InstructionSink::i64_atomic_rmw16_or_u) appends it, with the immediate `memarg`.
     #[doc(alias = "i64.atomic.rmw16.or_u")]
     I64AtomicRmw16OrU(MemArg),
-    /// `i64.atomic.rmw32.or_u`, opcode `FE 39`, an atomic instruction of the threads proposal.
-    /// Its call is [`i64_atomic_rmw32_or_u`](super::InstructionSink::i64_atomic_rmw32_or_u), with the immediate `memarg`.
+    /// `i64.atomic.rmw32.or_u` (opcode 0xFE 57), an atomic instruction of the threads proposal that sets a number in a memory to its bitwise or with an operand, and returns the old value.
+    /// [`InstructionSink::i64_atomic_rmw32_or_u`](super::InstructionSink::i64_atomic_rmw32_or_u) appends it, with the immediate `memarg`.
     #[doc(alias = "i64.atomic.rmw32.or_u")]
     I64AtomicRmw32OrU(MemArg),
-    /// `i32.atomic.rmw.xor`, opcode `FE 3A`, an atomic instruction of the threads proposal.
-    /// Its call is [`i32_atomic_rmw_xor`](super::InstructionSink::i32_atomic_rmw_xor), with the immediate `memarg`.
+    /// `i32.atomic.rmw.xor` (opcode 0xFE 58), an atomic instruction of the threads proposal that sets a number in a memory to its bitwise exclusive or with an operand, and returns the old value.
+    /// [`InstructionSink::i32_atomic_rmw_xor`](super::InstructionSink::i32_atomic_rmw_xor) appends it, with the immediate `memarg`.
     #[doc(alias = "i32.atomic.rmw.xor")]
     I32AtomicRmwXor(MemArg),
-    /// `i64.atomic.rmw.xor`, opcode `FE 3B`, an atomic instruction of the threads proposal.
-    /// Its call is [`i64_atomic_rmw_xor`](super::InstructionSink::i64_atomic_rmw_xor), with the immediate `memarg`.
+    /// `i64.atomic.rmw.xor` (opcode 0xFE 59), an atomic instruction of the threads proposal that sets a number in a memory to its bitwise exclusive or with an operand, and returns the old value.
+    /// [`InstructionSink::i64_atomic_rmw_xor`](super::InstructionSink::i64_atomic_rmw_xor) appends it, with the immediate `memarg`.
     #[doc(alias = "i64.atomic.rmw.xor")]
     I64AtomicRmwXor(MemArg),
-    /// `i32.atomic.rmw8.xor_u`, opcode `FE 3C`, an atomic instruction of the threads proposal.
-    /// Its call is [`i32_atomic_rmw8_xor_u`](super::InstructionSink::i32_atomic_rmw8_xor_u), with the immediate `memarg`.
+    /// `i32.atomic.rmw8.xor_u` (opcode 0xFE 60), an atomic instruction of the threads proposal that sets a number in a memory to its bitwise exclusive or with an operand, and returns the old value.
+    /// [`InstructionSink::i32_atomic_rmw8_xor_u`](super::InstructionSink::i32_atomic_rmw8_xor_u) appends it, with the immediate `memarg`.
     #[doc(alias = "i32.atomic.rmw8.xor_u")]
     I32AtomicRmw8XorU(MemArg),
-    /// `i32.atomic.rmw16.xor_u`, opcode `FE 3D`, an atomic instruction of the threads proposal.
-    /// Its call is [`i32_atomic_rmw16_xor_u`](super::InstructionSink::i32_atomic_rmw16_xor_u), with the immediate `memarg`.
+    /// `i32.atomic.rmw16.xor_u` (opcode 0xFE 61), an atomic instruction of the threads proposal that sets a number in a memory to its bitwise exclusive or with an operand, and returns the old value.
+    /// [`InstructionSink::i32_atomic_rmw16_xor_u`](super::InstructionSink::i32_atomic_rmw16_xor_u) appends it, with the immediate `memarg`.
     #[doc(alias = "i32.atomic.rmw16.xor_u")]
     I32AtomicRmw16XorU(MemArg),
-    /// `i64.atomic.rmw8.xor_u`, opcode `FE 3E`, an atomic instruction of the threads proposal.
-    /// Its call is [`i64_atomic_rmw8_xor_u`](super::InstructionSink::i64_atomic_rmw8_xor_u), with the immediate `memarg`.
+    /// `i64.atomic.rmw8.xor_u` (opcode 0xFE 62), an atomic instruction of the threads proposal that sets a number in a memory to its bitwise exclusive or with an operand, and returns the old value.
+    /// [`InstructionSink::i64_atomic_rmw8_xor_u`](super::InstructionSink::i64_atomic_rmw8_xor_u) appends it, with the immediate `memarg`.
     #[doc(alias = "i64.atomic.rmw8.xor_u")]
     I64AtomicRmw8XorU(MemArg),
-    /// `i64.atomic.rmw16.xor_u`, opcode `FE 3F`, an atomic instruction of the threads proposal.
-    /// Its call is [`i64_atomic_rmw16_xor_u`](super::InstructionSink::i64_atomic_rmw16_xor_u), with the immediate `memarg`.
+    /// `i64.atomic.rmw16.xor_u` (opcode 0xFE 63), an atomic instruction of the threads proposal that sets a number in a memory to its bitwise exclusive or with an operand, and returns the old value.
+    /// [`InstructionSink::i64_atomic_rmw16_xor_u`](super::InstructionSink::i64_atomic_rmw16_xor_u) appends it, with the immediate `memarg`.
     #[doc(alias = "i64.atomic.rmw16.xor_u")]
     I64AtomicRmw16XorU(MemArg),
-    /// `i64.atomic.rmw32.xor_u`, opcode `FE 40`, an atomic instruction of the threads proposal.
-    /// Its call is [`i64_atomic_rmw32_xor_u`](super::InstructionSink::i64_atomic_rmw32_xor_u), with the immediate `memarg`.
+    /// `i64.atomic.rmw32.xor_u` (opcode 0xFE 64), an atomic instruction of the threads proposal that sets a number in a memory to its bitwise exclusive or with an operand, and returns the old value.
+    /// [`InstructionSink::i64_atomic_rmw32_xor_u`](super::InstructionSink::i64_atomic_rmw32_xor_u) appends it, with the immediate `memarg`.
     #[doc(alias = "i64.atomic.rmw32.xor_u")]
     I64AtomicRmw32XorU(MemArg),
-    /// `i32.atomic.rmw.xchg`, opcode `FE 41`, an atomic instruction of the threads proposal.
-    /// Its call is [`i32_atomic_rmw_xchg`](super::InstructionSink::i32_atomic_rmw_xchg), with the immediate `memarg`.
+    /// `i32.atomic.rmw.xchg` (opcode 0xFE 65), an atomic instruction of the threads proposal that replaces a number in a memory, and returns the old value.
+    /// [`InstructionSink::i32_atomic_rmw_xchg`](super::InstructionSink::i32_atomic_rmw_xchg) appends it, with the immediate `memarg`.
     #[doc(alias = "i32.atomic.rmw.xchg")]
     I32AtomicRmwXchg(MemArg),
-    /// `i64.atomic.rmw.xchg`, opcode `FE 42`, an atomic instruction of the threads proposal.
-    /// Its call is [`i64_atomic_rmw_xchg`](super::InstructionSink::i64_atomic_rmw_xchg), with the immediate `memarg`.
+    /// `i64.atomic.rmw.xchg` (opcode 0xFE 66), an atomic instruction of the threads proposal that replaces a number in a memory, and returns the old value.
+    /// [`InstructionSink::i64_atomic_rmw_xchg`](super::InstructionSink::i64_atomic_rmw_xchg) appends it, with the immediate `memarg`.
     #[doc(alias = "i64.atomic.rmw.xchg")]
     I64AtomicRmwXchg(MemArg),
-    /// `i32.atomic.rmw8.xchg_u`, opcode `FE 43`, an atomic instruction of the threads proposal.
-    /// Its call is [`i32_atomic_rmw8_xchg_u`](super::InstructionSink::i32_atomic_rmw8_xchg_u), with the immediate `memarg`.
+    /// `i32.atomic.rmw8.xchg_u` (opcode 0xFE 67), an atomic instruction of the threads proposal that replaces a number in a memory, and returns the old value.
+    /// [`InstructionSink::i32_atomic_rmw8_xchg_u`](super::InstructionSink::i32_atomic_rmw8_xchg_u) appends it, with the immediate `memarg`.
     #[doc(alias = "i32.atomic.rmw8.xchg_u")]
     I32AtomicRmw8XchgU(MemArg),
-    /// `i32.atomic.rmw16.xchg_u`, opcode `FE 44`, an atomic instruction of the threads proposal.
-    /// Its call is [`i32_atomic_rmw16_xchg_u`](super::InstructionSink::i32_atomic_rmw16_xchg_u), with the immediate `memarg`.
+    /// `i32.atomic.rmw16.xchg_u` (opcode 0xFE 68), an atomic instruction of the threads proposal that replaces a number in a memory, and returns the old value.
+    /// [`InstructionSink::i32_atomic_rmw16_xchg_u`](super::InstructionSink::i32_atomic_rmw16_xchg_u) appends it, with the immediate `memarg`.
     #[doc(alias = "i32.atomic.rmw16.xchg_u")]
     I32AtomicRmw16XchgU(MemArg),
-    /// `i64.atomic.rmw8.xchg_u`, opcode `FE 45`, an atomic instruction of the threads proposal.
-    /// Its call is [`i64_atomic_rmw8_xchg_u`](super::InstructionSink::i64_atomic_rmw8_xchg_u), with the immediate `memarg`.
+    /// `i64.atomic.rmw8.xchg_u` (opcode 0xFE 69), an atomic instruction of the threads proposal that replaces a number in a memory, and returns the old value.
+    /// [`InstructionSink::i64_atomic_rmw8_xchg_u`](super::InstructionSink::i64_atomic_rmw8_xchg_u) appends it, with the immediate `memarg`.
     #[doc(alias = "i64.atomic.rmw8.xchg_u")]
     I64AtomicRmw8XchgU(MemArg),
-    /// `i64.atomic.rmw16.xchg_u`, opcode `FE 46`, an atomic instruction of the threads proposal.
-    /// Its call is [`i64_atomic_rmw16_xchg_u`](super::InstructionSink::i64_atomic_rmw16_xchg_u), with the immediate `memarg`.
+    /// `i64.atomic.rmw16.xchg_u` (opcode 0xFE 70), an atomic instruction of the threads proposal that replaces a number in a memory, and returns the old value.
+    /// [`InstructionSink::i64_atomic_rmw16_xchg_u`](super::InstructionSink::i64_atomic_rmw16_xchg_u) appends it, with the immediate `memarg`.
     #[doc(alias = "i64.atomic.rmw16.xchg_u")]
     I64AtomicRmw16XchgU(MemArg),
-    /// `i64.atomic.rmw32.xchg_u`, opcode `FE 47`, an atomic instruction of the threads proposal.
-    /// Its call is [`i64_atomic_rmw32_xchg_u`](super::InstructionSink::i64_atomic_rmw32_xchg_u), with the immediate `memarg`.
+    /// `i64.atomic.rmw32.xchg_u` (opcode 0xFE 71), an atomic instruction of the threads proposal that replaces a number in a memory, and returns the old value.
+    /// [`InstructionSink::i64_atomic_rmw32_xchg_u`](super::InstructionSink::i64_atomic_rmw32_xchg_u) appends it, with the immediate `memarg`.
     #[doc(alias = "i64.atomic.rmw32.xchg_u")]
     I64AtomicRmw32XchgU(MemArg),
-    /// `i32.atomic.rmw.cmpxchg`, opcode `FE 48`, an atomic instruction of the threads proposal.
-    /// Its call is [`i32_atomic_rmw_cmpxchg`](super::InstructionSink::i32_atomic_rmw_cmpxchg), with the immediate `memarg`.
+    /// `i32.atomic.rmw.cmpxchg` (opcode 0xFE 72), an atomic instruction of the threads proposal that replaces a number in a memory if it has the expected value, and returns the old value.
+    /// [`InstructionSink::i32_atomic_rmw_cmpxchg`](super::InstructionSink::i32_atomic_rmw_cmpxchg) appends it, with the immediate `memarg`.
     #[doc(alias = "i32.atomic.rmw.cmpxchg")]
     I32AtomicRmwCmpxchg(MemArg),
-    /// `i64.atomic.rmw.cmpxchg`, opcode `FE 49`, an atomic instruction of the threads proposal.
-    /// Its call is [`i64_atomic_rmw_cmpxchg`](super::InstructionSink::i64_atomic_rmw_cmpxchg), with the immediate `memarg`.
+    /// `i64.atomic.rmw.cmpxchg` (opcode 0xFE 73), an atomic instruction of the threads proposal that replaces a number in a memory if it has the expected value, and returns the old value.
+    /// [`InstructionSink::i64_atomic_rmw_cmpxchg`](super::InstructionSink::i64_atomic_rmw_cmpxchg) appends it, with the immediate `memarg`.
     #[doc(alias = "i64.atomic.rmw.cmpxchg")]
     I64AtomicRmwCmpxchg(MemArg),
-    /// `i32.atomic.rmw8.cmpxchg_u`, opcode `FE 4A`, an atomic instruction of the threads proposal.
-    /// Its call is [`i32_atomic_rmw8_cmpxchg_u`](super::InstructionSink::i32_atomic_rmw8_cmpxchg_u), with the immediate `memarg`.
+    /// `i32.atomic.rmw8.cmpxchg_u` (opcode 0xFE 74), an atomic instruction of the threads proposal that replaces a number in a memory if it has the expected value, and returns the old value.
+    /// [`InstructionSink::i32_atomic_rmw8_cmpxchg_u`](super::InstructionSink::i32_atomic_rmw8_cmpxchg_u) appends it, with the immediate `memarg`.
     #[doc(alias = "i32.atomic.rmw8.cmpxchg_u")]
     I32AtomicRmw8CmpxchgU(MemArg),
-    /// `i32.atomic.rmw16.cmpxchg_u`, opcode `FE 4B`, an atomic instruction of the threads proposal.
-    /// Its call is [`i32_atomic_rmw16_cmpxchg_u`](super::InstructionSink::i32_atomic_rmw16_cmpxchg_u), with the immediate `memarg`.
+    /// `i32.atomic.rmw16.cmpxchg_u` (opcode 0xFE 75), an atomic instruction of the threads proposal that replaces a number in a memory if it has the expected value, and returns the old value.
+    /// [`InstructionSink::i32_atomic_rmw16_cmpxchg_u`](super::InstructionSink::i32_atomic_rmw16_cmpxchg_u) appends it, with the immediate `memarg`.
     #[doc(alias = "i32.atomic.rmw16.cmpxchg_u")]
     I32AtomicRmw16CmpxchgU(MemArg),
-    /// `i64.atomic.rmw8.cmpxchg_u`, opcode `FE 4C`, an atomic instruction of the threads proposal.
-    /// Its call is [`i64_atomic_rmw8_cmpxchg_u`](super::InstructionSink::i64_atomic_rmw8_cmpxchg_u), with the immediate `memarg`.
+    /// `i64.atomic.rmw8.cmpxchg_u` (opcode 0xFE 76), an atomic instruction of the threads proposal that replaces a number in a memory if it has the expected value, and returns the old value.
+    /// [`InstructionSink::i64_atomic_rmw8_cmpxchg_u`](super::InstructionSink::i64_atomic_rmw8_cmpxchg_u) appends it, with the immediate `memarg`.
     #[doc(alias = "i64.atomic.rmw8.cmpxchg_u")]
     I64AtomicRmw8CmpxchgU(MemArg),
-    /// `i64.atomic.rmw16.cmpxchg_u`, opcode `FE 4D`, an atomic instruction of the threads proposal.
-    /// Its call is [`i64_atomic_rmw16_cmpxchg_u`](super::InstructionSink::i64_atomic_rmw16_cmpxchg_u), with the immediate `memarg`.
+    /// `i64.atomic.rmw16.cmpxchg_u` (opcode 0xFE 77), an atomic instruction of the threads proposal that replaces a number in a memory if it has the expected value, and returns the old value.
+    /// [`InstructionSink::i64_atomic_rmw16_cmpxchg_u`](super::InstructionSink::i64_atomic_rmw16_cmpxchg_u) appends it, with the immediate `memarg`.
     #[doc(alias = "i64.atomic.rmw16.cmpxchg_u")]
     I64AtomicRmw16CmpxchgU(MemArg),
-    /// `i64.atomic.rmw32.cmpxchg_u`, opcode `FE 4E`, an atomic instruction of the threads proposal.
-    /// Its call is [`i64_atomic_rmw32_cmpxchg_u`](super::InstructionSink::i64_atomic_rmw32_cmpxchg_u), with the immediate `memarg`.
+    /// `i64.atomic.rmw32.cmpxchg_u` (opcode 0xFE 78), an atomic instruction of the threads proposal that replaces a number in a memory if it has the expected value, and returns the old value.
+    /// [`InstructionSink::i64_atomic_rmw32_cmpxchg_u`](super::InstructionSink::i64_atomic_rmw32_cmpxchg_u) appends it, with the immediate `memarg`.
     #[doc(alias = "i64.atomic.rmw32.cmpxchg_u")]
     I64AtomicRmw32CmpxchgU(MemArg),
-    /// `global.atomic.get`, opcode `FE 4F`, an instruction of the shared-everything threads proposal.
-    /// Its call is [`global_atomic_get`](super::InstructionSink::global_atomic_get).
+    /// `global.atomic.get` (opcode 0xFE 79), an instruction of the shared-everything threads proposal that reads a global.
+    /// [`InstructionSink::global_atomic_get`](super::InstructionSink::global_atomic_get) appends it.
     #[doc(alias = "global.atomic.get")]
     GlobalAtomicGet {
         /// The ordering of the access.
@@ -2556,8 +2557,8 @@ pub enum Instruction<'a> {
         /// The index of the global.
         global_index: u32,
     },
-    /// `global.atomic.set`, opcode `FE 50`, an instruction of the shared-everything threads proposal.
-    /// Its call is [`global_atomic_set`](super::InstructionSink::global_atomic_set).
+    /// `global.atomic.set` (opcode 0xFE 80), an instruction of the shared-everything threads proposal that writes a global.
+    /// [`InstructionSink::global_atomic_set`](super::InstructionSink::global_atomic_set) appends it.
     #[doc(alias = "global.atomic.set")]
     GlobalAtomicSet {
         /// The ordering of the access.
@@ -2565,8 +2566,8 @@ pub enum Instruction<'a> {
         /// The index of the global.
         global_index: u32,
     },
-    /// `global.atomic.rmw.add`, opcode `FE 51`, an instruction of the shared-everything threads proposal.
-    /// Its call is [`global_atomic_rmw_add`](super::InstructionSink::global_atomic_rmw_add).
+    /// `global.atomic.rmw.add` (opcode 0xFE 81), an instruction of the shared-everything threads proposal that adds to a global, and returns the old value.
+    /// [`InstructionSink::global_atomic_rmw_add`](super::InstructionSink::global_atomic_rmw_add) appends it.
     #[doc(alias = "global.atomic.rmw.add")]
     GlobalAtomicRmwAdd {
         /// The ordering of the access.
@@ -2574,8 +2575,8 @@ pub enum Instruction<'a> {
         /// The index of the global.
         global_index: u32,
     },
-    /// `global.atomic.rmw.sub`, opcode `FE 52`, an instruction of the shared-everything threads proposal.
-    /// Its call is [`global_atomic_rmw_sub`](super::InstructionSink::global_atomic_rmw_sub).
+    /// `global.atomic.rmw.sub` (opcode 0xFE 82), an instruction of the shared-everything threads proposal that subtracts from a global, and returns the old value.
+    /// [`InstructionSink::global_atomic_rmw_sub`](super::InstructionSink::global_atomic_rmw_sub) appends it.
     #[doc(alias = "global.atomic.rmw.sub")]
     GlobalAtomicRmwSub {
         /// The ordering of the access.
@@ -2583,8 +2584,8 @@ pub enum Instruction<'a> {
         /// The index of the global.
         global_index: u32,
     },
-    /// `global.atomic.rmw.and`, opcode `FE 53`, an instruction of the shared-everything threads proposal.
-    /// Its call is [`global_atomic_rmw_and`](super::InstructionSink::global_atomic_rmw_and).
+    /// `global.atomic.rmw.and` (opcode 0xFE 83), an instruction of the shared-everything threads proposal that sets a global to its bitwise and with an operand, and returns the old value.
+    /// [`InstructionSink::global_atomic_rmw_and`](super::InstructionSink::global_atomic_rmw_and) appends it.
     #[doc(alias = "global.atomic.rmw.and")]
     GlobalAtomicRmwAnd {
         /// The ordering of the access.
@@ -2592,8 +2593,8 @@ pub enum Instruction<'a> {
         /// The index of the global.
         global_index: u32,
     },
-    /// `global.atomic.rmw.or`, opcode `FE 54`, an instruction of the shared-everything threads proposal.
-    /// Its call is [`global_atomic_rmw_or`](super::InstructionSink::global_atomic_rmw_or).
+    /// `global.atomic.rmw.or` (opcode 0xFE 84), an instruction of the shared-everything threads proposal that sets a global to its bitwise or with an operand, and returns the old value.
+    /// [`InstructionSink::global_atomic_rmw_or`](super::InstructionSink::global_atomic_rmw_or) appends it.
     #[doc(alias = "global.atomic.rmw.or")]
     GlobalAtomicRmwOr {
         /// The ordering of the access.
@@ -2601,8 +2602,8 @@ pub enum Instruction<'a> {
         /// The index of the global.
         global_index: u32,
     },
-    /// `global.atomic.rmw.xor`, opcode `FE 55`, an instruction of the shared-everything threads proposal.
-    /// Its call is [`global_atomic_rmw_xor`](super::InstructionSink::global_atomic_rmw_xor).
+    /// `global.atomic.rmw.xor` (opcode 0xFE 85), an instruction of the shared-everything threads proposal that sets a global to its bitwise exclusive or with an operand, and returns the old value.
+    /// [`InstructionSink::global_atomic_rmw_xor`](super::InstructionSink::global_atomic_rmw_xor) appends it.
     #[doc(alias = "global.atomic.rmw.xor")]
     GlobalAtomicRmwXor {
         /// The ordering of the access.
@@ -2610,8 +2611,8 @@ pub enum Instruction<'a> {
         /// The index of the global.
         global_index: u32,
     },
-    /// `global.atomic.rmw.xchg`, opcode `FE 56`, an instruction of the shared-everything threads proposal.
-    /// Its call is [`global_atomic_rmw_xchg`](super::InstructionSink::global_atomic_rmw_xchg).
+    /// `global.atomic.rmw.xchg` (opcode 0xFE 86), an instruction of the shared-everything threads proposal that replaces a global, and returns the old value.
+    /// [`InstructionSink::global_atomic_rmw_xchg`](super::InstructionSink::global_atomic_rmw_xchg) appends it.
     #[doc(alias = "global.atomic.rmw.xchg")]
     GlobalAtomicRmwXchg {
         /// The ordering of the access.
@@ -2619,8 +2620,8 @@ pub enum Instruction<'a> {
         /// The index of the global.
         global_index: u32,
     },
-    /// `global.atomic.rmw.cmpxchg`, opcode `FE 57`, an instruction of the shared-everything threads proposal.
-    /// Its call is [`global_atomic_rmw_cmpxchg`](super::InstructionSink::global_atomic_rmw_cmpxchg).
+    /// `global.atomic.rmw.cmpxchg` (opcode 0xFE 87), an instruction of the shared-everything threads proposal that replaces a global if it has the expected value, and returns the old value.
+    /// [`InstructionSink::global_atomic_rmw_cmpxchg`](super::InstructionSink::global_atomic_rmw_cmpxchg) appends it.
     #[doc(alias = "global.atomic.rmw.cmpxchg")]
     GlobalAtomicRmwCmpxchg {
         /// The ordering of the access.
@@ -2628,8 +2629,8 @@ pub enum Instruction<'a> {
         /// The index of the global.
         global_index: u32,
     },
-    /// `table.atomic.get`, opcode `FE 58`, an instruction of the shared-everything threads proposal.
-    /// Its call is [`table_atomic_get`](super::InstructionSink::table_atomic_get).
+    /// `table.atomic.get` (opcode 0xFE 88), an instruction of the shared-everything threads proposal that reads an element of a table.
+    /// [`InstructionSink::table_atomic_get`](super::InstructionSink::table_atomic_get) appends it.
     #[doc(alias = "table.atomic.get")]
     TableAtomicGet {
         /// The ordering of the access.
@@ -2637,8 +2638,8 @@ pub enum Instruction<'a> {
         /// The index of the table.
         table_index: u32,
     },
-    /// `table.atomic.set`, opcode `FE 59`, an instruction of the shared-everything threads proposal.
-    /// Its call is [`table_atomic_set`](super::InstructionSink::table_atomic_set).
+    /// `table.atomic.set` (opcode 0xFE 89), an instruction of the shared-everything threads proposal that writes an element of a table.
+    /// [`InstructionSink::table_atomic_set`](super::InstructionSink::table_atomic_set) appends it.
     #[doc(alias = "table.atomic.set")]
     TableAtomicSet {
         /// The ordering of the access.
@@ -2646,8 +2647,8 @@ pub enum Instruction<'a> {
         /// The index of the table.
         table_index: u32,
     },
-    /// `table.atomic.rmw.xchg`, opcode `FE 5A`, an instruction of the shared-everything threads proposal.
-    /// Its call is [`table_atomic_rmw_xchg`](super::InstructionSink::table_atomic_rmw_xchg).
+    /// `table.atomic.rmw.xchg` (opcode 0xFE 90), an instruction of the shared-everything threads proposal that replaces an element of a table, and returns the old value.
+    /// [`InstructionSink::table_atomic_rmw_xchg`](super::InstructionSink::table_atomic_rmw_xchg) appends it.
     #[doc(alias = "table.atomic.rmw.xchg")]
     TableAtomicRmwXchg {
         /// The ordering of the access.
@@ -2655,8 +2656,8 @@ pub enum Instruction<'a> {
         /// The index of the table.
         table_index: u32,
     },
-    /// `table.atomic.rmw.cmpxchg`, opcode `FE 5B`, an instruction of the shared-everything threads proposal.
-    /// Its call is [`table_atomic_rmw_cmpxchg`](super::InstructionSink::table_atomic_rmw_cmpxchg).
+    /// `table.atomic.rmw.cmpxchg` (opcode 0xFE 91), an instruction of the shared-everything threads proposal that replaces an element of a table if it has the expected value, and returns the old value.
+    /// [`InstructionSink::table_atomic_rmw_cmpxchg`](super::InstructionSink::table_atomic_rmw_cmpxchg) appends it.
     #[doc(alias = "table.atomic.rmw.cmpxchg")]
     TableAtomicRmwCmpxchg {
         /// The ordering of the access.
@@ -2664,8 +2665,8 @@ pub enum Instruction<'a> {
         /// The index of the table.
         table_index: u32,
     },
-    /// `struct.atomic.get`, opcode `FE 5C`, an instruction of the shared-everything threads proposal.
-    /// Its call is [`struct_atomic_get`](super::InstructionSink::struct_atomic_get).
+    /// `struct.atomic.get` (opcode 0xFE 92), an instruction of the shared-everything threads proposal that reads a field of a structure.
+    /// [`InstructionSink::struct_atomic_get`](super::InstructionSink::struct_atomic_get) appends it.
     #[doc(alias = "struct.atomic.get")]
     StructAtomicGet {
         /// The ordering of the access.
@@ -2675,8 +2676,8 @@ pub enum Instruction<'a> {
         /// The index of the field.
         field_index: u32,
     },
-    /// `struct.atomic.get_s`, opcode `FE 5D`, an instruction of the shared-everything threads proposal.
-    /// Its call is [`struct_atomic_get_s`](super::InstructionSink::struct_atomic_get_s).
+    /// `struct.atomic.get_s` (opcode 0xFE 93), an instruction of the shared-everything threads proposal that reads a field of a structure, sign-extended.
+    /// [`InstructionSink::struct_atomic_get_s`](super::InstructionSink::struct_atomic_get_s) appends it.
     #[doc(alias = "struct.atomic.get_s")]
     StructAtomicGetS {
         /// The ordering of the access.
@@ -2686,8 +2687,8 @@ pub enum Instruction<'a> {
         /// The index of the field.
         field_index: u32,
     },
-    /// `struct.atomic.get_u`, opcode `FE 5E`, an instruction of the shared-everything threads proposal.
-    /// Its call is [`struct_atomic_get_u`](super::InstructionSink::struct_atomic_get_u).
+    /// `struct.atomic.get_u` (opcode 0xFE 94), an instruction of the shared-everything threads proposal that reads a field of a structure, zero-extended.
+    /// [`InstructionSink::struct_atomic_get_u`](super::InstructionSink::struct_atomic_get_u) appends it.
     #[doc(alias = "struct.atomic.get_u")]
     StructAtomicGetU {
         /// The ordering of the access.
@@ -2697,8 +2698,8 @@ pub enum Instruction<'a> {
         /// The index of the field.
         field_index: u32,
     },
-    /// `struct.atomic.set`, opcode `FE 5F`, an instruction of the shared-everything threads proposal.
-    /// Its call is [`struct_atomic_set`](super::InstructionSink::struct_atomic_set).
+    /// `struct.atomic.set` (opcode 0xFE 95), an instruction of the shared-everything threads proposal that writes a field of a structure.
+    /// [`InstructionSink::struct_atomic_set`](super::InstructionSink::struct_atomic_set) appends it.
     #[doc(alias = "struct.atomic.set")]
     StructAtomicSet {
         /// The ordering of the access.
@@ -2708,8 +2709,8 @@ pub enum Instruction<'a> {
         /// The index of the field.
         field_index: u32,
     },
-    /// `struct.atomic.rmw.add`, opcode `FE 60`, an instruction of the shared-everything threads proposal.
-    /// Its call is [`struct_atomic_rmw_add`](super::InstructionSink::struct_atomic_rmw_add).
+    /// `struct.atomic.rmw.add` (opcode 0xFE 96), an instruction of the shared-everything threads proposal that adds to a field of a structure, and returns the old value.
+    /// [`InstructionSink::struct_atomic_rmw_add`](super::InstructionSink::struct_atomic_rmw_add) appends it.
     #[doc(alias = "struct.atomic.rmw.add")]
     StructAtomicRmwAdd {
         /// The ordering of the access.
@@ -2719,8 +2720,8 @@ pub enum Instruction<'a> {
         /// The index of the field.
         field_index: u32,
     },
-    /// `struct.atomic.rmw.sub`, opcode `FE 61`, an instruction of the shared-everything threads proposal.
-    /// Its call is [`struct_atomic_rmw_sub`](super::InstructionSink::struct_atomic_rmw_sub).
+    /// `struct.atomic.rmw.sub` (opcode 0xFE 97), an instruction of the shared-everything threads proposal that subtracts from a field of a structure, and returns the old value.
+    /// [`InstructionSink::struct_atomic_rmw_sub`](super::InstructionSink::struct_atomic_rmw_sub) appends it.
     #[doc(alias = "struct.atomic.rmw.sub")]
     StructAtomicRmwSub {
         /// The ordering of the access.
@@ -2730,8 +2731,8 @@ pub enum Instruction<'a> {
         /// The index of the field.
         field_index: u32,
     },
-    /// `struct.atomic.rmw.and`, opcode `FE 62`, an instruction of the shared-everything threads proposal.
-    /// Its call is [`struct_atomic_rmw_and`](super::InstructionSink::struct_atomic_rmw_and).
+    /// `struct.atomic.rmw.and` (opcode 0xFE 98), an instruction of the shared-everything threads proposal that sets a field of a structure to its bitwise and with an operand, and returns the old value.
+    /// [`InstructionSink::struct_atomic_rmw_and`](super::InstructionSink::struct_atomic_rmw_and) appends it.
     #[doc(alias = "struct.atomic.rmw.and")]
     StructAtomicRmwAnd {
         /// The ordering of the access.
@@ -2741,8 +2742,8 @@ pub enum Instruction<'a> {
         /// The index of the field.
         field_index: u32,
     },
-    /// `struct.atomic.rmw.or`, opcode `FE 63`, an instruction of the shared-everything threads proposal.
-    /// Its call is [`struct_atomic_rmw_or`](super::InstructionSink::struct_atomic_rmw_or).
+    /// `struct.atomic.rmw.or` (opcode 0xFE 99), an instruction of the shared-everything threads proposal that sets a field of a structure to its bitwise or with an operand, and returns the old value.
+    /// [`InstructionSink::struct_atomic_rmw_or`](super::InstructionSink::struct_atomic_rmw_or) appends it.
     #[doc(alias = "struct.atomic.rmw.or")]
     StructAtomicRmwOr {
         /// The ordering of the access.
@@ -2752,8 +2753,8 @@ pub enum Instruction<'a> {
         /// The index of the field.
         field_index: u32,
     },
-    /// `struct.atomic.rmw.xor`, opcode `FE 64`, an instruction of the shared-everything threads proposal.
-    /// Its call is [`struct_atomic_rmw_xor`](super::InstructionSink::struct_atomic_rmw_xor).
+    /// `struct.atomic.rmw.xor` (opcode 0xFE 100), an instruction of the shared-everything threads proposal that sets a field of a structure to its bitwise exclusive or with an operand, and returns the old value.
+    /// [`InstructionSink::struct_atomic_rmw_xor`](super::InstructionSink::struct_atomic_rmw_xor) appends it.
     #[doc(alias = "struct.atomic.rmw.xor")]
     StructAtomicRmwXor {
         /// The ordering of the access.
@@ -2763,8 +2764,8 @@ pub enum Instruction<'a> {
         /// The index of the field.
         field_index: u32,
     },
-    /// `struct.atomic.rmw.xchg`, opcode `FE 65`, an instruction of the shared-everything threads proposal.
-    /// Its call is [`struct_atomic_rmw_xchg`](super::InstructionSink::struct_atomic_rmw_xchg).
+    /// `struct.atomic.rmw.xchg` (opcode 0xFE 101), an instruction of the shared-everything threads proposal that replaces a field of a structure, and returns the old value.
+    /// [`InstructionSink::struct_atomic_rmw_xchg`](super::InstructionSink::struct_atomic_rmw_xchg) appends it.
     #[doc(alias = "struct.atomic.rmw.xchg")]
     StructAtomicRmwXchg {
         /// The ordering of the access.
@@ -2774,8 +2775,8 @@ pub enum Instruction<'a> {
         /// The index of the field.
         field_index: u32,
     },
-    /// `struct.atomic.rmw.cmpxchg`, opcode `FE 66`, an instruction of the shared-everything threads proposal.
-    /// Its call is [`struct_atomic_rmw_cmpxchg`](super::InstructionSink::struct_atomic_rmw_cmpxchg).
+    /// `struct.atomic.rmw.cmpxchg` (opcode 0xFE 102), an instruction of the shared-everything threads proposal that replaces a field of a structure if it has the expected value, and returns the old value.
+    /// [`InstructionSink::struct_atomic_rmw_cmpxchg`](super::InstructionSink::struct_atomic_rmw_cmpxchg) appends it.
     #[doc(alias = "struct.atomic.rmw.cmpxchg")]
     StructAtomicRmwCmpxchg {
         /// The ordering of the access.
@@ -2785,8 +2786,8 @@ pub enum Instruction<'a> {
         /// The index of the field.
         field_index: u32,
     },
-    /// `array.atomic.get`, opcode `FE 67`, an instruction of the shared-everything threads proposal.
-    /// Its call is [`array_atomic_get`](super::InstructionSink::array_atomic_get).
+    /// `array.atomic.get` (opcode 0xFE 103), an instruction of the shared-everything threads proposal that reads an element of an array.
+    /// [`InstructionSink::array_atomic_get`](super::InstructionSink::array_atomic_get) appends it.
     #[doc(alias = "array.atomic.get")]
     ArrayAtomicGet {
         /// The ordering of the access.
@@ -2794,8 +2795,8 @@ pub enum Instruction<'a> {
         /// The index of the array type.
         array_type_index: u32,
     },
-    /// `array.atomic.get_s`, opcode `FE 68`, an instruction of the shared-everything threads proposal.
-    /// Its call is [`array_atomic_get_s`](super::InstructionSink::array_atomic_get_s).
+    /// `array.atomic.get_s` (opcode 0xFE 104), an instruction of the shared-everything threads proposal that reads an element of an array, sign-extended.
+    /// [`InstructionSink::array_atomic_get_s`](super::InstructionSink::array_atomic_get_s) appends it.
     #[doc(alias = "array.atomic.get_s")]
     ArrayAtomicGetS {
         /// The ordering of the access.
@@ -2803,8 +2804,8 @@ pub enum Instruction<'a> {
         /// The index of the array type.
         array_type_index: u32,
     },
-    /// `array.atomic.get_u`, opcode `FE 69`, an instruction of the shared-everything threads proposal.
-    /// Its call is [`array_atomic_get_u`](super::InstructionSink::array_atomic_get_u).
+    /// `array.atomic.get_u` (opcode 0xFE 105), an instruction of the shared-everything threads proposal that reads an element of an array, zero-extended.
+    /// [`InstructionSink::array_atomic_get_u`](super::InstructionSink::array_atomic_get_u) appends it.
     #[doc(alias = "array.atomic.get_u")]
     ArrayAtomicGetU {
         /// The ordering of the access.
@@ -2812,8 +2813,8 @@ pub enum Instruction<'a> {
         /// The index of the array type.
         array_type_index: u32,
     },
-    /// `array.atomic.set`, opcode `FE 6A`, an instruction of the shared-everything threads proposal.
-    /// Its call is [`array_atomic_set`](super::InstructionSink::array_atomic_set).
+    /// `array.atomic.set` (opcode 0xFE 106), an instruction of the shared-everything threads proposal that writes an element of an array.
+    /// [`InstructionSink::array_atomic_set`](super::InstructionSink::array_atomic_set) appends it.
     #[doc(alias = "array.atomic.set")]
     ArrayAtomicSet {
         /// The ordering of the access.
@@ -2821,8 +2822,8 @@ pub enum Instruction<'a> {
         /// The index of the array type.
         array_type_index: u32,
     },
-    /// `array.atomic.rmw.add`, opcode `FE 6B`, an instruction of the shared-everything threads proposal.
-    /// Its call is [`array_atomic_rmw_add`](super::InstructionSink::array_atomic_rmw_add).
+    /// `array.atomic.rmw.add` (opcode 0xFE 107), an instruction of the shared-everything threads proposal that adds to an element of an array, and returns the old value.
+    /// [`InstructionSink::array_atomic_rmw_add`](super::InstructionSink::array_atomic_rmw_add) appends it.
     #[doc(alias = "array.atomic.rmw.add")]
     ArrayAtomicRmwAdd {
         /// The ordering of the access.
@@ -2830,8 +2831,8 @@ pub enum Instruction<'a> {
         /// The index of the array type.
         array_type_index: u32,
     },
-    /// `array.atomic.rmw.sub`, opcode `FE 6C`, an instruction of the shared-everything threads proposal.
-    /// Its call is [`array_atomic_rmw_sub`](super::InstructionSink::array_atomic_rmw_sub).
+    /// `array.atomic.rmw.sub` (opcode 0xFE 108), an instruction of the shared-everything threads proposal that subtracts from an element of an array, and returns the old value.
+    /// [`InstructionSink::array_atomic_rmw_sub`](super::InstructionSink::array_atomic_rmw_sub) appends it.
     #[doc(alias = "array.atomic.rmw.sub")]
     ArrayAtomicRmwSub {
         /// The ordering of the access.
@@ -2839,8 +2840,8 @@ pub enum Instruction<'a> {
         /// The index of the array type.
         array_type_index: u32,
     },
-    /// `array.atomic.rmw.and`, opcode `FE 6D`, an instruction of the shared-everything threads proposal.
-    /// Its call is [`array_atomic_rmw_and`](super::InstructionSink::array_atomic_rmw_and).
+    /// `array.atomic.rmw.and` (opcode 0xFE 109), an instruction of the shared-everything threads proposal that sets an element of an array to its bitwise and with an operand, and returns the old value.
+    /// [`InstructionSink::array_atomic_rmw_and`](super::InstructionSink::array_atomic_rmw_and) appends it.
     #[doc(alias = "array.atomic.rmw.and")]
     ArrayAtomicRmwAnd {
         /// The ordering of the access.
@@ -2848,8 +2849,8 @@ pub enum Instruction<'a> {
         /// The index of the array type.
         array_type_index: u32,
     },
-    /// `array.atomic.rmw.or`, opcode `FE 6E`, an instruction of the shared-everything threads proposal.
-    /// Its call is [`array_atomic_rmw_or`](super::InstructionSink::array_atomic_rmw_or).
+    /// `array.atomic.rmw.or` (opcode 0xFE 110), an instruction of the shared-everything threads proposal that sets an element of an array to its bitwise or with an operand, and returns the old value.
+    /// [`InstructionSink::array_atomic_rmw_or`](super::InstructionSink::array_atomic_rmw_or) appends it.
     #[doc(alias = "array.atomic.rmw.or")]
     ArrayAtomicRmwOr {
         /// The ordering of the access.
@@ -2857,8 +2858,8 @@ pub enum Instruction<'a> {
         /// The index of the array type.
         array_type_index: u32,
     },
-    /// `array.atomic.rmw.xor`, opcode `FE 6F`, an instruction of the shared-everything threads proposal.
-    /// Its call is [`array_atomic_rmw_xor`](super::InstructionSink::array_atomic_rmw_xor).
+    /// `array.atomic.rmw.xor` (opcode 0xFE 111), an instruction of the shared-everything threads proposal that sets an element of an array to its bitwise exclusive or with an operand, and returns the old value.
+    /// [`InstructionSink::array_atomic_rmw_xor`](super::InstructionSink::array_atomic_rmw_xor) appends it.
     #[doc(alias = "array.atomic.rmw.xor")]
     ArrayAtomicRmwXor {
         /// The ordering of the access.
@@ -2866,8 +2867,8 @@ pub enum Instruction<'a> {
         /// The index of the array type.
         array_type_index: u32,
     },
-    /// `array.atomic.rmw.xchg`, opcode `FE 70`, an instruction of the shared-everything threads proposal.
-    /// Its call is [`array_atomic_rmw_xchg`](super::InstructionSink::array_atomic_rmw_xchg).
+    /// `array.atomic.rmw.xchg` (opcode 0xFE 112), an instruction of the shared-everything threads proposal that replaces an element of an array, and returns the old value.
+    /// [`InstructionSink::array_atomic_rmw_xchg`](super::InstructionSink::array_atomic_rmw_xchg) appends it.
     #[doc(alias = "array.atomic.rmw.xchg")]
     ArrayAtomicRmwXchg {
         /// The ordering of the access.
@@ -2875,8 +2876,8 @@ pub enum Instruction<'a> {
         /// The index of the array type.
         array_type_index: u32,
     },
-    /// `array.atomic.rmw.cmpxchg`, opcode `FE 71`, an instruction of the shared-everything threads proposal.
-    /// Its call is [`array_atomic_rmw_cmpxchg`](super::InstructionSink::array_atomic_rmw_cmpxchg).
+    /// `array.atomic.rmw.cmpxchg` (opcode 0xFE 113), an instruction of the shared-everything threads proposal that replaces an element of an array if it has the expected value, and returns the old value.
+    /// [`InstructionSink::array_atomic_rmw_cmpxchg`](super::InstructionSink::array_atomic_rmw_cmpxchg) appends it.
     #[doc(alias = "array.atomic.rmw.cmpxchg")]
     ArrayAtomicRmwCmpxchg {
         /// The ordering of the access.
@@ -2884,8 +2885,8 @@ pub enum Instruction<'a> {
         /// The index of the array type.
         array_type_index: u32,
     },
-    /// `ref.i31_shared`, opcode `FE 72`, an instruction of the shared-everything threads proposal.
-    /// Its call is [`ref_i31_shared`](super::InstructionSink::ref_i31_shared).
+    /// `ref.i31_shared` (opcode 0xFE 114), an instruction of the shared-everything threads proposal that makes a reference of the lower 31 bits of an integer.
+    /// [`InstructionSink::ref_i31_shared`](super::InstructionSink::ref_i31_shared) appends it.
     #[doc(alias = "ref.i31_shared")]
     RefI31Shared,
 }

@@ -74,6 +74,17 @@ pub enum ExportKind {
 }
 
 /// The kind of a tag, a field of [`TagType`]. Exceptions are the only kind.
+///
+/// ```
+/// use dolzhytik::{Encode, TagKind, TagSection, TagType};
+///
+/// let mut tags = TagSection::new();
+/// tags.tag(TagType { kind: TagKind::Exception, func_type_idx: 5 });
+/// let mut bytes = Vec::new();
+/// tags.encode(&mut bytes);
+/// // Size 3, one tag: an exception (00) of type 5.
+/// assert_eq!(bytes, [3, 1, 0x00, 5]);
+/// ```
 #[derive(Clone, Copy, Debug, PartialEq, Eq)]
 #[repr(u8)]
 pub enum TagKind {

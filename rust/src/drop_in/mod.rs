@@ -35,612 +35,66 @@ mod sections;
 mod types;
 mod values;
 
-// An alias for the search of rustdoc is at the re-export: rustdoc drops those of the definition.
+// The documentation of these is that of their definitions, with the texts of tools/rustdoc. Words for
+// search are at the re-exports: rustdoc drops those of definitions.
 
-/// The kind byte of functions in the encodings of imports and exports.
-///
-/// Core specification, Modules, Export Section.
-///
-/// The same constant is in [`fallible`](crate::fallible), whose page says:
-///
-pub use crate::base::CORE_FUNCTION_SORT;
-
-/// The kind byte of functions of exactly one type in the encodings of imports and exports, by the
-/// custom descriptors proposal. [`EntityType::FunctionExact`] is encoded with it.
-///
-/// The same constant is in [`fallible`](crate::fallible), whose page says:
-///
-pub use crate::base::CORE_FUNCTION_EXACT_SORT;
-
-/// The kind byte of globals in the encodings of imports and exports.
-///
-/// Core specification, Modules, Export Section.
-///
-/// The same constant is in [`fallible`](crate::fallible), whose page says:
-///
-pub use crate::base::CORE_GLOBAL_SORT;
-
-/// The kind byte of memories in the encodings of imports and exports.
-///
-/// Core specification, Modules, Export Section.
-///
-/// The same constant is in [`fallible`](crate::fallible), whose page says:
-///
-pub use crate::base::CORE_MEMORY_SORT;
-
-/// The kind byte of tables in the encodings of imports and exports.
-///
-/// Core specification, Modules, Export Section.
-///
-/// The same constant is in [`fallible`](crate::fallible), whose page says:
-///
-pub use crate::base::CORE_TABLE_SORT;
-
-/// The kind byte of tags in the encodings of imports and exports.
-///
-/// Core specification, Modules, Export Section.
-///
-/// The same constant is in [`fallible`](crate::fallible), whose page says:
-///
-pub use crate::base::CORE_TAG_SORT;
-
-/// An abstract heap type, such as `func` or `any`, which a [`HeapType`] holds.
-///
-/// Core specification, Types, Heap Types.
-///
-/// A case has the name of the type in the text format, and the byte of its encoding as its number.
-/// `Cont` and `NoCont` are of the stack switching proposal.
-///
-/// ```
-/// use dolzhytik::{AbstractHeapType, Encode};
-///
-/// let mut bytes = Vec::new();
-/// AbstractHeapType::Any.encode(&mut bytes);
-/// // any: 6E.
-/// assert_eq!(bytes, [0x6E]);
-/// ```
-///
-/// The same type is in [`fallible`](crate::fallible), whose page says:
-///
 #[doc(alias = "gc")]
 #[doc(alias = "any")]
 #[doc(alias = "exnref")]
 pub use crate::base::AbstractHeapType;
-
-/// A heap type: the type of the values that a [`RefType`] refers to, and an operand of `ref.null`,
-/// `ref.test` and `ref.cast`.
-///
-/// Core specification, Types, Heap Types.
-///
-/// `Abstract` is a type with a name: `shared`, of the shared-everything threads proposal, says
-/// whether threads share its values. `Exact` is of the custom descriptors proposal.
-///
-/// ```
-/// use dolzhytik::{Encode, HeapType, Instruction};
-///
-/// let mut bytes = Vec::new();
-/// Instruction::RefNull(HeapType::FUNC).encode(&mut bytes);
-/// Instruction::RefNull(HeapType::Concrete(64)).encode(&mut bytes);
-/// // ref.null func: D0 70. ref.null of type 64: D0, and 64 as signed LEB128, C0 00.
-/// assert_eq!(bytes, [0xD0, 0x70, 0xD0, 0xC0, 0x00]);
-/// ```
-///
-/// The same type is in [`fallible`](crate::fallible), whose page says:
-///
+pub use crate::base::CORE_FUNCTION_EXACT_SORT;
+pub use crate::base::CORE_FUNCTION_SORT;
+pub use crate::base::CORE_GLOBAL_SORT;
+pub use crate::base::CORE_MEMORY_SORT;
+pub use crate::base::CORE_TABLE_SORT;
+pub use crate::base::CORE_TAG_SORT;
 pub use crate::base::HeapType;
-
-/// A reference type: the element type of a [`TableType`] and of [`Elements::Expressions`], and a
-/// case of [`ValType`].
-///
-/// Core specification, Types, Reference Types.
-///
-/// `nullable` says whether null is a value of the type. `heap_type` is the type of the values that
-/// references refer to.
-///
-/// ```
-/// use dolzhytik::{AbstractHeapType, Encode, RefType};
-///
-/// let mut bytes = Vec::new();
-/// RefType::FUNCREF.encode(&mut bytes);
-/// RefType::new_abstract(AbstractHeapType::Eq, false, false).encode(&mut bytes);
-/// // funcref: 70. A reference to eq (6D) that is not null: 64 6D.
-/// assert_eq!(bytes, [0x70, 0x64, 0x6D]);
-/// ```
-///
-/// The same type is in [`fallible`](crate::fallible), whose page says:
-///
 #[doc(alias = "reference types")]
 pub use crate::base::RefType;
-
-/// A value type: the type of parameters, results, locals and globals.
-///
-/// [`Function::new`], [`CoreTypeEncoder::function`] and [`GlobalType`] take it. Core specification,
-/// Types, Value Types.
-///
-/// `I32` and `I64` are integers, `F32` and `F64` floats, `V128` vectors of 128 bits, and `Ref` is a
-/// reference type. Their encodings are 7F, 7E, 7D, 7C, 7B, and that of the [`RefType`].
-///
-/// ```
-/// use dolzhytik::{Encode, ValType};
-///
-/// let mut bytes = Vec::new();
-/// [ValType::I32, ValType::F64, ValType::FUNCREF][..].encode(&mut bytes);
-/// // Three types: 7F, 7C, 70.
-/// assert_eq!(bytes, [3, 0x7F, 0x7C, 0x70]);
-/// ```
-///
-/// The same type is in [`fallible`](crate::fallible), whose page says:
-///
 pub use crate::base::ValType;
-
-/// Returns the number of bytes of a number as minimal LEB128, such as a count or a size prefix.
-///
-/// ```
-/// use dolzhytik::encoding_size;
-///
-/// // Each byte has seven bits of the number.
-/// assert_eq!([encoding_size(127), encoding_size(128), encoding_size(u32::MAX)], [1, 2, 5]);
-/// ```
-///
-/// The same function is in [`fallible`](crate::fallible), whose page says:
-///
 #[doc(alias = "leb128")]
 pub use crate::base::encoding_size;
-
-/// A branch hint, which [`BranchHints::function_hints`] takes: the offset of a branch and its
-/// likely direction.
-///
-/// The branch hinting proposal defines it.
-///
-/// [`BranchHints`] has an example.
-///
-/// The same type is in [`fallible`](crate::fallible), whose page says:
-///
 pub use crate::custom::BranchHint;
-
-/// A value in a core dump, which [`CoreDumpStackSection::frame`] takes.
-///
-/// The tool conventions define it in
-/// [Coredump](https://github.com/WebAssembly/tool-conventions/blob/main/Coredump.md).
-///
-/// The cases are integers and floats of 32 and 64 bits, and `Missing` for a value that is not
-/// known.
-///
-/// ```
-/// use dolzhytik::{CoreDumpValue, Encode};
-///
-/// let mut bytes = Vec::new();
-/// CoreDumpValue::Missing.encode(&mut bytes);
-/// CoreDumpValue::I32(-1).encode(&mut bytes);
-/// // A missing value: 01. An i32, 7F, of value -1 as signed LEB128, 7F.
-/// assert_eq!(bytes, [0x01, 0x7F, 0x7F]);
-/// ```
-///
-/// The same type is in [`fallible`](crate::fallible), whose page says:
-///
 #[doc(alias = "coredump")]
 pub use crate::custom::CoreDumpValue;
-
-/// The bytes of a data symbol, which [`SymbolTable::data`] takes.
-///
-/// The tool conventions define it in
-/// [Linking](https://github.com/WebAssembly/tool-conventions/blob/main/Linking.md).
-///
-/// [`SymbolTable`] has an example.
-///
-/// The same type is in [`fallible`](crate::fallible), whose page says:
-///
 pub use crate::custom::DataSymbolDefinition;
-
-/// A custom section as it is in a module, size prefix included, which [`Module::section`] copies.
-///
-/// To have the size prefix and the name written, use [`CustomSection`].
-///
-/// ```
-/// use dolzhytik::{RawCustomSection, Section};
-///
-/// let mut bytes = Vec::new();
-/// RawCustomSection(b"\x04\x01ahi").append_to(&mut bytes);
-/// // Id 0, and the bytes: size 4, a name of one byte, "a", and the data.
-/// assert_eq!(bytes, *b"\0\x04\x01ahi");
-/// ```
-///
-/// The same type is in [`fallible`](crate::fallible), whose page says:
-///
 pub use crate::custom::RawCustomSection;
-
-/// The type of a block: an immediate of `block`, `loop`, `if` and `try_table`, as of
-/// [`InstructionSink::block`].
-///
-/// Core specification, Instructions, Control Instructions.
-///
-/// ```
-/// use dolzhytik::{BlockType, Encode, ValType};
-///
-/// let mut bytes = Vec::new();
-/// BlockType::Empty.encode(&mut bytes);
-/// BlockType::Result(ValType::I32).encode(&mut bytes);
-/// BlockType::FunctionType(64).encode(&mut bytes);
-/// // Empty: 40. The value type i32: 7F. An index is signed LEB128: 64 is C0 00.
-/// assert_eq!(bytes, [0x40, 0x7F, 0xC0, 0x00]);
-/// ```
-///
-/// The same type is in [`fallible`](crate::fallible), whose page says:
-///
 pub use crate::immediates::BlockType;
-
-/// A catch clause, which [`InstructionSink::try_table`] takes.
-///
-/// Core specification, Instructions, Control Instructions.
-///
-/// `One` and `OneRef` catch exceptions of a tag, `All` and `AllRef` all of them. Those with `Ref`
-/// also pass a reference to the exception to the label.
-///
-/// ```
-/// use dolzhytik::{BlockType, Catch, InstructionSink};
-///
-/// let mut bytes = Vec::new();
-/// let catches = [Catch::One { tag: 5, label: 1 }, Catch::All { label: 2 }];
-/// InstructionSink::new(&mut bytes).try_table(BlockType::Empty, catches);
-/// // try_table: 1F. The empty type: 40. Two clauses: 00, tag 5, label 1; and 02, label 2.
-/// assert_eq!(bytes, [0x1F, 0x40, 2, 0x00, 5, 1, 0x02, 2]);
-/// ```
-///
-/// The same type is in [`fallible`](crate::fallible), whose page says:
-///
 #[doc(alias = "exception handling")]
 pub use crate::immediates::Catch;
-
-/// A handler of `resume`, `resume_throw` and `resume_throw_ref`, as in [`Instruction::Resume`].
-///
-/// The stack switching proposal defines it.
-///
-/// `OnLabel` branches to a label when code suspends with the tag, and `OnSwitch` admits switches
-/// with the tag.
-///
-/// ```
-/// use dolzhytik::{Encode, Handle};
-///
-/// let mut bytes = Vec::new();
-/// Handle::OnLabel { tag: 3, label: 4 }.encode(&mut bytes);
-/// Handle::OnSwitch { tag: 5 }.encode(&mut bytes);
-/// // 00, tag 3, label 4; and 01, tag 5.
-/// assert_eq!(bytes, [0x00, 3, 4, 0x01, 5]);
-/// ```
-///
-/// The same type is in [`fallible`](crate::fallible), whose page says:
-///
 #[doc(alias = "continuation")]
 #[doc(alias = "stack switching")]
 pub use crate::immediates::Handle;
-
-/// A float of 32 bits, by its bits, which [`InstructionSink::f32_const`] takes. A NaN keeps its
-/// payload.
-///
-/// An `f32` converts to it: `1.5_f32.into()`. Core specification, Binary Format, Values,
-/// Floating-Point.
-///
-/// ```
-/// use dolzhytik::{Encode, Ieee32};
-///
-/// let mut bytes = Vec::new();
-/// Ieee32::from(1.0).encode(&mut bytes);
-/// Ieee32::new(0x7FA0_0000).encode(&mut bytes);
-/// // 1.0: the bits 3F800000, the lowest byte first. A signaling NaN, by its bits.
-/// assert_eq!(bytes, [0, 0, 0x80, 0x3F, 0, 0, 0xA0, 0x7F]);
-/// ```
-///
-/// The same type is in [`fallible`](crate::fallible), whose page says:
-///
 pub use crate::immediates::Ieee32;
-
-/// A float of 64 bits, by its bits, which [`InstructionSink::f64_const`] takes. A NaN keeps its
-/// payload.
-///
-/// An `f64` converts to it: `1.5_f64.into()`. Core specification, Binary Format, Values,
-/// Floating-Point.
-///
-/// ```
-/// use dolzhytik::{Encode, Ieee64};
-///
-/// let mut bytes = Vec::new();
-/// Ieee64::from(1.0).encode(&mut bytes);
-/// // The bits 3FF0000000000000, the lowest byte first.
-/// assert_eq!(bytes, [0, 0, 0, 0, 0, 0, 0xF0, 0x3F]);
-/// ```
-///
-/// The same type is in [`fallible`](crate::fallible), whose page says:
-///
 pub use crate::immediates::Ieee64;
-
-/// The index of a lane of a vector, which calls such as [`InstructionSink::i8x16_replace_lane`]
-/// take. It is encoded as one byte.
-///
-/// ```
-/// use dolzhytik::InstructionSink;
-///
-/// let mut bytes = Vec::new();
-/// InstructionSink::new(&mut bytes).i32x4_extract_lane(3);
-/// // The opcode, FD 27, and the lane.
-/// assert_eq!(bytes, [0xFD, 27, 3]);
-/// ```
-///
-/// The same type is in [`fallible`](crate::fallible), whose page says:
-///
 #[doc(alias = "simd")]
 pub use crate::immediates::Lane;
-
-/// A memory argument: the memory, offset and alignment of a load or a store.
-///
-/// Calls such as [`InstructionSink::i32_load`] take it. `align` is the exponent: 2 for four bytes.
-/// Core specification, Instructions, Memory Instructions.
-///
-/// ```
-/// use dolzhytik::{InstructionSink, MemArg, MemArgTarget};
-///
-/// let in_memory = |index| MemArg {
-///     offset: 4,
-///     align: 2,
-///     target: MemArgTarget::Memory(index),
-///     ordering: None,
-/// };
-/// let mut bytes = Vec::new();
-/// InstructionSink::new(&mut bytes).i32_load(in_memory(0)).i32_load(in_memory(1));
-/// // i32.load: 28. Memory 0: the alignment, 2, and the offset, 4. Another memory: bit 6 of the
-/// // alignment, 42, and its index, 1, before the offset.
-/// assert_eq!(bytes, [0x28, 2, 4, 0x28, 0x42, 1, 4]);
-/// ```
-///
-/// The same type is in [`fallible`](crate::fallible), whose page says:
-///
 #[doc(alias = "memarg")]
 #[doc(alias = "memory64")]
 #[doc(alias = "multi-memory")]
 pub use crate::immediates::MemArg;
-
-/// The ordering of an atomic access: a field of [`MemArg`].
-///
-/// The shared-everything threads proposal defines it.
-///
-/// `Op` is the ordering of a load or a store, and `Rmw` that of a read-modify-write instruction.
-///
-/// ```
-/// use dolzhytik::{Encode, MemArgOrdering, Ordering};
-///
-/// let mut bytes = Vec::new();
-/// MemArgOrdering::Op(Ordering::AcqRel).encode(&mut bytes);
-/// MemArgOrdering::Rmw(Ordering::AcqRel).encode(&mut bytes);
-/// // A load or store: 01. A read-modify-write instruction: 11.
-/// assert_eq!(bytes, [0x01, 0x11]);
-/// ```
-///
-/// The same type is in [`fallible`](crate::fallible), whose page says:
-///
 #[doc(alias = "atomic")]
 pub use crate::immediates::MemArgOrdering;
-
-/// The memory or the array type of an access: a field of [`MemArg`].
-///
-/// [`MemArg`] has an example.
-///
-/// The same type is in [`fallible`](crate::fallible), whose page says:
-///
 pub use crate::immediates::MemArgTarget;
-
-/// The ordering of an atomic instruction, which calls such as [`InstructionSink::atomic_fence`]
-/// take.
-///
-/// It is not [`core::cmp::Ordering`]. The shared-everything threads proposal defines it: `SeqCst`
-/// is sequential consistency, byte 00, and `AcqRel` acquire and release, byte 01.
-///
-/// ```
-/// use dolzhytik::{Encode, Ordering};
-///
-/// let mut bytes = Vec::new();
-/// Ordering::SeqCst.encode(&mut bytes);
-/// Ordering::AcqRel.encode(&mut bytes);
-/// // 00 and 01.
-/// assert_eq!(bytes, [0x00, 0x01]);
-/// ```
-///
-/// The same type is in [`fallible`](crate::fallible), whose page says:
-///
 #[doc(alias = "atomic")]
 pub use crate::immediates::Ordering;
-
-/// The data count section, which [`Module::section`] takes before the code section.
-///
-/// `count` is the number of data segments. Core specification, Modules, Data Count Section.
-///
-/// ```
-/// use dolzhytik::{DataCountSection, Section};
-///
-/// let mut bytes = Vec::new();
-/// DataCountSection { count: 128 }.append_to(&mut bytes);
-/// // Id 12, size 2, 128 as LEB128.
-/// assert_eq!(bytes, [12, 2, 0x80, 0x01]);
-/// ```
-///
-/// The same type is in [`fallible`](crate::fallible), whose page says:
-///
 #[doc(alias = "bulk memory")]
 pub use crate::sections::DataCountSection;
-
-/// The type of a global, which [`GlobalSection::global`] takes, and [`EntityType::Global`] for an
-/// imported one.
-///
-/// Core specification, Types, Global Types.
-///
-/// `val_type` is the type of its value. `shared` is of the shared-everything threads proposal.
-///
-/// ```
-/// use dolzhytik::{Encode, GlobalType, ValType};
-///
-/// let mut bytes = Vec::new();
-/// GlobalType { val_type: ValType::I64, mutable: true, shared: false }.encode(&mut bytes);
-/// // i64: 7E. Flags: 1 for mutable.
-/// assert_eq!(bytes, [0x7E, 1]);
-/// ```
-///
-/// The same type is in [`fallible`](crate::fallible), whose page says:
-///
 pub use crate::sections::GlobalType;
-
-/// The type of a memory, which [`MemorySection::memory`] takes, and [`EntityType::Memory`] for an
-/// imported one.
-///
-/// Core specification, Types, Memory Types.
-///
-/// `minimum` and `maximum` are its size in pages: the initial one, and the limit for `memory.grow`.
-/// `shared` is of the threads proposal, and `page_size_log2` of the custom page sizes proposal.
-///
-/// ```
-/// use dolzhytik::{Encode, MemoryType};
-///
-/// let mut bytes = Vec::new();
-/// MemoryType {
-///     minimum: 1,
-///     maximum: Some(2),
-///     memory64: false,
-///     shared: false,
-///     page_size_log2: None,
-/// }
-/// .encode(&mut bytes);
-/// // Flags: 1 for a maximum. From 1 to 2 pages.
-/// assert_eq!(bytes, [1, 1, 2]);
-/// ```
-///
-/// The same type is in [`fallible`](crate::fallible), whose page says:
-///
 #[doc(alias = "memory64")]
 #[doc(alias = "custom page sizes")]
 #[doc(alias = "limits")]
 pub use crate::sections::MemoryType;
-
-/// The start section, which [`Module::section`] takes.
-///
-/// Core specification, Modules, Start Section.
-///
-/// `function_index` is the index of the function that instantiation calls.
-///
-/// ```
-/// use dolzhytik::{Section, StartSection};
-///
-/// let mut bytes = Vec::new();
-/// StartSection { function_index: 300 }.append_to(&mut bytes);
-/// // Id 8, size 2, 300 as LEB128: 300 = 2 * 128 + 44.
-/// assert_eq!(bytes, [8, 2, 0xAC, 0x02]);
-/// ```
-///
-/// The same type is in [`fallible`](crate::fallible), whose page says:
-///
 pub use crate::sections::StartSection;
-
-/// The type of a table, which [`TableSection::table`] takes, and [`EntityType::Table`] for an
-/// imported one.
-///
-/// Core specification, Types, Table Types.
-///
-/// `minimum` and `maximum` are its size in elements: the initial one, and the limit for
-/// `table.grow`. `shared` is of the shared-everything threads proposal.
-///
-/// ```
-/// use dolzhytik::{Encode, RefType, TableType};
-///
-/// let mut bytes = Vec::new();
-/// TableType {
-///     element_type: RefType::FUNCREF,
-///     table64: true,
-///     minimum: 3,
-///     maximum: None,
-///     shared: false,
-/// }
-/// .encode(&mut bytes);
-/// // funcref: 70. Flags: 4 for indices of 64 bits. At least 3 elements.
-/// assert_eq!(bytes, [0x70, 4, 3]);
-/// ```
-///
-/// The same type is in [`fallible`](crate::fallible), whose page says:
-///
 #[doc(alias = "table64")]
 #[doc(alias = "limits")]
 pub use crate::sections::TableType;
-
-/// An array type: a case of [`CompositeInnerType`]. To add one without a value, see
-/// [`CoreTypeEncoder::array`].
-///
-/// Core specification, Types, Composite Types.
-///
-/// ```
-/// use dolzhytik::{ArrayType, Encode, FieldType, StorageType};
-///
-/// let mut bytes = Vec::new();
-/// ArrayType(FieldType { element_type: StorageType::I8, mutable: true }).encode(&mut bytes);
-/// // An array: 5E. i8: 78. Mutable: 01.
-/// assert_eq!(bytes, [0x5E, 0x78, 0x01]);
-/// ```
-///
-/// The same type is in [`fallible`](crate::fallible), whose page says:
-///
 #[doc(alias = "gc")]
 pub use crate::types::ArrayType;
-
-/// A continuation type, which [`CoreTypeEncoder::cont`] takes.
-///
-/// The stack switching proposal defines it.
-///
-/// ```
-/// use dolzhytik::{ContType, Encode};
-///
-/// let mut bytes = Vec::new();
-/// ContType(64).encode(&mut bytes);
-/// // A continuation: 5D. The index is signed LEB128: 64 is C0 00.
-/// assert_eq!(bytes, [0x5D, 0xC0, 0x00]);
-/// ```
-///
-/// The same type is in [`fallible`](crate::fallible), whose page says:
-///
 #[doc(alias = "stack switching")]
 pub use crate::types::ContType;
-
-/// A field of a structure, which [`CoreTypeEncoder::struct_`] takes.
-///
-/// Core specification, Types, Composite Types.
-///
-/// `element_type` is the type of its content, and `mutable` says whether it can be set.
-///
-/// ```
-/// use dolzhytik::{Encode, FieldType, StorageType};
-///
-/// let mut bytes = Vec::new();
-/// FieldType { element_type: StorageType::I16, mutable: false }.encode(&mut bytes);
-/// // i16: 77. Immutable: 00.
-/// assert_eq!(bytes, [0x77, 0x00]);
-/// ```
-///
-/// The same type is in [`fallible`](crate::fallible), whose page says:
-///
 #[doc(alias = "gc")]
 pub use crate::types::FieldType;
-
-/// A storage type, which [`CoreTypeEncoder::array`] and [`FieldType`] take.
-///
-/// Core specification, Types, Composite Types.
-///
-/// `I8` and `I16` are packed integers, and `Val` is a value type. A [`ValType`] converts to it.
-///
-/// ```
-/// use dolzhytik::{Encode, StorageType, ValType};
-///
-/// let mut bytes = Vec::new();
-/// StorageType::I8.encode(&mut bytes);
-/// StorageType::from(ValType::I32).encode(&mut bytes);
-/// // i8: 78. i32: 7F.
-/// assert_eq!(bytes, [0x78, 0x7F]);
-/// ```
-///
-/// The same type is in [`fallible`](crate::fallible), whose page says:
-///
 #[doc(alias = "gc")]
 #[doc(alias = "packed")]
 pub use crate::types::StorageType;

@@ -76,6 +76,8 @@ impl Module {
     }
 
     /// Returns the bytes of the module, without a copy.
+    #[doc(alias = "bytes")]
+    #[doc(alias = "into_bytes")]
     pub fn finish(self) -> Vec<u8> {
         self.bytes
     }

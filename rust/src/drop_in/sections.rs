@@ -135,7 +135,7 @@ sections! {
     /// assert_eq!(bytes, [6, 1, 0x7F, 1, 0x41, 0x2A, 0x0B]);
     /// ```
     GlobalSection of Global
-    /// The export section: the items that a module gives to its host, by name.
+    /// The export section: the items that a module exports to its host, by name.
     ///
     /// Core specification, Modules, Export Section.
     ///
@@ -187,6 +187,10 @@ sections! {
 
 impl FunctionSection {
     /// Appends a function whose type has this index.
+    ///
+    /// # Panics
+    ///
+    /// Panics if the section has 4294967295 entries.
     #[inline]
     pub fn function(&mut self, type_index: u32) -> &mut Self {
         self.0.add(&type_index);
@@ -196,6 +200,10 @@ impl FunctionSection {
 
 impl TableSection {
     /// Appends a table.
+    ///
+    /// # Panics
+    ///
+    /// Panics if the section has 4294967295 entries.
     #[inline]
     pub fn table(&mut self, table_type: TableType) -> &mut Self {
         self.0.add(&table_type);
@@ -221,6 +229,10 @@ impl TableSection {
     /// // Size 9, one table: 40 00; funcref (70), no flags, 4 elements; ref.null func (D0 70), end.
     /// assert_eq!(bytes, [9, 1, 0x40, 0x00, 0x70, 0, 4, 0xD0, 0x70, 0x0B]);
     /// ```
+    ///
+    /// # Panics
+    ///
+    /// Panics if the section has 4294967295 entries.
     pub fn table_with_init(&mut self, table_type: TableType, init: &ConstExpr) -> &mut Self {
         self.0.add(&(BEFORE_INIT, table_type, Lent(init)));
         self
@@ -229,6 +241,10 @@ impl TableSection {
 
 impl MemorySection {
     /// Appends a memory.
+    ///
+    /// # Panics
+    ///
+    /// Panics if the section has 4294967295 entries.
     #[inline]
     pub fn memory(&mut self, memory_type: MemoryType) -> &mut Self {
         self.0.add(&memory_type);
@@ -238,6 +254,10 @@ impl MemorySection {
 
 impl TagSection {
     /// Appends a tag.
+    ///
+    /// # Panics
+    ///
+    /// Panics if the section has 4294967295 entries.
     #[inline]
     pub fn tag(&mut self, tag_type: TagType) -> &mut Self {
         self.0.add(&sections::TagType::from(tag_type));
@@ -247,6 +267,10 @@ impl TagSection {
 
 impl GlobalSection {
     /// Appends a global of this type and initial value.
+    ///
+    /// # Panics
+    ///
+    /// Panics if the section has 4294967295 entries.
     #[inline]
     pub fn global(&mut self, global_type: GlobalType, init_expr: &ConstExpr) -> &mut Self {
         self.0.add(&(global_type, Lent(init_expr)));
@@ -254,6 +278,10 @@ impl GlobalSection {
     }
 
     /// Appends a global by its encoding: the type and the expression. The bytes are not checked.
+    ///
+    /// # Panics
+    ///
+    /// Panics if the section has 4294967295 entries.
     pub fn raw(&mut self, data: &[u8]) -> &mut Self {
         self.0.add_bytes(data);
         self
@@ -295,8 +323,21 @@ pub enum Elements<'a> {
     Expressions(RefType, Cow<'a, [ConstExpr]>),
 }
 
-/// The mode of an [`ElementSegment`], whose page has an example: whether instantiation copies the
-/// elements into a table.
+/// The mode of an [`ElementSegment`]: whether instantiation copies the elements into a table.
+///
+/// ```
+/// use dolzhytik::{ConstExpr, ElementMode, ElementSection, ElementSegment, Elements, Encode};
+///
+/// let offset = ConstExpr::i32_const(3);
+/// let mode = ElementMode::Active { table: None, offset: &offset };
+/// let elements = Elements::Functions(vec![5].into());
+/// let mut section = ElementSection::new();
+/// section.segment(ElementSegment { mode, elements });
+/// let mut bytes = Vec::new();
+/// section.encode(&mut bytes);
+/// // Size 7, one segment: in table 0 (form 0), i32.const 3 and end, one function, 5.
+/// assert_eq!(bytes, [7, 1, 0, 0x41, 3, 0x0B, 1, 5]);
+/// ```
 #[derive(Clone, Debug)]
 pub enum ElementMode<'a> {
     /// Only `table.init` copies them.
@@ -429,14 +470,30 @@ impl ElementSection {
     }
 
     /// Appends a segment by its encoding. The bytes are not checked.
+    ///
+    /// # Panics
+    ///
+    /// Panics if the section has 4294967295 entries.
     pub fn raw(&mut self, raw_bytes: &[u8]) -> &mut Self {
         self.0.add_bytes(raw_bytes);
         self
     }
 }
 
-/// The mode of a [`DataSegment`], whose page has an example: whether instantiation copies the bytes
-/// into a memory.
+/// The mode of a [`DataSegment`]: whether instantiation copies the bytes into a memory.
+///
+/// ```
+/// use dolzhytik::{ConstExpr, DataSection, DataSegment, DataSegmentMode, Encode};
+///
+/// let offset = ConstExpr::i32_const(8);
+/// let mode = DataSegmentMode::Active { memory_index: 0, offset: &offset };
+/// let mut section = DataSection::new();
+/// section.segment(DataSegment { mode, data: *b"hi" });
+/// let mut bytes = Vec::new();
+/// section.encode(&mut bytes);
+/// // Size 8, one segment: in memory 0 (form 0), i32.const 8 and end, two bytes.
+/// assert_eq!(bytes, [8, 1, 0, 0x41, 8, 0x0B, 2, b'h', b'i']);
+/// ```
 #[derive(Clone, Debug)]
 pub enum DataSegmentMode<'a> {
     /// Instantiation copies them into a memory.
@@ -534,6 +591,10 @@ impl DataSection {
     }
 
     /// Appends a segment by its encoding. The bytes are not checked.
+    ///
+    /// # Panics
+    ///
+    /// Panics if the section has 4294967295 entries.
     pub fn raw(&mut self, already_encoded_data_segment: &[u8]) -> &mut Self {
         self.0.add_bytes(already_encoded_data_segment);
         self

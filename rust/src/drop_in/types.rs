@@ -148,8 +148,27 @@ pub struct CompositeType {
 
 /// A subtype: a composite type, its supertype, and whether it can have subtypes.
 ///
-/// [`CoreTypeEncoder::subtype`], whose page has an example, and [`CoreTypeEncoder::rec`] take it.
-/// Core specification, Types, Recursive Types.
+/// [`CoreTypeEncoder::subtype`] and [`CoreTypeEncoder::rec`] take it. Core specification, Types,
+/// Recursive Types.
+///
+/// ```
+/// use dolzhytik::{CompositeInnerType, CompositeType, Encode, FuncType, SubType};
+///
+/// let mut bytes = Vec::new();
+/// SubType {
+///     is_final: false,
+///     supertype_idx: Some(5),
+///     composite_type: CompositeType {
+///         inner: CompositeInnerType::Func(FuncType::new([], [])),
+///         shared: false,
+///         descriptor: None,
+///         describes: None,
+///     },
+/// }
+/// .encode(&mut bytes);
+/// // Not final: 50. One supertype, 5. A function without parameters and results.
+/// assert_eq!(bytes, [0x50, 1, 5, 0x60, 0, 0]);
+/// ```
 #[derive(Clone, Debug, PartialEq, Eq, Hash)]
 pub struct SubType {
     /// Whether it is final, so that it can have no subtypes.
@@ -277,11 +296,19 @@ impl CoreTypeEncoder<'_> {
     }
 
     /// Appends a function type.
+    ///
+    /// # Panics
+    ///
+    /// Panics if the section has 4294967295 entries, or if a list of the type has more items.
     pub fn func_type(self, ty: &FuncType) {
         self.0.add(&ty.0)
     }
 
     /// Appends the type of arrays with elements of this type.
+    ///
+    /// # Panics
+    ///
+    /// Panics if the section has 4294967295 entries.
     pub fn array(self, ty: &StorageType, mutable: bool) {
         let element_type = *ty;
         self.0.add(&ArrayType(FieldType {
@@ -304,6 +331,10 @@ impl CoreTypeEncoder<'_> {
     }
 
     /// Appends a continuation type, by the stack switching proposal.
+    ///
+    /// # Panics
+    ///
+    /// Panics if the section has 4294967295 entries.
     pub fn cont(self, ty: &ContType) {
         self.0.add(ty)
     }
@@ -331,6 +362,10 @@ impl CoreTypeEncoder<'_> {
     /// // Size 6, one type: not final (50), one supertype, 0; a structure (5F) of no fields.
     /// assert_eq!(bytes, [6, 1, 0x50, 1, 0, 0x5F, 0]);
     /// ```
+    ///
+    /// # Panics
+    ///
+    /// Panics if the section has 4294967295 entries, or if a list of the type has more items.
     pub fn subtype(self, ty: &SubType) {
         self.0.add(&types::SubType::from(ty.clone()))
     }

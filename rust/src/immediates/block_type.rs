@@ -5,7 +5,23 @@ use crate::vec::Sink;
 use crate::alloc::Allocator;
 use crate::base::{DecodeError, Encode, Grammar, Layout, Readable, Result, ValType, read_index, read_val_after};
 
-/// The type of a block: its parameters and results.
+/// The type of a block: an immediate of `block`, `loop`, `if` and `try_table`, as of
+/// [`InstructionSink::block`](crate::InstructionSink::block).
+///
+/// Core specification, Instructions, Control Instructions.
+///
+/// # Examples
+///
+/// ```
+/// use dolzhytik::{BlockType, Encode, ValType};
+///
+/// let mut bytes = Vec::new();
+/// BlockType::Empty.encode(&mut bytes);
+/// BlockType::Result(ValType::I32).encode(&mut bytes);
+/// BlockType::FunctionType(64).encode(&mut bytes);
+/// // Empty: 40. The value type i32: 7F. An index is signed LEB128: 64 is C0 00.
+/// assert_eq!(bytes, [0x40, 0x7F, 0xC0, 0x00]);
+/// ```
 #[derive(Clone, Copy, Debug)]
 pub enum BlockType {
     /// No parameters and no results.
@@ -40,7 +56,7 @@ impl Encode for BlockType {
 ///
 /// # Proved
 ///
-/// After `Ok`: `found`. After an error: `none`.
+/// After `Ok`: `found`, the bytes begin with an encoding of the value, and the returned bytes follow it. After an error: `none`, the bytes do not begin with such an encoding, unless the cause is `Memory`.
 ///
 /// ```text
 /// ensures found { IfOk result

@@ -5,20 +5,80 @@ use crate::vec::Sink;
 use crate::alloc::Allocator;
 use crate::base::{DecodeError, Encode, Grammar, Layout, ReadFault, Readable, Result};
 
-/// A clause of `try_table`: the exceptions that it catches, and the label that it then branches to.
+/// A catch clause, which [`InstructionSink::try_table`](crate::InstructionSink::try_table)
+/// takes.
+///
+/// Core specification, Instructions, Control Instructions.
+///
+/// `One` and `OneRef` catch exceptions of a tag, `All` and `AllRef` all of them. Those with
+/// `Ref` also pass a reference to the exception to the label.
+///
+/// # Examples
+///
+/// ```
+/// use dolzhytik::{BlockType, Catch, InstructionSink};
+///
+/// let mut bytes = Vec::new();
+/// let catches = [Catch::One { tag: 5, label: 1 }, Catch::All { label: 2 }];
+/// InstructionSink::new(&mut bytes).try_table(BlockType::Empty, catches);
+/// // try_table: 1F. The empty type: 40. Two clauses: 00, tag 5, label 1; and 02, label 2.
+/// assert_eq!(bytes, [0x1F, 0x40, 2, 0x00, 5, 1, 0x02, 2]);
+/// ```
 #[derive(Clone, Copy, Debug)]
 pub enum Catch {
-    One { tag: u32, label: u32 },
-    OneRef { tag: u32, label: u32 },
-    All { label: u32 },
-    AllRef { label: u32 },
+    /// Catches exceptions of a tag.
+    One {
+        /// The index of the tag.
+        tag: u32,
+        /// The label to branch to.
+        label: u32 },
+    /// Catches exceptions of a tag, and passes a reference to the exception too.
+    OneRef {
+        /// The index of the tag.
+        tag: u32,
+        /// The label to branch to.
+        label: u32 },
+    /// Catches all exceptions.
+    All {
+        /// The label to branch to.
+        label: u32 },
+    /// Catches all exceptions, and passes a reference to the exception.
+    AllRef {
+        /// The label to branch to.
+        label: u32 },
 }
 
-/// A clause of `resume` and its variants: the action for a suspension with a tag.
+/// A handler of `resume`, `resume_throw` and `resume_throw_ref`, as in
+/// [`Instruction::Resume`](crate::Instruction::Resume).
+///
+/// The stack switching proposal defines it.
+///
+/// `OnLabel` branches to a label when code suspends with the tag, and `OnSwitch` admits
+/// switches with the tag.
+///
+/// # Examples
+///
+/// ```
+/// use dolzhytik::{Encode, Handle};
+///
+/// let mut bytes = Vec::new();
+/// Handle::OnLabel { tag: 3, label: 4 }.encode(&mut bytes);
+/// Handle::OnSwitch { tag: 5 }.encode(&mut bytes);
+/// // 00, tag 3, label 4; and 01, tag 5.
+/// assert_eq!(bytes, [0x00, 3, 4, 0x01, 5]);
+/// ```
 #[derive(Clone, Copy, Debug)]
 pub enum Handle {
-    OnLabel { tag: u32, label: u32 },
-    OnSwitch { tag: u32 },
+    /// Branches to a label when the code suspends with a tag.
+    OnLabel {
+        /// The index of the tag.
+        tag: u32,
+        /// The label to branch to.
+        label: u32 },
+    /// Admits switches with a tag.
+    OnSwitch {
+        /// The index of the tag.
+        tag: u32 },
 }
 
 /// Encodes a clause as its kind in one byte, the tag if it has one, and the label.

@@ -5,7 +5,24 @@ use crate::vec::Sink;
 use crate::alloc::Allocator;
 use crate::base::{DecodeError, Encode, Grammar, Layout, ReadFault, Readable, Result};
 
-/// A float of 32 bits, as its IEEE 754 bits.
+/// A float of 32 bits, by its bits, which
+/// [`InstructionSink::f32_const`](crate::InstructionSink::f32_const) takes. A NaN keeps its
+/// payload.
+///
+/// An `f32` converts to it: `1.5_f32.into()`. Core specification, Binary Format, Values,
+/// Floating-Point.
+///
+/// # Examples
+///
+/// ```
+/// use dolzhytik::{Encode, Ieee32};
+///
+/// let mut bytes = Vec::new();
+/// Ieee32::from(1.0).encode(&mut bytes);
+/// Ieee32::new(0x7FA0_0000).encode(&mut bytes);
+/// // 1.0: the bits 3F800000, the lowest byte first. A signaling NaN, by its bits.
+/// assert_eq!(bytes, [0, 0, 0x80, 0x3F, 0, 0, 0xA0, 0x7F]);
+/// ```
 #[derive(Clone, Copy, PartialEq, Eq, Hash, Debug)]
 pub struct Ieee32 {
     bits: u32,
@@ -56,7 +73,23 @@ impl Encode for Ieee32 {
     }
 }
 
-/// A float of 64 bits, as its IEEE 754 bits.
+/// A float of 64 bits, by its bits, which
+/// [`InstructionSink::f64_const`](crate::InstructionSink::f64_const) takes. A NaN keeps its
+/// payload.
+///
+/// An `f64` converts to it: `1.5_f64.into()`. Core specification, Binary Format, Values,
+/// Floating-Point.
+///
+/// # Examples
+///
+/// ```
+/// use dolzhytik::{Encode, Ieee64};
+///
+/// let mut bytes = Vec::new();
+/// Ieee64::from(1.0).encode(&mut bytes);
+/// // The bits 3FF0000000000000, the lowest byte first.
+/// assert_eq!(bytes, [0, 0, 0, 0, 0, 0, 0xF0, 0x3F]);
+/// ```
 #[derive(Clone, Copy, PartialEq, Eq, Hash, Debug)]
 pub struct Ieee64 {
     bits: u64,

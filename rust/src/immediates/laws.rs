@@ -11,6 +11,8 @@
 ///
 /// # Proved
 ///
+/// `memory`, `block`, `catch`, `handle`, `ordering`, `vector`: A format whose encodings determine their own end is unambiguous in every mode, with encodings as `HasEncodings` states. `memory_encodings`, `block_encodings`, `catch_encodings`, `handle_encodings`, `ordering_encodings`, `vector_encodings`: Each value that fits has the minimal encoding `encoding x`.
+///
 /// ```text
 /// ensures memory { Unambiguous mem_arg }
 /// ensures block { Unambiguous block_type }
@@ -60,6 +62,8 @@ pub fn standard() {}
 /// With padded numbers the formats are unambiguous too.
 ///
 /// # Proved
+///
+/// `memory`, `block`, `catch`, `handle`, `ordering`, `vector`: With padding allowed a format is unambiguous, and it keeps every minimal encoding.
 ///
 /// ```text
 /// ensures memory { UnambiguousPadded mem_arg }

@@ -6,22 +6,70 @@ use crate::alloc::Allocator;
 use core::default::Default;
 use crate::base::{DecodeError, Encode, Grammar, Layout, ReadFault, Readable, Result, read_optional};
 
-/// The index of a lane of a vector.
+/// The index of a lane of a vector, which calls such as
+/// [`InstructionSink::i8x16_replace_lane`](crate::InstructionSink::i8x16_replace_lane) take. It
+/// is encoded as one byte.
+///
+/// # Examples
+///
+/// ```
+/// use dolzhytik::InstructionSink;
+///
+/// let mut bytes = Vec::new();
+/// InstructionSink::new(&mut bytes).i32x4_extract_lane(3);
+/// // The opcode, FD 27, and the lane.
+/// assert_eq!(bytes, [0xFD, 27, 3]);
+/// ```
 pub type Lane = u8;
 
-/// A memory argument: the location and the ordering of an access.
+/// A memory argument: the memory, offset and alignment of a load or a store.
+///
+/// Calls such as [`InstructionSink::i32_load`](crate::InstructionSink::i32_load) take it.
+/// `align` is the exponent: 2 for four bytes. Core specification, Instructions, Memory
+/// Instructions.
+///
+/// # Examples
+///
+/// ```
+/// use dolzhytik::{InstructionSink, MemArg, MemArgTarget};
+///
+/// let in_memory = |index| MemArg {
+///     offset: 4,
+///     align: 2,
+///     target: MemArgTarget::Memory(index),
+///     ordering: None,
+/// };
+/// let mut bytes = Vec::new();
+/// InstructionSink::new(&mut bytes).i32_load(in_memory(0)).i32_load(in_memory(1));
+/// // i32.load: 28. Memory 0: the alignment, 2, and the offset, 4. Another memory: bit 6 of the
+/// // alignment, 42, and its index, 1, before the offset.
+/// assert_eq!(bytes, [0x28, 2, 4, 0x28, 0x42, 1, 4]);
+/// ```
 #[derive(Clone, Copy, Debug)]
 pub struct MemArg {
     /// The constant that is added to the address, in bytes.
     pub offset: u64,
     /// The expected alignment, as an exponent of 2.
     pub align: u32,
+    /// The memory, or the array type.
     pub target: MemArgTarget,
     /// The ordering of an atomic access, if it differs from the default of the instruction.
     pub ordering: Option<MemArgOrdering>,
 }
 
-/// The memory or the array type that is accessed.
+/// The memory or the array type of an access: a field of [`MemArg`](crate::MemArg).
+///
+/// # Examples
+///
+/// ```
+/// use dolzhytik::{Encode, MemArg, MemArgTarget};
+///
+/// let target = MemArgTarget::Memory(1);
+/// let mut bytes = Vec::new();
+/// MemArg { offset: 4, align: 2, target, ordering: None }.encode(&mut bytes);
+/// // Bit 6 of the alignment says that the index of the memory follows.
+/// assert_eq!(bytes, [0x42, 1, 4]);
+/// ```
 #[derive(Clone, Copy, PartialEq, Eq, Hash, Debug)]
 pub enum MemArgTarget {
     /// The memory of this index.
@@ -30,17 +78,54 @@ pub enum MemArgTarget {
     Array(u32),
 }
 
-/// The ordering of an access: of a single operation, or of a read-modify-write.
+/// The ordering of an atomic access: a field of [`MemArg`](crate::MemArg).
+///
+/// The shared-everything threads proposal defines it.
+///
+/// `Op` is the ordering of a load or a store, and `Rmw` that of a read-modify-write
+/// instruction.
+///
+/// # Examples
+///
+/// ```
+/// use dolzhytik::{Encode, MemArgOrdering, Ordering};
+///
+/// let mut bytes = Vec::new();
+/// MemArgOrdering::Op(Ordering::AcqRel).encode(&mut bytes);
+/// MemArgOrdering::Rmw(Ordering::AcqRel).encode(&mut bytes);
+/// // A load or store: 01. A read-modify-write instruction: 11.
+/// assert_eq!(bytes, [0x01, 0x11]);
+/// ```
 #[derive(Clone, Copy, PartialEq, Eq, Hash, Debug)]
 pub enum MemArgOrdering {
+    /// The ordering of a load or a store.
     Op(Ordering),
+    /// The ordering of a read-modify-write instruction.
     Rmw(Ordering),
 }
 
-/// The ordering of atomic accesses.
+/// The ordering of an atomic instruction, which calls such as
+/// [`InstructionSink::atomic_fence`](crate::InstructionSink::atomic_fence) take.
+///
+/// It is not [`core::cmp::Ordering`]. The shared-everything threads proposal defines it:
+/// `SeqCst` is sequential consistency, byte 00, and `AcqRel` acquire and release, byte 01.
+///
+/// # Examples
+///
+/// ```
+/// use dolzhytik::{Encode, Ordering};
+///
+/// let mut bytes = Vec::new();
+/// Ordering::SeqCst.encode(&mut bytes);
+/// Ordering::AcqRel.encode(&mut bytes);
+/// // 00 and 01.
+/// assert_eq!(bytes, [0x00, 0x01]);
+/// ```
 #[derive(Clone, Copy, PartialEq, Eq, Hash, Debug)]
 pub enum Ordering {
+    /// Acquire and release: 01.
     AcqRel = 0x01,
+    /// Sequential consistency: 00.
     SeqCst = 0x00,
 }
 
@@ -142,6 +227,8 @@ impl MemArg {
     ///
     /// # Proved
     ///
+    /// The call appends the encoding, or returns an error and leaves the bytes as they were. If the value fits, the call never returns `TooLong`, and it succeeds within the spare capacity.
+    ///
     /// ```text
     /// ensures { Appends (mem_arg_encoding self.now) ⊤ sink.old sink.new result }
     /// ```
@@ -184,6 +271,8 @@ impl Encode for MemArg {
 /// spare capacity.
 ///
 /// # Proved
+///
+/// The call appends the encoding, or returns an error and leaves the bytes as they were. If the value fits, the call never returns `TooLong`, and it succeeds within the spare capacity.
 ///
 /// ```text
 /// ensures { Appends (unsigned_encoding flags ++ unsigned_encoding offset) ⊤ sink.old
@@ -279,7 +368,7 @@ impl<'a, A: Allocator + Copy, G: Grammar> Readable<'a, A, G> for MemArgOrdering 
 ///
 /// # Proved
 ///
-/// After `Ok`: `found`. After an error: `none`.
+/// After `Ok`: `found`, the bytes begin with an encoding of the value, and the returned bytes follow it. After an error: `none`, the bytes do not begin with such an encoding, unless the cause is `Memory`.
 ///
 /// ```text
 /// ensures found { IfOk result
@@ -318,7 +407,7 @@ fn read_target<'a, A: Allocator + Copy, G: Grammar>(
 ///
 /// # Proved
 ///
-/// After `Ok`: `found`. After an error: `none`.
+/// After `Ok`: `found`, the bytes begin with an encoding of the value, and the returned bytes follow it. After an error: `none`, the bytes do not begin with such an encoding, unless the cause is `Memory`.
 ///
 /// ```text
 /// ensures found { IfOk result

@@ -5,13 +5,40 @@ use crate::insn::instruction::Instruction;
 use crate::insn::op::Op;
 
 /// Instructions on aggregates and references without fields: those after the prefix FB.
+///
+/// It is a case of [`Instruction`](crate::fallible::Instruction), which has a constant for
+/// each.
+///
+/// # Examples
+///
+/// ```
+/// use dolzhytik::fallible::{Aggregate, Encode, Instruction, Refused};
+///
+/// let instruction: Instruction = Instruction::Aggregate(Aggregate::ArrayLen);
+/// let mut bytes = Vec::new();
+/// instruction.encode(&mut bytes)?;
+/// assert_eq!(bytes, [0xFB, 15]);
+/// # Ok::<(), Refused>(())
+/// ```
 #[derive(Clone, Copy, Debug)]
 pub enum Aggregate {
+    /// `array.len` (opcode 0xFB 15), an aggregate instruction that returns the number of elements
+    /// of an array.
     ArrayLen = 15,
+    /// `any.convert_extern` (opcode 0xFB 26), an aggregate instruction that converts an external
+    /// reference to an internal one.
     AnyConvertExtern = 26,
+    /// `extern.convert_any` (opcode 0xFB 27), an aggregate instruction that converts an internal
+    /// reference to an external one.
     ExternConvertAny = 27,
+    /// `ref.i31` (opcode 0xFB 28), an aggregate instruction that makes a reference of the lower 31
+    /// bits of an integer.
     RefI31 = 28,
+    /// `i31.get_s` (opcode 0xFB 29), an aggregate instruction that reads the integer of 31 bits of
+    /// a reference, sign-extended.
     I31GetS = 29,
+    /// `i31.get_u` (opcode 0xFB 30), an aggregate instruction that reads the integer of 31 bits of
+    /// a reference, zero-extended.
     I31GetU = 30,
 }
 
@@ -32,15 +59,27 @@ impl Aggregate {
 
 /// Their names as instructions.
 impl Instruction<'static> {
+    /// `array.len` (opcode 0xFB 15), an aggregate instruction that returns the number of elements
+    /// of an array.
     pub const ArrayLen: Self = Instruction::Aggregate(Aggregate::ArrayLen);
 
+    /// `any.convert_extern` (opcode 0xFB 26), an aggregate instruction that converts an external
+    /// reference to an internal one.
     pub const AnyConvertExtern: Self = Instruction::Aggregate(Aggregate::AnyConvertExtern);
 
+    /// `extern.convert_any` (opcode 0xFB 27), an aggregate instruction that converts an internal
+    /// reference to an external one.
     pub const ExternConvertAny: Self = Instruction::Aggregate(Aggregate::ExternConvertAny);
 
+    /// `ref.i31` (opcode 0xFB 28), an aggregate instruction that makes a reference of the lower 31
+    /// bits of an integer.
     pub const RefI31: Self = Instruction::Aggregate(Aggregate::RefI31);
 
+    /// `i31.get_s` (opcode 0xFB 29), an aggregate instruction that reads the integer of 31 bits of
+    /// a reference, sign-extended.
     pub const I31GetS: Self = Instruction::Aggregate(Aggregate::I31GetS);
 
+    /// `i31.get_u` (opcode 0xFB 30), an aggregate instruction that reads the integer of 31 bits of
+    /// a reference, zero-extended.
     pub const I31GetU: Self = Instruction::Aggregate(Aggregate::I31GetU);
 }

@@ -8,227 +8,552 @@ use crate::base::{Encode, Result};
 use crate::immediates::{MemArg, Ordering};
 
 /// Atomic instructions: those after the prefix FE.
+///
+/// It is a case of [`Instruction`](crate::fallible::Instruction).
+///
+/// # Examples
+///
+/// ```
+/// use dolzhytik::fallible::{Atomic, Encode, Instruction, Ordering, Refused};
+///
+/// let instruction: Instruction =
+///     Instruction::Atomic(Atomic::AtomicFence(Ordering::SeqCst));
+/// let mut bytes = Vec::new();
+/// instruction.encode(&mut bytes)?;
+/// assert_eq!(bytes, [0xFE, 3, 0]);
+/// # Ok::<(), Refused>(())
+/// ```
 #[derive(Clone, Copy, Debug)]
 pub enum Atomic {
+    /// `memory.atomic.notify` (opcode 0xFE 0), an atomic instruction of the threads proposal that
+    /// wakes threads that wait at an address.
     MemoryAtomicNotify(MemArg),
+    /// `memory.atomic.wait32` (opcode 0xFE 1), an atomic instruction of the threads proposal that
+    /// waits at an address for a notification.
     MemoryAtomicWait32(MemArg),
+    /// `memory.atomic.wait64` (opcode 0xFE 2), an atomic instruction of the threads proposal that
+    /// waits at an address for a notification.
     MemoryAtomicWait64(MemArg),
+    /// `atomic.fence` (opcode 0xFE 3), an atomic instruction of the threads proposal that orders
+    /// the accesses before and after it.
     AtomicFence(Ordering),
+    /// `pause` (opcode 0xFE 4), an instruction of the shared-everything threads proposal that hints
+    /// that the thread waits in a loop.
     Pause,
+    /// `i32.atomic.load` (opcode 0xFE 16), an atomic instruction of the threads proposal that loads
+    /// a number from a memory.
     I32AtomicLoad(MemArg),
+    /// `i64.atomic.load` (opcode 0xFE 17), an atomic instruction of the threads proposal that loads
+    /// a number from a memory.
     I64AtomicLoad(MemArg),
+    /// `i32.atomic.load8_u` (opcode 0xFE 18), an atomic instruction of the threads proposal that
+    /// loads a number from a memory.
     I32AtomicLoad8U(MemArg),
+    /// `i32.atomic.load16_u` (opcode 0xFE 19), an atomic instruction of the threads proposal that
+    /// loads a number from a memory.
     I32AtomicLoad16U(MemArg),
+    /// `i64.atomic.load8_u` (opcode 0xFE 20), an atomic instruction of the threads proposal that
+    /// loads a number from a memory.
     I64AtomicLoad8U(MemArg),
+    /// `i64.atomic.load16_u` (opcode 0xFE 21), an atomic instruction of the threads proposal that
+    /// loads a number from a memory.
     I64AtomicLoad16U(MemArg),
+    /// `i64.atomic.load32_u` (opcode 0xFE 22), an atomic instruction of the threads proposal that
+    /// loads a number from a memory.
     I64AtomicLoad32U(MemArg),
+    /// `i32.atomic.store` (opcode 0xFE 23), an atomic instruction of the threads proposal that
+    /// stores a number to a memory.
     I32AtomicStore(MemArg),
+    /// `i64.atomic.store` (opcode 0xFE 24), an atomic instruction of the threads proposal that
+    /// stores a number to a memory.
     I64AtomicStore(MemArg),
+    /// `i32.atomic.store8` (opcode 0xFE 25), an atomic instruction of the threads proposal that
+    /// stores a number to a memory.
     I32AtomicStore8(MemArg),
+    /// `i32.atomic.store16` (opcode 0xFE 26), an atomic instruction of the threads proposal that
+    /// stores a number to a memory.
     I32AtomicStore16(MemArg),
+    /// `i64.atomic.store8` (opcode 0xFE 27), an atomic instruction of the threads proposal that
+    /// stores a number to a memory.
     I64AtomicStore8(MemArg),
+    /// `i64.atomic.store16` (opcode 0xFE 28), an atomic instruction of the threads proposal that
+    /// stores a number to a memory.
     I64AtomicStore16(MemArg),
+    /// `i64.atomic.store32` (opcode 0xFE 29), an atomic instruction of the threads proposal that
+    /// stores a number to a memory.
     I64AtomicStore32(MemArg),
+    /// `i32.atomic.rmw.add` (opcode 0xFE 30), an atomic instruction of the threads proposal that
+    /// adds to a number in a memory, and returns the old value.
     I32AtomicRmwAdd(MemArg),
+    /// `i64.atomic.rmw.add` (opcode 0xFE 31), an atomic instruction of the threads proposal that
+    /// adds to a number in a memory, and returns the old value.
     I64AtomicRmwAdd(MemArg),
+    /// `i32.atomic.rmw8.add_u` (opcode 0xFE 32), an atomic instruction of the threads proposal that
+    /// adds to a number in a memory, and returns the old value.
     I32AtomicRmw8AddU(MemArg),
+    /// `i32.atomic.rmw16.add_u` (opcode 0xFE 33), an atomic instruction of the threads proposal
+    /// that adds to a number in a memory, and returns the old value.
     I32AtomicRmw16AddU(MemArg),
+    /// `i64.atomic.rmw8.add_u` (opcode 0xFE 34), an atomic instruction of the threads proposal that
+    /// adds to a number in a memory, and returns the old value.
     I64AtomicRmw8AddU(MemArg),
+    /// `i64.atomic.rmw16.add_u` (opcode 0xFE 35), an atomic instruction of the threads proposal
+    /// that adds to a number in a memory, and returns the old value.
     I64AtomicRmw16AddU(MemArg),
+    /// `i64.atomic.rmw32.add_u` (opcode 0xFE 36), an atomic instruction of the threads proposal
+    /// that adds to a number in a memory, and returns the old value.
     I64AtomicRmw32AddU(MemArg),
+    /// `i32.atomic.rmw.sub` (opcode 0xFE 37), an atomic instruction of the threads proposal that
+    /// subtracts from a number in a memory, and returns the old value.
     I32AtomicRmwSub(MemArg),
+    /// `i64.atomic.rmw.sub` (opcode 0xFE 38), an atomic instruction of the threads proposal that
+    /// subtracts from a number in a memory, and returns the old value.
     I64AtomicRmwSub(MemArg),
+    /// `i32.atomic.rmw8.sub_u` (opcode 0xFE 39), an atomic instruction of the threads proposal that
+    /// subtracts from a number in a memory, and returns the old value.
     I32AtomicRmw8SubU(MemArg),
+    /// `i32.atomic.rmw16.sub_u` (opcode 0xFE 40), an atomic instruction of the threads proposal
+    /// that subtracts from a number in a memory, and returns the old value.
     I32AtomicRmw16SubU(MemArg),
+    /// `i64.atomic.rmw8.sub_u` (opcode 0xFE 41), an atomic instruction of the threads proposal that
+    /// subtracts from a number in a memory, and returns the old value.
     I64AtomicRmw8SubU(MemArg),
+    /// `i64.atomic.rmw16.sub_u` (opcode 0xFE 42), an atomic instruction of the threads proposal
+    /// that subtracts from a number in a memory, and returns the old value.
     I64AtomicRmw16SubU(MemArg),
+    /// `i64.atomic.rmw32.sub_u` (opcode 0xFE 43), an atomic instruction of the threads proposal
+    /// that subtracts from a number in a memory, and returns the old value.
     I64AtomicRmw32SubU(MemArg),
+    /// `i32.atomic.rmw.and` (opcode 0xFE 44), an atomic instruction of the threads proposal that
+    /// sets a number in a memory to its bitwise and with an operand, and returns the old value.
     I32AtomicRmwAnd(MemArg),
+    /// `i64.atomic.rmw.and` (opcode 0xFE 45), an atomic instruction of the threads proposal that
+    /// sets a number in a memory to its bitwise and with an operand, and returns the old value.
     I64AtomicRmwAnd(MemArg),
+    /// `i32.atomic.rmw8.and_u` (opcode 0xFE 46), an atomic instruction of the threads proposal that
+    /// sets a number in a memory to its bitwise and with an operand, and returns the old value.
     I32AtomicRmw8AndU(MemArg),
+    /// `i32.atomic.rmw16.and_u` (opcode 0xFE 47), an atomic instruction of the threads proposal
+    /// that sets a number in a memory to its bitwise and with an operand, and returns the old
+    /// value.
     I32AtomicRmw16AndU(MemArg),
+    /// `i64.atomic.rmw8.and_u` (opcode 0xFE 48), an atomic instruction of the threads proposal that
+    /// sets a number in a memory to its bitwise and with an operand, and returns the old value.
     I64AtomicRmw8AndU(MemArg),
+    /// `i64.atomic.rmw16.and_u` (opcode 0xFE 49), an atomic instruction of the threads proposal
+    /// that sets a number in a memory to its bitwise and with an operand, and returns the old
+    /// value.
     I64AtomicRmw16AndU(MemArg),
+    /// `i64.atomic.rmw32.and_u` (opcode 0xFE 50), an atomic instruction of the threads proposal
+    /// that sets a number in a memory to its bitwise and with an operand, and returns the old
+    /// value.
     I64AtomicRmw32AndU(MemArg),
+    /// `i32.atomic.rmw.or` (opcode 0xFE 51), an atomic instruction of the threads proposal that
+    /// sets a number in a memory to its bitwise or with an operand, and returns the old value.
     I32AtomicRmwOr(MemArg),
+    /// `i64.atomic.rmw.or` (opcode 0xFE 52), an atomic instruction of the threads proposal that
+    /// sets a number in a memory to its bitwise or with an operand, and returns the old value.
     I64AtomicRmwOr(MemArg),
+    /// `i32.atomic.rmw8.or_u` (opcode 0xFE 53), an atomic instruction of the threads proposal that
+    /// sets a number in a memory to its bitwise or with an operand, and returns the old value.
     I32AtomicRmw8OrU(MemArg),
+    /// `i32.atomic.rmw16.or_u` (opcode 0xFE 54), an atomic instruction of the threads proposal that
+    /// sets a number in a memory to its bitwise or with an operand, and returns the old value.
     I32AtomicRmw16OrU(MemArg),
+    /// `i64.atomic.rmw8.or_u` (opcode 0xFE 55), an atomic instruction of the threads proposal that
+    /// sets a number in a memory to its bitwise or with an operand, and returns the old value.
     I64AtomicRmw8OrU(MemArg),
+    /// `i64.atomic.rmw16.or_u` (opcode 0xFE 56), an atomic instruction of the threads proposal that
+    /// sets a number in a memory to its bitwise or with an operand, and returns the old value.
     I64AtomicRmw16OrU(MemArg),
+    /// `i64.atomic.rmw32.or_u` (opcode 0xFE 57), an atomic instruction of the threads proposal that
+    /// sets a number in a memory to its bitwise or with an operand, and returns the old value.
     I64AtomicRmw32OrU(MemArg),
+    /// `i32.atomic.rmw.xor` (opcode 0xFE 58), an atomic instruction of the threads proposal that
+    /// sets a number in a memory to its bitwise exclusive or with an operand, and returns the old
+    /// value.
     I32AtomicRmwXor(MemArg),
+    /// `i64.atomic.rmw.xor` (opcode 0xFE 59), an atomic instruction of the threads proposal that
+    /// sets a number in a memory to its bitwise exclusive or with an operand, and returns the old
+    /// value.
     I64AtomicRmwXor(MemArg),
+    /// `i32.atomic.rmw8.xor_u` (opcode 0xFE 60), an atomic instruction of the threads proposal that
+    /// sets a number in a memory to its bitwise exclusive or with an operand, and returns the old
+    /// value.
     I32AtomicRmw8XorU(MemArg),
+    /// `i32.atomic.rmw16.xor_u` (opcode 0xFE 61), an atomic instruction of the threads proposal
+    /// that sets a number in a memory to its bitwise exclusive or with an operand, and returns the
+    /// old value.
     I32AtomicRmw16XorU(MemArg),
+    /// `i64.atomic.rmw8.xor_u` (opcode 0xFE 62), an atomic instruction of the threads proposal that
+    /// sets a number in a memory to its bitwise exclusive or with an operand, and returns the old
+    /// value.
     I64AtomicRmw8XorU(MemArg),
+    /// `i64.atomic.rmw16.xor_u` (opcode 0xFE 63), an atomic instruction of the threads proposal
+    /// that sets a number in a memory to its bitwise exclusive or with an operand, and returns the
+    /// old value.
     I64AtomicRmw16XorU(MemArg),
+    /// `i64.atomic.rmw32.xor_u` (opcode 0xFE 64), an atomic instruction of the threads proposal
+    /// that sets a number in a memory to its bitwise exclusive or with an operand, and returns the
+    /// old value.
     I64AtomicRmw32XorU(MemArg),
+    /// `i32.atomic.rmw.xchg` (opcode 0xFE 65), an atomic instruction of the threads proposal that
+    /// replaces a number in a memory, and returns the old value.
     I32AtomicRmwXchg(MemArg),
+    /// `i64.atomic.rmw.xchg` (opcode 0xFE 66), an atomic instruction of the threads proposal that
+    /// replaces a number in a memory, and returns the old value.
     I64AtomicRmwXchg(MemArg),
+    /// `i32.atomic.rmw8.xchg_u` (opcode 0xFE 67), an atomic instruction of the threads proposal
+    /// that replaces a number in a memory, and returns the old value.
     I32AtomicRmw8XchgU(MemArg),
+    /// `i32.atomic.rmw16.xchg_u` (opcode 0xFE 68), an atomic instruction of the threads proposal
+    /// that replaces a number in a memory, and returns the old value.
     I32AtomicRmw16XchgU(MemArg),
+    /// `i64.atomic.rmw8.xchg_u` (opcode 0xFE 69), an atomic instruction of the threads proposal
+    /// that replaces a number in a memory, and returns the old value.
     I64AtomicRmw8XchgU(MemArg),
+    /// `i64.atomic.rmw16.xchg_u` (opcode 0xFE 70), an atomic instruction of the threads proposal
+    /// that replaces a number in a memory, and returns the old value.
     I64AtomicRmw16XchgU(MemArg),
+    /// `i64.atomic.rmw32.xchg_u` (opcode 0xFE 71), an atomic instruction of the threads proposal
+    /// that replaces a number in a memory, and returns the old value.
     I64AtomicRmw32XchgU(MemArg),
+    /// `i32.atomic.rmw.cmpxchg` (opcode 0xFE 72), an atomic instruction of the threads proposal
+    /// that replaces a number in a memory if it has the expected value, and returns the old value.
     I32AtomicRmwCmpxchg(MemArg),
+    /// `i64.atomic.rmw.cmpxchg` (opcode 0xFE 73), an atomic instruction of the threads proposal
+    /// that replaces a number in a memory if it has the expected value, and returns the old value.
     I64AtomicRmwCmpxchg(MemArg),
+    /// `i32.atomic.rmw8.cmpxchg_u` (opcode 0xFE 74), an atomic instruction of the threads proposal
+    /// that replaces a number in a memory if it has the expected value, and returns the old value.
     I32AtomicRmw8CmpxchgU(MemArg),
+    /// `i32.atomic.rmw16.cmpxchg_u` (opcode 0xFE 75), an atomic instruction of the threads proposal
+    /// that replaces a number in a memory if it has the expected value, and returns the old value.
     I32AtomicRmw16CmpxchgU(MemArg),
+    /// `i64.atomic.rmw8.cmpxchg_u` (opcode 0xFE 76), an atomic instruction of the threads proposal
+    /// that replaces a number in a memory if it has the expected value, and returns the old value.
     I64AtomicRmw8CmpxchgU(MemArg),
+    /// `i64.atomic.rmw16.cmpxchg_u` (opcode 0xFE 77), an atomic instruction of the threads proposal
+    /// that replaces a number in a memory if it has the expected value, and returns the old value.
     I64AtomicRmw16CmpxchgU(MemArg),
+    /// `i64.atomic.rmw32.cmpxchg_u` (opcode 0xFE 78), an atomic instruction of the threads proposal
+    /// that replaces a number in a memory if it has the expected value, and returns the old value.
     I64AtomicRmw32CmpxchgU(MemArg),
+    /// `global.atomic.get` (opcode 0xFE 79), an instruction of the shared-everything threads
+    /// proposal that reads a global.
     GlobalAtomicGet {
+        /// The ordering of the access.
         ordering: Ordering,
+        /// The index of the global.
         global_index: u32,
     },
+    /// `global.atomic.set` (opcode 0xFE 80), an instruction of the shared-everything threads
+    /// proposal that writes a global.
     GlobalAtomicSet {
+        /// The ordering of the access.
         ordering: Ordering,
+        /// The index of the global.
         global_index: u32,
     },
+    /// `global.atomic.rmw.add` (opcode 0xFE 81), an instruction of the shared-everything threads
+    /// proposal that adds to a global, and returns the old value.
     GlobalAtomicRmwAdd {
+        /// The ordering of the access.
         ordering: Ordering,
+        /// The index of the global.
         global_index: u32,
     },
+    /// `global.atomic.rmw.sub` (opcode 0xFE 82), an instruction of the shared-everything threads
+    /// proposal that subtracts from a global, and returns the old value.
     GlobalAtomicRmwSub {
+        /// The ordering of the access.
         ordering: Ordering,
+        /// The index of the global.
         global_index: u32,
     },
+    /// `global.atomic.rmw.and` (opcode 0xFE 83), an instruction of the shared-everything threads
+    /// proposal that sets a global to its bitwise and with an operand, and returns the old value.
     GlobalAtomicRmwAnd {
+        /// The ordering of the access.
         ordering: Ordering,
+        /// The index of the global.
         global_index: u32,
     },
+    /// `global.atomic.rmw.or` (opcode 0xFE 84), an instruction of the shared-everything threads
+    /// proposal that sets a global to its bitwise or with an operand, and returns the old value.
     GlobalAtomicRmwOr {
+        /// The ordering of the access.
         ordering: Ordering,
+        /// The index of the global.
         global_index: u32,
     },
+    /// `global.atomic.rmw.xor` (opcode 0xFE 85), an instruction of the shared-everything threads
+    /// proposal that sets a global to its bitwise exclusive or with an operand, and returns the old
+    /// value.
     GlobalAtomicRmwXor {
+        /// The ordering of the access.
         ordering: Ordering,
+        /// The index of the global.
         global_index: u32,
     },
+    /// `global.atomic.rmw.xchg` (opcode 0xFE 86), an instruction of the shared-everything threads
+    /// proposal that replaces a global, and returns the old value.
     GlobalAtomicRmwXchg {
+        /// The ordering of the access.
         ordering: Ordering,
+        /// The index of the global.
         global_index: u32,
     },
+    /// `global.atomic.rmw.cmpxchg` (opcode 0xFE 87), an instruction of the shared-everything
+    /// threads proposal that replaces a global if it has the expected value, and returns the old
+    /// value.
     GlobalAtomicRmwCmpxchg {
+        /// The ordering of the access.
         ordering: Ordering,
+        /// The index of the global.
         global_index: u32,
     },
+    /// `table.atomic.get` (opcode 0xFE 88), an instruction of the shared-everything threads
+    /// proposal that reads an element of a table.
     TableAtomicGet {
+        /// The ordering of the access.
         ordering: Ordering,
+        /// The index of the table.
         table_index: u32,
     },
+    /// `table.atomic.set` (opcode 0xFE 89), an instruction of the shared-everything threads
+    /// proposal that writes an element of a table.
     TableAtomicSet {
+        /// The ordering of the access.
         ordering: Ordering,
+        /// The index of the table.
         table_index: u32,
     },
+    /// `table.atomic.rmw.xchg` (opcode 0xFE 90), an instruction of the shared-everything threads
+    /// proposal that replaces an element of a table, and returns the old value.
     TableAtomicRmwXchg {
+        /// The ordering of the access.
         ordering: Ordering,
+        /// The index of the table.
         table_index: u32,
     },
+    /// `table.atomic.rmw.cmpxchg` (opcode 0xFE 91), an instruction of the shared-everything threads
+    /// proposal that replaces an element of a table if it has the expected value, and returns the
+    /// old value.
     TableAtomicRmwCmpxchg {
+        /// The ordering of the access.
         ordering: Ordering,
+        /// The index of the table.
         table_index: u32,
     },
+    /// `struct.atomic.get` (opcode 0xFE 92), an instruction of the shared-everything threads
+    /// proposal that reads a field of a structure.
     StructAtomicGet {
+        /// The ordering of the access.
         ordering: Ordering,
+        /// The index of the structure type.
         struct_type_index: u32,
+        /// The index of the field.
         field_index: u32,
     },
+    /// `struct.atomic.get_s` (opcode 0xFE 93), an instruction of the shared-everything threads
+    /// proposal that reads a field of a structure, sign-extended.
     StructAtomicGetS {
+        /// The ordering of the access.
         ordering: Ordering,
+        /// The index of the structure type.
         struct_type_index: u32,
+        /// The index of the field.
         field_index: u32,
     },
+    /// `struct.atomic.get_u` (opcode 0xFE 94), an instruction of the shared-everything threads
+    /// proposal that reads a field of a structure, zero-extended.
     StructAtomicGetU {
+        /// The ordering of the access.
         ordering: Ordering,
+        /// The index of the structure type.
         struct_type_index: u32,
+        /// The index of the field.
         field_index: u32,
     },
+    /// `struct.atomic.set` (opcode 0xFE 95), an instruction of the shared-everything threads
+    /// proposal that writes a field of a structure.
     StructAtomicSet {
+        /// The ordering of the access.
         ordering: Ordering,
+        /// The index of the structure type.
         struct_type_index: u32,
+        /// The index of the field.
         field_index: u32,
     },
+    /// `struct.atomic.rmw.add` (opcode 0xFE 96), an instruction of the shared-everything threads
+    /// proposal that adds to a field of a structure, and returns the old value.
     StructAtomicRmwAdd {
+        /// The ordering of the access.
         ordering: Ordering,
+        /// The index of the structure type.
         struct_type_index: u32,
+        /// The index of the field.
         field_index: u32,
     },
+    /// `struct.atomic.rmw.sub` (opcode 0xFE 97), an instruction of the shared-everything threads
+    /// proposal that subtracts from a field of a structure, and returns the old value.
     StructAtomicRmwSub {
+        /// The ordering of the access.
         ordering: Ordering,
+        /// The index of the structure type.
         struct_type_index: u32,
+        /// The index of the field.
         field_index: u32,
     },
+    /// `struct.atomic.rmw.and` (opcode 0xFE 98), an instruction of the shared-everything threads
+    /// proposal that sets a field of a structure to its bitwise and with an operand, and returns
+    /// the old value.
     StructAtomicRmwAnd {
+        /// The ordering of the access.
         ordering: Ordering,
+        /// The index of the structure type.
         struct_type_index: u32,
+        /// The index of the field.
         field_index: u32,
     },
+    /// `struct.atomic.rmw.or` (opcode 0xFE 99), an instruction of the shared-everything threads
+    /// proposal that sets a field of a structure to its bitwise or with an operand, and returns the
+    /// old value.
     StructAtomicRmwOr {
+        /// The ordering of the access.
         ordering: Ordering,
+        /// The index of the structure type.
         struct_type_index: u32,
+        /// The index of the field.
         field_index: u32,
     },
+    /// `struct.atomic.rmw.xor` (opcode 0xFE 100), an instruction of the shared-everything threads
+    /// proposal that sets a field of a structure to its bitwise exclusive or with an operand, and
+    /// returns the old value.
     StructAtomicRmwXor {
+        /// The ordering of the access.
         ordering: Ordering,
+        /// The index of the structure type.
         struct_type_index: u32,
+        /// The index of the field.
         field_index: u32,
     },
+    /// `struct.atomic.rmw.xchg` (opcode 0xFE 101), an instruction of the shared-everything threads
+    /// proposal that replaces a field of a structure, and returns the old value.
     StructAtomicRmwXchg {
+        /// The ordering of the access.
         ordering: Ordering,
+        /// The index of the structure type.
         struct_type_index: u32,
+        /// The index of the field.
         field_index: u32,
     },
+    /// `struct.atomic.rmw.cmpxchg` (opcode 0xFE 102), an instruction of the shared-everything
+    /// threads proposal that replaces a field of a structure if it has the expected value, and
+    /// returns the old value.
     StructAtomicRmwCmpxchg {
+        /// The ordering of the access.
         ordering: Ordering,
+        /// The index of the structure type.
         struct_type_index: u32,
+        /// The index of the field.
         field_index: u32,
     },
+    /// `array.atomic.get` (opcode 0xFE 103), an instruction of the shared-everything threads
+    /// proposal that reads an element of an array.
     ArrayAtomicGet {
+        /// The ordering of the access.
         ordering: Ordering,
+        /// The index of the array type.
         array_type_index: u32,
     },
+    /// `array.atomic.get_s` (opcode 0xFE 104), an instruction of the shared-everything threads
+    /// proposal that reads an element of an array, sign-extended.
     ArrayAtomicGetS {
+        /// The ordering of the access.
         ordering: Ordering,
+        /// The index of the array type.
         array_type_index: u32,
     },
+    /// `array.atomic.get_u` (opcode 0xFE 105), an instruction of the shared-everything threads
+    /// proposal that reads an element of an array, zero-extended.
     ArrayAtomicGetU {
+        /// The ordering of the access.
         ordering: Ordering,
+        /// The index of the array type.
         array_type_index: u32,
     },
+    /// `array.atomic.set` (opcode 0xFE 106), an instruction of the shared-everything threads
+    /// proposal that writes an element of an array.
     ArrayAtomicSet {
+        /// The ordering of the access.
         ordering: Ordering,
+        /// The index of the array type.
         array_type_index: u32,
     },
+    /// `array.atomic.rmw.add` (opcode 0xFE 107), an instruction of the shared-everything threads
+    /// proposal that adds to an element of an array, and returns the old value.
     ArrayAtomicRmwAdd {
+        /// The ordering of the access.
         ordering: Ordering,
+        /// The index of the array type.
         array_type_index: u32,
     },
+    /// `array.atomic.rmw.sub` (opcode 0xFE 108), an instruction of the shared-everything threads
+    /// proposal that subtracts from an element of an array, and returns the old value.
     ArrayAtomicRmwSub {
+        /// The ordering of the access.
         ordering: Ordering,
+        /// The index of the array type.
         array_type_index: u32,
     },
+    /// `array.atomic.rmw.and` (opcode 0xFE 109), an instruction of the shared-everything threads
+    /// proposal that sets an element of an array to its bitwise and with an operand, and returns
+    /// the old value.
     ArrayAtomicRmwAnd {
+        /// The ordering of the access.
         ordering: Ordering,
+        /// The index of the array type.
         array_type_index: u32,
     },
+    /// `array.atomic.rmw.or` (opcode 0xFE 110), an instruction of the shared-everything threads
+    /// proposal that sets an element of an array to its bitwise or with an operand, and returns the
+    /// old value.
     ArrayAtomicRmwOr {
+        /// The ordering of the access.
         ordering: Ordering,
+        /// The index of the array type.
         array_type_index: u32,
     },
+    /// `array.atomic.rmw.xor` (opcode 0xFE 111), an instruction of the shared-everything threads
+    /// proposal that sets an element of an array to its bitwise exclusive or with an operand, and
+    /// returns the old value.
     ArrayAtomicRmwXor {
+        /// The ordering of the access.
         ordering: Ordering,
+        /// The index of the array type.
         array_type_index: u32,
     },
+    /// `array.atomic.rmw.xchg` (opcode 0xFE 112), an instruction of the shared-everything threads
+    /// proposal that replaces an element of an array, and returns the old value.
     ArrayAtomicRmwXchg {
+        /// The ordering of the access.
         ordering: Ordering,
+        /// The index of the array type.
         array_type_index: u32,
     },
+    /// `array.atomic.rmw.cmpxchg` (opcode 0xFE 113), an instruction of the shared-everything
+    /// threads proposal that replaces an element of an array if it has the expected value, and
+    /// returns the old value.
     ArrayAtomicRmwCmpxchg {
+        /// The ordering of the access.
         ordering: Ordering,
+        /// The index of the array type.
         array_type_index: u32,
     },
+    /// `ref.i31_shared` (opcode 0xFE 114), an instruction of the shared-everything threads proposal
+    /// that makes a reference of the lower 31 bits of an integer.
     RefI31Shared,
 }
 
@@ -354,6 +679,8 @@ impl Atomic {
     /// Appends the immediates.
     ///
     /// # Proved
+    ///
+    /// The call appends the encoding, or returns an error and leaves the bytes as they were. If the value fits, the call never returns `TooLong`, and it succeeds within the spare capacity.
     ///
     /// ```text
     /// ensures { Appends (arguments_encoding (atomic_row self).arguments)
@@ -588,7 +915,11 @@ impl Atomic {
 
 /// The instructions without fields, by their names on `Instruction`.
 impl Instruction<'static> {
+    /// `pause` (opcode 0xFE 4), an instruction of the shared-everything threads proposal that hints
+    /// that the thread waits in a loop.
     pub const Pause: Self = Instruction::Atomic(Atomic::Pause);
 
+    /// `ref.i31_shared` (opcode 0xFE 114), an instruction of the shared-everything threads proposal
+    /// that makes a reference of the lower 31 bits of an integer.
     pub const RefI31Shared: Self = Instruction::Atomic(Atomic::RefI31Shared);
 }

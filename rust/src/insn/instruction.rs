@@ -19,208 +19,466 @@ use crate::immediates::{BlockType, Catch, Handle, Ieee32, Ieee64, MemArg};
 /// One-byte instructions outside 45 to C4 (hexadecimal), and those with fields of the prefixes FB
 /// and FC, are cases of their own. The others are in an enum for each group of opcodes. Those
 /// without fields also have a constant here, such as `Instruction::I32Add`.
+///
+/// [`Function::instruction`](crate::fallible::Function::instruction) appends one.
+/// [`InstructionSink`](crate::fallible::InstructionSink) has calls for the most common ones.
+///
+/// # Examples
+///
+/// ```
+/// use dolzhytik::fallible::{CowSlice, Encode, Instruction, Refused};
+///
+/// let table: Instruction = Instruction::BrTable(CowSlice::Borrowed(&[0, 0]), 0);
+/// let mut bytes = Vec::new();
+/// for instruction in [Instruction::I32Const(-1), Instruction::I32Add, table] {
+///     instruction.encode(&mut bytes)?;
+/// }
+/// // i32.const: 41 and -1 as signed LEB128. i32.add: 6A. br_table: 0E, two labels, the
+/// // default one.
+/// assert_eq!(bytes, [0x41, 0x7F, 0x6A, 0x0E, 2, 0, 0, 0]);
+/// # Ok::<(), Refused>(())
+/// ```
 pub enum Instruction<'a, A: Allocator = Global> {
+    /// `unreachable` (opcode 0x00), a control instruction that traps.
     Unreachable,
+    /// `nop` (opcode 0x01), a control instruction that does nothing.
     Nop,
+    /// `block` (opcode 0x02), a control instruction that begins a block, with its label at the end.
     Block(BlockType),
+    /// `loop` (opcode 0x03), a control instruction that begins a block, with its label at the
+    /// start.
     Loop(BlockType),
+    /// `if` (opcode 0x04), a control instruction that begins a block that is executed if the
+    /// operand is not zero.
     If(BlockType),
+    /// `else` (opcode 0x05), a delimiter of control instructions that begins the branch of an `if`
+    /// for zero.
     Else,
+    /// `try` (opcode 0x06), a control instruction of the legacy exception handling proposal that
+    /// begins a block with handlers of exceptions.
     Try(BlockType),
+    /// `catch` (opcode 0x07), a control instruction of the legacy exception handling proposal that
+    /// begins the handler of exceptions with a tag.
     Catch(u32),
+    /// `throw` (opcode 0x08), a control instruction that throws an exception with a tag.
     Throw(u32),
+    /// `rethrow` (opcode 0x09), a control instruction of the legacy exception handling proposal
+    /// that throws a caught exception again.
     Rethrow(u32),
+    /// `throw_ref` (opcode 0x0A), a control instruction that throws the exception of a reference.
     ThrowRef,
+    /// `end` (opcode 0x0B), a delimiter of control instructions and expressions that ends a block,
+    /// a body or a constant expression.
     End,
+    /// `br` (opcode 0x0C), a control instruction that branches to a label.
     Br(u32),
+    /// `br_if` (opcode 0x0D), a control instruction that branches to a label if the operand is not
+    /// zero.
     BrIf(u32),
+    /// `br_table` (opcode 0x0E), a control instruction that branches to one of several labels,
+    /// selected by an index.
     BrTable(CowSlice<'a, u32, A>, u32),
+    /// `return` (opcode 0x0F), a control instruction that returns from the function.
     Return,
+    /// `call` (opcode 0x10), a control instruction that calls a function.
     Call(u32),
+    /// `call_indirect` (opcode 0x11), a control instruction that calls a function of a table.
     CallIndirect {
+        /// The index of the function type.
         type_index: u32,
+        /// The index of the table.
         table_index: u32,
     },
+    /// `return_call` (opcode 0x12), a control instruction that calls a function, and returns its
+    /// results.
     ReturnCall(u32),
+    /// `return_call_indirect` (opcode 0x13), a control instruction that calls a function of a
+    /// table, and returns its results.
     ReturnCallIndirect {
+        /// The index of the function type.
         type_index: u32,
+        /// The index of the table.
         table_index: u32,
     },
+    /// `call_ref` (opcode 0x14), a control instruction that calls the function of a reference.
     CallRef(u32),
+    /// `return_call_ref` (opcode 0x15), a control instruction that calls the function of a
+    /// reference, and returns its results.
     ReturnCallRef(u32),
+    /// `delegate` (opcode 0x18), a control instruction of the legacy exception handling proposal
+    /// that ends a `try`, and passes its exceptions to an outer block.
     Delegate(u32),
+    /// `catch_all` (opcode 0x19), a control instruction of the legacy exception handling proposal
+    /// that begins the handler of all exceptions.
     CatchAll,
+    /// `drop` (opcode 0x1A), a parametric instruction that drops a value.
     Drop,
+    /// `select` (opcode 0x1B), a parametric instruction that selects one of two values by a
+    /// condition.
     Select,
+    /// `select (result t)` (opcode 0x1C), a parametric instruction that selects one of two values
+    /// by a condition.
     TypedSelect(ValType),
+    /// `select (result t*)` (opcode 0x1C), a parametric instruction that selects one of two values
+    /// by a condition.
     TypedSelectMulti(CowSlice<'a, ValType, A>),
+    /// `try_table` (opcode 0x1F), a control instruction that begins a block with catch clauses.
     TryTable(BlockType, CowSlice<'a, Catch, A>),
+    /// `local.get` (opcode 0x20), a variable instruction that reads a local.
     LocalGet(u32),
+    /// `local.set` (opcode 0x21), a variable instruction that writes a local.
     LocalSet(u32),
+    /// `local.tee` (opcode 0x22), a variable instruction that writes a local, and keeps the value.
     LocalTee(u32),
+    /// `global.get` (opcode 0x23), a variable instruction that reads a global.
     GlobalGet(u32),
+    /// `global.set` (opcode 0x24), a variable instruction that writes a global.
     GlobalSet(u32),
+    /// `table.get` (opcode 0x25), a table instruction that reads an element of a table.
     TableGet(u32),
+    /// `table.set` (opcode 0x26), a table instruction that writes an element of a table.
     TableSet(u32),
+    /// `i32.load` (opcode 0x28), a memory instruction that loads a number from a memory.
     I32Load(MemArg),
+    /// `i64.load` (opcode 0x29), a memory instruction that loads a number from a memory.
     I64Load(MemArg),
+    /// `f32.load` (opcode 0x2A), a memory instruction that loads a number from a memory.
     F32Load(MemArg),
+    /// `f64.load` (opcode 0x2B), a memory instruction that loads a number from a memory.
     F64Load(MemArg),
+    /// `i32.load8_s` (opcode 0x2C), a memory instruction that loads a number from a memory.
     I32Load8S(MemArg),
+    /// `i32.load8_u` (opcode 0x2D), a memory instruction that loads a number from a memory.
     I32Load8U(MemArg),
+    /// `i32.load16_s` (opcode 0x2E), a memory instruction that loads a number from a memory.
     I32Load16S(MemArg),
+    /// `i32.load16_u` (opcode 0x2F), a memory instruction that loads a number from a memory.
     I32Load16U(MemArg),
+    /// `i64.load8_s` (opcode 0x30), a memory instruction that loads a number from a memory.
     I64Load8S(MemArg),
+    /// `i64.load8_u` (opcode 0x31), a memory instruction that loads a number from a memory.
     I64Load8U(MemArg),
+    /// `i64.load16_s` (opcode 0x32), a memory instruction that loads a number from a memory.
     I64Load16S(MemArg),
+    /// `i64.load16_u` (opcode 0x33), a memory instruction that loads a number from a memory.
     I64Load16U(MemArg),
+    /// `i64.load32_s` (opcode 0x34), a memory instruction that loads a number from a memory.
     I64Load32S(MemArg),
+    /// `i64.load32_u` (opcode 0x35), a memory instruction that loads a number from a memory.
     I64Load32U(MemArg),
+    /// `i32.store` (opcode 0x36), a memory instruction that stores a number to a memory.
     I32Store(MemArg),
+    /// `i64.store` (opcode 0x37), a memory instruction that stores a number to a memory.
     I64Store(MemArg),
+    /// `f32.store` (opcode 0x38), a memory instruction that stores a number to a memory.
     F32Store(MemArg),
+    /// `f64.store` (opcode 0x39), a memory instruction that stores a number to a memory.
     F64Store(MemArg),
+    /// `i32.store8` (opcode 0x3A), a memory instruction that stores a number to a memory.
     I32Store8(MemArg),
+    /// `i32.store16` (opcode 0x3B), a memory instruction that stores a number to a memory.
     I32Store16(MemArg),
+    /// `i64.store8` (opcode 0x3C), a memory instruction that stores a number to a memory.
     I64Store8(MemArg),
+    /// `i64.store16` (opcode 0x3D), a memory instruction that stores a number to a memory.
     I64Store16(MemArg),
+    /// `i64.store32` (opcode 0x3E), a memory instruction that stores a number to a memory.
     I64Store32(MemArg),
+    /// `memory.size` (opcode 0x3F), a memory instruction that returns the size of a memory in
+    /// pages.
     MemorySize(u32),
+    /// `memory.grow` (opcode 0x40), a memory instruction that grows a memory by a number of pages.
     MemoryGrow(u32),
+    /// `i32.const` (opcode 0x41), a numeric instruction that returns a constant.
     I32Const(i32),
+    /// `i64.const` (opcode 0x42), a numeric instruction that returns a constant.
     I64Const(i64),
+    /// `f32.const` (opcode 0x43), a numeric instruction that returns a constant.
     F32Const(Ieee32),
+    /// `f64.const` (opcode 0x44), a numeric instruction that returns a constant.
     F64Const(Ieee64),
+    /// `ref.null` (opcode 0xD0), a reference instruction that returns a null reference.
     RefNull(HeapType),
+    /// `ref.is_null` (opcode 0xD1), a reference instruction that tests whether a reference is null.
     RefIsNull,
+    /// `ref.func` (opcode 0xD2), a reference instruction that returns a reference to a function.
     RefFunc(u32),
+    /// `ref.eq` (opcode 0xD3), a reference instruction that compares two references.
     RefEq,
+    /// `ref.as_non_null` (opcode 0xD4), a reference instruction that traps if a reference is null.
     RefAsNonNull,
+    /// `br_on_null` (opcode 0xD5), a control instruction that branches to a label if a reference is
+    /// null.
     BrOnNull(u32),
+    /// `br_on_non_null` (opcode 0xD6), a control instruction that branches to a label if a
+    /// reference is not null.
     BrOnNonNull(u32),
+    /// `cont.new` (opcode 0xE0), a control instruction of the stack switching proposal that makes a
+    /// continuation of a function.
     ContNew(u32),
+    /// `cont.bind` (opcode 0xE1), a control instruction of the stack switching proposal that binds
+    /// arguments to a continuation.
     ContBind {
+        /// The index of the type of the bound continuation.
         argument_index: u32,
+        /// The index of the type of the resulting continuation.
         result_index: u32,
     },
+    /// `suspend` (opcode 0xE2), a control instruction of the stack switching proposal that suspends
+    /// the current continuation with a tag.
     Suspend(u32),
+    /// `resume` (opcode 0xE3), a control instruction of the stack switching proposal that resumes a
+    /// continuation.
     Resume {
+        /// The index of the continuation type.
         cont_type_index: u32,
+        /// The handlers.
         resume_table: CowSlice<'a, Handle, A>,
     },
+    /// `resume_throw` (opcode 0xE4), a control instruction of the stack switching proposal that
+    /// resumes a continuation by throwing an exception in it.
     ResumeThrow {
+        /// The index of the continuation type.
         cont_type_index: u32,
+        /// The index of the tag.
         tag_index: u32,
+        /// The handlers.
         resume_table: CowSlice<'a, Handle, A>,
     },
+    /// `resume_throw_ref` (opcode 0xE5), a control instruction of the stack switching proposal that
+    /// resumes a continuation by throwing an exception in it.
     ResumeThrowRef {
+        /// The index of the continuation type.
         cont_type_index: u32,
+        /// The handlers.
         resume_table: CowSlice<'a, Handle, A>,
     },
+    /// `switch` (opcode 0xE6), a control instruction of the stack switching proposal that switches
+    /// to another continuation.
     Switch {
+        /// The index of the continuation type.
         cont_type_index: u32,
+        /// The index of the tag.
         tag_index: u32,
     },
+    /// `struct.new` (opcode 0xFB 0), an aggregate instruction that makes a structure of given
+    /// values.
     StructNew(u32),
+    /// `struct.new_default` (opcode 0xFB 1), an aggregate instruction that makes a structure of
+    /// default values.
     StructNewDefault(u32),
+    /// `struct.get` (opcode 0xFB 2), an aggregate instruction that reads a field of a structure.
     StructGet {
+        /// The index of the structure type.
         struct_type_index: u32,
+        /// The index of the field.
         field_index: u32,
     },
+    /// `struct.get_s` (opcode 0xFB 3), an aggregate instruction that reads a field of a structure,
+    /// sign-extended.
     StructGetS {
+        /// The index of the structure type.
         struct_type_index: u32,
+        /// The index of the field.
         field_index: u32,
     },
+    /// `struct.get_u` (opcode 0xFB 4), an aggregate instruction that reads a field of a structure,
+    /// zero-extended.
     StructGetU {
+        /// The index of the structure type.
         struct_type_index: u32,
+        /// The index of the field.
         field_index: u32,
     },
+    /// `struct.set` (opcode 0xFB 5), an aggregate instruction that writes a field of a structure.
     StructSet {
+        /// The index of the structure type.
         struct_type_index: u32,
+        /// The index of the field.
         field_index: u32,
     },
+    /// `array.new` (opcode 0xFB 6), an aggregate instruction that makes an array with one value in
+    /// each element.
     ArrayNew(u32),
+    /// `array.new_default` (opcode 0xFB 7), an aggregate instruction that makes an array of default
+    /// values.
     ArrayNewDefault(u32),
+    /// `array.new_fixed` (opcode 0xFB 8), an aggregate instruction that makes an array of operands.
     ArrayNewFixed {
+        /// The index of the array type.
         array_type_index: u32,
+        /// The number of elements.
         array_size: u32,
     },
+    /// `array.new_data` (opcode 0xFB 9), an aggregate instruction that makes an array of the bytes
+    /// of a data segment.
     ArrayNewData {
+        /// The index of the array type.
         array_type_index: u32,
+        /// The index of the data segment.
         array_data_index: u32,
     },
+    /// `array.new_elem` (opcode 0xFB 10), an aggregate instruction that makes an array of the
+    /// references of an element segment.
     ArrayNewElem {
+        /// The index of the array type.
         array_type_index: u32,
+        /// The index of the element segment.
         array_elem_index: u32,
     },
+    /// `array.get` (opcode 0xFB 11), an aggregate instruction that reads an element of an array.
     ArrayGet(u32),
+    /// `array.get_s` (opcode 0xFB 12), an aggregate instruction that reads an element of an array,
+    /// sign-extended.
     ArrayGetS(u32),
+    /// `array.get_u` (opcode 0xFB 13), an aggregate instruction that reads an element of an array,
+    /// zero-extended.
     ArrayGetU(u32),
+    /// `array.set` (opcode 0xFB 14), an aggregate instruction that writes an element of an array.
     ArraySet(u32),
+    /// `array.fill` (opcode 0xFB 16), an aggregate instruction that sets elements of an array to
+    /// one value.
     ArrayFill(u32),
+    /// `array.copy` (opcode 0xFB 17), an aggregate instruction that copies elements from one array
+    /// to another.
     ArrayCopy {
+        /// The index of the type of the destination.
         array_type_index_dst: u32,
+        /// The index of the type of the source.
         array_type_index_src: u32,
     },
+    /// `array.init_data` (opcode 0xFB 18), an aggregate instruction that copies bytes of a data
+    /// segment to an array.
     ArrayInitData {
+        /// The index of the array type.
         array_type_index: u32,
+        /// The index of the data segment.
         array_data_index: u32,
     },
+    /// `array.init_elem` (opcode 0xFB 19), an aggregate instruction that copies references of an
+    /// element segment to an array.
     ArrayInitElem {
+        /// The index of the array type.
         array_type_index: u32,
+        /// The index of the element segment.
         array_elem_index: u32,
     },
+    /// `ref.test (ref ht)` (opcode 0xFB 20), a reference instruction that tests whether a reference
+    /// has a type.
     RefTestNonNull(HeapType),
+    /// `ref.test (ref null ht)` (opcode 0xFB 21), a reference instruction that tests whether a
+    /// reference has a type.
     RefTestNullable(HeapType),
+    /// `ref.cast (ref ht)` (opcode 0xFB 22), a reference instruction that casts a reference to a
+    /// type, or traps.
     RefCastNonNull(HeapType),
+    /// `ref.cast (ref null ht)` (opcode 0xFB 23), a reference instruction that casts a reference to
+    /// a type, or traps.
     RefCastNullable(HeapType),
+    /// `br_on_cast` (opcode 0xFB 24), a control instruction that branches to a label if a reference
+    /// has a type.
     BrOnCast {
+        /// The label of the branch.
         relative_depth: u32,
+        /// The type of the operand.
         from_ref_type: RefType,
+        /// The type that the operand is cast to.
         to_ref_type: RefType,
     },
+    /// `br_on_cast_fail` (opcode 0xFB 25), a control instruction that branches to a label if a
+    /// reference does not have a type.
     BrOnCastFail {
+        /// The label of the branch.
         relative_depth: u32,
+        /// The type of the operand.
         from_ref_type: RefType,
+        /// The type that the operand is cast to.
         to_ref_type: RefType,
     },
+    /// `struct.new_desc` (opcode 0xFB 32), an instruction of the custom descriptors proposal that
+    /// makes a structure of given values, with a descriptor.
     StructNewDesc(u32),
+    /// `struct.new_default_desc` (opcode 0xFB 33), an instruction of the custom descriptors
+    /// proposal that makes a structure of default values, with a descriptor.
     StructNewDefaultDesc(u32),
+    /// `ref.get_desc` (opcode 0xFB 34), an instruction of the custom descriptors proposal that
+    /// reads the descriptor of a structure.
     RefGetDesc(u32),
+    /// `ref.cast_desc_eq (ref ht)` (opcode 0xFB 35), an instruction of the custom descriptors
+    /// proposal that casts a reference that has the given descriptor, or traps.
     RefCastDescEqNonNull(HeapType),
+    /// `ref.cast_desc_eq (ref null ht)` (opcode 0xFB 36), an instruction of the custom descriptors
+    /// proposal that casts a reference that has the given descriptor, or traps.
     RefCastDescEqNullable(HeapType),
+    /// `br_on_cast_desc_eq` (opcode 0xFB 37), an instruction of the custom descriptors proposal
+    /// that branches to a label if a reference has the given descriptor.
     BrOnCastDescEq {
+        /// The label of the branch.
         relative_depth: u32,
+        /// The type of the operand.
         from_ref_type: RefType,
+        /// The type that the operand is cast to.
         to_ref_type: RefType,
     },
+    /// `br_on_cast_desc_eq_fail` (opcode 0xFB 38), an instruction of the custom descriptors
+    /// proposal that branches to a label if a reference does not have the given descriptor.
     BrOnCastDescEqFail {
+        /// The label of the branch.
         relative_depth: u32,
+        /// The type of the operand.
         from_ref_type: RefType,
+        /// The type that the operand is cast to.
         to_ref_type: RefType,
     },
+    /// `memory.init` (opcode 0xFC 8), a memory instruction that copies bytes of a data segment to a
+    /// memory.
     MemoryInit {
+        /// The index of the data segment.
         data_index: u32,
+        /// The index of the memory.
         mem: u32,
     },
+    /// `data.drop` (opcode 0xFC 9), a memory instruction that drops a data segment.
     DataDrop(u32),
+    /// `memory.copy` (opcode 0xFC 10), a memory instruction that copies bytes from one memory to
+    /// another.
     MemoryCopy {
+        /// The index of the destination memory.
         dst_mem: u32,
+        /// The index of the source memory.
         src_mem: u32,
     },
+    /// `memory.fill` (opcode 0xFC 11), a memory instruction that sets bytes of a memory to one
+    /// value.
     MemoryFill(u32),
+    /// `table.init` (opcode 0xFC 12), a table instruction that copies elements of an element
+    /// segment to a table.
     TableInit {
+        /// The index of the element segment.
         elem_index: u32,
+        /// The index of the table.
         table: u32,
     },
+    /// `elem.drop` (opcode 0xFC 13), a table instruction that drops an element segment.
     ElemDrop(u32),
+    /// `table.copy` (opcode 0xFC 14), a table instruction that copies elements from one table to
+    /// another.
     TableCopy {
+        /// The index of the destination table.
         dst_table: u32,
+        /// The index of the source table.
         src_table: u32,
     },
+    /// `table.grow` (opcode 0xFC 15), a table instruction that grows a table.
     TableGrow(u32),
+    /// `table.size` (opcode 0xFC 16), a table instruction that returns the number of elements of a
+    /// table.
     TableSize(u32),
+    /// `table.fill` (opcode 0xFC 17), a table instruction that sets elements of a table to a
+    /// reference.
     TableFill(u32),
+    /// `memory.discard` (opcode 0xFC 18), a memory instruction of the memory control proposal that
+    /// discards pages of a memory.
     MemoryDiscard(u32),
     /// Numeric instructions, the ops 45 to C4.
     Numeric(Numeric),
@@ -256,6 +514,8 @@ fn cast_flag(from: RefType, to: RefType) -> u8 {
 ///
 /// # Proved
 ///
+/// The call appends the encoding, or returns an error and leaves the bytes as they were. If the value fits, the call never returns `TooLong`, and it succeeds within the spare capacity.
+///
 /// ```text
 /// ensures { Appends (vec_encoding unsigned_encoding labels.now
 ///         ++ unsigned_encoding default)
@@ -271,6 +531,8 @@ fn encode_labels<A: Sink>(labels: &[u32], default: u32, sink: &mut A) -> Result<
 /// Appends the type of a block, and its catch clauses.
 ///
 /// # Proved
+///
+/// The call appends the encoding, or returns an error and leaves the bytes as they were. If the value fits, the call never returns `TooLong`, and it succeeds within the spare capacity.
 ///
 /// ```text
 /// ensures { Appends (block_encoding block_type ++ vec_encoding catch_encoding catches.now)
@@ -291,6 +553,8 @@ fn encode_try_table<A: Sink>(
 ///
 /// # Proved
 ///
+/// The call appends the encoding, or returns an error and leaves the bytes as they were. If the value fits, the call never returns `TooLong`, and it succeeds within the spare capacity.
+///
 /// ```text
 /// ensures { Appends (unsigned_encoding index ++ vec_encoding handle_encoding handles.now)
 ///     (⊤ × IsEncodableVec (λ _. ⊤) handles.now) sink.old sink.new result }
@@ -305,6 +569,8 @@ fn encode_resume<A: Sink>(index: u32, handles: &[Handle], sink: &mut A) -> Resul
 /// Appends the indices of a type and of a tag, and handle clauses.
 ///
 /// # Proved
+///
+/// The call appends the encoding, or returns an error and leaves the bytes as they were. If the value fits, the call never returns `TooLong`, and it succeeds within the spare capacity.
 ///
 /// ```text
 /// ensures { Appends (unsigned_encoding index
@@ -326,6 +592,8 @@ fn encode_resume_throw<A: Sink>(
 /// Appends the flags, the label, and the two heap types of a cast.
 ///
 /// # Proved
+///
+/// The call appends the encoding, or returns an error and leaves the bytes as they were. If the value fits, the call never returns `TooLong`, and it succeeds within the spare capacity.
 ///
 /// ```text
 /// ensures { Appends (cast_flag_of from to ∷ []
@@ -491,6 +759,8 @@ impl<'a, A: Allocator> Instruction<'a, A> {
     /// Appends the immediates.
     ///
     /// # Proved
+    ///
+    /// The call appends the encoding, or returns an error and leaves the bytes as they were. If the value fits, the call never returns `TooLong`, and it succeeds within the spare capacity.
     ///
     /// ```text
     /// ensures { Appends (arguments_encoding (row_of self.now).arguments)
@@ -717,9 +987,13 @@ impl<'a, A: Allocator> Instruction<'a, A> {
 impl<'a, A: Allocator + Copy> Instruction<'a, A> {
     /// Returns a copy. Owned lists are copied with their own allocator.
     ///
+    /// # Errors
+    ///
+    /// Returns [`Memory`](crate::fallible::Refused::Memory) if an allocation fails.
+    ///
     /// # Proved
     ///
-    /// After `Ok`: `ok`. In any case: `err`.
+    /// After `Ok`: `ok`. In any case: `err`, no error is `TooLong`.
     ///
     /// ```text
     /// ensures ok { IfOk result (λ i. row_of i ≡ row_of self.now) }
@@ -779,7 +1053,7 @@ impl<'a, A: Allocator + Copy> Instruction<'a, A> {
     ///
     /// # Proved
     ///
-    /// After `Ok`: `ok`. In any case: `err`.
+    /// After `Ok`: `ok`. In any case: `err`, no error is `TooLong`.
     ///
     /// ```text
     /// ensures ok { IfOk result (λ i. row_of i ≡ row_of self.now) }
@@ -830,7 +1104,7 @@ impl<'a, A: Allocator + Copy> Instruction<'a, A> {
     ///
     /// # Proved
     ///
-    /// After `Ok`: `ok`. In any case: `err`.
+    /// After `Ok`: `ok`. In any case: `err`, no error is `TooLong`.
     ///
     /// ```text
     /// ensures ok { IfOk result (λ i. row_of i ≡ row_of self.now) }
@@ -898,7 +1172,7 @@ impl<'a, A: Allocator + Copy> Instruction<'a, A> {
     ///
     /// # Proved
     ///
-    /// After `Ok`: `ok`. In any case: `err`.
+    /// After `Ok`: `ok`. In any case: `err`, no error is `TooLong`.
     ///
     /// ```text
     /// ensures ok { IfOk result (λ i. row_of i ≡ row_of self.now) }
@@ -1041,7 +1315,7 @@ impl<'a, A: Allocator + Copy> Instruction<'a, A> {
     ///
     /// # Proved
     ///
-    /// After `Ok`: `ok`. In any case: `err`.
+    /// After `Ok`: `ok`. In any case: `err`, no error is `TooLong`.
     ///
     /// ```text
     /// ensures ok { IfOk result (λ i. row_of i ≡ row_of self.now) }

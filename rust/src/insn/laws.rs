@@ -17,6 +17,8 @@ use crate::alloc::Allocator;
 ///
 /// # Proved
 ///
+/// `unique`: A format whose encodings determine their own end is unambiguous in every mode, with encodings as `HasEncodings` states. `encodings`: Each value that fits has the minimal encoding `encoding x`. `table`: The table has 628 rows on 627 ops, in ascending order; two neighbours share an op, 1C, and no others do. `apart`: The opcodes are prefix-free: if two encodings begin the same bytes, they are of the same opcode.
+///
 /// ```text
 /// ensures unique { Unambiguous opcode }
 /// ensures encodings { HasMinimalEncodings opcode IsOpcode op_encoding }
@@ -59,6 +61,8 @@ pub fn cases<A: Allocator>() {}
 ///
 /// # Proved
 ///
+/// `unique`: A format whose encodings determine their own end is unambiguous in every mode, with encodings as `HasEncodings` states.
+///
 /// ```text
 /// ensures unique { Unambiguous (instruction table) }
 /// ensures plain { (i : Instruction A) → DecodesInstruction i }
@@ -71,6 +75,8 @@ pub fn instructions<A: Allocator>() {}
 /// With padded numbers the formats are unambiguous too.
 ///
 /// # Proved
+///
+/// `opcode`, `instruction`: With padding allowed a format is unambiguous, and it keeps every minimal encoding. `list`: As `UnambiguousPadded`, for a format that takes all of the bytes.
 ///
 /// ```text
 /// ensures opcode { UnambiguousPadded opcode }
@@ -85,6 +91,8 @@ pub fn padded() {}
 ///
 /// # Proved
 ///
+/// A format that takes all of the bytes is unambiguous in every mode, with encodings as `HasEncodings` states.
+///
 /// ```text
 /// ensures { UnambiguousWhole (members (instruction table)) }
 /// ```
@@ -96,6 +104,8 @@ pub fn lists() {}
 /// call that encodes it has promised the latter.
 ///
 /// # Proved
+///
+/// If its alignments are below 16 and its lists fit, the instruction is well-formed.
 ///
 /// ```text
 /// ensures { IsWellFormedWhereAligned instruction.now }

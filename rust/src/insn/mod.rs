@@ -29,15 +29,26 @@ mod vector_immediate;
 
 pub use aggregate::Aggregate;
 pub(crate) use arguments::Arg;
+#[doc(alias = "threads")]
 pub use atomic::Atomic;
+#[doc(alias = "opcode")]
+#[doc(alias = "operator")]
+#[doc(alias = "mnemonic")]
+#[doc(alias = "wat")]
+#[doc(alias = "assemble")]
 pub use instruction::Instruction;
 pub use numeric::Numeric;
 pub use op::{Op, Shape};
 pub use part::Part;
 pub(crate) use plain::{Plain, append_instruction, read_instruction_into};
 pub use prefixed_numeric::PrefixedNumeric;
-pub use sink::{Buffer, InstructionSink};
+pub use sink::Buffer;
+#[doc(alias = "assembler")]
+#[doc(alias = "emit")]
+pub use sink::InstructionSink;
+#[doc(alias = "simd")]
 pub use vector::Vector;
+#[doc(alias = "simd")]
 pub use vector_immediate::VectorImmediate;
 pub use crate::immediates::{
     BlockType, Catch, Handle, Ieee32, Ieee64, Lane, MemArg, MemArgOrdering, MemArgTarget, Ordering,

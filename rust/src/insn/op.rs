@@ -6,15 +6,49 @@ use crate::alloc::Allocator;
 use crate::base::{DecodeError, Encode, Grammar, Readable, Result};
 
 /// An opcode: a byte, or a prefix and a number.
+///
+/// [`Plain`](crate::reader::Plain) and [`Step`](crate::reader::Step) have one.
+///
+/// # Examples
+///
+/// ```
+/// use dolzhytik::fallible::{Encode, Op, Refused};
+///
+/// let mut bytes = Vec::new();
+/// Op::Byte(0x6A).encode(&mut bytes)?; // i32.add
+/// Op::Prefixed(0xFC, 10).encode(&mut bytes)?; // memory.copy
+/// assert_eq!(bytes, [0x6A, 0xFC, 10]);
+/// # Ok::<(), Refused>(())
+/// ```
 #[derive(Clone, Copy, PartialEq, Eq, Hash, Debug)]
 pub enum Op {
+    /// An opcode of one byte.
     Byte(u8),
+    /// A prefix, FB to FE, and a number, which is encoded as unsigned LEB128.
     Prefixed(u8, u32),
 }
 
 /// The list of immediates of an opcode.
+///
+/// [`Op::shape`](crate::fallible::Op::shape) returns it, and
+/// [`parts`](crate::fallible::Shape::parts) lists its immediates.
+///
+/// # Examples
+///
+/// ```
+/// use dolzhytik::fallible::{Op, Part, Shape};
+///
+/// // br_table: 0E, labels and the default label.
+/// assert_eq!(
+///     Op::Byte(0x0E).shape().map(Shape::parts),
+///     Some(&[Part::Labels, Part::Unsigned][..])
+/// );
+/// // No instruction has the opcode FF.
+/// assert_eq!(Op::Byte(0xFF).shape(), None);
+/// ```
 #[derive(Clone, Copy, PartialEq, Eq, Hash, Debug)]
 pub enum Shape {
+    /// No immediates.
     Nothing,
     /// A number.
     U,
@@ -86,7 +120,7 @@ impl Encode for Op {
 ///
 /// # Proved
 ///
-/// After `Ok`: `found`. After an error: `none`.
+/// After `Ok`: `found`, the bytes begin with an encoding of the value, and the returned bytes follow it. After an error: `none`, the bytes do not begin with such an encoding, unless the cause is `Memory`.
 ///
 /// ```text
 /// ensures found { IfOk result

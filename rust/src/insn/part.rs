@@ -4,6 +4,18 @@
 use crate::insn::op::Shape;
 
 /// The type of one immediate.
+///
+/// [`Shape::parts`](crate::fallible::Shape::parts) returns them.
+///
+/// # Examples
+///
+/// ```
+/// use dolzhytik::fallible::{Op, Part};
+///
+/// // i32.load: 28, a memory argument.
+/// let shape = Op::Byte(0x28).shape().unwrap();
+/// assert_eq!(shape.parts(), [Part::Memory]);
+/// ```
 #[derive(Clone, Copy, PartialEq, Eq, Hash, Debug)]
 pub enum Part {
     /// A number of 32 bits.

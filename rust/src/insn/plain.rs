@@ -9,9 +9,24 @@ use crate::base::{DecodeError, Encode, Grammar, Layout, ReadFault, Readable, Res
 
 /// An instruction in normal form: its opcode, and an argument for each immediate of the opcode's
 /// shape.
+///
+/// # Examples
+///
+/// ```
+/// use dolzhytik::fallible::{Global, Op};
+/// use dolzhytik::reader::{Arg, DecodeError, Padded, Plain, Readable};
+///
+/// let (plain, _) = <Plain as Readable<Global, Padded>>::read(&[0x41, 0x7F], Global)?;
+/// // i32.const -1.
+/// assert_eq!(plain.op, Op::Byte(0x41));
+/// assert!(matches!(plain.args[..], [Arg::S32(-1)]));
+/// # Ok::<(), DecodeError>(())
+/// ```
 #[derive(Debug)]
 pub struct Plain<A: Allocator = Global> {
+    /// The opcode.
     pub op: Op,
+    /// The immediates, in the order of their encoding.
     pub args: Vec<Arg<A>, A>,
 }
 
@@ -44,7 +59,7 @@ impl<'a, A: Allocator + Copy, G: Grammar> Readable<'a, A, G> for Plain<A> {
 ///
 /// # Proved
 ///
-/// After `Ok`: `found`. After an error: `none`.
+/// After `Ok`: `found`, the bytes begin with an encoding of the value, and the returned bytes follow it. After an error: `none`, the bytes do not begin with such an encoding, unless the cause is `Memory`.
 ///
 /// ```text
 /// ensures found { IfOk result
@@ -73,7 +88,7 @@ pub fn read_instruction_into<'a, A: Allocator + Copy, G: Grammar>(
 ///
 /// # Proved
 ///
-/// After `Ok`: `ok`. In any case: `front`, `too_long`.
+/// After `Ok`: `ok`, the sink gains the minimal encoding. In any case: `front`; `too_long`, a value that has an encoding never gives `TooLong`. `front`: The new bytes begin with the old ones.
 ///
 /// ```text
 /// ensures ok { OnOk result

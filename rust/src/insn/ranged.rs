@@ -423,6 +423,8 @@ fn each_ranged<T: Ranged>(items: &[T]) {
 ///
 /// # Proved
 ///
+/// Each immediate is well-formed.
+///
 /// ```text
 /// ensures { AreWellFormed (flag (cast_flag_of from to) ∷ unsigned label
 ///         ∷ heap from.heap_type ∷ heap to.heap_type ∷ []) }
@@ -437,6 +439,8 @@ fn cast_ranged(label: u32, from: RefType, to: RefType) {
 /// Proves that the immediates of an instruction are in range, if its alignments are.
 ///
 /// # Proved
+///
+/// If its alignments are below 16 and its lists fit, the instruction is well-formed.
 ///
 /// ```text
 /// ensures { IsWellFormedWhereAligned instruction.now }

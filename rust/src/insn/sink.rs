@@ -10,14 +10,27 @@ use crate::immediates::{BlockType, Ieee32, Ieee64, MemArg};
 
 /// A buffer to which instructions are appended.
 ///
+/// [`Function`](crate::fallible::Function) and every [`Sink`](crate::fallible::Sink) are
+/// buffers. [`InstructionSink::new`](crate::fallible::InstructionSink::new) takes one.
+///
+/// # Examples
+///
+/// ```
+/// use dolzhytik::fallible::{Buffer, Function, Global, Refused};
+///
+/// let mut body = Function::new(Global, [])?;
+/// body.append(&0x0B_u8)?; // end
+/// assert_eq!(body.into_raw_body()[..], [0, 0x0B]);
+/// # Ok::<(), Refused>(())
+/// ```
+///
 /// # Defined
 ///
 /// ```text
 /// // `written`: the bytes in the buffer.
 /// written: { Self → List ℕ }
 /// // `has_spare_capacity`: the buffer has spare capacity for this many bytes. A buffer may
-///     leave
-/// // this unspecified.
+/// // leave this unspecified.
 /// has_spare_capacity: { Self → ℕ → Type 0 } = { λ _ _. ⊥ }
 /// ```
 ///
@@ -25,7 +38,15 @@ use crate::immediates::{BlockType, Ieee32, Ieee64, MemArg};
 pub trait Buffer {
     /// Appends the encoding of the value. On an error, the bytes are unchanged.
     ///
+    /// # Errors
+    ///
+    /// Returns [`TooLong`](crate::fallible::Refused::TooLong) if a count or length would pass
+    /// 4294967295, and [`Memory`](crate::fallible::Refused::Memory) if an allocation fails. The
+    /// bytes of the sink are then unchanged.
+    ///
     /// # Proved
+    ///
+    /// The sink gains the encoding, or the call returns an error and leaves the bytes as they were. If the value fits, the call never returns `TooLong`, and it succeeds within the spare capacity.
     ///
     /// ```text
     /// ensures { Writes (E.encoding value.now) (E.encodable value.now)
@@ -40,7 +61,15 @@ pub trait Buffer {
     /// unchanged. If the length that the elements report exceeds 4294967295, the call returns
     /// `TooLong`; a `Vec` then requests no element, as tests show.
     ///
+    /// # Errors
+    ///
+    /// Returns [`TooLong`](crate::fallible::Refused::TooLong) if a count or length would pass
+    /// 4294967295, and [`Memory`](crate::fallible::Refused::Memory) if an allocation fails. The
+    /// bytes of the sink are then unchanged.
+    ///
     /// # Asks
+    ///
+    /// The iterator ends, and yields as many items as it reports.
     ///
     /// ```text
     /// requires { HasKnownLength V.into_iter_gives V.IntoIter.can_next V.IntoIter.next_gives
@@ -50,6 +79,8 @@ pub trait Buffer {
     /// Definitions: [`HasKnownLength`](crate::definitions::base::iterators::HasKnownLength). [How to read clauses](crate::definitions).
     ///
     /// # Proved
+    ///
+    /// The sink gains `before`, the vector of the items that the iterator yields, and `after`; or the call returns an error and changes nothing. More than 2^32 - 1 items give `TooLong`.
     ///
     /// ```text
     /// ensures { WritesVec V.into_iter_gives V.IntoIter.next_gives V.IntoIter.remaining
@@ -117,6 +148,26 @@ impl<A: Sink> Buffer for A {
 ///
 /// A call that fails leaves the buffer's bytes unchanged. The error is `TooLong` only if a list is
 /// too long.
+///
+/// [`Function::instructions`](crate::fallible::Function::instructions) returns one.
+/// [`InstructionSink`](crate::InstructionSink) of the root has a call for each instruction.
+///
+/// # Examples
+///
+/// ```
+/// use dolzhytik::fallible::{InstructionSink, Refused};
+///
+/// let mut bytes = Vec::new();
+/// let mut sink = InstructionSink::new(&mut bytes);
+/// sink.local_get(0)?;
+/// sink.i32_const(64)?;
+/// sink.i32_add()?;
+/// sink.end()?;
+/// // local.get 0: 20 00. i32.const 64: 41, and 64 as signed LEB128, C0 00. i32.add:
+/// // 6A. end: 0B.
+/// assert_eq!(bytes, [0x20, 0x00, 0x41, 0xC0, 0x00, 0x6A, 0x0B]);
+/// # Ok::<(), Refused>(())
+/// ```
 pub struct InstructionSink<'a, B: Buffer> {
     sink: &'a mut B,
 }
@@ -140,6 +191,8 @@ impl<'a, B: Buffer> InstructionSink<'a, B> {
     ///
     /// # Proved
     ///
+    /// In any case: `same_reference`, the sink writes to the buffer that it wrote to; `writes`. `writes`: The sink gains the encoding, or the call returns an error and leaves the bytes as they were. If the value fits, the call never returns `TooLong`, and it succeeds within the spare capacity.
+    ///
     /// ```text
     /// ensures same_reference { self.new.sink.ghost_name ≡ self.old.sink.ghost_name }
     /// ensures writes { Writes (E.encoding value.now) (E.encodable value.now)
@@ -154,7 +207,26 @@ impl<'a, B: Buffer> InstructionSink<'a, B> {
 
     /// Appends an opcode.
     ///
+    /// # Errors
+    ///
+    /// Returns [`Memory`](crate::fallible::Refused::Memory) if an allocation fails. The bytes of
+    /// the sink are then unchanged.
+    ///
+    /// # Examples
+    ///
+    /// ```
+    /// use dolzhytik::fallible::{InstructionSink, Op, Refused};
+    ///
+    /// let mut bytes = Vec::new();
+    /// let mut sink = InstructionSink::new(&mut bytes);
+    /// sink.op(Op::Byte(0x6C))?; // i32.mul
+    /// assert_eq!(bytes, [0x6C]);
+    /// # Ok::<(), Refused>(())
+    /// ```
+    ///
     /// # Proved
+    ///
+    /// In any case: `same_reference`, the sink writes to the buffer that it wrote to; `writes`. `writes`: The sink gains the encoding, or the call returns an error and leaves the bytes as they were. If the value fits, the call never returns `TooLong`, and it succeeds within the spare capacity.
     ///
     /// ```text
     /// ensures same_reference { self.new.sink.ghost_name ≡ self.old.sink.ghost_name }
@@ -170,7 +242,14 @@ impl<'a, B: Buffer> InstructionSink<'a, B> {
 
     /// Appends the encoding of `Unreachable`.
     ///
+    /// # Errors
+    ///
+    /// Returns [`Memory`](crate::fallible::Refused::Memory) if an allocation fails. The bytes of
+    /// the sink are then unchanged.
+    ///
     /// # Proved
+    ///
+    /// In any case: `same_reference`, the sink writes to the buffer that it wrote to; `writes`. `writes`: The sink gains the encoding of the instruction, or the call returns an error and leaves the bytes as they were.
     ///
     /// ```text
     /// ensures same_reference { self.new.sink.ghost_name ≡ self.old.sink.ghost_name }
@@ -185,7 +264,14 @@ impl<'a, B: Buffer> InstructionSink<'a, B> {
 
     /// Appends the encoding of `Nop`.
     ///
+    /// # Errors
+    ///
+    /// Returns [`Memory`](crate::fallible::Refused::Memory) if an allocation fails. The bytes of
+    /// the sink are then unchanged.
+    ///
     /// # Proved
+    ///
+    /// In any case: `same_reference`, the sink writes to the buffer that it wrote to; `writes`. `writes`: The sink gains the encoding of the instruction, or the call returns an error and leaves the bytes as they were.
     ///
     /// ```text
     /// ensures same_reference { self.new.sink.ghost_name ≡ self.old.sink.ghost_name }
@@ -200,7 +286,14 @@ impl<'a, B: Buffer> InstructionSink<'a, B> {
 
     /// Appends the encoding of `Block`.
     ///
+    /// # Errors
+    ///
+    /// Returns [`Memory`](crate::fallible::Refused::Memory) if an allocation fails. The bytes of
+    /// the sink are then unchanged.
+    ///
     /// # Proved
+    ///
+    /// In any case: `same_reference`, the sink writes to the buffer that it wrote to; `writes`. `writes`: The sink gains the encoding of the instruction, or the call returns an error and leaves the bytes as they were.
     ///
     /// ```text
     /// ensures same_reference { self.new.sink.ghost_name ≡ self.old.sink.ghost_name }
@@ -215,7 +308,14 @@ impl<'a, B: Buffer> InstructionSink<'a, B> {
 
     /// Appends the encoding of `Loop`.
     ///
+    /// # Errors
+    ///
+    /// Returns [`Memory`](crate::fallible::Refused::Memory) if an allocation fails. The bytes of
+    /// the sink are then unchanged.
+    ///
     /// # Proved
+    ///
+    /// In any case: `same_reference`, the sink writes to the buffer that it wrote to; `writes`. `writes`: The sink gains the encoding of the instruction, or the call returns an error and leaves the bytes as they were.
     ///
     /// ```text
     /// ensures same_reference { self.new.sink.ghost_name ≡ self.old.sink.ghost_name }
@@ -230,7 +330,14 @@ impl<'a, B: Buffer> InstructionSink<'a, B> {
 
     /// Appends the encoding of `If`.
     ///
+    /// # Errors
+    ///
+    /// Returns [`Memory`](crate::fallible::Refused::Memory) if an allocation fails. The bytes of
+    /// the sink are then unchanged.
+    ///
     /// # Proved
+    ///
+    /// In any case: `same_reference`, the sink writes to the buffer that it wrote to; `writes`. `writes`: The sink gains the encoding of the instruction, or the call returns an error and leaves the bytes as they were.
     ///
     /// ```text
     /// ensures same_reference { self.new.sink.ghost_name ≡ self.old.sink.ghost_name }
@@ -245,7 +352,14 @@ impl<'a, B: Buffer> InstructionSink<'a, B> {
 
     /// Appends the encoding of `Else`.
     ///
+    /// # Errors
+    ///
+    /// Returns [`Memory`](crate::fallible::Refused::Memory) if an allocation fails. The bytes of
+    /// the sink are then unchanged.
+    ///
     /// # Proved
+    ///
+    /// In any case: `same_reference`, the sink writes to the buffer that it wrote to; `writes`. `writes`: The sink gains the encoding of the instruction, or the call returns an error and leaves the bytes as they were.
     ///
     /// ```text
     /// ensures same_reference { self.new.sink.ghost_name ≡ self.old.sink.ghost_name }
@@ -260,7 +374,14 @@ impl<'a, B: Buffer> InstructionSink<'a, B> {
 
     /// Appends the encoding of `End`.
     ///
+    /// # Errors
+    ///
+    /// Returns [`Memory`](crate::fallible::Refused::Memory) if an allocation fails. The bytes of
+    /// the sink are then unchanged.
+    ///
     /// # Proved
+    ///
+    /// In any case: `same_reference`, the sink writes to the buffer that it wrote to; `writes`. `writes`: The sink gains the encoding of the instruction, or the call returns an error and leaves the bytes as they were.
     ///
     /// ```text
     /// ensures same_reference { self.new.sink.ghost_name ≡ self.old.sink.ghost_name }
@@ -275,7 +396,14 @@ impl<'a, B: Buffer> InstructionSink<'a, B> {
 
     /// Appends the encoding of `Br`.
     ///
+    /// # Errors
+    ///
+    /// Returns [`Memory`](crate::fallible::Refused::Memory) if an allocation fails. The bytes of
+    /// the sink are then unchanged.
+    ///
     /// # Proved
+    ///
+    /// In any case: `same_reference`, the sink writes to the buffer that it wrote to; `writes`. `writes`: The sink gains the encoding of the instruction, or the call returns an error and leaves the bytes as they were.
     ///
     /// ```text
     /// ensures same_reference { self.new.sink.ghost_name ≡ self.old.sink.ghost_name }
@@ -290,7 +418,14 @@ impl<'a, B: Buffer> InstructionSink<'a, B> {
 
     /// Appends the encoding of `BrIf`.
     ///
+    /// # Errors
+    ///
+    /// Returns [`Memory`](crate::fallible::Refused::Memory) if an allocation fails. The bytes of
+    /// the sink are then unchanged.
+    ///
     /// # Proved
+    ///
+    /// In any case: `same_reference`, the sink writes to the buffer that it wrote to; `writes`. `writes`: The sink gains the encoding of the instruction, or the call returns an error and leaves the bytes as they were.
     ///
     /// ```text
     /// ensures same_reference { self.new.sink.ghost_name ≡ self.old.sink.ghost_name }
@@ -305,7 +440,15 @@ impl<'a, B: Buffer> InstructionSink<'a, B> {
 
     /// Appends the encoding of `BrTable`, with these labels and this default label.
     ///
+    /// # Errors
+    ///
+    /// Returns [`TooLong`](crate::fallible::Refused::TooLong) if a count or length would pass
+    /// 4294967295, and [`Memory`](crate::fallible::Refused::Memory) if an allocation fails. The
+    /// bytes of the sink are then unchanged.
+    ///
     /// # Asks
+    ///
+    /// The iterator ends, and yields as many items as it reports.
     ///
     /// ```text
     /// requires { HasKnownLength V.into_iter_gives V.IntoIter.can_next V.IntoIter.next_gives
@@ -315,6 +458,8 @@ impl<'a, B: Buffer> InstructionSink<'a, B> {
     /// Definitions: [`HasKnownLength`](crate::definitions::base::iterators::HasKnownLength). [How to read clauses](crate::definitions).
     ///
     /// # Proved
+    ///
+    /// In any case: `same_reference`, the sink writes to the buffer that it wrote to; `writes`. `writes`: The sink gains `br_table` with the labels that the iterator yields, or the call returns an error and changes nothing. More than 2^32 - 1 labels give `TooLong`.
     ///
     /// ```text
     /// ensures same_reference { self.new.sink.ghost_name ≡ self.old.sink.ghost_name }
@@ -333,7 +478,14 @@ impl<'a, B: Buffer> InstructionSink<'a, B> {
 
     /// Appends the encoding of `Return`.
     ///
+    /// # Errors
+    ///
+    /// Returns [`Memory`](crate::fallible::Refused::Memory) if an allocation fails. The bytes of
+    /// the sink are then unchanged.
+    ///
     /// # Proved
+    ///
+    /// In any case: `same_reference`, the sink writes to the buffer that it wrote to; `writes`. `writes`: The sink gains the encoding of the instruction, or the call returns an error and leaves the bytes as they were.
     ///
     /// ```text
     /// ensures same_reference { self.new.sink.ghost_name ≡ self.old.sink.ghost_name }
@@ -348,7 +500,14 @@ impl<'a, B: Buffer> InstructionSink<'a, B> {
 
     /// Appends the encoding of `Call`.
     ///
+    /// # Errors
+    ///
+    /// Returns [`Memory`](crate::fallible::Refused::Memory) if an allocation fails. The bytes of
+    /// the sink are then unchanged.
+    ///
     /// # Proved
+    ///
+    /// In any case: `same_reference`, the sink writes to the buffer that it wrote to; `writes`. `writes`: The sink gains the encoding of the instruction, or the call returns an error and leaves the bytes as they were.
     ///
     /// ```text
     /// ensures same_reference { self.new.sink.ghost_name ≡ self.old.sink.ghost_name }
@@ -363,7 +522,14 @@ impl<'a, B: Buffer> InstructionSink<'a, B> {
 
     /// Appends the encoding of `CallIndirect`.
     ///
+    /// # Errors
+    ///
+    /// Returns [`Memory`](crate::fallible::Refused::Memory) if an allocation fails. The bytes of
+    /// the sink are then unchanged.
+    ///
     /// # Proved
+    ///
+    /// In any case: `same_reference`, the sink writes to the buffer that it wrote to; `writes`. `writes`: The sink gains the encoding of the instruction, or the call returns an error and leaves the bytes as they were.
     ///
     /// ```text
     /// ensures same_reference { self.new.sink.ghost_name ≡ self.old.sink.ghost_name }
@@ -379,7 +545,14 @@ impl<'a, B: Buffer> InstructionSink<'a, B> {
 
     /// Appends the encoding of `Drop`.
     ///
+    /// # Errors
+    ///
+    /// Returns [`Memory`](crate::fallible::Refused::Memory) if an allocation fails. The bytes of
+    /// the sink are then unchanged.
+    ///
     /// # Proved
+    ///
+    /// In any case: `same_reference`, the sink writes to the buffer that it wrote to; `writes`. `writes`: The sink gains the encoding of the instruction, or the call returns an error and leaves the bytes as they were.
     ///
     /// ```text
     /// ensures same_reference { self.new.sink.ghost_name ≡ self.old.sink.ghost_name }
@@ -394,7 +567,14 @@ impl<'a, B: Buffer> InstructionSink<'a, B> {
 
     /// Appends the encoding of `Select`.
     ///
+    /// # Errors
+    ///
+    /// Returns [`Memory`](crate::fallible::Refused::Memory) if an allocation fails. The bytes of
+    /// the sink are then unchanged.
+    ///
     /// # Proved
+    ///
+    /// In any case: `same_reference`, the sink writes to the buffer that it wrote to; `writes`. `writes`: The sink gains the encoding of the instruction, or the call returns an error and leaves the bytes as they were.
     ///
     /// ```text
     /// ensures same_reference { self.new.sink.ghost_name ≡ self.old.sink.ghost_name }
@@ -409,7 +589,14 @@ impl<'a, B: Buffer> InstructionSink<'a, B> {
 
     /// Appends the encoding of `TypedSelect`.
     ///
+    /// # Errors
+    ///
+    /// Returns [`Memory`](crate::fallible::Refused::Memory) if an allocation fails. The bytes of
+    /// the sink are then unchanged.
+    ///
     /// # Proved
+    ///
+    /// In any case: `same_reference`, the sink writes to the buffer that it wrote to; `writes`. `writes`: The sink gains the encoding of the instruction, or the call returns an error and leaves the bytes as they were.
     ///
     /// ```text
     /// ensures same_reference { self.new.sink.ghost_name ≡ self.old.sink.ghost_name }
@@ -424,7 +611,15 @@ impl<'a, B: Buffer> InstructionSink<'a, B> {
 
     /// Appends the encoding of `TypedSelectMulti`.
     ///
+    /// # Errors
+    ///
+    /// Returns [`TooLong`](crate::fallible::Refused::TooLong) if a count or length would pass
+    /// 4294967295, and [`Memory`](crate::fallible::Refused::Memory) if an allocation fails. The
+    /// bytes of the sink are then unchanged.
+    ///
     /// # Proved
+    ///
+    /// In any case: `same_reference`, the sink writes to the buffer that it wrote to; `writes`. `writes`: The sink gains the encoding of the instruction, or the call returns an error and leaves the bytes as they were.
     ///
     /// ```text
     /// ensures same_reference { self.new.sink.ghost_name ≡ self.old.sink.ghost_name }
@@ -440,7 +635,14 @@ impl<'a, B: Buffer> InstructionSink<'a, B> {
 
     /// Appends the encoding of `LocalGet`.
     ///
+    /// # Errors
+    ///
+    /// Returns [`Memory`](crate::fallible::Refused::Memory) if an allocation fails. The bytes of
+    /// the sink are then unchanged.
+    ///
     /// # Proved
+    ///
+    /// In any case: `same_reference`, the sink writes to the buffer that it wrote to; `writes`. `writes`: The sink gains the encoding of the instruction, or the call returns an error and leaves the bytes as they were.
     ///
     /// ```text
     /// ensures same_reference { self.new.sink.ghost_name ≡ self.old.sink.ghost_name }
@@ -455,7 +657,14 @@ impl<'a, B: Buffer> InstructionSink<'a, B> {
 
     /// Appends the encoding of `LocalSet`.
     ///
+    /// # Errors
+    ///
+    /// Returns [`Memory`](crate::fallible::Refused::Memory) if an allocation fails. The bytes of
+    /// the sink are then unchanged.
+    ///
     /// # Proved
+    ///
+    /// In any case: `same_reference`, the sink writes to the buffer that it wrote to; `writes`. `writes`: The sink gains the encoding of the instruction, or the call returns an error and leaves the bytes as they were.
     ///
     /// ```text
     /// ensures same_reference { self.new.sink.ghost_name ≡ self.old.sink.ghost_name }
@@ -470,7 +679,14 @@ impl<'a, B: Buffer> InstructionSink<'a, B> {
 
     /// Appends the encoding of `LocalTee`.
     ///
+    /// # Errors
+    ///
+    /// Returns [`Memory`](crate::fallible::Refused::Memory) if an allocation fails. The bytes of
+    /// the sink are then unchanged.
+    ///
     /// # Proved
+    ///
+    /// In any case: `same_reference`, the sink writes to the buffer that it wrote to; `writes`. `writes`: The sink gains the encoding of the instruction, or the call returns an error and leaves the bytes as they were.
     ///
     /// ```text
     /// ensures same_reference { self.new.sink.ghost_name ≡ self.old.sink.ghost_name }
@@ -485,7 +701,14 @@ impl<'a, B: Buffer> InstructionSink<'a, B> {
 
     /// Appends the encoding of `GlobalGet`.
     ///
+    /// # Errors
+    ///
+    /// Returns [`Memory`](crate::fallible::Refused::Memory) if an allocation fails. The bytes of
+    /// the sink are then unchanged.
+    ///
     /// # Proved
+    ///
+    /// In any case: `same_reference`, the sink writes to the buffer that it wrote to; `writes`. `writes`: The sink gains the encoding of the instruction, or the call returns an error and leaves the bytes as they were.
     ///
     /// ```text
     /// ensures same_reference { self.new.sink.ghost_name ≡ self.old.sink.ghost_name }
@@ -500,7 +723,14 @@ impl<'a, B: Buffer> InstructionSink<'a, B> {
 
     /// Appends the encoding of `GlobalSet`.
     ///
+    /// # Errors
+    ///
+    /// Returns [`Memory`](crate::fallible::Refused::Memory) if an allocation fails. The bytes of
+    /// the sink are then unchanged.
+    ///
     /// # Proved
+    ///
+    /// In any case: `same_reference`, the sink writes to the buffer that it wrote to; `writes`. `writes`: The sink gains the encoding of the instruction, or the call returns an error and leaves the bytes as they were.
     ///
     /// ```text
     /// ensures same_reference { self.new.sink.ghost_name ≡ self.old.sink.ghost_name }
@@ -515,7 +745,14 @@ impl<'a, B: Buffer> InstructionSink<'a, B> {
 
     /// Appends the encoding of `I32Load`.
     ///
+    /// # Errors
+    ///
+    /// Returns [`Memory`](crate::fallible::Refused::Memory) if an allocation fails. The bytes of
+    /// the sink are then unchanged.
+    ///
     /// # Proved
+    ///
+    /// In any case: `same_reference`, the sink writes to the buffer that it wrote to; `writes`. `writes`: The sink gains the encoding of the instruction, or the call returns an error and leaves the bytes as they were.
     ///
     /// ```text
     /// ensures same_reference { self.new.sink.ghost_name ≡ self.old.sink.ghost_name }
@@ -530,7 +767,14 @@ impl<'a, B: Buffer> InstructionSink<'a, B> {
 
     /// Appends the encoding of `I32Store`.
     ///
+    /// # Errors
+    ///
+    /// Returns [`Memory`](crate::fallible::Refused::Memory) if an allocation fails. The bytes of
+    /// the sink are then unchanged.
+    ///
     /// # Proved
+    ///
+    /// In any case: `same_reference`, the sink writes to the buffer that it wrote to; `writes`. `writes`: The sink gains the encoding of the instruction, or the call returns an error and leaves the bytes as they were.
     ///
     /// ```text
     /// ensures same_reference { self.new.sink.ghost_name ≡ self.old.sink.ghost_name }
@@ -545,7 +789,14 @@ impl<'a, B: Buffer> InstructionSink<'a, B> {
 
     /// Appends the encoding of `MemorySize`.
     ///
+    /// # Errors
+    ///
+    /// Returns [`Memory`](crate::fallible::Refused::Memory) if an allocation fails. The bytes of
+    /// the sink are then unchanged.
+    ///
     /// # Proved
+    ///
+    /// In any case: `same_reference`, the sink writes to the buffer that it wrote to; `writes`. `writes`: The sink gains the encoding of the instruction, or the call returns an error and leaves the bytes as they were.
     ///
     /// ```text
     /// ensures same_reference { self.new.sink.ghost_name ≡ self.old.sink.ghost_name }
@@ -560,7 +811,14 @@ impl<'a, B: Buffer> InstructionSink<'a, B> {
 
     /// Appends the encoding of `MemoryGrow`.
     ///
+    /// # Errors
+    ///
+    /// Returns [`Memory`](crate::fallible::Refused::Memory) if an allocation fails. The bytes of
+    /// the sink are then unchanged.
+    ///
     /// # Proved
+    ///
+    /// In any case: `same_reference`, the sink writes to the buffer that it wrote to; `writes`. `writes`: The sink gains the encoding of the instruction, or the call returns an error and leaves the bytes as they were.
     ///
     /// ```text
     /// ensures same_reference { self.new.sink.ghost_name ≡ self.old.sink.ghost_name }
@@ -575,7 +833,14 @@ impl<'a, B: Buffer> InstructionSink<'a, B> {
 
     /// Appends the encoding of `I32Const`.
     ///
+    /// # Errors
+    ///
+    /// Returns [`Memory`](crate::fallible::Refused::Memory) if an allocation fails. The bytes of
+    /// the sink are then unchanged.
+    ///
     /// # Proved
+    ///
+    /// In any case: `same_reference`, the sink writes to the buffer that it wrote to; `writes`. `writes`: The sink gains the encoding of the instruction, or the call returns an error and leaves the bytes as they were.
     ///
     /// ```text
     /// ensures same_reference { self.new.sink.ghost_name ≡ self.old.sink.ghost_name }
@@ -590,7 +855,14 @@ impl<'a, B: Buffer> InstructionSink<'a, B> {
 
     /// Appends the encoding of `I64Const`.
     ///
+    /// # Errors
+    ///
+    /// Returns [`Memory`](crate::fallible::Refused::Memory) if an allocation fails. The bytes of
+    /// the sink are then unchanged.
+    ///
     /// # Proved
+    ///
+    /// In any case: `same_reference`, the sink writes to the buffer that it wrote to; `writes`. `writes`: The sink gains the encoding of the instruction, or the call returns an error and leaves the bytes as they were.
     ///
     /// ```text
     /// ensures same_reference { self.new.sink.ghost_name ≡ self.old.sink.ghost_name }
@@ -605,7 +877,14 @@ impl<'a, B: Buffer> InstructionSink<'a, B> {
 
     /// Appends the encoding of `F32Const`.
     ///
+    /// # Errors
+    ///
+    /// Returns [`Memory`](crate::fallible::Refused::Memory) if an allocation fails. The bytes of
+    /// the sink are then unchanged.
+    ///
     /// # Proved
+    ///
+    /// In any case: `same_reference`, the sink writes to the buffer that it wrote to; `writes`. `writes`: The sink gains the encoding of the instruction, or the call returns an error and leaves the bytes as they were.
     ///
     /// ```text
     /// ensures same_reference { self.new.sink.ghost_name ≡ self.old.sink.ghost_name }
@@ -620,7 +899,14 @@ impl<'a, B: Buffer> InstructionSink<'a, B> {
 
     /// Appends the encoding of `F64Const`.
     ///
+    /// # Errors
+    ///
+    /// Returns [`Memory`](crate::fallible::Refused::Memory) if an allocation fails. The bytes of
+    /// the sink are then unchanged.
+    ///
     /// # Proved
+    ///
+    /// In any case: `same_reference`, the sink writes to the buffer that it wrote to; `writes`. `writes`: The sink gains the encoding of the instruction, or the call returns an error and leaves the bytes as they were.
     ///
     /// ```text
     /// ensures same_reference { self.new.sink.ghost_name ≡ self.old.sink.ghost_name }
@@ -635,7 +921,14 @@ impl<'a, B: Buffer> InstructionSink<'a, B> {
 
     /// Appends the encoding of `V128Const`.
     ///
+    /// # Errors
+    ///
+    /// Returns [`Memory`](crate::fallible::Refused::Memory) if an allocation fails. The bytes of
+    /// the sink are then unchanged.
+    ///
     /// # Proved
+    ///
+    /// In any case: `same_reference`, the sink writes to the buffer that it wrote to; `writes`. `writes`: The sink gains the encoding of the instruction, or the call returns an error and leaves the bytes as they were.
     ///
     /// ```text
     /// ensures same_reference { self.new.sink.ghost_name ≡ self.old.sink.ghost_name }
@@ -651,7 +944,14 @@ impl<'a, B: Buffer> InstructionSink<'a, B> {
 
     /// Appends the encoding of `I32Eqz`.
     ///
+    /// # Errors
+    ///
+    /// Returns [`Memory`](crate::fallible::Refused::Memory) if an allocation fails. The bytes of
+    /// the sink are then unchanged.
+    ///
     /// # Proved
+    ///
+    /// In any case: `same_reference`, the sink writes to the buffer that it wrote to; `writes`. `writes`: The sink gains the encoding of the instruction, or the call returns an error and leaves the bytes as they were.
     ///
     /// ```text
     /// ensures same_reference { self.new.sink.ghost_name ≡ self.old.sink.ghost_name }
@@ -666,7 +966,14 @@ impl<'a, B: Buffer> InstructionSink<'a, B> {
 
     /// Appends the encoding of `I32Add`.
     ///
+    /// # Errors
+    ///
+    /// Returns [`Memory`](crate::fallible::Refused::Memory) if an allocation fails. The bytes of
+    /// the sink are then unchanged.
+    ///
     /// # Proved
+    ///
+    /// In any case: `same_reference`, the sink writes to the buffer that it wrote to; `writes`. `writes`: The sink gains the encoding of the instruction, or the call returns an error and leaves the bytes as they were.
     ///
     /// ```text
     /// ensures same_reference { self.new.sink.ghost_name ≡ self.old.sink.ghost_name }
@@ -681,7 +988,14 @@ impl<'a, B: Buffer> InstructionSink<'a, B> {
 
     /// Appends the encoding of `I32Sub`.
     ///
+    /// # Errors
+    ///
+    /// Returns [`Memory`](crate::fallible::Refused::Memory) if an allocation fails. The bytes of
+    /// the sink are then unchanged.
+    ///
     /// # Proved
+    ///
+    /// In any case: `same_reference`, the sink writes to the buffer that it wrote to; `writes`. `writes`: The sink gains the encoding of the instruction, or the call returns an error and leaves the bytes as they were.
     ///
     /// ```text
     /// ensures same_reference { self.new.sink.ghost_name ≡ self.old.sink.ghost_name }
@@ -696,7 +1010,14 @@ impl<'a, B: Buffer> InstructionSink<'a, B> {
 
     /// Appends the encoding of `I32Mul`.
     ///
+    /// # Errors
+    ///
+    /// Returns [`Memory`](crate::fallible::Refused::Memory) if an allocation fails. The bytes of
+    /// the sink are then unchanged.
+    ///
     /// # Proved
+    ///
+    /// In any case: `same_reference`, the sink writes to the buffer that it wrote to; `writes`. `writes`: The sink gains the encoding of the instruction, or the call returns an error and leaves the bytes as they were.
     ///
     /// ```text
     /// ensures same_reference { self.new.sink.ghost_name ≡ self.old.sink.ghost_name }
@@ -711,7 +1032,14 @@ impl<'a, B: Buffer> InstructionSink<'a, B> {
 
     /// Appends the encoding of `I64Add`.
     ///
+    /// # Errors
+    ///
+    /// Returns [`Memory`](crate::fallible::Refused::Memory) if an allocation fails. The bytes of
+    /// the sink are then unchanged.
+    ///
     /// # Proved
+    ///
+    /// In any case: `same_reference`, the sink writes to the buffer that it wrote to; `writes`. `writes`: The sink gains the encoding of the instruction, or the call returns an error and leaves the bytes as they were.
     ///
     /// ```text
     /// ensures same_reference { self.new.sink.ghost_name ≡ self.old.sink.ghost_name }
@@ -726,7 +1054,14 @@ impl<'a, B: Buffer> InstructionSink<'a, B> {
 
     /// Appends the encoding of `I64Sub`.
     ///
+    /// # Errors
+    ///
+    /// Returns [`Memory`](crate::fallible::Refused::Memory) if an allocation fails. The bytes of
+    /// the sink are then unchanged.
+    ///
     /// # Proved
+    ///
+    /// In any case: `same_reference`, the sink writes to the buffer that it wrote to; `writes`. `writes`: The sink gains the encoding of the instruction, or the call returns an error and leaves the bytes as they were.
     ///
     /// ```text
     /// ensures same_reference { self.new.sink.ghost_name ≡ self.old.sink.ghost_name }
@@ -741,7 +1076,14 @@ impl<'a, B: Buffer> InstructionSink<'a, B> {
 
     /// Appends the encoding of `I64Mul`.
     ///
+    /// # Errors
+    ///
+    /// Returns [`Memory`](crate::fallible::Refused::Memory) if an allocation fails. The bytes of
+    /// the sink are then unchanged.
+    ///
     /// # Proved
+    ///
+    /// In any case: `same_reference`, the sink writes to the buffer that it wrote to; `writes`. `writes`: The sink gains the encoding of the instruction, or the call returns an error and leaves the bytes as they were.
     ///
     /// ```text
     /// ensures same_reference { self.new.sink.ghost_name ≡ self.old.sink.ghost_name }
@@ -756,7 +1098,14 @@ impl<'a, B: Buffer> InstructionSink<'a, B> {
 
     /// Appends the encoding of `RefNull`.
     ///
+    /// # Errors
+    ///
+    /// Returns [`Memory`](crate::fallible::Refused::Memory) if an allocation fails. The bytes of
+    /// the sink are then unchanged.
+    ///
     /// # Proved
+    ///
+    /// In any case: `same_reference`, the sink writes to the buffer that it wrote to; `writes`. `writes`: The sink gains the encoding of the instruction, or the call returns an error and leaves the bytes as they were.
     ///
     /// ```text
     /// ensures same_reference { self.new.sink.ghost_name ≡ self.old.sink.ghost_name }
@@ -771,7 +1120,14 @@ impl<'a, B: Buffer> InstructionSink<'a, B> {
 
     /// Appends the encoding of `RefIsNull`.
     ///
+    /// # Errors
+    ///
+    /// Returns [`Memory`](crate::fallible::Refused::Memory) if an allocation fails. The bytes of
+    /// the sink are then unchanged.
+    ///
     /// # Proved
+    ///
+    /// In any case: `same_reference`, the sink writes to the buffer that it wrote to; `writes`. `writes`: The sink gains the encoding of the instruction, or the call returns an error and leaves the bytes as they were.
     ///
     /// ```text
     /// ensures same_reference { self.new.sink.ghost_name ≡ self.old.sink.ghost_name }
@@ -786,7 +1142,14 @@ impl<'a, B: Buffer> InstructionSink<'a, B> {
 
     /// Appends the encoding of `RefFunc`.
     ///
+    /// # Errors
+    ///
+    /// Returns [`Memory`](crate::fallible::Refused::Memory) if an allocation fails. The bytes of
+    /// the sink are then unchanged.
+    ///
     /// # Proved
+    ///
+    /// In any case: `same_reference`, the sink writes to the buffer that it wrote to; `writes`. `writes`: The sink gains the encoding of the instruction, or the call returns an error and leaves the bytes as they were.
     ///
     /// ```text
     /// ensures same_reference { self.new.sink.ghost_name ≡ self.old.sink.ghost_name }

@@ -20,45 +20,157 @@ pub(crate) fn vector_bytes(value: i128) -> [u8; 16] {
 }
 
 /// Vector instructions with immediates: those after the prefix FD.
+///
+/// It is a case of [`Instruction`](crate::fallible::Instruction).
+///
+/// # Examples
+///
+/// ```
+/// use dolzhytik::fallible::{Encode, Instruction, Refused, VectorImmediate};
+///
+/// let lane = VectorImmediate::I32x4ExtractLane(3);
+/// let instruction: Instruction = Instruction::VectorImmediate(lane);
+/// let mut bytes = Vec::new();
+/// instruction.encode(&mut bytes)?;
+/// assert_eq!(bytes, [0xFD, 27, 3]);
+/// # Ok::<(), Refused>(())
+/// ```
 #[derive(Clone, Copy, Debug)]
 pub enum VectorImmediate {
+    /// `v128.load` (opcode 0xFD 0), a vector instruction that loads a vector from a memory.
     V128Load(MemArg),
+    /// `v128.load8x8_s` (opcode 0xFD 1), a vector instruction that loads numbers from a memory, and
+    /// extends each to a lane.
     V128Load8x8S(MemArg),
+    /// `v128.load8x8_u` (opcode 0xFD 2), a vector instruction that loads numbers from a memory, and
+    /// extends each to a lane.
     V128Load8x8U(MemArg),
+    /// `v128.load16x4_s` (opcode 0xFD 3), a vector instruction that loads numbers from a memory,
+    /// and extends each to a lane.
     V128Load16x4S(MemArg),
+    /// `v128.load16x4_u` (opcode 0xFD 4), a vector instruction that loads numbers from a memory,
+    /// and extends each to a lane.
     V128Load16x4U(MemArg),
+    /// `v128.load32x2_s` (opcode 0xFD 5), a vector instruction that loads numbers from a memory,
+    /// and extends each to a lane.
     V128Load32x2S(MemArg),
+    /// `v128.load32x2_u` (opcode 0xFD 6), a vector instruction that loads numbers from a memory,
+    /// and extends each to a lane.
     V128Load32x2U(MemArg),
+    /// `v128.load8_splat` (opcode 0xFD 7), a vector instruction that loads a number from a memory,
+    /// and copies it to each lane.
     V128Load8Splat(MemArg),
+    /// `v128.load16_splat` (opcode 0xFD 8), a vector instruction that loads a number from a memory,
+    /// and copies it to each lane.
     V128Load16Splat(MemArg),
+    /// `v128.load32_splat` (opcode 0xFD 9), a vector instruction that loads a number from a memory,
+    /// and copies it to each lane.
     V128Load32Splat(MemArg),
+    /// `v128.load64_splat` (opcode 0xFD 10), a vector instruction that loads a number from a
+    /// memory, and copies it to each lane.
     V128Load64Splat(MemArg),
+    /// `v128.store` (opcode 0xFD 11), a vector instruction that stores a vector to a memory.
     V128Store(MemArg),
+    /// `v128.const` (opcode 0xFD 12), a vector instruction that returns a constant.
     V128Const(i128),
+    /// `i8x16.shuffle` (opcode 0xFD 13), a vector instruction that selects lanes of two vectors by
+    /// the immediates.
     I8x16Shuffle([Lane; 16]),
+    /// `i8x16.extract_lane_s` (opcode 0xFD 21), a vector instruction that reads a lane of a vector.
     I8x16ExtractLaneS(Lane),
+    /// `i8x16.extract_lane_u` (opcode 0xFD 22), a vector instruction that reads a lane of a vector.
     I8x16ExtractLaneU(Lane),
+    /// `i8x16.replace_lane` (opcode 0xFD 23), a vector instruction that replaces a lane of a
+    /// vector.
     I8x16ReplaceLane(Lane),
+    /// `i16x8.extract_lane_s` (opcode 0xFD 24), a vector instruction that reads a lane of a vector.
     I16x8ExtractLaneS(Lane),
+    /// `i16x8.extract_lane_u` (opcode 0xFD 25), a vector instruction that reads a lane of a vector.
     I16x8ExtractLaneU(Lane),
+    /// `i16x8.replace_lane` (opcode 0xFD 26), a vector instruction that replaces a lane of a
+    /// vector.
     I16x8ReplaceLane(Lane),
+    /// `i32x4.extract_lane` (opcode 0xFD 27), a vector instruction that reads a lane of a vector.
     I32x4ExtractLane(Lane),
+    /// `i32x4.replace_lane` (opcode 0xFD 28), a vector instruction that replaces a lane of a
+    /// vector.
     I32x4ReplaceLane(Lane),
+    /// `i64x2.extract_lane` (opcode 0xFD 29), a vector instruction that reads a lane of a vector.
     I64x2ExtractLane(Lane),
+    /// `i64x2.replace_lane` (opcode 0xFD 30), a vector instruction that replaces a lane of a
+    /// vector.
     I64x2ReplaceLane(Lane),
+    /// `f32x4.extract_lane` (opcode 0xFD 31), a vector instruction that reads a lane of a vector.
     F32x4ExtractLane(Lane),
+    /// `f32x4.replace_lane` (opcode 0xFD 32), a vector instruction that replaces a lane of a
+    /// vector.
     F32x4ReplaceLane(Lane),
+    /// `f64x2.extract_lane` (opcode 0xFD 33), a vector instruction that reads a lane of a vector.
     F64x2ExtractLane(Lane),
+    /// `f64x2.replace_lane` (opcode 0xFD 34), a vector instruction that replaces a lane of a
+    /// vector.
     F64x2ReplaceLane(Lane),
-    V128Load8Lane { memarg: MemArg, lane: Lane },
-    V128Load16Lane { memarg: MemArg, lane: Lane },
-    V128Load32Lane { memarg: MemArg, lane: Lane },
-    V128Load64Lane { memarg: MemArg, lane: Lane },
-    V128Store8Lane { memarg: MemArg, lane: Lane },
-    V128Store16Lane { memarg: MemArg, lane: Lane },
-    V128Store32Lane { memarg: MemArg, lane: Lane },
-    V128Store64Lane { memarg: MemArg, lane: Lane },
+    /// `v128.load8_lane` (opcode 0xFD 84), a vector instruction that loads one lane of a vector
+    /// from a memory.
+    V128Load8Lane {
+        /// The memory, the offset and the alignment.
+        memarg: MemArg,
+        /// The index of the lane.
+        lane: Lane },
+    /// `v128.load16_lane` (opcode 0xFD 85), a vector instruction that loads one lane of a vector
+    /// from a memory.
+    V128Load16Lane {
+        /// The memory, the offset and the alignment.
+        memarg: MemArg,
+        /// The index of the lane.
+        lane: Lane },
+    /// `v128.load32_lane` (opcode 0xFD 86), a vector instruction that loads one lane of a vector
+    /// from a memory.
+    V128Load32Lane {
+        /// The memory, the offset and the alignment.
+        memarg: MemArg,
+        /// The index of the lane.
+        lane: Lane },
+    /// `v128.load64_lane` (opcode 0xFD 87), a vector instruction that loads one lane of a vector
+    /// from a memory.
+    V128Load64Lane {
+        /// The memory, the offset and the alignment.
+        memarg: MemArg,
+        /// The index of the lane.
+        lane: Lane },
+    /// `v128.store8_lane` (opcode 0xFD 88), a vector instruction that stores one lane of a vector
+    /// to a memory.
+    V128Store8Lane {
+        /// The memory, the offset and the alignment.
+        memarg: MemArg,
+        /// The index of the lane.
+        lane: Lane },
+    /// `v128.store16_lane` (opcode 0xFD 89), a vector instruction that stores one lane of a vector
+    /// to a memory.
+    V128Store16Lane {
+        /// The memory, the offset and the alignment.
+        memarg: MemArg,
+        /// The index of the lane.
+        lane: Lane },
+    /// `v128.store32_lane` (opcode 0xFD 90), a vector instruction that stores one lane of a vector
+    /// to a memory.
+    V128Store32Lane {
+        /// The memory, the offset and the alignment.
+        memarg: MemArg,
+        /// The index of the lane.
+        lane: Lane },
+    /// `v128.store64_lane` (opcode 0xFD 91), a vector instruction that stores one lane of a vector
+    /// to a memory.
+    V128Store64Lane {
+        /// The memory, the offset and the alignment.
+        memarg: MemArg,
+        /// The index of the lane.
+        lane: Lane },
+    /// `v128.load32_zero` (opcode 0xFD 92), a vector instruction that loads a lane from a memory,
+    /// and sets the others to zero.
     V128Load32Zero(MemArg),
+    /// `v128.load64_zero` (opcode 0xFD 93), a vector instruction that loads a lane from a memory,
+    /// and sets the others to zero.
     V128Load64Zero(MemArg),
 }
 
@@ -118,6 +230,8 @@ impl VectorImmediate {
     /// Appends the immediates.
     ///
     /// # Proved
+    ///
+    /// The call appends the encoding, or returns an error and leaves the bytes as they were. If the value fits, the call never returns `TooLong`, and it succeeds within the spare capacity.
     ///
     /// ```text
     /// ensures { Appends (arguments_encoding (vector_immediate_row self).arguments)

@@ -12,20 +12,33 @@ use crate::code::Instructions;
 /// The bodies of a code section, one after another. It allocates nothing, and does not compare their
 /// number with that of the functions.
 ///
-/// ```text
-/// for body in section.bodies()? {
-///     let body = body?;
-///     let (locals, mut instructions) = body.instructions()?;
-///     while let Some(step) = instructions.next().map_err(|error| body.locate(error))? {
-///         // step.op, instructions.args()
-///     }
-/// }
-/// ```
-///
 /// # Errors
 ///
 /// An error but `Memory` means that no size-prefixed body is next, or that bytes remain after the
 /// last one. It is the last item.
+///
+/// # Examples
+///
+/// ```
+/// use dolzhytik::fallible::{Global, Op};
+/// use dolzhytik::reader::{ReadError, Sections};
+///
+/// // A code section: id 10, size 6, one body, of size 4: no locals, i32.const 7, end.
+/// let module = b"\0asm\x01\0\0\0\x0A\x06\x01\x04\0\x41\x07\x0B";
+/// let mut found = vec![];
+/// for body in Sections::new(Global, module)?.next().unwrap()?.bodies()? {
+///     let body = body?;
+///     let (_, mut instructions) = body.instructions()?;
+///     while let Some(step) =
+///         instructions.next().map_err(|error| body.locate(error))?
+///     {
+///         found.push((body.offset() + step.offset, step.op));
+///     }
+/// }
+/// // Offsets in the module.
+/// assert_eq!(found, [(13, Op::Byte(0x41)), (15, Op::Byte(0x0B))]);
+/// # Ok::<(), ReadError>(())
+/// ```
 #[derive(Clone, Debug)]
 pub struct Bodies<'a, A: Allocator = Global> {
     alloc: A,
@@ -43,9 +56,24 @@ impl<'a, A: Allocator + Copy> Section<'a, A> {
     /// An error but `Memory` means that this is no code section, or that its payload does not begin
     /// with a number.
     ///
+    /// # Examples
+    ///
+    /// ```
+    /// use dolzhytik::fallible::Global;
+    /// use dolzhytik::reader::{ReadError, Sections};
+    ///
+    /// // A code section: id 10, size 4, one body, of size 2: no locals, end.
+    /// let module = b"\0asm\x01\0\0\0\x0A\x04\x01\x02\0\x0B";
+    /// let section = Sections::new(Global, module)?.next().unwrap()?;
+    /// let mut bodies = section.bodies()?;
+    /// assert_eq!(bodies.next().unwrap()?.bytes(), [0x00, 0x0B]);
+    /// assert!(bodies.next().is_none());
+    /// # Ok::<(), ReadError>(())
+    /// ```
+    ///
     /// # Proved
     ///
-    /// After `Ok`: `id`, `found`, `end`. After an error: `none`, `from`, `within`.
+    /// After `Ok`: `id`, this is a code section; `found`; `end`, the iterator ends with the section. After an error: `none`, this is no code section, or its payload does not begin with a number, unless the cause is `Memory`; `from`, the offset of the error is not before this one; `within`, the offset of the error is not after the section. `found`: `bytes` is an encoding of `x` in this mode, followed by `rest`.
     ///
     /// ```text
     /// ensures id { IfOk result (λ _. self.now.section.id ≡ 10) }
@@ -60,6 +88,7 @@ impl<'a, A: Allocator + Copy> Section<'a, A> {
     /// ```
     ///
     /// Definitions: [`Decodes`](crate::definitions::base::decoding::Decodes), [`u32`](crate::definitions::base::formats::u32), [`padded`](crate::definitions::base::numbers::Mode), [`end_of`](crate::definitions::reader::iterating::end_of), [`Rejects`](crate::definitions::base::decoding::Rejects). [How to read clauses](crate::definitions).
+    #[doc(alias = "disassemble")]
     pub fn bodies(&self) -> Result<Bodies<'a, A>, ReadError> {
         if self.id() != 10 {
             return Err(ReadError {
@@ -153,6 +182,28 @@ impl<'a, A: Allocator + Copy> FusedIterator for Bodies<'a, A> {}
 
 /// A body of a code section, not yet decoded. Blocks are not matched: a body decodes without its final
 /// `End` too, and with instructions after it.
+///
+/// [`Bodies`](crate::reader::Bodies) yields it.
+///
+/// # Examples
+///
+/// ```
+/// use dolzhytik::fallible::{Global, ValType};
+/// use dolzhytik::reader::{ReadError, Sections};
+///
+/// // A code section: id 10, size 6, one body, of size 4: one run of locals, 2 of i32
+/// // (7F); end.
+/// let module = b"\0asm\x01\0\0\0\x0A\x06\x01\x04\x01\x02\x7F\x0B";
+/// let body =
+///     Sections::new(Global, module)?.next().unwrap()?.bodies()?.next().unwrap()?;
+/// assert_eq!(body.offset(), 12);
+/// let (locals, instructions) = body.instructions()?;
+/// assert_eq!(
+///     (&locals[..], instructions.rest()),
+///     (&[(2, ValType::I32)][..], &[0x0B][..])
+/// );
+/// # Ok::<(), ReadError>(())
+/// ```
 #[derive(Clone, Copy, Debug)]
 pub struct CodeBody<'a, A: Allocator = Global> {
     alloc: A,
@@ -197,7 +248,7 @@ impl<'a, A: Allocator + Copy> CodeBody<'a, A> {
     ///
     /// # Proved
     ///
-    /// After `Ok`: `found`, `same`, `inside`, `before`. After an error: `none`, `from`, `within`.
+    /// After `Ok`: `found`; `same`, the visitor is over the bytes of the body; `inside`, the offset is in the body, or at its end; `before`, the visitor has no immediates yet. After an error: `none`, the bytes as a whole are no such encoding, unless the cause is `Memory`; `from`, the offset of the error is not before this one; `within`, the offset of the error is not after the body. `found`: `bytes` is an encoding of `x` in this mode, followed by `rest`.
     ///
     /// ```text
     /// ensures found { IfOk result
@@ -214,6 +265,9 @@ impl<'a, A: Allocator + Copy> CodeBody<'a, A> {
     /// ```
     ///
     /// Definitions: [`Decodes`](crate::definitions::base::decoding::Decodes), [`vec`](crate::definitions::base::formats::vec), [`pair`](crate::definitions::base::formats::pair), [`u32`](crate::definitions::base::formats::u32), [`val_type`](crate::definitions::base::types::val_type), [`standard`](crate::definitions::base::numbers::Mode), [`ahead_in`](crate::definitions::code::walks::ahead), [`RejectsWhole`](crate::definitions::base::continuing::RejectsWhole), [`body`](crate::definitions::code::bodies::body). [How to read clauses](crate::definitions).
+    #[doc(alias = "disassemble")]
+    #[doc(alias = "opcode")]
+    #[doc(alias = "operators")]
     pub fn instructions(
         &self,
     ) -> Result<(Vec<(u32, ValType), A>, Instructions<'a, A, Standard>), ReadError> {
@@ -225,7 +279,25 @@ impl<'a, A: Allocator + Copy> CodeBody<'a, A> {
 
     /// Returns an error of the visitor of its instructions with the offset in the module.
     ///
+    /// # Examples
+    ///
+    /// ```
+    /// use dolzhytik::fallible::Global;
+    /// use dolzhytik::reader::{ReadError, ReadFault, Sections};
+    ///
+    /// // A code section: id 10, size 4, one body, of size 2: no locals, and FF, no opcode.
+    /// let module = b"\0asm\x01\0\0\0\x0A\x04\x01\x02\0\xFF";
+    /// let section = Sections::new(Global, module)?.next().unwrap()?;
+    /// let body = section.bodies()?.next().unwrap()?;
+    /// let (_, mut instructions) = body.instructions()?;
+    /// let error = instructions.next().map_err(|error| body.locate(error)).unwrap_err();
+    /// assert_eq!((error.cause, error.offset), (ReadFault::UnknownOpcode, 13));
+    /// # Ok::<(), ReadError>(())
+    /// ```
+    ///
     /// # Proved
+    ///
+    /// In any case: `cause`, the result has the cause of the error; `from`, the offset is not before the body; `within`, the offset is not after the body.
     ///
     /// ```text
     /// ensures cause { result.cause ≡ error.cause }

@@ -8,7 +8,7 @@ use crate::base::{DecodeError, Grammar, ReadFault, Skip, skip_many};
 ///
 /// # Proved
 ///
-/// After `Ok`: `found`. After an error: `none`.
+/// After `Ok`: `found`. After an error: `none`, the bytes as a whole are no such encoding, unless the cause is `Memory`.
 ///
 /// ```text
 /// ensures found { IfOk result

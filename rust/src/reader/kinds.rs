@@ -11,21 +11,47 @@ use crate::sections::{ElementItem, Export, GlobalItem, Imports, MemoryType, Segm
 use crate::types::{TypeEntry, append_types, read_types};
 
 /// A kind of section, which selects the reader of its payload.
+///
+/// [`Section::kind`](crate::reader::Section::kind) returns it.
+/// [`read_section`](crate::reader::read_section) and [`shorten`](crate::reader::shorten) take
+/// it.
+///
+/// # Examples
+///
+/// ```
+/// use dolzhytik::fallible::Global;
+/// use dolzhytik::reader::{Items, ReadFault, SectionKind, read_section};
+///
+/// // A start section without its id: size 1, the function 5.
+/// let (items, taken) = read_section(Global, SectionKind::Start, &[1, 5])?;
+/// assert!(matches!((items, taken), (Items::Start(5), 2)));
+/// # Ok::<(), ReadFault>(())
+/// ```
 #[derive(Clone, Copy, PartialEq, Eq, Debug)]
 pub enum SectionKind {
     /// The code section: function bodies.
     Bodies,
     /// The data section.
     Segments,
+    /// The data count section.
     DataCount,
+    /// The element section.
     Elements,
+    /// The export section.
     Exports,
+    /// The function section.
     Functions,
+    /// The global section.
     Globals,
+    /// The import section.
     Imports,
+    /// The memory section.
     Memories,
+    /// The start section.
     Start,
+    /// The table section.
     Tables,
+    /// The tag section.
     Tags,
     /// The name section: names of the module and of its items.
     Names,
@@ -47,6 +73,7 @@ pub enum SectionKind {
     Custom,
     /// A section of any bytes.
     Raw,
+    /// The type section.
     Types,
 }
 
@@ -93,24 +120,61 @@ impl SectionKind {
 
 /// The decoded items of a section. Names, data and raw bytes are slices of the input; lists are in
 /// memory of the allocator. They can be changed in place, and [`encode_items`] encodes them.
+///
+/// [`Section::items`](crate::reader::Section::items) and
+/// [`read_section`](crate::reader::read_section) return it.
+///
+/// # Examples
+///
+/// ```
+/// use dolzhytik::fallible::{ExportKind, Global};
+/// use dolzhytik::reader::{
+///     Items, ReadFault, SectionKind, encode_items, read_section,
+/// };
+///
+/// // An export section without its id: size 5, one export, "f", the function (00) 7.
+/// let (items, _) =
+///     read_section(Global, SectionKind::Exports, b"\x05\x01\x01f\x00\x07")?;
+/// let Items::Exports(exports) = &items else { panic!("another kind") };
+/// assert_eq!(
+///     (exports[0].name, exports[0].kind, exports[0].index),
+///     ("f", ExportKind::Func, 7)
+/// );
+///
+/// let mut payload = vec![];
+/// encode_items(&items, &mut payload)?;
+/// assert_eq!(payload, *b"\x01\x01f\x00\x07");
+/// # Ok::<(), ReadFault>(())
+/// ```
 #[derive(Debug)]
 pub enum Items<'a, A: Allocator = Global> {
+    /// The bodies of a code section.
     Bodies(Vec<Body<A>, A>),
+    /// The segments of a data section.
     Segments(Vec<Segment<'a, A>, A>),
+    /// The number of a data count section.
     DataCount(u32),
+    /// The segments of an element section.
     Elements(Vec<ElementItem<A>, A>),
+    /// The exports.
     Exports(Vec<Export<'a>, A>),
     /// The indices of the functions' types.
     Functions(Vec<u32, A>),
+    /// The globals.
     Globals(Vec<GlobalItem<A>, A>),
     /// Imports and groups of imports, whose lists are owned.
     Imports(Vec<Imports<'a, A>, A>),
+    /// The memories.
     Memories(Vec<MemoryType, A>),
     /// The index of a function.
     Start(u32),
+    /// The tables.
     Tables(Vec<TableItem<A>, A>),
+    /// The tags.
     Tags(Vec<TagType, A>),
+    /// The subsections of a name section.
     Names(Vec<NameItem<'a, A>, A>),
+    /// The subsections of a linking section.
     Linking(Vec<LinkItem<'a, A>, A>),
     /// The name of each field, and its values, which are a name and a version.
     Producers(Vec<(&'a str, Vec<(&'a str, &'a str), A>), A>),
@@ -124,13 +188,19 @@ pub enum Items<'a, A: Allocator = Global> {
     CoreInstances(Vec<(u32, Vec<u32, A>, Vec<u32, A>), A>),
     /// The name of the thread, and the frames of its stack.
     CoreStack {
+        /// The name of the thread.
         thread: &'a str,
+        /// The frames.
         frames: Vec<CoreFrame<A>, A>,
     },
+    /// A custom section as its name and data, such as one whose name no kind has.
     Custom {
+        /// The name.
         name: &'a str,
+        /// The data.
         bytes: &'a [u8],
     },
+    /// A payload as bytes, such as that of a section whose id is above 13.
     Raw(&'a [u8]),
     /// Types and recursion groups.
     Types(Vec<TypeEntry<A>, A>),
@@ -191,7 +261,7 @@ pub(crate) fn kind_of_name(name: &str) -> SectionKind {
 ///
 /// # Proved
 ///
-/// After `Ok`: `found`. After an error: `none`.
+/// After `Ok`: `found`, the bytes as a whole encode the value. After an error: `none`, the bytes as a whole are no such encoding, unless the cause is `Memory`.
 ///
 /// ```text
 /// ensures found { IfOk result
@@ -263,7 +333,7 @@ pub(crate) fn read_content<'a, A: Allocator + Copy + 'a, G: Grammar>(
 ///
 /// # Proved
 ///
-/// After `Ok`: `found`. After an error: `none`.
+/// After `Ok`: `found`. After an error: `none`, the bytes as a whole are no such encoding, unless the cause is `Memory`.
 ///
 /// ```text
 /// ensures found { IfOk result
@@ -308,7 +378,7 @@ pub(crate) fn read_number<'a, A: Allocator + Copy, G: Grammar>(
 ///
 /// # Proved
 ///
-/// After `Ok`: `ok`. After an error: `err`. In any case: `too_long`.
+/// After `Ok`: `ok`, the sink gains the minimal encoding. After an error: `err`, the bytes of the sink are unchanged. In any case: `too_long`, a value that has an encoding never gives `TooLong`.
 ///
 /// ```text
 /// ensures ok { OnOk result
@@ -342,20 +412,27 @@ fn append_custom<B: Sink>(name: &str, bytes: &[u8], sink: &mut B) -> Result<()> 
 /// Items that no bytes encode have no promise: an instruction whose arguments are not those of its
 /// opcode, say.
 ///
-/// ```text
-/// let mut payload = Vec::new(alloc);
-/// encode_items(&Items::Functions(indices), &mut payload)?;
-/// module.section(&RawSection { id: 3, bytes: &payload })?;
-/// ```
-///
 /// # Errors
 ///
 /// Returns `TooLong` if a count or a length is above 4294967295, and `Memory` if an allocation
 /// fails.
 ///
+/// # Examples
+///
+/// ```
+/// use dolzhytik::fallible::{Global, Refused};
+/// use dolzhytik::reader::{Items, encode_items};
+///
+/// let mut payload = vec![];
+/// encode_items(&Items::<Global>::Start(300), &mut payload)?;
+/// // 300 = 2 * 128 + 44.
+/// assert_eq!(payload, [0xAC, 0x02]);
+/// # Ok::<(), Refused>(())
+/// ```
+///
 /// # Proved
 ///
-/// After `Ok`: `ok`. After an error: `err`. In any case: `too_long`.
+/// After `Ok`: `ok`, the sink gains the minimal encoding. After an error: `err`, the bytes of the sink are unchanged. In any case: `too_long`, a value that has an encoding never gives `TooLong`.
 ///
 /// ```text
 /// ensures ok { OnOk result

@@ -7,6 +7,8 @@
 ///
 /// # Proved
 ///
+/// Two sections of a kind have the same minimal encoding exactly if they decode to the same items.
+///
 /// ```text
 /// ensures { HaveOneEncoding }
 /// ```
@@ -17,6 +19,8 @@ pub fn encodings() {}
 /// Bytes are a module with exactly one listing, or stop being a module at exactly one section.
 ///
 /// # Proved
+///
+/// A list of a module is unambiguous: the bytes have one list of lines, or stop at one section, and never both.
 ///
 /// ```text
 /// ensures { HaveOneListing }
@@ -29,6 +33,8 @@ pub fn modules() {}
 /// an allocation fails.
 ///
 /// # Proved
+///
+/// A minimized module can be minimized again, unless memory is refused, and becomes the same bytes.
 ///
 /// ```text
 /// ensures { IsIdempotent }

@@ -12,7 +12,7 @@ use crate::code::shorten_body;
 ///
 /// # Proved
 ///
-/// After `Ok`: `found`. After an error: `none`. In any case: `front`.
+/// After `Ok`: `found`. After an error: `none`, the bytes as a whole are no such encoding, unless the cause is `Memory`. In any case: `front`. `front`: The new bytes begin with the old ones.
 ///
 /// ```text
 /// ensures found { OnOk result
@@ -48,7 +48,7 @@ fn shorten_bodies<A: Allocator + Copy, B: Sink>(
 ///
 /// # Proved
 ///
-/// After `Ok`: `found`. After an error: `none`. In any case: `front`.
+/// After `Ok`: `found`. After an error: `none`, the bytes as a whole are no such encoding, unless the cause is `Memory`. In any case: `front`. `front`: The new bytes begin with the old ones.
 ///
 /// ```text
 /// ensures found { OnOk result
@@ -81,7 +81,7 @@ fn shorten_content<A: Allocator + Copy, B: Sink>(
 ///
 /// # Proved
 ///
-/// After `Ok`: `found`. After an error: `none`. In any case: `front`.
+/// After `Ok`: `found`. After an error: `none`, the bytes as a whole are no such encoding, unless the cause is `Memory`. In any case: `front`. `front`: The new bytes begin with the old ones.
 ///
 /// ```text
 /// ensures found { OnOk result
@@ -113,19 +113,27 @@ fn shorten_sized<A: Allocator + Copy, B: Sink>(
 /// In a code section that becomes shorter, instructions move. Offsets into it that are kept
 /// elsewhere are then wrong: relocations, debugging information, branch hints and source maps.
 ///
-/// ```text
-/// let padded = [0x86, 0x00, 0x01, 0x85, 0x80, 0x80, 0x80, 0x00];
-/// let taken = shorten(SectionKind::Functions, &padded, &mut sink)?;
-/// // 02 01 05 was appended, and 8 bytes were taken
-/// ```
-///
 /// # Errors
 ///
 /// Any error but `Memory` means that the bytes do not begin with such a section.
 ///
+/// # Examples
+///
+/// ```
+/// use dolzhytik::fallible::{Global, Vec};
+/// use dolzhytik::reader::{ReadFault, SectionKind, shorten};
+///
+/// // Size 6, one function, of type 5: both in more bytes than needed.
+/// let padded = [0x86, 0x00, 0x01, 0x85, 0x80, 0x80, 0x80, 0x00];
+/// let mut minimal = Vec::new(Global);
+/// let taken = shorten(SectionKind::Functions, &padded, &mut minimal)?;
+/// assert_eq!((&minimal[..], taken), (&[2, 1, 5][..], 8));
+/// # Ok::<(), ReadFault>(())
+/// ```
+///
 /// # Proved
 ///
-/// After `Ok`: `ok`. After an error: `err`, `none`.
+/// After `Ok`: `ok`. After an error: `err`, the bytes of the sink are unchanged; `none`, the bytes do not begin with such an encoding, unless the cause is `Memory`. `ok`: The first `n` bytes are a section of this kind. The buffer gains its minimal encoding, which has at most `n` bytes.
 ///
 /// ```text
 /// ensures ok { IfOk result
@@ -148,7 +156,7 @@ pub fn shorten<A: Allocator + Copy>(
 ///
 /// # Proved
 ///
-/// After `Ok`: `ok`. After an error: `err`, `none`.
+/// After `Ok`: `ok`. After an error: `err`, the bytes of the sink are unchanged; `none`, the bytes do not begin with such an encoding, unless the cause is `Memory`. `ok`: The first `n` bytes are a section of this kind. The buffer gains its minimal encoding, which has at most `n` bytes.
 ///
 /// ```text
 /// ensures ok { IfOk result

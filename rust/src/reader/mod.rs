@@ -29,12 +29,24 @@ mod whole;
 
 pub use code_bodies::{Bodies, CodeBody};
 pub use kinds::{Items, SectionKind, encode_items};
+#[doc(alias = "minimize")]
+#[doc(alias = "leb128")]
+#[doc(alias = "wasm-opt")]
 pub use minimal::shorten;
 pub use modules::{Listed, list_module};
-pub use outlines::{Outlined, outline};
+pub use outlines::Outlined;
+#[doc(alias = "inspect")]
+#[doc(alias = "objdump")]
+pub use outlines::outline;
 pub use read_error::ReadError;
+#[doc(alias = "parse")]
+#[doc(alias = "decode")]
 pub use section::read_section;
-pub use sections::{Section, Sections};
+pub use sections::Section;
+#[doc(alias = "parse")]
+#[doc(alias = "wasmparser")]
+#[doc(alias = "iterate")]
+pub use sections::Sections;
 pub use crate::base::reading::ReadFault;
 pub use crate::code::reading::{Body, Expression};
 pub use crate::custom::{CoreFrame, LinkItem, NameItem, Symbol};
@@ -43,4 +55,12 @@ pub use crate::sections::{
     ElementItem, ElementItemMode, ElementList, GlobalItem, Segment, TableItem,
 };
 pub use crate::types::TypeEntry;
-pub use whole::{ModuleFault, Offsets, shorten_module};
+pub use whole::ModuleFault;
+#[doc(alias = "relocations")]
+#[doc(alias = "source map")]
+#[doc(alias = "dwarf")]
+pub use whole::Offsets;
+#[doc(alias = "minimize")]
+#[doc(alias = "leb128")]
+#[doc(alias = "wasm-opt")]
+pub use whole::shorten_module;

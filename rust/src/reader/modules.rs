@@ -11,8 +11,25 @@ use crate::base::{Padded, ReadFault};
 pub(crate) const HEADER: [u8; 8] = [0x00, 0x61, 0x73, 0x6D, 0x01, 0x00, 0x00, 0x00];
 
 /// A section in the listing of a module.
+///
+/// [`list_module`](crate::reader::list_module) returns them.
+///
+/// # Examples
+///
+/// ```
+/// use dolzhytik::fallible::Global;
+/// use dolzhytik::reader::{Listed, ReadFault, list_module};
+///
+/// // A custom section: id 0, size 2, the name "a".
+/// let lines = list_module(Global, b"\0asm\x01\0\0\0\0\x02\x01a")?;
+/// let [Listed { id: 0, size: 2, items: None }] = lines[..] else {
+///     panic!("other sections")
+/// };
+/// # Ok::<(), (usize, ReadFault)>(())
+/// ```
 #[derive(Clone, Copy, PartialEq, Eq, Debug)]
 pub struct Listed {
+    /// The id of the section.
     pub id: u8,
     /// The length of its payload, in bytes.
     pub size: u32,
@@ -25,7 +42,7 @@ pub struct Listed {
 ///
 /// # Proved
 ///
-/// After `Ok`: `found`. After an error: `none`, `cause`.
+/// After `Ok`: `found`. After an error: `none`, the bytes do not begin with such an encoding; `cause`.
 ///
 /// ```text
 /// ensures found { IfOk result (λ rest. bytes.now ≡ header ++ rest.now) }
@@ -51,7 +68,7 @@ pub(crate) fn read_header(bytes: &[u8]) -> Result<&[u8], ReadFault> {
 ///
 /// # Proved
 ///
-/// After `Ok`: `found`. After an error: `none`.
+/// After `Ok`: `found`. After an error: `none`, the bytes as a whole are no such encoding, unless the cause is `Memory`.
 ///
 /// ```text
 /// ensures found { IfOk result
@@ -82,9 +99,21 @@ fn line_of<A: Allocator + Copy>(section: &Section<'_, A>) -> Result<Listed, Read
 /// section at which the bytes stop being a module. It is 0 if they do not begin with the header.
 /// For `Memory` it is the section that was being decoded, which no contract says.
 ///
+/// # Examples
+///
+/// ```
+/// use dolzhytik::fallible::Global;
+/// use dolzhytik::reader::{ReadFault, list_module};
+///
+/// // A function section: id 3, size 3, two functions.
+/// let lines = list_module(Global, b"\0asm\x01\0\0\0\x03\x03\x02\x05\x06")?;
+/// assert_eq!((lines[0].id, lines[0].size, lines[0].items), (3, 3, Some(2)));
+/// # Ok::<(), (usize, ReadFault)>(())
+/// ```
+///
 /// # Proved
 ///
-/// After `Ok`: `found`. After an error: `none`, `header`.
+/// After `Ok`: `found`. After an error: `none`, the bytes stop being a module at this section, unless the cause is `Memory`; `header`, with the number 0 the cause is `Ended`, `UnknownTag` or `Memory`. `found`: The bytes are a module whose sections have these lines.
 ///
 /// ```text
 /// ensures found { IfOk result (λ lines. HasLines bytes.now lines.items) }

@@ -7,8 +7,26 @@ use crate::alloc::Allocator;
 use crate::base::ReadFault;
 
 /// A section in the outline of a module.
+///
+/// [`outline`](crate::reader::outline) returns them.
+///
+/// # Examples
+///
+/// ```
+/// use dolzhytik::fallible::Global;
+/// use dolzhytik::reader::{Outlined, ReadFault, outline};
+///
+/// fn total(lines: &[Outlined<'_>]) -> u32 {
+///     lines.iter().map(|line| line.size).sum()
+/// }
+///
+/// let lines = outline(Global, b"\0asm\x01\0\0\0\x03\x02\x01\x05")?;
+/// assert_eq!(total(&lines), 2);
+/// # Ok::<(), (usize, ReadFault)>(())
+/// ```
 #[derive(Clone, Copy, PartialEq, Eq, Debug)]
 pub struct Outlined<'a> {
+    /// The id of the section.
     pub id: u8,
     /// The offset of the payload in the module, in bytes.
     pub offset: usize,
@@ -27,7 +45,7 @@ pub struct Outlined<'a> {
 ///
 /// # Proved
 ///
-/// After `Ok`: `found`. After an error: `memory`.
+/// After `Ok`: `found`. After an error: `memory`, the cause is `Memory`. `found`: The payload decodes to this number of items of the kind. There is no number if it does not decode, or if its items are not counted.
 ///
 /// ```text
 /// ensures found { IfOk result
@@ -49,7 +67,7 @@ fn count<A: Allocator + Copy>(section: &Section<'_, A>) -> Result<Option<u32>, R
 ///
 /// # Proved
 ///
-/// After `Ok`: `found`. After an error: `memory`.
+/// After `Ok`: `found`. After an error: `memory`, the cause is `Memory`. `found`: The line describes a section whose id is at this offset.
 ///
 /// ```text
 /// ensures found { IfOk result
@@ -80,9 +98,22 @@ fn line_of<'a, A: Allocator + Copy>(section: &Section<'a, A>) -> Result<Outlined
 /// first section that is not an id and a size-prefixed payload. It is 0 if the bytes do not begin
 /// with the header.
 ///
+/// # Examples
+///
+/// ```
+/// use dolzhytik::fallible::Global;
+/// use dolzhytik::reader::{ReadFault, outline};
+///
+/// // A custom section: id 0, size 2, the name "a". A section of the id 14: size 1.
+/// let lines = outline(Global, b"\0asm\x01\0\0\0\0\x02\x01a\x0E\x01\xFF")?;
+/// assert_eq!((lines[0].name, lines[0].offset), (Some("a"), 10));
+/// assert_eq!((lines[1].id, lines[1].size, lines[1].items), (14, 1, None));
+/// # Ok::<(), (usize, ReadFault)>(())
+/// ```
+///
 /// # Proved
 ///
-/// After `Ok`: `found`. After an error: `none`, `no_module`.
+/// After `Ok`: `found`. After an error: `none`; `no_module`, the bytes are no module, unless the cause is `Memory`. `found`: The bytes are a module of sections that the lines describe.
 ///
 /// ```text
 /// ensures found { IfOk result (λ lines. HasOutline bytes.now lines.items) }

@@ -5,12 +5,20 @@ use crate::base::{DecodeError, ReadFault};
 
 /// The cause of a failed decoding, and its offset in the module.
 ///
-/// ```text
-/// // unexpected end of input at offset 0x1a3
-/// println!("{error}");
+/// # Examples
+///
+/// ```
+/// use dolzhytik::fallible::Global;
+/// use dolzhytik::reader::Sections;
+///
+/// // A section of the size 9, of which one byte is there.
+/// let module = b"\0asm\x01\0\0\0\x03\x09\x01";
+/// let error = Sections::new(Global, module).unwrap().next().unwrap().unwrap_err();
+/// assert_eq!(error.to_string(), "unexpected end of input at offset 0xb");
 /// ```
 #[derive(Clone, Copy, PartialEq, Eq, Debug)]
 pub struct ReadError {
+    /// The cause.
     pub cause: ReadFault,
     /// The offset of the first byte that cannot be part of an encoding, from the start of the
     /// module, in bytes; the end of a payload that ends too soon; the first byte of a name for
@@ -45,6 +53,8 @@ impl ReadError {
     /// [How to read clauses](crate::definitions).
     ///
     /// # Proved
+    ///
+    /// In any case: `cause`, the result has the cause of the error; `from`; `within`.
     ///
     /// ```text
     /// ensures cause { result.cause ≡ error.cause }

@@ -8,18 +8,28 @@ use crate::base::{Padded, ReadFault, Readable};
 /// Decodes the section at the front, and returns its items and its length in bytes. The bytes begin
 /// with the section's size prefix, after its id.
 ///
-/// ```text
-/// let (items, taken) = read_section(alloc, SectionKind::Functions, &[0x02, 0x01, 0x05, 0x99])?;
-/// // items are the one index 5, and 3 bytes were taken
-/// ```
-///
 /// # Errors
 ///
 /// Any error but `Memory` means that the bytes do not begin with such a section.
 ///
+/// # Examples
+///
+/// ```
+/// use dolzhytik::fallible::Global;
+/// use dolzhytik::reader::{Items, ReadFault, SectionKind, read_section};
+///
+/// // A function section without its id: size 2, one function, of type 5. Another byte
+/// // follows.
+/// let (items, taken) =
+///     read_section(Global, SectionKind::Functions, &[2, 1, 5, 0xFF])?;
+/// let Items::Functions(types) = items else { panic!("another kind") };
+/// assert_eq!((&types[..], taken), (&[5][..], 3));
+/// # Ok::<(), ReadFault>(())
+/// ```
+///
 /// # Proved
 ///
-/// After `Ok`: `found`. After an error: `none`.
+/// After `Ok`: `found`. After an error: `none`, the bytes do not begin with such an encoding, unless the cause is `Memory`. `found`: The first `n` bytes are a section of this kind, possibly padded, with this content.
 ///
 /// ```text
 /// ensures found { IfOk result (λ x. Takes kind bytes.now (contents_of x.0) x.1) }

@@ -29,13 +29,6 @@ fn common_length(bytes: &[u8], other: &[u8]) -> usize {
 
 /// The sections of a module, one after another. It allocates nothing.
 ///
-/// ```text
-/// for section in Sections::new(alloc, module)? {
-///     let section = section?;
-///     // section.id(), section.name(), section.range(), section.items()?
-/// }
-/// ```
-///
 /// It splits a module, and does not validate it: sections may have any ids, in any order and number.
 /// What is decoded of a section is in memory of the allocator.
 ///
@@ -43,6 +36,24 @@ fn common_length(bytes: &[u8], other: &[u8]) -> usize {
 ///
 /// An error but `Memory` means that the bytes at the offset of the next section are not an id and a
 /// size-prefixed payload. It is the last item.
+///
+/// # Examples
+///
+/// ```
+/// use dolzhytik::fallible::Global;
+/// use dolzhytik::reader::{ReadError, Sections};
+///
+/// // The header; a function section, id 3, of one function; a custom section, id 0, of
+/// // the name "a".
+/// let module = b"\0asm\x01\0\0\0\x03\x02\x01\x05\0\x02\x01a";
+/// let mut found = vec![];
+/// for section in Sections::new(Global, module)? {
+///     let section = section?;
+///     found.push((section.id(), section.name(), section.range()));
+/// }
+/// assert_eq!(found, [(3, None, 10..12), (0, Some("a"), 14..16)]);
+/// # Ok::<(), ReadError>(())
+/// ```
 #[derive(Clone, Debug)]
 pub struct Sections<'a, A: Allocator = Global> {
     alloc: A,
@@ -59,9 +70,21 @@ impl<'a, A: Allocator + Copy> Sections<'a, A> {
     /// are fewer than 8, and otherwise `UnknownTag` at the first byte that differs. A component
     /// differs in the version, at offset 4.
     ///
+    /// # Examples
+    ///
+    /// ```
+    /// use dolzhytik::fallible::Global;
+    /// use dolzhytik::reader::{ReadFault, Sections};
+    ///
+    /// assert!(Sections::new(Global, b"\0asm\x01\0\0\0").is_ok());
+    /// // A component has another version.
+    /// let error = Sections::new(Global, b"\0asm\x0D\0\x01\0").unwrap_err();
+    /// assert_eq!((error.cause, error.offset), (ReadFault::UnknownTag, 4));
+    /// ```
+    ///
     /// # Proved
     ///
-    /// After `Ok`: `found`, `offset`, `same`. After an error: `none`, `cause`, `within`.
+    /// After `Ok`: `found`, the module is the header, and then the bytes ahead of the iterator; `offset`, the offset is that after the header; `same`, the iterator is over these bytes. After an error: `none`, the bytes do not begin with such an encoding; `cause`, the cause is `Ended` or `UnknownTag`; `within`, the offset of the error is in the module, or at its end.
     ///
     /// ```text
     /// ensures found { IfOk result (λ it. module.now ≡ header ++ ahead it) }
@@ -148,6 +171,26 @@ impl<'a, A: Allocator + Copy> FusedIterator for Sections<'a, A> {}
 /// A section of a module, whose payload is not yet decoded.
 ///
 /// Calls that decode accept all encodings that the standard admits.
+///
+/// [`Sections`](crate::reader::Sections) yields it, and
+/// [`Module::section`](crate::Module::section) copies it.
+///
+/// # Examples
+///
+/// ```
+/// use dolzhytik::fallible::Global;
+/// use dolzhytik::reader::{Items, ReadError, SectionKind, Sections};
+///
+/// // A function section: id 3, size 2, one function, of type 5.
+/// let module = b"\0asm\x01\0\0\0\x03\x02\x01\x05";
+/// let section = Sections::new(Global, module)?.next().unwrap()?;
+/// assert_eq!((section.id(), section.kind()), (3, Some(SectionKind::Functions)));
+/// assert_eq!((section.offset(), section.payload()), (8, &[1, 5][..]));
+/// assert_eq!(section.count()?, Some(1));
+/// let Items::Functions(types) = section.items()? else { panic!("another kind") };
+/// assert_eq!(types[..], [5]);
+/// # Ok::<(), ReadError>(())
+/// ```
 #[derive(Clone, Copy, Debug)]
 pub struct Section<'a, A: Allocator = Global> {
     alloc: A,
@@ -249,6 +292,8 @@ impl<'a, A: Allocator + Copy> Section<'a, A> {
     ///
     /// # Proved
     ///
+    /// In any case: `start`, the range is as long as the payload; `end`, it ends with the section; `after`, it begins after the id.
+    ///
     /// ```text
     /// ensures start { result.start + length self.now.section.payload ≡ end_of self.now }
     /// ensures end { result.end ≡ end_of self.now }
@@ -283,9 +328,23 @@ impl<'a, A: Allocator + Copy> Section<'a, A> {
     ///
     /// An error but `Memory` means that the payload does not decode as the section's kind.
     ///
+    /// # Examples
+    ///
+    /// ```
+    /// use dolzhytik::fallible::Global;
+    /// use dolzhytik::reader::{ReadError, Sections};
+    ///
+    /// // A function section of two functions; a custom section.
+    /// let module = b"\0asm\x01\0\0\0\x03\x03\x02\x05\x06\0\x02\x01a";
+    /// let counts: Result<Vec<_>, _> =
+    ///     Sections::new(Global, module)?.map(|section| section?.count()).collect();
+    /// assert_eq!(counts?, [Some(2), None]);
+    /// # Ok::<(), ReadError>(())
+    /// ```
+    ///
     /// # Proved
     ///
-    /// After `Ok`: `found`. After an error: `none`, `within`.
+    /// After `Ok`: `found`, the payload encodes items, and the result is their number if they are counted. After an error: `none`, the bytes as a whole are no such encoding, unless the cause is `Memory`; `within`, the offset of the error is in the payload.
     ///
     /// ```text
     /// ensures found { IfOk result
@@ -321,7 +380,7 @@ impl<'a, A: Allocator + Copy> Section<'a, A> {
     ///
     /// # Proved
     ///
-    /// After `Ok`: `found`. After an error: `none`, `within`.
+    /// After `Ok`: `found`, the payload encodes the items. After an error: `none`, the bytes as a whole are no such encoding, unless the cause is `Memory`; `within`, the offset of the error is in the payload.
     ///
     /// ```text
     /// ensures found { IfOk result

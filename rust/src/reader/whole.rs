@@ -18,6 +18,24 @@ use crate::base::ReadFault;
 ///   `metadata.code.*`;
 /// - into any section that a relocation names: `reloc.*`;
 /// - into code, from the first byte of the module: `sourceMappingURL`.
+///
+/// # Examples
+///
+/// ```
+/// use dolzhytik::fallible::Global;
+/// use dolzhytik::reader::{ModuleFault, Offsets, shorten_module};
+///
+/// // A code section of one body with a padded size, 2 in two bytes; a source map.
+/// let mut module = b"\0asm\x01\0\0\0\x0A\x05\x01\x82\x00\0\x0B".to_vec();
+/// module.extend_from_slice(b"\0\x11\x10sourceMappingURL");
+///
+/// let mut minimal = vec![];
+/// let refused = shorten_module(Global, &module, Offsets::Refuse, &mut minimal);
+/// assert_eq!(refused, Err(ModuleFault::Offsets { number: 2 }));
+/// shorten_module(Global, &module, Offsets::LeaveOut, &mut minimal)?;
+/// assert_eq!(minimal[8..], [10, 4, 1, 2, 0x00, 0x0B]);
+/// # Ok::<(), ModuleFault>(())
+/// ```
 #[derive(Clone, Copy, PartialEq, Eq, Debug)]
 pub enum Offsets {
     /// Returns an error for a module whose offsets might become wrong. With any of these sections,
@@ -30,14 +48,32 @@ pub enum Offsets {
 }
 
 /// The cause of a failed minimization.
+///
+/// # Examples
+///
+/// ```
+/// use dolzhytik::fallible::Global;
+/// use dolzhytik::reader::{ModuleFault, Offsets, ReadFault, shorten_module};
+///
+/// // The size of the first section is missing.
+/// let error =
+///     shorten_module(Global, b"\0asm\x01\0\0\0\x03", Offsets::Refuse, &mut vec![]);
+/// assert_eq!(error, Err(ModuleFault::Section { number: 1, fault: ReadFault::Ended }));
+/// ```
 #[derive(Clone, Copy, PartialEq, Eq, Debug)]
 pub enum ModuleFault {
     /// The bytes at the section of this number, counted from 1, are not an id and a size-prefixed
     /// payload; 0 is the header. Or an allocation failed there.
-    Section { number: usize, fault: ReadFault },
+    Section {
+        /// The number of the section.
+        number: usize,
+        /// The cause.
+        fault: ReadFault },
     /// The section of this number, counted from 1, is the first that holds offsets which would
     /// become wrong.
-    Offsets { number: usize },
+    Offsets {
+        /// The number of the section.
+        number: usize },
 }
 
 /// Returns the text of a fault.
@@ -146,6 +182,8 @@ impl Target {
     ///
     /// # Proved
     ///
+    /// Whether a section of this id does not stay for such offsets, given whether it changes and whether its offset stays the same.
+    ///
     /// ```text
     /// ensures { AreMoved result self id is_changed is_level }
     /// ```
@@ -205,7 +243,7 @@ impl Standing<'_> {
 ///
 /// # Proved
 ///
-/// After `Ok`: `ok`. After an error: `err`, `memory`.
+/// After `Ok`: `ok`. After an error: `err`, the bytes of the sink are unchanged; `memory`, the cause is `Memory`.
 ///
 /// ```text
 /// ensures ok { IfOk result
@@ -251,6 +289,8 @@ fn is_left_out(section: &Standing<'_>, offsets: Offsets) -> bool {
 ///
 /// # Proved
 ///
+/// Whether the bytes differ from the section's size-prefixed payload.
+///
 /// ```text
 /// ensures { IsChange result (section_of section.now) encoding.now }
 /// ```
@@ -280,7 +320,7 @@ struct Written {
 ///
 /// # Proved
 ///
-/// After `Ok`: `ok`. After an error: `err`, `memory`.
+/// After `Ok`: `ok`. After an error: `err`, the bytes of the sink are unchanged; `memory`, the cause is `Memory`. `ok`: The buffer gains the output for the section.
 ///
 /// ```text
 /// ensures ok { IfOk result
@@ -538,7 +578,7 @@ fn is_same(a: usize, b: usize) -> bool {
 ///
 /// # Proved
 ///
-/// After `Ok`: `ok`. After an error: `none`. In any case: `front`.
+/// After `Ok`: `ok`. After an error: `none`. In any case: `front`. `ok`: The bytes begin with sections, followed by `rest`, and the output for these sections is appended. `front`: The new bytes begin with the old ones.
 ///
 /// ```text
 /// ensures ok { IfOk result
@@ -579,7 +619,7 @@ fn append_sections<A: Allocator + Copy, B: Sink>(
 ///
 /// # Proved
 ///
-/// After `Ok`: `ok`. After an error: `err`.
+/// After `Ok`: `ok`. After an error: `err`, the bytes of the sink are unchanged.
 ///
 /// ```text
 /// ensures ok { OnOk result (sink.new.items ≡ sink.old.items ++ header) }
@@ -597,7 +637,7 @@ fn begin_module<A: Sink>(spare: usize, sink: &mut A) -> Result<(), AllocError> {
 ///
 /// # Proved
 ///
-/// After `Ok`: `ok`. After an error: `why`. In any case: `front`.
+/// After `Ok`: `ok`. After an error: `why`. In any case: `front`. `ok`: The buffer gains the header and the output for each section: its minimal encoding, or its bytes unchanged if they do not decode by its kind. `kept` counts the unchanged ones. With `Refuse` every section keeps its offsets, and with `LeaveOut` exactly the sections that hold offsets are left out. The output is a module with the ids of the sections that are not left out, and is no longer than the input. `front`: The new bytes begin with the old ones. `why`: The meaning of an error. Either the section of this number is the first that is malformed, whatever its payload, and the bytes are not a module. Or the section of this number loses its offsets. `Memory` means nothing about the bytes.
 ///
 /// ```text
 /// ensures ok { IfOk result
@@ -650,17 +690,27 @@ fn append_module<A: Allocator + Copy, B: Sink>(
 /// is an error ([`Offsets::Refuse`]), or these sections are left out. A minimized module can always
 /// be minimized again, unless an allocation fails. Decoded items are in memory of the allocator.
 ///
-/// ```text
-/// let kept = shorten_module(alloc, bytes, Offsets::Refuse, &mut sink)?;
-/// ```
-///
 /// # Errors
 ///
 /// Returns the number of the section that failed, and the cause: see [`ModuleFault`].
 ///
+/// # Examples
+///
+/// ```
+/// use dolzhytik::fallible::Global;
+/// use dolzhytik::reader::{ModuleFault, Offsets, shorten_module};
+///
+/// // A function section: id 3, size 3, one function, of type 5 in two bytes.
+/// let module = b"\0asm\x01\0\0\0\x03\x03\x01\x85\x00";
+/// let mut minimal = vec![];
+/// let kept = shorten_module(Global, module, Offsets::Refuse, &mut minimal)?;
+/// assert_eq!((kept, &minimal[8..]), (0, &[3, 2, 1, 5][..]));
+/// # Ok::<(), ModuleFault>(())
+/// ```
+///
 /// # Proved
 ///
-/// After `Ok`: `ok`. After an error: `err`, `why`.
+/// After `Ok`: `ok`. After an error: `err`, the bytes of the sink are unchanged; `why`. `ok`: The buffer gains the header and the output for each section: its minimal encoding, or its bytes unchanged if they do not decode by its kind. `kept` counts the unchanged ones. With `Refuse` every section keeps its offsets, and with `LeaveOut` exactly the sections that hold offsets are left out. The output is a module with the ids of the sections that are not left out, and is no longer than the input. `why`: The meaning of an error. Either the section of this number is the first that is malformed, whatever its payload, and the bytes are not a module. Or the section of this number loses its offsets. `Memory` means nothing about the bytes.
 ///
 /// ```text
 /// ensures ok { IfOk result

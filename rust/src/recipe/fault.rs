@@ -4,6 +4,20 @@
 use crate::base::Refused;
 
 /// The cause of an error in a recipe.
+///
+/// # Examples
+///
+/// ```
+/// use dolzhytik::fallible::Global;
+/// use dolzhytik::fallible::recipe::{RecipeCause, assemble};
+///
+/// let causes = ["frob", "func", "body 0"]
+///     .map(|line| assemble(Global, line).unwrap_err().cause);
+/// assert_eq!(
+///     causes,
+///     [RecipeCause::UnknownCommand, RecipeCause::MissingWord, RecipeCause::BadHex]
+/// );
+/// ```
 #[derive(Clone, Copy, PartialEq, Eq, Debug)]
 pub enum RecipeCause {
     /// The first word of the line is not a command, or the kind of an export or an import is
@@ -29,9 +43,21 @@ pub enum RecipeCause {
 
 /// The error of a recipe, with the number of its line, counted from 1; 0 for an error after the
 /// last line.
+///
+/// # Examples
+///
+/// ```
+/// use dolzhytik::fallible::Global;
+/// use dolzhytik::fallible::recipe::{RecipeCause, RecipeFault, assemble};
+///
+/// let fault = assemble(Global, "func 0\nfunc x").unwrap_err();
+/// assert_eq!(fault, RecipeFault { line: 2, cause: RecipeCause::BadNumber });
+/// ```
 #[derive(Clone, Copy, PartialEq, Eq, Debug)]
 pub struct RecipeFault {
+    /// The number of the line, counted from 1, or 0.
     pub line: usize,
+    /// The cause.
     pub cause: RecipeCause,
 }
 

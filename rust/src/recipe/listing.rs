@@ -52,6 +52,8 @@ fn lines<A: Allocator>(alloc: A, sections: &[Listed]) -> Result<String<A>, Alloc
 ///
 /// # Proved
 ///
+/// The kept text is the text without the blanks at its end.
+///
 /// ```text
 /// ensures { DropsBlanks text.now result.now }
 /// ```
@@ -69,7 +71,7 @@ fn without_end(text: &[u8]) -> &[u8] {
 ///
 /// # Proved
 ///
-/// After `Ok`: `bytes`. After an error: `usage`.
+/// After `Ok`: `bytes`. After an error: `usage`. `bytes`: The text is the hexadecimal digits of the bytes, and blanks may follow.
 ///
 /// ```text
 /// ensures bytes { IfOk result (λ bytes. IsHexText text.now bytes.items) }
@@ -91,7 +93,7 @@ fn hex_bytes<A: Allocator>(alloc: A, text: &[u8]) -> Result<Vec<u8, A>, Trouble>
 ///
 /// # Proved
 ///
-/// After `Ok`: `listed`. After an error: `usage`.
+/// After `Ok`: `listed`. After an error: `usage`. `listed`: The text is the hexadecimal text of a module, and these are the lines of its sections.
 ///
 /// ```text
 /// ensures listed { IfOk result (λ lines. Lists text.now (string_bytes lines)) }

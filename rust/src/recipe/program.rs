@@ -85,7 +85,7 @@ impl From<AllocError> for Unread {
 ///
 /// # Proved
 ///
-/// After `Ok`: `bytes`, `end`.
+/// After `Ok`: `bytes`; `end`.
 ///
 /// ```text
 /// ensures bytes { IfOk result
@@ -113,7 +113,7 @@ fn read_to_end<A: Allocator, R: Read>(alloc: A, input: &mut R) -> Result<Vec<u8,
 ///
 /// # Proved
 ///
-/// After `Ok`: `text`, `good`, `line`. After an error: `usage`.
+/// After `Ok`: `text`; `good`; `line`. After an error: `usage`.
 ///
 /// ```text
 /// ensures text { IfOk result (λ _. IsUtf8 recipe.now) }
@@ -136,7 +136,7 @@ fn hex_line<A: Allocator + Copy>(alloc: A, recipe: &[u8]) -> Result<String<A>, T
 ///
 /// # Proved
 ///
-/// After `Ok`: `text`, `good`, `line`, `end`. After an error: `usage`.
+/// After `Ok`: `text`; `good`; `line`; `end`. After an error: `usage`.
 ///
 /// ```text
 /// ensures text { IfOk result (λ _. IfSome (I.remaining input.old) IsUtf8) }
@@ -165,7 +165,7 @@ fn answer_to_recipe<A: Allocator + Copy, I: Read>(
 ///
 /// # Proved
 ///
-/// After `Ok`: `listed`, `end`. After an error: `usage`.
+/// After `Ok`: `listed`; `end`. After an error: `usage`.
 ///
 /// ```text
 /// ensures listed { IfOk result
@@ -207,7 +207,7 @@ fn asks_to_read<A: Allocator>(args: &[String<A>]) -> bool {
 ///
 /// # Proved
 ///
-/// After `Ok`: `args`, `end`. After an error: `usage`. In any case: `text`, `good`, `line`, `listed`.
+/// After `Ok`: `args`; `end`. After an error: `usage`. In any case: `text`; `good`; `line`; `listed`.
 ///
 /// ```text
 /// ensures args { IfOk result (λ _. (length args.now ≡ 0) ⊎ AsksToRead args.now) }
@@ -281,6 +281,18 @@ fn report<E: Write>(err: &mut E, trouble: &Trouble) -> u8 {
 /// Runs the program, and returns its exit status. `args` are its arguments. Without any, the input
 /// is a recipe, whose module is written in hexadecimal. With `--read`, the input is a module in
 /// hexadecimal, whose sections are listed, a line each.
+///
+/// # Examples
+///
+/// ```
+/// use dolzhytik::fallible::Global;
+/// use dolzhytik::fallible::recipe::run;
+///
+/// let (mut out, mut errors) = (vec![], vec![]);
+/// let status = run(Global, &[], &mut &b"func 0"[..], &mut out, &mut errors);
+/// // The header; id 3, size 2, one function, of type 0.
+/// assert_eq!((status, &out[..]), (0, &b"0061736d0100000003020100\n"[..]));
+/// ```
 ///
 /// # Proved
 ///

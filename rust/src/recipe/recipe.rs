@@ -55,6 +55,8 @@ fn export_kind(word: &str) -> Option<ExportKind> {
 ///
 /// # Proved
 ///
+/// The module gains these sections if they fit.
+///
 /// ```text
 /// ensures { Puts (section_of K.section_id section.now)
 ///     (IsEncodableSection section.now) target.old target.new result }
@@ -75,7 +77,7 @@ fn put_counted<K: ItemKind, A: Allocator, B: Allocator>(
 ///
 /// # Proved
 ///
-/// After `Ok`: `ok`, `few`. In any case: `memory`.
+/// After `Ok`: `ok`; `few`. In any case: `memory`, no error is `TooLong`.
 ///
 /// ```text
 /// ensures ok { IfOk result
@@ -97,7 +99,7 @@ fn counted<A: Allocator>(alloc: A, pieces: &Pieces<A>) -> Result<Vec<u8, A>> {
 ///
 /// # Proved
 ///
-/// After `Ok`: `ok`. In any case: `memory`.
+/// After `Ok`: `ok`. In any case: `memory`, no error is `TooLong`.
 ///
 /// ```text
 /// ensures ok { IfOk result
@@ -117,6 +119,8 @@ fn body_of<A: Allocator>(alloc: A, runs: &Pieces<A>, instructions: &[u8]) -> Res
 ///
 /// # Proved
 ///
+/// The builder gains one entry with this encoding, or the call returns an error and changes nothing. A full builder, with 2^32 - 1 entries, returns `TooLong`.
+///
 /// ```text
 /// ensures { Adds (active_encoding 0 offset.now bytes.items)
 ///     (HasEncodableSize bytes.items) segments.old segments.new result }
@@ -133,6 +137,8 @@ fn add_data<A: Allocator>(
 
 impl<A: Allocator + Copy> Recipe<A> {
     /// # Proved
+    ///
+    /// No section has an item.
     ///
     /// ```text
     /// ensures { IsEmpty result }
@@ -160,6 +166,8 @@ impl<A: Allocator + Copy> Recipe<A> {
     /// Parses a line, and adds its item.
     ///
     /// # Proved
+    ///
+    /// The result and the effect of a call that decodes a line, given the entries or the error of the line.
     ///
     /// ```text
     /// ensures { Follows (entry_of version line.now) self.old self.new result }
@@ -252,6 +260,8 @@ impl<A: Allocator + Copy> Recipe<A> {
 
     /// # Proved
     ///
+    /// The result and the effect of a call that decodes a line, given the entries or the error of the line.
+    ///
     /// ```text
     /// ensures { Follows (type_entry words.entry.version
     ///         (counted_words words.entry.version words.entry.rest.now)) self.old self.new
@@ -268,6 +278,8 @@ impl<A: Allocator + Copy> Recipe<A> {
     }
 
     /// # Proved
+    ///
+    /// The result and the effect of a call that decodes a line, given the entries or the error of the line.
     ///
     /// ```text
     /// ensures { Follows (function_entry words.entry.version
@@ -286,6 +298,8 @@ impl<A: Allocator + Copy> Recipe<A> {
 
     /// # Proved
     ///
+    /// The result and the effect of a call that decodes a line, given the entries or the error of the line.
+    ///
     /// ```text
     /// ensures { Follows (memory_entry words.entry.version
     ///         (counted_words words.entry.version words.entry.rest.now)) self.old self.new
@@ -299,6 +313,8 @@ impl<A: Allocator + Copy> Recipe<A> {
     }
 
     /// # Proved
+    ///
+    /// The result and the effect of a call that decodes a line, given the entries or the error of the line.
     ///
     /// ```text
     /// ensures { Follows (global_entry words.entry.version
@@ -322,6 +338,8 @@ impl<A: Allocator + Copy> Recipe<A> {
 
     /// # Proved
     ///
+    /// The result and the effect of a call that decodes a line, given the entries or the error of the line.
+    ///
     /// ```text
     /// ensures { Follows (export_entry words.entry.version
     ///         (counted_words words.entry.version words.entry.rest.now)) self.old self.new
@@ -344,6 +362,8 @@ impl<A: Allocator + Copy> Recipe<A> {
     ///
     /// # Proved
     ///
+    /// The result and the effect of a call that decodes a line, given the entries or the error of the line.
+    ///
     /// ```text
     /// ensures { Follows (start_entry words.entry.version
     ///         (counted_words words.entry.version words.entry.rest.now)) self.old self.new
@@ -361,6 +381,8 @@ impl<A: Allocator + Copy> Recipe<A> {
     /// Parses the instructions of a function, which gets the locals since the last one.
     ///
     /// # Proved
+    ///
+    /// The result and the effect of a call that decodes a line, given the entries or the error of the line.
     ///
     /// ```text
     /// ensures { Follows (body_entry words.entry.version
@@ -380,6 +402,8 @@ impl<A: Allocator + Copy> Recipe<A> {
     }
 
     /// # Proved
+    ///
+    /// The result and the effect of a call that decodes a line, given the entries or the error of the line.
     ///
     /// ```text
     /// ensures { Follows (data_entry words.entry.version
@@ -402,6 +426,8 @@ impl<A: Allocator + Copy> Recipe<A> {
     ///
     /// # Proved
     ///
+    /// The result and the effect of a call that decodes a line, given the entries or the error of the line.
+    ///
     /// ```text
     /// ensures { Follows (name_entry (without_spaces words.entry.rest.now)) self.old self.new
     ///     result }
@@ -418,6 +444,8 @@ impl<A: Allocator + Copy> Recipe<A> {
     }
 
     /// # Proved
+    ///
+    /// The result and the effect of a call that decodes a line, given the entries or the error of the line.
     ///
     /// ```text
     /// ensures { Follows (import_entry words.entry.version
@@ -437,6 +465,8 @@ impl<A: Allocator + Copy> Recipe<A> {
 
     /// # Proved
     ///
+    /// The result and the effect of a call that decodes a line, given the entries or the error of the line.
+    ///
     /// ```text
     /// ensures { Follows (table_entry words.entry.version
     ///         (counted_words words.entry.version words.entry.rest.now)) self.old self.new
@@ -452,6 +482,8 @@ impl<A: Allocator + Copy> Recipe<A> {
     /// Parses references to functions, at an offset of table 0.
     ///
     /// # Proved
+    ///
+    /// The result and the effect of a call that decodes a line, given the entries or the error of the line.
     ///
     /// ```text
     /// ensures { Follows (elem_entry (counted_words words.entry.version words.entry.rest.now))
@@ -473,6 +505,8 @@ impl<A: Allocator + Copy> Recipe<A> {
     ///
     /// # Proved
     ///
+    /// The result and the effect of a call that decodes a line, given the entries or the error of the line.
+    ///
     /// ```text
     /// ensures { Follows (locals_entry words.entry.version
     ///         (counted_words words.entry.version words.entry.rest.now)) self.old self.new
@@ -493,6 +527,8 @@ impl<A: Allocator + Copy> Recipe<A> {
     ///
     /// # Proved
     ///
+    /// The module gains these sections if they fit.
+    ///
     /// ```text
     /// ensures { Puts (section_of 1 self.now.types)
     ///     (IsEncodableSection self.now.types) target.old target.new result }
@@ -511,6 +547,8 @@ impl<A: Allocator + Copy> Recipe<A> {
 
     /// # Proved
     ///
+    /// The module gains these sections if they fit.
+    ///
     /// ```text
     /// ensures { Puts (start_of (start_items self.now.start))
     ///     (All HasEncodableSize (start_items self.now.start)) target.old target.new result }
@@ -526,6 +564,8 @@ impl<A: Allocator + Copy> Recipe<A> {
 
     /// # Proved
     ///
+    /// The module gains these sections if they fit.
+    ///
     /// ```text
     /// ensures { Puts (section_of 10 self.now.code)
     ///     (IsEncodableSection self.now.code) target.old target.new result }
@@ -540,6 +580,8 @@ impl<A: Allocator + Copy> Recipe<A> {
     }
 
     /// # Proved
+    ///
+    /// The module gains these sections if they fit.
     ///
     /// ```text
     /// ensures { Puts (names_of self.now.names)
@@ -557,6 +599,8 @@ impl<A: Allocator + Copy> Recipe<A> {
     /// Appends the sections to the module, in the order of the standard.
     ///
     /// # Proved
+    ///
+    /// The module gains these sections if they fit.
     ///
     /// ```text
     /// ensures { Puts (listed self.now)
@@ -583,7 +627,7 @@ impl<A: Allocator + Copy> Recipe<A> {
     ///
     /// # Proved
     ///
-    /// After `Ok`: `ok`, `was_encodable`. In any case: `too_long`.
+    /// After `Ok`: `ok`; `was_encodable`. In any case: `too_long`. `was_encodable`: The items fit their sections.
     ///
     /// ```text
     /// ensures ok { IfOk result (λ bytes. bytes.items ≡ module_encoding (listed self.now)) }
@@ -652,18 +696,20 @@ impl<A: Allocator + Copy> Recipe<A> {
 /// Returns the first line with an error, and its cause; 0 is an error after the last line.
 ///
 /// ```
-/// # use dolzhytik::fallible::recipe::*;
+/// # fn example() -> Result<(), Box<dyn std::error::Error>> {
 /// # use dolzhytik::{fallible::*, reader::*};
-/// # fn example(alloc: Global) -> Result<(), Box<dyn std::error::Error>> {
-/// let module = assemble(alloc, "body 200020016a0b")?;
+/// use dolzhytik::fallible::Global;
+/// use dolzhytik::fallible::recipe::assemble;
+///
+/// let module = assemble(Global, "body 200020016a0b")?;
 /// # Ok(())
 /// # }
-/// # example(Global).unwrap();
+/// # example().unwrap();
 /// ```
 ///
 /// # Proved
 ///
-/// After `Ok`: `good`, `was_encodable`, `value`, `read`. After an error: `fault`.
+/// After `Ok`: `good`; `was_encodable`; `value`; `read`. After an error: `fault`. `was_encodable`: Every count and size that the module needs is at most 2^32 - 1. `read`: As `DecodesUniquely`, for a format that takes all of the bytes: `encoding` as a whole decodes to `x` alone. `fault`: The error names a line, or 0 after the last one, and the cause. No line before it has an error.
 ///
 /// ```text
 /// ensures good { OnOk result (All (IsGood First) (lines_of lines.now)) }
@@ -696,7 +742,7 @@ pub fn assemble<A: Allocator + Copy>(alloc: A, lines: &str) -> Result<Vec<u8, A>
 ///   type, and `mut` before it if the global is mutable.
 /// - `table MIN` and `table MIN MAX` add a table of function references.
 /// - `elem I N ..` adds references to functions at the offset I of table 0.
-/// - `locals N TYPE` gives the next `body` so many locals, after those of earlier such lines.
+/// - `locals N TYPE` adds N locals to the next `body`, after those of earlier such lines.
 ///
 /// Types are `i32`, `i64`, `f32`, `f64`, `v128`, `funcref` and `externref`. A word that begins with
 /// `#` begins a comment, up to the end of the line, but not in the text of `name`. Words after
@@ -708,18 +754,20 @@ pub fn assemble<A: Allocator + Copy>(alloc: A, lines: &str) -> Result<Vec<u8, A>
 /// for `locals` without a body after them.
 ///
 /// ```
-/// # use dolzhytik::fallible::recipe::*;
+/// # fn example() -> Result<(), Box<dyn std::error::Error>> {
 /// # use dolzhytik::{fallible::*, reader::*};
-/// # fn example(alloc: Global) -> Result<(), Box<dyn std::error::Error>> {
-/// let module = assemble_versioned(alloc, "version 2\nlocals 1 i32\nbody 20000b # local.get 0")?;
+/// use dolzhytik::fallible::Global;
+/// use dolzhytik::fallible::recipe::assemble_versioned;
+///
+/// let module = assemble_versioned(Global, "version 2\nlocals 1 i32\nbody 20000b # local.get 0")?;
 /// # Ok(())
 /// # }
-/// # example(Global).unwrap();
+/// # example().unwrap();
 /// ```
 ///
 /// # Proved
 ///
-/// After `Ok`: `good`, `used`, `was_encodable`, `value`, `read`. After an error: `fault`.
+/// After `Ok`: `good`; `used`; `was_encodable`; `value`; `read`. After an error: `fault`. `was_encodable`: Every count and size that the module needs is at most 2^32 - 1. `read`: As `DecodesUniquely`, for a format that takes all of the bytes: `encoding` as a whole decodes to `x` alone. `fault`: The error names a line, or 0 after the last one, and the cause. No line before it has an error.
 ///
 /// ```text
 /// ensures good { OnOk result

@@ -77,6 +77,8 @@ fn optional_number(word: Option<&str>) -> Result<Option<u64>, RecipeCause> {
 ///
 /// # Proved
 ///
+/// The result of a call that decodes some words, given their value or their error.
+///
 /// ```text
 /// ensures { Parses (limits_of words.entry.version
 ///         (counted_words words.entry.version words.entry.rest.now)) result }
@@ -119,6 +121,8 @@ pub(crate) fn val_type(word: &str) -> Option<ValType> {
 ///
 /// # Proved
 ///
+/// The result of a call that decodes some words, given their value or their error.
+///
 /// ```text
 /// ensures { Parses (imported_function words.entry.version
 ///         (counted_words words.entry.version words.entry.rest.now)) result }
@@ -134,6 +138,8 @@ fn imported_function(mut words: Words<'_>) -> Result<EntityType, RecipeCause> {
 /// Returns the type of an imported global. No word may remain.
 ///
 /// # Proved
+///
+/// The result of a call that decodes some words, given their value or their error.
 ///
 /// ```text
 /// ensures { Parses (global_of_type words.entry.version mutable word.now
@@ -158,6 +164,8 @@ fn global_of_type(
 ///
 /// # Proved
 ///
+/// The result of a call that decodes some words, given their value or their error.
+///
 /// ```text
 /// ensures { Parses (imported_global words.entry.version
 ///         (counted_words words.entry.version words.entry.rest.now)) result }
@@ -176,6 +184,8 @@ fn imported_global(mut words: Words<'_>) -> Result<EntityType, RecipeCause> {
 /// Parses the type of an import of this kind.
 ///
 /// # Proved
+///
+/// The result of a call that decodes some words, given their value or their error.
 ///
 /// ```text
 /// ensures { Parses (entity_of words.entry.version kind.now

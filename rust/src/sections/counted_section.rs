@@ -8,6 +8,21 @@ use crate::base::{Counted, Encode, EncodeOnce, Kind, Pieces, Result, Section};
 
 /// A kind of items that a section counts.
 ///
+/// A kind has no value: it is the type argument of
+/// [`CountedSection`](crate::fallible::CountedSection).
+///
+/// # Examples
+///
+/// ```
+/// use dolzhytik::fallible::{ExportItems, FunctionItems, ItemKind};
+///
+/// fn id_of<K: ItemKind>() -> u8 {
+///     K::id()
+/// }
+///
+/// assert_eq!([id_of::<FunctionItems>(), id_of::<ExportItems>()], [3, 7]);
+/// ```
+///
 /// # Defined
 ///
 /// ```text
@@ -30,6 +45,21 @@ pub trait ItemKind: Kind {
 }
 
 /// A record that can be added to a section of items of the kind `K`.
+///
+/// [`Counted`](crate::fallible::Counted) takes such a record, and so does
+/// [`add_all`](crate::fallible::add_all).
+///
+/// # Examples
+///
+/// ```
+/// use dolzhytik::fallible::{Global, Refused, TagKind, TagSection, TagType, add_all};
+///
+/// let tag = |func_type_idx| TagType { kind: TagKind::Exception, func_type_idx };
+/// let mut tags = TagSection::new(Global);
+/// add_all(&mut tags, &[tag(5), tag(6)])?;
+/// assert_eq!(tags.len(), 2);
+/// # Ok::<(), (usize, Refused)>(())
+/// ```
 pub trait RecordOf<K>: Encode {}
 
 /// A section of counted items of the kind `K`, modelled as the bytes of each entry.
@@ -38,6 +68,30 @@ pub trait RecordOf<K>: Encode {}
 ///
 /// An adding call that returns an error leaves the section unchanged. The error is `TooLong` only
 /// if the section is full or the item does not fit, and `Memory` only if an allocation fails.
+///
+/// It is the builder of core sections, such as
+/// [`ExportSection`](crate::fallible::ExportSection). The calls that add items are those of the
+/// kind `K`.
+///
+/// # Examples
+///
+/// ```
+/// use dolzhytik::fallible::{
+///     CountedSection, ExportKind, ExportSection, Global, Refused,
+/// };
+///
+/// /// Returns whether a section of any kind has entries.
+/// fn has_entries<K>(section: &CountedSection<K>) -> bool {
+///     !section.is_empty()
+/// }
+///
+/// let mut exports = ExportSection::new(Global);
+/// exports.export("f", ExportKind::Func, 0)?;
+/// assert!(has_entries(&exports));
+/// // The entry: a name of one byte, the kind 0, the index 0.
+/// assert_eq!(exports.piece(0), Some(&[1, b'f', 0, 0][..]));
+/// # Ok::<(), Refused>(())
+/// ```
 #[derive(Debug)]
 pub struct CountedSection<K, A: Allocator = Global> {
     pieces: Pieces<A>,
@@ -62,6 +116,8 @@ impl<K, A: Allocator> CountedSection<K, A> {
     ///
     /// # Proved
     ///
+    /// The result is true exactly if there are no entries.
+    ///
     /// ```text
     /// ensures { IsTrue result ↔ (length self.now ≡ 0) }
     /// ```
@@ -74,6 +130,8 @@ impl<K, A: Allocator> CountedSection<K, A> {
     /// Returns the bytes of the entry at `index`, or `None` if there is no such entry.
     ///
     /// # Proved
+    ///
+    /// The result is the entry at `index`, if there is one.
     ///
     /// ```text
     /// ensures { option_copied result ≡ slice_get self.now index }
@@ -88,6 +146,8 @@ impl<K, A: Allocator> CountedSection<K, A> {
     ///
     /// # Proved
     ///
+    /// The builder gains one entry with this encoding, or the call returns an error and changes nothing. A full builder, with 2^32 - 1 entries, returns `TooLong`.
+    ///
     /// ```text
     /// ensures { Adds (T.encoding given.now) (T.encodable given.now) self.old self.new result }
     /// ```
@@ -101,6 +161,8 @@ impl<K, A: Allocator> CountedSection<K, A> {
     ///
     /// # Asks
     ///
+    /// Each iterator in the value ends, and yields as many items as it reports: the impl says so by `lawful`.
+    ///
     /// ```text
     /// requires { T.lawful item }
     /// ```
@@ -108,6 +170,8 @@ impl<K, A: Allocator> CountedSection<K, A> {
     /// [How to read clauses](crate::definitions).
     ///
     /// # Proved
+    ///
+    /// The builder gains one entry with one of these encodings, or the call returns an error and changes nothing. A full builder, with 2^32 - 1 entries, returns `TooLong`.
     ///
     /// ```text
     /// ensures { AddsOnce (T.gives item) (T.encodable item) self.old self.new result }
@@ -121,6 +185,8 @@ impl<K, A: Allocator> CountedSection<K, A> {
     /// Adds an entry that is already encoded.
     ///
     /// # Proved
+    ///
+    /// The builder gains one entry with this encoding, or the call returns an error and changes nothing. A full builder, with 2^32 - 1 entries, returns `TooLong`.
     ///
     /// ```text
     /// ensures { Adds piece.now ⊤ self.old self.new result }
@@ -137,6 +203,8 @@ impl<K, A: Allocator + Copy> CountedSection<K, A> {
     ///
     /// # Proved
     ///
+    /// The result has no entries.
+    ///
     /// ```text
     /// ensures { result ≡ [] }
     /// ```
@@ -151,9 +219,13 @@ impl<K, A: Allocator + Copy> CountedSection<K, A> {
 
     /// Returns a section of the same entries, in memory of its own.
     ///
+    /// # Errors
+    ///
+    /// Returns [`Memory`](crate::fallible::Refused::Memory) if an allocation fails.
+    ///
     /// # Proved
     ///
-    /// After `Ok`: `same`. In any case: `memory`.
+    /// After `Ok`: `same`, the result equals the value. In any case: `memory`, no error is `TooLong`.
     ///
     /// ```text
     /// ensures same { IfOk result (λ section. section ≡ self.now) }

@@ -10,29 +10,62 @@ use crate::code::{ConstExpr, Expression};
 /// The data section: segments of bytes that a module copies to memories.
 ///
 /// ```
+/// # fn example() -> Result<(), Box<dyn std::error::Error>> {
 /// # use dolzhytik::{fallible::*, reader::*};
-/// # fn example(alloc: Global) -> Result<(), Box<dyn std::error::Error>> {
-/// # let mut module = Module::new(alloc)?;
-/// # let bytes = *b"\0\x01";
-/// let mut data = DataSection::new(alloc);
-/// data.active(0, &ConstExpr::i32_const(alloc, 42)?, b"hello".iter().copied())?;
+/// use dolzhytik::fallible::{ConstExpr, DataSection, Global, Module};
+///
+/// let mut module = Module::new(Global)?;
+/// let bytes = *b"\0\x01";
+/// let mut data = DataSection::new(Global);
+/// data.active(0, &ConstExpr::i32_const(Global, 42)?, b"hello".iter().copied())?;
 /// data.passive(bytes)?;
 /// module.section(&data)?;
 /// # Ok(())
 /// # }
-/// # example(Global).unwrap();
+/// # example().unwrap();
 /// ```
 pub type DataSection<A = Global> = CountedSection<DataItems, A>;
 
 /// The kind of a data section's items: segments of bytes.
+///
+/// It is the type argument of [`CountedSection`](crate::fallible::CountedSection) in
+/// [`DataSection`](crate::fallible::DataSection).
+///
+/// # Examples
+///
+/// ```
+/// use dolzhytik::fallible::{DataItems, DataSection, Global, ItemKind};
+///
+/// let section = DataSection::new(Global);
+/// assert_eq!((section.len(), DataItems::id()), (0, 11));
+/// ```
 #[derive(Clone, Copy, Debug)]
 pub struct DataItems;
 
 /// The mode of a data segment: when its bytes are copied to a memory.
+///
+/// It is a field of [`DataSegment`](crate::fallible::DataSegment).
+///
+/// # Examples
+///
+/// ```
+/// use dolzhytik::fallible::{
+///     ConstExpr, DataSection, DataSegment, DataSegmentMode, Global, Refused,
+/// };
+///
+/// let offset = ConstExpr::i32_const(Global, 8)?;
+/// let mode = DataSegmentMode::Active { memory_index: 0, offset: &offset };
+/// let mut section = DataSection::new(Global);
+/// section.segment(DataSegment { mode, bytes: *b"hi" })?;
+/// // Active in memory 0: 0. i32.const 8 and end: 41 08 0B. Two bytes.
+/// assert_eq!(section.piece(0), Some(&[0, 0x41, 8, 0x0B, 2, b'h', b'i'][..]));
+/// # Ok::<(), Refused>(())
+/// ```
 #[derive(Debug)]
 pub enum DataSegmentMode<'a, A: Allocator = Global> {
     /// The bytes are copied when the module is instantiated.
     Active {
+        /// The index of the memory.
         memory_index: u32,
         /// Computes the offset of the first byte in the memory.
         offset: &'a ConstExpr<A>,
@@ -42,18 +75,41 @@ pub enum DataSegmentMode<'a, A: Allocator = Global> {
 }
 
 /// A data segment, whose bytes an iterator yields.
+///
+/// [`DataSection`](crate::fallible::DataSection) takes it in `segment`.
+///
+/// # Examples
+///
+/// ```
+/// use dolzhytik::fallible::{
+///     DataSection, DataSegment, DataSegmentMode, Global, Refused,
+/// };
+///
+/// let mut section = DataSection::new(Global);
+/// let mode: DataSegmentMode<'_> = DataSegmentMode::Passive;
+/// section.segment(DataSegment { mode, bytes: *b"hi" })?;
+/// // Passive: 1. Two bytes.
+/// assert_eq!(section.piece(0), Some(&[1, 2, b'h', b'i'][..]));
+/// # Ok::<(), Refused>(())
+/// ```
 #[derive(Debug)]
 pub struct DataSegment<'a, D, A: Allocator = Global> {
+    /// Whether instantiation copies the bytes into a memory.
     pub mode: DataSegmentMode<'a, A>,
+    /// The bytes.
     pub bytes: D,
 }
 
 impl<'a, A: Allocator> DataSegmentMode<'a, A> {
     /// Returns the same mode.
     ///
+    /// # Errors
+    ///
+    /// Returns [`Memory`](crate::fallible::Refused::Memory) if an allocation fails.
+    ///
     /// # Proved
     ///
-    /// After `Ok`: `same`. In any case: `memory`.
+    /// After `Ok`: `same`, the result equals the value. In any case: `memory`, no error is `TooLong`.
     ///
     /// ```text
     /// ensures same { IfOk result (λ mode. mode ≡ self.now) }
@@ -78,9 +134,13 @@ impl<'a, A: Allocator> DataSegmentMode<'a, A> {
 impl<'a, D: Clone, A: Allocator> DataSegment<'a, D, A> {
     /// Returns the same segment: its mode, and a clone of its bytes.
     ///
+    /// # Errors
+    ///
+    /// Returns [`Memory`](crate::fallible::Refused::Memory) if an allocation fails.
+    ///
     /// # Proved
     ///
-    /// After `Ok`: `mode`, `bytes`. In any case: `memory`.
+    /// After `Ok`: `mode`; `bytes`. In any case: `memory`, no error is `TooLong`.
     ///
     /// ```text
     /// ensures mode { IfOk result (λ segment. segment.mode ≡ self.now.mode) }
@@ -129,7 +189,16 @@ impl<A: Allocator> DataSection<A> {
     /// Adds a segment. If there are too many bytes, it returns `TooLong` and requests none, as
     /// tests show.
     ///
+    /// # Errors
+    ///
+    /// Returns [`TooLong`](crate::fallible::Refused::TooLong) if the builder has 4294967295
+    /// entries, or if a count or length would pass 4294967295, and
+    /// [`Memory`](crate::fallible::Refused::Memory) if an allocation fails. The builder is then
+    /// unchanged.
+    ///
     /// # Asks
+    ///
+    /// The iterator ends, and yields as many items as it reports.
     ///
     /// ```text
     /// requires { HasKnownLength D.into_iter_gives D.IntoIter.can_next D.IntoIter.next_gives
@@ -139,6 +208,8 @@ impl<A: Allocator> DataSection<A> {
     /// Definitions: [`HasKnownLength`](crate::definitions::base::iterators::HasKnownLength). [How to read clauses](crate::definitions).
     ///
     /// # Proved
+    ///
+    /// The section gains one entry with the bytes that the iterator yields, or the call returns an error and changes nothing. More than 2^32 - 1 bytes give `TooLong`.
     ///
     /// ```text
     /// ensures { AddsBytes D.into_iter_gives D.IntoIter.next_gives D.IntoIter.remaining
@@ -166,7 +237,31 @@ impl<A: Allocator> DataSection<A> {
     /// Adds a segment whose bytes are copied to this memory when the module is instantiated. If
     /// there are too many bytes, it returns `TooLong`.
     ///
+    /// # Errors
+    ///
+    /// Returns [`TooLong`](crate::fallible::Refused::TooLong) if the builder has 4294967295
+    /// entries, or if a count or length would pass 4294967295, and
+    /// [`Memory`](crate::fallible::Refused::Memory) if an allocation fails. The builder is then
+    /// unchanged.
+    ///
+    /// # Examples
+    ///
+    /// ```
+    /// use dolzhytik::fallible::{ConstExpr, DataSection, Global, Refused};
+    ///
+    /// let offset = ConstExpr::i32_const(Global, 8)?;
+    /// let mut section = DataSection::new(Global);
+    /// section.active(0, &offset, *b"hi")?;
+    /// section.active(1, &offset, *b"hi")?;
+    /// // In memory 0: 0. In another memory: 2, and its index. i32.const 8 and end. Two bytes.
+    /// assert_eq!(section.piece(0), Some(&[0, 0x41, 8, 0x0B, 2, b'h', b'i'][..]));
+    /// assert_eq!(section.piece(1), Some(&[2, 1, 0x41, 8, 0x0B, 2, b'h', b'i'][..]));
+    /// # Ok::<(), Refused>(())
+    /// ```
+    ///
     /// # Asks
+    ///
+    /// The iterator ends, and yields as many items as it reports.
     ///
     /// ```text
     /// requires { HasKnownLength D.into_iter_gives D.IntoIter.can_next D.IntoIter.next_gives
@@ -176,6 +271,8 @@ impl<A: Allocator> DataSection<A> {
     /// Definitions: [`HasKnownLength`](crate::definitions::base::iterators::HasKnownLength). [How to read clauses](crate::definitions).
     ///
     /// # Proved
+    ///
+    /// The section gains one entry with the bytes that the iterator yields, or the call returns an error and changes nothing. More than 2^32 - 1 bytes give `TooLong`.
     ///
     /// ```text
     /// ensures { AddsBytes D.into_iter_gives D.IntoIter.next_gives D.IntoIter.remaining bytes
@@ -202,7 +299,28 @@ impl<A: Allocator> DataSection<A> {
     /// Adds a segment whose bytes are copied to a memory by an instruction. If there are too many
     /// bytes, it returns `TooLong`.
     ///
+    /// # Errors
+    ///
+    /// Returns [`TooLong`](crate::fallible::Refused::TooLong) if the builder has 4294967295
+    /// entries, or if a count or length would pass 4294967295, and
+    /// [`Memory`](crate::fallible::Refused::Memory) if an allocation fails. The builder is then
+    /// unchanged.
+    ///
+    /// # Examples
+    ///
+    /// ```
+    /// use dolzhytik::fallible::{DataSection, Global, Refused};
+    ///
+    /// let mut section = DataSection::new(Global);
+    /// section.passive(*b"hi")?;
+    /// // Passive: 1. Two bytes.
+    /// assert_eq!(section.piece(0), Some(&[1, 2, b'h', b'i'][..]));
+    /// # Ok::<(), Refused>(())
+    /// ```
+    ///
     /// # Asks
+    ///
+    /// The iterator ends, and yields as many items as it reports.
     ///
     /// ```text
     /// requires { HasKnownLength D.into_iter_gives D.IntoIter.can_next D.IntoIter.next_gives
@@ -212,6 +330,8 @@ impl<A: Allocator> DataSection<A> {
     /// Definitions: [`HasKnownLength`](crate::definitions::base::iterators::HasKnownLength). [How to read clauses](crate::definitions).
     ///
     /// # Proved
+    ///
+    /// The section gains one entry with the bytes that the iterator yields, or the call returns an error and changes nothing. More than 2^32 - 1 bytes give `TooLong`.
     ///
     /// ```text
     /// ensures { AddsBytes D.into_iter_gives D.IntoIter.next_gives D.IntoIter.remaining bytes
@@ -228,7 +348,15 @@ impl<A: Allocator> DataSection<A> {
 
     /// Adds a segment that is already encoded. The call does not check that it is one.
     ///
+    /// # Errors
+    ///
+    /// Returns [`TooLong`](crate::fallible::Refused::TooLong) if the builder has 4294967295
+    /// entries, and [`Memory`](crate::fallible::Refused::Memory) if an allocation fails. The
+    /// builder is then unchanged.
+    ///
     /// # Proved
+    ///
+    /// The builder gains one entry with this encoding, or the call returns an error and changes nothing. A full builder, with 2^32 - 1 entries, returns `TooLong`.
     ///
     /// ```text
     /// ensures { Adds segment.now ⊤ self.old self.new result }
@@ -243,6 +371,8 @@ impl<A: Allocator> DataSection<A> {
     ///
     /// # Asks
     ///
+    /// The iterator ends, and yields as many items as it reports.
+    ///
     /// ```text
     /// requires length { HasKnownLength D.into_iter_gives D.IntoIter.can_next
     ///     D.IntoIter.next_gives D.IntoIter.remaining bytes }
@@ -252,6 +382,8 @@ impl<A: Allocator> DataSection<A> {
     /// Definitions: [`HasKnownLength`](crate::definitions::base::iterators::HasKnownLength). [How to read clauses](crate::definitions).
     ///
     /// # Proved
+    ///
+    /// The section gains one entry with the bytes that the iterator yields, or the call returns an error and changes nothing. More than 2^32 - 1 bytes give `TooLong`.
     ///
     /// ```text
     /// ensures { AddsBytes D.into_iter_gives D.IntoIter.next_gives D.IntoIter.remaining bytes
@@ -295,6 +427,8 @@ struct Bytes<'a>(&'a [u8]);
 impl<'a> Layout for Bytes<'a> {
     /// # Proved
     ///
+    /// A format whose encodings determine their own end is unambiguous in every mode, with encodings as `HasEncodings` states.
+    ///
     /// ```text
     /// ensures { Unambiguous (vec byte) }
     /// ```
@@ -311,17 +445,35 @@ impl<'a, A: Allocator + Copy, G: Grammar> Readable<'a, A, G> for Bytes<'a> {
 }
 
 /// A decoded data segment, whose bytes are a slice of the input.
+///
+/// [`Items::Segments`](crate::reader::Items::Segments) has them.
+///
+/// # Examples
+///
+/// ```
+/// use dolzhytik::fallible::Global;
+/// use dolzhytik::reader::{DecodeError, Padded, Readable, Segment};
+///
+/// // Active in memory 0: 0. i32.const 8 and end. Two bytes.
+/// let bytes = [0, 0x41, 8, 0x0B, 2, b'h', b'i'];
+/// let (segment, _) = <Segment as Readable<Global, Padded>>::read(&bytes, Global)?;
+/// assert!(matches!(segment, Segment::Active { memory: 0, bytes: b"hi", .. }));
+/// # Ok::<(), DecodeError>(())
+/// ```
 #[derive(Debug)]
 pub enum Segment<'a, A: Allocator = Global> {
     /// The bytes are copied to the memory when the module is instantiated.
     Active {
+        /// The index of the memory.
         memory: u32,
         /// Computes the offset of the first byte in the memory.
         offset: Expression<A>,
+        /// The bytes.
         bytes: &'a [u8],
     },
     /// The bytes are copied to a memory by an instruction.
     Passive {
+        /// The bytes.
         bytes: &'a [u8],
     },
 }
@@ -337,6 +489,8 @@ pub enum Segment<'a, A: Allocator = Global> {
 /// Definitions: [`DataItem`](crate::definitions::sections::data_segments::DataItem), [`data_item`](crate::definitions::sections::data_segments::data_item), [`segment_view`](crate::definitions::sections::data_segments::segment_view). [How to read clauses](crate::definitions).
 impl<'a, A: Allocator> Layout for Segment<'a, A> {
     /// # Proved
+    ///
+    /// A format whose encodings determine their own end is unambiguous in every mode, with encodings as `HasEncodings` states.
     ///
     /// ```text
     /// ensures { Unambiguous data_item }
@@ -416,9 +570,21 @@ impl<'a, A: Allocator + Copy, G: Grammar> Readable<'a, A, G> for Segment<'a, A> 
 ///
 /// Any error but `Memory` means that the bytes are not such a payload.
 ///
+/// # Examples
+///
+/// ```
+/// use dolzhytik::fallible::{Global, read_segments};
+/// use dolzhytik::reader::{DecodeError, Padded, Segment};
+///
+/// // One segment: passive (1), two bytes.
+/// let segments = read_segments::<Global, Padded>(b"\x01\x01\x02hi", Global)?;
+/// assert!(matches!(segments[..], [Segment::Passive { bytes: b"hi" }]));
+/// # Ok::<(), DecodeError>(())
+/// ```
+///
 /// # Proved
 ///
-/// After `Ok`: `found`. After an error: `none`.
+/// After `Ok`: `found`. After an error: `none`, the bytes as a whole are no such encoding, unless the cause is `Memory`.
 ///
 /// ```text
 /// ensures found { IfOk result
@@ -440,7 +606,7 @@ pub fn read_segments<'a, A: Allocator + Copy + 'a, G: Grammar>(
 ///
 /// # Proved
 ///
-/// After `Ok`: `ok`. In any case: `front`, `too_long`.
+/// After `Ok`: `ok`, the sink gains the minimal encoding. In any case: `front`; `too_long`, a value that has an encoding never gives `TooLong`. `front`: The new bytes begin with the old ones.
 ///
 /// ```text
 /// ensures ok { OnOk result
@@ -465,7 +631,7 @@ fn append_placed<A: Allocator, B: Sink>(
 ///
 /// # Proved
 ///
-/// After `Ok`: `ok`. In any case: `front`, `too_long`.
+/// After `Ok`: `ok`, the sink gains the minimal encoding. In any case: `front`; `too_long`, a value that has an encoding never gives `TooLong`. `front`: The new bytes begin with the old ones.
 ///
 /// ```text
 /// ensures ok { OnOk result

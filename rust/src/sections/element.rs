@@ -10,24 +10,54 @@ use crate::code::ConstExpr;
 /// The element section: segments of references that a module copies to tables.
 ///
 /// ```
+/// # fn example() -> Result<(), Box<dyn std::error::Error>> {
 /// # use dolzhytik::{fallible::*, reader::*};
-/// # fn example(alloc: Global) -> Result<(), Box<dyn std::error::Error>> {
-/// # let mut module = Module::new(alloc)?;
-/// let mut elements = ElementSection::new(alloc);
-/// let offset = ConstExpr::i32_const(alloc, 0)?;
+/// use dolzhytik::fallible::{
+///     ConstExpr, CowSlice, ElementSection, Elements, Global, Module,
+/// };
+///
+/// let mut module = Module::new(Global)?;
+/// let mut elements = ElementSection::new(Global);
+/// let offset = ConstExpr::i32_const(Global, 0)?;
 /// elements.active(None, &offset, Elements::Functions(CowSlice::Borrowed(&[0, 1])))?;
 /// module.section(&elements)?;
 /// # Ok(())
 /// # }
-/// # example(Global).unwrap();
+/// # example().unwrap();
 /// ```
 pub type ElementSection<A = Global> = CountedSection<ElementItems, A>;
 
 /// The kind of an element section's items: segments of references.
+///
+/// It is the type argument of [`CountedSection`](crate::fallible::CountedSection) in
+/// [`ElementSection`](crate::fallible::ElementSection).
+///
+/// # Examples
+///
+/// ```
+/// use dolzhytik::fallible::{ElementItems, ElementSection, Global, ItemKind};
+///
+/// let section = ElementSection::new(Global);
+/// assert_eq!((section.len(), ElementItems::id()), (0, 9));
+/// ```
 #[derive(Clone, Copy, Debug)]
 pub struct ElementItems;
 
 /// The references of a segment.
+///
+/// [`ElementSection`](crate::fallible::ElementSection) takes it.
+///
+/// # Examples
+///
+/// ```
+/// use dolzhytik::fallible::{CowSlice, ElementSection, Elements, Global, Refused};
+///
+/// let mut section = ElementSection::new(Global);
+/// section.passive::<Global>(Elements::Functions(CowSlice::Borrowed(&[5, 6])))?;
+/// // Passive, of functions: 1 and 0. Two indices.
+/// assert_eq!(section.piece(0), Some(&[1, 0, 2, 5, 6][..]));
+/// # Ok::<(), Refused>(())
+/// ```
 #[derive(Debug)]
 pub enum Elements<'a, A: Allocator = Global> {
     /// References to the functions of these indices.
@@ -37,6 +67,26 @@ pub enum Elements<'a, A: Allocator = Global> {
 }
 
 /// The mode of an element segment: when its references are copied to a table.
+///
+/// It is a field of [`ElementSegment`](crate::fallible::ElementSegment).
+///
+/// # Examples
+///
+/// ```
+/// use dolzhytik::fallible::{
+///     ConstExpr, CowSlice, ElementMode, ElementSection, ElementSegment, Elements,
+///     Global, Refused,
+/// };
+///
+/// let offset = ConstExpr::i32_const(Global, 3)?;
+/// let mode = ElementMode::Active { table: None, offset: &offset };
+/// let elements = Elements::Functions(CowSlice::Borrowed(&[5]));
+/// let mut section = ElementSection::new(Global);
+/// section.segment(ElementSegment { mode, elements })?;
+/// // Active in table 0: 0. i32.const 3 and end: 41 03 0B. One index.
+/// assert_eq!(section.piece(0), Some(&[0, 0x41, 3, 0x0B, 1, 5][..]));
+/// # Ok::<(), Refused>(())
+/// ```
 #[derive(Debug)]
 pub enum ElementMode<'a, A: Allocator = Global> {
     /// The references are copied by an instruction `TableInit`.
@@ -55,9 +105,29 @@ pub enum ElementMode<'a, A: Allocator = Global> {
 }
 
 /// An element segment: its mode and its references.
+///
+/// [`ElementSection`](crate::fallible::ElementSection) takes it in `segment`.
+///
+/// # Examples
+///
+/// ```
+/// use dolzhytik::fallible::{
+///     CowSlice, ElementMode, ElementSection, ElementSegment, Elements, Global,
+///     Refused,
+/// };
+///
+/// let elements: Elements<'_> = Elements::Functions(CowSlice::Borrowed(&[5]));
+/// let mut section = ElementSection::new(Global);
+/// section.segment(ElementSegment { mode: ElementMode::Declared, elements })?;
+/// // Declared, of functions: 3 and 0. One index.
+/// assert_eq!(section.piece(0), Some(&[3, 0, 1, 5][..]));
+/// # Ok::<(), Refused>(())
+/// ```
 #[derive(Debug)]
 pub struct ElementSegment<'a, A: Allocator = Global> {
+    /// Whether instantiation copies the elements into a table.
     pub mode: ElementMode<'a, A>,
+    /// The elements.
     pub elements: Elements<'a, A>,
 }
 
@@ -65,7 +135,7 @@ pub struct ElementSegment<'a, A: Allocator = Global> {
 ///
 /// # Proved
 ///
-/// After `Ok`: `same`. In any case: `memory`.
+/// After `Ok`: `same`. In any case: `memory`, no error is `TooLong`.
 ///
 /// ```text
 /// ensures same { IfOk result (λ v. v.items ≡ expressions.now) }
@@ -88,9 +158,13 @@ fn clone_each<A: Allocator + Copy>(
 impl<'a, A: Allocator + Copy> Elements<'a, A> {
     /// Returns the same references, and copies owned ones into memory of their own.
     ///
+    /// # Errors
+    ///
+    /// Returns [`Memory`](crate::fallible::Refused::Memory) if an allocation fails.
+    ///
     /// # Proved
     ///
-    /// After `Ok`: `same`. In any case: `memory`.
+    /// After `Ok`: `same`. In any case: `memory`, no error is `TooLong`.
     ///
     /// ```text
     /// ensures same { IfOk result (λ elements. list_in elements ≡ list_in self.now) }
@@ -116,9 +190,13 @@ impl<'a, A: Allocator + Copy> Elements<'a, A> {
 impl<'a, A: Allocator> ElementMode<'a, A> {
     /// Returns the same mode.
     ///
+    /// # Errors
+    ///
+    /// Returns [`Memory`](crate::fallible::Refused::Memory) if an allocation fails.
+    ///
     /// # Proved
     ///
-    /// After `Ok`: `same`. In any case: `memory`.
+    /// After `Ok`: `same`, the result equals the value. In any case: `memory`, no error is `TooLong`.
     ///
     /// ```text
     /// ensures same { IfOk result (λ mode. mode ≡ self.now) }
@@ -141,9 +219,13 @@ impl<'a, A: Allocator> ElementMode<'a, A> {
 impl<'a, A: Allocator + Copy> ElementSegment<'a, A> {
     /// Returns the same segment, and copies owned references into memory of their own.
     ///
+    /// # Errors
+    ///
+    /// Returns [`Memory`](crate::fallible::Refused::Memory) if an allocation fails.
+    ///
     /// # Proved
     ///
-    /// After `Ok`: `same`. In any case: `memory`.
+    /// After `Ok`: `same`. In any case: `memory`, no error is `TooLong`.
     ///
     /// ```text
     /// ensures same { IfOk result (λ segment. segment_in segment ≡ segment_in self.now) }
@@ -340,7 +422,16 @@ impl ItemKind for ElementItems {
 impl<A: Allocator> ElementSection<A> {
     /// Adds a segment.
     ///
+    /// # Errors
+    ///
+    /// Returns [`TooLong`](crate::fallible::Refused::TooLong) if the builder has 4294967295
+    /// entries, or if a count or length would pass 4294967295, and
+    /// [`Memory`](crate::fallible::Refused::Memory) if an allocation fails. The builder is then
+    /// unchanged.
+    ///
     /// # Proved
+    ///
+    /// The builder gains one entry with this encoding, or the call returns an error and changes nothing. A full builder, with 2^32 - 1 entries, returns `TooLong`.
     ///
     /// ```text
     /// ensures { Adds (given_encoding segment.entry)
@@ -354,7 +445,30 @@ impl<A: Allocator> ElementSection<A> {
 
     /// Adds a segment whose references are copied to this table when the module is instantiated.
     ///
+    /// # Errors
+    ///
+    /// Returns [`TooLong`](crate::fallible::Refused::TooLong) if the builder has 4294967295
+    /// entries, or if a count or length would pass 4294967295, and
+    /// [`Memory`](crate::fallible::Refused::Memory) if an allocation fails. The builder is then
+    /// unchanged.
+    ///
+    /// # Examples
+    ///
+    /// ```
+    /// use dolzhytik::fallible::{ConstExpr, CowSlice, ElementSection, Elements, Global};
+    /// use dolzhytik::fallible::Refused;
+    ///
+    /// let offset = ConstExpr::i32_const(Global, 3)?;
+    /// let mut section = ElementSection::new(Global);
+    /// section.active(None, &offset, Elements::Functions(CowSlice::Borrowed(&[5])))?;
+    /// // In table 0: 0. i32.const 3 and end. One function, 5.
+    /// assert_eq!(section.piece(0), Some(&[0, 0x41, 3, 0x0B, 1, 5][..]));
+    /// # Ok::<(), Refused>(())
+    /// ```
+    ///
     /// # Proved
+    ///
+    /// The builder gains one entry with this encoding, or the call returns an error and changes nothing. A full builder, with 2^32 - 1 entries, returns `TooLong`.
     ///
     /// ```text
     /// ensures { Adds (given_encoding
@@ -377,7 +491,16 @@ impl<A: Allocator> ElementSection<A> {
 
     /// Adds a segment whose references are copied to a table by an instruction.
     ///
+    /// # Errors
+    ///
+    /// Returns [`TooLong`](crate::fallible::Refused::TooLong) if the builder has 4294967295
+    /// entries, or if a count or length would pass 4294967295, and
+    /// [`Memory`](crate::fallible::Refused::Memory) if an allocation fails. The builder is then
+    /// unchanged.
+    ///
     /// # Proved
+    ///
+    /// The builder gains one entry with this encoding, or the call returns an error and changes nothing. A full builder, with 2^32 - 1 entries, returns `TooLong`.
     ///
     /// ```text
     /// ensures { Adds (given_encoding
@@ -395,7 +518,16 @@ impl<A: Allocator> ElementSection<A> {
 
     /// Adds a segment that declares that code may refer to its functions.
     ///
+    /// # Errors
+    ///
+    /// Returns [`TooLong`](crate::fallible::Refused::TooLong) if the builder has 4294967295
+    /// entries, or if a count or length would pass 4294967295, and
+    /// [`Memory`](crate::fallible::Refused::Memory) if an allocation fails. The builder is then
+    /// unchanged.
+    ///
     /// # Proved
+    ///
+    /// The builder gains one entry with this encoding, or the call returns an error and changes nothing. A full builder, with 2^32 - 1 entries, returns `TooLong`.
     ///
     /// ```text
     /// ensures { Adds (given_encoding
@@ -413,7 +545,15 @@ impl<A: Allocator> ElementSection<A> {
 
     /// Adds a segment that is already encoded. The call does not check that it is one.
     ///
+    /// # Errors
+    ///
+    /// Returns [`TooLong`](crate::fallible::Refused::TooLong) if the builder has 4294967295
+    /// entries, and [`Memory`](crate::fallible::Refused::Memory) if an allocation fails. The
+    /// builder is then unchanged.
+    ///
     /// # Proved
+    ///
+    /// The builder gains one entry with this encoding, or the call returns an error and changes nothing. A full builder, with 2^32 - 1 entries, returns `TooLong`.
     ///
     /// ```text
     /// ensures { Adds segment.now ⊤ self.old self.new result }

@@ -74,6 +74,23 @@ impl<'a, A: Allocator + Copy, G: Grammar> Readable<'a, A, G> for ElementFlag {
 }
 
 /// The mode of a decoded element segment: when its elements are copied to a table.
+///
+/// It is a field of [`ElementItem`](crate::reader::ElementItem).
+///
+/// # Examples
+///
+/// ```
+/// use dolzhytik::fallible::Global;
+/// use dolzhytik::reader::{
+///     DecodeError, ElementItem, ElementItemMode, Padded, Readable,
+/// };
+///
+/// // Active in table 0: 0. i32.const 3 and end. One index.
+/// let bytes = [0, 0x41, 3, 0x0B, 1, 5];
+/// let (item, _) = <ElementItem as Readable<Global, Padded>>::read(&bytes, Global)?;
+/// assert!(matches!(item.mode, ElementItemMode::Active { table: None, .. }));
+/// # Ok::<(), DecodeError>(())
+/// ```
 #[derive(Debug)]
 pub enum ElementItemMode<A: Allocator = Global> {
     /// The elements are copied by an instruction.
@@ -90,6 +107,24 @@ pub enum ElementItemMode<A: Allocator = Global> {
 }
 
 /// The elements of a decoded segment.
+///
+/// It is a field of [`ElementItem`](crate::reader::ElementItem).
+///
+/// # Examples
+///
+/// ```
+/// use dolzhytik::fallible::{Global, RefType};
+/// use dolzhytik::reader::{DecodeError, ElementItem, ElementList, Padded, Readable};
+///
+/// // Passive, of expressions: 5. funcref: 70. One expression: ref.func 7, end.
+/// let bytes = [5, 0x70, 1, 0xD2, 7, 0x0B];
+/// let (item, _) = <ElementItem as Readable<Global, Padded>>::read(&bytes, Global)?;
+/// let ElementList::Expressions(ty, expressions) = item.elements else {
+///     panic!("functions")
+/// };
+/// assert_eq!((ty, expressions.len()), (RefType::FUNCREF, 1));
+/// # Ok::<(), DecodeError>(())
+/// ```
 #[derive(Debug)]
 pub enum ElementList<A: Allocator = Global> {
     /// References to the functions of these indices.
@@ -99,9 +134,32 @@ pub enum ElementList<A: Allocator = Global> {
 }
 
 /// A decoded element segment.
+///
+/// [`Items::Elements`](crate::reader::Items::Elements) has them.
+///
+/// # Examples
+///
+/// ```
+/// use dolzhytik::fallible::Global;
+/// use dolzhytik::reader::{
+///     DecodeError, ElementItem, ElementItemMode, ElementList, Padded, Readable,
+/// };
+///
+/// // Passive, of functions: 1 and 0. Two indices.
+/// let bytes = [1, 0, 2, 5, 6];
+/// let (item, _) = <ElementItem as Readable<Global, Padded>>::read(&bytes, Global)?;
+/// assert!(matches!(item.mode, ElementItemMode::Passive));
+/// let ElementList::Functions(functions) = item.elements else {
+///     panic!("expressions")
+/// };
+/// assert_eq!(functions[..], [5, 6]);
+/// # Ok::<(), DecodeError>(())
+/// ```
 #[derive(Debug)]
 pub struct ElementItem<A: Allocator = Global> {
+    /// Whether instantiation copies the elements into a table.
     pub mode: ElementItemMode<A>,
+    /// The elements.
     pub elements: ElementList<A>,
 }
 
@@ -109,7 +167,7 @@ pub struct ElementItem<A: Allocator = Global> {
 ///
 /// # Proved
 ///
-/// After `Ok`: `found`. After an error: `none`.
+/// After `Ok`: `found`, the bytes begin with an encoding of the value, and the returned bytes follow it. After an error: `none`, the bytes do not begin with such an encoding, unless the cause is `Memory`.
 ///
 /// ```text
 /// ensures found { IfOk result
@@ -148,7 +206,7 @@ fn read_mode<'a, A: Allocator + Copy, G: Grammar>(
 ///
 /// # Proved
 ///
-/// After `Ok`: `found`. After an error: `none`.
+/// After `Ok`: `found`, the bytes begin with an encoding of the value, and the returned bytes follow it. After an error: `none`, the bytes do not begin with such an encoding, unless the cause is `Memory`.
 ///
 /// ```text
 /// ensures found { IfOk result
@@ -181,7 +239,7 @@ fn read_functions<'a, A: Allocator + Copy, G: Grammar>(
 ///
 /// # Proved
 ///
-/// After `Ok`: `found`. After an error: `none`.
+/// After `Ok`: `found`, the bytes begin with an encoding of the value, and the returned bytes follow it. After an error: `none`, the bytes do not begin with such an encoding, unless the cause is `Memory`.
 ///
 /// ```text
 /// ensures found { IfOk result
@@ -217,7 +275,7 @@ fn read_expressions<'a, A: Allocator + Copy, G: Grammar>(
 ///
 /// # Proved
 ///
-/// After `Ok`: `found`. After an error: `none`.
+/// After `Ok`: `found`, the bytes begin with an encoding of the value, and the returned bytes follow it. After an error: `none`, the bytes do not begin with such an encoding, unless the cause is `Memory`.
 ///
 /// ```text
 /// ensures found { IfOk result
@@ -273,7 +331,7 @@ impl<'a, A: Allocator + Copy, G: Grammar> Readable<'a, A, G> for ElementItem<A> 
 ///
 /// # Proved
 ///
-/// After `Ok`: `ok`. In any case: `front`, `too_long`.
+/// After `Ok`: `ok`, the sink gains the minimal encoding. In any case: `front`; `too_long`, a value that has an encoding never gives `TooLong`. `front`: The new bytes begin with the old ones.
 ///
 /// ```text
 /// ensures ok { OnOk result
@@ -301,7 +359,7 @@ fn append_functions<A: Allocator, B: Sink>(
 ///
 /// # Proved
 ///
-/// After `Ok`: `ok`. In any case: `front`, `too_long`.
+/// After `Ok`: `ok`, the sink gains the minimal encoding. In any case: `front`; `too_long`, a value that has an encoding never gives `TooLong`. `front`: The new bytes begin with the old ones.
 ///
 /// ```text
 /// ensures ok { OnOk result
@@ -331,7 +389,7 @@ fn append_expressions<A: Allocator, B: Sink>(
 ///
 /// # Proved
 ///
-/// After `Ok`: `ok`. In any case: `front`, `too_long`.
+/// After `Ok`: `ok`, the sink gains the minimal encoding. In any case: `front`; `too_long`, a value that has an encoding never gives `TooLong`. `front`: The new bytes begin with the old ones.
 ///
 /// ```text
 /// ensures ok { OnOk result
@@ -390,7 +448,7 @@ impl<A: Allocator> ElementItem<A> {
     ///
     /// # Proved
     ///
-    /// After `Ok`: `ok`. In any case: `front`, `too_long`.
+    /// After `Ok`: `ok`, the sink gains the minimal encoding. In any case: `front`; `too_long`, a value that has an encoding never gives `TooLong`. `front`: The new bytes begin with the old ones.
     ///
     /// ```text
     /// ensures ok { OnOk result
@@ -415,7 +473,7 @@ impl<A: Allocator> ElementItem<A> {
 ///
 /// # Proved
 ///
-/// After `Ok`: `ok`. In any case: `front`, `too_long`.
+/// After `Ok`: `ok`, the sink gains the minimal encoding. In any case: `front`; `too_long`, a value that has an encoding never gives `TooLong`. `front`: The new bytes begin with the old ones.
 ///
 /// ```text
 /// ensures ok { OnOk result
@@ -452,7 +510,7 @@ impl<A: Allocator> Shorten for ElementItem<A> {
 ///
 /// # Proved
 ///
-/// After `Ok`: `found`. After an error: `none`.
+/// After `Ok`: `found`. After an error: `none`, the bytes do not begin with such an encoding, unless the cause is `Memory`.
 ///
 /// ```text
 /// ensures found { IfOk result
@@ -488,7 +546,7 @@ fn skip_segment_mode<'a, A: Allocator + Copy, G: Grammar>(
 ///
 /// # Proved
 ///
-/// After `Ok`: `found`. After an error: `none`.
+/// After `Ok`: `found`. After an error: `none`, the bytes do not begin with such an encoding, unless the cause is `Memory`.
 ///
 /// ```text
 /// ensures found { IfOk result
@@ -522,7 +580,7 @@ fn skip_functions<'a, A: Allocator + Copy, G: Grammar>(
 ///
 /// # Proved
 ///
-/// After `Ok`: `found`. After an error: `none`.
+/// After `Ok`: `found`. After an error: `none`, the bytes do not begin with such an encoding, unless the cause is `Memory`.
 ///
 /// ```text
 /// ensures found { IfOk result
@@ -553,7 +611,7 @@ fn skip_expressions<'a, A: Allocator + Copy, G: Grammar>(
 ///
 /// # Proved
 ///
-/// After `Ok`: `found`. After an error: `none`.
+/// After `Ok`: `found`. After an error: `none`, the bytes do not begin with such an encoding, unless the cause is `Memory`.
 ///
 /// ```text
 /// ensures found { IfOk result

@@ -9,37 +9,88 @@ use crate::base::{DecodeError, Encode, Grammar, Kind, Layout, ReadFault, Readabl
 /// The export section: the items that a module exports.
 ///
 /// ```
+/// # fn example() -> Result<(), Box<dyn std::error::Error>> {
 /// # use dolzhytik::{fallible::*, reader::*};
-/// # fn example(alloc: Global) -> Result<(), Box<dyn std::error::Error>> {
-/// # let mut module = Module::new(alloc)?;
-/// let mut exports = ExportSection::new(alloc);
+/// use dolzhytik::fallible::{ExportKind, ExportSection, Global, Module};
+///
+/// let mut module = Module::new(Global)?;
+/// let mut exports = ExportSection::new(Global);
 /// exports.export("foo", ExportKind::Func, 0)?;
 /// module.section(&exports)?;
 /// # Ok(())
 /// # }
-/// # example(Global).unwrap();
+/// # example().unwrap();
 /// ```
 pub type ExportSection<A = Global> = CountedSection<ExportItems, A>;
 
 /// The kind of an export section's items: exports.
+///
+/// It is the type argument of [`CountedSection`](crate::fallible::CountedSection) in
+/// [`ExportSection`](crate::fallible::ExportSection).
+///
+/// # Examples
+///
+/// ```
+/// use dolzhytik::fallible::{ExportItems, ExportSection, Global, ItemKind};
+///
+/// let section = ExportSection::new(Global);
+/// assert_eq!((section.len(), ExportItems::id()), (0, 7));
+/// ```
 #[derive(Clone, Copy, Debug)]
 pub struct ExportItems;
 
 /// The kind of an exported item.
+///
+/// [`ExportKind`](crate::ExportKind) of the root converts from it and to it.
+///
+/// # Examples
+///
+/// ```
+/// use dolzhytik::fallible::{Encode, ExportKind, Refused};
+///
+/// let mut bytes = Vec::new();
+/// ExportKind::Memory.encode(&mut bytes)?;
+/// assert_eq!(bytes, [0x02]);
+/// # Ok::<(), Refused>(())
+/// ```
 #[derive(Clone, Copy, PartialEq, Eq, Hash, Debug)]
 pub enum ExportKind {
+    /// A function: 00.
     Func = 0x00,
+    /// A table: 01.
     Table = 0x01,
+    /// A memory: 02.
     Memory = 0x02,
+    /// A global: 03.
     Global = 0x03,
+    /// A tag: 04.
     Tag = 0x04,
 }
 
 /// An export: a name, and the item that is exported under it.
+///
+/// [`Items::Exports`](crate::reader::Items::Exports) has them.
+/// [`add_all`](crate::fallible::add_all) adds some.
+///
+/// # Examples
+///
+/// ```
+/// use dolzhytik::fallible::{
+///     Export, ExportKind, ExportSection, Global, Refused, add_all,
+/// };
+///
+/// let mut exports = ExportSection::new(Global);
+/// add_all(&mut exports, &[Export { name: "f", kind: ExportKind::Func, index: 5 }])?;
+/// assert_eq!(exports.piece(0), Some(&[1, b'f', 0, 5][..]));
+/// # Ok::<(), (usize, Refused)>(())
+/// ```
 #[derive(Clone, Copy, Debug)]
 pub struct Export<'a> {
+    /// The name.
     pub name: &'a str,
+    /// The kind of the item.
     pub kind: ExportKind,
+    /// The index of the item.
     pub index: u32,
 }
 
@@ -108,7 +159,16 @@ impl RecordOf<ExportItems> for Export<'_> {}
 impl<A: Allocator> ExportSection<A> {
     /// Adds an export.
     ///
+    /// # Errors
+    ///
+    /// Returns [`TooLong`](crate::fallible::Refused::TooLong) if the builder has 4294967295
+    /// entries, or if a count or length would pass 4294967295, and
+    /// [`Memory`](crate::fallible::Refused::Memory) if an allocation fails. The builder is then
+    /// unchanged.
+    ///
     /// # Proved
+    ///
+    /// The builder gains one entry with this encoding, or the call returns an error and changes nothing. A full builder, with 2^32 - 1 entries, returns `TooLong`.
     ///
     /// ```text
     /// ensures { Adds (size_prefixed_encoding name.now
@@ -160,6 +220,8 @@ impl<'a, A: Allocator + Copy, G: Grammar> Readable<'a, A, G> for ExportKind {
 /// Definitions: [`ExportItem`](crate::definitions::sections::exports::ExportItem), [`export`](crate::definitions::sections::exports::export), [`item_of`](crate::definitions::sections::exports::item_of). [How to read clauses](crate::definitions).
 impl<'a> Layout for Export<'a> {
     /// # Proved
+    ///
+    /// A format whose encodings determine their own end is unambiguous in every mode, with encodings as `HasEncodings` states.
     ///
     /// ```text
     /// ensures { Unambiguous export }

@@ -10,19 +10,33 @@ use crate::base::{Encode, Kind, Result, SectionId};
 /// bodies.
 ///
 /// ```
+/// # fn example() -> Result<(), Box<dyn std::error::Error>> {
 /// # use dolzhytik::{fallible::*, reader::*};
-/// # fn example(alloc: Global) -> Result<(), Box<dyn std::error::Error>> {
-/// # let mut module = Module::new(alloc)?;
-/// let mut functions = FunctionSection::new(alloc);
+/// use dolzhytik::fallible::{FunctionSection, Global, Module};
+///
+/// let mut module = Module::new(Global)?;
+/// let mut functions = FunctionSection::new(Global);
 /// functions.function(0)?;
 /// module.section(&functions)?;
 /// # Ok(())
 /// # }
-/// # example(Global).unwrap();
+/// # example().unwrap();
 /// ```
 pub type FunctionSection<A = Global> = CountedSection<FunctionItems, A>;
 
 /// The kind of a function section's items: the index of a type for each function.
+///
+/// It is the type argument of [`CountedSection`](crate::fallible::CountedSection) in
+/// [`FunctionSection`](crate::fallible::FunctionSection).
+///
+/// # Examples
+///
+/// ```
+/// use dolzhytik::fallible::{FunctionItems, FunctionSection, Global, ItemKind};
+///
+/// let section = FunctionSection::new(Global);
+/// assert_eq!((section.len(), FunctionItems::id()), (0, 3));
+/// ```
 #[derive(Clone, Copy, Debug)]
 pub struct FunctionItems;
 
@@ -86,7 +100,15 @@ impl Encode for TypeIndex {
 impl<A: Allocator> FunctionSection<A> {
     /// Adds a function of the type of this index.
     ///
+    /// # Errors
+    ///
+    /// Returns [`TooLong`](crate::fallible::Refused::TooLong) if the builder has 4294967295
+    /// entries, and [`Memory`](crate::fallible::Refused::Memory) if an allocation fails. The
+    /// builder is then unchanged.
+    ///
     /// # Proved
+    ///
+    /// The builder gains one entry with this encoding, or the call returns an error and changes nothing. A full builder, with 2^32 - 1 entries, returns `TooLong`.
     ///
     /// ```text
     /// ensures { Adds (unsigned_encoding type_index) ⊤ self.old self.new result }

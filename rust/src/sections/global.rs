@@ -11,26 +11,59 @@ use crate::code::{ConstExpr, Expression};
 /// The global section: the globals that a module defines.
 ///
 /// ```
+/// # fn example() -> Result<(), Box<dyn std::error::Error>> {
 /// # use dolzhytik::{fallible::*, reader::*};
-/// # fn example(alloc: Global) -> Result<(), Box<dyn std::error::Error>> {
-/// # let mut module = Module::new(alloc)?;
-/// let mut globals = GlobalSection::new(alloc);
+/// use dolzhytik::fallible::{
+///     ConstExpr, Global, GlobalSection, GlobalType, Module, ValType,
+/// };
+///
+/// let mut module = Module::new(Global)?;
+/// let mut globals = GlobalSection::new(Global);
 /// let global_type = GlobalType { val_type: ValType::I32, mutable: false, shared: false };
-/// globals.global(global_type, &ConstExpr::i32_const(alloc, 42)?)?;
+/// globals.global(global_type, &ConstExpr::i32_const(Global, 42)?)?;
 /// module.section(&globals)?;
 /// # Ok(())
 /// # }
-/// # example(Global).unwrap();
+/// # example().unwrap();
 /// ```
 pub type GlobalSection<A = Global> = CountedSection<GlobalItems, A>;
 
 /// The kind of a global section's items: types of globals, each with an initializer expression.
+///
+/// It is the type argument of [`CountedSection`](crate::fallible::CountedSection) in
+/// [`GlobalSection`](crate::fallible::GlobalSection).
+///
+/// # Examples
+///
+/// ```
+/// use dolzhytik::fallible::{Global, GlobalItems, GlobalSection, ItemKind};
+///
+/// let section = GlobalSection::new(Global);
+/// assert_eq!((section.len(), GlobalItems::id()), (0, 6));
+/// ```
 #[derive(Clone, Copy, Debug)]
 pub struct GlobalItems;
 
-/// The type of a global.
+/// The type of a global, which [`GlobalSection::global`](crate::GlobalSection::global) takes,
+/// and [`EntityType::Global`](crate::EntityType::Global) for an imported one.
+///
+/// Core specification, Types, Global Types.
+///
+/// `val_type` is the type of its value. `shared` is of the shared-everything threads proposal.
+///
+/// # Examples
+///
+/// ```
+/// use dolzhytik::{Encode, GlobalType, ValType};
+///
+/// let mut bytes = Vec::new();
+/// GlobalType { val_type: ValType::I64, mutable: true, shared: false }.encode(&mut bytes);
+/// // i64: 7E. Flags: 1 for mutable.
+/// assert_eq!(bytes, [0x7E, 1]);
+/// ```
 #[derive(Clone, Copy, PartialEq, Eq, Hash, Debug)]
 pub struct GlobalType {
+    /// The type of the value.
     pub val_type: ValType,
     /// Whether it can be set.
     pub mutable: bool,
@@ -100,7 +133,15 @@ impl ItemKind for GlobalItems {
 impl<A: Allocator> GlobalSection<A> {
     /// Adds a global of this type, initialized by the expression.
     ///
+    /// # Errors
+    ///
+    /// Returns [`TooLong`](crate::fallible::Refused::TooLong) if the builder has 4294967295
+    /// entries, and [`Memory`](crate::fallible::Refused::Memory) if an allocation fails. The
+    /// builder is then unchanged.
+    ///
     /// # Proved
+    ///
+    /// The builder gains one entry with this encoding, or the call returns an error and changes nothing. A full builder, with 2^32 - 1 entries, returns `TooLong`.
     ///
     /// ```text
     /// ensures { Adds (global_encoding global_type ++ expression_encoding init.now) ⊤ self.old
@@ -118,7 +159,15 @@ impl<A: Allocator> GlobalSection<A> {
 
     /// Adds a global that is already encoded. The call does not check that it is one.
     ///
+    /// # Errors
+    ///
+    /// Returns [`TooLong`](crate::fallible::Refused::TooLong) if the builder has 4294967295
+    /// entries, and [`Memory`](crate::fallible::Refused::Memory) if an allocation fails. The
+    /// builder is then unchanged.
+    ///
     /// # Proved
+    ///
+    /// The builder gains one entry with this encoding, or the call returns an error and changes nothing. A full builder, with 2^32 - 1 entries, returns `TooLong`.
     ///
     /// ```text
     /// ensures { Adds global.now ⊤ self.old self.new result }
@@ -192,9 +241,29 @@ impl<'a, A: Allocator + Copy, G: Grammar> Readable<'a, A, G> for GlobalType {
 }
 
 /// A decoded global: its type, and its initializer expression.
+///
+/// [`Items::Globals`](crate::reader::Items::Globals) has them.
+///
+/// # Examples
+///
+/// ```
+/// use dolzhytik::fallible::{Global, ValType};
+/// use dolzhytik::reader::{DecodeError, GlobalItem, Padded, Readable};
+///
+/// // i64 (7E), mutable (01). i64.const 7, end.
+/// let bytes = [0x7E, 1, 0x42, 7, 0x0B];
+/// let (global, _) = <GlobalItem as Readable<Global, Padded>>::read(&bytes, Global)?;
+/// assert_eq!(
+///     (global.global_type.val_type, global.global_type.mutable),
+///     (ValType::I64, true)
+/// );
+/// # Ok::<(), DecodeError>(())
+/// ```
 #[derive(Debug)]
 pub struct GlobalItem<A: Allocator = Global> {
+    /// The type.
     pub global_type: GlobalType,
+    /// The constant expression of the initial value.
     pub init: Expression<A>,
 }
 

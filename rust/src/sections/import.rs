@@ -13,31 +13,66 @@ use crate::base::{CORE_FUNCTION_EXACT_SORT, CORE_FUNCTION_SORT, CORE_GLOBAL_SORT
 /// The import section: the items that a module imports.
 ///
 /// ```
+/// # fn example() -> Result<(), Box<dyn std::error::Error>> {
 /// # use dolzhytik::{fallible::*, reader::*};
-/// # fn example(alloc: Global) -> Result<(), Box<dyn std::error::Error>> {
-/// # let mut module = Module::new(alloc)?;
-/// let mut imports = ImportSection::new(alloc);
+/// use dolzhytik::fallible::{EntityType, Global, ImportSection, Module};
+///
+/// let mut module = Module::new(Global)?;
+/// let mut imports = ImportSection::new(Global);
 /// imports.import("env", "f", EntityType::Function(0))?;
 /// module.section(&imports)?;
 /// # Ok(())
 /// # }
-/// # example(Global).unwrap();
+/// # example().unwrap();
 /// ```
 pub type ImportSection<A = Global> = CountedSection<ImportItems, A>;
 
 /// The kind of an import section's items: imports and groups of imports, each of which is one
 /// entry.
+///
+/// It is the type argument of [`CountedSection`](crate::fallible::CountedSection) in
+/// [`ImportSection`](crate::fallible::ImportSection).
+///
+/// # Examples
+///
+/// ```
+/// use dolzhytik::fallible::{Global, ImportItems, ImportSection, ItemKind};
+///
+/// let section = ImportSection::new(Global);
+/// assert_eq!((section.len(), ImportItems::id()), (0, 2));
+/// ```
 #[derive(Clone, Copy, Debug)]
 pub struct ImportItems;
 
 /// The type of an imported item.
+///
+/// [`ImportSection::import`](crate::fallible::ImportSection) takes it.
+/// [`EntityType`](crate::EntityType) of the root converts from it and to it.
+///
+/// # Examples
+///
+/// ```
+/// use dolzhytik::fallible::{Encode, EntityType, GlobalType, Refused, ValType};
+///
+/// let mut bytes = Vec::new();
+/// EntityType::Function(5).encode(&mut bytes)?;
+/// let ty = GlobalType { val_type: ValType::I64, mutable: true, shared: false };
+/// EntityType::Global(ty).encode(&mut bytes)?;
+/// // A function: 00, its type. A global: 03, i64 (7E), mutable (01).
+/// assert_eq!(bytes, [0x00, 5, 0x03, 0x7E, 0x01]);
+/// # Ok::<(), Refused>(())
+/// ```
 #[derive(Clone, Copy, PartialEq, Eq, Debug)]
 pub enum EntityType {
     /// A function of the type of this index.
     Function(u32),
+    /// A table.
     Table(TableType),
+    /// A memory.
     Memory(MemoryType),
+    /// A global.
     Global(GlobalType),
+    /// A tag.
     Tag(TagType),
     /// A function of exactly the type of this index.
     FunctionExact(u32),
@@ -120,34 +155,101 @@ impl Encode for EntityType {
 }
 
 /// An import: the names of a module and of an item in it, and the item's type.
+///
+/// # Examples
+///
+/// ```
+/// use dolzhytik::fallible::{
+///     EntityType, Global, Import, ImportSection, Refused, add_all,
+/// };
+///
+/// let import = Import { module: "m", name: "f", ty: EntityType::Function(5) };
+/// let mut imports = ImportSection::new(Global);
+/// add_all(&mut imports, &[import])?;
+/// // "m", "f", a function (00) of type 5.
+/// assert_eq!(imports.piece(0), Some(&b"\x01m\x01f\0\x05"[..]));
+/// # Ok::<(), (usize, Refused)>(())
+/// ```
 #[derive(Clone, Copy, Debug)]
 pub struct Import<'a> {
+    /// The name of the module.
     pub module: &'a str,
+    /// The name of the item.
     pub name: &'a str,
+    /// The type of the item.
     pub ty: EntityType,
 }
 
 /// An item of a group of imports, which names the module once.
+///
+/// It is an item of [`Imports::Compact1`](crate::fallible::Imports::Compact1).
+///
+/// # Examples
+///
+/// ```
+/// use dolzhytik::fallible::{
+///     CowSlice, EntityType, Global, ImportCompact, ImportSection, Imports, Refused,
+/// };
+///
+/// let items = [ImportCompact { name: "f", ty: EntityType::Function(5) }];
+/// let mut imports = ImportSection::new(Global);
+/// imports.imports(Imports::Compact1 {
+///     module: "m",
+///     items: CowSlice::Borrowed(&items),
+/// })?;
+/// // "m", an empty name and 7F, one item: "f", a function (00) of type 5.
+/// assert_eq!(imports.piece(0), Some(&b"\x01m\0\x7F\x01\x01f\0\x05"[..]));
+/// # Ok::<(), Refused>(())
+/// ```
 #[derive(Clone, Copy, Debug)]
 pub struct ImportCompact<'a> {
+    /// The name of the item.
     pub name: &'a str,
+    /// The type of the item.
     pub ty: EntityType,
 }
 
 /// An import, or a group of imports from one module. A section accepts lists that are borrowed, or
 /// owned in memory of the section's type of allocator.
+///
+/// [`ImportSection`](crate::fallible::ImportSection) takes it in `imports`, and
+/// [`Items::Imports`](crate::reader::Items::Imports) has them.
+///
+/// # Examples
+///
+/// ```
+/// use dolzhytik::fallible::{
+///     CowSlice, EntityType, Global, ImportSection, Imports, Refused,
+/// };
+///
+/// let mut imports = ImportSection::new(Global);
+/// imports.imports(Imports::Compact2 {
+///     module: "m",
+///     ty: EntityType::Function(0),
+///     names: CowSlice::Borrowed(&["a", "b"]),
+/// })?;
+/// // "m", an empty name and 7E, a function (00) of type 0, two names.
+/// assert_eq!(imports.piece(0), Some(&b"\x01m\0\x7E\0\0\x02\x01a\x01b"[..]));
+/// # Ok::<(), Refused>(())
+/// ```
 #[derive(Debug)]
 pub enum Imports<'a, A: Allocator = Global> {
+    /// One import.
     Single(Import<'a>),
     /// A group whose items have types of their own.
     Compact1 {
+        /// The name of the module.
         module: &'a str,
+        /// The items.
         items: CowSlice<'a, ImportCompact<'a>, A>,
     },
     /// A group of items of one type.
     Compact2 {
+        /// The name of the module.
         module: &'a str,
+        /// The type of each item.
         ty: EntityType,
+        /// The names of the items.
         names: CowSlice<'a, &'a str, A>,
     },
 }
@@ -155,9 +257,13 @@ pub enum Imports<'a, A: Allocator = Global> {
 impl<A: Allocator + Copy> Imports<'_, A> {
     /// Returns the same imports, and copies an owned list.
     ///
+    /// # Errors
+    ///
+    /// Returns [`Memory`](crate::fallible::Refused::Memory) if an allocation fails.
+    ///
     /// # Proved
     ///
-    /// After `Ok`: `same`. In any case: `memory`.
+    /// After `Ok`: `same`. In any case: `memory`, no error is `TooLong`.
     ///
     /// ```text
     /// ensures same { IfOk result (λ imports. imports_item imports ≡ imports_item self.now) }
@@ -272,7 +378,28 @@ impl RecordOf<ImportItems> for Import<'_> {}
 impl<A: Allocator> ImportSection<A> {
     /// Adds an import.
     ///
+    /// # Errors
+    ///
+    /// Returns [`TooLong`](crate::fallible::Refused::TooLong) if the builder has 4294967295
+    /// entries, or if a count or length would pass 4294967295, and
+    /// [`Memory`](crate::fallible::Refused::Memory) if an allocation fails. The builder is then
+    /// unchanged.
+    ///
+    /// # Examples
+    ///
+    /// ```
+    /// use dolzhytik::fallible::{EntityType, Global, ImportSection, Refused};
+    ///
+    /// let mut imports = ImportSection::new(Global);
+    /// imports.import("m", "f", EntityType::Function(5))?;
+    /// // "m", "f", a function (00) of type 5.
+    /// assert_eq!(imports.piece(0), Some(&b"\x01m\x01f\0\x05"[..]));
+    /// # Ok::<(), Refused>(())
+    /// ```
+    ///
     /// # Proved
+    ///
+    /// The builder gains one entry with this encoding, or the call returns an error and changes nothing. A full builder, with 2^32 - 1 entries, returns `TooLong`.
     ///
     /// ```text
     /// ensures { Adds (size_prefixed_encoding «module».now
@@ -288,7 +415,16 @@ impl<A: Allocator> ImportSection<A> {
 
     /// Adds an import or a group of imports, as one entry.
     ///
+    /// # Errors
+    ///
+    /// Returns [`TooLong`](crate::fallible::Refused::TooLong) if the builder has 4294967295
+    /// entries, or if a count or length would pass 4294967295, and
+    /// [`Memory`](crate::fallible::Refused::Memory) if an allocation fails. The builder is then
+    /// unchanged.
+    ///
     /// # Proved
+    ///
+    /// The builder gains one entry with this encoding, or the call returns an error and changes nothing. A full builder, with 2^32 - 1 entries, returns `TooLong`.
     ///
     /// ```text
     /// ensures { Adds (import_encoding (imports_item imports.entry))
@@ -359,6 +495,8 @@ impl<'a, A: Allocator + Copy, G: Grammar> Readable<'a, A, G> for EntityType {
 impl<'a> Layout for ImportCompact<'a> {
     /// # Proved
     ///
+    /// A format whose encodings determine their own end is unambiguous in every mode, with encodings as `HasEncodings` states.
+    ///
     /// ```text
     /// ensures { Unambiguous (pair name entity) }
     /// ```
@@ -407,6 +545,8 @@ fn group_kind<G: Grammar>(bytes: &[u8]) -> Option<(u8, &[u8])> {
 impl<'a, A: Allocator> Layout for Imports<'a, A> {
     /// # Proved
     ///
+    /// A format whose encodings determine their own end is unambiguous in every mode, with encodings as `HasEncodings` states.
+    ///
     /// ```text
     /// ensures { Unambiguous import_format }
     /// ```
@@ -449,9 +589,24 @@ impl<'a, A: Allocator + Copy, G: Grammar> Readable<'a, A, G> for Imports<'a, A> 
 ///
 /// Any error but `Memory` means that the bytes are not such a payload.
 ///
+/// # Examples
+///
+/// ```
+/// use dolzhytik::fallible::{Global, Import, Imports, read_imports};
+/// use dolzhytik::reader::{DecodeError, Padded};
+///
+/// // One import: "m", "f", a function (00) of type 5.
+/// let imports = read_imports::<Global, Padded>(b"\x01\x01m\x01f\0\x05", Global)?;
+/// assert!(matches!(
+///     imports[..],
+///     [Imports::Single(Import { module: "m", name: "f", .. })]
+/// ));
+/// # Ok::<(), DecodeError>(())
+/// ```
+///
 /// # Proved
 ///
-/// After `Ok`: `found`. After an error: `none`.
+/// After `Ok`: `found`. After an error: `none`, the bytes as a whole are no such encoding, unless the cause is `Memory`.
 ///
 /// ```text
 /// ensures found { IfOk result
@@ -475,7 +630,7 @@ pub fn read_imports<'a, A: Allocator + Copy + 'a, G: Grammar>(
 ///
 /// # Proved
 ///
-/// After `Ok`: `ok`. In any case: `front`, `too_long`.
+/// After `Ok`: `ok`, the sink gains the minimal encoding. In any case: `front`; `too_long`, a value that has an encoding never gives `TooLong`. `front`: The new bytes begin with the old ones.
 ///
 /// ```text
 /// ensures ok { OnOk result
@@ -501,9 +656,29 @@ fn write_imports<A: Allocator, B: Sink>(
 /// Appends the minimal encoding of imports and groups of imports, after their count. On an error,
 /// the sink is unchanged.
 ///
+/// # Errors
+///
+/// Returns [`TooLong`](crate::fallible::Refused::TooLong) if a count or length would pass
+/// 4294967295, and [`Memory`](crate::fallible::Refused::Memory) if an allocation fails. The
+/// bytes of the sink are then unchanged.
+///
+/// # Examples
+///
+/// ```
+/// use dolzhytik::fallible::{
+///     EntityType, Global, Import, Imports, Refused, append_imports,
+/// };
+///
+/// let import = Import { module: "m", name: "f", ty: EntityType::Function(5) };
+/// let mut bytes = Vec::new();
+/// append_imports::<Global, _>(&[Imports::Single(import)], &mut bytes)?;
+/// assert_eq!(bytes, *b"\x01\x01m\x01f\0\x05");
+/// # Ok::<(), Refused>(())
+/// ```
+///
 /// # Proved
 ///
-/// After `Ok`: `ok`. After an error: `err`. In any case: `too_long`.
+/// After `Ok`: `ok`, the sink gains the minimal encoding. After an error: `err`, the bytes of the sink are unchanged. In any case: `too_long`, a value that has an encoding never gives `TooLong`.
 ///
 /// ```text
 /// ensures ok { OnOk result

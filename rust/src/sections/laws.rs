@@ -17,6 +17,8 @@ use crate::alloc::Allocator;
 ///
 /// # Proved
 ///
+/// `functions`, `tables`, `memories`, `globals`, `exports`, `elements`, `segments`, `tags`, `imports`, `entities`, `table_types`, `global_types`, `numbers`: A format whose encodings determine their own end is unambiguous in every mode, with encodings as `HasEncodings` states. `function_items`, `table_items`, `memory_items`, `global_items`, `export_items`, `element_items`, `data_items`, `import_items`, `tag_items`: The laws of a kind of items: the format is unambiguous, and a well-formed record whose size fits encodes its normal form.
+///
 /// ```text
 /// ensures functions { Unambiguous (counted_format u32_format) }
 /// ensures tables { Unambiguous (counted_format table_item) }
@@ -64,6 +66,8 @@ pub fn standard() {}
 ///
 /// # Proved
 ///
+/// `functions`, `tables`, `memories`, `globals`, `exports`, `elements`, `segments`, `tags`, `imports`, `entities`, `table_types`, `global_types`, `numbers`: With padding allowed a format is unambiguous, and it keeps every minimal encoding.
+///
 /// ```text
 /// ensures functions { UnambiguousPadded (counted_format u32_format) }
 /// ensures tables { UnambiguousPadded (counted_format table_item) }
@@ -88,6 +92,8 @@ pub fn padded() {}
 ///
 /// # Proved
 ///
+/// `functions`, `tables`, `memories`, `globals`, `exports`, `elements`, `segments`, `imports`, `tags`: A section without entries holds no items. The entry of a well-formed record adds its normal form, and an entry of raw bytes adds the item that they minimally encode. `add_all` adds its records as if one by one.
+///
 /// ```text
 /// ensures functions { ContainsMore function_items }
 /// ensures tables { ContainsMore table_items }
@@ -107,6 +113,8 @@ pub fn calls() {}
 /// expressions, and an entry may be a padded encoding of its item.
 ///
 /// # Proved
+///
+/// `functions`, `tables`, `memories`, `globals`, `exports`, `elements`, `segments`, `imports`, `tags`: As `ContainsMore`, for padded LEB128. A section holds all that it holds in minimal encodings. A record that is well-formed, with possibly padded expressions, adds its normal form. Raw bytes add the item that they encode, possibly padded.
 ///
 /// ```text
 /// ensures functions { ContainsMorePadded function_items }
@@ -141,6 +149,8 @@ pub fn given_elements<A: Allocator>() {}
 ///
 /// # Proved
 ///
+/// `functions`, `tables`, `memories`, `globals`, `exports`, `elements`, `segments`, `imports`, `tags`, `numbers`: If size-prefixed bytes decode to `x` alone, their payload decodes to `x` alone.
+///
 /// ```text
 /// ensures functions { DecodesPayloads (vec u32_format) }
 /// ensures tables { DecodesPayloads (vec table_item) }
@@ -160,6 +170,8 @@ pub fn payloads() {}
 /// The same with padded numbers.
 ///
 /// # Proved
+///
+/// `functions`, `tables`, `memories`, `globals`, `exports`, `elements`, `segments`, `imports`, `tags`, `numbers`: As `DecodesPayloads`, for padded LEB128.
 ///
 /// ```text
 /// ensures functions { DecodesPayloadsPadded (vec u32_format) }
@@ -183,6 +195,8 @@ pub fn padded_payloads() {}
 ///
 /// # Proved
 ///
+/// `inner_end`, `named_first_memory`, `padded_group`: In neither mode of the builders' grammar does a value decode from the front of the bytes, whatever follows them.
+///
 /// ```text
 /// ensures inner_end { RejectsAllAfterPadded (counted_format global_item)
 ///     (9 ∷ 1 ∷ 127 ∷ 0 ∷ 65 ∷ 1 ∷ 11 ∷ 65 ∷ 2 ∷ 11 ∷ []) }
@@ -200,6 +214,8 @@ pub fn rejections() {}
 /// index.
 ///
 /// # Proved
+///
+/// `plain`: The export is well-formed: its name is UTF-8, and its index is below 2^32.
 ///
 /// ```text
 /// ensures plain { IsExport export.now }
@@ -231,6 +247,8 @@ pub fn plain_exports(exports: &[Export<'_>]) {
 ///
 /// # Proved
 ///
+/// The table type is well-formed: its numbers are in range.
+///
 /// ```text
 /// ensures { IsTable table }
 /// ```
@@ -241,6 +259,8 @@ pub fn plain_table(table: TableType) {}
 /// Proves the same of a memory type.
 ///
 /// # Proved
+///
+/// The memory type is well-formed: its numbers are in range.
 ///
 /// ```text
 /// ensures { IsMemory memory }
@@ -253,6 +273,8 @@ pub fn plain_memory(memory: MemoryType) {}
 ///
 /// # Proved
 ///
+/// The global type is well-formed: an index in its value type is below 2^32.
+///
 /// ```text
 /// ensures { IsGlobal global }
 /// ```
@@ -263,6 +285,8 @@ pub fn plain_global(global: GlobalType) {}
 /// Proves the same of the type of an import, whatever its kind.
 ///
 /// # Proved
+///
+/// The numbers of the entity are in range.
 ///
 /// ```text
 /// ensures { IsEntity entity }

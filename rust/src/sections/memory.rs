@@ -10,26 +10,67 @@ use crate::base::{DecodeError, Encode, Grammar, Kind, Layout, Optional, ReadFaul
 /// The memory section: the memories that a module defines.
 ///
 /// ```
+/// # fn example() -> Result<(), Box<dyn std::error::Error>> {
 /// # use dolzhytik::{fallible::*, reader::*};
-/// # fn example(alloc: Global) -> Result<(), Box<dyn std::error::Error>> {
-/// # let mut module = Module::new(alloc)?;
-/// let mut memories = MemorySection::new(alloc);
+/// use dolzhytik::fallible::{Global, MemorySection, MemoryType, Module};
+///
+/// let mut module = Module::new(Global)?;
+/// let mut memories = MemorySection::new(Global);
 /// memories.memory(MemoryType { minimum: 1, maximum: None, memory64: false, shared: false, page_size_log2: None })?;
 /// module.section(&memories)?;
 /// # Ok(())
 /// # }
-/// # example(Global).unwrap();
+/// # example().unwrap();
 /// ```
 pub type MemorySection<A = Global> = CountedSection<MemoryItems, A>;
 
 /// The kind of a memory section's items: memory types.
+///
+/// It is the type argument of [`CountedSection`](crate::fallible::CountedSection) in
+/// [`MemorySection`](crate::fallible::MemorySection).
+///
+/// # Examples
+///
+/// ```
+/// use dolzhytik::fallible::{Global, ItemKind, MemoryItems, MemorySection};
+///
+/// let section = MemorySection::new(Global);
+/// assert_eq!((section.len(), MemoryItems::id()), (0, 5));
+/// ```
 #[derive(Clone, Copy, Debug)]
 pub struct MemoryItems;
 
-/// The type of a memory. Sizes are in pages.
+/// The type of a memory, which [`MemorySection::memory`](crate::MemorySection::memory) takes,
+/// and [`EntityType::Memory`](crate::EntityType::Memory) for an imported one.
+///
+/// Core specification, Types, Memory Types.
+///
+/// `minimum` and `maximum` are its size in pages: the initial one, and the limit for
+/// `memory.grow`. `shared` is of the threads proposal, and `page_size_log2` of the custom page
+/// sizes proposal.
+///
+/// # Examples
+///
+/// ```
+/// use dolzhytik::{Encode, MemoryType};
+///
+/// let mut bytes = Vec::new();
+/// MemoryType {
+///     minimum: 1,
+///     maximum: Some(2),
+///     memory64: false,
+///     shared: false,
+///     page_size_log2: None,
+/// }
+/// .encode(&mut bytes);
+/// // Flags: 1 for a maximum. From 1 to 2 pages.
+/// assert_eq!(bytes, [1, 1, 2]);
+/// ```
 #[derive(Clone, Copy, PartialEq, Eq, Hash, Debug)]
 pub struct MemoryType {
+    /// The initial size in pages.
     pub minimum: u64,
+    /// The limit of the size in pages.
     pub maximum: Option<u64>,
     /// Whether addresses have 64 bits.
     pub memory64: bool,
@@ -59,6 +100,8 @@ impl MemoryType {
     /// Returns the size of a page in bytes.
     ///
     /// # Asks
+    ///
+    /// A page has less than 2^32 bytes.
     ///
     /// ```text
     /// requires { page_exponent self.now.page_size_log2 < 32 }
@@ -146,7 +189,15 @@ impl RecordOf<MemoryItems> for MemoryType {}
 impl<A: Allocator> MemorySection<A> {
     /// Adds a memory of this type.
     ///
+    /// # Errors
+    ///
+    /// Returns [`TooLong`](crate::fallible::Refused::TooLong) if the builder has 4294967295
+    /// entries, and [`Memory`](crate::fallible::Refused::Memory) if an allocation fails. The
+    /// builder is then unchanged.
+    ///
     /// # Proved
+    ///
+    /// The builder gains one entry with this encoding, or the call returns an error and changes nothing. A full builder, with 2^32 - 1 entries, returns `TooLong`.
     ///
     /// ```text
     /// ensures { Adds (memory_encoding memory_type) ⊤ self.old self.new result }

@@ -4,38 +4,46 @@
 use crate::vec::Sink;
 use crate::base::{Encode, Result, Section, SectionId, begin_size_prefixed, encoding_size};
 
-/// The start section: the function that runs when a module is instantiated.
+/// The start section, which [`Module::section`](crate::Module::section) takes.
+///
+/// Core specification, Modules, Start Section.
+///
+/// `function_index` is the index of the function that instantiation calls.
+///
+/// # Examples
 ///
 /// ```
-/// # use dolzhytik::{fallible::*, reader::*};
-/// # fn example(alloc: Global) -> Result<(), Box<dyn std::error::Error>> {
-/// # let mut module = Module::new(alloc)?;
-/// module.section(&StartSection { function_index: 0 })?;
-/// # Ok(())
-/// # }
-/// # example(Global).unwrap();
+/// use dolzhytik::{Section, StartSection};
+///
+/// let mut bytes = Vec::new();
+/// StartSection { function_index: 300 }.append_to(&mut bytes);
+/// // Id 8, size 2, 300 as LEB128: 300 = 2 * 128 + 44.
+/// assert_eq!(bytes, [8, 2, 0xAC, 0x02]);
 /// ```
 #[derive(Clone, Copy, Debug)]
 pub struct StartSection {
+    /// The index of the function.
     pub function_index: u32,
 }
 
-/// The data count section: the number of data segments. It belongs before the code that refers to
-/// them.
+/// The data count section, which [`Module::section`](crate::Module::section) takes before the
+/// code section.
+///
+/// `count` is the number of data segments. Core specification, Modules, Data Count Section.
+///
+/// # Examples
 ///
 /// ```
-/// # use dolzhytik::{fallible::*, reader::*};
-/// # fn example(alloc: Global) -> Result<(), Box<dyn std::error::Error>> {
-/// # let mut module = Module::new(alloc)?;
-/// # let mut code = CodeSection::new(alloc);
-/// module.section(&DataCountSection { count: 1 })?;
-/// module.section(&code)?;
-/// # Ok(())
-/// # }
-/// # example(Global).unwrap();
+/// use dolzhytik::{DataCountSection, Section};
+///
+/// let mut bytes = Vec::new();
+/// DataCountSection { count: 128 }.append_to(&mut bytes);
+/// // Id 12, size 2, 128 as LEB128.
+/// assert_eq!(bytes, [12, 2, 0x80, 0x01]);
 /// ```
 #[derive(Clone, Copy, Debug)]
 pub struct DataCountSection {
+    /// The number of data segments.
     pub count: u32,
 }
 
@@ -43,7 +51,7 @@ pub struct DataCountSection {
 ///
 /// # Proved
 ///
-/// After `Ok`: `read`. In any case: `appends`.
+/// After `Ok`: `read`. In any case: `appends`. `appends`: The call appends the encoding, or returns an error and leaves the bytes as they were. If the value fits, the call never returns `TooLong`, and it succeeds within the spare capacity. `read`: The headline of a section: `encoding` is the one minimal encoding of any items that satisfy `Says`, and decodes to them alone.
 ///
 /// ```text
 /// ensures appends { Appends (size_prefixed_encoding (unsigned_encoding number))

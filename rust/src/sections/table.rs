@@ -12,31 +12,74 @@ use crate::code::{ConstExpr, Expression};
 /// The table section: the tables that a module defines.
 ///
 /// ```
+/// # fn example() -> Result<(), Box<dyn std::error::Error>> {
 /// # use dolzhytik::{fallible::*, reader::*};
-/// # fn example(alloc: Global) -> Result<(), Box<dyn std::error::Error>> {
-/// # let mut module = Module::new(alloc)?;
-/// let mut tables = TableSection::new(alloc);
+/// use dolzhytik::fallible::{
+///     ConstExpr, Global, HeapType, Module, RefType, TableSection, TableType,
+/// };
+///
+/// let mut module = Module::new(Global)?;
+/// let mut tables = TableSection::new(Global);
 /// let table_type = TableType { element_type: RefType::FUNCREF, table64: false, minimum: 128, maximum: None, shared: false };
 /// tables.table(table_type)?;
-/// tables.table_with_init(table_type, &ConstExpr::ref_null(alloc, HeapType::FUNC)?)?;
+/// tables.table_with_init(table_type, &ConstExpr::ref_null(Global, HeapType::FUNC)?)?;
 /// module.section(&tables)?;
 /// # Ok(())
 /// # }
-/// # example(Global).unwrap();
+/// # example().unwrap();
 /// ```
 pub type TableSection<A = Global> = CountedSection<TableItems, A>;
 
 /// The kind of a table section's items: table types, some with an initializer expression.
+///
+/// It is the type argument of [`CountedSection`](crate::fallible::CountedSection) in
+/// [`TableSection`](crate::fallible::TableSection).
+///
+/// # Examples
+///
+/// ```
+/// use dolzhytik::fallible::{Global, ItemKind, TableItems, TableSection};
+///
+/// let section = TableSection::new(Global);
+/// assert_eq!((section.len(), TableItems::id()), (0, 4));
+/// ```
 #[derive(Clone, Copy, Debug)]
 pub struct TableItems;
 
-/// The type of a table. Sizes are in elements.
+/// The type of a table, which [`TableSection::table`](crate::TableSection::table) takes, and
+/// [`EntityType::Table`](crate::EntityType::Table) for an imported one.
+///
+/// Core specification, Types, Table Types.
+///
+/// `minimum` and `maximum` are its size in elements: the initial one, and the limit for
+/// `table.grow`. `shared` is of the shared-everything threads proposal.
+///
+/// # Examples
+///
+/// ```
+/// use dolzhytik::{Encode, RefType, TableType};
+///
+/// let mut bytes = Vec::new();
+/// TableType {
+///     element_type: RefType::FUNCREF,
+///     table64: true,
+///     minimum: 3,
+///     maximum: None,
+///     shared: false,
+/// }
+/// .encode(&mut bytes);
+/// // funcref: 70. Flags: 4 for indices of 64 bits. At least 3 elements.
+/// assert_eq!(bytes, [0x70, 4, 3]);
+/// ```
 #[derive(Clone, Copy, PartialEq, Eq, Hash, Debug)]
 pub struct TableType {
+    /// The type of the elements.
     pub element_type: RefType,
     /// Whether indices have 64 bits.
     pub table64: bool,
+    /// The initial number of elements.
     pub minimum: u64,
+    /// The limit of the number of elements.
     pub maximum: Option<u64>,
     /// Whether threads share the table.
     pub shared: bool,
@@ -127,7 +170,15 @@ impl RecordOf<TableItems> for TableType {}
 impl<A: Allocator> TableSection<A> {
     /// Adds a table of this type, whose elements are initially null.
     ///
+    /// # Errors
+    ///
+    /// Returns [`TooLong`](crate::fallible::Refused::TooLong) if the builder has 4294967295
+    /// entries, and [`Memory`](crate::fallible::Refused::Memory) if an allocation fails. The
+    /// builder is then unchanged.
+    ///
     /// # Proved
+    ///
+    /// The builder gains one entry with this encoding, or the call returns an error and changes nothing. A full builder, with 2^32 - 1 entries, returns `TooLong`.
     ///
     /// ```text
     /// ensures { Adds (table_encoding table_type) ⊤ self.old self.new result }
@@ -140,7 +191,36 @@ impl<A: Allocator> TableSection<A> {
 
     /// Adds a table of this type, whose elements are initialized by the expression.
     ///
+    /// # Errors
+    ///
+    /// Returns [`TooLong`](crate::fallible::Refused::TooLong) if the builder has 4294967295
+    /// entries, and [`Memory`](crate::fallible::Refused::Memory) if an allocation fails. The
+    /// builder is then unchanged.
+    ///
+    /// # Examples
+    ///
+    /// ```
+    /// use dolzhytik::fallible::{ConstExpr, Global, HeapType, RefType, Refused};
+    /// use dolzhytik::fallible::{TableSection, TableType};
+    ///
+    /// let table_type = TableType {
+    ///     element_type: RefType::FUNCREF,
+    ///     table64: false,
+    ///     minimum: 3,
+    ///     maximum: None,
+    ///     shared: false,
+    /// };
+    /// let mut tables = TableSection::new(Global);
+    /// tables.table_with_init(table_type, &ConstExpr::ref_null(Global, HeapType::FUNC)?)?;
+    /// // 40 00; funcref (70), no maximum (0), at least 3 elements; ref.null func (D0 70), end.
+    /// let expected = [0x40, 0x00, 0x70, 0, 3, 0xD0, 0x70, 0x0B];
+    /// assert_eq!(tables.piece(0), Some(&expected[..]));
+    /// # Ok::<(), Refused>(())
+    /// ```
+    ///
     /// # Proved
+    ///
+    /// The builder gains one entry with this encoding, or the call returns an error and changes nothing. A full builder, with 2^32 - 1 entries, returns `TooLong`.
     ///
     /// ```text
     /// ensures { Adds (before_init
@@ -231,9 +311,30 @@ impl<'a, A: Allocator + Copy, G: Grammar> Readable<'a, A, G> for TableType {
 pub(crate) const BEFORE_INIT: [u8; 2] = [0x40, 0x00];
 
 /// A decoded table: its type, and its optional initializer expression.
+///
+/// [`Items::Tables`](crate::reader::Items::Tables) has them.
+///
+/// # Examples
+///
+/// ```
+/// use dolzhytik::fallible::{Global, RefType};
+/// use dolzhytik::reader::{DecodeError, Padded, Readable, TableItem};
+///
+/// // funcref (70). No maximum: 0. At least 3 elements.
+/// let (table, _) =
+///     <TableItem as Readable<Global, Padded>>::read(&[0x70, 0, 3], Global)?;
+/// assert_eq!(
+///     (table.table_type.element_type, table.table_type.minimum),
+///     (RefType::FUNCREF, 3)
+/// );
+/// assert!(table.init.is_none());
+/// # Ok::<(), DecodeError>(())
+/// ```
 #[derive(Debug)]
 pub struct TableItem<A: Allocator = Global> {
+    /// The type.
     pub table_type: TableType,
+    /// The constant expression of the initial elements, or `None` for null.
     pub init: Option<Expression<A>>,
 }
 

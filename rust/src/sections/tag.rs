@@ -9,31 +9,76 @@ use crate::base::{DecodeError, Encode, Grammar, Kind, Layout, ReadFault, Readabl
 /// The tag section: the tags that a module defines.
 ///
 /// ```
+/// # fn example() -> Result<(), Box<dyn std::error::Error>> {
 /// # use dolzhytik::{fallible::*, reader::*};
-/// # fn example(alloc: Global) -> Result<(), Box<dyn std::error::Error>> {
-/// # let mut module = Module::new(alloc)?;
-/// let mut tags = TagSection::new(alloc);
+/// use dolzhytik::fallible::{Global, Module, TagKind, TagSection, TagType};
+///
+/// let mut module = Module::new(Global)?;
+/// let mut tags = TagSection::new(Global);
 /// tags.tag(TagType { kind: TagKind::Exception, func_type_idx: 0 })?;
 /// module.section(&tags)?;
 /// # Ok(())
 /// # }
-/// # example(Global).unwrap();
+/// # example().unwrap();
 /// ```
 pub type TagSection<A = Global> = CountedSection<TagItems, A>;
 
 /// The kind of a tag section's items: tag types.
+///
+/// It is the type argument of [`CountedSection`](crate::fallible::CountedSection) in
+/// [`TagSection`](crate::fallible::TagSection).
+///
+/// # Examples
+///
+/// ```
+/// use dolzhytik::fallible::{Global, ItemKind, TagItems, TagSection};
+///
+/// let section = TagSection::new(Global);
+/// assert_eq!((section.len(), TagItems::id()), (0, 13));
+/// ```
 #[derive(Clone, Copy, Debug)]
 pub struct TagItems;
 
 /// The purpose of a tag.
+///
+/// It is a field of [`TagType`](crate::fallible::TagType).
+///
+/// # Examples
+///
+/// ```
+/// use dolzhytik::fallible::{Global, Refused, TagKind, TagSection, TagType};
+///
+/// let mut tags = TagSection::new(Global);
+/// tags.tag(TagType { kind: TagKind::Exception, func_type_idx: 5 })?;
+/// // An exception (00) of type 5.
+/// assert_eq!(tags.piece(0), Some(&[0x00, 5][..]));
+/// # Ok::<(), Refused>(())
+/// ```
 #[derive(Clone, Copy, PartialEq, Eq, Debug)]
 pub enum TagKind {
+    /// An exception: 00.
     Exception,
 }
 
 /// The type of a tag.
+///
+/// [`TagSection`](crate::fallible::TagSection) takes it in `tag`, and
+/// [`Items::Tags`](crate::reader::Items::Tags) has them.
+///
+/// # Examples
+///
+/// ```
+/// use dolzhytik::fallible::{Encode, Refused, TagKind, TagType};
+///
+/// let mut bytes = Vec::new();
+/// TagType { kind: TagKind::Exception, func_type_idx: 5 }.encode(&mut bytes)?;
+/// // An exception (00) of type 5.
+/// assert_eq!(bytes, [0x00, 5]);
+/// # Ok::<(), Refused>(())
+/// ```
 #[derive(Clone, Copy, PartialEq, Eq, Debug)]
 pub struct TagType {
+    /// The kind of the tag.
     pub kind: TagKind,
     /// The index of a function type, whose parameters the tag carries.
     pub func_type_idx: u32,
@@ -105,7 +150,15 @@ impl RecordOf<TagItems> for TagType {}
 impl<A: Allocator> TagSection<A> {
     /// Adds a tag of this type.
     ///
+    /// # Errors
+    ///
+    /// Returns [`TooLong`](crate::fallible::Refused::TooLong) if the builder has 4294967295
+    /// entries, and [`Memory`](crate::fallible::Refused::Memory) if an allocation fails. The
+    /// builder is then unchanged.
+    ///
     /// # Proved
+    ///
+    /// The builder gains one entry with this encoding, or the call returns an error and changes nothing. A full builder, with 2^32 - 1 entries, returns `TooLong`.
     ///
     /// ```text
     /// ensures { Adds (tag_encoding tag_type) ⊤ self.old self.new result }

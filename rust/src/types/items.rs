@@ -8,17 +8,51 @@ use crate::alloc::{Allocator, Global};
 use crate::base::{DecodeError, Encode, Grammar, Layout, Lent, ReadFault, Readable, Result};
 
 /// A decoded subtype: its supertypes, and whether it is final, so that it can have no subtypes.
+///
+/// It is a case of [`TypeEntry`](crate::reader::TypeEntry).
+///
+/// # Examples
+///
+/// ```
+/// use dolzhytik::fallible::{Global, SubItem};
+/// use dolzhytik::reader::{DecodeError, Padded, Readable};
+///
+/// // Not final: 50. One supertype, 5. A function without parameters and results.
+/// let bytes = [0x50, 1, 5, 0x60, 0, 0];
+/// let (ty, _) = <SubItem as Readable<Global, Padded>>::read(&bytes, Global)?;
+/// assert_eq!((ty.is_final, &ty.supertypes[..]), (false, &[5][..]));
+/// # Ok::<(), DecodeError>(())
+/// ```
 #[derive(Debug)]
 pub struct SubItem<A: Allocator = Global> {
+    /// Whether the type has no subtypes.
     pub is_final: bool,
     /// The indices of its supertypes.
     pub supertypes: Vec<u32, A>,
+    /// The type itself.
     pub composite_type: CompositeType<A>,
 }
 
 /// A decoded entry of a type section.
+///
+/// [`Items::Types`](crate::reader::Items::Types) has them.
+///
+/// # Examples
+///
+/// ```
+/// use dolzhytik::fallible::Global;
+/// use dolzhytik::reader::{DecodeError, Padded, Readable, TypeEntry};
+///
+/// // A group (4E) of two functions without parameters and results.
+/// let bytes = [0x4E, 2, 0x60, 0, 0, 0x60, 0, 0];
+/// let (entry, _) = <TypeEntry as Readable<Global, Padded>>::read(&bytes, Global)?;
+/// let TypeEntry::Group(types) = entry else { panic!("one type") };
+/// assert_eq!(types.len(), 2);
+/// # Ok::<(), DecodeError>(())
+/// ```
 #[derive(Debug)]
 pub enum TypeEntry<A: Allocator = Global> {
+    /// One type.
     Single(SubItem<A>),
     /// A recursion group: types that may refer to one another.
     Group(Vec<SubItem<A>, A>),
@@ -28,7 +62,7 @@ pub enum TypeEntry<A: Allocator = Global> {
 ///
 /// # Proved
 ///
-/// After `Ok`: `found`. After an error: `none`.
+/// After `Ok`: `found`. After an error: `none`, the bytes do not begin with such an encoding, unless the cause is `Memory`. `found`: `bytes` is an encoding of `x` in this mode, followed by `rest`.
 ///
 /// ```text
 /// ensures found { IfOk result
@@ -53,7 +87,7 @@ fn read_supertypes_and<'a, A: Allocator + Copy, G: Grammar>(
 ///
 /// # Proved
 ///
-/// After `Ok`: `found`. After an error: `none`.
+/// After `Ok`: `found`. After an error: `none`, the bytes do not begin with such an encoding, unless the cause is `Memory`. `found`: `bytes` is an encoding of `x` in this mode, followed by `rest`.
 ///
 /// ```text
 /// ensures found { IfOk result
@@ -81,7 +115,7 @@ fn read_final_and<'a, A: Allocator + Copy, G: Grammar>(
 ///
 /// # Proved
 ///
-/// After `Ok`: `found`. After an error: `none`.
+/// After `Ok`: `found`, the bytes begin with an encoding of the value, and the returned bytes follow it. After an error: `none`, the bytes do not begin with such an encoding, unless the cause is `Memory`.
 ///
 /// ```text
 /// ensures found { IfOk result

@@ -7,6 +7,8 @@
 ///
 /// # Proved
 ///
+/// `section`, `item`, `sub`, `composite`, `field`, `storage`: A format whose encodings determine their own end is unambiguous in every mode, with encodings as `HasEncodings` states. `items`: The laws of a kind of items: the format is unambiguous, and a well-formed record whose size fits encodes its normal form.
+///
 /// ```text
 /// ensures section { Unambiguous (counted_format type_item) }
 /// ensures item { Unambiguous type_item }
@@ -39,6 +41,8 @@ pub fn standard() {}
 ///
 /// # Proved
 ///
+/// `section`, `item`: With padding allowed a format is unambiguous, and it keeps every minimal encoding.
+///
 /// ```text
 /// ensures section { UnambiguousPadded (counted_format type_item) }
 /// ensures item { UnambiguousPadded type_item }
@@ -52,6 +56,8 @@ pub fn padded() {}
 ///
 /// # Proved
 ///
+/// A section without entries holds no items. The entry of a well-formed record adds its normal form, and an entry of raw bytes adds the item that they minimally encode. `add_all` adds its records as if one by one.
+///
 /// ```text
 /// ensures { ContainsMore type_items }
 /// ```
@@ -62,6 +68,8 @@ pub fn calls() {}
 /// The types that the entries of a type section encode with padded numbers, call by call.
 ///
 /// # Proved
+///
+/// As `ContainsMore`, for padded LEB128. A section holds all that it holds in minimal encodings. A record that is well-formed, with possibly padded expressions, adds its normal form. Raw bytes add the item that they encode, possibly padded.
 ///
 /// ```text
 /// ensures { ContainsMorePadded type_items }
@@ -75,6 +83,8 @@ pub fn padded_calls() {}
 ///
 /// # Proved
 ///
+/// If size-prefixed bytes decode to `x` alone, their payload decodes to `x` alone.
+///
 /// ```text
 /// ensures { DecodesPayloads (vec type_item) }
 /// ```
@@ -85,6 +95,8 @@ pub fn payloads() {}
 /// The same with padded numbers.
 ///
 /// # Proved
+///
+/// As `DecodesPayloads`, for padded LEB128.
 ///
 /// ```text
 /// ensures { DecodesPayloadsPadded (vec type_item) }
@@ -98,6 +110,8 @@ pub fn padded_payloads() {}
 /// is padded. In the third a final type has an empty list of supertypes, which the standard admits.
 ///
 /// # Proved
+///
+/// `mutability_of_2`, `padded_group`, `no_supertypes`: In neither mode of the builders' grammar does a value decode from the front of the bytes, whatever follows them.
 ///
 /// ```text
 /// ensures mutability_of_2 { RejectsAllAfterPadded (counted_format type_item)

@@ -13,8 +13,10 @@ pub(crate) mod type_section;
 pub(crate) mod types;
 
 pub use items::{SubItem, TypeEntry};
-pub use type_section::{CoreTypeEncoder, TypeItems, TypeSection, append_types, read_types};
-pub use types::{
-    ArrayType, CompositeInnerType, CompositeType, ContType, FieldType, FuncType, StorageType,
-    StructType, SubType,
-};
+pub use type_section::{CoreTypeEncoder, TypeItems, append_types, read_types};
+#[doc(alias = "signature")]
+#[doc(alias = "rectype")]
+pub use type_section::TypeSection;
+pub use types::{ArrayType, CompositeInnerType, CompositeType, ContType, FieldType, StorageType, StructType, SubType};
+#[doc(alias = "signature")]
+pub use types::FuncType;

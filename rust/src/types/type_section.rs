@@ -10,15 +10,17 @@ use crate::base::{Counted, DecodeError, Encode, Grammar, Kind, Pieces, Result, S
 /// The type section: the types that a module defines, modelled as the bytes of each entry.
 ///
 /// ```
+/// # fn example() -> Result<(), Box<dyn std::error::Error>> {
 /// # use dolzhytik::{fallible::*, reader::*};
-/// # fn example(alloc: Global) -> Result<(), Box<dyn std::error::Error>> {
-/// # let mut module = Module::new(alloc)?;
-/// let mut types = TypeSection::new(alloc);
+/// use dolzhytik::fallible::{Global, Module, TypeSection, ValType};
+///
+/// let mut module = Module::new(Global)?;
+/// let mut types = TypeSection::new(Global);
 /// types.ty().function([ValType::I32, ValType::I32], [ValType::I32])?;
 /// module.section(&types)?;
 /// # Ok(())
 /// # }
-/// # example(Global).unwrap();
+/// # example().unwrap();
 /// ```
 ///
 /// # Errors
@@ -31,6 +33,17 @@ pub struct TypeSection<A: Allocator = Global> {
 }
 
 /// The kind of a type section's items: subtypes and recursion groups.
+///
+/// It is the kind of [`TypeSection`](crate::fallible::TypeSection). Only contracts name it.
+///
+/// # Examples
+///
+/// ```
+/// use dolzhytik::fallible::{Kind, TypeItems};
+///
+/// // A law of the format, which the prover has checked. The call does nothing.
+/// TypeItems::laws();
+/// ```
 #[derive(Clone, Copy, Debug)]
 pub struct TypeItems;
 
@@ -65,6 +78,8 @@ impl<A: Allocator> TypeSection<A> {
     ///
     /// # Proved
     ///
+    /// The result is true exactly if there are no entries.
+    ///
     /// ```text
     /// ensures { IsTrue result ↔ (length self.now ≡ 0) }
     /// ```
@@ -78,6 +93,8 @@ impl<A: Allocator> TypeSection<A> {
     ///
     /// # Proved
     ///
+    /// The result is the entry at `index`, if there is one.
+    ///
     /// ```text
     /// ensures { option_copied result ≡ slice_get self.now index }
     /// ```
@@ -90,7 +107,15 @@ impl<A: Allocator> TypeSection<A> {
     /// Adds an entry that is already encoded. The call does not check that it is a type or a
     /// recursion group.
     ///
+    /// # Errors
+    ///
+    /// Returns [`TooLong`](crate::fallible::Refused::TooLong) if the builder has 4294967295
+    /// entries, and [`Memory`](crate::fallible::Refused::Memory) if an allocation fails. The
+    /// builder is then unchanged.
+    ///
     /// # Proved
+    ///
+    /// The builder gains one entry with this encoding, or the call returns an error and changes nothing. A full builder, with 2^32 - 1 entries, returns `TooLong`.
     ///
     /// ```text
     /// ensures { Adds entry.now ⊤ self.old self.new result }
@@ -121,6 +146,8 @@ impl<A: Allocator + Copy> TypeSection<A> {
     ///
     /// # Proved
     ///
+    /// The result has no entries.
+    ///
     /// ```text
     /// ensures { result ≡ [] }
     /// ```
@@ -134,9 +161,13 @@ impl<A: Allocator + Copy> TypeSection<A> {
 
     /// Returns a section of the same entries, in memory of its own.
     ///
+    /// # Errors
+    ///
+    /// Returns [`Memory`](crate::fallible::Refused::Memory) if an allocation fails.
+    ///
     /// # Proved
     ///
-    /// After `Ok`: `same`. In any case: `memory`.
+    /// After `Ok`: `same`, the result equals the value. In any case: `memory`, no error is `TooLong`.
     ///
     /// ```text
     /// ensures same { IfOk result (λ section. section ≡ self.now) }
@@ -211,6 +242,21 @@ impl<A: Allocator, B: Allocator> Counted<TypeEntry<B>> for TypeSection<A> {
 
 /// Adds one type to a section that it borrows. A call that returns an error leaves the section
 /// unchanged.
+///
+/// [`TypeSection::ty`](crate::fallible::TypeSection::ty) returns it. Each of its calls adds one
+/// entry.
+///
+/// # Examples
+///
+/// ```
+/// use dolzhytik::fallible::{Global, Refused, TypeSection, ValType};
+///
+/// let mut types = TypeSection::new(Global);
+/// types.ty().function([ValType::I32], [])?;
+/// // A function: 60. One parameter, i32 (7F), and no results.
+/// assert_eq!(types.piece(0), Some(&[0x60, 1, 0x7F, 0][..]));
+/// # Ok::<(), Refused>(())
+/// ```
 #[derive(Debug)]
 pub struct CoreTypeEncoder<'a, A: Allocator = Global> {
     section: &'a mut TypeSection<A>,
@@ -219,7 +265,16 @@ pub struct CoreTypeEncoder<'a, A: Allocator = Global> {
 impl<'a, A: Allocator> CoreTypeEncoder<'a, A> {
     /// Adds a function type.
     ///
+    /// # Errors
+    ///
+    /// Returns [`TooLong`](crate::fallible::Refused::TooLong) if the builder has 4294967295
+    /// entries, or if a count or length would pass 4294967295, and
+    /// [`Memory`](crate::fallible::Refused::Memory) if an allocation fails. The builder is then
+    /// unchanged.
+    ///
     /// # Proved
+    ///
+    /// The builder gains one entry with this encoding, or the call returns an error and changes nothing. A full builder, with 2^32 - 1 entries, returns `TooLong`.
     ///
     /// ```text
     /// ensures { Adds (func_encoding ty.now.params.items ty.now.results.items)
@@ -236,7 +291,27 @@ impl<'a, A: Allocator> CoreTypeEncoder<'a, A> {
 
     /// Adds an array type.
     ///
+    /// # Errors
+    ///
+    /// Returns [`TooLong`](crate::fallible::Refused::TooLong) if the builder has 4294967295
+    /// entries, and [`Memory`](crate::fallible::Refused::Memory) if an allocation fails. The
+    /// builder is then unchanged.
+    ///
+    /// # Examples
+    ///
+    /// ```
+    /// use dolzhytik::fallible::{Global, Refused, StorageType, TypeSection};
+    ///
+    /// let mut types = TypeSection::new(Global);
+    /// types.ty().array(&StorageType::I8, true)?;
+    /// // An array: 5E. i8 (78), mutable (01).
+    /// assert_eq!(types.piece(0), Some(&[0x5E, 0x78, 0x01][..]));
+    /// # Ok::<(), Refused>(())
+    /// ```
+    ///
     /// # Proved
+    ///
+    /// The builder gains one entry with this encoding, or the call returns an error and changes nothing. A full builder, with 2^32 - 1 entries, returns `TooLong`.
     ///
     /// ```text
     /// ensures { Adds (0x5E ∷ field_encoding
@@ -256,7 +331,27 @@ impl<'a, A: Allocator> CoreTypeEncoder<'a, A> {
 
     /// Adds a continuation type.
     ///
+    /// # Errors
+    ///
+    /// Returns [`TooLong`](crate::fallible::Refused::TooLong) if the builder has 4294967295
+    /// entries, and [`Memory`](crate::fallible::Refused::Memory) if an allocation fails. The
+    /// builder is then unchanged.
+    ///
+    /// # Examples
+    ///
+    /// ```
+    /// use dolzhytik::fallible::{ContType, Global, Refused, TypeSection};
+    ///
+    /// let mut types = TypeSection::new(Global);
+    /// types.ty().cont(&ContType(64))?;
+    /// // A continuation: 5D. The index is signed LEB128: 64 is C0 00.
+    /// assert_eq!(types.piece(0), Some(&[0x5D, 0xC0, 0x00][..]));
+    /// # Ok::<(), Refused>(())
+    /// ```
+    ///
     /// # Proved
+    ///
+    /// The builder gains one entry with this encoding, or the call returns an error and changes nothing. A full builder, with 2^32 - 1 entries, returns `TooLong`.
     ///
     /// ```text
     /// ensures { Adds (cont_encoding ty.now.0) ⊤ self.entry.section.now self.exit.0.now result
@@ -271,7 +366,16 @@ impl<'a, A: Allocator> CoreTypeEncoder<'a, A> {
 
     /// Adds a subtype.
     ///
+    /// # Errors
+    ///
+    /// Returns [`TooLong`](crate::fallible::Refused::TooLong) if the builder has 4294967295
+    /// entries, or if a count or length would pass 4294967295, and
+    /// [`Memory`](crate::fallible::Refused::Memory) if an allocation fails. The builder is then
+    /// unchanged.
+    ///
     /// # Proved
+    ///
+    /// The builder gains one entry with this encoding, or the call returns an error and changes nothing. A full builder, with 2^32 - 1 entries, returns `TooLong`.
     ///
     /// ```text
     /// ensures { Adds (sub_encoding (sub_in ty.now))
@@ -288,7 +392,16 @@ impl<'a, A: Allocator> CoreTypeEncoder<'a, A> {
     /// Adds a function type of these parameters and results. If there are too many of either, it
     /// returns `TooLong` and requests none.
     ///
+    /// # Errors
+    ///
+    /// Returns [`TooLong`](crate::fallible::Refused::TooLong) if the builder has 4294967295
+    /// entries, or if a count or length would pass 4294967295, and
+    /// [`Memory`](crate::fallible::Refused::Memory) if an allocation fails. The builder is then
+    /// unchanged.
+    ///
     /// # Asks
+    ///
+    /// The iterator ends, and yields as many items as it reports.
     ///
     /// ```text
     /// requires params { HasKnownLength P.into_iter_gives P.IntoIter.can_next
@@ -300,6 +413,8 @@ impl<'a, A: Allocator> CoreTypeEncoder<'a, A> {
     /// Definitions: [`HasKnownLength`](crate::definitions::base::iterators::HasKnownLength). [How to read clauses](crate::definitions).
     ///
     /// # Proved
+    ///
+    /// The section gains one entry of the items that both iterators yield, or the call returns an error and changes nothing. More than 2^32 - 1 items of either give `TooLong`.
     ///
     /// ```text
     /// ensures { AddsTwoListed P.into_iter_gives P.IntoIter.next_gives P.IntoIter.remaining
@@ -326,7 +441,28 @@ impl<'a, A: Allocator> CoreTypeEncoder<'a, A> {
     /// Adds a structure type of these fields. If there are too many, it returns `TooLong` and
     /// requests none.
     ///
+    /// # Errors
+    ///
+    /// Returns [`TooLong`](crate::fallible::Refused::TooLong) if the builder has 4294967295
+    /// entries, or if a count or length would pass 4294967295, and
+    /// [`Memory`](crate::fallible::Refused::Memory) if an allocation fails. The builder is then
+    /// unchanged.
+    ///
+    /// # Examples
+    ///
+    /// ```
+    /// use dolzhytik::fallible::{FieldType, Global, Refused, StorageType, TypeSection};
+    ///
+    /// let mut types = TypeSection::new(Global);
+    /// types.ty().struct_([FieldType { element_type: StorageType::I16, mutable: false }])?;
+    /// // A structure: 5F. One field, i16 (77), immutable (00).
+    /// assert_eq!(types.piece(0), Some(&[0x5F, 1, 0x77, 0x00][..]));
+    /// # Ok::<(), Refused>(())
+    /// ```
+    ///
     /// # Asks
+    ///
+    /// The iterator ends, and yields as many items as it reports.
     ///
     /// ```text
     /// requires { HasKnownLength F.into_iter_gives F.IntoIter.can_next F.IntoIter.next_gives
@@ -336,6 +472,8 @@ impl<'a, A: Allocator> CoreTypeEncoder<'a, A> {
     /// Definitions: [`HasKnownLength`](crate::definitions::base::iterators::HasKnownLength). [How to read clauses](crate::definitions).
     ///
     /// # Proved
+    ///
+    /// The section gains one entry of the items that the iterator yields, or the call returns an error and changes nothing. More than 2^32 - 1 items give `TooLong`.
     ///
     /// ```text
     /// ensures { AddsListed F.into_iter_gives F.IntoIter.next_gives F.IntoIter.remaining
@@ -355,7 +493,28 @@ impl<'a, A: Allocator> CoreTypeEncoder<'a, A> {
     /// Adds a recursion group: subtypes that may refer to one another. If there are too many, it
     /// returns `TooLong` and requests none.
     ///
+    /// # Errors
+    ///
+    /// Returns [`TooLong`](crate::fallible::Refused::TooLong) if the builder has 4294967295
+    /// entries, or if a count or length would pass 4294967295, and
+    /// [`Memory`](crate::fallible::Refused::Memory) if an allocation fails. The builder is then
+    /// unchanged.
+    ///
+    /// # Examples
+    ///
+    /// ```
+    /// use dolzhytik::fallible::{Global, Refused, SubType, TypeSection};
+    ///
+    /// let mut types = TypeSection::new(Global);
+    /// types.ty().rec::<[SubType; 0], Global>([])?;
+    /// // A group of no types: 4E and the count.
+    /// assert_eq!(types.piece(0), Some(&[0x4E, 0][..]));
+    /// # Ok::<(), Refused>(())
+    /// ```
+    ///
     /// # Asks
+    ///
+    /// The iterator ends, and yields as many items as it reports.
     ///
     /// ```text
     /// requires { HasKnownLength T.into_iter_gives T.IntoIter.can_next T.IntoIter.next_gives
@@ -366,6 +525,8 @@ impl<'a, A: Allocator> CoreTypeEncoder<'a, A> {
     ///
     /// # Proved
     ///
+    /// The section gains one entry of the items that the iterator yields, or the call returns an error and changes nothing. More than 2^32 - 1 items give `TooLong`.
+    ///
     /// ```text
     /// ensures { AddsListed T.into_iter_gives T.IntoIter.next_gives T.IntoIter.remaining
     ///     (λ s. IsEncodableShape (shape_in s.composite_type.inner)) types group_encoding
@@ -373,6 +534,8 @@ impl<'a, A: Allocator> CoreTypeEncoder<'a, A> {
     /// ```
     ///
     /// Definitions: [`AddsListed`](crate::definitions::types::calls::AddsListed), [`IsEncodableShape`](crate::definitions::types::given::IsEncodableShape), [`shape_in`](crate::definitions::types::given::shape_in), [`group_encoding`](crate::definitions::types::given::group_encoding). [How to read clauses](crate::definitions).
+    #[doc(alias = "recursion group")]
+    #[doc(alias = "rectype")]
     pub fn rec<T: IntoIterator<Item = SubType<B>>, B: Allocator>(self, types: T) -> Result<()>
     where
         T::IntoIter: ExactSizeIterator,
@@ -393,9 +556,21 @@ pub(crate) const REC: u8 = 0x4E;
 ///
 /// Any error but `Memory` means that the bytes are not such a payload.
 ///
+/// # Examples
+///
+/// ```
+/// use dolzhytik::fallible::{Global, read_types};
+/// use dolzhytik::reader::{DecodeError, Padded, TypeEntry};
+///
+/// // One function without parameters and results.
+/// let types = read_types::<Global, Padded>(&[1, 0x60, 0, 0], Global)?;
+/// assert!(matches!(types[..], [TypeEntry::Single(_)]));
+/// # Ok::<(), DecodeError>(())
+/// ```
+///
 /// # Proved
 ///
-/// After `Ok`: `found`. After an error: `none`.
+/// After `Ok`: `found`. After an error: `none`, the bytes as a whole are no such encoding, unless the cause is `Memory`.
 ///
 /// ```text
 /// ensures found { IfOk result
@@ -416,9 +591,29 @@ pub fn read_types<'a, A: Allocator + Copy, G: Grammar>(
 /// Appends the minimal encoding of a type section's payload: the number of types, and the types. On
 /// an error, the sink is unchanged.
 ///
+/// # Errors
+///
+/// Returns [`TooLong`](crate::fallible::Refused::TooLong) if a count or length would pass
+/// 4294967295, and [`Memory`](crate::fallible::Refused::Memory) if an allocation fails. The
+/// bytes of the sink are then unchanged.
+///
+/// # Examples
+///
+/// ```
+/// use dolzhytik::fallible::{Global, append_types, read_types};
+/// use dolzhytik::reader::{DecodeError, Padded};
+///
+/// // The count, 1, in two bytes; a function without parameters and results.
+/// let types = read_types::<Global, Padded>(&[0x81, 0x00, 0x60, 0, 0], Global)?;
+/// let mut bytes = vec![];
+/// append_types(&types, &mut bytes)?;
+/// assert_eq!(bytes, [1, 0x60, 0, 0]);
+/// # Ok::<(), DecodeError>(())
+/// ```
+///
 /// # Proved
 ///
-/// After `Ok`: `ok`. After an error: `err`. In any case: `too_long`.
+/// After `Ok`: `ok`, the sink gains the minimal encoding. After an error: `err`, the bytes of the sink are unchanged. In any case: `too_long`, a value that has an encoding never gives `TooLong`.
 ///
 /// ```text
 /// ensures ok { OnOk result

@@ -6,30 +6,113 @@ use crate::alloc::{Allocator, Global};
 use core::slice;
 use crate::base::{Encode, Lent, Result, ValType};
 
-/// The type of the content of a field or an element: a value, or a packed integer.
+/// A storage type, which [`CoreTypeEncoder::array`](crate::CoreTypeEncoder::array) and
+/// [`FieldType`](crate::FieldType) take.
+///
+/// Core specification, Types, Composite Types.
+///
+/// `I8` and `I16` are packed integers, and `Val` is a value type. A [`ValType`](crate::ValType)
+/// converts to it.
+///
+/// # Examples
+///
+/// ```
+/// use dolzhytik::{Encode, StorageType, ValType};
+///
+/// let mut bytes = Vec::new();
+/// StorageType::I8.encode(&mut bytes);
+/// StorageType::from(ValType::I32).encode(&mut bytes);
+/// // i8: 78. i32: 7F.
+/// assert_eq!(bytes, [0x78, 0x7F]);
+/// ```
 #[derive(Clone, Copy, PartialEq, Eq, Hash, Debug)]
 pub enum StorageType {
+    /// A packed integer of 8 bits: 78.
     I8,
+    /// A packed integer of 16 bits: 77.
     I16,
+    /// A value type.
     Val(ValType),
 }
 
-/// The type of a field, or of the elements of an array.
+/// A field of a structure, which [`CoreTypeEncoder::struct_`](crate::CoreTypeEncoder::struct_)
+/// takes.
+///
+/// Core specification, Types, Composite Types.
+///
+/// `element_type` is the type of its content, and `mutable` says whether it can be set.
+///
+/// # Examples
+///
+/// ```
+/// use dolzhytik::{Encode, FieldType, StorageType};
+///
+/// let mut bytes = Vec::new();
+/// FieldType { element_type: StorageType::I16, mutable: false }.encode(&mut bytes);
+/// // i16: 77. Immutable: 00.
+/// assert_eq!(bytes, [0x77, 0x00]);
+/// ```
 #[derive(Clone, Copy, PartialEq, Eq, Hash, Debug)]
 pub struct FieldType {
+    /// The type of the content.
     pub element_type: StorageType,
+    /// Whether the field can be set.
     pub mutable: bool,
 }
 
-/// The type of an array.
+/// An array type: a case of [`CompositeInnerType`](crate::CompositeInnerType). To add one
+/// without a value, see [`CoreTypeEncoder::array`](crate::CoreTypeEncoder::array).
+///
+/// Core specification, Types, Composite Types.
+///
+/// # Examples
+///
+/// ```
+/// use dolzhytik::{ArrayType, Encode, FieldType, StorageType};
+///
+/// let mut bytes = Vec::new();
+/// ArrayType(FieldType { element_type: StorageType::I8, mutable: true }).encode(&mut bytes);
+/// // An array: 5E. i8: 78. Mutable: 01.
+/// assert_eq!(bytes, [0x5E, 0x78, 0x01]);
+/// ```
 #[derive(Clone, Copy, PartialEq, Eq, Hash, Debug)]
 pub struct ArrayType(pub FieldType);
 
-/// The type of a continuation of the function type of this index.
+/// A continuation type, which [`CoreTypeEncoder::cont`](crate::CoreTypeEncoder::cont) takes.
+///
+/// The stack switching proposal defines it.
+///
+/// # Examples
+///
+/// ```
+/// use dolzhytik::{ContType, Encode};
+///
+/// let mut bytes = Vec::new();
+/// ContType(64).encode(&mut bytes);
+/// // A continuation: 5D. The index is signed LEB128: 64 is C0 00.
+/// assert_eq!(bytes, [0x5D, 0xC0, 0x00]);
+/// ```
 #[derive(Clone, Copy, PartialEq, Eq, Hash, Debug)]
 pub struct ContType(pub u32);
 
 /// The type of a function.
+///
+/// [`CoreTypeEncoder::func_type`](crate::fallible::CoreTypeEncoder::func_type) takes it.
+///
+/// # Examples
+///
+/// ```
+/// use dolzhytik::fallible::{FuncType, Global, Refused, TypeSection, ValType};
+///
+/// let ty = FuncType::new(Global, [ValType::I32, ValType::I64], [ValType::F32])?;
+/// assert_eq!((ty.params().len(), ty.results()), (2, &[ValType::F32][..]));
+///
+/// let mut types = TypeSection::new(Global);
+/// types.ty().func_type(&ty)?;
+/// // A function: 60. Parameters i32 (7F) and i64 (7E), the result f32 (7D).
+/// assert_eq!(types.piece(0), Some(&[0x60, 2, 0x7F, 0x7E, 1, 0x7D][..]));
+/// # Ok::<(), Refused>(())
+/// ```
 #[derive(Debug)]
 pub struct FuncType<A: Allocator = Global> {
     params: Vec<ValType, A>,
@@ -37,23 +120,83 @@ pub struct FuncType<A: Allocator = Global> {
 }
 
 /// The type of a structure.
+///
+/// It is a case of [`CompositeInnerType`](crate::fallible::CompositeInnerType).
+///
+/// # Examples
+///
+/// ```
+/// use dolzhytik::fallible::{
+///     Encode, FieldType, Global, Refused, StorageType, StructType, Vec,
+/// };
+///
+/// let field = FieldType { element_type: StorageType::I16, mutable: false };
+/// let ty = StructType { fields: Vec::from_slice(Global, &[field])? };
+/// let mut bytes = vec![];
+/// ty.encode(&mut bytes)?;
+/// // A structure: 5F. One field, i16 (77), immutable (00).
+/// assert_eq!(bytes, [0x5F, 1, 0x77, 0x00]);
+/// # Ok::<(), Refused>(())
+/// ```
 #[derive(Debug)]
 pub struct StructType<A: Allocator = Global> {
+    /// The fields.
     pub fields: Vec<FieldType, A>,
 }
 
 /// A composite type without its sharing and descriptor prefixes.
+///
+/// It is a field of [`CompositeType`](crate::fallible::CompositeType).
+///
+/// # Examples
+///
+/// ```
+/// use dolzhytik::fallible::{
+///     ArrayType, CompositeInnerType, Encode, FieldType, Refused, StorageType,
+/// };
+///
+/// let field = FieldType { element_type: StorageType::I8, mutable: true };
+/// let ty: CompositeInnerType = CompositeInnerType::Array(ArrayType(field));
+/// let mut bytes = vec![];
+/// ty.encode(&mut bytes)?;
+/// // An array: 5E. i8 (78), mutable (01).
+/// assert_eq!(bytes, [0x5E, 0x78, 0x01]);
+/// # Ok::<(), Refused>(())
+/// ```
 #[derive(Debug)]
 pub enum CompositeInnerType<A: Allocator = Global> {
+    /// A function type.
     Func(FuncType<A>),
+    /// An array type.
     Array(ArrayType),
+    /// A structure type.
     Struct(StructType<A>),
+    /// A continuation type.
     Cont(ContType),
 }
 
 /// A composite type, with its prefixes.
+///
+/// It is a field of [`SubType`](crate::fallible::SubType).
+///
+/// # Examples
+///
+/// ```
+/// use dolzhytik::fallible::{
+///     CompositeInnerType, CompositeType, Encode, FuncType, Global, Refused,
+/// };
+///
+/// let inner = CompositeInnerType::Func(FuncType::new(Global, [], [])?);
+/// let ty = CompositeType { inner, shared: false, descriptor: None, describes: None };
+/// let mut bytes = vec![];
+/// ty.encode(&mut bytes)?;
+/// // A function without parameters and results.
+/// assert_eq!(bytes, [0x60, 0, 0]);
+/// # Ok::<(), Refused>(())
+/// ```
 #[derive(Debug)]
 pub struct CompositeType<A: Allocator = Global> {
+    /// The function, array, structure or continuation type.
     pub inner: CompositeInnerType<A>,
     /// Whether threads share its values.
     pub shared: bool,
@@ -65,18 +208,48 @@ pub struct CompositeType<A: Allocator = Global> {
 
 /// A subtype: a composite type, an optional supertype, and whether it is final, so that it can have
 /// no subtypes.
+///
+/// [`CoreTypeEncoder::subtype`](crate::fallible::CoreTypeEncoder::subtype) and
+/// [`rec`](crate::fallible::CoreTypeEncoder::rec) take it.
+///
+/// # Examples
+///
+/// ```
+/// use dolzhytik::fallible::{
+///     CompositeInnerType, CompositeType, FuncType, Global, Refused, SubType,
+///     TypeSection,
+/// };
+///
+/// let inner = CompositeInnerType::Func(FuncType::new(Global, [], [])?);
+/// let composite_type =
+///     CompositeType { inner, shared: false, descriptor: None, describes: None };
+/// let ty = SubType { is_final: false, supertype_idx: Some(5), composite_type };
+/// let mut types = TypeSection::new(Global);
+/// types.ty().subtype(&ty)?;
+/// // Not final: 50. One supertype, 5. A function without parameters and results.
+/// assert_eq!(types.piece(0), Some(&[0x50, 1, 5, 0x60, 0, 0][..]));
+/// # Ok::<(), Refused>(())
+/// ```
 #[derive(Debug)]
 pub struct SubType<A: Allocator = Global> {
+    /// Whether the type has no subtypes.
     pub is_final: bool,
     /// The index of its supertype.
     pub supertype_idx: Option<u32>,
+    /// The type itself.
     pub composite_type: CompositeType<A>,
 }
 
 impl<A: Allocator + Copy> FuncType<A> {
     /// Returns a function type of these parameters and results, from iterators.
     ///
+    /// # Errors
+    ///
+    /// Returns [`Memory`](crate::fallible::Refused::Memory) if an allocation fails.
+    ///
     /// # Asks
+    ///
+    /// The iterator ends.
     ///
     /// ```text
     /// requires params { (it : P.IntoIter) → P.into_iter_gives params it
@@ -89,7 +262,7 @@ impl<A: Allocator + Copy> FuncType<A> {
     ///
     /// # Proved
     ///
-    /// After `Ok`: `params`, `results`. In any case: `memory`.
+    /// After `Ok`: `params`; `results`. In any case: `memory`, no error is `TooLong`.
     ///
     /// ```text
     /// ensures params { IfOk result
@@ -119,6 +292,8 @@ impl<A: Allocator + Copy> FuncType<A> {
 ///
 /// # Asks
 ///
+/// The iterator ends.
+///
 /// ```text
 /// requires { (it : P.IntoIter) → P.into_iter_gives types it
 ///     → P.IntoIter.can_next it × IsFinite (P.IntoIter.remaining it) }
@@ -128,7 +303,7 @@ impl<A: Allocator + Copy> FuncType<A> {
 ///
 /// # Proved
 ///
-/// After `Ok`: `all`. In any case: `memory`.
+/// After `Ok`: `all`. In any case: `memory`, no error is `TooLong`.
 ///
 /// ```text
 /// ensures all { IfOk result
@@ -195,7 +370,7 @@ impl<A: Allocator> FuncType<A> {
 ///
 /// # Proved
 ///
-/// After `Ok`: `same`. In any case: `memory`.
+/// After `Ok`: `same`. In any case: `memory`, no error is `TooLong`.
 ///
 /// ```text
 /// ensures same { IfOk result (λ copies. copies.items ≡ items.now.items) }
@@ -210,9 +385,13 @@ fn copied<T: Copy, A: Allocator + Copy>(items: &Vec<T, A>) -> Result<Vec<T, A>> 
 impl<A: Allocator + Copy> FuncType<A> {
     /// Returns the same type, in memory of its own.
     ///
+    /// # Errors
+    ///
+    /// Returns [`Memory`](crate::fallible::Refused::Memory) if an allocation fails.
+    ///
     /// # Proved
     ///
-    /// After `Ok`: `same`. In any case: `memory`.
+    /// After `Ok`: `same`. In any case: `memory`, no error is `TooLong`.
     ///
     /// ```text
     /// ensures same { IfOk result (λ f. func_in f ≡ func_in self.now) }
@@ -231,9 +410,13 @@ impl<A: Allocator + Copy> FuncType<A> {
 impl<A: Allocator + Copy> StructType<A> {
     /// Returns the same type, in memory of its own.
     ///
+    /// # Errors
+    ///
+    /// Returns [`Memory`](crate::fallible::Refused::Memory) if an allocation fails.
+    ///
     /// # Proved
     ///
-    /// After `Ok`: `same`. In any case: `memory`.
+    /// After `Ok`: `same`. In any case: `memory`, no error is `TooLong`.
     ///
     /// ```text
     /// ensures same { IfOk result (λ s. s.fields.items ≡ self.now.fields.items) }
@@ -251,9 +434,13 @@ impl<A: Allocator + Copy> StructType<A> {
 impl<A: Allocator + Copy> CompositeInnerType<A> {
     /// Returns the same type, in memory of its own.
     ///
+    /// # Errors
+    ///
+    /// Returns [`Memory`](crate::fallible::Refused::Memory) if an allocation fails.
+    ///
     /// # Proved
     ///
-    /// After `Ok`: `same`. In any case: `memory`.
+    /// After `Ok`: `same`. In any case: `memory`, no error is `TooLong`.
     ///
     /// ```text
     /// ensures same { IfOk result (λ inner. shape_in inner ≡ shape_in self.now) }
@@ -274,9 +461,13 @@ impl<A: Allocator + Copy> CompositeInnerType<A> {
 impl<A: Allocator + Copy> CompositeType<A> {
     /// Returns the same type, in memory of its own.
     ///
+    /// # Errors
+    ///
+    /// Returns [`Memory`](crate::fallible::Refused::Memory) if an allocation fails.
+    ///
     /// # Proved
     ///
-    /// After `Ok`: `same`. In any case: `memory`.
+    /// After `Ok`: `same`. In any case: `memory`, no error is `TooLong`.
     ///
     /// ```text
     /// ensures same { IfOk result (λ c. composite_in c ≡ composite_in self.now) }
@@ -297,9 +488,13 @@ impl<A: Allocator + Copy> CompositeType<A> {
 impl<A: Allocator + Copy> SubType<A> {
     /// Returns the same type, in memory of its own.
     ///
+    /// # Errors
+    ///
+    /// Returns [`Memory`](crate::fallible::Refused::Memory) if an allocation fails.
+    ///
     /// # Proved
     ///
-    /// After `Ok`: `same`. In any case: `memory`.
+    /// After `Ok`: `same`. In any case: `memory`, no error is `TooLong`.
     ///
     /// ```text
     /// ensures same { IfOk result (λ s. sub_in s ≡ sub_in self.now) }

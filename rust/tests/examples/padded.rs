@@ -1,5 +1,5 @@
 // Written by tools/to-rust from crates/examples/src/padded.rt: change that.
-// Sections of entries that are already encoded, with padded numbers.
+// Sections of entries that are already encoded, with padded LEB128.
 
 use dolzhytik::fallible::Vec;
 use crate::examples::bodies::{first_function, local_function};

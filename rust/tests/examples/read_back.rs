@@ -1,6 +1,6 @@
 // Written by tools/to-rust from crates/examples/src/read_back.rt: change that.
 //! Callers of the reader, which prove its result: for each kind of section that a builder writes,
-//! for sections of padded numbers, and for sections of arguments.
+//! for sections of padded LEB128, and for sections of arguments.
 
 use dolzhytik::fallible::{Sink, Vec};
 pub mod custom;

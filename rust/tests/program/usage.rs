@@ -156,7 +156,7 @@ fn help() {
     ] {
         assert!(text.contains(&format!("\n{line}")), "{line}");
     }
-    assert!(text.ends_with("not proved on this machine.\n"));
+    assert!(text.ends_with("compiled by rustc from the proved source.\n"));
     assert_eq!(help, Answer::of(text));
     for words in [
         &["-h"][..],
@@ -179,9 +179,9 @@ prints the size of each section in bytes and in percent, the largest first, and 
 --json                   prints JSON, for other programs, with offsets and sizes in decimal.
 -h, --help               prints this.
 
-A file - is standard input or standard output. The status is 0 for success, 1 for an error, and 2 for wrong arguments.
+The file - is standard input or standard output. Exit status: 0 success, 1 error, 2 usage.
 
-Compiled by rustc from the proved source, and not proved on this machine.
+Unverified build: compiled by rustc from the proved source.
 ";
     for words in [
         &["size", "--help"][..],

@@ -4,7 +4,7 @@ from __future__ import annotations
 import pathlib
 import re
 from collections.abc import Iterator
-from dataclasses import dataclass, field
+from dataclasses import dataclass, field, replace
 
 from ..errors import Stop
 from ..repository import TOP, text_of
@@ -109,12 +109,24 @@ def read(crate: str, name: str, text: str) -> Specs:
         elif all(line.startswith(('use ', 'pub use ', 'unfoldable pub use ', 'pub mod ')) for line in it.lines):
             take_head(specs, it, where)
         else:
-            specs.definitions.append(definition(it, part, where))
+            made = definition(it, part, where)
+            specs.definitions.append(after(specs.definitions[-1], made) if specs.definitions else made)
     names = [it for one in specs.definitions for it in (one.name, *one.constructors)]
     for name in names:
         if names.count(name) > 1:
             raise Stop(f'{specs.path}: {name} is defined twice')
     return specs
+
+
+# Definitions whose sentence begins `The same for`, and which it means, if that is not the one before.
+SAME = {'IsGivenSymbol': 'IsFullSymbol'}
+
+
+def after(before: Definition, it: Definition) -> Definition:
+    """Returns a definition with the name of the one before it in a sentence that begins `The same
+    for`."""
+    same, _, rest = it.sentence.partition('The same for ')
+    return it if same or not rest else replace(it, sentence=f'As `{SAME.get(it.name, before.name)}`, for {rest}')
 
 
 def take_head(specs: Specs, it: Block, where: str) -> None:

@@ -4,7 +4,7 @@ from __future__ import annotations
 from ..errors import Stop
 from .cases import HEAD, Case, item_of
 from .examples import EXAMPLES, example
-from .standard import alias, class_of, opcode, text_name
+from .standard import alias, said
 
 
 def signature(case: Case) -> str:
@@ -23,14 +23,14 @@ def signature(case: Case) -> str:
 
 def documentation(case: Case, proved: dict[str, str]) -> str:
     """Returns the doc comment of a call."""
-    lines = ["Appends `%s`, opcode `%s`, %s." % (text_name(case), opcode(case), class_of(case)), ""]
-    lines.append("As a value it is [`%s`](super::Instruction::%s)." % (case.name, case.name))
+    lines = ["Appends %s" % said(case), ""]
+    lines.append("[`Instruction::%s`](super::Instruction::%s) is the same instruction as a value." % (case.name, case.name))
     if case.call in proved:
         name = proved[case.call]
-        lines.append("It is written by the proved [`%s`](insn::InstructionSink::%s) of `fallible`." % (name, name))
+        lines.append("The proved [`%s`](insn::InstructionSink::%s) of `fallible` encodes it." % (name, name))
     ordered, given = [name for name, _ in case.parts], [name for name, _ in case.parameters]
     if ordered != given:
-        lines.append("Its bytes have %s." % " before ".join("`%s`" % name for name in ordered))
+        lines.append("The encoding has %s." % " before ".join("`%s`" % name for name in ordered))
     lines += example(case.call)
     if any(map(item_of, case.types)) and not case.is_one:
         lines += ["", "# Panics", "", "Panics if the list has more than 4294967295 items."]

@@ -2,7 +2,7 @@
 from __future__ import annotations
 
 from .cases import HEAD, Case, item_of
-from .standard import alias, class_of, field, opcode, text_name
+from .standard import alias, field, said
 
 
 def declaration(case: Case) -> str:
@@ -18,8 +18,8 @@ def documentation(case: Case) -> list[str]:
     unnamed = [] if case.fields else ["`%s`" % name for name, _ in case.parts]
     held = ", with the immediate%s %s" % ("s" * (len(unnamed) > 1), " and ".join(unnamed)) if unnamed else ""
     return [
-        "`%s`, opcode `%s`, %s." % (text_name(case), opcode(case), class_of(case)),
-        "Its call is [`%s`](super::InstructionSink::%s)%s." % (case.call, case.call, held),
+        said(case),
+        "[`InstructionSink::%s`](super::InstructionSink::%s) appends it%s." % (case.call, case.call, held),
     ]
 
 
@@ -84,9 +84,10 @@ use core::slice;
 /// `encode` of [`Encode`] appends its bytes to a list. Each case also has a named call of
 /// [`InstructionSink`](super::InstructionSink), which takes its immediates as arguments.
 ///
-/// The line of a case has the instruction's name in the text format, the bytes of its opcode in
-/// hexadecimal, and its class. Instructions whose line names no proposal are defined in the core
-/// specification, Binary Format, [Instructions].
+/// The line of a case has the instruction's name in the text format, its opcode, its class, and what
+/// it does. An opcode is one byte, such as 0x6A, or a prefix and a number as unsigned LEB128, such as
+/// 0xFC 10. Instructions whose line names no proposal are defined in the core specification, Binary
+/// Format, [Instructions].
 ///
 /// The enum is `non_exhaustive`: a `match` outside this package needs a wildcard. To decode
 /// instructions, see [`reader::CodeBody::instructions`](crate::reader::CodeBody::instructions).

@@ -5,6 +5,7 @@ from ..errors import Stop
 from ..instructions.table import TABLE
 from ..text_names import name_of
 from .cases import Case
+from .effects import effect_of
 
 # The class of the opcodes from a byte, or from a prefix and a number, up to another of the same
 # prefix. The first that fits counts. Without a proposal the class is the core specification's.
@@ -104,8 +105,8 @@ def alias(case: Case) -> str:
 
 
 def opcode(case: Case) -> str:
-    """Returns the bytes of the opcode in hexadecimal."""
-    return " ".join("%02X" % byte for byte in case.op_bytes())
+    """Returns the opcode in words: a byte, or a prefix and a number."""
+    return "opcode 0x%02X" % case.code if case.prefix is None else "opcode 0x%02X %d" % (case.prefix, case.code)
 
 
 def class_of(case: Case) -> str:
@@ -121,3 +122,8 @@ def field(name: str) -> str:
     if name not in FIELDS:
         raise Stop("%s: no doc comment for the field %s" % (TABLE, name))
     return FIELDS[name]
+
+
+def said(case: Case) -> str:
+    """Returns the line of a case: its name, its opcode, its class, and what it does."""
+    return "`%s` (%s), %s that %s." % (text_name(case), opcode(case), class_of(case), effect_of(name_of(case.call)))

@@ -9,7 +9,7 @@ from ..definitions.imports import parsed
 from ..definitions.library import library
 from ..to_rust.command import generated
 from ..to_rust.crates import Crate
-from ..to_rust.glosses import check_form, gloss
+from ..to_rust.glosses import asked, check_form, gloss, head
 from ..to_rust.written import Written
 from .report import stops
 
@@ -51,6 +51,14 @@ def glosses() -> None:
     assert gloss([ok, err, 'ensures c { p }']) == 'After `Ok`: `a`. After an error: `b`. In any case: `c`.'
     assert gloss(['ensures { OnOk result encodable }']) == 'After `Ok`:'
     assert gloss(['ensures { p }']) == ''
+    adds = 'ensures { Adds (f x) ⊤ self.old self.new result }'
+    assert gloss([adds], {adds: 'It adds.'}) == 'It adds.'
+    assert gloss([ok, adds.replace('ensures', 'ensures c')], {adds.replace('ensures', 'ensures c'): 'It adds.'}) == 'After `Ok`: `a`. In any case: `c`. `c`: It adds.'
+    assert [head(it) for it in (adds, ok.replace('x. x', 'x. P x'), 'ensures { x.y ≡ z }', 'ensures { P x → Q y }')] == ['Adds', 'P', '', '']
+    memory = 'ensures m { result ≢ Err TooLong }'
+    assert gloss([ok, memory]) == 'After `Ok`: `a`. In any case: `m`, no error is `TooLong`.'
+    assert gloss(['ensures { result ≡ [] }']) == 'The result has no entries.'
+    assert asked('requires { HasKnownLength a b }') == 'The iterator ends, and yields as many items as it reports.' and asked('requires { p }') == ''
     for other in ['IfOk result (p) × q', '(IfOk result p)', 'IfOk other p', 'OnOk result p → q']:
         assert gloss([f'ensures a {{ {other} }}', 'ensures b { p }']) == '', other
 
@@ -105,12 +113,11 @@ def definitions() -> list[str]:
 
 
 def calls_that_ask_are_linked() -> None:
-    """The table of calls that ask has the public path of each, and links to definitions."""
+    """The list of what calls ask has the public path of each call."""
     rows = files()['src/asks.md'].split('\n')
-    begins = ['| [`reader::read_to_end`](crate::reader::read_to_end) | `requires {', '| [`encode_vec`](crate::fallible::encode_vec) | `requires {']
-    for begin in begins:
-        found = [row for row in rows if row.startswith(begin)]
-        assert len(found) == 1 and '<br>[`' in found[0], begin
+    for words, call in [('No encoding of a value is empty.', '[`reader::read_to_end`](crate::reader::read_to_end)'), ('The iterator ends, and yields as many items as it reports.', '[`encode_vec`](crate::fallible::encode_vec)')]:
+        found = [row for row in rows if row.startswith(f'- {words} Asked by ')]
+        assert len(found) == 1 and call in found[0], words
 
 
 def every_definition_has_a_page() -> None:

@@ -10,6 +10,7 @@ from ..drop_in.calls_file import documentation as documentation_of_call
 from ..drop_in.cases import Case, proved_calls, read
 from ..drop_in.command import SINK
 from ..drop_in.command import main as main_of_tool
+from ..drop_in.effects import effect_of
 from ..drop_in.enum_file import documentation, instruction_file
 from ..drop_in.standard import class_of, field
 from ..drop_in.test_file import test_file
@@ -50,32 +51,33 @@ def match_trouble() -> str | None:
 
 # The first line of the doc comment of cases, by hand.
 SAID = {
-    "BrTable": "`br_table`, opcode `0E`, a control instruction.",
-    "I32Add": "`i32.add`, opcode `6A`, a numeric instruction.",
-    "Try": "`try`, opcode `06`, a control instruction of the legacy exception handling proposal.",
-    "RefTestNullable": "`ref.test (ref null ht)`, opcode `FB 15`, a reference instruction.",
-    "I16x8Abs": "`i16x8.abs`, opcode `FD 80 01`, a vector instruction.",
-    "I32AtomicRmw8AddU": "`i32.atomic.rmw8.add_u`, opcode `FE 20`, an atomic instruction of the threads proposal.",
+    "BrTable": "`br_table` (opcode 0x0E), a control instruction that branches to one of several labels, selected by an index.",
+    "I32Add": "`i32.add` (opcode 0x6A), a numeric instruction that adds two integers.",
+    "Try": "`try` (opcode 0x06), a control instruction of the legacy exception handling proposal that begins a block with handlers of exceptions.",
+    "RefTestNullable": "`ref.test (ref null ht)` (opcode 0xFB 21), a reference instruction that tests whether a reference has a type.",
+    "I16x8Abs": "`i16x8.abs` (opcode 0xFD 128), a vector instruction that computes the absolute value of each lane of a vector.",
+    "I32AtomicRmw8AddU": "`i32.atomic.rmw8.add_u` (opcode 0xFE 32), an atomic instruction of the threads proposal that adds to a number in a memory, and returns the old value.",
+    "StructAtomicRmwXor": "`struct.atomic.rmw.xor` (opcode 0xFE 100), an instruction of the shared-everything threads proposal that sets a field of a structure to its bitwise exclusive or with an operand, and returns the old value.",
 }
 
 
 def said_trouble() -> str | None:
-    """A doc comment has the name, the opcode and the class. A call that takes its arguments in
+    """A doc comment has the name, the opcode, the class and the effect. A call that takes its arguments in
     another order than its bytes says so. An opcode without a class stops the tool, and so does an
-    unknown field."""
+    unknown field or name."""
     by_name = {it.name: it for it in cases()}
     wrong = [name for name, line in SAID.items() if documentation(by_name[name])[0] != line]
     if wrong:
         return "other lines: %s" % ", ".join(wrong)
     if not documentation(by_name["BrTable"])[1].endswith(", with the immediates `labels` and `default`."):
         return "the names of the immediates are missing"
-    if "Its bytes have `type_index` before `table_index`." not in documentation_of_call(by_name["CallIndirect"], {}):
+    if "The encoding has `type_index` before `table_index`." not in documentation_of_call(by_name["CallIndirect"], {}):
         return "the order of the bytes is missing"
     if "# Panics" not in documentation_of_call(by_name["BrTable"], {}) or "# Panics" in documentation_of_call(by_name["TypedSelect"], {}):
         return "another call panics"
     unknown = by_name["I32Add"]
     unknown.code = 0xFF
-    for stops in (lambda: class_of(unknown), lambda: field("depth")):
+    for stops in (lambda: class_of(unknown), lambda: field("depth"), lambda: effect_of("i32.frobnicate")):
         try:
             stops()
         except Stop:

@@ -1,35 +1,50 @@
-"""The table of public calls that require something that types do not ensure."""
+"""The list of public calls that require something that types do not ensure."""
 from __future__ import annotations
 
 from dataclasses import dataclass
 
-from ..definitions.pages import links
 from ..rattle.lexer import is_word
 from .crates import Crate
+from .glosses import asked
 from .source import Source
 from .tables import PUBLIC, READERS
 
 
-def asks(crate: Crate, source: Source) -> list[str]:
-    """Returns the rows of a source."""
-    rows = [asked(crate, source, place) for place in sorted(source.notes) if 'Asks' in source.notes[place]]
-    return [row for row in rows if row]
+@dataclass(frozen=True)
+class Asked:
+    """What a call asks, in words, and the link to the call."""
+
+    words: str
+    link: str
 
 
-def asked(crate: Crate, source: Source, place: int) -> str:
-    """Returns the row of the function that begins at `place`, or an empty one if it is private."""
+def asks(crate: Crate, source: Source) -> list[Asked]:
+    """Returns what the calls of a source ask."""
+    return [it for place in sorted(source.notes) if 'Asks' in source.notes[place] for it in asked_by(crate, source, place)]
+
+
+def asked_by(crate: Crate, source: Source, place: int) -> list[Asked]:
+    """Returns what the function that begins at `place` asks, or nothing if it is private."""
     function = source.tokens.index('fn', place)
     name = source.tokens[source.skip(function + 1)]
     owner = owner_of(source, function)
     visible = [at for at in range(place, function) if source.tokens[at] == 'pub']
     if not (owner.is_public_trait or (visible and source.tokens[source.skip(visible[0] + 1)] != '(')):
-        return ''
+        return []
     module = 'reader' if (owner.name or name) in READERS.get(crate.name, ()) else PUBLIC.get(crate.name, 'fallible')
     path = '::'.join(part for part in (module, owner.name, name) if part)
-    clauses = [' '.join(clause.split()) for clause in source.notes[place]['Asks']]
-    lines = [f'`{clause}`' for clause in clauses] + [links(source.cited[place]['Asks'])]
     shown = path.replace('fallible::', '', 1)
-    return f'| [`{shown}`](crate::{path}) | {"<br>".join(filter(None, lines))} |\n'
+    clauses = [' '.join(clause.split()) for clause in source.notes[place]['Asks']]
+    words = dict.fromkeys(asked(clause) or f'`{clause}`' for clause in clauses)
+    return [Asked(it, f'[`{shown}`](crate::{path})') for it in words]
+
+
+def list_of(found: list[Asked]) -> str:
+    """Returns the list of what is asked, and of the calls that ask it, in Markdown."""
+    calls: dict[str, list[str]] = {}
+    for it in found:
+        calls.setdefault(it.words, []).append(it.link)
+    return ''.join(f'- {words} Asked by {", ".join(links)}.\n' for words, links in calls.items())
 
 
 @dataclass(frozen=True)

@@ -12,13 +12,12 @@ from ..definitions.library import library
 from ..definitions.pages import pages
 from ..errors import Stop
 from ..repository import TOP, text_of
-from .asks import asks
+from .asks import asks, list_of
+from .beside import check_used
 from .context import sources
 from .glosses import names_table
 from .tables import LIBRARIES
 from .written import written
-
-ASKS_HEAD = '| call | asks |\n|---|---|\n'
 
 
 def generated(top: pathlib.Path = TOP) -> dict[str, str]:
@@ -31,8 +30,9 @@ def generated(top: pathlib.Path = TOP) -> dict[str, str]:
         if it.crate.name in LIBRARIES:
             rows += asks(it.crate, file.source)
             imports[file.path] = [scope.use for scope in file.source.scopes]
-    files['src/asks.md'] = ASKS_HEAD + ''.join(rows)
+    files['src/asks.md'] = list_of(rows)
     check_widths(files)
+    check_used()
     front.check(imports, front.page())
     return {**files, **pages(library(), names_table())}
 

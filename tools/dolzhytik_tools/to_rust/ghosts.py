@@ -1,11 +1,14 @@
 """Erases ghosts, clauses and models, and documents them."""
 from __future__ import annotations
 
+import textwrap
+
+from ..definitions.layout import COLUMNS
 from ..rattle.lexer import is_word
 from .glosses import check_form
 from .source import Source
 from .tables import LIBRARIES
-from .words import cite, parameters
+from .words import cite, parameters, sentence
 
 
 def erase_ghosts(source: Source) -> None:
@@ -28,7 +31,7 @@ def define(source: Source, place: int, end: int) -> None:
     if header is not None:
         sentences = [t[3:].strip() for t in source.tokens[source.with_docs(place):place] if t.startswith('///')]
         member = ' '.join(source.text(source.skip(place + 1), end).split())
-        source.note(header, 'Defined', '\n'.join(['// ' + s for s in sentences] + [member]))
+        source.note(header, 'Defined', '\n'.join(textwrap.wrap(' '.join(sentences), COLUMNS, initial_indent='// ', subsequent_indent='// ') + [member]))
         cite(source, header, 'Defined', member.partition(' ')[2], place, set())
 
 
@@ -64,6 +67,9 @@ def erase_clauses(source: Source) -> None:
         if source.crate.name in LIBRARIES:
             check_form(text, f'{source.path}:{source.line(place)}')
         cite(source, start, heading, text, place, parameters(source, function, place))
+        said = sentence(source, text, place)
+        if said:
+            source.sentences[text] = said
         source.edit(place, end, '', 'clause')
 
 

@@ -2,12 +2,14 @@
 
 A clause of the form `IfOk result ..` says something of calls that return `Ok` only, and so on:
 `gloss` sorts the clauses of a function by that. `NAMES` has the names of clauses that mean the same
-wherever they are. The generator stops at a clause with such a name and another form.
+wherever they are. The generator stops at a clause with such a name and another form. A clause that
+is one definition with its arguments says what the definition's sentence says. `ASKED` has words for
+what calls ask.
 """
 from __future__ import annotations
 
 import re
-from collections.abc import Sequence
+from collections.abc import Mapping, Sequence
 from dataclasses import dataclass
 
 from ..errors import Stop
@@ -38,6 +40,110 @@ NAMES = [
     Name('front', r'IsFrontOf sink\.old\.items sink\.new\.items', 'The bytes that the sink had are the front of those that it has afterwards.'),
     Name('capacity', r'vec_capacity sink\.(?:old ≤ vec_capacity sink\.new|new ≡ vec_capacity sink\.old)', 'The capacity does not shrink.'),
 ]
+
+
+OPERATORS = set('→ ↔ × ⊎ ≡ ≢ ≤ < ++ ∷ + - * ='.split())
+# What clauses of known forms say.
+BEGINS_NOT, IS_NOT = 'the bytes do not begin with such an encoding', 'the bytes as a whole are no such encoding'
+SAID = (
+    (r'result ≢ Err (?:\w+\.)?TooLong', 'no error is `TooLong`'),
+    (r'OnErr result \(sink\.new\.items ≡ sink\.old\.items\)', 'the bytes of the sink are unchanged'),
+    (r'OnErr result \(self\.new ≡ self\.old\)', 'the value is unchanged'),
+    (r'IfErr result \(λ e\. e(?:\.cause)? ≢ Memory → Rejects .*\)', f'{BEGINS_NOT}, unless the cause is `Memory`'),
+    (r'IfErr result \(λ e\. e(?:\.cause)? ≢ Memory → RejectsWhole .*\)', f'{IS_NOT}, unless the cause is `Memory`'),
+    (r'IfErr result \(λ _\. Rejects .*\)', BEGINS_NOT),
+    (r'IfErr result \(λ e\. e(?:\.cause)? ≡ Memory\)', 'the cause is `Memory`'),
+    (r'IfOk result \(λ x\. Decodes .* bytes\.now .*x\.0.* x\.1\.now\)', 'the bytes begin with an encoding of the value, and the returned bytes follow it'),
+    (r'IfOk result \(λ x\. (?:T\.format|members T\.format|body|content kind) \S.* bytes\.now \S*.*\)', 'the bytes as a whole encode the value'),
+    (r'IfOk result \(λ (\w+)\. \1 ≡ self\.now\)', 'the result equals the value'),
+    (r'IfOk result \(λ cow\. (?:items|encoding)_of cow ≡ (?:items|encoding)_of self\.now\)', 'the result has the same content'),
+    (r'OnOk result \(AppendsMinimal .*\)', 'the sink gains the minimal encoding'),
+    (r'HasEncoding .* → result ≢ Err TooLong', 'a value that has an encoding never gives `TooLong`'),
+    (r'longest < .* → result ≡ Err (?:Refused\.)?TooLong', 'more than 4294967295 give `TooLong`'),
+    (r'vec_capacity sink\.old ≤ vec_capacity sink\.new', 'the capacity does not shrink'),
+    (r'self\.new\.sink\.ghost_name ≡ self\.old\.sink\.ghost_name', 'the sink writes to the buffer that it wrote to'),
+    (r'IfErr result \(λ _\. self\.new\.offset ≡ self\.old\.offset\)', 'the offset is unchanged'),
+    (r'IfErr result \(λ e\. IsInPayload self\.now e\.offset\)', 'the offset of the error is in the payload'),
+    (r'IfOk result \(λ next\. IfSome next \(λ step\. step\.offset ≡ self\.old\.offset\)\)', 'the step has the old offset'),
+    (r'IfOk result \(λ next\. next ≡ None → self\.new ≡ self\.old\)', '`None` changes nothing'),
+    (r'IsTrue result ↔ \(length self\.now ≡ 0\)', 'the result is true exactly if there are no entries'),
+    (r'option_copied result ≡ slice_get self\.now index', 'the result is the entry at `index`, if there is one'),
+    (r'result ≡ \[\]', 'the result has no entries'),
+)
+# What single clauses say.
+EXACT = {
+    'IfOk result (λ m. m ≡ header)': 'the module is the header',
+    'OnOk result (self.new ≡ self.old ++ (S.id_of section.now ∷ S.encoding section.now))': 'the module gains the id and the encoding of the section',
+    'OnOk result (S.decoding section.now)': 'the encoding decodes as the impl defines by `decoding`',
+    'OnOk result (decoding self.now)': 'the encoding decodes as the impl defines by `decoding`',
+    'OnOk result (Self.decoding self.now)': 'the encoding decodes as the impl defines by `decoding`',
+    'OnOk result (S.encodable section.now)': 'each count and length fits 32 bits',
+    'S.encodable section.now → result ≢ Err Refused.TooLong': 'a section whose counts and lengths fit never gives `TooLong`',
+    'S.overlong section.now → result ≡ Err Refused.TooLong': 'an `overlong` section gives `TooLong`',
+    'overlong self.now → result ≡ Err TooLong': 'an `overlong` value gives `TooLong`',
+    'Self.overlong self.now → result ≡ Err TooLong': 'an `overlong` section gives `TooLong`',
+    'OnOk result (sink.new.items ≡ sink.old.items ++ unsigned_encoding size)': 'the sink gains the size',
+    'OnOk result (vec_len sink.new + size ≤ vec_capacity sink.new)': 'the sink has spare capacity for the payload',
+    'OnOk result (size ≤ longest)': 'the size is at most 4294967295',
+    'size ≤ longest → result ≢ Err Refused.TooLong': 'a size of at most 4294967295 never gives `TooLong`',
+    'IfErr result (λ refused. refused ≡ TooLong)': 'the error is `TooLong`',
+    'IfOk result (λ rest. (x : Self.Value) × Decodes Self.format (padded_of G.grammar) bytes.now x rest.now)': 'an encoding is at the front, and the returned bytes follow it',
+    'IfOk result (λ x. (xs : List P.Value) × Decodes (vec P.format) (padded_of G.grammar) bytes.now xs x.1.now × (x.0 ≡ length xs))': 'a vector of this number of members is at the front, and the returned bytes follow it',
+    'IfOk result (λ x. members (instruction table) (padded_of G.grammar) bytes.now (map plain_view x.items))': 'the bytes as a whole encode the instructions',
+    'OnOk result ((x : BodyModel) × body padded bytes.now x × AppendsMinimal (size_prefixed body) x sink.old.items sink.new.items)': 'the bytes encode a body, and the sink gains its minimal encoding, with the size prefix',
+    'IfOk result (λ e. (it : I.IntoIter) × (xs : List ℕ) × I.into_iter_gives bytes it × Drains I.IntoIter.next_gives it xs × (e ≡ xs))': 'the expression is the bytes that the iterator yields',
+    'OnOk result ((it : I.IntoIter) × (xs : List ℕ) × I.into_iter_gives bytes it × Drains I.IntoIter.next_gives it xs × GrowsBy xs self.old self.new)': 'the body gains the bytes that the iterator yields',
+    'IfOk result (λ x. x.1.bytes ≡ bytes.now)': 'the visitor is over these bytes',
+    'IfOk result (λ x. x.1.bytes ≡ self.now.bytes)': 'the visitor is over the bytes of the body',
+    'IfOk result (λ x. x.1.offset ≤ length bytes.now)': 'the offset is in the bytes, or at their end',
+    'IfOk result (λ x. x.1.offset ≤ length self.now.bytes)': 'the offset is in the body, or at its end',
+    'IfOk result (λ x. x.1.arguments ≡ [])': 'the visitor has no immediates yet',
+    'IfOk result (λ next. IfSome next (λ step. Decodes (instruction table) (padded_of G.grammar) (ahead self.old) (record { op = step.op; arguments = self.new.arguments }) (ahead self.new)))': 'an instruction of this opcode and these immediates was next',
+    'IfOk result (λ next. IfSome next (λ step. Decodes (such IsNoEnd (instruction table)) (padded_of G.grammar) (ahead self.old) (record { op = step.op; arguments = self.new.arguments }) (ahead self.new)))': 'an instruction of this opcode and these immediates was next, and is no `end`',
+    'IfOk result (λ next. IfSome next (λ _. (self.old.offset < self.new.offset) × (self.new.offset ≤ length self.new.bytes)))': 'the offset grows, and is in the bytes or at their end',
+    'IfOk result (λ next. next ≡ None → ahead self.old ≡ [])': '`None` says that no bytes were left',
+    'IfOk result (λ next. next ≡ None → ahead self.old ≡ 0x0B ∷ drop (self.old.offset + 1) self.old.bytes)': '`None` says that an `end` is next',
+    'self.new.bytes ≡ self.old.bytes': 'the bytes stay the same',
+    'IfErr result (λ _. ahead self.old ≢ [])': 'bytes were left',
+    'IfOk result (λ _. self.now.section.id ≡ 10)': 'this is a code section',
+    'IfOk result (λ it. it.end ≡ end_of self.now)': 'the iterator ends with the section',
+    'IfErr result (λ e. e.cause ≢ Memory → (self.now.section.id ≢ 10) ⊎ Rejects u32 padded self.now.section.payload)': 'this is no code section, or its payload does not begin with a number, unless the cause is `Memory`',
+    'IfErr result (λ e. self.now.offset ≤ e.offset)': 'the offset of the error is not before this one',
+    'IfErr result (λ e. e.offset ≤ end_of self.now)': 'the offset of the error is not after the section',
+    'IfErr result (λ e. e.offset ≤ self.now.offset + length self.now.bytes)': 'the offset of the error is not after the body',
+    'result.cause ≡ error.cause': 'the result has the cause of the error',
+    'self.now.offset ≤ result.offset': 'the offset is not before the body',
+    'result.offset ≤ self.now.offset + length self.now.bytes': 'the offset is not after the body',
+    'IfErr result (λ e. e.1 ≢ Memory → StopsAt bytes.now e.0)': 'the bytes stop being a module at this section, unless the cause is `Memory`',
+    'IfErr result (λ e. e.0 ≡ 0 → e.1 ≢ Memory → (e.1 ≡ Ended) ⊎ (e.1 ≡ UnknownTag))': 'with the number 0 the cause is `Ended`, `UnknownTag` or `Memory`',
+    'IfErr result (λ e. e.1 ≢ Memory → RejectsWhole wasm_module padded bytes.now)': 'the bytes are no module, unless the cause is `Memory`',
+    'IfOk result (λ it. module.now ≡ header ++ ahead it)': 'the module is the header, and then the bytes ahead of the iterator',
+    'IfOk result (λ it. it.offset ≡ length header)': 'the offset is that after the header',
+    'IfOk result (λ it. it.bytes ≡ module.now)': 'the iterator is over these bytes',
+    'IfErr result (λ e. (e.cause ≡ Ended) ⊎ (e.cause ≡ UnknownTag))': 'the cause is `Ended` or `UnknownTag`',
+    'IfErr result (λ e. e.offset ≤ length module.now)': 'the offset of the error is in the module, or at its end',
+    'IfOk result (λ number. (x : Contents) × content (section_kind_of self.now.section) standard self.now.section.payload x × (number ≡ number_in x))': 'the payload encodes items, and the result is their number if they are counted',
+    'IfOk result (λ x. content (section_kind_of self.now.section) standard self.now.section.payload (contents_of x))': 'the payload encodes the items',
+    'result.start + length self.now.section.payload ≡ end_of self.now': 'the range is as long as the payload',
+    'result.end ≡ end_of self.now': 'it ends with the section',
+    'self.now.offset < result.start': 'it begins after the id',
+}
+# What `requires` clauses ask.
+ASKED = (
+    (r'HasKnownLength .*', 'The iterator ends, and yields as many items as it reports.'),
+    (r'\(it : \w+\.IntoIter\) → .* × IsFinite \(.*\)', 'The iterator ends.'),
+    (r'BeginsWith \(λ b\. Unit \{0\}\) T\.format', 'No encoding of a value is empty.'),
+    (r'start ≤ vec_len sink\.old', '`start` is at most the number of bytes in the sink.'),
+    (r'limit ≤ 10', '`limit` is at most 10.'),
+    (r'page_exponent self\.now\.page_size_log2 < 32', 'A page has less than 2^32 bytes.'),
+    (r'(?:T\.)?lawful \w+', 'Each iterator in the value ends, and yields as many items as it reports: the impl says so by `lawful`.'),
+)
+
+
+def asked(clause: str) -> str:
+    """Returns what a `requires` clause asks, in words, or an empty line."""
+    _, term = parts(clause)
+    return next((said for form, said in ASKED if re.fullmatch(form, term)), '')
 
 
 def parts(clause: str) -> tuple[str, str]:
@@ -79,19 +185,59 @@ def listed(names: Sequence[str]) -> str:
     return ', '.join(f'`{name}`' for name in names)
 
 
-def gloss(clauses: Sequence[str]) -> str:
-    """Returns when each clause of a function says something, or an empty line if no clause depends
-    on the result."""
+def head_of(term: str) -> str:
+    """Returns the first word of a term, or an empty one if the term is more than a word and its
+    arguments."""
+    depth, words = 0, term.split(' ')
+    for word in words:
+        if depth == 0 and word in OPERATORS:
+            return ''
+        depth += sum({'(': 1, '{': 1, ')': -1, '}': -1}.get(it, 0) for it in word)
+    return words[0]
+
+
+def head(clause: str) -> str:
+    """Returns the first word of a clause's term, or of what it says after `Ok` or after an error."""
+    term = parts(clause)[1]
+    found = next((form.fullmatch(term) for form in (AFTER_OK, AFTER_ERROR) if is_after(form, term)), None)
+    inner = found[1][1:-1] if found and found[1].startswith('(') else found[1] if found else term
+    return head_of(re.sub(r'λ \w+\. ', '', inner, count=1))
+
+
+def words_of(term: str) -> str:
+    """Returns what a term of a known form says, or an empty line."""
+    return EXACT.get(term) or next((said for form, said in SAID if re.fullmatch(form, term)), '')
+
+
+def told(name: str, term: str) -> str:
+    """Returns the name of a clause, and what its term says if the form is known."""
+    words = words_of(term)
+    return f'`{name}`, {words}' if words else f'`{name}`'
+
+
+def gloss(clauses: Sequence[str], sentences: Mapping[str, str] | None = None) -> str:
+    """Returns when each clause of a function says something, what the clauses of known forms say,
+    and the sentences of the definitions that clauses are; or an empty line if no clause depends on
+    the result, and nothing is known of any."""
     sorted_clauses = [parts(it) for it in clauses]
-    ok = [name for name, term in sorted_clauses if is_after(AFTER_OK, term)]
-    error = [name for name, term in sorted_clauses if is_after(AFTER_ERROR, term)]
-    if not ok and not error:
-        return ''
+    ok = [it for it in sorted_clauses if is_after(AFTER_OK, it[1])]
+    error = [it for it in sorted_clauses if is_after(AFTER_ERROR, it[1])]
+    said: dict[str, list[str]] = {}
+    for it in clauses:
+        if it in (sentences or {}) and not words_of(parts(it)[1]):
+            said.setdefault(sentences[it], []).append(parts(it)[0])
     if len(clauses) == 1:
-        return 'After `Ok`:' if ok else 'After an error:'
-    always = [name for name, _ in sorted_clauses if name not in ok + error]
-    groups = [('After `Ok`', ok), ('After an error', error), ('In any case', always)]
-    return ' '.join(f'{when}: {listed(names)}.' for when, names in groups if names)
+        when = 'After `Ok`' if ok else 'After an error' if error else ''
+        words = words_of(sorted_clauses[0][1])
+        if words:
+            return f'{when}, {words}.' if when else words[0].upper() + words[1:] + '.'
+        return ' '.join(filter(None, [when and f'{when}:', next(iter(said), '')]))
+    words = [f'{listed(names)}: {sentence}' if all(names) else sentence for sentence, names in said.items()]
+    always = [it for it in sorted_clauses if it not in ok + error]
+    if ok or error or any(words_of(term) for _, term in always):
+        groups = [('After `Ok`', ok), ('After an error', error), ('In any case', always)]
+        words = [f'{when}: {"; ".join(told(*it) for it in found)}.' for when, found in groups if found] + words
+    return ' '.join(words)
 
 
 def names_table() -> str:

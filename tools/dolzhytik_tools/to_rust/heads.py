@@ -1,46 +1,84 @@
 """The lines of a generated file that its source lacks: imports, inner modules, runnable examples."""
 from __future__ import annotations
 
+import functools
 import pathlib
 import re
+import textwrap
 
+from ..definitions.layout import COLUMNS
 from ..rattle.lexer import solid_words
-from .context import uses
+from .context import sources, uses
 from .crates import Crate, reading
 from .modules import SKIP
 from .source import Source
-from .tables import BESIDE_TESTS, BY_HAND, READERS, TESTS
+from .tables import BESIDE_TESTS, BY_HAND, LIBRARIES, PUBLIC, READERS, TESTS
 from .uses import grouped
 
-# The hidden lines around the examples of documentation, and the variables that they may use.
-EXAMPLE_HEAD = [
-    'use dolzhytik::{fallible::*, reader::*};',
-    'fn example(alloc: Global) -> Result<(), Box<dyn std::error::Error>> {',
-]
-EXAMPLE_USES = {'wasm_tool': ['use dolzhytik::fallible::recipe::*;']}
-EXAMPLE_END = ['Ok(())', '}', 'example(Global).unwrap();']
+# The hidden lines around the examples of documentation.
+EXAMPLE_HEAD = ['fn example() -> Result<(), Box<dyn std::error::Error>> {', 'use dolzhytik::{fallible::*, reader::*};']
+EXAMPLE_END = ['Ok(())', '}', 'example().unwrap();']
+# The variables that examples may use, besides `alloc`, which becomes `Global`.
 GIVEN = {
-    'module': 'let mut module = Module::new(alloc)?;',
-    'code': 'let mut code = CodeSection::new(alloc);',
+    'module': 'let mut module = Module::new(Global)?;',
+    'code': 'let mut code = CodeSection::new(Global);',
     'bytes': 'let bytes = *b"\\0\\x01";',
 }
+BY_HAND_NAMES = {'AllocError', 'AllocFailed', 'Allocator', 'Global', 'Sink', 'String', 'Vec'}
+DECLARED = re.compile(r'^pub (?:struct|enum|trait|type|fn|const) (\w+)', re.MULTILINE)
 
 
-def examples_run(crate: Crate, lines: list[str]) -> list[str]:
-    """Makes the examples of documentation runnable, by hidden lines around them."""
-    head = EXAMPLE_USES.get(crate.name, []) + EXAMPLE_HEAD
-    out = []
-    example = None
+@functools.lru_cache(maxsize=None)
+def public_names() -> dict[str, str]:
+    """Returns the module of each public name of the package but for the root."""
+    found = {name: 'fallible' for name in BY_HAND_NAMES}
+    for it in sources():
+        if it.crate.name in LIBRARIES:
+            module = PUBLIC.get(it.crate.name, 'fallible')
+            for name in DECLARED.findall(it.text):
+                found[name] = 'reader' if name in READERS.get(it.crate.name, ()) else module
+    return found
+
+
+def imports_of(lines: list[str]) -> list[str]:
+    """Returns imports of the names that an example uses."""
+    used: dict[str, set[str]] = {}
+    for name in re.findall(r'(?<![\w.:])([A-Z]\w*|[a-z]\w*(?=\())', '\n'.join(lines)):
+        if name in public_names():
+            used.setdefault(public_names()[name], set()).add(name)
+    order = lambda name: (name[0].islower(), name)
+    made = []
+    for module in sorted(used):
+        names = sorted(used[module], key=order)
+        line = f'use dolzhytik::{module}::' + (names[0] if len(names) == 1 else '{' + ', '.join(names) + '}') + ';'
+        short = textwrap.wrap(', '.join(names) + ',', COLUMNS - 8)
+        made += [line] if len(line) <= COLUMNS - 4 else [f'use dolzhytik::{module}::{{', *('    ' + it for it in short), '};']
+    return made
+
+
+def runnable(text: list[str], lead: str) -> list[str]:
+    """Returns the lines of an example, with imports and variables, and hidden lines around it."""
+    joined = '\n'.join(text)
+    given = [let for name, let in GIVEN.items() if re.search(rf'\b{name}\b', joined) and not re.search(rf'\blet (mut )?{name}\b', joined)]
+    own = [re.sub(r'\balloc\b', 'Global', line.removeprefix(lead).removeprefix(' ')) for line in text]
+    uses = imports_of(given + own)
+    shown = [*uses, *([''] if uses else []), *given, *own]
+    hidden = [f'# {it}' for it in EXAMPLE_HEAD]
+    lines = [*hidden, *shown, *(f'# {it}' for it in EXAMPLE_END)]
+    return [f'{lead} ```', *(f'{lead} {line}'.rstrip() for line in lines), f'{lead} ```']
+
+
+def examples_run(lines: list[str]) -> list[str]:
+    """Makes the examples of documentation runnable."""
+    out: list[str] = []
+    example: list[str] | None = None
     for line in lines:
         mark = line.strip()
         if mark in ('/// ```rust', '//! ```rust'):
             lead = line[:line.index('/') + 3]
             example = []
-        elif example is not None and mark == lead + ' ```':
-            text = '\n'.join(example)
-            hidden = [let for name, let in GIVEN.items() if re.search(rf'\b{name}\b', text) and not re.search(rf'\blet (mut )?{name}\b', text)]
-            out += [f'{lead} ```'] + [f'{lead} # {let}' for let in head + hidden] + example
-            out += [f'{lead} # {let}' for let in EXAMPLE_END] + [line]
+        elif example is not None and mark == lead.strip() + ' ```':
+            out += runnable(example, lead)
             example = None
         elif example is not None:
             example.append(line)

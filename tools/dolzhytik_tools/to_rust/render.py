@@ -1,29 +1,60 @@
 """The text of a changed source: its tokens, edits, and documentation before the items."""
 from __future__ import annotations
 
+import textwrap
 from typing import Union
 
 from ..definitions.layout import laid_out
-from .glosses import gloss
-from .source import Source
+from .glosses import asked, gloss
+from .source import Notes, Source
 from .words import line_of_links
 
 
 def documentation(source: Source, place: int) -> list[str]:
     """Returns the lines of documentation of the clauses before a token: in libraries with words
     above them, and with links to the definitions that they name."""
-    notes, lines = source.notes[place], []
+    notes = source.notes[place]
+    lines = beside(notes)
     for heading in ('Asks', 'Proved', 'Defined'):
         if heading not in notes:
             continue
         paths = source.cited.get(place, {}).get(heading)
         text = '\n'.join(notes[heading])
-        above = gloss(notes[heading]) if heading == 'Proved' and paths is not None else ''
+        above = words_above(source, heading, notes[heading]) if paths is not None else ''
         code = text.split('\n') if paths is None else laid_out(text)
         lines += ['', f'# {heading}', '', *([above, ''] if above else []), '```text', *code, '```']
         if paths is not None:
             lines += ['', line_of_links(paths)]
     return [f'/// {line}'.rstrip() for line in lines]
+
+
+def words_above(source: Source, heading: str, clauses: list[str]) -> str:
+    """Returns the words above clauses."""
+    if heading == 'Proved':
+        return gloss(clauses, source.sentences)
+    return ' '.join(dict.fromkeys(filter(None, map(asked, clauses)))) if heading == 'Asks' else ''
+
+
+def wrapped(line: str) -> list[str]:
+    """Returns the lines of a paragraph."""
+    return textwrap.wrap(line, 92, break_long_words=False, break_on_hyphens=False) or ['']
+
+
+def beside(notes: Notes) -> list[str]:
+    """Returns the lines that are appended to a doc comment before the clauses: prose, errors, and
+    examples."""
+    text = '\n'.join(notes.get('Text', []))
+    prose, fence, example = text.partition('```')
+    lines = ['', *(part for line in prose.strip().split('\n') for part in wrapped(line))] if prose.strip() else []
+    if 'Errors' in notes:
+        lines += ['', '# Errors', '', *wrapped(notes['Errors'][0])]
+    if example:
+        lines += ['', '# Examples', '', *(fence + example).split('\n')]
+    return lines
+
+
+# The start of a field on a line of its own.
+FIELD = '\n        '
 
 
 class Gap:
@@ -56,10 +87,13 @@ def rendered(source: Source) -> str:
 
 def noted(lines: list[str], parts: list[Part]) -> list[str]:
     """Returns documentation, which follows what is there already, and the space before the item."""
-    before = [part for part in parts[-4:] if part is not Gap]
+    solid = [part for part in parts[-6:] if part is not Gap and not part.isspace()]
     space = parts[-1] if parts and parts[-1] is not Gap and parts[-1].isspace() else '\n'
+    if '\n' not in space:  # A field on the line of its variant.
+        parts[-1] = ''
+        return [it for line in lines[1:] for it in (FIELD, line)] + [FIELD]
     indent = space[space.rfind('\n'):]
-    has_docs = any(part.startswith('///') for part in before[-2:])
+    has_docs = bool(solid) and solid[-1].startswith('///')
     out = []
     for line in lines if has_docs else lines[1:]:
         out += [line, indent]

@@ -41,6 +41,8 @@ class Source:
     # token before which the clause's documentation goes and by its heading.
     scopes: list[Scope] = field(default_factory=list)
     cited: dict[int, dict[str, dict[str, str]]] = field(default_factory=dict)
+    # The sentence of the definition that a clause is, by the text of the clause.
+    sentences: dict[str, str] = field(default_factory=dict)
     # Impls of Display.
     errors: list[str] = field(default_factory=list)
     # The module of names that decode, of the root of a library that has such names.

@@ -1,5 +1,6 @@
 """The changes of a source, in their order."""
 from .attributes import erase_attributes
+from .beside import add_beside
 from .bounds import erase_drop_bounds, erase_runtime
 from .ghosts import erase_clauses, erase_ghosts, erase_models, turn_proved_constants
 from .marks import erase_marks
@@ -15,6 +16,7 @@ STEPS = [
     erase_ghosts,
     erase_models,
     erase_clauses,
+    add_beside,
     turn_proved_constants,
     erase_attributes,
     erase_drop_bounds,

@@ -4,6 +4,7 @@ from __future__ import annotations
 from collections.abc import Iterable, Iterator
 
 from ..rattle.lexer import solid_words
+from .beside import texts
 from .context import traits
 from .crates import reading
 from .source import Source
@@ -109,6 +110,23 @@ def turned_path(source: Source, place: int, path: str) -> str:
     return library + path[len(head):] if library else path
 
 
+def aliases_of(crate: str, path: str) -> list[str]:
+    """Returns the words by which search finds the item at a path. Rustdoc takes them from exports,
+    and not from definitions."""
+    text = texts(crate).get(path.split('::')[-1])
+    return text.aliases if text else []
+
+
+def public(source: Source, paths: list[str]) -> list[str]:
+    """Returns the lines of public `use`s of these paths."""
+    found = {path: aliases_of(source.crate.name, path) for path in paths}
+    lines = [f'pub {line}' for line in grouped(path for path in paths if not found[path])]
+    for path, words in found.items():
+        if words:
+            lines += [*(f'#[doc(alias = "{it}")]' for it in words), f'pub use {path};']
+    return lines
+
+
 def turn_exports(source: Source) -> None:
     """Splits the public `use`s of a library's root: names that decode are private there, and public
     in a module of their own, from which `reader` exports them. Names for libraries above alone are
@@ -125,9 +143,9 @@ def turn_exports(source: Source) -> None:
             end += 1
         paths = list(paths_of(source, solid_words(source.text(first, end))))
         inner = [path for path in paths if path.split('::')[-1] in own | between]
-        if inner:
-            exports += [f'    pub {line}' for line in grouped('super::' + path for path in inner if path.split('::')[-1] in own)]
-            lines = [f'pub {line}' for line in grouped(path for path in paths if path not in inner)] + [f'pub(crate) {line}' for line in grouped(inner)]
+        if inner or any(aliases_of(source.crate.name, path) for path in paths):
+            exports += [f'    {line}' for line in public(source, ['super::' + path for path in inner if path.split('::')[-1] in own])]
+            lines = public(source, [path for path in paths if path not in inner]) + [f'pub(crate) {line}' for line in grouped(inner)]
             source.edit(source.back(place), end + 1, '\n'.join(lines), 'export')
         head = paths[0].split('::')[0]
         if head in READERS and all(path.split('::')[-1] in READERS[head] for path in paths):

@@ -5,8 +5,9 @@ from dataclasses import dataclass
 
 from ..definitions.imports import Import, parsed
 from ..definitions.library import PAGES, library
-from ..definitions.pages import links
+from ..definitions.pages import links, prose
 from ..rattle.lexer import is_word
+from .glosses import head
 from .source import Source
 from .tables import LIBRARIES
 
@@ -82,6 +83,18 @@ def cite(source: Source, note: int, heading: str, text: str, place: int, bound: 
     where = f'{source.path}:{source.line(place)}'
     found = library().cited(text, imports_at(source, place), bound | members(source, place), where)
     source.cited.setdefault(note, {}).setdefault(heading, {}).update(found)
+
+
+def sentence(source: Source, clause: str, place: int) -> str:
+    """Returns the sentence of the definition at the head of what a clause says, or an empty line.
+    Facts have names with capitals; other definitions are formats."""
+    if source.crate.name not in LIBRARIES:
+        return ''
+    first = head(clause)
+    if not is_word(first.replace('.', '')) or not first[0].isupper():
+        return ''
+    found = library().meant(first, imports_at(source, place), f'{source.path}:{source.line(place)}')
+    return prose(found[1].definition.sentence, {}) if found and not found[1].is_constructor else ''
 
 
 def line_of_links(paths: dict[str, str]) -> str:

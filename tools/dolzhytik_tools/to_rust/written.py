@@ -26,7 +26,7 @@ class Written:
         is_root = str(relative) in ['lib.rt', 'lib.rtt']
         self.before = prelude(self.source, body) + exported_readers(crate, relative) + support(crate, is_root)
         self.behind = '\n'.join([*self.source.errors, *self.source.readers])
-        body = '\n'.join(examples_run(crate, body.rstrip('\n').split('\n'))) + '\n'
+        body = '\n'.join(examples_run(body.rstrip('\n').split('\n'))) + '\n'
         self.page = f'#![doc = include_str!("../{PAGES[crate.name]}")]\n' if is_root and crate.name in PAGES else ''
         head, rest = head_and_rest(body)
         parts = [self.page, head, self.before + rest.rstrip('\n') + '\n', self.behind]

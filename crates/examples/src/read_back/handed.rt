@@ -63,7 +63,7 @@ pub fn code_of<A: Allocator + Copy>(alloc: A, functions: &[Function<A>]) -> Resu
     }
 }
 
-/// Appends an export section of the exports of a list, which decodes to them with padded numbers
+/// Appends an export section of the exports of a list, which decodes to them with padded LEB128
 /// too.
 pub fn encode_listed_exports<A: Allocator + Copy>(
     sink: &mut Vec<u8, A>,

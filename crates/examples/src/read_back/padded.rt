@@ -1,4 +1,4 @@
-//! Sections with some padded numbers: expressions and entries that are already encoded.
+//! Sections with some padded LEB128: expressions and entries that are already encoded.
 ghost use Rattle.std.specs.Prelude.{◌≡◌, ◌≢◌, [], ◌∷◌, IfOk, IfErr, OnOk};
 ghost use Rattle.wasm_base.specs.Entries.{ContainsPadded, counted_format};
 ghost use Rattle.wasm_base.specs.Modules.{DecodesSections, GainsDecodingPadded};

@@ -242,7 +242,7 @@ const NOT_OUTLINED: DzOutlined = DzOutlined {
     id: 77,
 };
 
-/// A type, a custom section called `name` of padded numbers, one without a name, one that counts
+/// A type, a custom section called `name` of padded LEB128, one without a name, one that counts
 /// seven functions and holds none, and one of a function.
 const OUTLINED: &[u8] =
     b"\0asm\x01\0\0\0\x01\x04\x01\x60\0\0\0\x87\0\x84\0name\xFF\0\x01\x05\x03\x01\x07\x03\x02\x01\0";

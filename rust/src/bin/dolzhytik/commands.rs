@@ -56,7 +56,7 @@ fn print(text: &str) -> Result<(), Failure> {
 
 // ---- sizes
 
-/// Prints the sizes of the sections, and of so many functions.
+/// Prints the sizes of the sections, and of this number of functions.
 fn show_sizes(input: &Input, functions: usize, format: Format) -> Result<(), Failure> {
     let bytes = input.read()?;
     let progress = Progress::of(bytes.len());

@@ -132,7 +132,7 @@ fn write_file(path: &Path, parts: &[&[u8]]) -> io::Result<()> {
     }
 }
 
-/// Writes a file beside the path, and gives it that path when it has all bytes.
+/// Writes a temporary file beside the path, and renames it to the path when it has all bytes.
 fn replace(path: &Path, parts: &[&[u8]], permissions: Option<Permissions>) -> io::Result<()> {
     let (beside, file) = create_beside(path)?;
     let written = fill(&file, parts, permissions).and_then(|()| fs::rename(&beside, path));

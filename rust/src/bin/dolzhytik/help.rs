@@ -61,7 +61,7 @@ kind that its name selects, or as bytes.",
         usage: "FILE [--all | --debug | NAME..] [--keep NAME].. -o FILE [--force]",
         says: "\
 writes the module without its custom sections: all, or with --debug those of DWARF, or those of the names.
-It fails if a section that stays refers to sections that would be gone or elsewhere.",
+It fails if a section that stays refers to sections or offsets that would be removed or moved.",
         options: &[Flag::All, Flag::Debug, Flag::Keep, Flag::Output, Flag::Force],
     },
     Manual {
@@ -85,7 +85,7 @@ hints follow their instructions. It fails if offsets in another custom section w
         verb: Verb::Build,
         name: "build",
         usage: "RECIPE -o FILE [--force]",
-        says: "writes the module of a recipe, a text.",
+        says: "writes the module of a recipe: lines of text that each add an item.",
         options: &[Flag::Output, Flag::Force],
     },
     Manual {
@@ -261,9 +261,9 @@ build_id is a section that holds offsets.",
 ];
 
 const LAST: &str = "
-A file - is standard input or standard output. The status is 0 for success, 1 for an error, and 2 for wrong arguments.
+The file - is standard input or standard output. Exit status: 0 success, 1 error, 2 usage.
 
-Compiled by rustc from the proved source, and not proved on this machine.
+Unverified build: compiled by rustc from the proved source.
 ";
 
 /// The columns of a command and of an option before what they do.
@@ -312,7 +312,7 @@ impl Explained {
     }
 }
 
-/// Appends a name, and what it stands for in lines beside it.
+/// Appends a name, and its description in lines beside it.
 fn append(text: &mut String, column: usize, name: &str, says: &str) {
     let mut name = name;
     for line in says.lines() {

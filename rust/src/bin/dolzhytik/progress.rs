@@ -25,7 +25,7 @@ fn show(text: &str) {
 }
 
 impl Progress {
-    /// For an input of so many bytes.
+    /// Returns the progress over an input of this number of bytes.
     pub fn of(bytes: usize) -> Self {
         let is_shown = bytes > LARGE && io::stderr().is_terminal();
         Progress { bytes, is_shown }

@@ -8,7 +8,7 @@ use dolzhytik::reader::Offsets;
 use std::ffi::OsString;
 use std::fmt;
 
-/// How answers are printed.
+/// How results are printed.
 #[derive(Clone, Copy, PartialEq, Eq, Debug)]
 pub enum Format {
     Table,

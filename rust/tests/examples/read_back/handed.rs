@@ -69,7 +69,7 @@ pub fn code_of<A: Allocator + Copy>(alloc: A, functions: &[Function<A>]) -> Resu
     }
 }
 
-/// Appends an export section of the exports of a list, which decodes to them with padded numbers
+/// Appends an export section of the exports of a list, which decodes to them with padded LEB128
 /// too.
 ///
 /// # Proved

@@ -1,5 +1,5 @@
 // Written by tools/to-rust from crates/examples/src/read_back/padded.rt: change that.
-//! Sections with some padded numbers: expressions and entries that are already encoded.
+//! Sections with some padded LEB128: expressions and entries that are already encoded.
 
 use dolzhytik::fallible::Vec;
 use crate::examples::read_back::read_and_shorten;

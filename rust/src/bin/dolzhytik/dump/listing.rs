@@ -100,7 +100,7 @@ impl<W: Write> Listing<W> {
         self.out.flush()
     }
 
-    /// Ends lists of JSON until only so many are open.
+    /// Ends lists of JSON until `depth` are open.
     fn close(&mut self, depth: usize) -> io::Result<()> {
         while self.open.len() > depth {
             let has_members = self.open.pop() == Some(true);
