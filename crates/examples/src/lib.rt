@@ -1,6 +1,6 @@
 //! Callers that prove the results of their calls from the contracts alone. Those at the root prove
-//! to which items their modules decode; `docs/CALLING.md` walks through them. [`calls`] has callers
-//! of single calls, and [`read_back`] writes sections, decodes them and minimizes them.
+//! to which items their modules decode; `docs/PROOFS.md` has their lemmas. [`calls`] has callers of
+//! single calls, and [`read_back`] writes sections, decodes them and minimizes them.
 #![tactic(auto, using(wasm_base::proofs::KnownLengths::drained_array))]
 
 mod adding;

@@ -1,7 +1,7 @@
 // Written by tools/to-rust from crates/examples/src/lib.rt: change that.
 //! Callers that prove the results of their calls from the contracts alone. Those at the root prove
-//! to which items their modules decode; `docs/CALLING.md` walks through them. [`calls`] has callers
-//! of single calls, and [`read_back`] writes sections, decodes them and minimizes them.
+//! to which items their modules decode; `docs/PROOFS.md` has their lemmas. [`calls`] has callers of
+//! single calls, and [`read_back`] writes sections, decodes them and minimizes them.
 
 mod adding;
 mod alone;

@@ -1,4 +1,4 @@
-"""The lemmas of builders, and the modules of names, which docs/CALLING.md describes."""
+"""The lemmas of builders, and the modules of names, which docs/PROOFS.md describes."""
 from __future__ import annotations
 
 from dataclasses import dataclass
