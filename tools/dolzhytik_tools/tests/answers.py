@@ -5,10 +5,11 @@ from __future__ import annotations
 import contextlib
 import os
 import pathlib
+import re
 import tempfile
 
 from ..answers import command
-from ..repository import TOP
+from ..repository import TOP, text_of
 from .answers_samples import (
     CODE, EXPORTS, HEAD, HINTS, LINKING, MODULE, PRODUCERS, READ, STACK, SUM, SYMBOLS, WRITTEN, WRITTEN_OF_CUSTOM,
 )
@@ -162,11 +163,24 @@ def words_trouble() -> str | None:
     return None if found == [2, 2, 2] else "statuses %s" % found
 
 
+# The listings of the tutorial, up to the program, which is another crate.
+LISTING = re.compile(r"```(?:rust|antt)\n(.*?)```", re.DOTALL)
+
+
+def tutorial_trouble() -> str | None:
+    """The crate `adder` is what the tutorial ends with: its listings, each item once."""
+    files = [text_of(TOP / f"crates/adder/{it}") for it in ("src/lib.rt", "specs/Items.antt", "specs/Lib.antt")]
+    page = text_of(TOP / "docs/TUTORIAL.md").split("## 6.")[0]
+    listed = "\n\n".join(it.strip("\n") for it in LISTING.findall(page)).split("\n\n")
+    missing = [it for it in "\n\n".join(file.strip("\n") for file in files).split("\n\n") if it not in listed]
+    return f"the tutorial lacks {missing[0]!r}" if missing else None
+
+
 def main() -> int:
     """Runs the tests."""
     core = "".join(map(function_of, (SUM, CODE, EXPORTS, MODULE)))
     custom = "".join(map(function_of, (SYMBOLS, LINKING, PRODUCERS, HINTS, STACK))) + READ
     troubles = {"what is written": written_trouble(core, WRITTEN), "what is written of custom sections": written_trouble(custom, WRITTEN_OF_CUSTOM)}
     troubles.update({name: stop_trouble(*what) for name, *what in STOPS})
-    troubles.update({"clauses": clause_trouble(), "files written by hand": by_hand_trouble(), "--check": check_trouble(), "words": words_trouble()})
+    troubles.update({"clauses": clause_trouble(), "files written by hand": by_hand_trouble(), "--check": check_trouble(), "words": words_trouble(), "the tutorial": tutorial_trouble()})
     return end([report("answers-test", *it) for it in troubles.items()])

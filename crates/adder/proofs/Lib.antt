@@ -1,1 +1,0 @@
--- The proofs of the crate are those of its functions.
