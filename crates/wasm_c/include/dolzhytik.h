@@ -66,7 +66,12 @@ enum dz_kind {
     DZ_CORE_STACK,
     DZ_CUSTOM,
     DZ_RAW,
-    DZ_TYPES
+    DZ_TYPES,
+    DZ_TARGET_FEATURES,
+    DZ_SOURCE_MAPPING_URL,
+    DZ_EXTERNAL_DEBUG_INFO,
+    DZ_BUILD_ID,
+    DZ_DYLINK
 };
 
 /* A section of a module: how many items it has, how many bytes stand behind its size, and its id. */
