@@ -621,6 +621,35 @@ fn core_frame<G: Follow>(g: &mut G) -> Option<()> {
     g.vector(core_value)
 }
 
+fn feature<G: Follow>(g: &mut G) -> Option<()> {
+    g.tag(&[0x2B, 0x2D, 0x3D])?;
+    g.name()
+}
+
+fn export_flags<G: Follow>(g: &mut G) -> Option<()> {
+    g.name()?;
+    u32_any(g)
+}
+
+fn import_flags<G: Follow>(g: &mut G) -> Option<()> {
+    g.name()?;
+    export_flags(g)
+}
+
+/// A subsection of a dynamic library.
+fn library<G: Follow>(g: &mut G) -> Option<()> {
+    match g.tag(&[1, 2, 3, 4, 5])? {
+        1 => g.frame(&|g: &mut G| (0..4).try_for_each(|_| u32_any(g))),
+        3 => g.frame(&|g: &mut G| g.vector(export_flags)),
+        4 => g.frame(&|g: &mut G| g.vector(import_flags)),
+        _ => g.frame(&|g: &mut G| g.vector(G::name)),
+    }
+}
+
+fn any_byte<G: Follow>(g: &mut G) -> Option<()> {
+    g.raw(1)
+}
+
 fn until_end<G: Follow>(g: &mut G, item: fn(&mut G) -> Option<()>) -> Option<()> {
     while g.goes_on() {
         item(g)?;
@@ -631,7 +660,7 @@ fn until_end<G: Follow>(g: &mut G, item: fn(&mut G) -> Option<()>) -> Option<()>
 // ---- sections
 
 /// The kinds of sections, in the order of their numbers.
-pub const KINDS: [&str; 23] = [
+pub const KINDS: [&str; 28] = [
     "Bodies",
     "Segments",
     "DataCount",
@@ -655,6 +684,11 @@ pub const KINDS: [&str; 23] = [
     "Custom",
     "Raw",
     "Types",
+    "TargetFeatures",
+    "SourceMappingUrl",
+    "ExternalDebugInfo",
+    "BuildId",
+    "Dylink",
 ];
 
 fn content<G: Follow>(g: &mut G, kind: &str) -> Option<()> {
@@ -693,6 +727,11 @@ fn content<G: Follow>(g: &mut G, kind: &str) -> Option<()> {
         "Custom" => g.name().and_then(|()| g.all()),
         "Raw" => g.all(),
         "Types" => g.vector(type_item),
+        "TargetFeatures" => g.named("target_features").and_then(|()| g.vector(feature)),
+        "Dylink" => g.named("dylink.0").and_then(|()| until_end(g, library)),
+        "SourceMappingUrl" => g.named("sourceMappingURL").and_then(|()| g.name()),
+        "ExternalDebugInfo" => g.named("external_debug_info").and_then(|()| g.name()),
+        "BuildId" => g.named("build_id").and_then(|()| g.vector(any_byte)),
         _ => panic!("no such kind: {kind}"),
     }
 }

@@ -1,9 +1,11 @@
 //! Decodes sections of every kind by the library's decoders, in a grammar given by type.
 
-use dolzhytik::fallible::{BranchHint, Export, Global, Imports, MemoryType, TagType, Vec};
+use dolzhytik::fallible::{
+    BranchHint, Export, FeaturePrefix, Global, Imports, MemoryType, TagType, Vec,
+};
 use dolzhytik::reader::{
-    self, Body, CoreFrame, DecodeError, ElementItem, GlobalItem, LinkItem, NameItem, ReadFault,
-    Readable, Segment, TableItem, TypeEntry,
+    self, Body, CoreFrame, DecodeError, DylinkItem, ElementItem, GlobalItem, LinkItem, NameItem,
+    ReadFault, Readable, Segment, TableItem, TypeEntry,
 };
 use std::fmt::Debug;
 
@@ -124,6 +126,11 @@ fn payload<'a, G: reader::Grammar>(bytes: &'a [u8], kind: &str) -> Decoded<'a> {
             Ok((format!("{name:?} {data:?}"), &[]))
         }
         "Raw" => Ok((format!("{bytes:?}"), &[])),
+        "Dylink" => to_end(behind("dylink.0")?, one::<DylinkItem<'_>, G>),
+        "SourceMappingUrl" => one::<&str, G>(behind("sourceMappingURL")?),
+        "ExternalDebugInfo" => one::<&str, G>(behind("external_debug_info")?),
+        "BuildId" => one::<&[u8], G>(behind("build_id")?),
+        "TargetFeatures" => vector::<(FeaturePrefix, &str), G>(behind("target_features")?),
         _ => panic!("no decoder of {kind}"),
     }
 }

@@ -16,7 +16,7 @@ use std::time::Instant;
 
 // ---- modules
 
-/// Names of custom sections of no kind that hold offsets.
+/// Names of custom sections that hold offsets.
 const HOLDING: [&str; 7] = [
     "sourceMappingURL",
     "external_debug_info",
@@ -91,7 +91,7 @@ fn relocations(random: &mut Random) -> Vec<u8> {
     maker.encoding
 }
 
-/// A custom section of no kind: its name, whose length is padded at times, and relocations or any bytes.
+/// A custom section: its name, whose length is padded at times, and relocations or any bytes.
 fn custom(random: &mut Random) -> Vec<u8> {
     let (name, data) = match random.below(8) {
         0..3 => (

@@ -1,7 +1,8 @@
 -- This file defines the items of the custom sections.
 use Rattle.std.specs.Prelude.{ℕ, List, [], ◌∷◌, Some, codes}
-use Rattle.wasm_custom.specs.Words.{Hints, LinkItem, Symbols, Target, NameItem, Module, Other, Field, Symbol, of_data}
+use Rattle.wasm_custom.specs.Words.{Hints, LinkItem, Symbols, Target, NameItem, Module, Other, Field, Symbol, of_data, Feature}
 use Rattle.wasm_custom.specs.declared.hints.BranchHint.{BranchHint}
+use Rattle.wasm_custom.specs.declared.target_features.FeaturePrefix.TheVariants.{Used, Disallowed}
 
 -- The name of the module, and bytes of an id that is of no names.
 abbrev pub name_and_more : List ℕ → List ℕ → List NameItem
@@ -18,6 +19,10 @@ links name = Symbols (data_symbol name ∷ []) ∷ Target (codes "wasm32") ∷ [
 -- The producers field "language" with `rattle` of this version.
 abbrev pub language : List ℕ → List Field
 language version = (codes "language", (codes "rattle", version) ∷ []) ∷ []
+
+-- The feature "atomics" is used, and the feature of this name is not allowed.
+abbrev pub used_and_not : List ℕ → List Feature
+used_and_not feature = (Used, codes "atomics") ∷ (Disallowed, feature) ∷ []
 
 -- The hint that the branch at offset 3 is likely.
 abbrev pub likely : BranchHint

@@ -15,6 +15,7 @@ pub mod Customs
 pub mod Declarations
 pub mod Decodings
 pub mod Dumps
+pub mod Libraries
 pub mod FirstValues
 pub mod Handed
 pub mod Iterated

@@ -15,8 +15,10 @@ ghost use Rattle.wasm_reader.specs.declared.kinds.SectionKind.TheVariants as kin
 ghost use Rattle.wasm_reader.specs.declared.whole.Offsets.TheVariants.{LeaveOut, Refuse};
 
 pub mod custom;
+pub mod debug_files;
 pub mod declared;
 pub mod dumps;
+pub mod dylink;
 pub mod handed;
 pub mod padded;
 pub mod stored;

@@ -69,7 +69,12 @@ enum dz_kind {
     DZ_CORE_STACK,
     DZ_CUSTOM,
     DZ_RAW,
-    DZ_TYPES
+    DZ_TYPES,
+    DZ_TARGET_FEATURES,
+    DZ_SOURCE_MAPPING_URL,
+    DZ_EXTERNAL_DEBUG_INFO,
+    DZ_BUILD_ID,
+    DZ_DYLINK
 };
 
 /* A section that dz_list returns: the number of its items, the size of its payload in bytes, and

@@ -19,11 +19,16 @@ use Rattle.wasm_custom.specs.{link_encoding, IsObjectLink, full_link, ContainsOb
 use Rattle.wasm_custom.specs.{AreComdatSymbols, Comdat, AreComdats, version, LinkItem, Target, link, ContainsLinks, linking_payload, list_encoding, IsListOf, name_name, Naming, Inside, NameItem}
 use Rattle.wasm_custom.specs.{Module, Map, Indirect, Other, name_map, indirect_map, subsection, of_map, of_indirect, of_other, name_kind_of, AreNamings, AreInsides, ContainsNames, name_payload}
 use Rattle.wasm_custom.specs.{producers_name, Producer, Field, field, AreProducers, ContainsFields, producers_payload, Symbol, symbol_encoding, IsFullSymbol, IsGivenSymbol, IsAsFlagged, AreSymbols}
-use Rattle.wasm_custom.specs.{AreObjectSymbols}
+use Rattle.wasm_custom.specs.{AreObjectSymbols, prefix_code, Feature, feature, features_name, ContainsFeatures, features_payload, source_map_name, debug_file_name}
+use Rattle.wasm_custom.specs.{AreNames, AreDylinkExports, AreDylinkImports, DylinkExport, DylinkImport, DylinkItem, needs_encoding, AreNeeds, export_flags_encoding, import_flags_encoding, dylink_encoding}
+use Rattle.wasm_custom.specs.{IsDylink, dylink_item, ContainsDylink, dylink_name, dylink_payload}
+use Rattle.wasm_custom.specs.{build_id_name, source_map_payload, debug_file_payload, build_id_payload, SaysText}
+use Rattle.wasm_custom.specs.Dylink.{Memory, Needed, ExportFlags, ImportFlags, RuntimePath}
 use Rattle.wasm_custom.specs.Hints.{Hints}
 use Rattle.wasm_custom.specs.Linking.{Segments, InitFunctions, Comdats, Symbols}
 use Rattle.wasm_custom.specs.declared.init_functions.InitFunction.{InitFunction}
 use Rattle.wasm_custom.specs.declared.comdats.ComdatSymbol.{ComdatSymbol}
+use Rattle.wasm_custom.specs.declared.dylink_symbols.DylinkMemory.{DylinkMemory}
 use Rattle.wasm_custom.specs.declared.hints.BranchHint.{BranchHint}
 use Rattle.wasm_custom.specs.declared.core_values.CoreDumpValue.{CoreDumpValue}
 use Rattle.wasm_custom.proofs.CustomLaws.{custom_back}
@@ -31,11 +36,14 @@ use Rattle.wasm_custom.proofs.ListLaws.{lists_none, lists_more, list_vector}
 use Rattle.wasm_custom.proofs.NameLaws.{names_padded, names_inside_padded, subsection_unambiguous, names_section}
 use Rattle.wasm_custom.proofs.CoreDumpLaws.{marked_unambiguous, core_whole, core_unambiguous, modules_section, instance_unambiguous, instances_section}
 use Rattle.wasm_custom.proofs.CoreStackLaws.{value_unambiguous, stack_frame_unambiguous, stack_frame_laws, stack_whole, stack_unambiguous}
+use Rattle.wasm_custom.proofs.DylinkLaws.{needs_unambiguous, export_flags_unambiguous, import_flags_unambiguous, dylink_unambiguous, dylink_section}
+use Rattle.wasm_custom.proofs.FeatureLaws.{prefix_unambiguous, feature_unambiguous, features_section}
 use Rattle.wasm_custom.proofs.HintLaws.{hints_unambiguous, hints_section}
 use Rattle.wasm_custom.proofs.LinkLaws.{link_unambiguous, linking_section, full_link_unambiguous, object_section}
 use Rattle.wasm_custom.proofs.ProducerLaws.{field_unambiguous, producers_section}
 use Rattle.wasm_custom.proofs.SymbolLaws.{symbol_unambiguous, full_symbol_unambiguous}
 use Rattle.wasm_custom.proofs.SegmentLaws.{segment_unambiguous}
+use Rattle.wasm_custom.proofs.SingleLaws.{source_map_whole, debug_file_whole, build_id_whole, source_map_unambiguous, debug_file_unambiguous, build_id_unambiguous}
 use Rattle.wasm_custom.proofs.InitLaws.{init_unambiguous}
 use Rattle.wasm_custom.proofs.ComdatLaws.{comdat_symbol_unambiguous, comdat_unambiguous}
 
@@ -67,6 +75,18 @@ new_comdat_symbols e = new_list e
 
 pub new_comdats : {entries : List (List ℕ)} → entries ≡ [] → AreComdats entries []
 new_comdats e = new_list e
+
+pub new_needed : {entries : List (List ℕ)} → entries ≡ [] → AreNames entries []
+new_needed e = new_list e
+
+pub new_runtime_path : {entries : List (List ℕ)} → entries ≡ [] → AreNames entries []
+new_runtime_path e = new_list e
+
+pub new_dylink_exports : {entries : List (List ℕ)} → entries ≡ [] → AreDylinkExports entries []
+new_dylink_exports e = new_list e
+
+pub new_dylink_imports : {entries : List (List ℕ)} → entries ≡ [] → AreDylinkImports entries []
+new_dylink_imports e = new_list e
 
 pub new_field : {entries : List (List ℕ)} → entries ≡ [] → AreProducers entries []
 new_field e = new_list e
@@ -113,6 +133,24 @@ pub adds_comdat : {old new entries : List (List ℕ)} {comdats : List Comdat} {s
 adds_comdat {old = old} {symbols = symbols} before n flags held e spare encodable utf8 range =
     adds_member before (record { name = n; flags = flags; symbols = symbols }) (e ∙ ap (λ s. old ++ (size_prefixed_encoding n ++ (unsigned_encoding flags ++ s)) ∷ []) (list_vector held)) spare (record { name = (utf8, encodable); flags = range; symbols = held.encodable })
 
+-- The list gains a library, whose name's length the call has checked.
+pub adds_library : {old new : List (List ℕ)} {names : List (List ℕ)} → AreNames old names → (n : List ℕ) → new ≡ old ++ size_prefixed_encoding n ∷ [] → length old < longest → HasEncodableSize n → IsUtf8 n → AreNames new (names ++ n ∷ [])
+adds_library before n e spare encodable utf8 = adds_member before n e spare (utf8, encodable)
+
+-- The list gains a folder, whose path's length the call has checked.
+pub adds_folder : {old new : List (List ℕ)} {paths : List (List ℕ)} → AreNames old paths → (path : List ℕ) → new ≡ old ++ size_prefixed_encoding path ∷ [] → length old < longest → HasEncodableSize path → IsUtf8 path → AreNames new (paths ++ path ∷ [])
+adds_folder before path e spare encodable utf8 = adds_member before path e spare (utf8, encodable)
+
+-- The list gains the flags of an exported symbol, whose name's length the call has checked.
+pub adds_dylink_export : {old new : List (List ℕ)} {exports : List DylinkExport} → AreDylinkExports old exports → (export : DylinkExport) → new ≡ old ++ export_flags_encoding export ∷ [] → length old < longest → HasEncodableSize export.name × Unit {0} → IsUtf8 export.name
+    → export.flags < 2 ^ 32 → AreDylinkExports new (exports ++ export ∷ [])
+adds_dylink_export before export e spare encodable utf8 flags = adds_member before export e spare (record { name = (utf8, encodable.0); flags = flags })
+
+-- The list gains the flags of an imported symbol, whose names' lengths the call has checked.
+pub adds_dylink_import : {old new : List (List ℕ)} {imports : List DylinkImport} → AreDylinkImports old imports → (import : DylinkImport) → new ≡ old ++ import_flags_encoding import ∷ [] → length old < longest
+    → HasEncodableSize import.module_name × HasEncodableSize import.name × Unit {0} → IsUtf8 import.module_name → IsUtf8 import.name → import.flags < 2 ^ 32 → AreDylinkImports new (imports ++ import ∷ [])
+adds_dylink_import before import e spare encodable from utf8 flags = adds_member before import e spare (record { module_name = (from, encodable.0); name = (utf8, encodable.1); flags = flags })
+
 -- The field gains a value, whose lengths the call has checked.
 pub adds_value : {old new : List (List ℕ)} {values : List Producer} → AreProducers old values → (value : Producer) → new ≡ old ++ (size_prefixed_encoding value.0 ++ size_prefixed_encoding value.1) ∷ [] → length old < longest → HasEncodableSize value.0 × HasEncodableSize value.1
     → IsUtf8 value.0 → IsUtf8 value.1 → AreProducers new (values ++ value ∷ [])
@@ -131,6 +169,12 @@ new_objects e = new_section e
 
 pub new_producers : {entries : List (List ℕ)} → entries ≡ [] → ContainsFields entries []
 new_producers e = new_section e
+
+pub new_dylink : {entries : List (List ℕ)} → entries ≡ [] → ContainsDylink entries []
+new_dylink e = new_section e
+
+pub new_features : {entries : List (List ℕ)} → entries ≡ [] → ContainsFeatures entries []
+new_features e = new_section e
 
 pub new_hints : {entries : List (List ℕ)} → entries ≡ [] → ContainsHints entries []
 new_hints e = new_section e
@@ -217,11 +261,40 @@ adds_object_symbols {symbols = symbols} before held e flagged =
 pub adds_object_target : {old new : List (List ℕ)} {items : List LinkItem} → ContainsObjectLinks old items → (n : List ℕ) → new ≡ old ++ subsection_encoding 9 (size_prefixed_encoding n) ∷ [] → IsUtf8 n → ContainsObjectLinks new (items ++ Target n ∷ [])
 adds_object_target before n e utf8 = adds_item before (Target n) e utf8
 
+-- The section of a dynamic library gains its memory and its table.
+pub adds_dylink_memory : {old new : List (List ℕ)} {items : List DylinkItem} → ContainsDylink old items → (memory : DylinkMemory) → new ≡ old ++ subsection_encoding 1 (needs_encoding memory) ∷ [] → AreNeeds memory → ContainsDylink new (items ++ Memory memory ∷ [])
+adds_dylink_memory before memory e plain = adds_item before (Memory memory) e plain
+
+-- The section of a dynamic library gains a subsection whose content is the vector of a list.
+adds_dylink_list : {X : Type 0} {encoding : X → List ℕ} {Is : X → Type 0} {old new entries : List (List ℕ)} {items : List DylinkItem} {xs : List X} → ContainsDylink old items → (item : DylinkItem) (id : ℕ) → dylink_encoding item ≡ subsection_encoding id (vec_encoding encoding xs)
+    → IsListOf encoding Is entries xs → new ≡ old ++ subsection_encoding id (list_encoding entries) ∷ [] → IsDylink item → ContainsDylink new (items ++ item ∷ [])
+adds_dylink_list {old = old} before item id is held e plain = adds_item before item (e ∙ ap (λ s. old ++ subsection_encoding id s ∷ []) (list_vector held) ∙ ap (λ s. old ++ s ∷ []) (sym is)) plain
+
+-- The section of a dynamic library gains the libraries of a list.
+pub adds_needed : {old new entries : List (List ℕ)} {items : List DylinkItem} {names : List (List ℕ)} → ContainsDylink old items → AreNames entries names → new ≡ old ++ subsection_encoding 2 (list_encoding entries) ∷ [] → ContainsDylink new (items ++ Needed names ∷ [])
+adds_needed {names = names} before held e = adds_dylink_list before (Needed names) 2 refl held e held.encodable
+
+-- The section of a dynamic library gains the flags of exported symbols.
+pub adds_exports_flags : {old new entries : List (List ℕ)} {items : List DylinkItem} {exports : List DylinkExport} → ContainsDylink old items → AreDylinkExports entries exports → new ≡ old ++ subsection_encoding 3 (list_encoding entries) ∷ [] → ContainsDylink new (items ++ ExportFlags exports ∷ [])
+adds_exports_flags {exports = exports} before held e = adds_dylink_list before (ExportFlags exports) 3 refl held e held.encodable
+
+-- The section of a dynamic library gains the flags of imported symbols.
+pub adds_imports_flags : {old new entries : List (List ℕ)} {items : List DylinkItem} {imports : List DylinkImport} → ContainsDylink old items → AreDylinkImports entries imports → new ≡ old ++ subsection_encoding 4 (list_encoding entries) ∷ [] → ContainsDylink new (items ++ ImportFlags imports ∷ [])
+adds_imports_flags {imports = imports} before held e = adds_dylink_list before (ImportFlags imports) 4 refl held e held.encodable
+
+-- The section of a dynamic library gains the folders of a list.
+pub adds_runtime_path : {old new entries : List (List ℕ)} {items : List DylinkItem} {paths : List (List ℕ)} → ContainsDylink old items → AreNames entries paths → new ≡ old ++ subsection_encoding 5 (list_encoding entries) ∷ [] → ContainsDylink new (items ++ RuntimePath paths ∷ [])
+adds_runtime_path {paths = paths} before held e = adds_dylink_list before (RuntimePath paths) 5 refl held e held.encodable
+
 -- The section gains a field of producers, whose name's length the call has checked.
 pub adds_field : {old new entries : List (List ℕ)} {items : List Field} {values : List Producer} → ContainsFields old items → (n : List ℕ) → AreProducers entries values → new ≡ old ++ (size_prefixed_encoding n ++ list_encoding entries) ∷ [] → HasEncodableSize n × Unit {0} → IsUtf8 n
     → ContainsFields new (items ++ (n, values) ∷ [])
 adds_field {old = old} {values = values} before n held e encodable utf8 =
     adds_item before (n, values) (e ∙ ap (λ s. old ++ (size_prefixed_encoding n ++ s) ∷ []) (list_vector held)) ((utf8, encodable.0), held.encodable)
+
+-- The section gains a feature, whose name's length the call has checked.
+pub adds_feature : {old new : List (List ℕ)} {items : List Feature} → ContainsFeatures old items → (f : Feature) → new ≡ old ++ (prefix_code f.0 ∷ [] ++ size_prefixed_encoding f.1) ∷ [] → Unit {0} × HasEncodableSize f.1 → IsUtf8 f.1 → ContainsFeatures new (items ++ f ∷ [])
+adds_feature before f e encodable utf8 = adds_item before f e (utf8, encodable.1)
 
 -- The section gains a module of a core dump, whose name's length the call has checked.
 pub adds_core_module : {old new : List (List ℕ)} {items : List (List ℕ)} → ContainsModules old items → (n : List ℕ) → new ≡ old ++ marked_encoding n ∷ [] → Unit {0} × HasEncodableSize n → IsUtf8 n → ContainsModules new (items ++ n ∷ [])
@@ -359,6 +432,16 @@ pub gains_producers : {decodings : List SectionDecoding} {id : ℕ} {old new : L
     → ContainsFields entries items → DecodesSections (decodings ++ decoding_of id producers_payload items ∷ []) new
 gains_producers before more encodable decodes contains = gains_custom producers_section.whole before _ more encodable decodes.plain contains
 
+pub gains_dylink : {decodings : List SectionDecoding} {id : ℕ} {old new : List ℕ} {entries : List (List ℕ)} {items : List DylinkItem} → DecodesSections decodings old
+    → DecodesOneMore (NamedPayload dylink_name (entries_encoding [] false entries)) id old new → IsEncodableNamed dylink_name (entries_encoding [] false entries) → DecodesBackBoth (size_prefixed dylink_payload) (ContainsDylink entries) (ContainsPadded dylink_item entries) (named_encoding dylink_name (entries_encoding [] false entries))
+    → ContainsDylink entries items → DecodesSections (decodings ++ decoding_of id dylink_payload items ∷ []) new
+gains_dylink before more encodable decodes contains = gains_custom dylink_section.whole before _ more encodable decodes.plain contains
+
+pub gains_features : {decodings : List SectionDecoding} {id : ℕ} {old new : List ℕ} {entries : List (List ℕ)} {items : List Feature} → DecodesSections decodings old
+    → DecodesOneMore (NamedPayload features_name (entries_encoding [] true entries)) id old new → IsEncodableNamed features_name (entries_encoding [] true entries) → DecodesBackBoth (size_prefixed features_payload) (ContainsFeatures entries) (ContainsPadded feature entries) (named_encoding features_name (entries_encoding [] true entries))
+    → ContainsFeatures entries items → DecodesSections (decodings ++ decoding_of id features_payload items ∷ []) new
+gains_features before more encodable decodes contains = gains_custom features_section.whole before _ more encodable decodes.plain contains
+
 pub gains_hints : {decodings : List SectionDecoding} {id : ℕ} {old new : List ℕ} {entries : List (List ℕ)} {items : List Hints} → DecodesSections decodings old
     → DecodesOneMore (NamedPayload hints_name (entries_encoding [] true entries)) id old new → IsEncodableNamed hints_name (entries_encoding [] true entries) → DecodesBackBoth (size_prefixed hints_payload) (ContainsHints entries) (ContainsPadded hints entries) (named_encoding hints_name (entries_encoding [] true entries))
     → ContainsHints entries items → DecodesSections (decodings ++ decoding_of id hints_payload items ∷ []) new
@@ -378,6 +461,21 @@ gains_instances before more encodable decodes contains = gains_custom instances_
 pub gains_process : {decodings : List SectionDecoding} {id : ℕ} {old new content : List ℕ} → DecodesSections decodings old → DecodesOneMore (NamedPayload core_name content) id old new → IsEncodableNamed core_name content
     → DecodesBack (size_prefixed core_payload) (SaysProcess content) (named_encoding core_name content) → (n : List ℕ) → content ≡ marked_encoding n → IsUtf8 n → DecodesSections (decodings ++ decoding_of id core_payload n ∷ []) new
 gains_process before more encodable decodes n e utf8 = gains_custom core_whole before _ more encodable decodes (utf8, e)
+
+-- The module gains the section of a source map.
+pub gains_source_map : {decodings : List SectionDecoding} {id : ℕ} {old new url : List ℕ} → DecodesSections decodings old → DecodesOneMore (NamedPayload source_map_name (size_prefixed_encoding url)) id old new → IsEncodableNamed source_map_name (size_prefixed_encoding url)
+    → DecodesBack (size_prefixed source_map_payload) (SaysText url) (named_encoding source_map_name (size_prefixed_encoding url)) → IsUtf8 url → DecodesSections (decodings ++ decoding_of id source_map_payload url ∷ []) new
+gains_source_map before more encodable decodes utf8 = gains_custom source_map_whole before _ more encodable decodes (utf8, refl)
+
+-- The module gains the section of a file of debug information.
+pub gains_debug_file : {decodings : List SectionDecoding} {id : ℕ} {old new path : List ℕ} → DecodesSections decodings old → DecodesOneMore (NamedPayload debug_file_name (size_prefixed_encoding path)) id old new → IsEncodableNamed debug_file_name (size_prefixed_encoding path)
+    → DecodesBack (size_prefixed debug_file_payload) (SaysText path) (named_encoding debug_file_name (size_prefixed_encoding path)) → IsUtf8 path → DecodesSections (decodings ++ decoding_of id debug_file_payload path ∷ []) new
+gains_debug_file before more encodable decodes utf8 = gains_custom debug_file_whole before _ more encodable decodes (utf8, refl)
+
+-- The module gains the section of a build's identity.
+pub gains_build_id : {decodings : List SectionDecoding} {id : ℕ} {old new given : List ℕ} → DecodesSections decodings old → DecodesOneMore (NamedPayload build_id_name (size_prefixed_encoding given)) id old new → IsEncodableNamed build_id_name (size_prefixed_encoding given)
+    → DecodesBack (size_prefixed build_id_payload) (λ said. said ≡ given) (named_encoding build_id_name (size_prefixed_encoding given)) → DecodesSections (decodings ++ decoding_of id build_id_payload given ∷ []) new
+gains_build_id before more encodable decodes = gains_custom build_id_whole before _ more encodable decodes refl
 
 -- The module gains the stack of a thread.
 pub gains_stack : {decodings : List SectionDecoding} {id : ℕ} {old new n : List ℕ} {stack : List ℕ × List (List ℕ)} {frames : List StackFrame} → DecodesSections decodings old
@@ -414,10 +512,10 @@ encodes_entries F Says SaysPadded {result = Err e} appends decodes says = tt
 -- ---- rules by which the laws of this crate are proved
 
 -- The laws of each section that calls add items to.
-pub ruleset sections = (names_section, linking_section, object_section, producers_section, hints_section, modules_section, instances_section)
+pub ruleset sections = (names_section, linking_section, object_section, producers_section, dylink_section, features_section, hints_section, modules_section, instances_section)
 
 -- The other unambiguous formats: sections without entries, and the entries of sections.
-pub ruleset parts = (core_unambiguous, stack_unambiguous, custom_unambiguous, subsection_unambiguous, link_unambiguous, symbol_unambiguous, full_link_unambiguous, full_symbol_unambiguous, segment_unambiguous, init_unambiguous, comdat_symbol_unambiguous, comdat_unambiguous, field_unambiguous, hints_unambiguous, marked_unambiguous, instance_unambiguous, stack_frame_unambiguous, value_unambiguous, stack_frame_laws)
+pub ruleset parts = (core_unambiguous, stack_unambiguous, source_map_unambiguous, debug_file_unambiguous, build_id_unambiguous, custom_unambiguous, subsection_unambiguous, link_unambiguous, symbol_unambiguous, full_link_unambiguous, full_symbol_unambiguous, segment_unambiguous, init_unambiguous, comdat_symbol_unambiguous, comdat_unambiguous, field_unambiguous, prefix_unambiguous, feature_unambiguous, dylink_unambiguous, needs_unambiguous, export_flags_unambiguous, import_flags_unambiguous, hints_unambiguous, marked_unambiguous, instance_unambiguous, stack_frame_unambiguous, value_unambiguous, stack_frame_laws)
 
 -- The payloads of the other sections.
-pub ruleset payloads = (payload-decodes, core_whole, stack_whole, custom-payload)
+pub ruleset payloads = (payload-decodes, core_whole, stack_whole, source_map_whole, debug_file_whole, build_id_whole, custom-payload)

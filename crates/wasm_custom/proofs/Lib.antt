@@ -12,9 +12,12 @@ pub mod InitLaws
 pub mod ComdatLaws
 pub mod LinkLaws
 pub mod ProducerLaws
+pub mod FeatureLaws
 pub mod HintLaws
 pub mod CoreDumpLaws
 pub mod CoreStackLaws
+pub mod SingleLaws
+pub mod DylinkLaws
 pub mod RejectionLaws
 pub mod Calls
 pub mod DecodeMarked

@@ -260,14 +260,14 @@ pub target_appended : (n old front new : List ℕ) → front ≡ old ++ 9 ∷ []
 target_appended n old front new e a = prefixed_appended (9 ∷ []) (size_prefixed name) n old front new e a
 
 -- The subsection of an id whose content is encoded alike in both formats.
-module _ {X : Type 0} (f : X → LinkItem) (apart : (x z : X) → f z ≡ f x → z ≡ x) (id : ℕ) (F G : Format X) (x : X) (within : IsIncludedIn (G padded) (F padded)) where
+module _ {X Y : Type 0} (f : X → Y) (apart : (x z : X) → f z ≡ f x → z ≡ x) (id : ℕ) (F G : Format X) (x : X) (within : IsIncludedIn (G padded) (F padded)) where
   in_content : (s : List ℕ) → prefixed (id ∷ []) (mapped f G) padded s (f x) → prefixed (id ∷ []) F padded s x
   in_content s h =
       let y : mapped f G padded h.2.back (f x) = subst (λ y. mapped f G padded h.2.back y) h.1 h.2.second in
       let inside : G padded h.2.back x = subst (λ z. G padded h.2.back z) (apart x y.0 y.1) y.2 in
       ((tt, x), refl, record { front = h.2.front; back = h.2.back; joined = h.2.joined; first = h.2.first; second = within h.2.back x inside })
 
-  content_appended : IsIncludedIn (F minimal) (G minimal) → {old new : List ℕ} → AppendsMinimal (prefixed (id ∷ []) F) x old new → AppendsMinimal (prefixed (id ∷ []) (mapped f G)) (f x) old new
+  pub content_appended : IsIncludedIn (F minimal) (G minimal) → {old new : List ℕ} → AppendsMinimal (prefixed (id ∷ []) F) x old new → AppendsMinimal (prefixed (id ∷ []) (mapped f G)) (f x) old new
   content_appended short a = record {
     encoding = a.encoding;
     appended = a.appended;
@@ -276,7 +276,7 @@ module _ {X : Type 0} (f : X → LinkItem) (apart : (x z : X) → f z ≡ f x �
         ((tt, f x), refl, record { front = k.2.front; back = k.2.back; joined = k.2.joined; first = k.2.first; second = (k.0.1, ap f k.1, short k.2.back k.0.1 k.2.second) });
   }
 
-  content_of : HasEncoding (prefixed (id ∷ []) (mapped f G)) (f x) → HasEncoding (prefixed (id ∷ []) F) x
+  pub content_of : HasEncoding (prefixed (id ∷ []) (mapped f G)) (f x) → HasEncoding (prefixed (id ∷ []) F) x
   content_of h = record { bytes = h.bytes; decoded = in_content h.bytes h.decoded }
 
 -- The bytes that a call appends for a subsection are its minimal encoding.

@@ -11,10 +11,13 @@ pub mod InitFunctions
 pub mod Comdats
 pub mod Linking
 pub mod Producers
+pub mod TargetFeatures
 pub mod Hints
 pub mod CoreDumps
 pub mod CoreValues
 pub mod CoreStacks
+pub mod DebugFiles
+pub mod Dylink
 unfoldable pub use Rattle.wasm_custom.specs.Customs.*
 unfoldable pub use Rattle.wasm_custom.specs.Entries.*
 unfoldable pub use Rattle.wasm_custom.specs.Lists.*
@@ -26,7 +29,10 @@ unfoldable pub use Rattle.wasm_custom.specs.InitFunctions.*
 unfoldable pub use Rattle.wasm_custom.specs.Comdats.*
 unfoldable pub use Rattle.wasm_custom.specs.Linking.*
 unfoldable pub use Rattle.wasm_custom.specs.Producers.*
+unfoldable pub use Rattle.wasm_custom.specs.TargetFeatures.*
 unfoldable pub use Rattle.wasm_custom.specs.Hints.*
 unfoldable pub use Rattle.wasm_custom.specs.CoreDumps.*
 unfoldable pub use Rattle.wasm_custom.specs.CoreValues.*
 unfoldable pub use Rattle.wasm_custom.specs.CoreStacks.*
+unfoldable pub use Rattle.wasm_custom.specs.DebugFiles.*
+unfoldable pub use Rattle.wasm_custom.specs.Dylink.*

@@ -5,6 +5,9 @@ pub use Rattle.wasm_custom.specs.CoreDumps.{modules_payload}
 pub use Rattle.wasm_custom.specs.CoreStacks.{StackFrame, stack_decoding, stack_frame_view, stack_name, stack_payload}
 pub use Rattle.wasm_custom.specs.Customs.{IsEncodableNamed, custom_decoding, subsection_encoding}
 unfoldable pub use Rattle.wasm_custom.specs.Customs.{named_encoding}
+pub use Rattle.wasm_custom.specs.DebugFiles.{build_id_decoding, build_id_name, build_id_payload, debug_file_decoding, debug_file_name, debug_file_payload, source_map_decoding, source_map_name}
+pub use Rattle.wasm_custom.specs.DebugFiles.{source_map_payload}
+pub use Rattle.wasm_custom.specs.Dylink.{DylinkExport, DylinkImport, DylinkItem, ExportFlags, ImportFlags, Memory, Needed, RuntimePath, dylink_decoding, dylink_name, dylink_payload, dylink_view}
 pub use Rattle.wasm_custom.specs.Hints.{Hints, hints_decoding, hints_name, hints_payload, hints_view}
 pub use Rattle.wasm_custom.specs.Linking.{Comdats, InitFunctions, LinkItem, Segments, Symbols, Target, link_view, linking_decoding, linking_name, linking_payload, object_decoding, object_payload}
 unfoldable pub use Rattle.wasm_custom.specs.Lists.{list_encoding}
@@ -12,3 +15,4 @@ pub use Rattle.wasm_custom.specs.Names.{Indirect, Map, Module, NameItem, Naming,
 pub use Rattle.wasm_custom.specs.Producers.{Field, field_view, producers_decoding, producers_name, producers_payload}
 pub use Rattle.wasm_custom.specs.Segments.{SegmentInfo, segment_view}
 pub use Rattle.wasm_custom.specs.Symbols.{Symbol, indexed, of_data, of_section}
+pub use Rattle.wasm_custom.specs.TargetFeatures.{Feature, feature_view, features_decoding, features_name, features_payload}

@@ -5,13 +5,17 @@
 //! encodes its item.
 ghost use Rattle.std.specs.Prelude.{◌++◌, ◌∷◌, []};
 ghost use Rattle.wasm_base.specs.Entries.{ItemLaws};
-ghost use Rattle.wasm_base.specs.Formats.{custom, size_prefixed, pair, name, any_bytes};
+ghost use Rattle.wasm_base.specs.Formats.{coded, custom, size_prefixed, pair, name, any_bytes};
 ghost use Rattle.wasm_base.specs.Laws.{ContainsMore, ContainsMorePadded, RejectsAllAfterPadded};
 ghost use Rattle.wasm_base.specs.Modules.{DecodesPayloads, DecodesPayloadsPadded};
 ghost use Rattle.wasm_base.specs.Decoding.{IsIncludedIn, Unambiguous, UnambiguousPadded};
 ghost use Rattle.wasm_custom.specs.CoreDumps.{marked_name, instance, module_items, instance_items, modules_payload, instances_payload, core_payload};
 ghost use Rattle.wasm_custom.specs.CoreStacks.{stack_frame, frame_items, stack_payload};
 ghost use Rattle.wasm_custom.specs.CoreValues.{value};
+ghost use Rattle.wasm_custom.specs.Dylink.{needs, export_flags, export_flags_encoding, IsDylinkExport, import_flags, import_flags_encoding, IsDylinkImport, dylink_item, dylink_items, dylink_payload};
+ghost use Rattle.wasm_base.specs.Encodings.{size_prefixed_encoding};
+ghost use Rattle.wasm_base.specs.Laws.{IsEncodableName};
+ghost use Rattle.wasm_custom.specs.DebugFiles.{source_map_payload, debug_file_payload, build_id_payload};
 ghost use Rattle.wasm_custom.specs.Hints.{hints, hints_name, hint_items, hints_payload};
 ghost use Rattle.wasm_base.specs.Numbers.{padded as padded_mode, standard, standard_minimal};
 ghost use Rattle.wasm_custom.specs.Linking.{link, linking_name, link_items, linking_payload, full_link, object_items, object_payload};
@@ -22,6 +26,7 @@ ghost use Rattle.wasm_custom.specs.Lists.{IsVectorOf, ListMore};
 ghost use Rattle.wasm_custom.specs.Names.{naming_encoding, IsNaming, inside_encoding, IsInside, subsection, name_items, name_payload};
 ghost use Rattle.wasm_custom.specs.Producers.{producer_encoding, IsProducer, field, field_items, producers_payload};
 ghost use Rattle.wasm_custom.specs.Symbols.{symbol_encoding, IsFullSymbol, IsGivenSymbol, symbol, full_symbol};
+ghost use Rattle.wasm_custom.specs.TargetFeatures.{prefix_code, feature, feature_items, features_payload};
 
 /// The formats of sections and of their items are unambiguous. A well-formed record encodes its
 /// item.
@@ -30,11 +35,16 @@ pub fn sections()
     ensures linking { Unambiguous (size_prefixed linking_payload) }
     ensures objects { Unambiguous (size_prefixed object_payload) }
     ensures producers { Unambiguous (size_prefixed producers_payload) }
+    ensures dylink { Unambiguous (size_prefixed dylink_payload) }
+    ensures target_features { Unambiguous (size_prefixed features_payload) }
     ensures hints { Unambiguous (size_prefixed hints_payload) }
     ensures modules { Unambiguous (size_prefixed modules_payload) }
     ensures instances { Unambiguous (size_prefixed instances_payload) }
     ensures core { Unambiguous (size_prefixed core_payload) }
     ensures stack { Unambiguous (size_prefixed stack_payload) }
+    ensures source_maps { Unambiguous (size_prefixed source_map_payload) }
+    ensures debug_files { Unambiguous (size_prefixed debug_file_payload) }
+    ensures build_ids { Unambiguous (size_prefixed build_id_payload) }
     ensures customs { Unambiguous custom }
     ensures subsections { Unambiguous subsection }
     ensures links { Unambiguous link }
@@ -46,6 +56,12 @@ pub fn sections()
     ensures comdat_symbols { Unambiguous comdat_symbol }
     ensures comdats { Unambiguous comdat }
     ensures fields { Unambiguous field }
+    ensures dylink_items { Unambiguous dylink_item }
+    ensures dylink_needs { Unambiguous needs }
+    ensures export_flags { Unambiguous export_flags }
+    ensures import_flags { Unambiguous import_flags }
+    ensures prefixes { Unambiguous (coded prefix_code) }
+    ensures features { Unambiguous feature }
     ensures functions_hints { Unambiguous hints }
     ensures marked_names { Unambiguous marked_name }
     ensures single_instances { Unambiguous instance }
@@ -56,6 +72,8 @@ pub fn sections()
     ensures linking_items { ItemLaws link_items }
     ensures object_laws { ItemLaws object_items }
     ensures producer_laws { ItemLaws field_items }
+    ensures dylink_laws { ItemLaws dylink_items }
+    ensures feature_laws { ItemLaws feature_items }
     ensures hint_laws { ItemLaws hint_items }
     ensures module_laws { ItemLaws module_items }
     ensures instance_laws { ItemLaws instance_items }
@@ -69,11 +87,16 @@ pub fn padded()
     ensures linking { UnambiguousPadded (size_prefixed linking_payload) }
     ensures objects { UnambiguousPadded (size_prefixed object_payload) }
     ensures producers { UnambiguousPadded (size_prefixed producers_payload) }
+    ensures dylink { UnambiguousPadded (size_prefixed dylink_payload) }
+    ensures target_features { UnambiguousPadded (size_prefixed features_payload) }
     ensures hints { UnambiguousPadded (size_prefixed hints_payload) }
     ensures modules { UnambiguousPadded (size_prefixed modules_payload) }
     ensures instances { UnambiguousPadded (size_prefixed instances_payload) }
     ensures core { UnambiguousPadded (size_prefixed core_payload) }
     ensures stack { UnambiguousPadded (size_prefixed stack_payload) }
+    ensures source_maps { UnambiguousPadded (size_prefixed source_map_payload) }
+    ensures debug_files { UnambiguousPadded (size_prefixed debug_file_payload) }
+    ensures build_ids { UnambiguousPadded (size_prefixed build_id_payload) }
     ensures customs { UnambiguousPadded custom }
 {}
 
@@ -84,6 +107,8 @@ pub fn calls()
     ensures linking { ContainsMore link_items }
     ensures objects { ContainsMore object_items }
     ensures producers { ContainsMore field_items }
+    ensures dylink { ContainsMore dylink_items }
+    ensures features { ContainsMore feature_items }
     ensures hints { ContainsMore hint_items }
     ensures modules { ContainsMore module_items }
     ensures instances { ContainsMore instance_items }
@@ -96,6 +121,9 @@ pub fn calls()
     ensures init_functions { ListMore init_encoding IsInit }
     ensures comdat_symbols { ListMore comdat_symbol_encoding IsComdatSymbol }
     ensures comdats { ListMore comdat_encoding IsComdat }
+    ensures dylink_names { ListMore size_prefixed_encoding IsEncodableName }
+    ensures dylink_exports { ListMore export_flags_encoding IsDylinkExport }
+    ensures dylink_imports { ListMore import_flags_encoding IsDylinkImport }
     ensures producer_fields { ListMore producer_encoding IsProducer }
     ensures name_maps_encoding { IsVectorOf naming_encoding IsNaming }
     ensures indirect_maps_encoding { IsVectorOf inside_encoding IsInside }
@@ -105,6 +133,9 @@ pub fn calls()
     ensures init_functions_encoding { IsVectorOf init_encoding IsInit }
     ensures comdat_symbols_encoding { IsVectorOf comdat_symbol_encoding IsComdatSymbol }
     ensures comdats_encoding { IsVectorOf comdat_encoding IsComdat }
+    ensures dylink_names_encoding { IsVectorOf size_prefixed_encoding IsEncodableName }
+    ensures dylink_exports_encoding { IsVectorOf export_flags_encoding IsDylinkExport }
+    ensures dylink_imports_encoding { IsVectorOf import_flags_encoding IsDylinkImport }
     ensures producer_fields_encoding { IsVectorOf producer_encoding IsProducer }
 {}
 
@@ -116,6 +147,8 @@ pub fn padded_calls()
     ensures linking { ContainsMorePadded link_items }
     ensures objects { ContainsMorePadded object_items }
     ensures producers { ContainsMorePadded field_items }
+    ensures dylink { ContainsMorePadded dylink_items }
+    ensures features { ContainsMorePadded feature_items }
     ensures hints { ContainsMorePadded hint_items }
     ensures modules { ContainsMorePadded module_items }
     ensures instances { ContainsMorePadded instance_items }
@@ -129,11 +162,16 @@ pub fn payloads()
     ensures linking { DecodesPayloads linking_payload }
     ensures objects { DecodesPayloads object_payload }
     ensures producers { DecodesPayloads producers_payload }
+    ensures dylink { DecodesPayloads dylink_payload }
+    ensures features { DecodesPayloads features_payload }
     ensures hints { DecodesPayloads hints_payload }
     ensures modules { DecodesPayloads modules_payload }
     ensures instances { DecodesPayloads instances_payload }
     ensures core { DecodesPayloads core_payload }
     ensures stack { DecodesPayloads stack_payload }
+    ensures source_maps { DecodesPayloads source_map_payload }
+    ensures debug_files { DecodesPayloads debug_file_payload }
+    ensures build_ids { DecodesPayloads build_id_payload }
     ensures customs { DecodesPayloads (pair name any_bytes) }
 {}
 
@@ -144,11 +182,16 @@ pub fn padded_payloads()
     ensures linking { DecodesPayloadsPadded linking_payload }
     ensures objects { DecodesPayloadsPadded object_payload }
     ensures producers { DecodesPayloadsPadded producers_payload }
+    ensures dylink { DecodesPayloadsPadded dylink_payload }
+    ensures features { DecodesPayloadsPadded features_payload }
     ensures hints { DecodesPayloadsPadded hints_payload }
     ensures modules { DecodesPayloadsPadded modules_payload }
     ensures instances { DecodesPayloadsPadded instances_payload }
     ensures core { DecodesPayloadsPadded core_payload }
     ensures stack { DecodesPayloadsPadded stack_payload }
+    ensures source_maps { DecodesPayloadsPadded source_map_payload }
+    ensures debug_files { DecodesPayloadsPadded debug_file_payload }
+    ensures build_ids { DecodesPayloadsPadded build_id_payload }
     ensures customs { DecodesPayloadsPadded (pair name any_bytes) }
 {}
 

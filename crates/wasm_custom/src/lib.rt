@@ -1,5 +1,5 @@
-//! The custom sections of a WebAssembly module: names, linking, producers, branch hints and core
-//! dumps.
+//! The custom sections of a WebAssembly module: names, linking, producers, target features, dynamic
+//! linking, branch hints, core dumps, and references to debug information.
 //!
 //! The crate builds these sections, decodes them, and writes decoded ones in their minimal
 //! encoding. A call that decodes receives the payload of a section: its name and its items, up to
@@ -7,8 +7,8 @@
 //! error but [`ReadFault::Memory`] means that the bytes encode no such items.
 //!
 //! The name section is that of the WebAssembly core specification, "Custom Sections", with further
-//! subsections. Linking, producers and core dumps are those of the tool conventions, and branch
-//! hints those of their proposal.
+//! subsections. Branch hints are those of their proposal, and all others those of the tool
+//! conventions.
 //!
 //! [`ReadFault::Memory`]: wasm_base::ReadFault::Memory
 #![tactic(auto)]
@@ -19,6 +19,9 @@ mod core_stack;
 mod core_values;
 mod counted;
 mod custom_section;
+mod debug_files;
+mod dylink;
+mod dylink_symbols;
 mod entries;
 mod hints;
 mod init_functions;
@@ -33,9 +36,11 @@ mod object_symbols;
 mod producers;
 mod raw_custom;
 mod segments;
+mod single;
 mod standard;
 mod subsections;
 mod symbols;
+mod target_features;
 
 pub use comdats::{
     Comdat, ComdatMembers, ComdatSymbol, ComdatSymbolMembers, ComdatSymbols, Comdats,
@@ -47,6 +52,15 @@ pub use core_dumps::{
 pub use core_stack::{CoreDumpStackSection, CoreFrame, append_stack, read_stack};
 pub use core_values::CoreDumpValue;
 pub use custom_section::CustomSection;
+pub use debug_files::{
+    BuildId, ExternalDebugInfo, SourceMappingUrl, append_build_id, append_debug_file,
+    append_source_map, read_build_id, read_debug_file, read_source_map,
+};
+pub use dylink::{DylinkItem, DylinkItems, DylinkSection, append_dylink, read_dylink};
+pub use dylink_symbols::{
+    DylinkExport, DylinkExports, DylinkImport, DylinkImports, DylinkMemory, DylinkNeeded,
+    DylinkPath, ExportFlagMembers, ImportFlagMembers, NeededMembers, PathMembers,
+};
 pub use entries::{CustomEntries, CustomKind};
 pub use hints::{BranchHint, BranchHints, HintItems, append_hints, read_hints};
 pub use init_functions::{InitFunction, InitFunctions, InitMembers};
@@ -64,3 +78,6 @@ pub use producers::{
 pub use raw_custom::RawCustomSection;
 pub use segments::{SegmentInfo, SegmentInfos, SegmentMembers};
 pub use symbols::{DataSymbolDefinition, Symbol, SymbolKind, SymbolMembers, SymbolTable};
+pub use target_features::{
+    FeatureItems, FeaturePrefix, TargetFeaturesSection, append_features, read_features,
+};

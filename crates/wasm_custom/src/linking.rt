@@ -118,7 +118,7 @@ pub enum LinkItem<'a, A: Allocator = Global> {
 }
 
 /// Decodes a size-prefixed vector, which is the content of most subsections.
-fn read_vector<'a, T: Readable<'a, A, G>, A: Allocator + Copy, G: Grammar>(
+pub(crate) fn read_vector<'a, T: Readable<'a, A, G>, A: Allocator + Copy, G: Grammar>(
     bytes: &'a [u8],
     alloc: A,
 ) -> Result<(Vec<T, A>, &'a [u8]), DecodeError>
@@ -219,7 +219,7 @@ pub fn read_links<'a, A: Allocator + Copy + 'a, G: Grammar>(
 
 /// Appends the subsection of this id, whose content is the vector of the items.
 #[tactic(auto, using(crate::proofs::LinkLaws::vector_appended, crate::proofs::LinkLaws::vector_encoded, crate::proofs::LinkLaws::vector_encodable))]
-fn append_vector<T: Shorten, A: Allocator, B: Allocator>(
+pub(crate) fn append_vector<T: Shorten, A: Allocator, B: Allocator>(
     id: u8,
     items: &Vec<T, A>,
     sink: &mut Vec<u8, B>,

@@ -6,6 +6,8 @@ use Rattle.wasm_base.proofs.Words.{vec_unambiguous, whole_from_unique, mapped_wh
 use Rattle.wasm_base.proofs.Words.{mapped_appended, records_appended, RejectsWhole, bytes_eq, ne_eqb}
 use Rattle.wasm_base.proofs.Words.{All, All-nil, All-cons, HasEncoding, members, coded, mapped_encoded, members_encoded, counted_encodable, left_encoded, name_encodable}
 use Rattle.wasm_base.proofs.DecodedValues.{viewed_encodable}
+use Rattle.std.proofs.Common.{None, zero, suc, ◌≤◌, arith}
+use Rattle.std.proofs.lemmas.Option.{slice_get_past}
 use Rattle.wasm_base.specs.Faults.{Failure}
 use Rattle.wasm_base.specs.declared.refused.Refused.{Refused}
 use Rattle.wasm_base.specs.declared.refused.Refused.TheVariants.{TooLong}
@@ -21,9 +23,11 @@ use Rattle.wasm_sections.specs.declared.tag.TagType.{TagType}
 use Rattle.wasm_types.proofs.Words.{type_item, types_section}
 use Rattle.wasm_custom.proofs.Words.{core_name, modules_name, instances_name, core_payload, modules_payload, instances_payload, stack_name, stack_payload, hints_name, hints_payload, linking_name}
 use Rattle.wasm_custom.proofs.Words.{linking_payload, name_name, name_payload, producers_name, producers_payload, core_whole, modules_section, instances_section, stack_whole, hints_section}
-use Rattle.wasm_custom.proofs.Words.{linking_section, names_section, producers_section, named_payload}
+use Rattle.wasm_custom.proofs.Words.{linking_section, names_section, producers_section, named_payload, features_name, features_payload, features_section}
+use Rattle.wasm_custom.proofs.Words.{source_map_name, debug_file_name, build_id_name, source_map_payload, debug_file_payload, build_id_payload, source_map_whole, debug_file_whole, build_id_whole}
+use Rattle.wasm_custom.proofs.Words.{dylink_name, dylink_payload, dylink_section}
 use Rattle.wasm_reader.specs.{Contents, Bodies, Segments, DataCount, Elements, Exports, Functions, Globals, Imports, Memories, Start, Tables, Tags, Types, Names, Linking, Producers, Hints, Core}
-use Rattle.wasm_reader.specs.{CoreModules, CoreInstances, CoreStack, Custom, Raw, content, kind_in, number_in, kind_among, known_kinds, kind_of_id, kind_among_names, known_names, kind_named}
+use Rattle.wasm_reader.specs.{CoreModules, CoreInstances, CoreStack, Custom, Raw, TargetFeatures, SourceMappingUrl, ExternalDebugInfo, BuildId, Dylink, content, kind_in, number_in, kind_among, known_kinds, kind_of_id, kind_among_names, known_names, kind_named, kinds_in_order, kind_numbered}
 use Rattle.wasm_reader.specs.declared.kinds.SectionKind.{SectionKind}
 use Rattle.wasm_reader.specs.declared.kinds.SectionKind.TheVariants as kinds
 
@@ -48,6 +52,11 @@ AppendsItems (CoreModules x) old new = AppendsMinimal modules_payload x old new
 AppendsItems (CoreInstances x) old new = AppendsMinimal instances_payload x old new
 AppendsItems (CoreStack x) old new = AppendsMinimal stack_payload x old new
 AppendsItems (Types x) old new = AppendsMinimal (vec type_item) x old new
+AppendsItems (TargetFeatures x) old new = AppendsMinimal features_payload x old new
+AppendsItems (SourceMappingUrl x) old new = AppendsMinimal source_map_payload x old new
+AppendsItems (ExternalDebugInfo x) old new = AppendsMinimal debug_file_payload x old new
+AppendsItems (BuildId x) old new = AppendsMinimal build_id_payload x old new
+AppendsItems (Dylink x) old new = AppendsMinimal dylink_payload x old new
 AppendsItems x old new = ⊥
 
 pub items_appended : (x : Contents) (old new : List ℕ) → AppendsItems x old new → AppendsMinimal (content (kind_in x)) x old new
@@ -74,6 +83,11 @@ items_appended (CoreStack x) old new a = mapped_appended CoreStack _ x old new (
 items_appended (Custom x) old new a = absurd a
 items_appended (Raw x) old new a = absurd a
 items_appended (Types x) old new a = mapped_appended Types _ x old new (λ z e. cc e) a
+items_appended (TargetFeatures x) old new a = mapped_appended TargetFeatures _ x old new (λ z e. cc e) a
+items_appended (SourceMappingUrl x) old new a = mapped_appended SourceMappingUrl _ x old new (λ z e. cc e) a
+items_appended (ExternalDebugInfo x) old new a = mapped_appended ExternalDebugInfo _ x old new (λ z e. cc e) a
+items_appended (BuildId x) old new a = mapped_appended BuildId _ x old new (λ z e. cc e) a
+items_appended (Dylink x) old new a = mapped_appended Dylink _ x old new (λ z e. cc e) a
 
 pub exports_appended : (es : List Export) (old new : List ℕ) → IsEncodableVec IsEncodableExport es → new ≡ old ++ vec_encoding export_encoding es → AppendsMinimal (content kinds.Exports) (Exports (map item_of es)) old new
 exports_appended es old new encodable e = mapped_appended Exports (vec export) (map item_of es) old new (λ z k. cc k) (records_appended export item_of export_encoding IsEncodableExport es old new export_short encodable e)
@@ -121,6 +135,11 @@ FitsItems (CoreModules x) r = HasEncoding modules_payload x → r ≢ Err TooLon
 FitsItems (CoreInstances x) r = HasEncoding instances_payload x → r ≢ Err TooLong
 FitsItems (CoreStack x) r = HasEncoding stack_payload x → r ≢ Err TooLong
 FitsItems (Types x) r = HasEncoding (vec type_item) x → r ≢ Err TooLong
+FitsItems (TargetFeatures x) r = HasEncoding features_payload x → r ≢ Err TooLong
+FitsItems (SourceMappingUrl x) r = HasEncoding source_map_payload x → r ≢ Err TooLong
+FitsItems (ExternalDebugInfo x) r = HasEncoding debug_file_payload x → r ≢ Err TooLong
+FitsItems (BuildId x) r = HasEncoding build_id_payload x → r ≢ Err TooLong
+FitsItems (Dylink x) r = HasEncoding dylink_payload x → r ≢ Err TooLong
 FitsItems x r = ⊥
 
 pub items_fit : (x : Contents) (r : Result (Unit {0}) Refused) → FitsItems x r → HasEncoding (content (kind_in x)) x → r ≢ Err TooLong
@@ -147,6 +166,11 @@ items_fit (CoreStack x) r fits h = fits (mapped_encoded CoreStack _ x (λ z e. c
 items_fit (Custom x) r fits h = absurd fits
 items_fit (Raw x) r fits h = absurd fits
 items_fit (Types x) r fits h = fits (mapped_encoded Types _ x (λ z e. cc e) h)
+items_fit (TargetFeatures x) r fits h = fits (mapped_encoded TargetFeatures _ x (λ z e. cc e) h)
+items_fit (SourceMappingUrl x) r fits h = fits (mapped_encoded SourceMappingUrl _ x (λ z e. cc e) h)
+items_fit (ExternalDebugInfo x) r fits h = fits (mapped_encoded ExternalDebugInfo _ x (λ z e. cc e) h)
+items_fit (BuildId x) r fits h = fits (mapped_encoded BuildId _ x (λ z e. cc e) h)
+items_fit (Dylink x) r fits h = fits (mapped_encoded Dylink _ x (λ z e. cc e) h)
 
 -- Each member of a list that has an encoding has a property that each decoded member has.
 each_encodable : {T X : Type 0} (F : Format X) (view : T → X) (P : T → Type 0) → ((x : T) (s : List ℕ) → F padded s (view x) → P x) → (xs : List T) (s : List ℕ) → members F padded s (map view xs) → All P xs
@@ -205,6 +229,11 @@ content_whole kinds.CoreStack = mapped_whole CoreStack (λ x y e. cc) stack_whol
 content_whole kinds.Custom = mapped_whole Custom (λ x y e. cc) (pair_whole name_unambiguous any_bytes_whole)
 content_whole kinds.Raw = mapped_whole Raw (λ x y e. cc) any_bytes_whole
 content_whole kinds.Types = mapped_whole Types (λ x y e. cc) types_section.whole
+content_whole kinds.TargetFeatures = mapped_whole TargetFeatures (λ x y e. cc) features_section.whole
+content_whole kinds.SourceMappingUrl = mapped_whole SourceMappingUrl (λ x y e. cc) source_map_whole
+content_whole kinds.ExternalDebugInfo = mapped_whole ExternalDebugInfo (λ x y e. cc) debug_file_whole
+content_whole kinds.BuildId = mapped_whole BuildId (λ x y e. cc) build_id_whole
+content_whole kinds.Dylink = mapped_whole Dylink (λ x y e. cc) dylink_section.whole
 
 -- The content that a kind decodes to is of that kind.
 pub kind_is : (kind : SectionKind) (s : List ℕ) (x : Contents) → content kind padded s x → kind_in x ≡ kind
@@ -231,6 +260,11 @@ kind_is kinds.CoreStack s x h = sym (ap kind_in h.1)
 kind_is kinds.Custom s x h = sym (ap kind_in h.1)
 kind_is kinds.Raw s x h = sym (ap kind_in h.1)
 kind_is kinds.Types s x h = sym (ap kind_in h.1)
+kind_is kinds.TargetFeatures s x h = sym (ap kind_in h.1)
+kind_is kinds.SourceMappingUrl s x h = sym (ap kind_in h.1)
+kind_is kinds.ExternalDebugInfo s x h = sym (ap kind_in h.1)
+kind_is kinds.BuildId s x h = sym (ap kind_in h.1)
+kind_is kinds.Dylink s x h = sym (ap kind_in h.1)
 
 -- ---- the decoding of each kind
 
@@ -307,6 +341,21 @@ core_stack_read = decodes_as CoreStack refl
 pub types_read : DecodesAs Types (vec type_item) kinds.Types
 types_read = decodes_as Types refl
 
+pub target_features_read : DecodesAs TargetFeatures features_payload kinds.TargetFeatures
+target_features_read = decodes_as TargetFeatures refl
+
+pub source_map_read : DecodesAs SourceMappingUrl source_map_payload kinds.SourceMappingUrl
+source_map_read = decodes_as SourceMappingUrl refl
+
+pub debug_file_read : DecodesAs ExternalDebugInfo debug_file_payload kinds.ExternalDebugInfo
+debug_file_read = decodes_as ExternalDebugInfo refl
+
+pub build_id_read : DecodesAs BuildId build_id_payload kinds.BuildId
+build_id_read = decodes_as BuildId refl
+
+pub dylink_read : DecodesAs Dylink dylink_payload kinds.Dylink
+dylink_read = decodes_as Dylink refl
+
 pub custom_read : (m : Mode) (kind : SectionKind) (bytes : List ℕ) → kind ≡ kinds.Custom → (Rejects name m bytes → RejectsWhole (content kind) m bytes) × ((encoding rest : List ℕ) → Decodes name m bytes encoding rest → content kind m bytes (Custom (encoding, rest)))
 custom_read m kind bytes e =
     let all = decodes_as Custom {F = pair name any_bytes} refl m kind bytes e in (
@@ -317,7 +366,21 @@ custom_read m kind bytes e =
 pub raw_read : (m : Mode) (bytes : List ℕ) → content kinds.Raw m bytes (Raw bytes)
 raw_read m bytes = (bytes, refl, refl)
 
-pub ruleset content_steps = (bodies_read, segments_read, data_count_read, elements_read, exports_read, functions_read, globals_read, imports_read, memories_read, start_read, tables_read, tags_read, names_read, linking_read, producers_read, hints_read, core_read, core_modules_read, core_instances_read, core_stack_read, types_read, custom_read, raw_read)
+pub ruleset content_steps = (bodies_read, segments_read, data_count_read, elements_read, exports_read, functions_read, globals_read, imports_read, memories_read, start_read, tables_read, tags_read, names_read, linking_read, producers_read, hints_read, core_read, core_modules_read, core_instances_read, core_stack_read, types_read, target_features_read, source_map_read, debug_file_read, build_id_read, dylink_read, custom_read, raw_read)
+
+-- ---- numbers of kinds
+
+-- The number is none of those below `k`.
+abbrev IsNoneBelow : ℕ → ℕ → Type 0
+IsNoneBelow zero n = Unit {0}
+IsNoneBelow (suc k) n = (n ≢ k) × IsNoneBelow k n
+
+none_below : (k n : ℕ) → IsNoneBelow k n → k ≤ n
+none_below zero n h = omega arith
+none_below (suc k) n h = omega (arith, h.0, none_below k n h.1)
+
+pub no_kind : (n : ℕ) → n ≢ 0 → n ≢ 1 → n ≢ 2 → n ≢ 3 → n ≢ 4 → n ≢ 5 → n ≢ 6 → n ≢ 7 → n ≢ 8 → n ≢ 9 → n ≢ 10 → n ≢ 11 → n ≢ 12 → n ≢ 13 → n ≢ 14 → n ≢ 15 → n ≢ 16 → n ≢ 17 → n ≢ 18 → n ≢ 19 → n ≢ 20 → n ≢ 21 → n ≢ 22 → n ≢ 23 → n ≢ 24 → n ≢ 25 → n ≢ 26 → n ≢ 27 → None ≡ kind_numbered n
+no_kind n p0 p1 p2 p3 p4 p5 p6 p7 p8 p9 p10 p11 p12 p13 p14 p15 p16 p17 p18 p19 p20 p21 p22 p23 p24 p25 p26 p27 = sym (slice_get_past kinds_in_order n (none_below 28 n (p27, (p26, (p25, (p24, (p23, (p22, (p21, (p20, (p19, (p18, (p17, (p16, (p15, (p14, (p13, (p12, (p11, (p10, (p9, (p8, (p7, (p6, (p5, (p4, (p3, (p2, (p1, (p0, tt))))))))))))))))))))))))))))))
 
 -- ---- kinds of ids and names
 
@@ -364,6 +427,9 @@ linking_kept = named_kept Linking linking_name kinds.Linking refl
 producers_kept : (n : List ℕ) → KeepsName n kinds.Producers
 producers_kept = named_kept Producers producers_name kinds.Producers refl
 
+target_features_kept : (n : List ℕ) → KeepsName n kinds.TargetFeatures
+target_features_kept = named_kept TargetFeatures features_name kinds.TargetFeatures refl
+
 hints_kept : (n : List ℕ) → KeepsName n kinds.Hints
 hints_kept = named_kept Hints hints_name kinds.Hints refl
 
@@ -378,6 +444,18 @@ core_instances_kept = named_kept CoreInstances instances_name kinds.CoreInstance
 
 core_stack_kept : (n : List ℕ) → KeepsName n kinds.CoreStack
 core_stack_kept = named_kept CoreStack stack_name kinds.CoreStack refl
+
+source_map_kept : (n : List ℕ) → KeepsName n kinds.SourceMappingUrl
+source_map_kept = named_kept SourceMappingUrl source_map_name kinds.SourceMappingUrl refl
+
+debug_file_kept : (n : List ℕ) → KeepsName n kinds.ExternalDebugInfo
+debug_file_kept = named_kept ExternalDebugInfo debug_file_name kinds.ExternalDebugInfo refl
+
+build_id_kept : (n : List ℕ) → KeepsName n kinds.BuildId
+build_id_kept = named_kept BuildId build_id_name kinds.BuildId refl
+
+dylink_kept : (n : List ℕ) → KeepsName n kinds.Dylink
+dylink_kept = named_kept Dylink dylink_name kinds.Dylink refl
 
 custom_kept : (n : List ℕ) → KeepsName n kinds.Custom
 custom_kept n s t rest x h g r =
@@ -397,7 +475,7 @@ kept_among [] h n = custom_kept n
 kept_among (k ∷ ks) h n = for_if (KeepsName n) (bytes_eq n k.0) (h.0 n) (kept_among ks h.1 n)
 
 pub keeps_name : (n : List ℕ) → KeepsName n (kind_named n)
-keeps_name = kept_among known_names (names_kept, (linking_kept, (producers_kept, (hints_kept, (core_kept, (core_modules_kept, (core_instances_kept, (core_stack_kept, tt))))))))
+keeps_name = kept_among known_names (names_kept, (linking_kept, (producers_kept, (target_features_kept, (hints_kept, (core_kept, (core_modules_kept, (core_instances_kept, (core_stack_kept, (source_map_kept, (debug_file_kept, (build_id_kept, (dylink_kept, tt)))))))))))))
 
 -- ---- numbers of items
 
@@ -444,3 +522,34 @@ pub types_counted : CountsAs Types type_item kinds.Types
 types_counted = count_as Types types_read (λ xs. refl)
 
 pub ruleset number_steps = (bodies_counted, segments_counted, elements_counted, exports_counted, functions_counted, globals_counted, imports_counted, memories_counted, tables_counted, tags_counted, types_counted)
+
+-- Sections of the other kinds have no number of items.
+pub uncounted : (kind : SectionKind) (m : Mode) (s : List ℕ) (x : Contents) → content kind m s x → kind ≢ kinds.Bodies → kind ≢ kinds.Segments → kind ≢ kinds.Elements → kind ≢ kinds.Exports → kind ≢ kinds.Functions → kind ≢ kinds.Globals → kind ≢ kinds.Imports → kind ≢ kinds.Memories → kind ≢ kinds.Tables → kind ≢ kinds.Tags → kind ≢ kinds.Types → kind ≢ kinds.DataCount → kind ≢ kinds.Start → None ≡ number_in x
+uncounted kinds.Bodies m s x h n0 n1 n2 n3 n4 n5 n6 n7 n8 n9 n10 n11 n12 = absurd (n0 refl)
+uncounted kinds.Segments m s x h n0 n1 n2 n3 n4 n5 n6 n7 n8 n9 n10 n11 n12 = absurd (n1 refl)
+uncounted kinds.DataCount m s x h n0 n1 n2 n3 n4 n5 n6 n7 n8 n9 n10 n11 n12 = absurd (n11 refl)
+uncounted kinds.Elements m s x h n0 n1 n2 n3 n4 n5 n6 n7 n8 n9 n10 n11 n12 = absurd (n2 refl)
+uncounted kinds.Exports m s x h n0 n1 n2 n3 n4 n5 n6 n7 n8 n9 n10 n11 n12 = absurd (n3 refl)
+uncounted kinds.Functions m s x h n0 n1 n2 n3 n4 n5 n6 n7 n8 n9 n10 n11 n12 = absurd (n4 refl)
+uncounted kinds.Globals m s x h n0 n1 n2 n3 n4 n5 n6 n7 n8 n9 n10 n11 n12 = absurd (n5 refl)
+uncounted kinds.Imports m s x h n0 n1 n2 n3 n4 n5 n6 n7 n8 n9 n10 n11 n12 = absurd (n6 refl)
+uncounted kinds.Memories m s x h n0 n1 n2 n3 n4 n5 n6 n7 n8 n9 n10 n11 n12 = absurd (n7 refl)
+uncounted kinds.Start m s x h n0 n1 n2 n3 n4 n5 n6 n7 n8 n9 n10 n11 n12 = absurd (n12 refl)
+uncounted kinds.Tables m s x h n0 n1 n2 n3 n4 n5 n6 n7 n8 n9 n10 n11 n12 = absurd (n8 refl)
+uncounted kinds.Tags m s x h n0 n1 n2 n3 n4 n5 n6 n7 n8 n9 n10 n11 n12 = absurd (n9 refl)
+uncounted kinds.Names m s x h n0 n1 n2 n3 n4 n5 n6 n7 n8 n9 n10 n11 n12 = ap number_in h.1
+uncounted kinds.Linking m s x h n0 n1 n2 n3 n4 n5 n6 n7 n8 n9 n10 n11 n12 = ap number_in h.1
+uncounted kinds.Producers m s x h n0 n1 n2 n3 n4 n5 n6 n7 n8 n9 n10 n11 n12 = ap number_in h.1
+uncounted kinds.Hints m s x h n0 n1 n2 n3 n4 n5 n6 n7 n8 n9 n10 n11 n12 = ap number_in h.1
+uncounted kinds.Core m s x h n0 n1 n2 n3 n4 n5 n6 n7 n8 n9 n10 n11 n12 = ap number_in h.1
+uncounted kinds.CoreModules m s x h n0 n1 n2 n3 n4 n5 n6 n7 n8 n9 n10 n11 n12 = ap number_in h.1
+uncounted kinds.CoreInstances m s x h n0 n1 n2 n3 n4 n5 n6 n7 n8 n9 n10 n11 n12 = ap number_in h.1
+uncounted kinds.CoreStack m s x h n0 n1 n2 n3 n4 n5 n6 n7 n8 n9 n10 n11 n12 = ap number_in h.1
+uncounted kinds.Custom m s x h n0 n1 n2 n3 n4 n5 n6 n7 n8 n9 n10 n11 n12 = ap number_in h.1
+uncounted kinds.Raw m s x h n0 n1 n2 n3 n4 n5 n6 n7 n8 n9 n10 n11 n12 = ap number_in h.1
+uncounted kinds.Types m s x h n0 n1 n2 n3 n4 n5 n6 n7 n8 n9 n10 n11 n12 = absurd (n10 refl)
+uncounted kinds.TargetFeatures m s x h n0 n1 n2 n3 n4 n5 n6 n7 n8 n9 n10 n11 n12 = ap number_in h.1
+uncounted kinds.SourceMappingUrl m s x h n0 n1 n2 n3 n4 n5 n6 n7 n8 n9 n10 n11 n12 = ap number_in h.1
+uncounted kinds.ExternalDebugInfo m s x h n0 n1 n2 n3 n4 n5 n6 n7 n8 n9 n10 n11 n12 = ap number_in h.1
+uncounted kinds.BuildId m s x h n0 n1 n2 n3 n4 n5 n6 n7 n8 n9 n10 n11 n12 = ap number_in h.1
+uncounted kinds.Dylink m s x h n0 n1 n2 n3 n4 n5 n6 n7 n8 n9 n10 n11 n12 = ap number_in h.1

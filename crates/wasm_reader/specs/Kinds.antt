@@ -12,7 +12,9 @@ use Rattle.wasm_sections.specs.declared.tag.TagType.{TagType}
 use Rattle.wasm_types.specs.Words.{TypeItem, type_item, entry_view}
 use Rattle.wasm_custom.specs.Words.{Instance, core_name, modules_name, instances_name, instance_view, core_payload, modules_payload, instances_payload, StackFrame, stack_name, stack_frame_view}
 use Rattle.wasm_custom.specs.Words.{stack_payload, Hints as FunctionHints, hints_name, hints_view, hints_payload, LinkItem, linking_name, link_view, linking_payload, NameItem, name_name}
-use Rattle.wasm_custom.specs.Words.{name_item_view, name_payload, Field, producers_name, field_view, producers_payload}
+use Rattle.wasm_custom.specs.Words.{name_item_view, name_payload, Field, producers_name, field_view, producers_payload, Feature, features_name, feature_view, features_payload}
+use Rattle.wasm_custom.specs.Words.{source_map_name, debug_file_name, build_id_name, source_map_payload, debug_file_payload, build_id_payload, DylinkItem, dylink_name, dylink_view}
+use Rattle.wasm_custom.specs.Words.{dylink_payload}
 use Rattle.wasm_reader.specs.declared.kinds.Items.{Items}
 use Rattle.wasm_reader.specs.declared.kinds.SectionKind.{SectionKind}
 use Rattle.wasm_base.specs.declared.section_id.SectionId.TheVariants as ids
@@ -44,6 +46,11 @@ pub data Contents : Type 0 where
   Custom : List ℕ × List ℕ → Contents
   Raw : List ℕ → Contents
   Types : List TypeItem → Contents
+  TargetFeatures : List Feature → Contents
+  SourceMappingUrl : List ℕ → Contents
+  ExternalDebugInfo : List ℕ → Contents
+  BuildId : List ℕ → Contents
+  Dylink : List DylinkItem → Contents
 
 -- The format of the payload of a section of this kind.
 abbrev pub content : SectionKind → Format Contents
@@ -70,6 +77,11 @@ content kinds.CoreStack = mapped CoreStack stack_payload
 content kinds.Custom = mapped Custom (pair name any_bytes)
 content kinds.Raw = mapped Raw any_bytes
 content kinds.Types = mapped Types (vec type_item)
+content kinds.TargetFeatures = mapped TargetFeatures features_payload
+content kinds.SourceMappingUrl = mapped SourceMappingUrl source_map_payload
+content kinds.ExternalDebugInfo = mapped ExternalDebugInfo debug_file_payload
+content kinds.BuildId = mapped BuildId build_id_payload
+content kinds.Dylink = mapped Dylink dylink_payload
 
 -- The kind of section that has this content.
 abbrev pub kind_in : Contents → SectionKind
@@ -96,6 +108,11 @@ kind_in (CoreStack x) = kinds.CoreStack
 kind_in (Custom x) = kinds.Custom
 kind_in (Raw x) = kinds.Raw
 kind_in (Types xs) = kinds.Types
+kind_in (TargetFeatures x) = kinds.TargetFeatures
+kind_in (SourceMappingUrl x) = kinds.SourceMappingUrl
+kind_in (ExternalDebugInfo x) = kinds.ExternalDebugInfo
+kind_in (BuildId x) = kinds.BuildId
+kind_in (Dylink x) = kinds.Dylink
 
 -- The view of decoded items.
 abbrev pub contents_of : {A : Type 0} → Items A → Contents
@@ -122,12 +139,17 @@ contents_of (items.CoreStack n v) = CoreStack (n.now, map stack_frame_view v.ite
 contents_of (items.Custom n b) = Custom (n.now, b.now)
 contents_of (items.Raw b) = Raw b.now
 contents_of (items.Types v) = Types (map entry_view v.items)
+contents_of (items.TargetFeatures v) = TargetFeatures (map feature_view v.items)
+contents_of (items.SourceMappingUrl x) = SourceMappingUrl x.now
+contents_of (items.ExternalDebugInfo x) = ExternalDebugInfo x.now
+contents_of (items.BuildId x) = BuildId x.now
+contents_of (items.Dylink v) = Dylink (map dylink_view v.items)
 
 -- The kinds, in the order of their numbers.
 abbrev pub kinds_in_order : List SectionKind
 kinds_in_order =
     kinds.Bodies ∷ kinds.Segments ∷ kinds.DataCount ∷ kinds.Elements ∷ kinds.Exports ∷ kinds.Functions ∷ kinds.Globals ∷ kinds.Imports ∷ kinds.Memories ∷ kinds.Start ∷ kinds.Tables ∷ kinds.Tags
-    ∷ kinds.Names ∷ kinds.Linking ∷ kinds.Producers ∷ kinds.Hints ∷ kinds.Core ∷ kinds.CoreModules ∷ kinds.CoreInstances ∷ kinds.CoreStack ∷ kinds.Custom ∷ kinds.Raw ∷ kinds.Types ∷ []
+    ∷ kinds.Names ∷ kinds.Linking ∷ kinds.Producers ∷ kinds.Hints ∷ kinds.Core ∷ kinds.CoreModules ∷ kinds.CoreInstances ∷ kinds.CoreStack ∷ kinds.Custom ∷ kinds.Raw ∷ kinds.Types ∷ kinds.TargetFeatures ∷ kinds.SourceMappingUrl ∷ kinds.ExternalDebugInfo ∷ kinds.BuildId ∷ kinds.Dylink ∷ []
 
 -- The kind of a number, counted from 0.
 abbrev pub kind_numbered : ℕ → Option SectionKind
@@ -163,11 +185,16 @@ kind_among_names (k ∷ ks) n = if bytes_eq n k.0 then k.1 else kind_among_names
 -- The kinds of custom sections by their names.
 abbrev pub known_names : List (List ℕ × SectionKind)
 known_names =
-    (name_name, kinds.Names) ∷ (linking_name, kinds.Linking) ∷ (producers_name, kinds.Producers) ∷ (hints_name, kinds.Hints)
+    (name_name, kinds.Names) ∷ (linking_name, kinds.Linking) ∷ (producers_name, kinds.Producers) ∷ (features_name, kinds.TargetFeatures)
+    ∷ (hints_name, kinds.Hints)
     ∷ (core_name, kinds.Core)
     ∷ (modules_name, kinds.CoreModules)
     ∷ (instances_name, kinds.CoreInstances)
     ∷ (stack_name, kinds.CoreStack)
+    ∷ (source_map_name, kinds.SourceMappingUrl)
+    ∷ (debug_file_name, kinds.ExternalDebugInfo)
+    ∷ (build_id_name, kinds.BuildId)
+    ∷ (dylink_name, kinds.Dylink)
     ∷ []
 
 -- The kind of a custom section of this name.

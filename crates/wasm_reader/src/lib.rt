@@ -31,7 +31,7 @@ pub use section::read_section;
 pub use sections::{Section, Sections};
 pub use wasm_base::ReadFault;
 pub use wasm_code::{Body, Expression};
-pub use wasm_custom::{CoreFrame, LinkItem, NameItem, Symbol};
+pub use wasm_custom::{CoreFrame, DylinkItem, LinkItem, NameItem, Symbol};
 pub use wasm_insn::{Arg, Plain};
 pub use wasm_sections::{
     ElementItem, ElementItemMode, ElementList, GlobalItem, Segment, TableItem,

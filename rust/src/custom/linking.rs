@@ -195,7 +195,7 @@ pub enum LinkItem<'a, A: Allocator = Global> {
 /// ```
 ///
 /// Definitions: [`Decodes`](crate::definitions::base::decoding::Decodes), [`size_prefixed`](crate::definitions::base::formats::size_prefixed), [`vec`](crate::definitions::base::formats::vec), [`padded_of`](crate::definitions::base::numbers::padded_of), [`Rejects`](crate::definitions::base::decoding::Rejects). [How to read clauses](crate::definitions).
-fn read_vector<'a, T: Readable<'a, A, G>, A: Allocator + Copy, G: Grammar>(
+pub(crate) fn read_vector<'a, T: Readable<'a, A, G>, A: Allocator + Copy, G: Grammar>(
     bytes: &'a [u8],
     alloc: A,
 ) -> Result<(Vec<T, A>, &'a [u8]), DecodeError> {
@@ -348,7 +348,7 @@ pub fn read_links<'a, A: Allocator + Copy + 'a, G: Grammar>(
 /// ```
 ///
 /// Definitions: [`AppendsMinimal`](crate::definitions::base::minimal::AppendsMinimal), [`prefixed`](crate::definitions::base::formats::prefixed), [`size_prefixed`](crate::definitions::base::formats::size_prefixed), [`vec`](crate::definitions::base::formats::vec), [`IsFrontOf`](crate::definitions::base::minimal::IsFrontOf), [`HasEncoding`](crate::definitions::base::minimal::HasEncoding). [How to read clauses](crate::definitions).
-fn append_vector<T: Shorten, A: Allocator, B: Sink>(
+pub(crate) fn append_vector<T: Shorten, A: Allocator, B: Sink>(
     id: u8,
     items: &Vec<T, A>,
     sink: &mut B,

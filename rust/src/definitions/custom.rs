@@ -709,6 +709,439 @@ pub trait customs {
     type custom_decoding;
 }
 
+/// The custom sections that refer to debug information elsewhere: a source map, a file of DWARF, and the identity of the build. Tool conventions, Debugging; source maps are those of the specification "Source map format".
+///
+/// [How to read definitions](super). The file is [`DebugFiles.antt`](https://github.com/dolzhytik/dolzhytik/blob/main/crates/wasm_custom/specs/DebugFiles.antt).
+pub trait debug_files {
+    /// The section name `sourceMappingURL`.
+    ///
+    /// ```text
+    /// abbrev pub source_map_name : List ℕ
+    /// source_map_name = codes "sourceMappingURL"
+    /// ```
+    type source_map_name;
+    /// The section name `external_debug_info`.
+    ///
+    /// ```text
+    /// abbrev pub debug_file_name : List ℕ
+    /// debug_file_name = codes "external_debug_info"
+    /// ```
+    type debug_file_name;
+    /// The section name `build_id`.
+    ///
+    /// ```text
+    /// abbrev pub build_id_name : List ℕ
+    /// build_id_name = codes "build_id"
+    /// ```
+    type build_id_name;
+    /// The payload of the section of a source map: its name, and the URL as a name.
+    ///
+    /// ```text
+    /// abbrev pub source_map_payload : Format (List ℕ)
+    /// source_map_payload = named_payload source_map_name name
+    /// ```
+    ///
+    /// Definitions: [`Format`](super::base::formats::Format), [`named_payload`](customs::named_payload), [`source_map_name`](debug_files::source_map_name), [`name`](super::base::formats::name).
+    type source_map_payload;
+    /// The payload of the section of a file of debug information: its name, and the path as a name.
+    ///
+    /// ```text
+    /// abbrev pub debug_file_payload : Format (List ℕ)
+    /// debug_file_payload = named_payload debug_file_name name
+    /// ```
+    ///
+    /// Definitions: [`Format`](super::base::formats::Format), [`named_payload`](customs::named_payload), [`debug_file_name`](debug_files::debug_file_name), [`name`](super::base::formats::name).
+    type debug_file_payload;
+    /// The payload of the section of a build's identity: its name, and size-prefixed bytes.
+    ///
+    /// ```text
+    /// abbrev pub build_id_payload : Format (List ℕ)
+    /// build_id_payload = named_payload build_id_name (size_prefixed any_bytes)
+    /// ```
+    ///
+    /// Definitions: [`Format`](super::base::formats::Format), [`named_payload`](customs::named_payload), [`build_id_name`](debug_files::build_id_name), [`size_prefixed`](super::base::formats::size_prefixed), [`any_bytes`](super::base::formats::any_bytes).
+    type build_id_payload;
+    /// The section of a source map, without its id.
+    ///
+    /// ```text
+    /// abbrev pub source_map_section : Format (List ℕ)
+    /// source_map_section = named_section source_map_name name
+    /// ```
+    ///
+    /// Definitions: [`Format`](super::base::formats::Format), [`named_section`](customs::named_section), [`source_map_name`](debug_files::source_map_name), [`name`](super::base::formats::name).
+    type source_map_section;
+    /// The section of a file of debug information, without its id.
+    ///
+    /// ```text
+    /// abbrev pub debug_file_section : Format (List ℕ)
+    /// debug_file_section = named_section debug_file_name name
+    /// ```
+    ///
+    /// Definitions: [`Format`](super::base::formats::Format), [`named_section`](customs::named_section), [`debug_file_name`](debug_files::debug_file_name), [`name`](super::base::formats::name).
+    type debug_file_section;
+    /// The section of a build's identity, without its id.
+    ///
+    /// ```text
+    /// abbrev pub build_id_section : Format (List ℕ)
+    /// build_id_section = named_section build_id_name (size_prefixed any_bytes)
+    /// ```
+    ///
+    /// Definitions: [`Format`](super::base::formats::Format), [`named_section`](customs::named_section), [`build_id_name`](debug_files::build_id_name), [`size_prefixed`](super::base::formats::size_prefixed), [`any_bytes`](super::base::formats::any_bytes).
+    type build_id_section;
+    /// The section holds this text, which is UTF-8.
+    ///
+    /// ```text
+    /// abbrev pub SaysText : List ℕ → List ℕ → Type 0
+    /// SaysText given said = IsUtf8 said × (said ≡ given)
+    /// ```
+    type SaysText;
+    /// The section that decodes to the source map at this URL.
+    ///
+    /// ```text
+    /// abbrev pub source_map_decoding : List ℕ → SectionDecoding
+    /// source_map_decoding url = decoding_as source_map_payload url
+    /// ```
+    ///
+    /// Definitions: [`SectionDecoding`](super::base::modules::SectionDecoding), [`decoding_as`](customs::decoding_as), [`source_map_payload`](debug_files::source_map_payload).
+    type source_map_decoding;
+    /// The section that decodes to the file of debug information at this path.
+    ///
+    /// ```text
+    /// abbrev pub debug_file_decoding : List ℕ → SectionDecoding
+    /// debug_file_decoding path = decoding_as debug_file_payload path
+    /// ```
+    ///
+    /// Definitions: [`SectionDecoding`](super::base::modules::SectionDecoding), [`decoding_as`](customs::decoding_as), [`debug_file_payload`](debug_files::debug_file_payload).
+    type debug_file_decoding;
+    /// The section that decodes to the build of this identity.
+    ///
+    /// ```text
+    /// abbrev pub build_id_decoding : List ℕ → SectionDecoding
+    /// build_id_decoding id = decoding_as build_id_payload id
+    /// ```
+    ///
+    /// Definitions: [`SectionDecoding`](super::base::modules::SectionDecoding), [`decoding_as`](customs::decoding_as), [`build_id_payload`](debug_files::build_id_payload).
+    type build_id_decoding;
+}
+
+/// The section of a dynamic library, its encoding and its format. Tool conventions, WebAssembly Dynamic Linking, The "dylink.0" Section.
+///
+/// - Memory and table: [`needs_encoding`](dylink::needs_encoding), [`AreNeeds`](dylink::AreNeeds), [`needs_of`](dylink::needs_of), [`needs`](dylink::needs).
+/// - Names: [`AreNames`](dylink::AreNames).
+/// - Exports: [`DylinkExport`](dylink::DylinkExport), [`export_flags_encoding`](dylink::export_flags_encoding), [`IsDylinkExport`](dylink::IsDylinkExport), [`export_flags_of`](dylink::export_flags_of), [`export_flags`](dylink::export_flags), [`AreDylinkExports`](dylink::AreDylinkExports).
+/// - Imports: [`DylinkImport`](dylink::DylinkImport), [`import_flags_encoding`](dylink::import_flags_encoding), [`IsDylinkImport`](dylink::IsDylinkImport), [`import_flags_of`](dylink::import_flags_of), [`import_flags`](dylink::import_flags), [`AreDylinkImports`](dylink::AreDylinkImports).
+/// - Subsections: [`DylinkItem`](dylink::DylinkItem), [`dylink_encoding`](dylink::dylink_encoding), [`IsDylink`](dylink::IsDylink), [`dylink_tags`](dylink::dylink_tags), [`dylink_item`](dylink::dylink_item), [`dylink_items`](dylink::dylink_items), [`dylink_name`](dylink::dylink_name).
+/// - The section of a dynamic library: [`ContainsDylink`](dylink::ContainsDylink), [`dylink_payload`](dylink::dylink_payload), [`dylink_decoding`](dylink::dylink_decoding).
+/// - Decoded subsections: [`export_flags_view`](dylink::export_flags_view), [`import_flags_view`](dylink::import_flags_view), [`dylink_view`](dylink::dylink_view).
+///
+/// [How to read definitions](super). The file is [`Dylink.antt`](https://github.com/dolzhytik/dolzhytik/blob/main/crates/wasm_custom/specs/Dylink.antt).
+pub trait dylink {
+    /// The encoding of what a library needs: the size and the alignment of its memory, then of its table.
+    ///
+    /// ```text
+    /// abbrev pub needs_encoding : DylinkMemory → List ℕ
+    /// needs_encoding m = (unsigned_encoding m.memory_size
+    ///     ++ unsigned_encoding m.memory_alignment)
+    ///     ++ (unsigned_encoding m.table_size ++ unsigned_encoding m.table_alignment)
+    /// ```
+    ///
+    /// Definitions: [`unsigned_encoding`](super::base::numbers::unsigned_encoding).
+    type needs_encoding;
+    /// The sizes and the exponents of the alignments are in range.
+    ///
+    /// ```text
+    /// pub record AreNeeds (m : DylinkMemory) : Type 0 where
+    ///   pub memory_size : m.memory_size < 2 ^ 32
+    ///   pub memory_alignment : m.memory_alignment < 2 ^ 32
+    ///   pub table_size : m.table_size < 2 ^ 32
+    ///   pub table_alignment : m.table_alignment < 2 ^ 32
+    /// ```
+    type AreNeeds;
+    /// The memory and the table of these sizes and exponents of alignments.
+    ///
+    /// ```text
+    /// abbrev pub needs_of : (ℕ × ℕ) × (ℕ × ℕ) → DylinkMemory
+    /// needs_of p = record { memory_size = p.0.0; memory_alignment = p.0.1; table_size = p.1.0;
+    ///     table_alignment = p.1.1 }
+    /// ```
+    type needs_of;
+    /// Sizes and exponents of alignments: of the memory, then of the table.
+    ///
+    /// ```text
+    /// abbrev pub needs : Format DylinkMemory
+    /// needs = mapped needs_of (pair (pair u32 u32) (pair u32 u32))
+    /// ```
+    ///
+    /// Definitions: [`Format`](super::base::formats::Format), [`mapped`](super::base::formats::mapped), [`needs_of`](dylink::needs_of), [`pair`](super::base::formats::pair), [`u32`](super::base::formats::u32).
+    type needs;
+    /// The pieces are the encodings of these names.
+    ///
+    /// ```text
+    /// abbrev pub AreNames : List (List ℕ) → List (List ℕ) → Type 0
+    /// AreNames = IsListOf size_prefixed_encoding IsEncodableName
+    /// ```
+    ///
+    /// Definitions: [`IsListOf`](lists::IsListOf), [`size_prefixed_encoding`](super::base::encodings::size_prefixed_encoding), [`IsEncodableName`](super::base::laws::IsEncodableName).
+    type AreNames;
+    /// Flags of an exported symbol: its name and its flags.
+    ///
+    /// ```text
+    /// pub record DylinkExport : Type 0 where
+    ///   pub name : List ℕ
+    ///   pub flags : ℕ
+    /// ```
+    type DylinkExport;
+    /// The encoding of the flags of an exported symbol: its name and its flags.
+    ///
+    /// ```text
+    /// abbrev pub export_flags_encoding : DylinkExport → List ℕ
+    /// export_flags_encoding e = size_prefixed_encoding e.name ++ unsigned_encoding e.flags
+    /// ```
+    ///
+    /// Definitions: [`DylinkExport`](dylink::DylinkExport), [`size_prefixed_encoding`](super::base::encodings::size_prefixed_encoding), [`unsigned_encoding`](super::base::numbers::unsigned_encoding).
+    type export_flags_encoding;
+    /// The name is UTF-8 of at most 2^32 - 1 bytes, and the flags are in range.
+    ///
+    /// ```text
+    /// pub record IsDylinkExport (e : DylinkExport) : Type 0 where
+    ///   pub name : IsEncodableName e.name
+    ///   pub flags : e.flags < 2 ^ 32
+    /// ```
+    ///
+    /// Definitions: [`DylinkExport`](dylink::DylinkExport), [`IsEncodableName`](super::base::laws::IsEncodableName).
+    type IsDylinkExport;
+    /// The exported symbol of this name and these flags.
+    ///
+    /// ```text
+    /// abbrev pub export_flags_of : List ℕ × ℕ → DylinkExport
+    /// export_flags_of p = record { name = p.0; flags = p.1 }
+    /// ```
+    ///
+    /// Definitions: [`DylinkExport`](dylink::DylinkExport).
+    type export_flags_of;
+    /// Flags of an exported symbol: a name and flags.
+    ///
+    /// ```text
+    /// abbrev pub export_flags : Format DylinkExport
+    /// export_flags = mapped export_flags_of (pair name u32)
+    /// ```
+    ///
+    /// Definitions: [`Format`](super::base::formats::Format), [`DylinkExport`](dylink::DylinkExport), [`mapped`](super::base::formats::mapped), [`export_flags_of`](dylink::export_flags_of), [`pair`](super::base::formats::pair), [`name`](super::base::formats::name), [`u32`](super::base::formats::u32).
+    type export_flags;
+    /// The pieces are the encodings of these exported symbols.
+    ///
+    /// ```text
+    /// abbrev pub AreDylinkExports : List (List ℕ) → List DylinkExport → Type 0
+    /// AreDylinkExports = IsListOf export_flags_encoding IsDylinkExport
+    /// ```
+    ///
+    /// Definitions: [`DylinkExport`](dylink::DylinkExport), [`IsListOf`](lists::IsListOf), [`export_flags_encoding`](dylink::export_flags_encoding), [`IsDylinkExport`](dylink::IsDylinkExport).
+    type AreDylinkExports;
+    /// Flags of an imported symbol: the name of its module, its name and its flags.
+    ///
+    /// ```text
+    /// pub record DylinkImport : Type 0 where
+    ///   pub module_name : List ℕ
+    ///   pub name : List ℕ
+    ///   pub flags : ℕ
+    /// ```
+    type DylinkImport;
+    /// The encoding of the flags of an imported symbol: the name of its module, its name and its flags.
+    ///
+    /// ```text
+    /// abbrev pub import_flags_encoding : DylinkImport → List ℕ
+    /// import_flags_encoding i = size_prefixed_encoding i.module_name
+    ///     ++ (size_prefixed_encoding i.name ++ unsigned_encoding i.flags)
+    /// ```
+    ///
+    /// Definitions: [`DylinkImport`](dylink::DylinkImport), [`size_prefixed_encoding`](super::base::encodings::size_prefixed_encoding), [`unsigned_encoding`](super::base::numbers::unsigned_encoding).
+    type import_flags_encoding;
+    /// The names are UTF-8 of at most 2^32 - 1 bytes, and the flags are in range.
+    ///
+    /// ```text
+    /// pub record IsDylinkImport (i : DylinkImport) : Type 0 where
+    ///   pub module_name : IsEncodableName i.module_name
+    ///   pub name : IsEncodableName i.name
+    ///   pub flags : i.flags < 2 ^ 32
+    /// ```
+    ///
+    /// Definitions: [`DylinkImport`](dylink::DylinkImport), [`IsEncodableName`](super::base::laws::IsEncodableName).
+    type IsDylinkImport;
+    /// The imported symbol of this module, this name and these flags.
+    ///
+    /// ```text
+    /// abbrev pub import_flags_of : List ℕ × (List ℕ × ℕ) → DylinkImport
+    /// import_flags_of p = record { module_name = p.0; name = p.1.0; flags = p.1.1 }
+    /// ```
+    ///
+    /// Definitions: [`DylinkImport`](dylink::DylinkImport).
+    type import_flags_of;
+    /// Flags of an imported symbol: the name of its module, a name and flags.
+    ///
+    /// ```text
+    /// abbrev pub import_flags : Format DylinkImport
+    /// import_flags = mapped import_flags_of (pair name (pair name u32))
+    /// ```
+    ///
+    /// Definitions: [`Format`](super::base::formats::Format), [`DylinkImport`](dylink::DylinkImport), [`mapped`](super::base::formats::mapped), [`import_flags_of`](dylink::import_flags_of), [`pair`](super::base::formats::pair), [`name`](super::base::formats::name), [`u32`](super::base::formats::u32).
+    type import_flags;
+    /// The pieces are the encodings of these imported symbols.
+    ///
+    /// ```text
+    /// abbrev pub AreDylinkImports : List (List ℕ) → List DylinkImport → Type 0
+    /// AreDylinkImports = IsListOf import_flags_encoding IsDylinkImport
+    /// ```
+    ///
+    /// Definitions: [`DylinkImport`](dylink::DylinkImport), [`IsListOf`](lists::IsListOf), [`import_flags_encoding`](dylink::import_flags_encoding), [`IsDylinkImport`](dylink::IsDylinkImport).
+    type AreDylinkImports;
+    /// A subsection: the memory and the table, the libraries that are needed, flags of exports and of imports, or the folders in which libraries are looked for.
+    ///
+    /// ```text
+    /// pub data DylinkItem : Type 0 where
+    ///   Memory : DylinkMemory → DylinkItem
+    ///   Needed : List (List ℕ) → DylinkItem
+    ///   ExportFlags : List DylinkExport → DylinkItem
+    ///   ImportFlags : List DylinkImport → DylinkItem
+    ///   RuntimePath : List (List ℕ) → DylinkItem
+    /// ```
+    ///
+    /// Definitions: [`DylinkExport`](dylink::DylinkExport), [`DylinkImport`](dylink::DylinkImport).
+    type DylinkItem;
+    /// The encoding of a subsection: its id, from 1 for the memory and the table to 5 for folders, and its size-prefixed content.
+    ///
+    /// ```text
+    /// abbrev pub dylink_encoding : DylinkItem → List ℕ
+    /// dylink_encoding (Memory m) = subsection_encoding 1 (needs_encoding m)
+    /// dylink_encoding (Needed names) = subsection_encoding 2
+    ///     (vec_encoding size_prefixed_encoding names)
+    /// dylink_encoding (ExportFlags exports) = subsection_encoding 3
+    ///     (vec_encoding export_flags_encoding exports)
+    /// dylink_encoding (ImportFlags imports) = subsection_encoding 4
+    ///     (vec_encoding import_flags_encoding imports)
+    /// dylink_encoding (RuntimePath paths) = subsection_encoding 5
+    ///     (vec_encoding size_prefixed_encoding paths)
+    /// ```
+    ///
+    /// Definitions: [`DylinkItem`](dylink::DylinkItem), [`Memory`](dylink::DylinkItem), [`subsection_encoding`](customs::subsection_encoding), [`needs_encoding`](dylink::needs_encoding), [`Needed`](dylink::DylinkItem), [`vec_encoding`](super::base::encodings::vec_encoding), [`size_prefixed_encoding`](super::base::encodings::size_prefixed_encoding), [`ExportFlags`](dylink::DylinkItem), [`export_flags_encoding`](dylink::export_flags_encoding), [`ImportFlags`](dylink::DylinkItem), [`import_flags_encoding`](dylink::import_flags_encoding), [`RuntimePath`](dylink::DylinkItem).
+    type dylink_encoding;
+    /// The subsection is well-formed: its items are well-formed and at most 2^32 - 1.
+    ///
+    /// ```text
+    /// abbrev pub IsDylink : DylinkItem → Type 0
+    /// IsDylink (Memory m) = AreNeeds m
+    /// IsDylink (Needed names) = IsEncodableVec IsEncodableName names
+    /// IsDylink (ExportFlags exports) = IsEncodableVec IsDylinkExport exports
+    /// IsDylink (ImportFlags imports) = IsEncodableVec IsDylinkImport imports
+    /// IsDylink (RuntimePath paths) = IsEncodableVec IsEncodableName paths
+    /// ```
+    ///
+    /// Definitions: [`DylinkItem`](dylink::DylinkItem), [`Memory`](dylink::DylinkItem), [`AreNeeds`](dylink::AreNeeds), [`Needed`](dylink::DylinkItem), [`IsEncodableVec`](super::base::encodings::IsEncodableVec), [`IsEncodableName`](super::base::laws::IsEncodableName), [`ExportFlags`](dylink::DylinkItem), [`IsDylinkExport`](dylink::IsDylinkExport), [`ImportFlags`](dylink::DylinkItem), [`IsDylinkImport`](dylink::IsDylinkImport), [`RuntimePath`](dylink::DylinkItem).
+    type IsDylink;
+    /// The formats of a subsection by its id: memory and table after 1, names of libraries after 2, flags of exports after 3, flags of imports after 4, and folders after 5.
+    ///
+    /// ```text
+    /// abbrev pub dylink_tags : List (ℕ × Format DylinkItem)
+    /// dylink_tags =
+    ///     (1, mapped Memory (size_prefixed needs)) ∷
+    ///     (2, mapped Needed (size_prefixed (vec name))) ∷
+    ///     (3, mapped ExportFlags (size_prefixed (vec export_flags))) ∷
+    ///     (4, mapped ImportFlags (size_prefixed (vec import_flags))) ∷
+    ///     (5, mapped RuntimePath (size_prefixed (vec name))) ∷
+    ///     []
+    /// ```
+    ///
+    /// Definitions: [`Format`](super::base::formats::Format), [`DylinkItem`](dylink::DylinkItem), [`mapped`](super::base::formats::mapped), [`Memory`](dylink::DylinkItem), [`size_prefixed`](super::base::formats::size_prefixed), [`needs`](dylink::needs), [`Needed`](dylink::DylinkItem), [`vec`](super::base::formats::vec), [`name`](super::base::formats::name), [`ExportFlags`](dylink::DylinkItem), [`export_flags`](dylink::export_flags), [`ImportFlags`](dylink::DylinkItem), [`import_flags`](dylink::import_flags), [`RuntimePath`](dylink::DylinkItem).
+    type dylink_tags;
+    /// A subsection: an id, then its size-prefixed content.
+    ///
+    /// ```text
+    /// abbrev pub dylink_item : Format DylinkItem
+    /// dylink_item = tagged byte (choice dylink_tags (λ b. impossible))
+    /// ```
+    ///
+    /// Definitions: [`Format`](super::base::formats::Format), [`DylinkItem`](dylink::DylinkItem), [`tagged`](super::base::formats::tagged), [`byte`](super::base::formats::byte), [`choice`](super::base::formats::choice), [`dylink_tags`](dylink::dylink_tags), [`impossible`](super::base::formats::impossible).
+    type dylink_item;
+    /// The kind of subsections.
+    ///
+    /// ```text
+    /// abbrev pub dylink_items : Kind DylinkItem DylinkItem
+    /// dylink_items = record { encoding = dylink_encoding; IsWellFormed = IsDylink;
+    ///     IsWellFormedPadded = IsDylink; normal_form = λ item. item; format = dylink_item }
+    /// ```
+    ///
+    /// Definitions: [`Kind`](super::base::entries::Kind), [`DylinkItem`](dylink::DylinkItem), [`dylink_encoding`](dylink::dylink_encoding), [`IsDylink`](dylink::IsDylink), [`dylink_item`](dylink::dylink_item).
+    type dylink_items;
+    /// The section name `dylink.0`.
+    ///
+    /// ```text
+    /// abbrev pub dylink_name : List ℕ
+    /// dylink_name = codes "dylink.0"
+    /// ```
+    type dylink_name;
+    /// The pieces encode these subsections.
+    ///
+    /// ```text
+    /// abbrev pub ContainsDylink : List (List ℕ) → List DylinkItem → Type 0
+    /// ContainsDylink = ContainsItems dylink_items
+    /// ```
+    ///
+    /// Definitions: [`DylinkItem`](dylink::DylinkItem), [`ContainsItems`](super::base::entries::ContainsItems), [`dylink_items`](dylink::dylink_items).
+    type ContainsDylink;
+    /// The payload of the section of a dynamic library: its name and its subsections.
+    ///
+    /// ```text
+    /// abbrev pub dylink_payload : Format (List DylinkItem)
+    /// dylink_payload = named_payload dylink_name
+    ///     (entries (fixed [] (tt {0})) false dylink_item)
+    /// ```
+    ///
+    /// Definitions: [`Format`](super::base::formats::Format), [`DylinkItem`](dylink::DylinkItem), [`named_payload`](customs::named_payload), [`dylink_name`](dylink::dylink_name), [`entries`](entries::entries), [`fixed`](super::base::formats::fixed), [`dylink_item`](dylink::dylink_item).
+    type dylink_payload;
+    /// The section of a dynamic library that decodes to these subsections.
+    ///
+    /// ```text
+    /// abbrev pub dylink_decoding : List DylinkItem → SectionDecoding
+    /// dylink_decoding subsections = decoding_as dylink_payload subsections
+    /// ```
+    ///
+    /// Definitions: [`DylinkItem`](dylink::DylinkItem), [`SectionDecoding`](super::base::modules::SectionDecoding), [`decoding_as`](customs::decoding_as), [`dylink_payload`](dylink::dylink_payload).
+    type dylink_decoding;
+    /// The view of decoded flags of an exported symbol.
+    ///
+    /// ```text
+    /// abbrev pub export_flags_view : read_export.DylinkExport → DylinkExport
+    /// export_flags_view e = record { name = e.name.now; flags = e.flags }
+    /// ```
+    ///
+    /// Definitions: [`DylinkExport`](dylink::DylinkExport).
+    type export_flags_view;
+    /// The view of decoded flags of an imported symbol.
+    ///
+    /// ```text
+    /// abbrev pub import_flags_view : read_import.DylinkImport → DylinkImport
+    /// import_flags_view i = record
+    ///     { module_name = i.module_name.now; name = i.name.now; flags = i.flags }
+    /// ```
+    ///
+    /// Definitions: [`DylinkImport`](dylink::DylinkImport).
+    type import_flags_view;
+    /// The view of a decoded subsection.
+    ///
+    /// ```text
+    /// abbrev pub dylink_view : {A : Type 0} → read.DylinkItem A → DylinkItem
+    /// dylink_view (items.Memory m) = Memory m
+    /// dylink_view (items.Needed names) = Needed (map (λ n. n.now) names.items)
+    /// dylink_view (items.ExportFlags exports) = ExportFlags
+    ///     (map export_flags_view exports.items)
+    /// dylink_view (items.ImportFlags imports) = ImportFlags
+    ///     (map import_flags_view imports.items)
+    /// dylink_view (items.RuntimePath paths) = RuntimePath (map (λ n. n.now) paths.items)
+    /// ```
+    ///
+    /// Definitions: [`DylinkItem`](dylink::DylinkItem), [`Memory`](dylink::DylinkItem), [`Needed`](dylink::DylinkItem), [`ExportFlags`](dylink::DylinkItem), [`export_flags_view`](dylink::export_flags_view), [`ImportFlags`](dylink::DylinkItem), [`import_flags_view`](dylink::import_flags_view), [`RuntimePath`](dylink::DylinkItem).
+    type dylink_view;
+}
+
 /// Custom sections that are a list of entries.
 ///
 /// [How to read definitions](super). The file is [`Entries.antt`](https://github.com/dolzhytik/dolzhytik/blob/main/crates/wasm_custom/specs/Entries.antt).
@@ -2131,4 +2564,109 @@ pub trait symbols {
     ///
     /// Definitions: [`Symbol`](symbols::Symbol), [`indexed`](symbols::Symbol), [`of_data`](symbols::Symbol), [`of_section`](symbols::Symbol).
     type symbol_view;
+}
+
+/// The target features section, its encoding and its format. Tool conventions, Linking, Target Features Section.
+///
+/// - The target features section: [`ContainsFeatures`](target_features::ContainsFeatures), [`features_payload`](target_features::features_payload), [`features_decoding`](target_features::features_decoding).
+/// - Decoded features: [`feature_view`](target_features::feature_view).
+///
+/// [How to read definitions](super). The file is [`TargetFeatures.antt`](https://github.com/dolzhytik/dolzhytik/blob/main/crates/wasm_custom/specs/TargetFeatures.antt).
+pub trait target_features {
+    /// The byte of a prefix: the character `+`, `-` or `=`.
+    ///
+    /// ```text
+    /// abbrev pub prefix_code : FeaturePrefix → ℕ
+    /// prefix_code Used = 0x2B
+    /// prefix_code Disallowed = 0x2D
+    /// prefix_code Required = 0x3D
+    /// ```
+    type prefix_code;
+    /// A feature: its prefix and its name.
+    ///
+    /// ```text
+    /// abbrev pub Feature : Type 0
+    /// Feature = FeaturePrefix × List ℕ
+    /// ```
+    type Feature;
+    /// The encoding of a feature: the byte of its prefix, then its name.
+    ///
+    /// ```text
+    /// abbrev pub feature_encoding : Feature → List ℕ
+    /// feature_encoding f = prefix_code f.0 ∷ [] ++ size_prefixed_encoding f.1
+    /// ```
+    ///
+    /// Definitions: [`Feature`](target_features::Feature), [`prefix_code`](target_features::prefix_code), [`size_prefixed_encoding`](super::base::encodings::size_prefixed_encoding).
+    type feature_encoding;
+    /// The name of the feature is UTF-8 of at most 2^32 - 1 bytes.
+    ///
+    /// ```text
+    /// abbrev pub IsFeature : Feature → Type 0
+    /// IsFeature f = IsEncodableName f.1
+    /// ```
+    ///
+    /// Definitions: [`Feature`](target_features::Feature), [`IsEncodableName`](super::base::laws::IsEncodableName).
+    type IsFeature;
+    /// A feature: the byte of a prefix, and a name.
+    ///
+    /// ```text
+    /// abbrev pub feature : Format Feature
+    /// feature = pair (coded prefix_code) name
+    /// ```
+    ///
+    /// Definitions: [`Format`](super::base::formats::Format), [`Feature`](target_features::Feature), [`pair`](super::base::formats::pair), [`coded`](super::base::formats::coded), [`prefix_code`](target_features::prefix_code), [`name`](super::base::formats::name).
+    type feature;
+    /// The kind of features.
+    ///
+    /// ```text
+    /// abbrev pub feature_items : Kind Feature Feature
+    /// feature_items = record { encoding = feature_encoding; IsWellFormed = IsFeature;
+    ///     IsWellFormedPadded = IsFeature; normal_form = λ feature. feature; format = feature }
+    /// ```
+    ///
+    /// Definitions: [`Kind`](super::base::entries::Kind), [`Feature`](target_features::Feature), [`feature_encoding`](target_features::feature_encoding), [`IsFeature`](target_features::IsFeature).
+    type feature_items;
+    /// The section name `target_features`.
+    ///
+    /// ```text
+    /// abbrev pub features_name : List ℕ
+    /// features_name = codes "target_features"
+    /// ```
+    type features_name;
+    /// The pieces encode these features.
+    ///
+    /// ```text
+    /// abbrev pub ContainsFeatures : List (List ℕ) → List Feature → Type 0
+    /// ContainsFeatures = ContainsItems feature_items
+    /// ```
+    ///
+    /// Definitions: [`Feature`](target_features::Feature), [`ContainsItems`](super::base::entries::ContainsItems), [`feature_items`](target_features::feature_items).
+    type ContainsFeatures;
+    /// The payload of a target features section: its name, and a vector of features.
+    ///
+    /// ```text
+    /// abbrev pub features_payload : Format (List Feature)
+    /// features_payload = counted_payload features_name feature
+    /// ```
+    ///
+    /// Definitions: [`Format`](super::base::formats::Format), [`Feature`](target_features::Feature), [`counted_payload`](entries::counted_payload), [`features_name`](target_features::features_name), [`feature`](target_features::feature).
+    type features_payload;
+    /// The target features section that decodes to these features.
+    ///
+    /// ```text
+    /// abbrev pub features_decoding : List Feature → SectionDecoding
+    /// features_decoding features = decoding_as features_payload features
+    /// ```
+    ///
+    /// Definitions: [`Feature`](target_features::Feature), [`SectionDecoding`](super::base::modules::SectionDecoding), [`decoding_as`](customs::decoding_as), [`features_payload`](target_features::features_payload).
+    type features_decoding;
+    /// The view of a decoded feature.
+    ///
+    /// ```text
+    /// abbrev pub feature_view : FeaturePrefix × Bor (List ℕ) → Feature
+    /// feature_view f = (f.0, f.1.now)
+    /// ```
+    ///
+    /// Definitions: [`Feature`](target_features::Feature).
+    type feature_view;
 }

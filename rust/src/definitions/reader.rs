@@ -192,9 +192,14 @@ pub trait kinds {
     ///   Custom : List ℕ × List ℕ → Contents
     ///   Raw : List ℕ → Contents
     ///   Types : List TypeItem → Contents
+    ///   TargetFeatures : List Feature → Contents
+    ///   SourceMappingUrl : List ℕ → Contents
+    ///   ExternalDebugInfo : List ℕ → Contents
+    ///   BuildId : List ℕ → Contents
+    ///   Dylink : List DylinkItem → Contents
     /// ```
     ///
-    /// Definitions: [`Body`](super::code::bodies::Body), [`DataItem`](super::sections::data_segments::DataItem), [`ElementItem`](super::sections::elements::ElementItem), [`Plain`](super::insn::plain::Plain), [`ExportItem`](super::sections::exports::ExportItem), [`GlobalItem`](super::sections::globals::GlobalItem), [`ImportItem`](super::sections::imports::ImportItem), [`TableItem`](super::sections::tables::TableItem), [`NameItem`](super::custom::names::NameItem), [`LinkItem`](super::custom::linking::LinkItem), [`Field`](super::custom::producers::Field), [`FunctionHints`](super::custom::hints::Hints), [`Instance`](super::custom::core_dumps::Instance), [`StackFrame`](super::custom::core_stacks::StackFrame), [`TypeItem`](super::types::rec_types::TypeItem).
+    /// Definitions: [`Body`](super::code::bodies::Body), [`DataItem`](super::sections::data_segments::DataItem), [`ElementItem`](super::sections::elements::ElementItem), [`Plain`](super::insn::plain::Plain), [`ExportItem`](super::sections::exports::ExportItem), [`GlobalItem`](super::sections::globals::GlobalItem), [`ImportItem`](super::sections::imports::ImportItem), [`TableItem`](super::sections::tables::TableItem), [`NameItem`](super::custom::names::NameItem), [`LinkItem`](super::custom::linking::LinkItem), [`Field`](super::custom::producers::Field), [`FunctionHints`](super::custom::hints::Hints), [`Instance`](super::custom::core_dumps::Instance), [`StackFrame`](super::custom::core_stacks::StackFrame), [`TypeItem`](super::types::rec_types::TypeItem), [`Feature`](super::custom::target_features::Feature), [`DylinkItem`](super::custom::dylink::DylinkItem).
     type Contents;
     /// The format of the payload of a section of this kind.
     ///
@@ -223,9 +228,14 @@ pub trait kinds {
     /// content kinds.Custom = mapped Custom (pair name any_bytes)
     /// content kinds.Raw = mapped Raw any_bytes
     /// content kinds.Types = mapped Types (vec type_item)
+    /// content kinds.TargetFeatures = mapped TargetFeatures features_payload
+    /// content kinds.SourceMappingUrl = mapped SourceMappingUrl source_map_payload
+    /// content kinds.ExternalDebugInfo = mapped ExternalDebugInfo debug_file_payload
+    /// content kinds.BuildId = mapped BuildId build_id_payload
+    /// content kinds.Dylink = mapped Dylink dylink_payload
     /// ```
     ///
-    /// Definitions: [`Format`](super::base::formats::Format), [`Contents`](kinds::Contents), [`mapped`](super::base::formats::mapped), [`Bodies`](kinds::Contents), [`vec`](super::base::formats::vec), [`size_prefixed`](super::base::formats::size_prefixed), [`body`](super::code::bodies::body), [`Segments`](kinds::Contents), [`data_item`](super::sections::data_segments::data_item), [`DataCount`](kinds::Contents), [`u32`](super::base::formats::u32), [`Elements`](kinds::Contents), [`element`](super::sections::elements::element), [`Exports`](kinds::Contents), [`export`](super::sections::exports::export), [`Functions`](kinds::Contents), [`Globals`](kinds::Contents), [`global_item`](super::sections::globals::global_item), [`Imports`](kinds::Contents), [`import_format`](super::sections::imports::import_format), [`Memories`](kinds::Contents), [`memory_type`](super::sections::memories::memory_type), [`Start`](kinds::Contents), [`Tables`](kinds::Contents), [`table_item`](super::sections::tables::table_item), [`Tags`](kinds::Contents), [`tag_type`](super::sections::tags::tag_type), [`Names`](kinds::Contents), [`name_payload`](super::custom::names::name_payload), [`Linking`](kinds::Contents), [`linking_payload`](super::custom::linking::linking_payload), [`Producers`](kinds::Contents), [`producers_payload`](super::custom::producers::producers_payload), [`Hints`](kinds::Contents), [`hints_payload`](super::custom::hints::hints_payload), [`Core`](kinds::Contents), [`core_payload`](super::custom::core_dumps::core_payload), [`CoreModules`](kinds::Contents), [`modules_payload`](super::custom::core_dumps::modules_payload), [`CoreInstances`](kinds::Contents), [`instances_payload`](super::custom::core_dumps::instances_payload), [`CoreStack`](kinds::Contents), [`stack_payload`](super::custom::core_stacks::stack_payload), [`Custom`](kinds::Contents), [`pair`](super::base::formats::pair), [`name`](super::base::formats::name), [`any_bytes`](super::base::formats::any_bytes), [`Raw`](kinds::Contents), [`Types`](kinds::Contents), [`type_item`](super::types::rec_types::type_item).
+    /// Definitions: [`Format`](super::base::formats::Format), [`Contents`](kinds::Contents), [`mapped`](super::base::formats::mapped), [`Bodies`](kinds::Contents), [`vec`](super::base::formats::vec), [`size_prefixed`](super::base::formats::size_prefixed), [`body`](super::code::bodies::body), [`Segments`](kinds::Contents), [`data_item`](super::sections::data_segments::data_item), [`DataCount`](kinds::Contents), [`u32`](super::base::formats::u32), [`Elements`](kinds::Contents), [`element`](super::sections::elements::element), [`Exports`](kinds::Contents), [`export`](super::sections::exports::export), [`Functions`](kinds::Contents), [`Globals`](kinds::Contents), [`global_item`](super::sections::globals::global_item), [`Imports`](kinds::Contents), [`import_format`](super::sections::imports::import_format), [`Memories`](kinds::Contents), [`memory_type`](super::sections::memories::memory_type), [`Start`](kinds::Contents), [`Tables`](kinds::Contents), [`table_item`](super::sections::tables::table_item), [`Tags`](kinds::Contents), [`tag_type`](super::sections::tags::tag_type), [`Names`](kinds::Contents), [`name_payload`](super::custom::names::name_payload), [`Linking`](kinds::Contents), [`linking_payload`](super::custom::linking::linking_payload), [`Producers`](kinds::Contents), [`producers_payload`](super::custom::producers::producers_payload), [`Hints`](kinds::Contents), [`hints_payload`](super::custom::hints::hints_payload), [`Core`](kinds::Contents), [`core_payload`](super::custom::core_dumps::core_payload), [`CoreModules`](kinds::Contents), [`modules_payload`](super::custom::core_dumps::modules_payload), [`CoreInstances`](kinds::Contents), [`instances_payload`](super::custom::core_dumps::instances_payload), [`CoreStack`](kinds::Contents), [`stack_payload`](super::custom::core_stacks::stack_payload), [`Custom`](kinds::Contents), [`pair`](super::base::formats::pair), [`name`](super::base::formats::name), [`any_bytes`](super::base::formats::any_bytes), [`Raw`](kinds::Contents), [`Types`](kinds::Contents), [`type_item`](super::types::rec_types::type_item), [`TargetFeatures`](kinds::Contents), [`features_payload`](super::custom::target_features::features_payload), [`SourceMappingUrl`](kinds::Contents), [`source_map_payload`](super::custom::debug_files::source_map_payload), [`ExternalDebugInfo`](kinds::Contents), [`debug_file_payload`](super::custom::debug_files::debug_file_payload), [`BuildId`](kinds::Contents), [`build_id_payload`](super::custom::debug_files::build_id_payload), [`Dylink`](kinds::Contents), [`dylink_payload`](super::custom::dylink::dylink_payload).
     type content;
     /// The kind of section that has this content.
     ///
@@ -254,9 +264,14 @@ pub trait kinds {
     /// kind_in (Custom x) = kinds.Custom
     /// kind_in (Raw x) = kinds.Raw
     /// kind_in (Types xs) = kinds.Types
+    /// kind_in (TargetFeatures x) = kinds.TargetFeatures
+    /// kind_in (SourceMappingUrl x) = kinds.SourceMappingUrl
+    /// kind_in (ExternalDebugInfo x) = kinds.ExternalDebugInfo
+    /// kind_in (BuildId x) = kinds.BuildId
+    /// kind_in (Dylink x) = kinds.Dylink
     /// ```
     ///
-    /// Definitions: [`Contents`](kinds::Contents), [`Bodies`](kinds::Contents), [`Segments`](kinds::Contents), [`DataCount`](kinds::Contents), [`Elements`](kinds::Contents), [`Exports`](kinds::Contents), [`Functions`](kinds::Contents), [`Globals`](kinds::Contents), [`Imports`](kinds::Contents), [`Memories`](kinds::Contents), [`Start`](kinds::Contents), [`Tables`](kinds::Contents), [`Tags`](kinds::Contents), [`Names`](kinds::Contents), [`Linking`](kinds::Contents), [`Producers`](kinds::Contents), [`Hints`](kinds::Contents), [`Core`](kinds::Contents), [`CoreModules`](kinds::Contents), [`CoreInstances`](kinds::Contents), [`CoreStack`](kinds::Contents), [`Custom`](kinds::Contents), [`Raw`](kinds::Contents), [`Types`](kinds::Contents).
+    /// Definitions: [`Contents`](kinds::Contents), [`Bodies`](kinds::Contents), [`Segments`](kinds::Contents), [`DataCount`](kinds::Contents), [`Elements`](kinds::Contents), [`Exports`](kinds::Contents), [`Functions`](kinds::Contents), [`Globals`](kinds::Contents), [`Imports`](kinds::Contents), [`Memories`](kinds::Contents), [`Start`](kinds::Contents), [`Tables`](kinds::Contents), [`Tags`](kinds::Contents), [`Names`](kinds::Contents), [`Linking`](kinds::Contents), [`Producers`](kinds::Contents), [`Hints`](kinds::Contents), [`Core`](kinds::Contents), [`CoreModules`](kinds::Contents), [`CoreInstances`](kinds::Contents), [`CoreStack`](kinds::Contents), [`Custom`](kinds::Contents), [`Raw`](kinds::Contents), [`Types`](kinds::Contents), [`TargetFeatures`](kinds::Contents), [`SourceMappingUrl`](kinds::Contents), [`ExternalDebugInfo`](kinds::Contents), [`BuildId`](kinds::Contents), [`Dylink`](kinds::Contents).
     type kind_in;
     /// The view of decoded items.
     ///
@@ -285,9 +300,14 @@ pub trait kinds {
     /// contents_of (items.Custom n b) = Custom (n.now, b.now)
     /// contents_of (items.Raw b) = Raw b.now
     /// contents_of (items.Types v) = Types (map entry_view v.items)
+    /// contents_of (items.TargetFeatures v) = TargetFeatures (map feature_view v.items)
+    /// contents_of (items.SourceMappingUrl x) = SourceMappingUrl x.now
+    /// contents_of (items.ExternalDebugInfo x) = ExternalDebugInfo x.now
+    /// contents_of (items.BuildId x) = BuildId x.now
+    /// contents_of (items.Dylink v) = Dylink (map dylink_view v.items)
     /// ```
     ///
-    /// Definitions: [`Contents`](kinds::Contents), [`Bodies`](kinds::Contents), [`body_view`](super::code::body_views::body_view), [`Segments`](kinds::Contents), [`segment_view`](super::sections::data_segments::segment_view), [`DataCount`](kinds::Contents), [`Elements`](kinds::Contents), [`element_view`](super::sections::elements::element_view), [`Exports`](kinds::Contents), [`item_of`](super::sections::exports::item_of), [`Functions`](kinds::Contents), [`Globals`](kinds::Contents), [`global_view`](super::sections::globals::global_view), [`Imports`](kinds::Contents), [`imports_item`](super::sections::imports::imports_item), [`Memories`](kinds::Contents), [`Start`](kinds::Contents), [`Tables`](kinds::Contents), [`table_view`](super::sections::tables::table_view), [`Tags`](kinds::Contents), [`Names`](kinds::Contents), [`name_item_view`](super::custom::names::name_item_view), [`Linking`](kinds::Contents), [`link_view`](super::custom::linking::link_view), [`Producers`](kinds::Contents), [`field_view`](super::custom::producers::field_view), [`Hints`](kinds::Contents), [`hints_view`](super::custom::hints::hints_view), [`Core`](kinds::Contents), [`CoreModules`](kinds::Contents), [`CoreInstances`](kinds::Contents), [`instance_view`](super::custom::core_dumps::instance_view), [`CoreStack`](kinds::Contents), [`stack_frame_view`](super::custom::core_stacks::stack_frame_view), [`Custom`](kinds::Contents), [`Raw`](kinds::Contents), [`Types`](kinds::Contents), [`entry_view`](super::types::items::entry_view).
+    /// Definitions: [`Contents`](kinds::Contents), [`Bodies`](kinds::Contents), [`body_view`](super::code::body_views::body_view), [`Segments`](kinds::Contents), [`segment_view`](super::sections::data_segments::segment_view), [`DataCount`](kinds::Contents), [`Elements`](kinds::Contents), [`element_view`](super::sections::elements::element_view), [`Exports`](kinds::Contents), [`item_of`](super::sections::exports::item_of), [`Functions`](kinds::Contents), [`Globals`](kinds::Contents), [`global_view`](super::sections::globals::global_view), [`Imports`](kinds::Contents), [`imports_item`](super::sections::imports::imports_item), [`Memories`](kinds::Contents), [`Start`](kinds::Contents), [`Tables`](kinds::Contents), [`table_view`](super::sections::tables::table_view), [`Tags`](kinds::Contents), [`Names`](kinds::Contents), [`name_item_view`](super::custom::names::name_item_view), [`Linking`](kinds::Contents), [`link_view`](super::custom::linking::link_view), [`Producers`](kinds::Contents), [`field_view`](super::custom::producers::field_view), [`Hints`](kinds::Contents), [`hints_view`](super::custom::hints::hints_view), [`Core`](kinds::Contents), [`CoreModules`](kinds::Contents), [`CoreInstances`](kinds::Contents), [`instance_view`](super::custom::core_dumps::instance_view), [`CoreStack`](kinds::Contents), [`stack_frame_view`](super::custom::core_stacks::stack_frame_view), [`Custom`](kinds::Contents), [`Raw`](kinds::Contents), [`Types`](kinds::Contents), [`entry_view`](super::types::items::entry_view), [`TargetFeatures`](kinds::Contents), [`feature_view`](super::custom::target_features::feature_view), [`SourceMappingUrl`](kinds::Contents), [`ExternalDebugInfo`](kinds::Contents), [`BuildId`](kinds::Contents), [`Dylink`](kinds::Contents), [`dylink_view`](super::custom::dylink::dylink_view).
     type contents_of;
     /// The kinds, in the order of their numbers.
     ///
@@ -299,7 +319,8 @@ pub trait kinds {
     ///         ∷ kinds.Tables ∷ kinds.Tags
     ///     ∷ kinds.Names ∷ kinds.Linking ∷ kinds.Producers ∷ kinds.Hints ∷ kinds.Core
     ///         ∷ kinds.CoreModules ∷ kinds.CoreInstances ∷ kinds.CoreStack ∷ kinds.Custom
-    ///         ∷ kinds.Raw ∷ kinds.Types ∷ []
+    ///         ∷ kinds.Raw ∷ kinds.Types ∷ kinds.TargetFeatures ∷ kinds.SourceMappingUrl
+    ///         ∷ kinds.ExternalDebugInfo ∷ kinds.BuildId ∷ kinds.Dylink ∷ []
     /// ```
     type kinds_in_order;
     /// The kind of a number, counted from 0.
@@ -363,15 +384,20 @@ pub trait kinds {
     /// abbrev pub known_names : List (List ℕ × SectionKind)
     /// known_names =
     ///     (name_name, kinds.Names) ∷ (linking_name, kinds.Linking)
-    ///         ∷ (producers_name, kinds.Producers) ∷ (hints_name, kinds.Hints)
+    ///         ∷ (producers_name, kinds.Producers) ∷ (features_name, kinds.TargetFeatures)
+    ///     ∷ (hints_name, kinds.Hints)
     ///     ∷ (core_name, kinds.Core)
     ///     ∷ (modules_name, kinds.CoreModules)
     ///     ∷ (instances_name, kinds.CoreInstances)
     ///     ∷ (stack_name, kinds.CoreStack)
+    ///     ∷ (source_map_name, kinds.SourceMappingUrl)
+    ///     ∷ (debug_file_name, kinds.ExternalDebugInfo)
+    ///     ∷ (build_id_name, kinds.BuildId)
+    ///     ∷ (dylink_name, kinds.Dylink)
     ///     ∷ []
     /// ```
     ///
-    /// Definitions: [`name_name`](super::custom::names::name_name), [`linking_name`](super::custom::linking::linking_name), [`producers_name`](super::custom::producers::producers_name), [`hints_name`](super::custom::hints::hints_name), [`core_name`](super::custom::core_dumps::core_name), [`modules_name`](super::custom::core_dumps::modules_name), [`instances_name`](super::custom::core_dumps::instances_name), [`stack_name`](super::custom::core_stacks::stack_name).
+    /// Definitions: [`name_name`](super::custom::names::name_name), [`linking_name`](super::custom::linking::linking_name), [`producers_name`](super::custom::producers::producers_name), [`features_name`](super::custom::target_features::features_name), [`hints_name`](super::custom::hints::hints_name), [`core_name`](super::custom::core_dumps::core_name), [`modules_name`](super::custom::core_dumps::modules_name), [`instances_name`](super::custom::core_dumps::instances_name), [`stack_name`](super::custom::core_stacks::stack_name), [`source_map_name`](super::custom::debug_files::source_map_name), [`debug_file_name`](super::custom::debug_files::debug_file_name), [`build_id_name`](super::custom::debug_files::build_id_name), [`dylink_name`](super::custom::dylink::dylink_name).
     type known_names;
     /// The kind of a custom section of this name.
     ///

@@ -6,7 +6,7 @@ use crate::reader::counts::count_skipped;
 use crate::alloc::{Allocator, Global};
 use crate::base::{DecodeError, Dropped, Encode, Grammar, Readable, Result, Shorten, read_whole};
 use crate::code::Body;
-use crate::custom::{BranchHint, CoreFrame, LinkItem, NameItem, append_hints, append_instances, append_links, append_modules, append_names, append_process, append_producers, append_stack, read_hints, read_instances, read_links, read_modules, read_names, read_process, read_producers, read_stack};
+use crate::custom::{BranchHint, CoreFrame, DylinkItem, FeaturePrefix, LinkItem, NameItem, append_build_id, append_debug_file, append_dylink, append_features, append_hints, append_instances, append_links, append_modules, append_names, append_process, append_producers, append_source_map, append_stack, read_build_id, read_debug_file, read_dylink, read_features, read_hints, read_instances, read_links, read_modules, read_names, read_process, read_producers, read_source_map, read_stack};
 use crate::sections::{ElementItem, Export, GlobalItem, Imports, MemoryType, Segment, TableItem, TagType, append_imports, read_imports, read_segments};
 use crate::types::{TypeEntry, append_types, read_types};
 
@@ -75,6 +75,16 @@ pub enum SectionKind {
     Raw,
     /// The type section.
     Types,
+    /// The target features section.
+    TargetFeatures,
+    /// The section of a source map.
+    SourceMappingUrl,
+    /// The section of a file of debug information.
+    ExternalDebugInfo,
+    /// The section of a build's identity.
+    BuildId,
+    /// The section of a dynamic library: what it needs at load time.
+    Dylink,
 }
 
 impl SectionKind {
@@ -113,6 +123,11 @@ impl SectionKind {
             20 => Some(SectionKind::Custom),
             21 => Some(SectionKind::Raw),
             22 => Some(SectionKind::Types),
+            23 => Some(SectionKind::TargetFeatures),
+            24 => Some(SectionKind::SourceMappingUrl),
+            25 => Some(SectionKind::ExternalDebugInfo),
+            26 => Some(SectionKind::BuildId),
+            27 => Some(SectionKind::Dylink),
             _ => None,
         }
     }
@@ -204,6 +219,15 @@ pub enum Items<'a, A: Allocator = Global> {
     Raw(&'a [u8]),
     /// Types and recursion groups.
     Types(Vec<TypeEntry<A>, A>),
+    /// The prefix of each feature, and its name.
+    TargetFeatures(Vec<(FeaturePrefix, &'a str), A>),
+    /// The URL of the source map.
+    SourceMappingUrl(&'a str),
+    /// The path of the file of debug information.
+    ExternalDebugInfo(&'a str),
+    /// The bytes that identify the build.
+    BuildId(&'a [u8]),
+    Dylink(Vec<DylinkItem<'a, A>, A>),
 }
 
 /// Returns the kind of a section of this id.
@@ -248,11 +272,16 @@ pub(crate) fn kind_of_name(name: &str) -> SectionKind {
         "name" => SectionKind::Names,
         "linking" => SectionKind::Linking,
         "producers" => SectionKind::Producers,
+        "target_features" => SectionKind::TargetFeatures,
         "metadata.code.branch_hint" => SectionKind::Hints,
         "core" => SectionKind::Core,
         "coremodules" => SectionKind::CoreModules,
         "coreinstances" => SectionKind::CoreInstances,
         "corestack" => SectionKind::CoreStack,
+        "sourceMappingURL" => SectionKind::SourceMappingUrl,
+        "external_debug_info" => SectionKind::ExternalDebugInfo,
+        "build_id" => SectionKind::BuildId,
+        "dylink.0" => SectionKind::Dylink,
         _ => SectionKind::Custom,
     }
 }
@@ -325,6 +354,17 @@ pub(crate) fn read_content<'a, A: Allocator + Copy + 'a, G: Grammar>(
         }
         SectionKind::Raw => Ok(Items::Raw(bytes)),
         SectionKind::Types => Ok(Items::Types(read_types::<A, G>(bytes, alloc)?)),
+        SectionKind::TargetFeatures => Ok(Items::TargetFeatures(read_features::<A, G>(
+            bytes, alloc,
+        )?)),
+        SectionKind::SourceMappingUrl => Ok(Items::SourceMappingUrl(read_source_map::<A, G>(
+            bytes, alloc,
+        )?)),
+        SectionKind::ExternalDebugInfo => Ok(Items::ExternalDebugInfo(read_debug_file::<A, G>(
+            bytes, alloc,
+        )?)),
+        SectionKind::BuildId => Ok(Items::BuildId(read_build_id::<A, G>(bytes, alloc)?)),
+        SectionKind::Dylink => Ok(Items::Dylink(read_dylink::<A, G>(bytes, alloc)?)),
     }
 }
 
@@ -475,5 +515,10 @@ pub fn encode_items<A: Allocator, B: Sink>(
             Ok(())
         }
         Items::Types(items) => append_types(items, sink),
+        Items::TargetFeatures(items) => append_features(items, sink),
+        Items::SourceMappingUrl(url) => append_source_map(url, sink),
+        Items::ExternalDebugInfo(path) => append_debug_file(path, sink),
+        Items::BuildId(bytes) => append_build_id(bytes, sink),
+        Items::Dylink(items) => append_dylink(items, sink),
     }
 }

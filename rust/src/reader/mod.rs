@@ -49,7 +49,7 @@ pub use sections::Section;
 pub use sections::Sections;
 pub use crate::base::reading::ReadFault;
 pub use crate::code::reading::{Body, Expression};
-pub use crate::custom::{CoreFrame, LinkItem, NameItem, Symbol};
+pub use crate::custom::{CoreFrame, DylinkItem, LinkItem, NameItem, Symbol};
 pub use crate::insn::reading::{Arg, Plain};
 pub use crate::sections::{
     ElementItem, ElementItemMode, ElementList, GlobalItem, Segment, TableItem,

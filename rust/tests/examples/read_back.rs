@@ -4,8 +4,10 @@
 
 use dolzhytik::fallible::{Sink, Vec};
 pub mod custom;
+pub mod debug_files;
 pub mod declared;
 pub mod dumps;
+pub mod dylink;
 pub mod handed;
 pub mod padded;
 pub mod stored;

@@ -554,6 +554,41 @@ fn producers_and_hints() {
 }
 
 #[test]
+fn target_features() {
+    let lines = r#"         feature "atomics" used
+         feature "simd128" disallowed
+         feature "mvp" required
+"#;
+    let data = "03 2b 07 61746f6d696373 2d 07 73696d64313238 3d 03 6d7670";
+    check_custom("target_features", data, lines);
+}
+
+#[test]
+fn dylink() {
+    let lines = r#"         memory size 300 align 2^4
+         table size 5 align 2^0
+         needed "a.so"
+         export "f" flags 0x1
+         import "g" of "env" flags 0x10
+         runtime path "/l"
+"#;
+    let data = "0105 ac02 04 05 00 0206 01 04612e736f 0304 01 0166 01 0408 01 03656e76 0167 10 0504 01 022f6c";
+    check_custom("dylink.0", data, lines);
+}
+
+#[test]
+fn debug_files() {
+    let line = "         source map \"a.map\"\n";
+    check_custom("sourceMappingURL", "05 612e6d6170", line);
+    check_custom(
+        "external_debug_info",
+        "01 64",
+        "         debug file \"d\"\n",
+    );
+    check_custom("build_id", "02 12 f4", "         build \"12f4\"\n");
+}
+
+#[test]
 fn core_dumps() {
     check_custom("core", "00 0170", "         process \"p\"\n");
     check_custom("coremodules", "01 00 016d", "         module 0 \"m\"\n");

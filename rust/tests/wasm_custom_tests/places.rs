@@ -4,7 +4,7 @@
 use dolzhytik::fallible::Global;
 use crate::host::Abort;
 use dolzhytik::reader::{DecodeError, Grammar, Padded, ReadFault, Standard};
-use dolzhytik::fallible::{read_hints, read_instances, read_links, read_modules, read_names, read_process, read_producers, read_stack};
+use dolzhytik::fallible::{read_build_id, read_debug_file, read_dylink, read_features, read_hints, read_instances, read_links, read_modules, read_names, read_process, read_producers, read_source_map, read_stack};
 
 /// Returns the cause and the place of an error.
 fn place<T>(read: Result<T, DecodeError>) -> (Option<ReadFault>, u32) {
@@ -146,6 +146,34 @@ fn others<G: Grammar>(rt: &impl Abort, alloc: Global) {
             alloc
         )),
         (Some(ReadFault::UnknownTag), 5)
+    );
+    assert_eq!(rt;
+        place(read_features::<Global, G>(b"\x0Ftarget_features\x02+\x01a!\x01b", alloc)),
+        (Some(ReadFault::UnknownTag), 3)
+    );
+    assert_eq!(rt;
+        place(read_features::<Global, G>(b"\x0Ftarget_features\x01=\x01\xFF", alloc)),
+        (Some(ReadFault::NotUtf8), 1)
+    );
+    assert_eq!(rt;
+        place(read_dylink::<Global, G>(b"\x08dylink.0\x06\x00\x02\x01\x00", alloc)),
+        (Some(ReadFault::UnknownTag), 5)
+    );
+    assert_eq!(rt;
+        place(read_dylink::<Global, G>(b"\x08dylink.0\x02\x03\x01\x01\xFF\x02\x01\x00", alloc)),
+        (Some(ReadFault::NotUtf8), 4)
+    );
+    assert_eq!(rt;
+        place(read_source_map::<Global, G>(b"\x10sourceMappingURL\x01\xFF", alloc)),
+        (Some(ReadFault::NotUtf8), 1)
+    );
+    assert_eq!(rt;
+        place(read_debug_file::<Global, G>(b"\x13external_debug_info\x01dx", alloc)),
+        (Some(ReadFault::SizeMismatch), 1)
+    );
+    assert_eq!(rt;
+        place(read_build_id::<Global, G>(b"\x08build_id\x02a", alloc)),
+        (Some(ReadFault::Ended), 0)
     );
     assert_eq!(rt;
         place(read_process::<Global, G>(b"\x04core\x01\x01m", alloc)),

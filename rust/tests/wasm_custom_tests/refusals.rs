@@ -9,7 +9,7 @@ use dolzhytik::fallible::Global;
 use crate::host::Abort;
 use crate::test_support::{Heap, MOST, Refusing};
 use dolzhytik::fallible::{Encode, Result, Section};
-use dolzhytik::fallible::{BranchHint, CountedList, CustomEntries, CustomKind, DataSymbolDefinition, HintItems, IndirectMembers, IndirectNameMap, InstanceItems, LinkingItems, ListKind, ModuleItems, NameItems, NameMap, NameMembers, ProducerItems, ProducersField, SymbolKind, SymbolMembers, SymbolTable, ValueMembers};
+use dolzhytik::fallible::{BranchHint, CountedList, CustomEntries, CustomKind, DataSymbolDefinition, DylinkExports, DylinkImports, DylinkItems, DylinkMemory, DylinkNeeded, DylinkPath, ExportFlagMembers, FeatureItems, FeaturePrefix, HintItems, ImportFlagMembers, IndirectMembers, IndirectNameMap, InstanceItems, LinkingItems, ListKind, ModuleItems, NameItems, NameMap, NameMembers, NeededMembers, PathMembers, ProducerItems, ProducersField, SymbolKind, SymbolMembers, SymbolTable, ValueMembers};
 
 /// A section with an allocator that fails requests.
 pub(crate) type LentEntries<'h, K> = CustomEntries<K, &'h Refusing<Global>>;
@@ -468,6 +468,170 @@ fn producers() {
     let mut field: ProducersField = ProducersField::new(rt.alloc());
     field.value("a", "1").expect("accepted");
     check_sections::<ProducerItems>(&rt, &heap, &field)
+}
+
+const MEMORY: DylinkMemory = DylinkMemory {
+    memory_size: 300,
+    memory_alignment: 4,
+    table_size: 5,
+    table_alignment: 0,
+};
+
+#[test]
+fn memories_of_libraries() {
+    let rt = crate::host::HostRuntime;
+    let heap = Refusing::new(rt.alloc());
+    check_part(&rt, &heap, &MEMORY, &[0xAC, 2, 4, 5, 0])
+}
+
+impl ListCalls for NeededMembers {
+    type Given = ();
+
+    const LISTS: &'static [&'static [u8]] = &[b"\x02\x06\x01\x04a.so"];
+
+    const EMPTY: &'static [u8] = &[2, 1, 0];
+
+    fn add(libraries: &mut LentList<'_, Self>, _: &(), _: usize) -> Result<()> {
+        libraries.library("a.so")
+    }
+}
+
+impl ListCalls for PathMembers {
+    type Given = ();
+
+    const LISTS: &'static [&'static [u8]] = &[b"\x05\x04\x01\x02/l"];
+
+    const EMPTY: &'static [u8] = &[5, 1, 0];
+
+    fn add(folders: &mut LentList<'_, Self>, _: &(), _: usize) -> Result<()> {
+        folders.folder("/l")
+    }
+}
+
+impl ListCalls for ExportFlagMembers {
+    type Given = ();
+
+    const LISTS: &'static [&'static [u8]] = &[b"\x03\x04\x01\x01f\x01"];
+
+    const EMPTY: &'static [u8] = &[3, 1, 0];
+
+    fn add(exports: &mut LentList<'_, Self>, _: &(), _: usize) -> Result<()> {
+        exports.export("f", 1)
+    }
+}
+
+impl ListCalls for ImportFlagMembers {
+    type Given = ();
+
+    const LISTS: &'static [&'static [u8]] = &[b"\x04\x08\x01\x03env\x01g\x10"];
+
+    const EMPTY: &'static [u8] = &[4, 1, 0];
+
+    fn add(imports: &mut LentList<'_, Self>, _: &(), _: usize) -> Result<()> {
+        imports.import("env", "g", 16)
+    }
+}
+
+#[test]
+fn lists_of_libraries() {
+    let rt = crate::host::HostRuntime;
+    let heap = Refusing::new(rt.alloc());
+    check_lists::<NeededMembers>(&rt, &heap, &());
+    check_lists::<PathMembers>(&rt, &heap, &());
+    check_lists::<ExportFlagMembers>(&rt, &heap, &());
+    check_lists::<ImportFlagMembers>(&rt, &heap, &())
+}
+
+/// The lists that are arguments of calls on the section of a dynamic library.
+pub(crate) struct Libraries {
+    needed: DylinkNeeded,
+    exports: DylinkExports,
+    imports: DylinkImports,
+    folders: DylinkPath,
+}
+
+/// Returns lists of one entry each.
+fn libraries(alloc: Global) -> Result<Libraries> {
+    let mut needed = DylinkNeeded::new(alloc);
+    needed.library("a.so")?;
+    let mut exports = DylinkExports::new(alloc);
+    exports.export("f", 1)?;
+    let mut imports = DylinkImports::new(alloc);
+    imports.import("env", "g", 16)?;
+    let mut folders = DylinkPath::new(alloc);
+    folders.folder("/l")?;
+    Ok(Libraries {
+        needed,
+        exports,
+        imports,
+        folders,
+    })
+}
+
+impl SectionCalls for DylinkItems {
+    type Given = Libraries;
+
+    const EMPTY: &'static [u8] = b"\x09\x08dylink.0";
+
+    const SECTIONS: &'static [&'static [u8]] = &[
+        b"\x10\x08dylink.0\x01\x05\xAC\x02\x04\x05\x00",
+        b"\x11\x08dylink.0\x02\x06\x01\x04a.so",
+        b"\x0F\x08dylink.0\x03\x04\x01\x01f\x01",
+        b"\x13\x08dylink.0\x04\x08\x01\x03env\x01g\x10",
+        b"\x0F\x08dylink.0\x05\x04\x01\x02/l",
+    ];
+
+    fn add(section: &mut LentEntries<'_, Self>, lists: &Libraries, place: usize) -> Result<()> {
+        match place {
+            0 => section.memory(MEMORY),
+            1 => section.needed(&lists.needed),
+            2 => section.exports(&lists.exports),
+            3 => section.imports(&lists.imports),
+            _ => section.runtime_path(&lists.folders),
+        }
+    }
+}
+
+#[test]
+fn dylink() {
+    let rt = crate::host::HostRuntime;
+    let heap = Refusing::new(rt.alloc());
+    let lists = libraries(rt.alloc()).expect("accepted");
+    check_sections::<DylinkItems>(&rt, &heap, &lists)
+}
+
+#[test]
+fn feature_prefixes() {
+    let rt = crate::host::HostRuntime;
+    let heap = Refusing::new(rt.alloc());
+    check_part(&rt, &heap, &FeaturePrefix::Used, b"+");
+    check_part(&rt, &heap, &FeaturePrefix::Disallowed, b"-");
+    check_part(&rt, &heap, &FeaturePrefix::Required, b"=")
+}
+
+impl SectionCalls for FeatureItems {
+    type Given = ();
+
+    const EMPTY: &'static [u8] = b"\x11\x0Ftarget_features\x00";
+
+    const SECTIONS: &'static [&'static [u8]] = &[
+        b"\x14\x0Ftarget_features\x01+\x01a",
+        b"\x14\x0Ftarget_features\x01-\x01b",
+    ];
+
+    fn add(section: &mut LentEntries<'_, Self>, _: &(), place: usize) -> Result<()> {
+        match place {
+            0 => section.feature(FeaturePrefix::Used, "a"),
+            _ => section.feature(FeaturePrefix::Disallowed, "b"),
+        }
+    }
+}
+
+#[test]
+fn target_features() {
+    let rt = crate::host::HostRuntime;
+    let heap = Refusing::new(rt.alloc());
+    check_sections::<FeatureItems>(&rt, &heap, &())
 }
 
 const HINT: BranchHint = BranchHint {

@@ -1,12 +1,13 @@
 // Written by tools/to-rust from tests/wasm_custom_tests/src/sections.rtt: change that.
-// Tests of custom sections, linking, producers and hints: each call once, with ample memory.
+// Tests of custom sections, linking, producers, target features and hints: each call once, with
+// ample memory.
 
 use dolzhytik::fallible::{Vec, String};
 use crate::checks::{check, check_len, check_text, check_that};
 use dolzhytik::fallible::Global;
 use crate::host::Abort;
 use dolzhytik::fallible::{CowSlice, CowStr, Result};
-use dolzhytik::fallible::{BranchHint, BranchHints, CustomSection, DataSymbolDefinition, LinkingSection, ProducersField, ProducersSection, RawCustomSection, SymbolTable};
+use dolzhytik::fallible::{BranchHint, BranchHints, BuildId, CustomSection, DataSymbolDefinition, DylinkExports, DylinkImports, DylinkMemory, DylinkNeeded, DylinkPath, DylinkSection, ExternalDebugInfo, FeaturePrefix, LinkingSection, ProducersField, ProducersSection, RawCustomSection, SourceMappingUrl, SymbolTable, TargetFeaturesSection};
 use dolzhytik::fallible::laws::custom as laws;
 
 const TEST: CustomSection<'static> = CustomSection {
@@ -203,6 +204,91 @@ fn producers() {
         &section.clone().expect("accepted"),
         b"\x33\x09producers\x01\x0Cprocessed-by\x02\x05clang\x0614.0.4\x05rustc\x061.66.1",
     )
+}
+
+#[test]
+fn target_features() {
+    let rt = crate::host::HostRuntime;
+    let mut section = TargetFeaturesSection::new(rt.alloc());
+    check_len(&rt, section.len(), section.is_empty(), 0);
+    section
+        .feature(FeaturePrefix::Used, "atomics")
+        .expect("accepted");
+    section
+        .feature(FeaturePrefix::Disallowed, "simd128")
+        .expect("accepted");
+    section
+        .feature(FeaturePrefix::Required, "")
+        .expect("accepted");
+    check_len(&rt, section.len(), section.is_empty(), 3);
+    check(
+        &rt,
+        rt.alloc(),
+        &section.clone().expect("accepted"),
+        b"\x25\x0Ftarget_features\x03+\x07atomics-\x07simd128=\x00",
+    )
+}
+
+#[test]
+fn dylink() {
+    let rt = crate::host::HostRuntime;
+    let alloc = rt.alloc();
+    let mut needed = DylinkNeeded::new(alloc);
+    needed.library("a.so").expect("accepted");
+    let mut exports = DylinkExports::new(alloc);
+    exports.export("f", 1).expect("accepted");
+    let mut imports = DylinkImports::new(alloc);
+    imports.import("env", "g", 16).expect("accepted");
+    let mut folders = DylinkPath::new(alloc);
+    folders.folder("/l").expect("accepted");
+    let mut section = DylinkSection::new(alloc);
+    let memory = DylinkMemory {
+        memory_size: 300,
+        memory_alignment: 4,
+        table_size: 5,
+        table_alignment: 0,
+    };
+    section.memory(memory).expect("accepted");
+    section.needed(&needed).expect("accepted");
+    section.exports(&exports).expect("accepted");
+    section.imports(&imports).expect("accepted");
+    section.runtime_path(&folders).expect("accepted");
+    check_len(&rt, section.len(), section.is_empty(), 5);
+    check(
+        &rt,
+        alloc,
+        &section,
+        b"\x2E\x08dylink.0\
+        \x01\x05\xAC\x02\x04\x05\x00\
+        \x02\x06\x01\x04a.so\
+        \x03\x04\x01\x01f\x01\
+        \x04\x08\x01\x03env\x01g\x10\
+        \x05\x04\x01\x02/l",
+    )
+}
+
+#[test]
+fn debug_files() {
+    let rt = crate::host::HostRuntime;
+    check(
+        &rt,
+        rt.alloc(),
+        &SourceMappingUrl("a.map"),
+        b"\x17\x10sourceMappingURL\x05a.map",
+    );
+    check(
+        &rt,
+        rt.alloc(),
+        &ExternalDebugInfo("d"),
+        b"\x16\x13external_debug_info\x01d",
+    );
+    check(
+        &rt,
+        rt.alloc(),
+        &BuildId(&[0x12, 0x34]),
+        b"\x0C\x08build_id\x02\x12\x34",
+    );
+    check(&rt, rt.alloc(), &BuildId(&[]), b"\x0A\x08build_id\x00")
 }
 
 /// Checks that a section of one hint encodes to these bytes.

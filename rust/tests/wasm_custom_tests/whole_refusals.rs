@@ -9,7 +9,7 @@ use crate::refusals::{check_append_to, check_copy, check_encode, check_written};
 use crate::host::Abort;
 use crate::test_support::{Heap, MOST, Refusing};
 use dolzhytik::fallible::{CowSlice, CowStr, Encode, Result};
-use dolzhytik::fallible::{BranchHint, CoreDumpInstancesSection, CoreDumpModulesSection, CoreDumpSection, CoreDumpStackSection, CoreDumpValue, CustomSection, DataSymbolDefinition, RawCustomSection};
+use dolzhytik::fallible::{BranchHint, BuildId, CoreDumpInstancesSection, CoreDumpModulesSection, CoreDumpSection, CoreDumpStackSection, CoreDumpValue, CustomSection, DataSymbolDefinition, ExternalDebugInfo, RawCustomSection, SourceMappingUrl};
 
 /// Checks that the call returns an item of these bytes, or fails.
 fn check_made<'h, T: Encode, F: Fn() -> Result<T>>(
@@ -44,6 +44,18 @@ fn copied_process() {
     check_encode(&rt, &heap, &section);
     check_append_to(&rt, &heap, &section);
     check_made(&rt, &heap, PROCESS, || section.clone())
+}
+
+#[test]
+fn debug_files() {
+    let rt = crate::host::HostRuntime;
+    let heap = Refusing::new(rt.alloc());
+    check_encode(&rt, &heap, &SourceMappingUrl("a.map"));
+    check_append_to(&rt, &heap, &SourceMappingUrl("a.map"));
+    check_encode(&rt, &heap, &ExternalDebugInfo("d"));
+    check_append_to(&rt, &heap, &ExternalDebugInfo("d"));
+    check_encode(&rt, &heap, &BuildId(&[0x12, 0x34]));
+    check_append_to(&rt, &heap, &BuildId(&[0x12, 0x34]))
 }
 
 const MODULES: &[u8] = b"\x13\x0Bcoremodules\x01\x00\x04mod1";

@@ -9,7 +9,7 @@ use crate::test_support::{MOST, Refusing};
 use dolzhytik::reader::{Padded, ReadFault, Shorten, SizePrefixed, append_all};
 use dolzhytik::fallible::{Refused, Result};
 use dolzhytik::reader::shorten_body;
-use dolzhytik::fallible::{append_hints, append_instances, append_links, append_modules, append_names, append_process, append_producers, append_stack, read_hints, read_instances, read_links, read_modules, read_names, read_process, read_producers, read_stack};
+use dolzhytik::fallible::{append_build_id, append_debug_file, append_dylink, append_features, append_hints, append_instances, append_links, append_modules, append_names, append_process, append_producers, append_source_map, append_stack, read_dylink, read_features, read_hints, read_instances, read_links, read_modules, read_names, read_process, read_producers, read_stack};
 use dolzhytik::fallible::{append_imports, read_imports};
 use dolzhytik::fallible::{append_types, read_types};
 
@@ -94,6 +94,48 @@ fn producers() {
     let items = read_producers::<&Refusing<Global>, Padded>(bytes, &heap).expect("read");
     check(&rt, &heap, bytes, |sink: &mut Vec<u8, _>| {
         append_producers(&items, sink)
+    });
+}
+
+#[test]
+fn target_features() {
+    let rt = crate::host::HostRuntime;
+    let heap = Refusing::new(rt.alloc());
+    let bytes = b"\x0Ftarget_features\x02+\x0Bbulk-memory-\x1Ethe_feature_with_a_longer_name";
+    let items = read_features::<&Refusing<Global>, Padded>(bytes, &heap).expect("read");
+    check(&rt, &heap, bytes, |sink: &mut Vec<u8, _>| {
+        append_features(&items, sink)
+    });
+}
+
+#[test]
+fn dylink() {
+    let rt = crate::host::HostRuntime;
+    let heap = Refusing::new(rt.alloc());
+    let bytes = b"\x08dylink.0\x01\x04\x01\x02\x03\x04\
+        \x02\x25\x01\x23the_programme_with_a_long_long_name";
+    let items = read_dylink::<&Refusing<Global>, Padded>(bytes, &heap).expect("read");
+    check(&rt, &heap, bytes, |sink: &mut Vec<u8, _>| {
+        append_dylink(&items, sink)
+    });
+}
+
+#[test]
+fn debug_files() {
+    let rt = crate::host::HostRuntime;
+    let heap = Refusing::new(rt.alloc());
+    let text = "the_programme_with_a_long_long_name";
+    let bytes = b"\x10sourceMappingURL\x23the_programme_with_a_long_long_name";
+    check(&rt, &heap, bytes, |sink: &mut Vec<u8, _>| {
+        append_source_map(text, sink)
+    });
+    let bytes = b"\x13external_debug_info\x23the_programme_with_a_long_long_name";
+    check(&rt, &heap, bytes, |sink: &mut Vec<u8, _>| {
+        append_debug_file(text, sink)
+    });
+    let bytes = b"\x08build_id\x23the_programme_with_a_long_long_name";
+    check(&rt, &heap, bytes, |sink: &mut Vec<u8, _>| {
+        append_build_id(text.as_bytes(), sink)
     });
 }
 

@@ -4,13 +4,14 @@
 use crate::custom_seen::{Told, Value, read};
 use dolzhytik::fallible::Global;
 use crate::host::Abort;
+use dolzhytik::fallible::FeaturePrefix;
 use dolzhytik::reader::SectionKind;
 
 /// A kind, a section of it, and the decoded items.
 pub(crate) type Row = (SectionKind, &'static [u8], Told<'static>);
 
 /// Sections of minimal numbers.
-pub(crate) static ROWS: [Row; 26] = [
+pub(crate) static ROWS: [Row; 37] = [
     (
         SectionKind::Names,
         b"\x09\x04name\x00\x02\x01m",
@@ -133,6 +134,61 @@ pub(crate) static ROWS: [Row; 26] = [
         b"\x20\x19metadata.code.branch_hint\x01\x00\x01\x03\x01\x7F",
         Told::Hint(0, 3, 127),
     ),
+    (
+        SectionKind::TargetFeatures,
+        b"\x25\x0Ftarget_features\x03+\x07atomics-\x07simd128=\x00",
+        Told::Features(
+            (FeaturePrefix::Used, "atomics"),
+            (FeaturePrefix::Disallowed, "simd128"),
+            (FeaturePrefix::Required, ""),
+        ),
+    ),
+    (
+        SectionKind::TargetFeatures,
+        b"\x11\x0Ftarget_features\x00",
+        Told::Nothing,
+    ),
+    (
+        SectionKind::SourceMappingUrl,
+        b"\x17\x10sourceMappingURL\x05a.map",
+        Told::Url("a.map"),
+    ),
+    (
+        SectionKind::ExternalDebugInfo,
+        b"\x16\x13external_debug_info\x01d",
+        Told::Path("d"),
+    ),
+    (
+        SectionKind::BuildId,
+        b"\x0C\x08build_id\x02\x12\x34",
+        Told::Build(&[0x12, 0x34]),
+    ),
+    (
+        SectionKind::Dylink,
+        b"\x10\x08dylink.0\x01\x05\xAC\x02\x04\x05\x00",
+        Told::Memory(300, 4, 5, 0),
+    ),
+    (
+        SectionKind::Dylink,
+        b"\x11\x08dylink.0\x02\x06\x01\x04a.so",
+        Told::Needed("a.so"),
+    ),
+    (
+        SectionKind::Dylink,
+        b"\x0F\x08dylink.0\x03\x04\x01\x01f\x01",
+        Told::Export("f", 1),
+    ),
+    (
+        SectionKind::Dylink,
+        b"\x13\x08dylink.0\x04\x08\x01\x03env\x01g\x10",
+        Told::Import("env", "g", 16),
+    ),
+    (
+        SectionKind::Dylink,
+        b"\x0F\x08dylink.0\x05\x04\x01\x02/l",
+        Told::Folder("/l"),
+    ),
+    (SectionKind::Dylink, b"\x09\x08dylink.0", Told::Nothing),
 ];
 
 /// Sections of padded numbers.

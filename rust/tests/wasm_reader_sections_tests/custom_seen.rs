@@ -2,7 +2,7 @@
 // Items of custom sections as plain data.
 
 use dolzhytik::fallible::Global;
-use dolzhytik::fallible::{CoreDumpValue, CoreFrame, DataSymbolDefinition, LinkItem, NameItem, Symbol};
+use dolzhytik::fallible::{CoreDumpValue, CoreFrame, DataSymbolDefinition, DylinkItem, FeaturePrefix, LinkItem, NameItem, Symbol};
 use dolzhytik::reader::{Items, SectionKind, read_section};
 
 /// A value of a core dump.
@@ -45,6 +45,19 @@ pub(crate) enum Told<'a> {
     Instance(u32, u32, u32),
     /// The thread, the location of its frame, and a local and a value of the stack.
     Frame(&'a str, (u32, u32, u32), Value, Value),
+    /// The prefixes and names of three features.
+    Features((FeaturePrefix, &'a str), (FeaturePrefix, &'a str), (FeaturePrefix, &'a str)),
+    Url(&'a str),
+    Path(&'a str),
+    Build(&'a [u8]),
+    /// Sizes and alignments of memory and table.
+    Memory(u32, u32, u32, u32),
+    Needed(&'a str),
+    /// Name and flags.
+    Export(&'a str, u32),
+    /// Module, name and flags.
+    Import(&'a str, &'a str, u32),
+    Folder(&'a str),
     Others,
 }
 
@@ -109,6 +122,33 @@ fn link_told<'a>(item: &LinkItem<'a>) -> Told<'a> {
     }
 }
 
+fn library_told<'a>(item: &DylinkItem<'a>) -> Told<'a> {
+    match item {
+        DylinkItem::Memory(memory) => Told::Memory(
+            memory.memory_size,
+            memory.memory_alignment,
+            memory.table_size,
+            memory.table_alignment,
+        ),
+        DylinkItem::Needed(names) => match names.as_slice() {
+            [name] => Told::Needed(name),
+            _ => Told::Others,
+        },
+        DylinkItem::ExportFlags(exports) => match exports.as_slice() {
+            [export] => Told::Export(export.name, export.flags),
+            _ => Told::Others,
+        },
+        DylinkItem::ImportFlags(imports) => match imports.as_slice() {
+            [import] => Told::Import(import.module_name, import.name, import.flags),
+            _ => Told::Others,
+        },
+        DylinkItem::RuntimePath(paths) => match paths.as_slice() {
+            [path] => Told::Folder(path),
+            _ => Told::Others,
+        },
+    }
+}
+
 fn frame_told<'a>(thread: &'a str, frame: &CoreFrame) -> Told<'a> {
     match (frame.locals.as_slice(), frame.stack.as_slice()) {
         ([local], [top]) => Told::Frame(
@@ -121,7 +161,7 @@ fn frame_told<'a>(thread: &'a str, frame: &CoreFrame) -> Told<'a> {
     }
 }
 
-/// Returns the items of a section of names, links or producers.
+/// Returns the items of a section of names, links, producers, target features or debug files.
 fn items_told<'a>(items: &Items<'a>) -> Told<'a> {
     match items {
         Items::Names(names) => match names.as_slice() {
@@ -140,6 +180,19 @@ fn items_told<'a>(items: &Items<'a>) -> Told<'a> {
                 [first, second] => Told::Field(name, *first, *second),
                 _ => Told::Others,
             },
+            _ => Told::Others,
+        },
+        Items::TargetFeatures(features) => match features.as_slice() {
+            [] => Told::Nothing,
+            [first, second, third] => Told::Features(*first, *second, *third),
+            _ => Told::Others,
+        },
+        Items::SourceMappingUrl(url) => Told::Url(url),
+        Items::ExternalDebugInfo(path) => Told::Path(path),
+        Items::BuildId(bytes) => Told::Build(bytes),
+        Items::Dylink(items) => match items.as_slice() {
+            [] => Told::Nothing,
+            [item] => library_told(item),
             _ => Told::Others,
         },
         _ => dump_told(items),

@@ -18,7 +18,7 @@ fn check(rt: &impl Abort, alloc: Global, kind: SectionKind, bytes: &[u8], expect
 /// A kind, bytes that are not a section of it, and the error.
 pub(crate) type Row = (SectionKind, &'static [u8], ReadFault);
 
-pub(crate) static ROWS: [Row; 42] = [
+pub(crate) static ROWS: [Row; 51] = [
     (
         SectionKind::Types,
         &[5, 1, 0x4F, 0, 0x5F, 0],
@@ -187,6 +187,51 @@ pub(crate) static ROWS: [Row; 42] = [
     (
         SectionKind::CoreStack,
         b"\x10\x09corestack\x00\x04main",
+        ReadFault::Ended,
+    ),
+    (
+        SectionKind::TargetFeatures,
+        b"\x14\x0Ftarget_features\x01!\x01a",
+        ReadFault::UnknownTag,
+    ),
+    (
+        SectionKind::TargetFeatures,
+        b"\x14\x0Ftarget_features\x02+\x01a",
+        ReadFault::Ended,
+    ),
+    (
+        SectionKind::TargetFeatures,
+        b"\x15\x0Ftarget_features\x01+\x01a\x00",
+        ReadFault::SizeMismatch,
+    ),
+    (
+        SectionKind::SourceMappingUrl,
+        b"\x13\x10sourceMappingURL\x01\xFF",
+        ReadFault::NotUtf8,
+    ),
+    (
+        SectionKind::ExternalDebugInfo,
+        b"\x17\x13external_debug_info\x01dx",
+        ReadFault::SizeMismatch,
+    ),
+    (
+        SectionKind::BuildId,
+        b"\x0B\x08build_id\x02\x12",
+        ReadFault::Ended,
+    ),
+    (
+        SectionKind::Dylink,
+        b"\x0B\x08dylink.0\x06\x00",
+        ReadFault::UnknownTag,
+    ),
+    (
+        SectionKind::Dylink,
+        b"\x10\x08dylink.0\x01\x05\x01\x02\x03\x04\x05",
+        ReadFault::SizeMismatch,
+    ),
+    (
+        SectionKind::Dylink,
+        b"\x0D\x08dylink.0\x02\x02\x02\x00",
         ReadFault::Ended,
     ),
 ];

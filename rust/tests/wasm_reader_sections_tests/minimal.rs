@@ -19,7 +19,7 @@ const BEFORE: u8 = 0xAA;
 /// A section with padded numbers, and its minimal encoding.
 type Row = (SectionKind, &'static [u8], &'static [u8]);
 
-static PADDED: [Row; 37] = [
+static PADDED: [Row; 43] = [
     (
         SectionKind::Producers,
         &[
@@ -204,6 +204,36 @@ static PADDED: [Row; 37] = [
         SectionKind::CoreStack,
         b"\x1E\x09corestack\x00\x84\x00main\x01\x00\x80\x00\x2A\x33\x01\x7F\x81\x00\x01\x7F\x02",
         b"\x1B\x09corestack\x00\x04main\x01\x00\x00\x2A\x33\x01\x7F\x01\x01\x7F\x02",
+    ),
+    (
+        SectionKind::TargetFeatures,
+        b"\x17\x8F\x00target_features\x81\x00+\x81\x00a",
+        b"\x14\x0Ftarget_features\x01+\x01a",
+    ),
+    (
+        SectionKind::SourceMappingUrl,
+        b"\x98\x00\x10sourceMappingURL\x85\x00a.map",
+        b"\x17\x10sourceMappingURL\x05a.map",
+    ),
+    (
+        SectionKind::ExternalDebugInfo,
+        b"\x17\x93\x00external_debug_info\x01d",
+        b"\x16\x13external_debug_info\x01d",
+    ),
+    (
+        SectionKind::BuildId,
+        b"\x0E\x08build_id\x82\x80\x00\x12\x34",
+        b"\x0C\x08build_id\x02\x12\x34",
+    ),
+    (
+        SectionKind::Dylink,
+        b"\x13\x08dylink.0\x01\x87\x00\xAC\x02\x84\x00\x05\x80\x00",
+        b"\x10\x08dylink.0\x01\x05\xAC\x02\x04\x05\x00",
+    ),
+    (
+        SectionKind::Dylink,
+        b"\x15\x08dylink.0\x04\x0A\x81\x00\x03env\x81\x00g\x10",
+        b"\x13\x08dylink.0\x04\x08\x01\x03env\x01g\x10",
     ),
     (SectionKind::Raw, &[0x82, 0, 1, 2], &[2, 1, 2]),
     (

@@ -3,7 +3,7 @@
 
 use dolzhytik::reader::SectionKind;
 
-/// The first kind, three others, and a number that no kind has: the numbers are those of
+/// The first kind, others, and a number that no kind has: the numbers are those of
 /// `dolzhytik.h`.
 #[test]
 fn numbered() {
@@ -12,5 +12,20 @@ fn numbered() {
     assert_eq!(rt; SectionKind::numbered(5), Some(SectionKind::Functions));
     assert_eq!(rt; SectionKind::numbered(15), Some(SectionKind::Hints));
     assert_eq!(rt; SectionKind::numbered(22), Some(SectionKind::Types));
+    assert_eq!(rt;
+        SectionKind::numbered(23),
+        Some(SectionKind::TargetFeatures)
+    );
+    assert_eq!(rt;
+        SectionKind::numbered(24),
+        Some(SectionKind::SourceMappingUrl)
+    );
+    assert_eq!(rt;
+        SectionKind::numbered(25),
+        Some(SectionKind::ExternalDebugInfo)
+    );
+    assert_eq!(rt; SectionKind::numbered(26), Some(SectionKind::BuildId));
+    assert_eq!(rt; SectionKind::numbered(27), Some(SectionKind::Dylink));
+    assert_eq!(rt; SectionKind::numbered(28), None);
     assert_eq!(rt; SectionKind::numbered(u32::MAX), None)
 }

@@ -57,7 +57,7 @@ fn check(
 /// A call, the bytes, and the number of requests.
 type Row = (Question, &'static [u8], u64);
 
-static ROWS: [Row; 34] = [
+static ROWS: [Row; 40] = [
     (Question::Section(SectionKind::Functions), &[2, 1, 5], 1),
     (
         Question::Section(SectionKind::Bodies),
@@ -156,6 +156,36 @@ static ROWS: [Row; 34] = [
         Question::Section(SectionKind::CoreStack),
         b"\x1B\x09corestack\x00\x04main\x01\x00\x00\x2A\x33\x01\x7F\x01\x01\x7F\x02",
         3,
+    ),
+    (
+        Question::Section(SectionKind::TargetFeatures),
+        b"\x17\x0Ftarget_features\x02+\x01a-\x01b",
+        1,
+    ),
+    (
+        Question::Section(SectionKind::SourceMappingUrl),
+        b"\x17\x10sourceMappingURL\x05a.map",
+        0,
+    ),
+    (
+        Question::Section(SectionKind::ExternalDebugInfo),
+        b"\x16\x13external_debug_info\x01d",
+        0,
+    ),
+    (
+        Question::Section(SectionKind::BuildId),
+        b"\x0C\x08build_id\x02\x12\x34",
+        0,
+    ),
+    (
+        Question::Section(SectionKind::Dylink),
+        b"\x10\x08dylink.0\x01\x05\xAC\x02\x04\x05\x00",
+        1,
+    ),
+    (
+        Question::Section(SectionKind::Dylink),
+        b"\x13\x08dylink.0\x04\x08\x01\x03env\x01g\x10",
+        2,
     ),
     (Question::Section(SectionKind::Custom), &[1, 0], 0),
     (Question::Section(SectionKind::Raw), &[1, 0], 0),

@@ -4,9 +4,11 @@
 
 use dolzhytik::fallible::Vec;
 use crate::checks::check_bytes;
-use crate::examples::read_back::custom::{read_custom, read_hints, read_linking, read_more_names, read_producers};
+use crate::examples::read_back::custom::{read_custom, read_features, read_hints, read_linking, read_more_names, read_producers};
+use crate::examples::read_back::debug_files::{read_build_id, read_debug_file, read_source_map};
 use crate::examples::read_back::declared::{read_exports, read_imports, read_memories, read_tables, read_tags, read_types};
 use crate::examples::read_back::dumps::{core_dump, read_instances, read_modules, read_process, read_stack};
+use crate::examples::read_back::dylink::read_dylink;
 use crate::examples::read_back::handed::handed_module;
 use crate::examples::read_back::padded::{padded_entries, read_padded_segment, write_padded_bodies};
 use crate::examples::read_back::stored::{read_bodies, read_data_count, read_elements, read_globals, read_segments, read_start};
@@ -256,6 +258,86 @@ fn producers() {
         let is_kind = matches!(
             read_producers(&mut text, "1", &mut sink)?,
             Items::Producers(_)
+        );
+        Ok((is_kind, sink))
+    })
+}
+
+#[test]
+fn target_features() {
+    let rt = crate::host::HostRuntime;
+    let heap = Refusing::new(rt.alloc());
+    let expected = b"\x20\x0Ftarget_features\x02+\x07atomics-\x04simd";
+    check_read(&rt, &heap, expected, |heap| {
+        let (mut text, mut sink) = (Vec::new(heap), Vec::new(heap));
+        let is_kind = matches!(
+            read_features(&mut text, "simd", &mut sink)?,
+            Items::TargetFeatures(_)
+        );
+        Ok((is_kind, sink))
+    })
+}
+
+#[test]
+fn source_map() {
+    let rt = crate::host::HostRuntime;
+    let heap = Refusing::new(rt.alloc());
+    let expected = b"\x17\x10sourceMappingURL\x05a.map";
+    check_read(&rt, &heap, expected, |heap| {
+        let (mut text, mut sink) = (Vec::new(heap), Vec::new(heap));
+        let is_kind = matches!(
+            read_source_map(&mut text, "a.map", &mut sink)?,
+            Items::SourceMappingUrl(_)
+        );
+        Ok((is_kind, sink))
+    })
+}
+
+#[test]
+fn debug_file() {
+    let rt = crate::host::HostRuntime;
+    let heap = Refusing::new(rt.alloc());
+    let expected = b"\x16\x13external_debug_info\x01d";
+    check_read(&rt, &heap, expected, |heap| {
+        let (mut text, mut sink) = (Vec::new(heap), Vec::new(heap));
+        let is_kind = matches!(
+            read_debug_file(&mut text, "d", &mut sink)?,
+            Items::ExternalDebugInfo(_)
+        );
+        Ok((is_kind, sink))
+    })
+}
+
+#[test]
+fn build_id() {
+    let rt = crate::host::HostRuntime;
+    let heap = Refusing::new(rt.alloc());
+    let expected = b"\x0C\x08build_id\x02\x12\x34";
+    check_read(&rt, &heap, expected, |heap| {
+        let (mut text, mut sink) = (Vec::new(heap), Vec::new(heap));
+        let is_kind = matches!(
+            read_build_id(&mut text, &[0x12, 0x34], &mut sink)?,
+            Items::BuildId(_)
+        );
+        Ok((is_kind, sink))
+    })
+}
+
+#[test]
+fn dylink() {
+    let rt = crate::host::HostRuntime;
+    let heap = Refusing::new(rt.alloc());
+    let expected = b"\x2D\x08dylink.0\
+        \x01\x04\x10\x02\x00\x00\
+        \x02\x06\x01\x04a.so\
+        \x03\x04\x01\x01f\x04\
+        \x04\x08\x01\x03env\x01g\x01\
+        \x05\x04\x01\x02/l";
+    check_read(&rt, &heap, expected, |heap| {
+        let (mut text, mut sink) = (Vec::new(heap), Vec::new(heap));
+        let is_kind = matches!(
+            read_dylink(&mut text, "a.so", 4, &mut sink)?,
+            Items::Dylink(_)
         );
         Ok((is_kind, sink))
     })

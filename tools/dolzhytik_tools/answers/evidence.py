@@ -7,7 +7,7 @@ from ..errors import Stop
 from .proof import Proof
 from .scope import NUMBER_TYPES, STRING_TYPE, Scope
 from .syntax import NONE, Minus, Number, Path, PathCall, Struct, Text, Tree, is_call_of, is_struct
-from .tables import BARE_REFS, BARE_TYPES, INTS
+from .tables import BARE_REFS, BARE_TYPES, INTS, PREFIXES, VARIANTS
 
 
 @dataclass(frozen=True)
@@ -88,6 +88,12 @@ class Evidence:
 
     def reference_type(self, tree: Tree) -> Shown:
         return self.constant_of(tree, "RefType", BARE_REFS, "a type of references with a number in it")
+
+    def feature_prefix(self, tree: Tree) -> str:
+        """Returns the prefix of a feature as a term, and imports it."""
+        term = self.constant_of(tree, "FeaturePrefix", PREFIXES, "a prefix that is not written out").term
+        self.proof.use(VARIANTS["FeaturePrefix"], term)
+        return term
 
     def constant_of(self, tree: Tree, name: str, known: set[str], trouble: str) -> Shown:
         tree = self.scope.settled(tree)

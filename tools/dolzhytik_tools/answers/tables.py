@@ -40,6 +40,7 @@ BUILDERS = {
     "LinkingSection": BuilderLaws("new_linking", "wasm_custom", "ContainsLinks"),
     "ProducersField": BuilderLaws("new_field", "wasm_custom", "AreProducers"),
     "ProducersSection": BuilderLaws("new_producers", "wasm_custom", "ContainsFields"),
+    "TargetFeaturesSection": BuilderLaws("new_features", "wasm_custom", "ContainsFeatures"),
     "BranchHints": BuilderLaws("new_hints", "wasm_custom", "ContainsHints"),
     "CoreDumpModulesSection": BuilderLaws("new_modules", "wasm_custom", "ContainsModules"),
     "CoreDumpInstancesSection": BuilderLaws("new_instances", "wasm_custom", "ContainsInstances"),
@@ -63,6 +64,7 @@ GAINS = {
     "ContainsNames": Gain("gains_names", "encodes_entries (size_prefixed name_payload) _ _"),
     "ContainsLinks": Gain("gains_linking", "encodes_entries (size_prefixed linking_payload) _ _"),
     "ContainsFields": Gain("gains_producers", "encodes_entries (size_prefixed producers_payload) _ _"),
+    "ContainsFeatures": Gain("gains_features", "encodes_entries (size_prefixed features_payload) _ _"),
     "ContainsHints": Gain("gains_hints", "encodes_entries (size_prefixed hints_payload) _ _"),
     "ContainsModules": Gain("gains_modules", "encodes_entries (size_prefixed modules_payload) _ _"),
     "ContainsInstances": Gain("gains_instances", "encodes_entries (size_prefixed instances_payload) _ _"),
@@ -76,11 +78,16 @@ PAYLOADS = {
     "name_payload": "Names",
     "linking_payload": "Linking",
     "producers_payload": "Producers",
+    "features_payload": "TargetFeatures",
     "hints_payload": "Hints",
     "core_payload": "CoreDumps",
     "modules_payload": "CoreDumps",
     "instances_payload": "CoreDumps",
     "stack_payload": "CoreStacks",
+    "dylink_payload": "Dylink",
+    "source_map_payload": "DebugFiles",
+    "debug_file_payload": "DebugFiles",
+    "build_id_payload": "DebugFiles",
 }
 
 # Sections of one number.
@@ -96,6 +103,7 @@ ARITH, INTS = "Rattle.std.proofs.Common", "Rattle.std.proofs.lemmas.Int"
 PRELUDE = "Rattle.std.specs.Prelude"
 GLOBAL = "Rattle.std.specs.declared.alloc.Global"
 VARIANTS = {
+    "FeaturePrefix": "Rattle.wasm_custom.specs.declared.target_features.FeaturePrefix.TheVariants",
     "BlockType": "Rattle.wasm_immediates.specs.declared.block_type.BlockType.TheVariants",
     "ValType": "Rattle.wasm_base.specs.declared.types.ValType.TheVariants",
     "MemArgTarget": "Rattle.wasm_immediates.specs.declared.memory.MemArgTarget.TheVariants",
@@ -105,5 +113,7 @@ VARIANTS = {
 # The types whose values have no index.
 BARE_TYPES = {"I32", "I64", "F32", "F64", "V128"}
 BARE_REFS = {"FUNCREF", "EXTERNREF"}
+# The prefixes of target features.
+PREFIXES = {"Used", "Disallowed", "Required"}
 # Heap types by their constants, and the abstract type of each, which is not shared.
 BARE_HEAPS = {"FUNC": "Func", "EXTERN": "Extern"}

@@ -11,7 +11,7 @@ import tempfile
 from ..answers import command
 from ..repository import TOP, text_of
 from .answers_samples import (
-    CODE, EXPORTS, HEAD, HINTS, LINKING, MODULE, PRODUCERS, READ, STACK, SUM, SYMBOLS, WRITTEN, WRITTEN_OF_CUSTOM,
+    CODE, EXPORTS, FEATURES, HEAD, HINTS, LINKING, MODULE, PRODUCERS, READ, STACK, SUM, SYMBOLS, WRITTEN, WRITTEN_OF_CUSTOM,
 )
 from .report import end, report, usage_of
 
@@ -49,6 +49,7 @@ STOPS = [
     ("a symbol's name that is no option", SYMBOLS, ("Some(name)", "name"), "neither"),
     ("symbols that no function says", LINKING, ("&symbols(alloc, name)?", "&given"), "nothing is known"),
     ("a custom section with padded numbers", LINKING, ("GainsDecoding ", "GainsDecodingPadded "), "padded"),
+    ("a prefix that is not written out", FEATURES, ("FeaturePrefix::Used", "prefix"), "prefix"),
     ("hints that are no array", HINTS, ("[hint]", "given"), "no array"),
     ("a value of a core dump that is a float", STACK, ("CoreDumpValue::Missing", "CoreDumpValue::F32(one)"), "core dump"),
 ]
@@ -179,7 +180,7 @@ def tutorial_trouble() -> str | None:
 def main() -> int:
     """Runs the tests."""
     core = "".join(map(function_of, (SUM, CODE, EXPORTS, MODULE)))
-    custom = "".join(map(function_of, (SYMBOLS, LINKING, PRODUCERS, HINTS, STACK))) + READ
+    custom = "".join(map(function_of, (SYMBOLS, LINKING, PRODUCERS, FEATURES, HINTS, STACK))) + READ
     troubles = {"what is written": written_trouble(core, WRITTEN), "what is written of custom sections": written_trouble(custom, WRITTEN_OF_CUSTOM)}
     troubles.update({name: stop_trouble(*what) for name, *what in STOPS})
     troubles.update({"clauses": clause_trouble(), "files written by hand": by_hand_trouble(), "--check": check_trouble(), "words": words_trouble(), "the tutorial": tutorial_trouble()})

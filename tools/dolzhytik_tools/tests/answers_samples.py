@@ -93,6 +93,15 @@ HINTS = (
     Ok(section)
 """,
 )
+FEATURES = (
+    "features<A: Allocator + Copy>(alloc: A, name: &str) -> R<TargetFeaturesSection<A>>",
+    "IfOk result (λ section. ContainsFeatures section (item name.now ∷ []))",
+    """
+    let mut section = TargetFeaturesSection::new(alloc);
+    section.feature(FeaturePrefix::Used, name)?;
+    Ok(section)
+""",
+)
 STACK = (
     "stack<A: Allocator + Copy>(alloc: A, name: &str) -> R<CoreDumpStackSection<A>>",
     "IfOk result (λ section. SaysStack section.0 section.1 (name.now, item 0 0 ∷ []))",
@@ -211,6 +220,14 @@ pub returns : goal.returns
 returns g c =
     let s1 = adds_value (new_field c.new-values.ensures) (codes "mine", c.args.version.now) c.in_ok-value.ensures.ok c.in_ok-value.ensures.counted c.in_ok-value.ensures.was_encodable (ascii refl) c.utf8.version in
     adds_field (new_producers c.new-section.ensures) (codes "language") s1 c.in_ok-field.ensures.ok c.in_ok-field.ensures.was_encodable (ascii refl)
+""",
+    "features": """-- Written by tools/answers.
+use Rattle.wasm_custom.proofs.Calls.{new_features, adds_feature}
+use Rattle.wasm_custom.specs.declared.target_features.FeaturePrefix.TheVariants.{Used}
+use Rattle.mine.proofs.adding.features.Goals as goal
+
+pub returns : goal.returns
+returns g c = adds_feature (new_features c.new-section.ensures) (Used, c.args.name.now) c.in_ok-feature.ensures.ok c.in_ok-feature.ensures.was_encodable c.utf8.name
 """,
     "hints": """-- Written by tools/answers.
 use Rattle.std.proofs.Common.{arith}

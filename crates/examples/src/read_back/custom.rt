@@ -1,4 +1,5 @@
-//! Custom sections, written and read back: names, linking, producers, hints, and any name and data.
+//! Custom sections, written and read back: names, linking, producers, target features, hints, and
+//! any name and data.
 ghost use Rattle.std.specs.Prelude.{◌≡◌, ◌≢◌, ◌++◌, [], ◌∷◌, true, false, Err, IfOk, IfErr, OnOk, OnErr, map};
 ghost use Rattle.wasm_base.specs.Formats.{size_prefixed, custom as custom_format};
 ghost use Rattle.wasm_base.specs.Modules.{GainsDecoding};
@@ -8,17 +9,19 @@ ghost use Rattle.wasm_custom.specs.Names.{name_payload, name_item_view};
 ghost use Rattle.wasm_custom.specs.Linking.{linking_payload};
 ghost use Rattle.wasm_custom.specs.Producers.{producers_payload};
 ghost use Rattle.wasm_custom.specs.Hints.{hints_payload};
+ghost use Rattle.wasm_custom.specs.TargetFeatures.{features_payload};
 ghost use Rattle.wasm_base.specs.Minimal.{AppendsMinimal};
 ghost use Rattle.wasm_base.specs.declared.fault.ReadFault.TheVariants.{Memory};
-ghost use Rattle.examples.specs.Customs.{name_and_more, data_symbol, links, language, likely_hints};
-ghost use Rattle.wasm_reader.specs.Kinds.{Names, Linking, Producers, Hints, Custom, contents_of};
+ghost use Rattle.examples.specs.Customs.{name_and_more, data_symbol, links, language, likely_hints, used_and_not};
+ghost use Rattle.wasm_reader.specs.Kinds.{Names, Linking, Producers, Hints, Custom, TargetFeatures, contents_of};
 
 use crate::read_back::read_and_shorten;
 use std::alloc::Allocator;
 use wasm_base::{CowSlice, CowStr, Encode, Padded, ReadFault, Result};
 use wasm_custom::{
-    BranchHint, BranchHints, CustomSection, DataSymbolDefinition, LinkingSection, NameItem,
-    NameSection, ProducersField, ProducersSection, SymbolTable, append_names, read_names,
+    BranchHint, BranchHints, CustomSection, DataSymbolDefinition, FeaturePrefix, LinkingSection,
+    NameItem, NameSection, ProducersField, ProducersSection, SymbolTable, TargetFeaturesSection,
+    append_names, read_names,
 };
 use wasm_reader::{Items, SectionKind};
 
@@ -152,6 +155,32 @@ pub fn read_producers<'a, A: Allocator + Copy + 'a>(
 {
     write_producers(encoding, version)?;
     let items = read_and_shorten(SectionKind::Producers, encoding, sink)?;
+    Ok(items)
+}
+
+/// Appends a target features section: a feature that is used, and one that is not allowed.
+fn write_features<A: Allocator + Copy>(sink: &mut Vec<u8, A>, feature: &str) -> Result<()>
+    ensures { OnOk result (GainsDecoding (size_prefixed features_payload) (used_and_not feature.now) sink.old.items sink.new.items) }
+{
+    let mut section = TargetFeaturesSection::new(*sink.allocator());
+    section.feature(FeaturePrefix::Used, "atomics")?;
+    section.feature(FeaturePrefix::Disallowed, feature)?;
+    section.encode(sink)
+}
+
+/// Decodes that target features section, and appends its minimal encoding.
+pub fn read_features<'a, A: Allocator + Copy + 'a>(
+    encoding: &'a mut Vec<u8, A>,
+    feature: &str,
+    sink: &mut Vec<u8, A>,
+) -> Result<Items<'a, A>, ReadFault>
+    requires { encoding.old.items ≡ [] }
+    ensures read { IfOk result (λ items. contents_of items ≡ TargetFeatures (used_and_not feature.now)) }
+    ensures same { OnOk result (GainsDecoding (size_prefixed features_payload) (used_and_not feature.now) sink.old.items sink.new.items) }
+    ensures memory { IfErr result (λ e. e ≢ Memory → ⊥) }
+{
+    write_features(encoding, feature)?;
+    let items = read_and_shorten(SectionKind::TargetFeatures, encoding, sink)?;
     Ok(items)
 }
 

@@ -1,12 +1,13 @@
 // Written by tools/to-rust from crates/examples/src/read_back/custom.rt: change that.
-//! Custom sections, written and read back: names, linking, producers, hints, and any name and data.
+//! Custom sections, written and read back: names, linking, producers, target features, hints, and
+//! any name and data.
 
 use dolzhytik::fallible::{Sink, Vec};
 use crate::examples::read_back::read_and_shorten;
 use dolzhytik::fallible::Allocator;
 use dolzhytik::fallible::{CowSlice, CowStr, Encode, Result};
 use dolzhytik::reader::{Padded, ReadFault};
-use dolzhytik::fallible::{BranchHint, BranchHints, CustomSection, DataSymbolDefinition, LinkingSection, NameItem, NameSection, ProducersField, ProducersSection, SymbolTable, append_names, read_names};
+use dolzhytik::fallible::{BranchHint, BranchHints, CustomSection, DataSymbolDefinition, FeaturePrefix, LinkingSection, NameItem, NameSection, ProducersField, ProducersSection, SymbolTable, TargetFeaturesSection, append_names, read_names};
 use dolzhytik::reader::{Items, SectionKind};
 
 /// Appends a name section: the name of the module, and bytes of an id that no call has.
@@ -190,6 +191,45 @@ pub fn read_producers<'a, A: Allocator + Copy + 'a>(
 ) -> Result<Items<'a, A>, ReadFault> {
     write_producers(encoding, version)?;
     let items = read_and_shorten(SectionKind::Producers, encoding, sink)?;
+    Ok(items)
+}
+
+/// Appends a target features section: a feature that is used, and one that is not allowed.
+///
+/// # Proved
+///
+/// ```text
+/// ensures { OnOk result (GainsDecoding (size_prefixed features_payload) (used_and_not feature.now) sink.old.items sink.new.items) }
+/// ```
+fn write_features<A: Allocator + Copy>(sink: &mut Vec<u8, A>, feature: &str) -> Result<()> {
+    let mut section = TargetFeaturesSection::new(*sink.allocator());
+    section.feature(FeaturePrefix::Used, "atomics")?;
+    section.feature(FeaturePrefix::Disallowed, feature)?;
+    section.encode(sink)
+}
+
+/// Decodes that target features section, and appends its minimal encoding.
+///
+/// # Asks
+///
+/// ```text
+/// requires { encoding.old.items ≡ [] }
+/// ```
+///
+/// # Proved
+///
+/// ```text
+/// ensures read { IfOk result (λ items. contents_of items ≡ TargetFeatures (used_and_not feature.now)) }
+/// ensures same { OnOk result (GainsDecoding (size_prefixed features_payload) (used_and_not feature.now) sink.old.items sink.new.items) }
+/// ensures memory { IfErr result (λ e. e ≢ Memory → ⊥) }
+/// ```
+pub fn read_features<'a, A: Allocator + Copy + 'a>(
+    encoding: &'a mut Vec<u8, A>,
+    feature: &str,
+    sink: &mut Vec<u8, A>,
+) -> Result<Items<'a, A>, ReadFault> {
+    write_features(encoding, feature)?;
+    let items = read_and_shorten(SectionKind::TargetFeatures, encoding, sink)?;
     Ok(items)
 }
 

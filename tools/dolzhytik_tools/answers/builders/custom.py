@@ -1,4 +1,4 @@
-"""Calls of producers sections and of branch hints."""
+"""Calls of producers sections, of target features and of branch hints."""
 from __future__ import annotations
 
 from collections.abc import Callable
@@ -41,6 +41,12 @@ def field(caller: Caller, section: Builder, call: Call) -> str:
     return "%s %s %s %s %s.ok %s.was_encodable %s" % (lemma, section.term, name.term, values.term, call.at, call.at, why)
 
 
+def feature(caller: Caller, section: Builder, call: Call) -> str:
+    prefix, name = caller.evidence.feature_prefix(call.arguments[0]), caller.evidence.name(call.arguments[1])
+    lemma, why = caller.proof.lemma("wasm_custom", "adds_feature"), shown(caller.evidence.utf8(call.arguments[1]))
+    return "%s %s (%s, %s) %s.ok %s.was_encodable %s" % (lemma, section.term, prefix, bare(name.term), call.at, call.at, why)
+
+
 def function_hints(caller: Caller, section: Builder, call: Call) -> str:
     def why(tree: Tree) -> str:
         fields = caller.evidence.fields(tree, "BranchHint", "branch_func_offset", "branch_hint_value")
@@ -54,5 +60,6 @@ def function_hints(caller: Caller, section: Builder, call: Call) -> str:
 ADDERS: Adders = {
     ("ProducersField", "value"): value,
     ("ProducersSection", "field"): field,
+    ("TargetFeaturesSection", "feature"): feature,
     ("BranchHints", "function_hints"): function_hints,
 }

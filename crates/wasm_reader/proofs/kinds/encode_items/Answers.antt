@@ -1,6 +1,7 @@
 use Rattle.wasm_base.proofs.Words.{◌≡◌, ℕ, List, map, sym, ap, subst, ◌∙◌, on_ok, AppendsMinimal}
 use Rattle.wasm_custom.proofs.Words.{instance_view, hints_view}
-use Rattle.wasm_reader.specs.{Contents, Hints, CoreInstances, content, contents_of, kind_in}
+use Rattle.wasm_custom.specs.Words.{dylink_view, feature_view}
+use Rattle.wasm_reader.specs.{Contents, Hints, CoreInstances, TargetFeatures, Dylink, content, contents_of, kind_in}
 use Rattle.wasm_reader.proofs.KindLaws.{AppendsItems, items_appended}
 use Rattle.wasm_reader.proofs.kinds.encode_items.Goals as goal
 
@@ -13,3 +14,9 @@ returns-in-Hints-clause-ok g c = on_ok c.append_hints.result _ _ c.append_hints.
 
 pub returns-in-CoreInstances-clause-ok : goal.returns-in-CoreInstances-clause-ok
 returns-in-CoreInstances-clause-ok g c = on_ok c.append_instances.result _ _ c.append_instances.ensures.ok λ a. of_items _ _ _ _ (ap contents_of c.in-CoreInstances.is ∙ ap (λ v. CoreInstances (map instance_view v)) (sym c.deref-in-CoreInstances.ensures.value)) a
+
+pub returns-in-TargetFeatures-clause-ok : goal.returns-in-TargetFeatures-clause-ok
+returns-in-TargetFeatures-clause-ok g c = on_ok c.append_features.result _ _ c.append_features.ensures.ok λ a. of_items _ _ _ _ (ap contents_of c.in-TargetFeatures.is ∙ ap (λ v. TargetFeatures (map feature_view v)) (sym c.deref-in-TargetFeatures.ensures.value)) a
+
+pub returns-in-Dylink-clause-ok : goal.returns-in-Dylink-clause-ok
+returns-in-Dylink-clause-ok g c = on_ok c.append_dylink.result _ _ c.append_dylink.ensures.ok λ a. of_items _ _ _ _ (ap contents_of c.in-Dylink.is ∙ ap (λ v. Dylink (map dylink_view v)) (sym c.deref-in-Dylink.ensures.value)) a

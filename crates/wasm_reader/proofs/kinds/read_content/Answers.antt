@@ -1,5 +1,6 @@
 use Rattle.wasm_base.proofs.Words.{fault_stays}
-use Rattle.wasm_reader.proofs.KindLaws.{functions_read, names_read, linking_read, producers_read, hints_read, core_modules_read, core_instances_read, core_stack_read}
+use Rattle.wasm_reader.proofs.KindLaws.{functions_read, names_read, linking_read, producers_read, hints_read, core_modules_read, core_instances_read, core_stack_read, target_features_read, source_map_read, debug_file_read, build_id_read}
+use Rattle.wasm_reader.proofs.KindLaws.{dylink_read}
 use Rattle.wasm_reader.proofs.kinds.read_content.Goals as goal
 
 pub returns-in_err-read_whole-in-Functions-clause-none : goal.returns-in_err-read_whole-in-Functions-clause-none
@@ -25,3 +26,18 @@ returns-in_err-read_instances-in-CoreInstances-clause-none g c = fault_stays c.f
 
 pub returns-in_err-thread-in-CoreStack-clause-none : goal.returns-in_err-thread-in-CoreStack-clause-none
 returns-in_err-thread-in-CoreStack-clause-none g c = fault_stays c.from_residual-in_err-thread-in-CoreStack.result _ c.from_residual-in_err-thread-in-CoreStack.ensures.1 λ n. (core_stack_read _ c.args.kind c.args.bytes.now c.in-CoreStack.is).0 (c.in_err-thread-in-CoreStack.ensures.none n)
+
+pub returns-in_err-read_features-in-TargetFeatures-clause-none : goal.returns-in_err-read_features-in-TargetFeatures-clause-none
+returns-in_err-read_features-in-TargetFeatures-clause-none g c = fault_stays c.from_residual-in_err-read_features-in-TargetFeatures.result _ c.from_residual-in_err-read_features-in-TargetFeatures.ensures.1 λ n. (target_features_read _ c.args.kind c.args.bytes.now c.in-TargetFeatures.is).0 (c.in_err-read_features-in-TargetFeatures.ensures.none n)
+
+pub returns-in_err-read_source_map-in-SourceMappingUrl-clause-none : goal.returns-in_err-read_source_map-in-SourceMappingUrl-clause-none
+returns-in_err-read_source_map-in-SourceMappingUrl-clause-none g c = fault_stays c.from_residual-in_err-read_source_map-in-SourceMappingUrl.result _ c.from_residual-in_err-read_source_map-in-SourceMappingUrl.ensures.1 λ n. (source_map_read _ c.args.kind c.args.bytes.now c.in-SourceMappingUrl.is).0 (c.in_err-read_source_map-in-SourceMappingUrl.ensures.none n)
+
+pub returns-in_err-read_debug_file-in-ExternalDebugInfo-clause-none : goal.returns-in_err-read_debug_file-in-ExternalDebugInfo-clause-none
+returns-in_err-read_debug_file-in-ExternalDebugInfo-clause-none g c = fault_stays c.from_residual-in_err-read_debug_file-in-ExternalDebugInfo.result _ c.from_residual-in_err-read_debug_file-in-ExternalDebugInfo.ensures.1 λ n. (debug_file_read _ c.args.kind c.args.bytes.now c.in-ExternalDebugInfo.is).0 (c.in_err-read_debug_file-in-ExternalDebugInfo.ensures.none n)
+
+pub returns-in_err-read_build_id-in-BuildId-clause-none : goal.returns-in_err-read_build_id-in-BuildId-clause-none
+returns-in_err-read_build_id-in-BuildId-clause-none g c = fault_stays c.from_residual-in_err-read_build_id-in-BuildId.result _ c.from_residual-in_err-read_build_id-in-BuildId.ensures.1 λ n. (build_id_read _ c.args.kind c.args.bytes.now c.in-BuildId.is).0 (c.in_err-read_build_id-in-BuildId.ensures.none n)
+
+pub returns-in_err-read_dylink-in-Dylink-clause-none : goal.returns-in_err-read_dylink-in-Dylink-clause-none
+returns-in_err-read_dylink-in-Dylink-clause-none g c = fault_stays c.from_residual-in_err-read_dylink-in-Dylink.result _ c.from_residual-in_err-read_dylink-in-Dylink.ensures.1 λ n. (dylink_read _ c.args.kind c.args.bytes.now c.in-Dylink.is).0 (c.in_err-read_dylink-in-Dylink.ensures.none n)

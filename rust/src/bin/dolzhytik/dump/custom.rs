@@ -2,8 +2,8 @@
 use crate::context::Space;
 use crate::dump::listing::{Item, Listing};
 use crate::dump::operands::Float;
-use dolzhytik::fallible::{self, BranchHint, Comdat, CoreDumpValue, SegmentInfo};
-use dolzhytik::reader::{CoreFrame, Items, LinkItem, NameItem, Symbol};
+use dolzhytik::fallible::{self, BranchHint, Comdat, CoreDumpValue, FeaturePrefix, SegmentInfo};
+use dolzhytik::reader::{CoreFrame, DylinkItem, Items, LinkItem, NameItem, Symbol};
 use std::fmt::Display;
 use std::io::{self, Write};
 
@@ -20,11 +20,26 @@ pub fn list_items(items: &Items<'_>, listing: &mut Listing<impl Write>) -> io::R
                 lines.named("producer", name, text)
             })
         }),
+        Items::TargetFeatures(features) => features.iter().try_for_each(|(prefix, name)| {
+            let text = match prefix {
+                FeaturePrefix::Used => "used",
+                FeaturePrefix::Disallowed => "disallowed",
+                FeaturePrefix::Required => "required",
+            };
+            lines.named("feature", name, text)
+        }),
         Items::Hints(functions) => functions.iter().try_for_each(|(function, hints)| {
             hints
                 .iter()
                 .try_for_each(|hint| lines.hint(*function, hint))
         }),
+        Items::Dylink(items) => items.iter().try_for_each(|item| lines.dylink(item)),
+        Items::SourceMappingUrl(url) => lines.named("source map", url, ""),
+        Items::ExternalDebugInfo(path) => lines.named("debug file", path, ""),
+        Items::BuildId(bytes) => {
+            let digits: String = bytes.iter().map(|byte| format!("{byte:02x}")).collect();
+            lines.named("build", &digits, "")
+        }
         Items::Core(process) => lines.named("process", process, ""),
         Items::CoreModules(modules) => (0..)
             .zip(modules.iter())
@@ -141,6 +156,42 @@ impl<W: Write> Lines<'_, W> {
         let (memories, globals) = (spaced(memories), spaced(globals));
         let text = format!("(module {module}) (memories{memories}) (globals{globals})");
         self.entry("instance", index, None, text)
+    }
+
+    fn dylink(&mut self, item: &DylinkItem<'_>) -> io::Result<()> {
+        match item {
+            DylinkItem::Memory(it) => {
+                let (memory, table) = (it.memory_alignment, it.table_alignment);
+                let text = format!("size {} align 2^{memory}", it.memory_size);
+                self.kind("memory", text)?;
+                let text = format!("size {} align 2^{table}", it.table_size);
+                self.kind("table", text)
+            }
+            DylinkItem::Needed(names) => {
+                let mut names = names.iter();
+                names.try_for_each(|name| self.named("needed", name, ""))
+            }
+            DylinkItem::ExportFlags(exports) => exports
+                .iter()
+                .try_for_each(|it| self.named("export", it.name, format!("flags {:#x}", it.flags))),
+            DylinkItem::ImportFlags(imports) => imports.iter().try_for_each(|it| {
+                let text = format!("of {:?} flags {:#x}", it.module_name, it.flags);
+                self.named("import", it.name, text)
+            }),
+            DylinkItem::RuntimePath(paths) => {
+                let mut paths = paths.iter();
+                paths.try_for_each(|path| self.named("runtime path", path, ""))
+            }
+        }
+    }
+
+    /// Prints an item that has neither an index nor a name.
+    fn kind(&mut self, kind: &'static str, text: String) -> io::Result<()> {
+        self.0.item(&Item {
+            kind,
+            text,
+            ..Item::default()
+        })
     }
 
     fn hint(&mut self, function: u32, hint: &BranchHint) -> io::Result<()> {

@@ -1,0 +1,6 @@
+use Rattle.wasm_base.proofs.Words.{refl, size_prefixed}
+use Rattle.wasm_custom.proofs.Words.{encodes_custom, build_id_payload}
+use Rattle.examples.proofs.read_back.debug_files.write_build_id.Goals as goal
+
+pub returns : goal.returns
+returns g c = encodes_custom (size_prefixed build_id_payload) _ c.encode.ensures.appends c.encode.ensures.read refl

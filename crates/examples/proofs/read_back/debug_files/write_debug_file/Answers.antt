@@ -1,0 +1,6 @@
+use Rattle.wasm_base.proofs.Words.{refl, size_prefixed}
+use Rattle.wasm_custom.proofs.Words.{encodes_custom, debug_file_payload}
+use Rattle.examples.proofs.read_back.debug_files.write_debug_file.Goals as goal
+
+pub returns : goal.returns
+returns g c = encodes_custom (size_prefixed debug_file_payload) _ c.encode.ensures.appends c.encode.ensures.read (c.utf8.path, refl)

@@ -1,0 +1,7 @@
+use Rattle.wasm_base.proofs.Words.{refl, arith, ascii}
+use Rattle.wasm_custom.proofs.Words.{new_dylink_exports, adds_dylink_export}
+use Rattle.examples.specs.Libraries.{flagged_export}
+use Rattle.examples.proofs.read_back.dylink.exports.Goals as goal
+
+pub returns : goal.returns
+returns g c = adds_dylink_export (new_dylink_exports c.new-list.ensures) (flagged_export c.args.flags) c.in_ok-export.ensures.ok c.in_ok-export.ensures.counted c.in_ok-export.ensures.was_encodable (ascii refl) (omega (arith, c.ranges.flags.fits))

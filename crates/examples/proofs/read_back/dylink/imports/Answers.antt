@@ -1,0 +1,7 @@
+use Rattle.wasm_base.proofs.Words.{refl, arith, ascii}
+use Rattle.wasm_custom.proofs.Words.{new_dylink_imports, adds_dylink_import}
+use Rattle.examples.specs.Libraries.{weak_import}
+use Rattle.examples.proofs.read_back.dylink.imports.Goals as goal
+
+pub returns : goal.returns
+returns g c = adds_dylink_import (new_dylink_imports c.new-list.ensures) weak_import c.in_ok-import.ensures.ok c.in_ok-import.ensures.counted c.in_ok-import.ensures.was_encodable (ascii refl) (ascii refl) (omega arith)

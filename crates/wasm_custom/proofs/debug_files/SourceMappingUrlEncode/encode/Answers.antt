@@ -1,0 +1,9 @@
+use Rattle.wasm_base.proofs.Words.{subst, on_ok, size_prefixed_encoding}
+use Rattle.wasm_custom.specs.{IsEncodableNamed, source_map_name}
+use Rattle.wasm_custom.proofs.SingleLaws.{source_map_back}
+use Rattle.wasm_custom.proofs.debug_files.SourceMappingUrlEncode.encode.Goals as goal
+
+pub returns-clause-read : goal.returns-clause-read
+returns-clause-read g c =
+    on_ok c.encode_single.result _ _ c.encode_single.ensures.was_encodable λ encodable.
+    source_map_back c.args.self.now.0.now (subst (λ b. IsEncodableNamed source_map_name (size_prefixed_encoding b)) c.as_bytes.ensures.value encodable)

@@ -1,0 +1,6 @@
+use Rattle.wasm_base.proofs.Words.{fault_stays}
+use Rattle.wasm_custom.proofs.FeatureLaws.{prefix_none}
+use Rattle.wasm_custom.proofs.target_features.FeaturePrefixReadable.read.Goals as goal
+
+pub returns-in_err-code-clause-none : goal.returns-in_err-code-clause-none
+returns-in_err-code-clause-none g c = fault_stays c.from_residual.result _ c.from_residual.ensures.1 λ n. prefix_none c.args.bytes.now (c.in_err-code.ensures.none n)

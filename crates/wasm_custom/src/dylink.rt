@@ -1,0 +1,259 @@
+// The section of a dynamic library: its builder, its reader and its minimizer.
+ghost use Rattle.std.specs.Prelude.{◌≡◌, [], false, ⊤, ◌≢◌, IfOk, IfErr, Err, OnOk, OnErr, map};
+ghost use Rattle.wasm_base.specs.Calls.{Adds};
+ghost use Rattle.wasm_base.specs.Formats.{fixed, prefixed, size_prefixed};
+ghost use Rattle.std.specs.Prelude.{◌∷◌};
+ghost use Rattle.wasm_base.specs.Continuing.{RejectsWhole};
+ghost use Rattle.wasm_base.specs.Numbers.{padded_of};
+ghost use Rattle.wasm_base.specs.Decoding.{Unambiguous};
+ghost use Rattle.wasm_base.specs.Encodings.{HasEncodableSize};
+ghost use Rattle.wasm_custom.specs.Customs.{subsection_encoding};
+ghost use Rattle.wasm_custom.specs.Dylink.{needs, needs_encoding, DylinkItem as ItemModel, dylink_item, dylink_items, dylink_name, dylink_view, dylink_payload};
+ghost use Rattle.wasm_custom.specs.Lists.{list_encoding};
+ghost use Rattle.wasm_base.specs.declared.refused.Refused.TheVariants.{TooLong};
+ghost use Rattle.wasm_base.specs.Minimal.{AppendsMinimal, IsFrontOf, HasEncoding};
+ghost use Rattle.wasm_base.specs.declared.fault.ReadFault.TheVariants.{Memory};
+
+use crate::dylink_symbols::{
+    DylinkExport, DylinkExports, DylinkImport, DylinkImports, DylinkMemory, DylinkNeeded,
+    DylinkPath,
+};
+use crate::entries::{CustomEntries, CustomKind};
+use crate::linking::{append_vector, read_vector};
+use crate::named::after_name;
+use crate::subsections::Subsection;
+use std::alloc::{Allocator, Global};
+use wasm_base::{
+    DecodeError, Encode, Grammar, Kind, Layout, ReadFault, Readable, Result, Shorten, SizePrefixed,
+    append_all, read_to_end,
+};
+
+/// The `dylink.0` section: what a dynamic library needs at load time. It is the first section of a
+/// module. Each call adds a subsection, and `new` allocates nothing.
+///
+/// ```rust
+/// let mut needed = DylinkNeeded::new(alloc);
+/// needed.library("libc.so")?;
+/// let mut dylink = DylinkSection::new(alloc);
+/// dylink.memory(DylinkMemory { memory_size: 16, memory_alignment: 2, table_size: 0, table_alignment: 0 })?;
+/// dylink.needed(&needed)?;
+/// module.section(&dylink)?;
+/// ```
+pub type DylinkSection<A = Global> = CustomEntries<DylinkItems, A>;
+
+/// The kind of the items of a dynamic library's section: subsections.
+#[derive(Clone, Copy, Debug)]
+pub struct DylinkItems;
+
+impl Kind for DylinkItems {
+    ghost Record = { ItemModel };
+
+    ghost Item = { ItemModel };
+
+    ghost kind = { dylink_items };
+
+    #[tactic(auto, using(crate::proofs::DylinkLaws::dylink_laws))]
+    fn laws() {}
+}
+
+impl CustomKind for DylinkItems {
+    ghost name = { dylink_name };
+
+    ghost front = { [] };
+
+    ghost front_format = { fixed [] (tt {0}) };
+
+    ghost counted = { false };
+
+    fn name() -> &'static str {
+        "dylink.0"
+    }
+
+    fn front() -> &'static [u8] {
+        &[]
+    }
+
+    fn counted() -> bool {
+        false
+    }
+
+    #[tactic(auto, using(crate::proofs::DylinkLaws::dylink_layout))]
+    fn layout_laws() {}
+}
+
+impl<A: Allocator> DylinkSection<A> {
+    /// Adds the memory and the table that the library needs.
+    pub fn memory(&mut self, memory: DylinkMemory) -> Result<()>
+        ensures { Adds (subsection_encoding 1 (needs_encoding memory)) (HasEncodableSize (needs_encoding memory) × ⊤) self.old self.new result }
+    {
+        self.add_record(&Subsection {
+            id: 1,
+            content: &memory,
+        })
+    }
+
+    /// Adds the libraries that the library needs.
+    pub fn needed<B: Allocator>(&mut self, libraries: &DylinkNeeded<B>) -> Result<()>
+        ensures { Adds (subsection_encoding 2 (list_encoding libraries.now)) (HasEncodableSize (list_encoding libraries.now) × ⊤) self.old self.new result }
+    {
+        self.add_record(libraries)
+    }
+
+    /// Adds flags of exported symbols.
+    pub fn exports<B: Allocator>(&mut self, exports: &DylinkExports<B>) -> Result<()>
+        ensures { Adds (subsection_encoding 3 (list_encoding exports.now)) (HasEncodableSize (list_encoding exports.now) × ⊤) self.old self.new result }
+    {
+        self.add_record(exports)
+    }
+
+    /// Adds flags of imported symbols.
+    pub fn imports<B: Allocator>(&mut self, imports: &DylinkImports<B>) -> Result<()>
+        ensures { Adds (subsection_encoding 4 (list_encoding imports.now)) (HasEncodableSize (list_encoding imports.now) × ⊤) self.old self.new result }
+    {
+        self.add_record(imports)
+    }
+
+    /// Adds the folders in which libraries are looked for.
+    pub fn runtime_path<B: Allocator>(&mut self, folders: &DylinkPath<B>) -> Result<()>
+        ensures { Adds (subsection_encoding 5 (list_encoding folders.now)) (HasEncodableSize (list_encoding folders.now) × ⊤) self.old self.new result }
+    {
+        self.add_record(folders)
+    }
+}
+
+/// A decoded subsection of a dynamic library's section.
+#[derive(Debug, Drop)]
+pub enum DylinkItem<'a, A: Allocator = Global> {
+    /// The memory and the table that the library needs.
+    Memory(DylinkMemory),
+    /// The names of the libraries that the library needs.
+    Needed(Vec<&'a str, A>),
+    /// Flags of exported symbols.
+    ExportFlags(Vec<DylinkExport<'a>, A>),
+    /// Flags of imported symbols.
+    ImportFlags(Vec<DylinkImport<'a>, A>),
+    /// The folders in which libraries are looked for.
+    RuntimePath(Vec<&'a str, A>),
+}
+
+impl<'a, A: Allocator> Layout for DylinkItem<'a, A> {
+    ghost Value = { ItemModel };
+
+    ghost format = { dylink_item };
+
+    ghost view = { dylink_view };
+
+    #[tactic(auto, using(crate::proofs::DylinkLaws::dylink_unambiguous))]
+    fn laws()
+        ensures { Unambiguous dylink_item }
+    {}
+}
+
+impl<'a, A: Allocator + Copy + 'a, G: Grammar> Readable<'a, A, G> for DylinkItem<'a, A> {
+    #[tactic(auto, using(crate::proofs::DylinkLaws::dylink_steps))]
+    fn read(bytes: &'a [u8], alloc: A) -> Result<(DylinkItem<'a, A>, &'a [u8]), DecodeError> {
+        let (id, rest) = <u8 as Readable<'a, A, G>>::read(bytes, alloc)?;
+        match id {
+            1 => {
+                let (SizePrefixed(memory), rest) = <SizePrefixed<DylinkMemory> as Readable<
+                    'a,
+                    A,
+                    G,
+                >>::read(rest, alloc)?;
+                Ok((DylinkItem::Memory(memory), rest))
+            }
+            2 => {
+                let (names, rest) = read_vector::<'a, &'a str, A, G>(rest, alloc)?;
+                Ok((DylinkItem::Needed(names), rest))
+            }
+            3 => {
+                let (exports, rest) = read_vector::<'a, DylinkExport<'a>, A, G>(rest, alloc)?;
+                Ok((DylinkItem::ExportFlags(exports), rest))
+            }
+            4 => {
+                let (imports, rest) = read_vector::<'a, DylinkImport<'a>, A, G>(rest, alloc)?;
+                Ok((DylinkItem::ImportFlags(imports), rest))
+            }
+            5 => {
+                let (paths, rest) = read_vector::<'a, &'a str, A, G>(rest, alloc)?;
+                Ok((DylinkItem::RuntimePath(paths), rest))
+            }
+            _ => Err(ReadFault::UnknownTag.just_before(rest)),
+        }
+    }
+}
+
+/// Decodes the payload of a dynamic library's section, in the grammar `G`: its subsections.
+///
+/// # Errors
+///
+/// Any error but `Memory` means that the bytes are not such a payload.
+#[tactic(auto, using(crate::proofs::DylinkLaws::section_steps))]
+pub fn read_dylink<'a, A: Allocator + Copy + 'a, G: Grammar>(
+    bytes: &'a [u8],
+    alloc: A,
+) -> Result<Vec<DylinkItem<'a, A>, A>, DecodeError>
+    ensures found { IfOk result (λ x. dylink_payload (padded_of G.grammar) bytes.now (map dylink_view x.items)) }
+    ensures none { IfErr result (λ e. e.cause ≢ Memory → RejectsWhole dylink_payload (padded_of G.grammar) bytes.now) }
+{
+    let rest = after_name::<A, G>("dylink.0", bytes, alloc)?;
+    let items = read_to_end::<'a, DylinkItem<'a, A>, A, G>(rest, alloc)?;
+    Ok(items)
+}
+
+/// Appends the subsection of the memory and the table.
+#[tactic(auto, using(crate::proofs::DylinkLaws::memory_appended, crate::proofs::DylinkLaws::memory_content))]
+fn append_memory<B: Allocator>(memory: DylinkMemory, sink: &mut Vec<u8, B>) -> Result<()>
+    ensures ok { OnOk result (AppendsMinimal (prefixed (1 ∷ []) (size_prefixed needs)) memory sink.old.items sink.new.items) }
+    ensures front { IsFrontOf sink.old.items sink.new.items }
+    ensures too_long { HasEncoding (prefixed (1 ∷ []) (size_prefixed needs)) memory → result ≢ Err TooLong }
+{
+    1u8.encode(sink)?;
+    SizePrefixed(memory).write_minimal(sink)
+}
+
+impl<'a, A: Allocator> Shorten for DylinkItem<'a, A> {
+    #[tactic(auto, using(crate::proofs::DylinkLaws::short_steps))]
+    fn write_minimal<B: Allocator>(&self, sink: &mut Vec<u8, B>) -> Result<()> {
+        match self {
+            DylinkItem::Memory(memory) => append_memory(*memory, sink),
+            DylinkItem::Needed(names) => append_vector(2, names, sink),
+            DylinkItem::ExportFlags(exports) => append_vector(3, exports, sink),
+            DylinkItem::ImportFlags(imports) => append_vector(4, imports, sink),
+            DylinkItem::RuntimePath(paths) => append_vector(5, paths, sink),
+        }
+    }
+}
+
+/// Writes the bytes that [`append_dylink`] appends. After an error, part of them may follow the old
+/// bytes.
+#[tactic(auto, using(crate::proofs::DylinkLaws::section_appended, crate::proofs::DylinkLaws::section_encoded))]
+fn write_dylink<A: Allocator, B: Allocator>(
+    items: &[DylinkItem<'_, A>],
+    sink: &mut Vec<u8, B>,
+) -> Result<()>
+    ensures ok { OnOk result (AppendsMinimal dylink_payload (map dylink_view items.now) sink.old.items sink.new.items) }
+    ensures front { IsFrontOf sink.old.items sink.new.items }
+    ensures too_long { HasEncoding dylink_payload (map dylink_view items.now) → result ≢ Err TooLong }
+{
+    "dylink.0".encode(sink)?;
+    append_all(items, sink)
+}
+
+/// Appends the minimal encoding of the payload of a dynamic library's section of these subsections.
+/// On an error, the sink is unchanged.
+pub fn append_dylink<A: Allocator, B: Allocator>(
+    items: &[DylinkItem<'_, A>],
+    sink: &mut Vec<u8, B>,
+) -> Result<()>
+    ensures ok { OnOk result (AppendsMinimal dylink_payload (map dylink_view items.now) sink.old.items sink.new.items) }
+    ensures err { OnErr result (sink.new.items ≡ sink.old.items) }
+    ensures too_long { HasEncoding dylink_payload (map dylink_view items.now) → result ≢ Err TooLong }
+{
+    let start = sink.len();
+    let written = write_dylink(items, sink);
+    if written.is_err() {
+        sink.truncate(start);
+    }
+    written
+}
