@@ -126,7 +126,7 @@ pub record IsKept (s : ℕ × List ℕ) : Type 0 where
   pub no_code : s.0 ≢ number_of ids.Code
   pub no_offsets : (n rest : List ℕ) → s.0 ≡ number_of ids.Custom → Decodes name padded s.1 n rest → contains_offsets (Some n) ≡ false
 
--- All of them are.
+-- Each of these other sections is kept, as `IsKept` says.
 pub record AreKept (others : Others) : Type 0 where
   pub before : AllByRecursion IsKept others.before
   pub between : AllByRecursion IsKept others.between
