@@ -59,9 +59,18 @@ impl From<AllocError> for std::io::Error {
 ///
 /// let AllocFailed(item) = Vec::new(Nothing).push("item").unwrap_err();
 /// assert_eq!(item, "item");
+/// assert_eq!(AllocFailed(item).to_string(), "out of memory");
 /// ```
 #[derive(Clone, Copy, PartialEq, Eq, Debug)]
 pub struct AllocFailed<T>(pub T);
+
+impl<T> fmt::Display for AllocFailed<T> {
+    fn fmt(&self, f: &mut fmt::Formatter<'_>) -> fmt::Result {
+        AllocError.fmt(f)
+    }
+}
+
+impl<T: fmt::Debug> core::error::Error for AllocFailed<T> {}
 
 /// An allocator, which grants or refuses requests for memory.
 ///
@@ -85,6 +94,37 @@ pub struct AllocFailed<T>(pub T);
 /// assert_eq!(functions.function(7), Err(Refused::Memory));
 /// assert!(functions.len() > 0);
 /// ```
+///
+/// A reference to an allocator is an allocator too, so that builders can share a budget:
+///
+/// ```
+/// use dolzhytik::fallible::{AllocError, Allocator, Refused};
+/// use dolzhytik::fallible::{FunctionSection, Module};
+/// use std::cell::Cell;
+///
+/// /// The number of bytes that are left. A list that grows requests its whole new buffer.
+/// struct Budget(Cell<usize>);
+///
+/// impl Allocator for Budget {
+///     fn grant(&self, bytes: usize) -> Result<(), AllocError> {
+///         self.0.set(self.0.get().checked_sub(bytes).ok_or(AllocError)?);
+///         Ok(())
+///     }
+/// }
+///
+/// let budget = Budget(Cell::new(1000));
+/// let mut functions = FunctionSection::new(&budget);
+/// functions.function(7)?;
+/// let mut module = Module::new(&budget)?;
+/// module.section(&functions)?;
+/// assert!(budget.0.get() < 1000);
+///
+/// budget.0.set(0);
+/// assert_eq!(Module::new(&budget).err(), Some(Refused::Memory));
+/// # Ok::<(), Refused>(())
+/// ```
+#[doc(alias = "budget")]
+#[doc(alias = "memory limit")]
 pub trait Allocator {
     /// Grants or refuses a buffer of this number of bytes. A list calls it once for each buffer,
     /// and does not report when it frees one.
@@ -98,12 +138,12 @@ pub trait Allocator {
 /// The allocator that grants all requests: they fail only if the program's allocator fails.
 ///
 /// ```
-/// use dolzhytik::fallible::{AllocError, Global, Vec};
+/// use dolzhytik::fallible::{Global, Vec};
 ///
 /// let mut numbers = Vec::with_capacity(Global, 2)?;
 /// numbers.extend_from_slice(&[1, 2])?;
 /// assert_eq!(numbers[..], [1, 2]);
-/// # Ok::<(), AllocError>(())
+/// # Ok::<(), dolzhytik::fallible::AllocError>(())
 /// ```
 #[derive(Clone, Copy, PartialEq, Eq, Debug, Default)]
 pub struct Global;

@@ -3,7 +3,8 @@
 //! Use them if a program must not end when memory runs out or a list is too long. A call that fails returns [`Refused`]
 //! and changes nothing: [`Refused::Memory`] if an allocation fails, and [`Refused::TooLong`] if a count, run or length
 //! would pass 4294967295. ([`add_all`] keeps the items before the failing one, and returns their number.) Calls that make
-//! a value take an [`Allocator`] first. [`Global`] is that of the program; one of your own can hold a builder to a budget.
+//! a value take an [`Allocator`] first. [`Global`] is that of the program. One of your own can limit the memory of
+//! builders: [`Allocator`] shows a shared budget.
 //!
 //! Builders have the names of those at the root, and [`From`] converts what is built here with [`Global`] to the root's
 //! type:
@@ -28,7 +29,7 @@
 //! A module can also be built here alone, and needs no `Vec` of `std`:
 //!
 //! ```
-//! use dolzhytik::fallible::{CodeSection, Function, Global, Instruction, Module, Refused};
+//! use dolzhytik::fallible::{CodeSection, Function, Global, Instruction, Module};
 //!
 //! let mut body = Function::new(Global, [])?;
 //! body.instruction(&Instruction::End)?;
@@ -38,7 +39,7 @@
 //! module.section(&code)?;
 //! // The header; id 10, size 4, one body. The body: size 2, no locals, end (0B).
 //! assert_eq!(module.finish()[..], *b"\0asm\x01\0\0\0\x0A\x04\x01\x02\0\x0B");
-//! # Ok::<(), Refused>(())
+//! # Ok::<(), dolzhytik::fallible::Refused>(())
 //! ```
 //!
 //! Types without a builder, such as [`ValType`], [`MemArg`] and [`MemoryType`], are the root's own. [`SectionId`],
@@ -58,6 +59,7 @@
 //! | `Instruction` | one enum of 628 cases, lists in `Cow` | nested enums, lists in `CowSlice`; made from the former by `From` |
 //! | `InstructionSink` | 628 named calls | the 41 that compilers use most |
 //! | `Encode`, `Section` | into a `Vec<u8>`, also as `dyn` | into any `Sink` |
+//! | the payload in `RawSection` and `CustomSection` | the field `data` | the field `bytes` |
 //!
 //! # What is proved
 //!
@@ -85,11 +87,11 @@
 #![doc = include_str!("asks.md")]
 
 // Names that the root or `reader` has too: rustdoc has one page for each, there. The globs below have
-// the same names.
+// those of the root.
 #[doc(no_inline)]
 pub use crate::reader::{
-    CoreFrame, ElementItem, ElementItemMode, ElementList, GlobalItem, LinkItem, NameItem, Segment,
-    Symbol, TableItem, TypeEntry,
+    CoreFrame, DylinkItem, ElementItem, ElementItemMode, ElementList, GlobalItem, LinkItem,
+    NameItem, Segment, SubItem, Symbol, TableItem, TypeEntry,
 };
 #[doc(no_inline)]
 pub use crate::{

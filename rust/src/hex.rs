@@ -2,13 +2,16 @@
 use crate::alloc::{AllocError, Allocator};
 use crate::string::String;
 use crate::vec::Vec;
+use core::fmt;
 
 /// The error of text that does not decode.
 ///
 /// ```
 /// use dolzhytik::fallible::{Global, hex};
 ///
-/// assert_eq!(hex::decode(Global, "0g"), Err(hex::FromHexError::NoHex));
+/// let error = hex::decode(Global, "0g").unwrap_err();
+/// assert_eq!(error, hex::FromHexError::NoHex);
+/// assert_eq!(error.to_string(), "not an even number of hexadecimal digits");
 /// ```
 #[derive(Clone, Copy, PartialEq, Eq, Debug)]
 pub enum FromHexError {
@@ -17,6 +20,17 @@ pub enum FromHexError {
     /// An allocation failed.
     OutOfMemory,
 }
+
+impl fmt::Display for FromHexError {
+    fn fmt(&self, f: &mut fmt::Formatter<'_>) -> fmt::Result {
+        f.write_str(match self {
+            FromHexError::NoHex => "not an even number of hexadecimal digits",
+            FromHexError::OutOfMemory => "out of memory",
+        })
+    }
+}
+
+impl core::error::Error for FromHexError {}
 
 impl From<AllocError> for FromHexError {
     fn from(_: AllocError) -> Self {

@@ -31,11 +31,19 @@ compile_error!("there are no components: keep `wasm-encoder` beside this package
 
 mod alloc;
 #[cfg(doc)]
+#[doc(alias = "contract")]
+#[doc(alias = "ensures")]
+#[doc(alias = "proved")]
+#[doc(alias = "requires")]
+#[doc(alias = "specification")]
 #[rustfmt::skip]
 pub mod definitions;
 mod drop_in;
 #[doc(alias = "allocator")]
+#[doc(alias = "asks")]
+#[doc(alias = "budget")]
 #[doc(alias = "out of memory")]
+#[doc(alias = "proved")]
 #[doc(alias = "no_std")]
 pub mod fallible;
 mod hex;
@@ -65,6 +73,8 @@ written! {
     #[doc(alias = "decode")]
     #[doc(alias = "decoder")]
     #[doc(alias = "disassemble")]
+    #[doc(alias = "edit")]
+    #[doc(alias = "insert")]
     #[doc(alias = "parse")]
     #[doc(alias = "parser")]
     #[doc(alias = "reencode")]

@@ -13,9 +13,21 @@ use core::ops::{Deref, DerefMut};
 /// use dolzhytik::fallible::{Global, Module};
 ///
 /// let module = Module::new(Global)?;
-/// let bytes: Vec<u8> = module.finish().into();
+/// let bytes: std::vec::Vec<u8> = module.finish().into();
 /// assert_eq!(bytes, b"\0asm\x01\0\0\0");
 /// # Ok::<(), dolzhytik::fallible::Refused>(())
+/// ```
+///
+/// It is a slice by [`Deref`], and has no `insert`. Append the item, and rotate it to its index:
+///
+/// ```
+/// use dolzhytik::fallible::{Global, Vec};
+///
+/// let mut items = Vec::from_slice(Global, &["a", "c"])?;
+/// items.extend_from_slice(&["b"])?;
+/// items[1..].rotate_right(1);
+/// assert_eq!(items[..], ["a", "b", "c"]);
+/// # Ok::<(), dolzhytik::fallible::AllocError>(())
 /// ```
 pub struct Vec<T, A: Allocator = Global> {
     items: vec::Vec<T>,

@@ -62,6 +62,9 @@ pub trait Counted<T>: Section {
 
 /// Adds all items in order.
 ///
+/// An error is the pair `(number, cause)`: the number of items that were added, and why the
+/// next one was not.
+///
 /// # Errors
 ///
 /// Returns the cause and the number of items that were added before the first failing one. These
@@ -70,12 +73,12 @@ pub trait Counted<T>: Section {
 /// # Examples
 ///
 /// ```
-/// use dolzhytik::fallible::{FunctionSection, Global, Refused, add_all};
+/// use dolzhytik::fallible::{FunctionSection, Global, add_all};
 ///
 /// let mut functions = FunctionSection::new(Global);
 /// add_all(&mut functions, &[0, 1, 300])?;
 /// assert_eq!(functions.len(), 3);
-/// # Ok::<(), (usize, Refused)>(())
+/// # Ok::<(), (usize, dolzhytik::fallible::Refused)>(())
 /// ```
 ///
 /// # Proved

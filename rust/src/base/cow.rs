@@ -16,12 +16,12 @@ use crate::alloc::{Allocator, Global};
 /// # Examples
 ///
 /// ```
-/// use dolzhytik::fallible::{AllocError, CowSlice, Global, Vec};
+/// use dolzhytik::fallible::{CowSlice, Global, Vec};
 ///
 /// let borrowed: CowSlice<'_, u32> = CowSlice::Borrowed(&[1, 2]);
 /// let owned = CowSlice::Owned(Vec::from_slice(Global, &[1, 2])?);
 /// assert_eq!(borrowed.as_slice(), owned.as_slice());
-/// # Ok::<(), AllocError>(())
+/// # Ok::<(), dolzhytik::fallible::AllocError>(())
 /// ```
 #[derive(Debug)]
 pub enum CowSlice<'a, T, A: Allocator = Global> {
@@ -100,12 +100,12 @@ impl<T: Encode, A: Allocator> Encode for CowSlice<'_, T, A> {
 /// # Examples
 ///
 /// ```
-/// use dolzhytik::fallible::{AllocError, CowStr, Global, String};
+/// use dolzhytik::fallible::{CowStr, Global, String};
 ///
 /// let borrowed: CowStr<'_> = CowStr::Borrowed("name");
 /// let owned = CowStr::Owned(String::from_str(Global, "name")?);
 /// assert_eq!(borrowed.as_str(), owned.as_str());
-/// # Ok::<(), AllocError>(())
+/// # Ok::<(), dolzhytik::fallible::AllocError>(())
 /// ```
 #[derive(Debug)]
 pub enum CowStr<'a, A: Allocator = Global> {

@@ -6,24 +6,24 @@ use crate::base::refused::Result;
 
 /// A value that has an encoding in the WebAssembly binary format.
 ///
+/// Numbers are encoded as LEB128, slices as vectors, `str` as names, and tuples as their
+/// components. [`Readable`](crate::reader::Readable) decodes.
+///
 /// # Errors
 ///
 /// `encode` returns [`Refused`](crate::base::refused::Refused), and leaves the sink unchanged, if the
 /// value does not fit or an allocation fails.
 ///
-/// Numbers are encoded as LEB128, slices as vectors, `str` as names, and tuples as their
-/// components. [`Readable`](crate::reader::Readable) decodes.
-///
 /// # Examples
 ///
 /// ```
-/// use dolzhytik::fallible::{Encode, Refused};
+/// use dolzhytik::fallible::Encode;
 ///
 /// let mut bytes = Vec::new();
 /// ("ab", 300_u32, -1_i32).encode(&mut bytes)?;
 /// // A name of two bytes; 300 = 2 * 128 + 44; -1 as signed LEB128.
 /// assert_eq!(bytes, [2, b'a', b'b', 0xAC, 0x02, 0x7F]);
-/// # Ok::<(), Refused>(())
+/// # Ok::<(), dolzhytik::fallible::Refused>(())
 /// ```
 ///
 /// # Defined
@@ -53,7 +53,9 @@ pub trait Encode {
     ///
     /// # Proved
     ///
-    /// After `Ok`: `read`, the encoding decodes as the impl defines by `decoding`. In any case: `appends`; `too_many`, an `overlong` value gives `TooLong`. `appends`: The call appends the encoding, or returns an error and leaves the bytes as they were. If the value fits, the call never returns `TooLong`, and it succeeds within the spare capacity.
+    /// - After `Ok`, `read`: the encoding decodes as the impl defines by `decoding`.
+    /// - `appends`: The call appends the encoding, or returns an error and leaves the bytes as they were. If the value fits, the call never returns `TooLong`, and it succeeds within the spare capacity.
+    /// - `too_many`: an `overlong` value gives `TooLong`.
     ///
     /// ```text
     /// ensures appends { Appends (encoding self.now)

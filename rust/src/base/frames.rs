@@ -23,13 +23,13 @@ use crate::alloc::Allocator;
 /// # Examples
 ///
 /// ```
-/// use dolzhytik::fallible::{Refused, begin_size_prefixed};
+/// use dolzhytik::fallible::begin_size_prefixed;
 ///
 /// let mut bytes = Vec::new();
 /// begin_size_prefixed(&mut bytes, 3)?;
 /// bytes.extend_from_slice(b"abc");
 /// assert_eq!(bytes, *b"\x03abc");
-/// # Ok::<(), Refused>(())
+/// # Ok::<(), dolzhytik::fallible::Refused>(())
 /// ```
 ///
 /// # Proved
@@ -73,17 +73,18 @@ const SHORT: usize = 0x80;
 /// # Examples
 ///
 /// ```
-/// use dolzhytik::fallible::{Refused, encode_size_prefixed};
+/// use dolzhytik::fallible::encode_size_prefixed;
 ///
 /// let mut bytes = Vec::new();
 /// encode_size_prefixed(&mut bytes, b"abc")?;
 /// assert_eq!(bytes, *b"\x03abc");
-/// # Ok::<(), Refused>(())
+/// # Ok::<(), dolzhytik::fallible::Refused>(())
 /// ```
 ///
 /// # Proved
 ///
-/// In any case: `appends`; `too_many`, more than 4294967295 give `TooLong`. `appends`: The call appends the encoding, or returns an error and leaves the bytes as they were. If the value fits, the call never returns `TooLong`, and it succeeds within the spare capacity.
+/// - `appends`: The call appends the encoding, or returns an error and leaves the bytes as they were. If the value fits, the call never returns `TooLong`, and it succeeds within the spare capacity.
+/// - `too_many`: more than 4294967295 give `TooLong`.
 ///
 /// ```text
 /// ensures appends { Appends (size_prefixed_encoding bytes.now)
@@ -108,7 +109,8 @@ pub fn encode_size_prefixed<A: Sink>(sink: &mut A, bytes: &[u8]) -> Result<()> {
 ///
 /// # Proved
 ///
-/// In any case: `appends`; `too_many`, more than 4294967295 give `TooLong`. `appends`: The call appends the encoding, or returns an error and leaves the bytes as they were. If the value fits, the call never returns `TooLong`, and it succeeds within the spare capacity.
+/// - `appends`: The call appends the encoding, or returns an error and leaves the bytes as they were. If the value fits, the call never returns `TooLong`, and it succeeds within the spare capacity.
+/// - `too_many`: more than 4294967295 give `TooLong`.
 ///
 /// ```text
 /// ensures appends { Appends (size_prefixed_encoding bytes.now)
@@ -136,18 +138,19 @@ fn encode_long_payload<A: Sink>(sink: &mut A, bytes: &[u8]) -> Result<()> {
 /// # Examples
 ///
 /// ```
-/// use dolzhytik::fallible::{Refused, encode_section};
+/// use dolzhytik::fallible::encode_section;
 ///
 /// let mut bytes = Vec::new();
 /// encode_section(&mut bytes, 2, &[7, 8])?;
 /// // The size of the payload, 3, and two entries.
 /// assert_eq!(bytes, [3, 2, 7, 8]);
-/// # Ok::<(), Refused>(())
+/// # Ok::<(), dolzhytik::fallible::Refused>(())
 /// ```
 ///
 /// # Proved
 ///
-/// In any case: `appends`; `too_many`, more than 4294967295 give `TooLong`. `appends`: The call appends the encoding, or returns an error and leaves the bytes as they were. If the value fits, the call never returns `TooLong`, and it succeeds within the spare capacity.
+/// - `appends`: The call appends the encoding, or returns an error and leaves the bytes as they were. If the value fits, the call never returns `TooLong`, and it succeeds within the spare capacity.
+/// - `too_many`: more than 4294967295 give `TooLong`.
 ///
 /// ```text
 /// ensures appends { Appends
@@ -172,7 +175,7 @@ pub fn encode_section<A: Sink>(sink: &mut A, count: u32, bytes: &[u8]) -> Result
 ///
 /// ```
 /// use dolzhytik::fallible::Global;
-/// use dolzhytik::reader::{DecodeError, Padded, ReadFault, Readable, SizePrefixed};
+/// use dolzhytik::reader::{Padded, ReadFault, Readable, SizePrefixed};
 ///
 /// type Number = SizePrefixed<u32>;
 /// let (SizePrefixed(number), _) =
@@ -181,7 +184,7 @@ pub fn encode_section<A: Sink>(sink: &mut A, count: u32, bytes: &[u8]) -> Result
 /// // The size is 2, and the number has one byte.
 /// let error = <Number as Readable<Global, Padded>>::read(&[2, 7, 0], Global).err();
 /// assert_eq!(error.map(|error| error.cause()), Some(ReadFault::SizeMismatch));
-/// # Ok::<(), DecodeError>(())
+/// # Ok::<(), dolzhytik::reader::DecodeError>(())
 /// ```
 #[derive(Debug)]
 pub struct SizePrefixed<T>(pub T);
@@ -222,7 +225,6 @@ impl<'a, A: Allocator + Copy, G: Grammar, T: Readable<'a, A, G>> Readable<'a, A,
 /// # Examples
 ///
 /// ```
-/// use dolzhytik::fallible::Refused;
 /// use dolzhytik::reader::prefix_size_since;
 ///
 /// let mut bytes = b"old".to_vec();
@@ -230,12 +232,12 @@ impl<'a, A: Allocator + Copy, G: Grammar, T: Readable<'a, A, G>> Readable<'a, A,
 /// bytes.extend_from_slice(b"abc");
 /// prefix_size_since(&mut bytes, start)?;
 /// assert_eq!(bytes, *b"old\x03abc");
-/// # Ok::<(), Refused>(())
+/// # Ok::<(), dolzhytik::fallible::Refused>(())
 /// ```
 ///
 /// # Asks
 ///
-/// `start` is at most the number of bytes in the sink.
+/// `start` is at most the number of bytes in the sink. [What happens otherwise](crate::fallible#what-is-asked).
 ///
 /// ```text
 /// requires { start ≤ vec_len sink.old }
@@ -245,7 +247,10 @@ impl<'a, A: Allocator + Copy, G: Grammar, T: Readable<'a, A, G>> Readable<'a, A,
 ///
 /// # Proved
 ///
-/// After `Ok`: `sized`; `was_encodable`. After an error: `err`, the bytes of the sink are unchanged. In any case: `too_long`. `was_encodable`: The size of the bytes is at most 2^32 - 1.
+/// - After `Ok`: `sized`.
+/// - After `Ok`, `was_encodable`: The size of the bytes is at most 2^32 - 1.
+/// - After an error, `err`: the bytes of the sink are unchanged.
+/// - In any case: `too_long`.
 ///
 /// ```text
 /// ensures sized { OnOk result
@@ -268,7 +273,9 @@ pub fn prefix_size_since<B: Sink>(sink: &mut B, start: usize) -> Result<()> {
 ///
 /// # Proved
 ///
-/// After `Ok`: `ok`, the sink gains the minimal encoding. In any case: `front`; `too_long`, a value that has an encoding never gives `TooLong`. `front`: The new bytes begin with the old ones.
+/// - After `Ok`, `ok`: the sink gains the minimal encoding.
+/// - `front`: The new bytes begin with the old ones.
+/// - `too_long`: a value that has an encoding never gives `TooLong`.
 ///
 /// ```text
 /// ensures ok { OnOk result

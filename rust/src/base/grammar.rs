@@ -51,13 +51,13 @@ pub trait Grammar {
 ///
 /// ```
 /// use dolzhytik::fallible::Global;
-/// use dolzhytik::reader::{DecodeError, Padded, Readable};
+/// use dolzhytik::reader::{Padded, Readable};
 ///
 /// // 1 in two bytes, where one is minimal.
 /// let (number, rest) =
 ///     <u32 as Readable<Global, Padded>>::read(&[0x81, 0x00, 0xFF], Global)?;
 /// assert_eq!((number, rest), (1, &[0xFF][..]));
-/// # Ok::<(), DecodeError>(())
+/// # Ok::<(), dolzhytik::reader::DecodeError>(())
 /// ```
 #[derive(Clone, Copy, PartialEq, Eq, Debug)]
 pub struct Padded;
@@ -83,12 +83,12 @@ impl Grammar for Padded {
 ///
 /// ```
 /// use dolzhytik::fallible::{Global, RefType};
-/// use dolzhytik::reader::{DecodeError, Readable, Standard};
+/// use dolzhytik::reader::{Readable, Standard};
 ///
 /// // `externref` in two bytes, where one is usual: 63, and 6F for `extern`.
 /// let (ty, _) = <RefType as Readable<Global, Standard>>::read(&[0x63, 0x6F], Global)?;
 /// assert_eq!(ty, RefType::EXTERNREF);
-/// # Ok::<(), DecodeError>(())
+/// # Ok::<(), dolzhytik::reader::DecodeError>(())
 /// ```
 #[derive(Clone, Copy, PartialEq, Eq, Debug)]
 pub struct Standard;

@@ -12,7 +12,8 @@
 ///
 /// # Proved
 ///
-/// `u32`, `u64`, `s32`, `s64`, `s33`: A format whose encodings determine their own end is unambiguous in every mode, with encodings as `HasEncodings` states. `u32_encodings`, `u64_encodings`, `s32_encodings`, `s64_encodings`, `s33_encodings`: Each value that fits has the minimal encoding `encoding x`.
+/// - `u32`, `u64`, `s32`, `s64`, `s33`: A format whose encodings determine their own end is unambiguous in every mode, with encodings as `HasEncodings` states.
+/// - `u32_encodings`, `u64_encodings`, `s32_encodings`, `s64_encodings`, `s33_encodings`: Each value that fits has a minimal encoding, which the last function in the clause returns.
 ///
 /// ```text
 /// ensures u32 { Unambiguous u32_format }
@@ -38,7 +39,9 @@ pub fn numbers() {}
 ///
 /// # Proved
 ///
-/// `fixed_4`, `fixed_8`, `fixed_16`, `vec_bytes`, `vec_u32`, `vec_names`, `size_prefixed`, `name`, `custom`: A format whose encodings determine their own end is unambiguous in every mode, with encodings as `HasEncodings` states. `wasm_module`: A format that takes all of the bytes is unambiguous in every mode, with encodings as `HasEncodings` states. `fixed_4_encodings`, `fixed_8_encodings`, `fixed_16_encodings`, `vec_bytes_encodings`, `vec_u32_encodings`, `vec_names_encodings`, `size_prefixed_encodings`, `name_encodings`, `custom_encodings`, `module_encodings`: Each value that fits has the minimal encoding `encoding x`.
+/// - `fixed_4`, `fixed_8`, `fixed_16`, `vec_bytes`, `vec_u32`, `vec_names`, `size_prefixed`, `name`, `custom`: A format whose encodings determine their own end is unambiguous in every mode, with encodings as `HasEncodings` states.
+/// - `wasm_module`: A format that takes all of the bytes is unambiguous in every mode, with encodings as `HasEncodings` states.
+/// - `fixed_4_encodings`, `fixed_8_encodings`, `fixed_16_encodings`, `vec_bytes_encodings`, `vec_u32_encodings`, `vec_names_encodings`, `size_prefixed_encodings`, `name_encodings`, `custom_encodings`, `module_encodings`: Each value that fits has a minimal encoding, which the last function in the clause returns.
 ///
 /// ```text
 /// ensures fixed_4 { Unambiguous (little_endian 4) }
@@ -87,7 +90,7 @@ pub fn frames() {}
 ///
 /// # Proved
 ///
-/// `bytes`, `u32`, `custom`: If size-prefixed bytes decode to `x` alone, their payload decodes to `x` alone.
+/// `bytes`, `u32`, `custom`: If size-prefixed bytes decode to one value alone, their payload decodes to it alone.
 ///
 /// ```text
 /// ensures bytes { DecodesPayloads any_bytes }
@@ -102,7 +105,7 @@ pub fn payloads() {}
 ///
 /// # Proved
 ///
-/// `bytes`, `u32`, `custom`: As `DecodesPayloads`, for padded LEB128.
+/// `bytes`, `u32`, `custom`: If size-prefixed bytes decode to one value alone, with padding allowed, so does their payload.
 ///
 /// ```text
 /// ensures bytes { DecodesPayloadsPadded any_bytes }
@@ -118,7 +121,9 @@ pub fn padded_payloads() {}
 ///
 /// # Proved
 ///
-/// `heap`, `reference`, `value`: A format whose encodings determine their own end is unambiguous in every mode, with encodings as `HasEncodings` states. `index`: Each encoding, in any mode, has a first byte with the property. `heap_encodings`, `reference_encodings`, `value_encodings`: Each value that fits has the minimal encoding `encoding x`.
+/// - `heap`, `reference`, `value`: A format whose encodings determine their own end is unambiguous in every mode, with encodings as `HasEncodings` states.
+/// - `index`: Each encoding, in any mode, has a first byte with the property.
+/// - `heap_encodings`, `reference_encodings`, `value_encodings`: Each value that fits has a minimal encoding, which the last function in the clause returns.
 ///
 /// ```text
 /// ensures heap { Unambiguous heap_type }
@@ -171,7 +176,8 @@ pub fn constants() {}
 ///
 /// # Proved
 ///
-/// `u32`, `u64`, `s32`, `s64`, `s33`, `fixed_4`, `fixed_8`, `fixed_16`, `vec_bytes`, `vec_u32`, `vec_names`, `size_prefixed`, `name`, `custom`, `heap_type`, `ref_type`, `val_type`: With padding allowed a format is unambiguous, and it keeps every minimal encoding. `wasm_module`: As `UnambiguousPadded`, for a format that takes all of the bytes.
+/// - `u32`, `u64`, `s32`, `s64`, `s33`, `fixed_4`, `fixed_8`, `fixed_16`, `vec_bytes`, `vec_u32`, `vec_names`, `size_prefixed`, `name`, `custom`, `heap_type`, `ref_type`, `val_type`: With padding allowed a format is unambiguous, and it keeps every minimal encoding.
+/// - `wasm_module`: As `UnambiguousPadded`, for a format that takes all of the bytes.
 ///
 /// ```text
 /// ensures u32 { UnambiguousPadded u32_format }

@@ -45,6 +45,8 @@ pub fn encoding_size(n: u32) -> usize {
 ///
 /// # Asks
 ///
+/// [What happens otherwise](crate::fallible#what-is-asked).
+///
 /// ```text
 /// requires { 0 < limit }
 /// ```
@@ -87,6 +89,8 @@ fn group_before_others(negative: bool, n: u64) -> u8 {
 ///
 /// # Asks
 ///
+/// [What happens otherwise](crate::fallible#what-is-asked).
+///
 /// ```text
 /// requires { n < 0x80 }
 /// ```
@@ -109,6 +113,8 @@ fn group_at_the_end(negative: bool, n: u64) -> u8 {
 /// Appends the groups of `n` into spare capacity of the sink, which holds them all.
 ///
 /// # Asks
+///
+/// [What happens otherwise](crate::fallible#what-is-asked).
 ///
 /// ```text
 /// requires limit { 0 < limit × limit ≤ 0x80 }
@@ -139,6 +145,8 @@ fn put_groups<A: Sink>(sink: &mut A, negative: bool, limit: u64, n: u64) {
 ///
 /// # Asks
 ///
+/// [What happens otherwise](crate::fallible#what-is-asked).
+///
 /// ```text
 /// requires limit { 0 < limit × limit ≤ 0x80 }
 /// requires two { limit ≤ n × n < limit * 0x80 }
@@ -167,6 +175,8 @@ const MOST_GROUPS: usize = 10;
 /// counted first, and two groups are written without a loop.
 ///
 /// # Asks
+///
+/// [What happens otherwise](crate::fallible#what-is-asked).
 ///
 /// ```text
 /// requires limit { 0x40 ≤ limit × limit ≤ 0x80 }
@@ -206,6 +216,8 @@ fn append_groups<A: Sink>(
 ///
 /// # Asks
 ///
+/// [What happens otherwise](crate::fallible#what-is-asked).
+///
 /// ```text
 /// requires { 0 < limit × limit ≤ 0x80 }
 /// ```
@@ -238,6 +250,8 @@ fn append_counted_groups<A: Sink>(
 ///
 /// # Asks
 ///
+/// [What happens otherwise](crate::fallible#what-is-asked).
+///
 /// ```text
 /// requires { 0x80 ≤ n }
 /// ```
@@ -261,6 +275,8 @@ fn append_long_unsigned<A: Sink>(sink: &mut A, n: u64) -> Result<()> {
 /// Appends a signed number of several groups.
 ///
 /// # Asks
+///
+/// [What happens otherwise](crate::fallible#what-is-asked).
 ///
 /// ```text
 /// requires { 0x40 ≤ n }
@@ -462,7 +478,7 @@ pub struct Groups {
 ///
 /// # Asks
 ///
-/// `limit` is at most 10.
+/// `limit` is at most 10. [What happens otherwise](crate::fallible#what-is-asked).
 ///
 /// ```text
 /// requires { limit ≤ 10 }
@@ -472,7 +488,10 @@ pub struct Groups {
 ///
 /// # Proved
 ///
-/// After `Ok`: `found`; `power`; `below`. After an error: `none`, the bytes do not begin with such an encoding; `ended`; `too_many`. `found`: The bytes begin with LEB128 groups, followed by `rest`: their sum, 128 to the power of their number, and the last group.
+/// - After `Ok`, `found`: The bytes begin with LEB128 groups: their sum, 128 to the power of their number, and the last group. The returned bytes follow them.
+/// - After `Ok`: `power`, `below`.
+/// - After an error, `none`: the bytes do not begin with such an encoding.
+/// - After an error: `ended`, `too_many`.
 ///
 /// ```text
 /// ensures found { IfOk result
@@ -515,6 +534,8 @@ pub fn read_groups(bytes: &[u8], limit: u8) -> Result<(Groups, &[u8]), DecodeErr
 ///
 /// # Asks
 ///
+/// [What happens otherwise](crate::fallible#what-is-asked).
+///
 /// ```text
 /// requires { groups.sum < 2 ^ 70 × groups.power ≤ 2 ^ 70 }
 /// ```
@@ -539,6 +560,8 @@ fn signed(groups: Groups) -> i128 {
 /// Returns the number that one group encodes in two's complement.
 ///
 /// # Asks
+///
+/// [What happens otherwise](crate::fallible#what-is-asked).
 ///
 /// ```text
 /// requires { group < 0x80 }
@@ -574,7 +597,9 @@ struct FewGroups {
 ///
 /// # Proved
 ///
-/// After `Ok`: `found`; `power`; `below`. After an error: `none`, the bytes do not begin with such an encoding. `found`: The bytes begin with LEB128 groups, followed by `rest`: their sum, 128 to the power of their number, and the last group.
+/// - After `Ok`, `found`: The bytes begin with LEB128 groups: their sum, 128 to the power of their number, and the last group. The returned bytes follow them.
+/// - After `Ok`: `power`, `below`.
+/// - After an error, `none`: the bytes do not begin with such an encoding.
 ///
 /// ```text
 /// ensures found { IfOk result
@@ -612,6 +637,8 @@ fn read_few_groups(bytes: &[u8]) -> Result<(FewGroups, &[u8]), DecodeError> {
 /// Returns the number that at most five groups encode in two's complement.
 ///
 /// # Asks
+///
+/// [What happens otherwise](crate::fallible#what-is-asked).
 ///
 /// ```text
 /// requires { groups.sum < 2 ^ 35 × groups.power ≤ 2 ^ 35 }

@@ -34,7 +34,9 @@ impl<A: Allocator> Module<A> {
     ///
     /// # Proved
     ///
-    /// After `Ok`: `bytes`, the module is the header; `read`. In any case: `memory`, no error is `TooLong`. `read`: As `DecodesUniquely`, for a format that takes all of the bytes: `encoding` as a whole decodes to `x` alone.
+    /// - After `Ok`, `bytes`: the module is the header.
+    /// - After `Ok`, `read`: The result is the only minimal encoding of these sections. In every mode, all of its bytes decode to them alone.
+    /// - `memory`: no error is `TooLong`.
     ///
     /// ```text
     /// ensures bytes { IfOk result (λ m. m ≡ header) }
@@ -58,7 +60,13 @@ impl<A: Allocator> Module<A> {
     ///
     /// # Proved
     ///
-    /// After `Ok`: `ok`, the module gains the id and the encoding of the section; `read`; `section`, the encoding decodes as the impl defines by `decoding`; `was_encodable`, each count and length fits 32 bits. After an error: `err`, the value is unchanged. In any case: `too_long`, a section whose counts and lengths fit never gives `TooLong`; `too_many`, an `overlong` section gives `TooLong`. `read`: Composition of modules: if the old bytes decode to some sections alone, the new bytes decode to these and one more. That section has this id, and any payload with the property.
+    /// - After `Ok`, `ok`: the module gains the id and the encoding of the section.
+    /// - After `Ok`, `read`: Composition of modules: if the old bytes decode to some sections alone, the new bytes decode to these and one more. That section has this id, and any payload with the property.
+    /// - After `Ok`, `section`: the encoding decodes as the impl defines by `decoding`.
+    /// - After `Ok`, `was_encodable`: each count and length fits 32 bits.
+    /// - After an error, `err`: the value is unchanged.
+    /// - `too_long`: a section whose counts and lengths fit never gives `TooLong`.
+    /// - `too_many`: an `overlong` section gives `TooLong`.
     ///
     /// ```text
     /// ensures ok { OnOk result

@@ -7,24 +7,24 @@ use crate::base::refused::{Refused, Result};
 
 /// A value that is consumed when it is encoded, since an iterator in it yields its items only once.
 ///
+/// [`vec_of`](crate::fallible::vec_of) and [`bytes_of`](crate::fallible::bytes_of) return such
+/// values.
+///
 /// # Errors
 ///
 /// `encode_once` returns [`Refused`], and leaves the sink unchanged, if an allocation fails or the
 /// encoding does not fit.
 ///
-/// [`vec_of`](crate::fallible::vec_of) and [`bytes_of`](crate::fallible::bytes_of) return such
-/// values.
-///
 /// # Examples
 ///
 /// ```
-/// use dolzhytik::fallible::{EncodeOnce, Refused, vec_of};
+/// use dolzhytik::fallible::{EncodeOnce, vec_of};
 ///
 /// let mut bytes = Vec::new();
 /// vec_of([1_u32, 300].into_iter())?.encode_once(&mut bytes)?;
 /// // Two numbers: 1, and 300 = 2 * 128 + 44.
 /// assert_eq!(bytes, [2, 1, 0xAC, 0x02]);
-/// # Ok::<(), Refused>(())
+/// # Ok::<(), dolzhytik::fallible::Refused>(())
 /// ```
 ///
 /// # Defined
@@ -51,7 +51,7 @@ pub trait EncodeOnce {
     ///
     /// # Asks
     ///
-    /// Each iterator in the value ends, and yields as many items as it reports: the impl says so by `lawful`.
+    /// Each iterator in the value ends, and yields as many items as it reports: the impl says so by `lawful`. [What happens otherwise](crate::fallible#what-is-asked).
     ///
     /// ```text
     /// requires { lawful self }
@@ -76,13 +76,13 @@ pub trait EncodeOnce {
 /// # Examples
 ///
 /// ```
-/// use dolzhytik::fallible::{EncodeOnce, Refused, VecOf, vec_of};
+/// use dolzhytik::fallible::{EncodeOnce, VecOf, vec_of};
 ///
-/// let squares: VecOf<_> = vec_of((1_u32..4).map(|n| n * n).collect::<Vec<_>>())?;
+/// let squares: VecOf<_> = vec_of([1_u32, 2, 3].map(|n| n * n))?;
 /// let mut bytes = Vec::new();
 /// squares.encode_once(&mut bytes)?;
 /// assert_eq!(bytes, [3, 1, 4, 9]);
-/// # Ok::<(), Refused>(())
+/// # Ok::<(), dolzhytik::fallible::Refused>(())
 /// ```
 #[derive(Debug)]
 pub struct VecOf<I> {
@@ -96,13 +96,13 @@ pub struct VecOf<I> {
 /// # Examples
 ///
 /// ```
-/// use dolzhytik::fallible::{BytesOf, EncodeOnce, Refused, bytes_of};
+/// use dolzhytik::fallible::{BytesOf, EncodeOnce, bytes_of};
 ///
 /// let data: BytesOf<_> = bytes_of(*b"hi")?;
 /// let mut bytes = Vec::new();
 /// data.encode_once(&mut bytes)?;
 /// assert_eq!(bytes, [2, b'h', b'i']);
-/// # Ok::<(), Refused>(())
+/// # Ok::<(), dolzhytik::fallible::Refused>(())
 /// ```
 #[derive(Debug)]
 pub struct BytesOf<I> {
@@ -144,13 +144,13 @@ fn count_of<I: ExactSizeIterator>(items: &I) -> Result<u32> {
 /// # Examples
 ///
 /// ```
-/// use dolzhytik::fallible::{EncodeOnce, Refused, ValType, vec_of};
+/// use dolzhytik::fallible::{EncodeOnce, ValType, vec_of};
 ///
 /// let mut bytes = Vec::new();
 /// vec_of([ValType::I32, ValType::F64])?.encode_once(&mut bytes)?;
 /// // Two types: i32 is 7F, f64 is 7C.
 /// assert_eq!(bytes, [2, 0x7F, 0x7C]);
-/// # Ok::<(), Refused>(())
+/// # Ok::<(), dolzhytik::fallible::Refused>(())
 /// ```
 ///
 /// # Proved
@@ -188,12 +188,12 @@ where
 /// # Examples
 ///
 /// ```
-/// use dolzhytik::fallible::{EncodeOnce, Refused, bytes_of};
+/// use dolzhytik::fallible::{EncodeOnce, bytes_of};
 ///
 /// let mut bytes = Vec::new();
 /// bytes_of("hi".bytes())?.encode_once(&mut bytes)?;
 /// assert_eq!(bytes, [2, b'h', b'i']);
-/// # Ok::<(), Refused>(())
+/// # Ok::<(), dolzhytik::fallible::Refused>(())
 /// ```
 ///
 /// # Proved
@@ -260,6 +260,8 @@ const SHORT: usize = 256;
 ///
 /// # Asks
 ///
+/// [What happens otherwise](crate::fallible#what-is-asked).
+///
 /// ```text
 /// requires ready { I.can_next items.old × IsFinite (I.remaining items.old) }
 /// requires many { (xs : List ℕ) → Drains I.next_gives items.old xs → 16 ≤ length xs }
@@ -288,6 +290,8 @@ fn next_block<I: Iterator<Item = u8>>(items: &mut I) -> [u8; BLOCK] {
 /// The sink has spare capacity for the run.
 ///
 /// # Asks
+///
+/// [What happens otherwise](crate::fallible#what-is-asked).
 ///
 /// ```text
 /// requires ready { I.can_next items.old × IsFinite (I.remaining items.old) }

@@ -53,14 +53,14 @@ impl<T: Encode> Encode for Lent<'_, T> {
 /// # Examples
 ///
 /// ```
-/// use dolzhytik::fallible::{Encode, Optional, Refused};
+/// use dolzhytik::fallible::{Encode, Optional};
 ///
 /// let mut bytes = Vec::new();
 /// (1_u8, Optional(Some(5_u32))).encode(&mut bytes)?;
 /// (0_u8, Optional::<u32>(None)).encode(&mut bytes)?;
 /// // `None` has no bytes.
 /// assert_eq!(bytes, [1, 5, 0]);
-/// # Ok::<(), Refused>(())
+/// # Ok::<(), dolzhytik::fallible::Refused>(())
 /// ```
 #[derive(Clone, Copy, Debug)]
 pub struct Optional<T>(pub Option<T>);
@@ -95,12 +95,12 @@ impl<T: Encode> Encode for Optional<T> {
 ///
 /// ```
 /// use dolzhytik::fallible::Global;
-/// use dolzhytik::reader::{DecodeError, Padded, read_optional};
+/// use dolzhytik::reader::{Padded, read_optional};
 ///
 /// let (some, _) = read_optional::<u32, Global, Padded>(true, &[5], Global)?;
 /// let (none, rest) = read_optional::<u32, Global, Padded>(false, &[5], Global)?;
 /// assert_eq!((some, none, rest), (Some(5), None, &[5][..]));
-/// # Ok::<(), DecodeError>(())
+/// # Ok::<(), dolzhytik::reader::DecodeError>(())
 /// ```
 ///
 /// # Proved

@@ -13,18 +13,18 @@ use crate::alloc::{Allocator, Global};
 /// One buffer holds the entries one after another, and a second vector holds the end offset of
 /// each.
 ///
+/// The builders consist of it. Use it for a section of your own.
+///
 /// # Errors
 ///
 /// An adding call that returns an error leaves the entries unchanged. The error is
 /// [`Refused::TooLong`] only if there are 4294967295 entries already or the item does not fit, and
 /// [`Refused::Memory`] only if an allocation fails.
 ///
-/// The builders consist of it. Use it for a section of your own.
-///
 /// # Examples
 ///
 /// ```
-/// use dolzhytik::fallible::{Encode, Global, Pieces, Refused};
+/// use dolzhytik::fallible::{Encode, Global, Pieces};
 ///
 /// let mut entries = Pieces::new(Global);
 /// entries.add(b"ab")?;
@@ -35,7 +35,7 @@ use crate::alloc::{Allocator, Global};
 /// entries.encode(&mut bytes)?;
 /// // The size of the payload, 5; two entries.
 /// assert_eq!(bytes, [5, 2, b'a', b'b', 0xAC, 0x02]);
-/// # Ok::<(), Refused>(())
+/// # Ok::<(), dolzhytik::fallible::Refused>(())
 /// ```
 #[derive(Debug)]
 pub struct Pieces<A: Allocator = Global> {
@@ -46,6 +46,8 @@ pub struct Pieces<A: Allocator = Global> {
 /// Returns the offset at which the entry at `index` begins.
 ///
 /// # Asks
+///
+/// [What happens otherwise](crate::fallible#what-is-asked).
 ///
 /// ```text
 /// requires { index ≤ length ends.now }
@@ -225,7 +227,7 @@ impl<A: Allocator> Pieces<A> {
     ///
     /// # Asks
     ///
-    /// Each iterator in the value ends, and yields as many items as it reports: the impl says so by `lawful`.
+    /// Each iterator in the value ends, and yields as many items as it reports: the impl says so by `lawful`. [What happens otherwise](crate::fallible#what-is-asked).
     ///
     /// ```text
     /// requires { T.lawful item }

@@ -56,14 +56,14 @@ pub trait Layout {
 ///
 /// ```
 /// use dolzhytik::fallible::{Global, ValType};
-/// use dolzhytik::reader::{DecodeError, Padded, Readable};
+/// use dolzhytik::reader::{Padded, Readable};
 ///
 /// let bytes = [0x7F, 0xAC, 0x02];
 /// let (ty, rest) = <ValType as Readable<Global, Padded>>::read(&bytes, Global)?;
 /// let (number, rest) = <u32 as Readable<Global, Padded>>::read(rest, Global)?;
 /// // i32, and 0x02 * 128 + 0x2C.
 /// assert_eq!((ty, number, rest.len()), (ValType::I32, 300, 0));
-/// # Ok::<(), DecodeError>(())
+/// # Ok::<(), dolzhytik::reader::DecodeError>(())
 /// ```
 pub trait Readable<'a, A: Allocator + Copy, G: Grammar>: Layout + Sized {
     /// Decodes the value at the front, in the grammar `G`, and returns it with the remaining bytes.

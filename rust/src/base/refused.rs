@@ -42,7 +42,7 @@ pub enum Refused {
 /// # Examples
 ///
 /// ```
-/// use dolzhytik::fallible::{Encode, Refused, Result};
+/// use dolzhytik::fallible::{Encode, Result};
 ///
 /// fn encoded(n: u32) -> Result<Vec<u8>> {
 ///     let mut bytes = Vec::new();
@@ -52,7 +52,7 @@ pub enum Refused {
 ///
 /// // 128 has two groups of seven bits.
 /// assert_eq!(encoded(128)?, [0x80, 0x01]);
-/// # Ok::<(), Refused>(())
+/// # Ok::<(), dolzhytik::fallible::Refused>(())
 /// ```
 pub type Result<T, E = Refused> = result::Result<T, E>;
 

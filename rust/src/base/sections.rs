@@ -13,7 +13,7 @@ use crate::base::refused::{Refused, Result};
 /// # Examples
 ///
 /// ```
-/// use dolzhytik::fallible::{FunctionSection, Global, Refused, Section};
+/// use dolzhytik::fallible::{FunctionSection, Global, Section};
 ///
 /// let mut functions = FunctionSection::new(Global);
 /// functions.function(5)?;
@@ -21,7 +21,7 @@ use crate::base::refused::{Refused, Result};
 /// functions.append_to(&mut bytes)?;
 /// // Id 3, size 2, one function, of type 5.
 /// assert_eq!((functions.id(), &bytes[..]), (3, &[3, 2, 1, 5][..]));
-/// # Ok::<(), Refused>(())
+/// # Ok::<(), dolzhytik::fallible::Refused>(())
 /// ```
 ///
 /// # Defined
@@ -69,7 +69,9 @@ pub trait Section: Encode {
     ///
     /// # Proved
     ///
-    /// After `Ok`: `read`, the encoding decodes as the impl defines by `decoding`. In any case: `appends`; `too_many`, an `overlong` section gives `TooLong`. `appends`: The call appends the encoding, or returns an error and leaves the bytes as they were. If the value fits, the call never returns `TooLong`, and it succeeds within the spare capacity.
+    /// - After `Ok`, `read`: the encoding decodes as the impl defines by `decoding`.
+    /// - `appends`: The call appends the encoding, or returns an error and leaves the bytes as they were. If the value fits, the call never returns `TooLong`, and it succeeds within the spare capacity.
+    /// - `too_many`: an `overlong` section gives `TooLong`.
     ///
     /// ```text
     /// ensures appends { Appends (id_of self.now ∷ Self.encoding self.now)
@@ -100,13 +102,13 @@ pub trait Section: Encode {
 /// # Examples
 ///
 /// ```
-/// use dolzhytik::fallible::{RawSection, Refused, Section};
+/// use dolzhytik::fallible::{RawSection, Section};
 ///
 /// let mut bytes = Vec::new();
 /// RawSection { id: 3, bytes: &[1, 5] }.append_to(&mut bytes)?;
 /// // Id 3, size 2, and the payload.
 /// assert_eq!(bytes, [3, 2, 1, 5]);
-/// # Ok::<(), Refused>(())
+/// # Ok::<(), dolzhytik::fallible::Refused>(())
 /// ```
 #[derive(Clone, Copy, Debug)]
 pub struct RawSection<'a> {

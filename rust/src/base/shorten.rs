@@ -11,14 +11,14 @@ use crate::base::refused::Result;
 ///
 /// ```
 /// use dolzhytik::fallible::Global;
-/// use dolzhytik::reader::{DecodeError, Padded, Readable, Shorten};
+/// use dolzhytik::reader::{Padded, Readable, Shorten};
 ///
 /// let (number, _) =
 ///     <u32 as Readable<Global, Padded>>::read(&[0x85, 0x80, 0x00], Global)?;
 /// let mut minimal = Vec::new();
 /// number.append_minimal(&mut minimal)?;
 /// assert_eq!(minimal, [5]);
-/// # Ok::<(), DecodeError>(())
+/// # Ok::<(), dolzhytik::reader::DecodeError>(())
 /// ```
 pub trait Shorten: Layout {
     /// Writes the minimal encoding of the value after the old bytes. An impl defines it, and
@@ -32,7 +32,9 @@ pub trait Shorten: Layout {
     ///
     /// # Proved
     ///
-    /// After `Ok`: `ok`, the sink gains the minimal encoding. In any case: `front`; `too_long`, a value that has an encoding never gives `TooLong`. `front`: The new bytes begin with the old ones.
+    /// - After `Ok`, `ok`: the sink gains the minimal encoding.
+    /// - `front`: The new bytes begin with the old ones.
+    /// - `too_long`: a value that has an encoding never gives `TooLong`.
     ///
     /// ```text
     /// ensures ok { OnOk result

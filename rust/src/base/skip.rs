@@ -13,13 +13,13 @@ use crate::alloc::Allocator;
 ///
 /// ```
 /// use dolzhytik::fallible::Global;
-/// use dolzhytik::reader::{DecodeError, Expression, Padded, Skip};
+/// use dolzhytik::reader::{Expression, Padded, Skip};
 ///
 /// // i32.const 7, end; then another byte.
 /// let rest =
 ///     <Expression as Skip<Global, Padded>>::skip(&[0x41, 7, 0x0B, 0xFF], Global)?;
 /// assert_eq!(rest, [0xFF]);
-/// # Ok::<(), DecodeError>(())
+/// # Ok::<(), dolzhytik::reader::DecodeError>(())
 /// ```
 pub trait Skip<'a, A: Allocator + Copy, G: Grammar>: Layout {
     /// Skips the value at the front, in the grammar `G`, and returns the remaining bytes.
@@ -52,11 +52,11 @@ pub trait Skip<'a, A: Allocator + Copy, G: Grammar>: Layout {
 ///
 /// ```
 /// use dolzhytik::fallible::Global;
-/// use dolzhytik::reader::{DecodeError, Dropped, Padded, Skip};
+/// use dolzhytik::reader::{Dropped, Padded, Skip};
 ///
 /// let rest = <Dropped<&str> as Skip<Global, Padded>>::skip(b"\x02abc", Global)?;
 /// assert_eq!(rest, *b"c");
-/// # Ok::<(), DecodeError>(())
+/// # Ok::<(), dolzhytik::reader::DecodeError>(())
 /// ```
 pub struct Dropped<T>(T);
 
@@ -93,13 +93,13 @@ impl<'a, A: Allocator + Copy, G: Grammar, T: Readable<'a, A, G>> Skip<'a, A, G> 
 ///
 /// ```
 /// use dolzhytik::fallible::Global;
-/// use dolzhytik::reader::{DecodeError, Dropped, Padded, skip_many};
+/// use dolzhytik::reader::{Dropped, Padded, skip_many};
 ///
 /// // Two numbers, then another byte.
 /// let (count, rest) =
 ///     skip_many::<Dropped<u32>, Global, Padded>(&[2, 5, 6, 0xFF], Global)?;
 /// assert_eq!((count, rest), (2, &[0xFF][..]));
-/// # Ok::<(), DecodeError>(())
+/// # Ok::<(), dolzhytik::reader::DecodeError>(())
 /// ```
 ///
 /// # Proved

@@ -49,18 +49,18 @@ impl<T: Encode> Encode for &[T] {
 /// # Examples
 ///
 /// ```
-/// use dolzhytik::fallible::{Refused, encode_vec};
+/// use dolzhytik::fallible::encode_vec;
 ///
 /// let mut bytes = vec![0x11];
 /// encode_vec([5_u32, 128], &mut bytes)?;
 /// // Two numbers: 5, and 128 = 1 * 128 + 0.
 /// assert_eq!(bytes, [0x11, 2, 5, 0x80, 0x01]);
-/// # Ok::<(), Refused>(())
+/// # Ok::<(), dolzhytik::fallible::Refused>(())
 /// ```
 ///
 /// # Asks
 ///
-/// The iterator ends, and yields as many items as it reports.
+/// The iterator ends, and yields as many items as it reports. [What happens otherwise](crate::fallible#what-is-asked).
 ///
 /// ```text
 /// requires { HasKnownLength V.into_iter_gives V.IntoIter.can_next V.IntoIter.next_gives
@@ -126,7 +126,9 @@ impl<'a, A: Allocator + Copy, G: Grammar, T: Readable<'a, A, G>> Readable<'a, A,
 ///
 /// # Proved
 ///
-/// After `Ok`: `ok`, the sink gains the minimal encoding. In any case: `front`; `too_long`, a value that has an encoding never gives `TooLong`. `front`: The new bytes begin with the old ones.
+/// - After `Ok`, `ok`: the sink gains the minimal encoding.
+/// - `front`: The new bytes begin with the old ones.
+/// - `too_long`: a value that has an encoding never gives `TooLong`.
 ///
 /// ```text
 /// ensures ok { OnOk result
@@ -159,13 +161,12 @@ fn write_all<T: Shorten, B: Sink>(items: &[T], sink: &mut B) -> Result<()> {
 /// # Examples
 ///
 /// ```
-/// use dolzhytik::fallible::Refused;
 /// use dolzhytik::reader::append_all;
 ///
 /// let mut bytes = Vec::new();
 /// append_all(&[5_u32, 300], &mut bytes)?;
 /// assert_eq!(bytes, [5, 0xAC, 0x02]);
-/// # Ok::<(), Refused>(())
+/// # Ok::<(), dolzhytik::fallible::Refused>(())
 /// ```
 ///
 /// # Proved

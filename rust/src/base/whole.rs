@@ -17,12 +17,12 @@ use crate::alloc::Allocator;
 ///
 /// ```
 /// use dolzhytik::fallible::Global;
-/// use dolzhytik::reader::{DecodeError, Padded, read_whole};
+/// use dolzhytik::reader::{Padded, read_whole};
 ///
 /// let name = read_whole::<&str, Global, Padded>(b"\x02ab", Global)?;
 /// assert_eq!(name, "ab");
 /// assert!(read_whole::<&str, Global, Padded>(b"\x02abc", Global).is_err());
-/// # Ok::<(), DecodeError>(())
+/// # Ok::<(), dolzhytik::reader::DecodeError>(())
 /// ```
 ///
 /// # Proved
@@ -52,18 +52,18 @@ pub fn read_whole<'a, T: Readable<'a, A, G>, A: Allocator + Copy, G: Grammar>(
 /// Decodes a value that occupies all of the bytes. Further bytes follow in the input, from which
 /// the place of an error counts.
 ///
+/// [`left`](crate::reader::DecodeError::left) of an error counts the bytes of `rest` too, as
+/// the example shows.
+///
 /// # Errors
 ///
 /// Any error but `Memory` means that the bytes as a whole encode no such value.
-///
-/// [`left`](crate::reader::DecodeError::left) of an error counts the bytes of `rest` too, as
-/// the example shows.
 ///
 /// # Examples
 ///
 /// ```
 /// use dolzhytik::fallible::Global;
-/// use dolzhytik::reader::{DecodeError, Padded, ReadFault, read_before};
+/// use dolzhytik::reader::{Padded, ReadFault, read_before};
 ///
 /// // The first three bytes are a name.
 /// let (sized, rest) = b"\x02ab\xFF".split_at(3);
@@ -72,7 +72,7 @@ pub fn read_whole<'a, T: Readable<'a, A, G>, A: Allocator + Copy, G: Grammar>(
 /// // A name of three bytes, of which two are there: the error is just before `rest`.
 /// let error = read_before::<&str, Global, Padded>(b"\x03ab", rest, Global).unwrap_err();
 /// assert_eq!((error.cause(), error.left()), (ReadFault::Ended, 1));
-/// # Ok::<(), DecodeError>(())
+/// # Ok::<(), dolzhytik::reader::DecodeError>(())
 /// ```
 ///
 /// # Proved
@@ -108,16 +108,16 @@ pub fn read_before<'a, T: Readable<'a, A, G>, A: Allocator + Copy, G: Grammar>(
 ///
 /// ```
 /// use dolzhytik::fallible::Global;
-/// use dolzhytik::reader::{DecodeError, Padded, read_to_end};
+/// use dolzhytik::reader::{Padded, read_to_end};
 ///
 /// let numbers = read_to_end::<u32, Global, Padded>(&[5, 0xAC, 0x02], Global)?;
 /// assert_eq!(numbers[..], [5, 300]);
-/// # Ok::<(), DecodeError>(())
+/// # Ok::<(), dolzhytik::reader::DecodeError>(())
 /// ```
 ///
 /// # Asks
 ///
-/// No encoding of a value is empty.
+/// No encoding of a value is empty. [What happens otherwise](crate::fallible#what-is-asked).
 ///
 /// ```text
 /// requires { BeginsWith (λ b. Unit {0}) T.format }

@@ -21,12 +21,12 @@ const BYTES_OF_ONE: usize = 4;
 ///
 /// ```
 /// use dolzhytik::fallible::{Global, Op};
-/// use dolzhytik::reader::{DecodeError, Padded, read_code};
+/// use dolzhytik::reader::{Padded, read_code};
 ///
 /// // local.get 0, drop, end.
 /// let code = read_code::<Global, Padded>(&[0x20, 0, 0x1A, 0x0B], Global)?;
 /// assert_eq!((code.len(), code[1].op), (3, Op::Byte(0x1A)));
-/// # Ok::<(), DecodeError>(())
+/// # Ok::<(), dolzhytik::reader::DecodeError>(())
 /// ```
 ///
 /// # Proved
@@ -63,7 +63,9 @@ pub fn read_code<'a, A: Allocator + Copy, G: Grammar>(
 ///
 /// # Proved
 ///
-/// After `Ok`: `ok`, the sink gains the minimal encoding. In any case: `front`; `too_long`, a value that has an encoding never gives `TooLong`. `front`: The new bytes begin with the old ones.
+/// - After `Ok`, `ok`: the sink gains the minimal encoding.
+/// - `front`: The new bytes begin with the old ones.
+/// - `too_long`: a value that has an encoding never gives `TooLong`.
 ///
 /// ```text
 /// ensures ok { OnOk result
@@ -94,13 +96,13 @@ pub(crate) fn append_code<A: Allocator, B: Sink>(
 ///
 /// ```
 /// use dolzhytik::fallible::{Global, Op, ValType};
-/// use dolzhytik::reader::{DecodeError, Padded, read_body};
+/// use dolzhytik::reader::{Padded, read_body};
 ///
 /// // One run of locals, 2 of i32 (7F); nop (01), end (0B).
 /// let body = read_body::<Global, Padded>(&[1, 2, 0x7F, 0x01, 0x0B], Global)?;
 /// assert_eq!(body.runs[..], [(2, ValType::I32)]);
 /// assert!(body.code.iter().map(|it| it.op).eq([Op::Byte(0x01), Op::Byte(0x0B)]));
-/// # Ok::<(), DecodeError>(())
+/// # Ok::<(), dolzhytik::reader::DecodeError>(())
 /// ```
 #[derive(Debug)]
 pub struct Body<A: Allocator = Global> {
@@ -120,12 +122,12 @@ pub struct Body<A: Allocator = Global> {
 ///
 /// ```
 /// use dolzhytik::fallible::Global;
-/// use dolzhytik::reader::{DecodeError, Padded, read_body};
+/// use dolzhytik::reader::{Padded, read_body};
 ///
 /// // No locals; end.
 /// let body = read_body::<Global, Padded>(&[0, 0x0B], Global)?;
 /// assert_eq!((body.runs.len(), body.code.len()), (0, 1));
-/// # Ok::<(), DecodeError>(())
+/// # Ok::<(), dolzhytik::reader::DecodeError>(())
 /// ```
 ///
 /// # Proved
@@ -187,7 +189,9 @@ impl<A: Allocator> Shorten for Body<A> {
 ///
 /// # Proved
 ///
-/// After `Ok`: `found`, the bytes encode a body, and the sink gains its minimal encoding, with the size prefix. After an error: `none`, the bytes as a whole are no such encoding, unless the cause is `Memory`. In any case: `front`. `front`: The new bytes begin with the old ones.
+/// - After `Ok`, `found`: the bytes encode a body, and the sink gains its minimal encoding, with the size prefix.
+/// - After an error, `none`: the bytes as a whole are no such encoding, unless the cause is `Memory`.
+/// - `front`: The new bytes begin with the old ones.
 ///
 /// ```text
 /// ensures found { OnOk result
@@ -226,14 +230,14 @@ fn write_body<A: Allocator + Copy, B: Sink>(
 ///
 /// ```
 /// use dolzhytik::fallible::Global;
-/// use dolzhytik::reader::{DecodeError, shorten_body};
+/// use dolzhytik::reader::shorten_body;
 ///
 /// let mut minimal = Vec::new();
 /// // No locals; local.get with a padded index, 1 in two bytes; end.
 /// shorten_body(&[0, 0x20, 0x81, 0x00, 0x0B], Global, &mut minimal)?;
 /// // The size, 4, and the body.
 /// assert_eq!(minimal, [4, 0, 0x20, 1, 0x0B]);
-/// # Ok::<(), DecodeError>(())
+/// # Ok::<(), dolzhytik::reader::DecodeError>(())
 /// ```
 ///
 /// # Proved

@@ -15,18 +15,18 @@ use crate::insn::{Ieee32, Ieee64, Instruction, InstructionSink};
 /// `f32_const` or `f64_const` is kept as a value, without an allocation, as tests show. All others
 /// are kept as bytes.
 ///
+/// Globals, tables, and offsets of segments have such an expression. Its `end` is not part of
+/// it: the encoding adds it.
+///
 /// # Errors
 ///
 /// Its calls return `Memory` if an allocation fails. `extended` alone can return `TooLong`: then an
 /// instruction has a list that is too long.
 ///
-/// Globals, tables, and offsets of segments have such an expression. Its `end` is not part of
-/// it: the encoding adds it.
-///
 /// # Examples
 ///
 /// ```
-/// use dolzhytik::fallible::{ConstExpr, Encode, Global, Refused};
+/// use dolzhytik::fallible::{ConstExpr, Encode, Global};
 ///
 /// let sum = ConstExpr::i32_const(Global, 64)?.with_i32_const(1)?.with_i32_add()?;
 /// let mut bytes = Vec::new();
@@ -34,7 +34,7 @@ use crate::insn::{Ieee32, Ieee64, Instruction, InstructionSink};
 /// // i32.const 64: 41, and 64 as signed LEB128, C0 00. i32.const 1: 41 01. i32.add:
 /// // 6A. end: 0B.
 /// assert_eq!(bytes, [0x41, 0xC0, 0x00, 0x41, 0x01, 0x6A, 0x0B]);
-/// # Ok::<(), Refused>(())
+/// # Ok::<(), dolzhytik::fallible::Refused>(())
 /// ```
 #[derive(Debug)]
 pub struct ConstExpr<A: Allocator = Global> {
@@ -74,17 +74,17 @@ impl<A: Allocator> ConstExpr<A> {
     /// # Examples
     ///
     /// ```
-    /// use dolzhytik::fallible::{ConstExpr, Encode, Global, Refused};
+    /// use dolzhytik::fallible::{ConstExpr, Encode, Global};
     ///
     /// let mut bytes = Vec::new();
     /// ConstExpr::raw(Global, [0x41, 0x2A])?.encode(&mut bytes)?; // i32.const 42
     /// assert_eq!(bytes, [0x41, 0x2A, 0x0B]);
-    /// # Ok::<(), Refused>(())
+    /// # Ok::<(), dolzhytik::fallible::Refused>(())
     /// ```
     ///
     /// # Asks
     ///
-    /// The iterator ends.
+    /// The iterator ends. [What happens otherwise](crate::fallible#what-is-asked).
     ///
     /// ```text
     /// requires { (it : I.IntoIter) → I.into_iter_gives bytes it
@@ -122,7 +122,7 @@ impl<A: Allocator> ConstExpr<A> {
     /// # Examples
     ///
     /// ```
-    /// use dolzhytik::fallible::{ConstExpr, Encode, Global, Instruction, Refused};
+    /// use dolzhytik::fallible::{ConstExpr, Encode, Global, Instruction};
     ///
     /// let made =
     ///     ConstExpr::extended(Global, [Instruction::I32Const(1), Instruction::RefI31])?;
@@ -130,12 +130,12 @@ impl<A: Allocator> ConstExpr<A> {
     /// made.encode(&mut bytes)?;
     /// // i32.const 1: 41 01. ref.i31: FB 1C. end: 0B.
     /// assert_eq!(bytes, [0x41, 0x01, 0xFB, 0x1C, 0x0B]);
-    /// # Ok::<(), Refused>(())
+    /// # Ok::<(), dolzhytik::fallible::Refused>(())
     /// ```
     ///
     /// # Asks
     ///
-    /// The iterator ends.
+    /// The iterator ends. [What happens otherwise](crate::fallible#what-is-asked).
     ///
     /// ```text
     /// requires { (it : I.IntoIter) → I.into_iter_gives instructions it
@@ -179,7 +179,7 @@ impl<A: Allocator> ConstExpr<A> {
     ///
     /// # Proved
     ///
-    /// The bytes gain the encoding of `i`. If `i` is well-formed and the old bytes minimally encode instructions, the new bytes encode these and the normal form of `i`.
+    /// The bytes gain the encoding of the instruction. If it is well-formed and the old bytes minimally encode instructions, the new bytes encode these and its normal form.
     ///
     /// ```text
     /// ensures { Stores (instruction_of first) [] result }
@@ -203,7 +203,8 @@ impl<A: Allocator> ConstExpr<A> {
     ///
     /// # Proved
     ///
-    /// After `Ok`: `stores`. In any case: `memory`, no error is `TooLong`. `stores`: The bytes gain the encoding of `i`. If `i` is well-formed and the old bytes minimally encode instructions, the new bytes encode these and the normal form of `i`.
+    /// - After `Ok`, `stores`: The bytes gain the encoding of the instruction. If it is well-formed and the old bytes minimally encode instructions, the new bytes encode these and its normal form.
+    /// - `memory`: no error is `TooLong`.
     ///
     /// ```text
     /// ensures stores { IfOk result (Stores (Instruction.GlobalGet index) []) }
@@ -224,7 +225,8 @@ impl<A: Allocator> ConstExpr<A> {
     ///
     /// # Proved
     ///
-    /// After `Ok`: `stores`. In any case: `memory`, no error is `TooLong`. `stores`: The bytes gain the encoding of `i`. If `i` is well-formed and the old bytes minimally encode instructions, the new bytes encode these and the normal form of `i`.
+    /// - After `Ok`, `stores`: The bytes gain the encoding of the instruction. If it is well-formed and the old bytes minimally encode instructions, the new bytes encode these and its normal form.
+    /// - `memory`: no error is `TooLong`.
     ///
     /// ```text
     /// ensures stores { IfOk result (Stores (Instruction.RefNull ty) []) }
@@ -245,7 +247,8 @@ impl<A: Allocator> ConstExpr<A> {
     ///
     /// # Proved
     ///
-    /// After `Ok`: `stores`. In any case: `memory`, no error is `TooLong`. `stores`: The bytes gain the encoding of `i`. If `i` is well-formed and the old bytes minimally encode instructions, the new bytes encode these and the normal form of `i`.
+    /// - After `Ok`, `stores`: The bytes gain the encoding of the instruction. If it is well-formed and the old bytes minimally encode instructions, the new bytes encode these and its normal form.
+    /// - `memory`: no error is `TooLong`.
     ///
     /// ```text
     /// ensures stores { IfOk result (Stores (Instruction.RefFunc function_index) []) }
@@ -266,7 +269,8 @@ impl<A: Allocator> ConstExpr<A> {
     ///
     /// # Proved
     ///
-    /// After `Ok`: `stores`. In any case: `memory`, no error is `TooLong`. `stores`: The bytes gain the encoding of `i`. If `i` is well-formed and the old bytes minimally encode instructions, the new bytes encode these and the normal form of `i`.
+    /// - After `Ok`, `stores`: The bytes gain the encoding of the instruction. If it is well-formed and the old bytes minimally encode instructions, the new bytes encode these and its normal form.
+    /// - `memory`: no error is `TooLong`.
     ///
     /// ```text
     /// ensures stores { IfOk result (Stores (Instruction.I32Const value) []) }
@@ -287,7 +291,8 @@ impl<A: Allocator> ConstExpr<A> {
     ///
     /// # Proved
     ///
-    /// After `Ok`: `stores`. In any case: `memory`, no error is `TooLong`. `stores`: The bytes gain the encoding of `i`. If `i` is well-formed and the old bytes minimally encode instructions, the new bytes encode these and the normal form of `i`.
+    /// - After `Ok`, `stores`: The bytes gain the encoding of the instruction. If it is well-formed and the old bytes minimally encode instructions, the new bytes encode these and its normal form.
+    /// - `memory`: no error is `TooLong`.
     ///
     /// ```text
     /// ensures stores { IfOk result (Stores (Instruction.I64Const value) []) }
@@ -308,7 +313,8 @@ impl<A: Allocator> ConstExpr<A> {
     ///
     /// # Proved
     ///
-    /// After `Ok`: `stores`. In any case: `memory`, no error is `TooLong`. `stores`: The bytes gain the encoding of `i`. If `i` is well-formed and the old bytes minimally encode instructions, the new bytes encode these and the normal form of `i`.
+    /// - After `Ok`, `stores`: The bytes gain the encoding of the instruction. If it is well-formed and the old bytes minimally encode instructions, the new bytes encode these and its normal form.
+    /// - `memory`: no error is `TooLong`.
     ///
     /// ```text
     /// ensures stores { IfOk result (Stores (Instruction.F32Const value) []) }
@@ -329,7 +335,8 @@ impl<A: Allocator> ConstExpr<A> {
     ///
     /// # Proved
     ///
-    /// After `Ok`: `stores`. In any case: `memory`, no error is `TooLong`. `stores`: The bytes gain the encoding of `i`. If `i` is well-formed and the old bytes minimally encode instructions, the new bytes encode these and the normal form of `i`.
+    /// - After `Ok`, `stores`: The bytes gain the encoding of the instruction. If it is well-formed and the old bytes minimally encode instructions, the new bytes encode these and its normal form.
+    /// - `memory`: no error is `TooLong`.
     ///
     /// ```text
     /// ensures stores { IfOk result (Stores (Instruction.F64Const value) []) }
@@ -350,7 +357,8 @@ impl<A: Allocator> ConstExpr<A> {
     ///
     /// # Proved
     ///
-    /// After `Ok`: `stores`. In any case: `memory`, no error is `TooLong`. `stores`: The bytes gain the encoding of `i`. If `i` is well-formed and the old bytes minimally encode instructions, the new bytes encode these and the normal form of `i`.
+    /// - After `Ok`, `stores`: The bytes gain the encoding of the instruction. If it is well-formed and the old bytes minimally encode instructions, the new bytes encode these and its normal form.
+    /// - `memory`: no error is `TooLong`.
     ///
     /// ```text
     /// ensures stores { IfOk result
@@ -372,7 +380,8 @@ impl<A: Allocator> ConstExpr<A> {
     ///
     /// # Proved
     ///
-    /// After `Ok`: `stores`. In any case: `memory`, no error is `TooLong`. `stores`: The bytes gain the encoding of `i`. If `i` is well-formed and the old bytes minimally encode instructions, the new bytes encode these and the normal form of `i`.
+    /// - After `Ok`, `stores`: The bytes gain the encoding of the instruction. If it is well-formed and the old bytes minimally encode instructions, the new bytes encode these and its normal form.
+    /// - `memory`: no error is `TooLong`.
     ///
     /// ```text
     /// ensures stores { IfOk result (Stores (Instruction.GlobalGet index) self) }
@@ -394,7 +403,8 @@ impl<A: Allocator> ConstExpr<A> {
     ///
     /// # Proved
     ///
-    /// After `Ok`: `stores`. In any case: `memory`, no error is `TooLong`. `stores`: The bytes gain the encoding of `i`. If `i` is well-formed and the old bytes minimally encode instructions, the new bytes encode these and the normal form of `i`.
+    /// - After `Ok`, `stores`: The bytes gain the encoding of the instruction. If it is well-formed and the old bytes minimally encode instructions, the new bytes encode these and its normal form.
+    /// - `memory`: no error is `TooLong`.
     ///
     /// ```text
     /// ensures stores { IfOk result (Stores (Instruction.RefNull ty) self) }
@@ -416,7 +426,8 @@ impl<A: Allocator> ConstExpr<A> {
     ///
     /// # Proved
     ///
-    /// After `Ok`: `stores`. In any case: `memory`, no error is `TooLong`. `stores`: The bytes gain the encoding of `i`. If `i` is well-formed and the old bytes minimally encode instructions, the new bytes encode these and the normal form of `i`.
+    /// - After `Ok`, `stores`: The bytes gain the encoding of the instruction. If it is well-formed and the old bytes minimally encode instructions, the new bytes encode these and its normal form.
+    /// - `memory`: no error is `TooLong`.
     ///
     /// ```text
     /// ensures stores { IfOk result (Stores (Instruction.RefFunc function_index) self) }
@@ -438,7 +449,8 @@ impl<A: Allocator> ConstExpr<A> {
     ///
     /// # Proved
     ///
-    /// After `Ok`: `stores`. In any case: `memory`, no error is `TooLong`. `stores`: The bytes gain the encoding of `i`. If `i` is well-formed and the old bytes minimally encode instructions, the new bytes encode these and the normal form of `i`.
+    /// - After `Ok`, `stores`: The bytes gain the encoding of the instruction. If it is well-formed and the old bytes minimally encode instructions, the new bytes encode these and its normal form.
+    /// - `memory`: no error is `TooLong`.
     ///
     /// ```text
     /// ensures stores { IfOk result (Stores (Instruction.I32Const value) self) }
@@ -460,7 +472,8 @@ impl<A: Allocator> ConstExpr<A> {
     ///
     /// # Proved
     ///
-    /// After `Ok`: `stores`. In any case: `memory`, no error is `TooLong`. `stores`: The bytes gain the encoding of `i`. If `i` is well-formed and the old bytes minimally encode instructions, the new bytes encode these and the normal form of `i`.
+    /// - After `Ok`, `stores`: The bytes gain the encoding of the instruction. If it is well-formed and the old bytes minimally encode instructions, the new bytes encode these and its normal form.
+    /// - `memory`: no error is `TooLong`.
     ///
     /// ```text
     /// ensures stores { IfOk result (Stores (Instruction.I64Const value) self) }
@@ -482,7 +495,8 @@ impl<A: Allocator> ConstExpr<A> {
     ///
     /// # Proved
     ///
-    /// After `Ok`: `stores`. In any case: `memory`, no error is `TooLong`. `stores`: The bytes gain the encoding of `i`. If `i` is well-formed and the old bytes minimally encode instructions, the new bytes encode these and the normal form of `i`.
+    /// - After `Ok`, `stores`: The bytes gain the encoding of the instruction. If it is well-formed and the old bytes minimally encode instructions, the new bytes encode these and its normal form.
+    /// - `memory`: no error is `TooLong`.
     ///
     /// ```text
     /// ensures stores { IfOk result (Stores (Instruction.F32Const value) self) }
@@ -504,7 +518,8 @@ impl<A: Allocator> ConstExpr<A> {
     ///
     /// # Proved
     ///
-    /// After `Ok`: `stores`. In any case: `memory`, no error is `TooLong`. `stores`: The bytes gain the encoding of `i`. If `i` is well-formed and the old bytes minimally encode instructions, the new bytes encode these and the normal form of `i`.
+    /// - After `Ok`, `stores`: The bytes gain the encoding of the instruction. If it is well-formed and the old bytes minimally encode instructions, the new bytes encode these and its normal form.
+    /// - `memory`: no error is `TooLong`.
     ///
     /// ```text
     /// ensures stores { IfOk result (Stores (Instruction.F64Const value) self) }
@@ -526,7 +541,8 @@ impl<A: Allocator> ConstExpr<A> {
     ///
     /// # Proved
     ///
-    /// After `Ok`: `stores`. In any case: `memory`, no error is `TooLong`. `stores`: The bytes gain the encoding of `i`. If `i` is well-formed and the old bytes minimally encode instructions, the new bytes encode these and the normal form of `i`.
+    /// - After `Ok`, `stores`: The bytes gain the encoding of the instruction. If it is well-formed and the old bytes minimally encode instructions, the new bytes encode these and its normal form.
+    /// - `memory`: no error is `TooLong`.
     ///
     /// ```text
     /// ensures stores { IfOk result
@@ -549,7 +565,8 @@ impl<A: Allocator> ConstExpr<A> {
     ///
     /// # Proved
     ///
-    /// After `Ok`: `stores`. In any case: `memory`, no error is `TooLong`. `stores`: The bytes gain the encoding of `i`. If `i` is well-formed and the old bytes minimally encode instructions, the new bytes encode these and the normal form of `i`.
+    /// - After `Ok`, `stores`: The bytes gain the encoding of the instruction. If it is well-formed and the old bytes minimally encode instructions, the new bytes encode these and its normal form.
+    /// - `memory`: no error is `TooLong`.
     ///
     /// ```text
     /// ensures stores { IfOk result (Stores (Instruction.Numeric Numeric.I32Add) self) }
@@ -571,7 +588,8 @@ impl<A: Allocator> ConstExpr<A> {
     ///
     /// # Proved
     ///
-    /// After `Ok`: `stores`. In any case: `memory`, no error is `TooLong`. `stores`: The bytes gain the encoding of `i`. If `i` is well-formed and the old bytes minimally encode instructions, the new bytes encode these and the normal form of `i`.
+    /// - After `Ok`, `stores`: The bytes gain the encoding of the instruction. If it is well-formed and the old bytes minimally encode instructions, the new bytes encode these and its normal form.
+    /// - `memory`: no error is `TooLong`.
     ///
     /// ```text
     /// ensures stores { IfOk result (Stores (Instruction.Numeric Numeric.I32Sub) self) }
@@ -593,7 +611,8 @@ impl<A: Allocator> ConstExpr<A> {
     ///
     /// # Proved
     ///
-    /// After `Ok`: `stores`. In any case: `memory`, no error is `TooLong`. `stores`: The bytes gain the encoding of `i`. If `i` is well-formed and the old bytes minimally encode instructions, the new bytes encode these and the normal form of `i`.
+    /// - After `Ok`, `stores`: The bytes gain the encoding of the instruction. If it is well-formed and the old bytes minimally encode instructions, the new bytes encode these and its normal form.
+    /// - `memory`: no error is `TooLong`.
     ///
     /// ```text
     /// ensures stores { IfOk result (Stores (Instruction.Numeric Numeric.I32Mul) self) }
@@ -615,7 +634,8 @@ impl<A: Allocator> ConstExpr<A> {
     ///
     /// # Proved
     ///
-    /// After `Ok`: `stores`. In any case: `memory`, no error is `TooLong`. `stores`: The bytes gain the encoding of `i`. If `i` is well-formed and the old bytes minimally encode instructions, the new bytes encode these and the normal form of `i`.
+    /// - After `Ok`, `stores`: The bytes gain the encoding of the instruction. If it is well-formed and the old bytes minimally encode instructions, the new bytes encode these and its normal form.
+    /// - `memory`: no error is `TooLong`.
     ///
     /// ```text
     /// ensures stores { IfOk result (Stores (Instruction.Numeric Numeric.I64Add) self) }
@@ -637,7 +657,8 @@ impl<A: Allocator> ConstExpr<A> {
     ///
     /// # Proved
     ///
-    /// After `Ok`: `stores`. In any case: `memory`, no error is `TooLong`. `stores`: The bytes gain the encoding of `i`. If `i` is well-formed and the old bytes minimally encode instructions, the new bytes encode these and the normal form of `i`.
+    /// - After `Ok`, `stores`: The bytes gain the encoding of the instruction. If it is well-formed and the old bytes minimally encode instructions, the new bytes encode these and its normal form.
+    /// - `memory`: no error is `TooLong`.
     ///
     /// ```text
     /// ensures stores { IfOk result (Stores (Instruction.Numeric Numeric.I64Sub) self) }
@@ -659,7 +680,8 @@ impl<A: Allocator> ConstExpr<A> {
     ///
     /// # Proved
     ///
-    /// After `Ok`: `stores`. In any case: `memory`, no error is `TooLong`. `stores`: The bytes gain the encoding of `i`. If `i` is well-formed and the old bytes minimally encode instructions, the new bytes encode these and the normal form of `i`.
+    /// - After `Ok`, `stores`: The bytes gain the encoding of the instruction. If it is well-formed and the old bytes minimally encode instructions, the new bytes encode these and its normal form.
+    /// - `memory`: no error is `TooLong`.
     ///
     /// ```text
     /// ensures stores { IfOk result (Stores (Instruction.Numeric Numeric.I64Mul) self) }
@@ -678,16 +700,16 @@ impl<A: Allocator> ConstExpr<A> {
     /// # Examples
     ///
     /// ```
-    /// use dolzhytik::fallible::{ConstExpr, Global, Refused};
+    /// use dolzhytik::fallible::{ConstExpr, Global};
     ///
     /// assert_eq!(ConstExpr::ref_func(Global, 7)?.get_ref_func(), Some(7));
     /// assert_eq!(ConstExpr::i32_const(Global, 7)?.get_ref_func(), None);
-    /// # Ok::<(), Refused>(())
+    /// # Ok::<(), dolzhytik::fallible::Refused>(())
     /// ```
     ///
     /// # Proved
     ///
-    /// `answer` is `Some f` exactly if the bytes begin with `ref.func f`.
+    /// The result is `Some(f)` exactly if the bytes begin with `ref.func f`.
     ///
     /// ```text
     /// ensures { IsRefFunc self.now result }
@@ -706,7 +728,7 @@ impl<A: Allocator> ConstExpr<A> {
 ///
 /// # Proved
 ///
-/// `answer` is `Some f` exactly if the bytes begin with `ref.func f`.
+/// The result is `Some(f)` exactly if the bytes begin with `ref.func f`.
 ///
 /// ```text
 /// ensures { IsRefFunc bytes.now result }
@@ -734,7 +756,7 @@ pub(crate) fn function_at_front(bytes: &[u8]) -> Option<u32> {
 ///
 /// # Asks
 ///
-/// The iterator ends.
+/// The iterator ends. [What happens otherwise](crate::fallible#what-is-asked).
 ///
 /// ```text
 /// requires { (it : I.IntoIter) → I.into_iter_gives elements it

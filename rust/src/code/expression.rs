@@ -16,7 +16,7 @@ pub(crate) const END: u8 = 0x0B;
 ///
 /// ```
 /// use dolzhytik::fallible::Global;
-/// use dolzhytik::reader::{Arg, DecodeError, Expression, Padded, Readable};
+/// use dolzhytik::reader::{Arg, Expression, Padded, Readable};
 ///
 /// // i32.const 7; end; then another byte.
 /// let bytes = [0x41, 7, 0x0B, 0xFF];
@@ -24,7 +24,7 @@ pub(crate) const END: u8 = 0x0B;
 ///     <Expression as Readable<Global, Padded>>::read(&bytes, Global)?;
 /// assert!(matches!(code[0].args[..], [Arg::S32(7)]));
 /// assert_eq!(rest, [0xFF]);
-/// # Ok::<(), DecodeError>(())
+/// # Ok::<(), dolzhytik::reader::DecodeError>(())
 /// ```
 #[derive(Debug)]
 pub struct Expression<A: Allocator = Global>(pub Vec<Plain<A>, A>);

@@ -49,7 +49,7 @@ impl<A: Allocator> Function<A> {
     ///
     /// # Asks
     ///
-    /// The iterator ends, and yields as many items as it reports.
+    /// The iterator ends, and yields as many items as it reports. [What happens otherwise](crate::fallible#what-is-asked).
     ///
     /// ```text
     /// requires { HasKnownLength V.into_iter_gives V.IntoIter.can_next V.IntoIter.next_gives
@@ -126,17 +126,17 @@ impl<A: Allocator> Function<A> {
     /// # Examples
     ///
     /// ```
-    /// use dolzhytik::fallible::{Function, Global, Refused};
+    /// use dolzhytik::fallible::{Function, Global};
     ///
     /// let mut body = Function::new(Global, [])?;
     /// body.raw([0x41, 7, 0x0B])?; // i32.const 7, end
     /// assert_eq!(body.into_raw_body()[..], [0, 0x41, 7, 0x0B]);
-    /// # Ok::<(), Refused>(())
+    /// # Ok::<(), dolzhytik::fallible::Refused>(())
     /// ```
     ///
     /// # Asks
     ///
-    /// The iterator ends.
+    /// The iterator ends. [What happens otherwise](crate::fallible#what-is-asked).
     ///
     /// ```text
     /// requires { (it : I.IntoIter) → I.into_iter_gives bytes it
@@ -169,7 +169,7 @@ impl<A: Allocator> Function<A> {
     /// # Examples
     ///
     /// ```
-    /// use dolzhytik::fallible::{Function, Global, Refused};
+    /// use dolzhytik::fallible::{Function, Global};
     ///
     /// let mut body = Function::new(Global, [])?;
     /// // No runs of locals: the count 0 is one byte.
@@ -177,7 +177,7 @@ impl<A: Allocator> Function<A> {
     /// body.instructions().i32_const(7)?;
     /// // i32.const 7: 41 07.
     /// assert_eq!(body.byte_len(), 3);
-    /// # Ok::<(), Refused>(())
+    /// # Ok::<(), dolzhytik::fallible::Refused>(())
     /// ```
     ///
     /// # Proved
@@ -188,6 +188,9 @@ impl<A: Allocator> Function<A> {
     ///
     /// [How to read clauses](crate::definitions).
     #[doc(alias = "offset")]
+    #[doc(alias = "byte offset")]
+    #[doc(alias = "instruction offset")]
+    #[doc(alias = "position")]
     pub fn byte_len(&self) -> usize {
         self.bytes.len()
     }
@@ -219,18 +222,18 @@ impl<A: Allocator + Copy> Function<A> {
     /// # Examples
     ///
     /// ```
-    /// use dolzhytik::fallible::{Function, Global, Refused, ValType};
+    /// use dolzhytik::fallible::{Function, Global, ValType};
     ///
     /// let types = [ValType::I32, ValType::I32, ValType::F32];
     /// let body = Function::new_with_locals_types(Global, types)?;
     /// // Two runs: 2 of i32 (7F), and 1 of f32 (7D).
     /// assert_eq!(body.into_raw_body()[..], [2, 2, 0x7F, 1, 0x7D]);
-    /// # Ok::<(), Refused>(())
+    /// # Ok::<(), dolzhytik::fallible::Refused>(())
     /// ```
     ///
     /// # Asks
     ///
-    /// The iterator ends.
+    /// The iterator ends. [What happens otherwise](crate::fallible#what-is-asked).
     ///
     /// ```text
     /// requires { (it : I.IntoIter) → I.into_iter_gives locals it
@@ -336,7 +339,7 @@ impl<A: Allocator> Buffer for Function<A> {
 ///
 /// # Asks
 ///
-/// The iterator ends.
+/// The iterator ends. [What happens otherwise](crate::fallible#what-is-asked).
 ///
 /// ```text
 /// requires { (it : I.IntoIter) → I.into_iter_gives bytes it

@@ -15,7 +15,8 @@ use crate::alloc::Allocator;
 ///
 /// # Proved
 ///
-/// `unambiguous`: A format whose encodings determine their own end is unambiguous in every mode, with encodings as `HasEncodings` states. `encodings`: Each value that fits has the minimal encoding `encoding x`.
+/// - `unambiguous`: A format whose encodings determine their own end is unambiguous in every mode, with encodings as `HasEncodings` states.
+/// - `encodings`: Each value that fits has a minimal encoding, which the last function in the clause returns.
 ///
 /// ```text
 /// ensures unambiguous { Unambiguous expression }
@@ -30,7 +31,9 @@ pub fn expressions() {}
 ///
 /// # Proved
 ///
-/// `body`: A format that takes all of the bytes is unambiguous in every mode, with encodings as `HasEncodings` states. `size_prefixed`, `raw_code`, `code_section`: A format whose encodings determine their own end is unambiguous in every mode, with encodings as `HasEncodings` states. `body_encodings`, `size_prefixed_encodings`, `raw_code_encodings`, `code_section_encodings`: Each value that fits has the minimal encoding `encoding x`.
+/// - `body`: A format that takes all of the bytes is unambiguous in every mode, with encodings as `HasEncodings` states.
+/// - `size_prefixed`, `raw_code`, `code_section`: A format whose encodings determine their own end is unambiguous in every mode, with encodings as `HasEncodings` states.
+/// - `body_encodings`, `size_prefixed_encodings`, `raw_code_encodings`, `code_section_encodings`: Each value that fits has a minimal encoding, which the last function in the clause returns.
 ///
 /// ```text
 /// ensures body { UnambiguousWhole body }
@@ -56,7 +59,8 @@ pub fn bodies() {}
 ///
 /// # Proved
 ///
-/// `begins`: The length of a raw body is the offset of the next instruction. If more bytes follow and the whole encodes a body, an instruction begins at that offset.
+/// - `begins`: The length of a raw body is the offset of the next instruction. If more bytes follow and the whole encodes a body, an instruction begins at that offset.
+/// - In any case: `added`.
 ///
 /// ```text
 /// ensures begins { HasOffsets }
@@ -71,7 +75,7 @@ pub fn offset<A: Allocator>() {}
 ///
 /// # Proved
 ///
-/// `raw_code`, `code_section`: If size-prefixed bytes decode to `x` alone, their payload decodes to `x` alone.
+/// `raw_code`, `code_section`: If size-prefixed bytes decode to one value alone, their payload decodes to it alone.
 ///
 /// ```text
 /// ensures raw_code { DecodesPayloads (vec (size_prefixed any_bytes)) }
@@ -85,7 +89,7 @@ pub fn payloads() {}
 ///
 /// # Proved
 ///
-/// `raw_code`, `code_section`: As `DecodesPayloads`, for padded LEB128.
+/// `raw_code`, `code_section`: If size-prefixed bytes decode to one value alone, with padding allowed, so does their payload.
 ///
 /// ```text
 /// ensures raw_code { DecodesPayloadsPadded (vec (size_prefixed any_bytes)) }
@@ -100,7 +104,9 @@ pub fn padded_payloads() {}
 ///
 /// # Proved
 ///
-/// `code`: A code section without entries holds no bodies. An entry with a raw body adds the body that it minimally encodes. `add_all` adds its entries as if one by one. `labels`: A body that gains the encoding of `br_table`, with labels in range that fit their count and a default label in range, gains the instruction.
+/// - `code`: A code section without entries holds no bodies. An entry with a raw body adds the body that it minimally encodes. `add_all` adds its entries as if one by one.
+/// - In any case: `instruction`.
+/// - `labels`: A body that gains the encoding of `br_table`, with labels in range that fit their count and a default label in range, gains the instruction.
 ///
 /// ```text
 /// ensures code { ContainsMoreBodies }
@@ -116,7 +122,10 @@ pub fn calls<A: Allocator>() {}
 ///
 /// # Proved
 ///
-/// `code`: A code section holds, padded, all that it holds in minimal encodings. An entry with a raw body adds the body that it encodes, possibly padded. `add_all` adds its entries as if one by one. `body`: A minimal encoding of a body is a possibly padded one, and gains the instructions that raw bytes encode, possibly padded. `expression`: A minimal expression is a possibly padded one. Two stored expressions, one after another, store the instructions of both. With `end` they are an expression.
+/// - `code`: A code section holds, padded, all that it holds in minimal encodings. An entry with a raw body adds the body that it encodes, possibly padded. `add_all` adds its entries as if one by one.
+/// - `body`: A minimal encoding of a body is a possibly padded one, and gains the instructions that raw bytes encode, possibly padded.
+/// - In any case: `instruction`.
+/// - `expression`: A minimal expression is a possibly padded one. Two stored expressions, one after another, store the instructions of both. With `end` they are an expression.
 ///
 /// ```text
 /// ensures code { ContainsMoreBodiesPadded }
@@ -132,7 +141,8 @@ pub fn padded_calls<A: Allocator>() {}
 ///
 /// # Proved
 ///
-/// `expression`, `size_prefixed`, `raw_code`, `code_section`: With padding allowed a format is unambiguous, and it keeps every minimal encoding. `body`: As `UnambiguousPadded`, for a format that takes all of the bytes.
+/// - `expression`, `size_prefixed`, `raw_code`, `code_section`: With padding allowed a format is unambiguous, and it keeps every minimal encoding.
+/// - `body`: As `UnambiguousPadded`, for a format that takes all of the bytes.
 ///
 /// ```text
 /// ensures expression { UnambiguousPadded expression }

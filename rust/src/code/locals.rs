@@ -9,7 +9,7 @@ use crate::base::{Refused, Result, ValType};
 ///
 /// # Asks
 ///
-/// The iterator ends.
+/// The iterator ends. [What happens otherwise](crate::fallible#what-is-asked).
 ///
 /// ```text
 /// requires { (it : I.IntoIter) → I.into_iter_gives types it
@@ -56,7 +56,8 @@ fn continues(last: ValType, ty: ValType) -> bool {
 ///
 /// # Proved
 ///
-/// After `Ok`: `more`. In any case: `counted`; `full`; `too_many`. `more`: The new runs have one more local of this type, and are canonical if the old ones are.
+/// - After `Ok`, `more`: The new runs have one more local of this type, and are canonical if the old ones are.
+/// - In any case: `counted`, `full`, `too_many`.
 ///
 /// ```text
 /// ensures more { OnOk result (MoreRuns ty runs.old.items runs.new.items) }

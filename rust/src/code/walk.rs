@@ -21,7 +21,7 @@ use crate::insn::{Arg, Op, read_instruction_into};
 ///
 /// ```
 /// use dolzhytik::fallible::{Global, Op};
-/// use dolzhytik::reader::{Arg, DecodeError, Instructions};
+/// use dolzhytik::reader::{Arg, Instructions};
 ///
 /// // local.get 5: 20 05. i32.add: 6A. end: 0B.
 /// let mut instructions = Instructions::new(&[0x20, 5, 0x6A, 0x0B], Global);
@@ -33,7 +33,7 @@ use crate::insn::{Arg, Op, read_instruction_into};
 ///     found,
 ///     [(0, Op::Byte(0x20), 1), (2, Op::Byte(0x6A), 0), (3, Op::Byte(0x0B), 0)]
 /// );
-/// # Ok::<(), DecodeError>(())
+/// # Ok::<(), dolzhytik::reader::DecodeError>(())
 /// ```
 #[derive(Debug)]
 pub struct Instructions<'a, A: Allocator = Global, G: Grammar = Padded> {
@@ -52,11 +52,11 @@ pub struct Instructions<'a, A: Allocator = Global, G: Grammar = Padded> {
 ///
 /// ```
 /// use dolzhytik::fallible::{Global, Op};
-/// use dolzhytik::reader::{DecodeError, Instructions, Step};
+/// use dolzhytik::reader::{Instructions, Step};
 ///
 /// let mut instructions = Instructions::new(&[0x0B], Global);
 /// assert_eq!(instructions.next()?, Some(Step { offset: 0, op: Op::Byte(0x0B) }));
-/// # Ok::<(), DecodeError>(())
+/// # Ok::<(), dolzhytik::reader::DecodeError>(())
 /// ```
 #[derive(Clone, Copy, PartialEq, Eq, Debug)]
 pub struct Step {
@@ -91,7 +91,7 @@ impl<'a, A: Allocator + Copy> Instructions<'a, A> {
     ///
     /// # Proved
     ///
-    /// After `Ok`: `found`; `same`, the visitor is over these bytes; `within`, the offset is in the bytes, or at their end; `before`, the visitor has no immediates yet. After an error: `none`, the bytes as a whole are no such encoding, unless the cause is `Memory`. `found`: `bytes` is an encoding of `x` in this mode, followed by `rest`.
+    /// After `Ok`: `found`, the bytes begin with an encoding of the locals, and the instructions follow it; `same`, the visitor is over these bytes; `within`, the offset is in the bytes, or at their end; `before`, the visitor has no immediates yet. After an error: `none`, the bytes as a whole are no such encoding, unless the cause is `Memory`.
     ///
     /// ```text
     /// ensures found { IfOk result
@@ -135,19 +135,19 @@ impl<'a, A: Allocator + Copy> Instructions<'a, A, Standard> {
     ///
     /// ```
     /// use dolzhytik::fallible::{Global, Op, ValType};
-    /// use dolzhytik::reader::{DecodeError, Instructions};
+    /// use dolzhytik::reader::Instructions;
     ///
     /// // One run of locals, 1 of i64 (7E); end.
     /// let (runs, mut instructions) =
     ///     Instructions::of_standard_body(&[1, 1, 0x7E, 0x0B], Global)?;
     /// assert_eq!((&runs[..], instructions.offset()), (&[(1, ValType::I64)][..], 3));
     /// assert_eq!(instructions.next()?.map(|step| step.op), Some(Op::Byte(0x0B)));
-    /// # Ok::<(), DecodeError>(())
+    /// # Ok::<(), dolzhytik::reader::DecodeError>(())
     /// ```
     ///
     /// # Proved
     ///
-    /// After `Ok`: `found`; `same`, the visitor is over these bytes; `within`, the offset is in the bytes, or at their end; `before`, the visitor has no immediates yet. After an error: `none`, the bytes as a whole are no such encoding, unless the cause is `Memory`. `found`: `bytes` is an encoding of `x` in this mode, followed by `rest`.
+    /// After `Ok`: `found`, the bytes begin with an encoding of the locals, and the instructions follow it; `same`, the visitor is over these bytes; `within`, the offset is in the bytes, or at their end; `before`, the visitor has no immediates yet. After an error: `none`, the bytes as a whole are no such encoding, unless the cause is `Memory`.
     ///
     /// ```text
     /// ensures found { IfOk result
@@ -191,7 +191,7 @@ impl<'a, A: Allocator + Copy, G: Grammar> Instructions<'a, A, G> {
     ///
     /// # Proved
     ///
-    /// After `Ok`: `found`; `same`, the visitor is over these bytes; `within`, the offset is in the bytes, or at their end; `before`, the visitor has no immediates yet. After an error: `none`, the bytes as a whole are no such encoding, unless the cause is `Memory`. `found`: `bytes` is an encoding of `x` in this mode, followed by `rest`.
+    /// After `Ok`: `found`, the bytes begin with an encoding of the locals, and the instructions follow it; `same`, the visitor is over these bytes; `within`, the offset is in the bytes, or at their end; `before`, the visitor has no immediates yet. After an error: `none`, the bytes as a whole are no such encoding, unless the cause is `Memory`.
     ///
     /// ```text
     /// ensures found { IfOk result
@@ -220,7 +220,7 @@ impl<'a, A: Allocator + Copy, G: Grammar> Instructions<'a, A, G> {
     ///
     /// # Proved
     ///
-    /// After `Ok`: `offset`; `found`; `further`. After an error: `stays`, the offset is unchanged; `none`, the bytes do not begin with such an encoding, unless the cause is `Memory`. In any case: `same`, the bytes stay the same. `found`: `bytes` is an encoding of `x` in this mode, followed by `rest`.
+    /// After `Ok`: `offset`; `found`, an instruction of this opcode and these immediates was next; `further`. After an error: `stays`, the offset is unchanged; `none`, the bytes do not begin with such an encoding, unless the cause is `Memory`. In any case: `same`, the bytes stay the same.
     ///
     /// ```text
     /// ensures offset { IfOk result (λ step. step.offset ≡ self.old.offset) }
@@ -301,14 +301,14 @@ impl<'a, A: Allocator + Copy, G: Grammar> Instructions<'a, A, G> {
     ///
     /// ```
     /// use dolzhytik::fallible::Global;
-    /// use dolzhytik::reader::{DecodeError, Instructions};
+    /// use dolzhytik::reader::Instructions;
     ///
     /// // i32.const 7, end; then another byte.
     /// let mut instructions = Instructions::new(&[0x41, 7, 0x0B, 0xFF], Global);
     /// assert!(instructions.next_before_end()?.is_some());
     /// assert!(instructions.next_before_end()?.is_none());
     /// assert_eq!(instructions.rest(), [0x0B, 0xFF]);
-    /// # Ok::<(), DecodeError>(())
+    /// # Ok::<(), dolzhytik::reader::DecodeError>(())
     /// ```
     ///
     /// # Proved
@@ -372,6 +372,9 @@ impl<'a, A: Allocator + Copy, G: Grammar> Instructions<'a, A, G> {
     /// ```
     ///
     /// [How to read clauses](crate::definitions).
+    #[doc(alias = "byte offset")]
+    #[doc(alias = "instruction offset")]
+    #[doc(alias = "position")]
     pub fn offset(&self) -> usize {
         self.offset
     }

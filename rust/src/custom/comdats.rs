@@ -14,7 +14,7 @@ use crate::base::{DecodeError, Encode, Grammar, Layout, Lent, Readable, Result, 
 /// # Examples
 ///
 /// ```
-/// use dolzhytik::fallible::{ComdatSymbols, Encode, Global, Refused};
+/// use dolzhytik::fallible::{ComdatSymbols, Encode, Global};
 ///
 /// let mut members = ComdatSymbols::new(Global);
 /// members.symbol(1, 7)?;
@@ -22,7 +22,7 @@ use crate::base::{DecodeError, Encode, Grammar, Layout, Lent, Readable, Result, 
 /// members.encode(&mut bytes)?;
 /// // One member: a function (1) of the index 7.
 /// assert_eq!(bytes, [1, 1, 7]);
-/// # Ok::<(), Refused>(())
+/// # Ok::<(), dolzhytik::fallible::Refused>(())
 /// ```
 pub type ComdatSymbols<A = Global> = CountedList<ComdatSymbolMembers, A>;
 
@@ -172,13 +172,13 @@ impl<A: Allocator> Comdats<A> {
 ///
 /// ```
 /// use dolzhytik::fallible::{ComdatSymbol, Global};
-/// use dolzhytik::reader::{DecodeError, Readable, Standard};
+/// use dolzhytik::reader::{Readable, Standard};
 ///
 /// // A function (1) of the index 7.
 /// let (member, _) =
 ///     <ComdatSymbol as Readable<Global, Standard>>::read(&[1, 7], Global)?;
 /// assert_eq!((member.kind, member.index), (1, 7));
-/// # Ok::<(), DecodeError>(())
+/// # Ok::<(), dolzhytik::reader::DecodeError>(())
 /// ```
 #[derive(Clone, Copy, Debug)]
 pub struct ComdatSymbol {
@@ -225,7 +225,7 @@ impl Shorten for ComdatSymbol {
 ///
 /// ```
 /// use dolzhytik::fallible::{Comdat, Global};
-/// use dolzhytik::reader::{DecodeError, Readable, Standard};
+/// use dolzhytik::reader::{Readable, Standard};
 ///
 /// // "f", no flags, one member: a function (1) of the index 7.
 /// let bytes = [1, b'f', 0, 1, 1, 7];
@@ -234,7 +234,7 @@ impl Shorten for ComdatSymbol {
 ///     (group.name, group.symbols[0].kind, group.symbols[0].index),
 ///     ("f", 1, 7)
 /// );
-/// # Ok::<(), DecodeError>(())
+/// # Ok::<(), dolzhytik::reader::DecodeError>(())
 /// ```
 #[derive(Debug)]
 pub struct Comdat<'a, A: Allocator = Global> {

@@ -44,7 +44,9 @@ impl<A: Allocator> CoreDumpSection<A> {
     ///
     /// # Proved
     ///
-    /// After `Ok`: `is`; `was_encodable`. In any case: `too_long`. `was_encodable`: The size of the bytes is at most 2^32 - 1.
+    /// - After `Ok`: `is`.
+    /// - After `Ok`, `was_encodable`: The size of the bytes is at most 2^32 - 1.
+    /// - In any case: `too_long`.
     ///
     /// ```text
     /// ensures is { IfOk result (λ s. s ≡ marked_encoding name.now) }
@@ -331,7 +333,7 @@ impl<A: Allocator> CoreDumpInstancesSection<A> {
     ///
     /// # Asks
     ///
-    /// The iterator ends, and yields as many items as it reports.
+    /// The iterator ends, and yields as many items as it reports. [What happens otherwise](crate::fallible#what-is-asked).
     ///
     /// ```text
     /// requires memories { HasKnownLength M.into_iter_gives M.IntoIter.can_next
@@ -344,7 +346,7 @@ impl<A: Allocator> CoreDumpInstancesSection<A> {
     ///
     /// # Proved
     ///
-    /// As `AddsList`, for an entry of two lists.
+    /// The builder gains one entry of the items that both iterators yield, or the call returns an error and changes nothing. It returns `TooLong` if either has too many items, and never if all items fit and items and entries are few enough.
     ///
     /// ```text
     /// ensures { AddsTwoLists M.into_iter_gives M.IntoIter.next_gives M.IntoIter.remaining
@@ -404,12 +406,12 @@ impl<A: Allocator> CoreDumpInstancesSection<A> {
 ///
 /// ```
 /// use dolzhytik::fallible::{Global, read_process};
-/// use dolzhytik::reader::{DecodeError, Padded};
+/// use dolzhytik::reader::Padded;
 ///
 /// // "core", 00, "test".
 /// let name = read_process::<Global, Padded>(b"\x04core\0\x04test", Global)?;
 /// assert_eq!(name, "test");
-/// # Ok::<(), DecodeError>(())
+/// # Ok::<(), dolzhytik::reader::DecodeError>(())
 /// ```
 ///
 /// # Proved
@@ -476,12 +478,12 @@ impl<'a, A: Allocator + Copy, G: Grammar> DecodesItems<'a, &'a str, A, G> for Mo
 ///
 /// ```
 /// use dolzhytik::fallible::{Global, read_modules};
-/// use dolzhytik::reader::{DecodeError, Padded};
+/// use dolzhytik::reader::Padded;
 ///
 /// // "coremodules"; one module: 00, "m".
 /// let names = read_modules::<Global, Padded>(b"\x0Bcoremodules\x01\0\x01m", Global)?;
 /// assert_eq!(names[..], ["m"]);
-/// # Ok::<(), DecodeError>(())
+/// # Ok::<(), dolzhytik::reader::DecodeError>(())
 /// ```
 ///
 /// # Proved
@@ -556,14 +558,14 @@ impl<'a, A: Allocator + Copy, G: Grammar> DecodesItems<'a, (u32, Vec<u32, A>, Ve
 ///
 /// ```
 /// use dolzhytik::fallible::{Global, read_instances};
-/// use dolzhytik::reader::{DecodeError, Padded};
+/// use dolzhytik::reader::Padded;
 ///
 /// // "coreinstances"; one instance: 00, module 0, one memory, 42, one global, 17.
 /// let payload = b"\x0Dcoreinstances\x01\0\0\x01\x2A\x01\x11";
 /// let instances = read_instances::<Global, Padded>(payload, Global)?;
 /// let (module, memories, globals) = &instances[0];
 /// assert_eq!((*module, &memories[..], &globals[..]), (0, &[42][..], &[17][..]));
-/// # Ok::<(), DecodeError>(())
+/// # Ok::<(), dolzhytik::reader::DecodeError>(())
 /// ```
 ///
 /// # Proved
@@ -591,7 +593,9 @@ pub fn read_instances<'a, A: Allocator + Copy, G: Grammar>(
 ///
 /// # Proved
 ///
-/// After `Ok`: `ok`, the sink gains the minimal encoding. In any case: `front`; `too_long`, a value that has an encoding never gives `TooLong`. `front`: The new bytes begin with the old ones.
+/// - After `Ok`, `ok`: the sink gains the minimal encoding.
+/// - `front`: The new bytes begin with the old ones.
+/// - `too_long`: a value that has an encoding never gives `TooLong`.
 ///
 /// ```text
 /// ensures ok { OnOk result
@@ -611,7 +615,9 @@ pub(crate) fn append_marked<B: Sink>(name: &str, sink: &mut B) -> Result<()> {
 ///
 /// # Proved
 ///
-/// After `Ok`: `ok`, the sink gains the minimal encoding. In any case: `front`; `too_long`, a value that has an encoding never gives `TooLong`. `front`: The new bytes begin with the old ones.
+/// - After `Ok`, `ok`: the sink gains the minimal encoding.
+/// - `front`: The new bytes begin with the old ones.
+/// - `too_long`: a value that has an encoding never gives `TooLong`.
 ///
 /// ```text
 /// ensures ok { OnOk result
@@ -638,12 +644,12 @@ fn write_process<B: Sink>(name: &str, sink: &mut B) -> Result<()> {
 /// # Examples
 ///
 /// ```
-/// use dolzhytik::fallible::{Refused, append_process};
+/// use dolzhytik::fallible::append_process;
 ///
 /// let mut payload = vec![];
 /// append_process("test", &mut payload)?;
 /// assert_eq!(payload, *b"\x04core\0\x04test");
-/// # Ok::<(), Refused>(())
+/// # Ok::<(), dolzhytik::fallible::Refused>(())
 /// ```
 ///
 /// # Proved
@@ -679,12 +685,12 @@ pub fn append_process<B: Sink>(name: &str, sink: &mut B) -> Result<()> {
 /// # Examples
 ///
 /// ```
-/// use dolzhytik::fallible::{Refused, append_modules};
+/// use dolzhytik::fallible::append_modules;
 ///
 /// let mut payload = vec![];
 /// append_modules(&["m"], &mut payload)?;
 /// assert_eq!(payload, *b"\x0Bcoremodules\x01\0\x01m");
-/// # Ok::<(), Refused>(())
+/// # Ok::<(), dolzhytik::fallible::Refused>(())
 /// ```
 ///
 /// # Proved
@@ -717,12 +723,12 @@ pub fn append_modules<B: Sink>(names: &[&str], sink: &mut B) -> Result<()> {
 /// # Examples
 ///
 /// ```
-/// use dolzhytik::fallible::{Global, Refused, append_instances};
+/// use dolzhytik::fallible::{Global, append_instances};
 ///
 /// let mut payload = vec![];
 /// append_instances::<Global, _>(&[], &mut payload)?;
 /// assert_eq!(payload, *b"\x0Dcoreinstances\0");
-/// # Ok::<(), Refused>(())
+/// # Ok::<(), dolzhytik::fallible::Refused>(())
 /// ```
 ///
 /// # Proved

@@ -46,7 +46,9 @@ impl<A: Allocator + Copy> CoreDumpStackSection<A> {
     ///
     /// # Proved
     ///
-    /// After `Ok`: `is`; `was_encodable`. In any case: `too_long`. `was_encodable`: The size of the bytes is at most 2^32 - 1.
+    /// - After `Ok`: `is`.
+    /// - After `Ok`, `was_encodable`: The size of the bytes is at most 2^32 - 1.
+    /// - In any case: `too_long`.
     ///
     /// ```text
     /// ensures is { IfOk result (λ s. s ≡ (marked_encoding thread_name.now, [])) }
@@ -102,7 +104,7 @@ impl<A: Allocator> CoreDumpStackSection<A> {
     ///
     /// # Asks
     ///
-    /// The iterator ends, and yields as many items as it reports.
+    /// The iterator ends, and yields as many items as it reports. [What happens otherwise](crate::fallible#what-is-asked).
     ///
     /// ```text
     /// requires locals { HasKnownLength L.into_iter_gives L.IntoIter.can_next
@@ -115,7 +117,8 @@ impl<A: Allocator> CoreDumpStackSection<A> {
     ///
     /// # Proved
     ///
-    /// `adds`: As `AddsList`, for an entry of two lists.
+    /// - `adds`: The builder gains one entry of the items that both iterators yield, or the call returns an error and changes nothing. It returns `TooLong` if either has too many items, and never if all items fit and items and entries are few enough.
+    /// - In any case: `same_thread`.
     ///
     /// ```text
     /// ensures adds { AddsTwoLists L.into_iter_gives L.IntoIter.next_gives L.IntoIter.remaining
@@ -217,14 +220,14 @@ impl<A: Allocator> Section for CoreDumpStackSection<A> {
 ///
 /// ```
 /// use dolzhytik::fallible::{CoreDumpValue, Global};
-/// use dolzhytik::reader::{CoreFrame, DecodeError, Padded, Readable};
+/// use dolzhytik::reader::{CoreFrame, Padded, Readable};
 ///
 /// // 00, instance 0, function 42, offset 51, one local of type i32 (7F), no values.
 /// let bytes = [0, 0, 42, 51, 1, 0x7F, 1, 0];
 /// let (frame, _) = <CoreFrame as Readable<Global, Padded>>::read(&bytes, Global)?;
 /// assert_eq!((frame.funcidx, frame.codeoffset), (42, 51));
 /// assert!(matches!(frame.locals[..], [CoreDumpValue::I32(1)]));
-/// # Ok::<(), DecodeError>(())
+/// # Ok::<(), dolzhytik::reader::DecodeError>(())
 /// ```
 #[derive(Debug)]
 pub struct CoreFrame<A: Allocator = Global> {
@@ -285,13 +288,13 @@ impl<'a, A: Allocator + Copy, G: Grammar> Readable<'a, A, G> for CoreFrame<A> {
 ///
 /// ```
 /// use dolzhytik::fallible::{Global, read_stack};
-/// use dolzhytik::reader::{DecodeError, Padded};
+/// use dolzhytik::reader::Padded;
 ///
 /// // "corestack", 00, "t"; no frames.
 /// let (thread, frames) =
 ///     read_stack::<Global, Padded>(b"\x09corestack\0\x01t\0", Global)?;
 /// assert_eq!((thread, frames.len()), ("t", 0));
-/// # Ok::<(), DecodeError>(())
+/// # Ok::<(), dolzhytik::reader::DecodeError>(())
 /// ```
 ///
 /// # Proved
@@ -334,7 +337,9 @@ impl<A: Allocator> Shorten for CoreFrame<A> {
 ///
 /// # Proved
 ///
-/// After `Ok`: `ok`, the sink gains the minimal encoding. In any case: `front`; `too_long`, a value that has an encoding never gives `TooLong`. `front`: The new bytes begin with the old ones.
+/// - After `Ok`, `ok`: the sink gains the minimal encoding.
+/// - `front`: The new bytes begin with the old ones.
+/// - `too_long`: a value that has an encoding never gives `TooLong`.
 ///
 /// ```text
 /// ensures ok { OnOk result
@@ -369,12 +374,12 @@ fn write_stack<A: Allocator, B: Sink>(
 /// # Examples
 ///
 /// ```
-/// use dolzhytik::fallible::{Global, Refused, Vec, append_stack};
+/// use dolzhytik::fallible::{Global, Vec, append_stack};
 ///
 /// let mut payload = vec![];
 /// append_stack("t", &Vec::new(Global), &mut payload)?;
 /// assert_eq!(payload, *b"\x09corestack\0\x01t\0");
-/// # Ok::<(), Refused>(())
+/// # Ok::<(), dolzhytik::fallible::Refused>(())
 /// ```
 ///
 /// # Proved

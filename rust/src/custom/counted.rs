@@ -47,7 +47,9 @@ pub(crate) trait ItemsAs<T>: CustomKind {
     ///
     /// # Proved
     ///
-    /// After `Ok`: `ok`, the sink gains the minimal encoding. In any case: `front`; `too_long`, a value that has an encoding never gives `TooLong`. `front`: The new bytes begin with the old ones.
+    /// - After `Ok`, `ok`: the sink gains the minimal encoding.
+    /// - `front`: The new bytes begin with the old ones.
+    /// - `too_long`: a value that has an encoding never gives `TooLong`.
     ///
     /// ```text
     /// ensures ok { OnOk result
@@ -147,7 +149,9 @@ pub(crate) fn read_counted<
 ///
 /// # Proved
 ///
-/// After `Ok`: `ok`, the sink gains the minimal encoding. In any case: `front`; `too_long`, a value that has an encoding never gives `TooLong`. `front`: The new bytes begin with the old ones.
+/// - After `Ok`, `ok`: the sink gains the minimal encoding.
+/// - `front`: The new bytes begin with the old ones.
+/// - `too_long`: a value that has an encoding never gives `TooLong`.
 ///
 /// ```text
 /// ensures ok { OnOk result
@@ -172,7 +176,9 @@ fn append_items<K: ItemsAs<T>, T, B: Sink>(items: &[T], sink: &mut B) -> Result<
 ///
 /// # Proved
 ///
-/// After `Ok`: `ok`, the sink gains the minimal encoding. In any case: `front`; `too_long`, a value that has an encoding never gives `TooLong`. `front`: The new bytes begin with the old ones.
+/// - After `Ok`, `ok`: the sink gains the minimal encoding.
+/// - `front`: The new bytes begin with the old ones.
+/// - `too_long`: a value that has an encoding never gives `TooLong`.
 ///
 /// ```text
 /// ensures ok { OnOk result

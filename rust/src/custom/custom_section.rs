@@ -59,7 +59,6 @@ pub(crate) fn begin_custom<A: Sink>(
 /// use dolzhytik::fallible::{CowSlice, CowStr, CustomSection, Global, Module};
 ///
 /// let mut module = Module::new(Global)?;
-/// let bytes = *b"\0\x01";
 /// let section: CustomSection<'_> = CustomSection {
 ///     name: CowStr::Borrowed("test"),
 ///     bytes: CowSlice::Borrowed(&[11, 22, 33, 44]),

@@ -20,6 +20,21 @@ use crate::base::{DecodeError, Encode, Grammar, Result, Section, SectionId};
 /// # }
 /// # example().unwrap();
 /// ```
+///
+/// [`Items::SourceMappingUrl`](crate::reader::Items::SourceMappingUrl) has the URL of a decoded
+/// section.
+///
+/// # Examples
+///
+/// ```
+/// use dolzhytik::fallible::{Encode, SourceMappingUrl};
+///
+/// let mut bytes = vec![];
+/// SourceMappingUrl("a.map").encode(&mut bytes)?;
+/// // Size 23: a name of 16 bytes, and the URL, of 5.
+/// assert_eq!(bytes, *b"\x17\x10sourceMappingURL\x05a.map");
+/// # Ok::<(), dolzhytik::fallible::Refused>(())
+/// ```
 #[derive(Clone, Copy, Debug)]
 pub struct SourceMappingUrl<'a>(pub &'a str);
 
@@ -67,6 +82,17 @@ impl Section for SourceMappingUrl<'_> {
 ///
 /// Any error but `Memory` means that the bytes are not such a payload.
 ///
+/// # Examples
+///
+/// ```
+/// use dolzhytik::fallible::{Global, read_source_map};
+/// use dolzhytik::reader::Padded;
+///
+/// let payload = b"\x10sourceMappingURL\x05a.map";
+/// assert_eq!(read_source_map::<Global, Padded>(payload, Global)?, "a.map");
+/// # Ok::<(), dolzhytik::reader::DecodeError>(())
+/// ```
+///
 /// # Proved
 ///
 /// After `Ok`: `found`. After an error: `none`, the bytes as a whole are no such encoding, unless the cause is `Memory`.
@@ -96,6 +122,17 @@ pub fn read_source_map<'a, A: Allocator + Copy, G: Grammar>(
 /// 4294967295, and [`Memory`](crate::fallible::Refused::Memory) if an allocation fails. The
 /// bytes of the sink are then unchanged.
 ///
+/// # Examples
+///
+/// ```
+/// use dolzhytik::fallible::append_source_map;
+///
+/// let mut payload = vec![];
+/// append_source_map("a.map", &mut payload)?;
+/// assert_eq!(payload, *b"\x10sourceMappingURL\x05a.map");
+/// # Ok::<(), dolzhytik::fallible::Refused>(())
+/// ```
+///
 /// # Proved
 ///
 /// After `Ok`: `ok`, the sink gains the minimal encoding. After an error: `err`, the bytes of the sink are unchanged. In any case: `too_long`, a value that has an encoding never gives `TooLong`.
@@ -124,6 +161,21 @@ pub fn append_source_map<B: Sink>(url: &str, sink: &mut B) -> Result<()> {
 /// # Ok(())
 /// # }
 /// # example().unwrap();
+/// ```
+///
+/// [`Items::ExternalDebugInfo`](crate::reader::Items::ExternalDebugInfo) has the path of a
+/// decoded section.
+///
+/// # Examples
+///
+/// ```
+/// use dolzhytik::fallible::{Encode, ExternalDebugInfo};
+///
+/// let mut bytes = vec![];
+/// ExternalDebugInfo("d").encode(&mut bytes)?;
+/// // Size 22: a name of 19 bytes, and the path, of 1.
+/// assert_eq!(bytes, *b"\x16\x13external_debug_info\x01d");
+/// # Ok::<(), dolzhytik::fallible::Refused>(())
 /// ```
 #[derive(Clone, Copy, Debug)]
 pub struct ExternalDebugInfo<'a>(pub &'a str);
@@ -172,6 +224,17 @@ impl Section for ExternalDebugInfo<'_> {
 ///
 /// Any error but `Memory` means that the bytes are not such a payload.
 ///
+/// # Examples
+///
+/// ```
+/// use dolzhytik::fallible::{Global, read_debug_file};
+/// use dolzhytik::reader::Padded;
+///
+/// let payload = b"\x13external_debug_info\x01d";
+/// assert_eq!(read_debug_file::<Global, Padded>(payload, Global)?, "d");
+/// # Ok::<(), dolzhytik::reader::DecodeError>(())
+/// ```
+///
 /// # Proved
 ///
 /// After `Ok`: `found`. After an error: `none`, the bytes as a whole are no such encoding, unless the cause is `Memory`.
@@ -200,6 +263,17 @@ pub fn read_debug_file<'a, A: Allocator + Copy, G: Grammar>(
 /// Returns [`TooLong`](crate::fallible::Refused::TooLong) if a count or length would pass
 /// 4294967295, and [`Memory`](crate::fallible::Refused::Memory) if an allocation fails. The
 /// bytes of the sink are then unchanged.
+///
+/// # Examples
+///
+/// ```
+/// use dolzhytik::fallible::append_debug_file;
+///
+/// let mut payload = vec![];
+/// append_debug_file("d", &mut payload)?;
+/// assert_eq!(payload, *b"\x13external_debug_info\x01d");
+/// # Ok::<(), dolzhytik::fallible::Refused>(())
+/// ```
 ///
 /// # Proved
 ///
@@ -230,6 +304,26 @@ pub fn append_debug_file<B: Sink>(path: &str, sink: &mut B) -> Result<()> {
 /// # Ok(())
 /// # }
 /// # example().unwrap();
+/// ```
+///
+/// [`Items::BuildId`](crate::reader::Items::BuildId) has the bytes of a decoded section. A
+/// module of the root takes the encoding as a [`RawCustomSection`](crate::RawCustomSection).
+///
+/// # Examples
+///
+/// ```
+/// use dolzhytik::fallible::{BuildId, Encode};
+/// use dolzhytik::{Module, RawCustomSection};
+///
+/// let mut bytes = vec![];
+/// BuildId(&[0x12, 0x34]).encode(&mut bytes)?;
+/// // Size 12: a name of 8 bytes, and two bytes with their size.
+/// assert_eq!(bytes, *b"\x0C\x08build_id\x02\x12\x34");
+///
+/// let mut module = Module::new();
+/// module.section(&RawCustomSection(&bytes));
+/// assert_eq!(module.as_slice()[8..], *b"\0\x0C\x08build_id\x02\x12\x34");
+/// # Ok::<(), dolzhytik::fallible::Refused>(())
 /// ```
 #[derive(Clone, Copy, Debug)]
 pub struct BuildId<'a>(pub &'a [u8]);
@@ -278,6 +372,17 @@ impl Section for BuildId<'_> {
 ///
 /// Any error but `Memory` means that the bytes are not such a payload.
 ///
+/// # Examples
+///
+/// ```
+/// use dolzhytik::fallible::{Global, read_build_id};
+/// use dolzhytik::reader::Padded;
+///
+/// let payload = b"\x08build_id\x02\x12\x34";
+/// assert_eq!(read_build_id::<Global, Padded>(payload, Global)?, [0x12, 0x34]);
+/// # Ok::<(), dolzhytik::reader::DecodeError>(())
+/// ```
+///
 /// # Proved
 ///
 /// After `Ok`: `found`. After an error: `none`, the bytes as a whole are no such encoding, unless the cause is `Memory`.
@@ -306,6 +411,17 @@ pub fn read_build_id<'a, A: Allocator + Copy, G: Grammar>(
 /// Returns [`TooLong`](crate::fallible::Refused::TooLong) if a count or length would pass
 /// 4294967295, and [`Memory`](crate::fallible::Refused::Memory) if an allocation fails. The
 /// bytes of the sink are then unchanged.
+///
+/// # Examples
+///
+/// ```
+/// use dolzhytik::fallible::append_build_id;
+///
+/// let mut payload = vec![];
+/// append_build_id(&[0x12, 0x34], &mut payload)?;
+/// assert_eq!(payload, *b"\x08build_id\x02\x12\x34");
+/// # Ok::<(), dolzhytik::fallible::Refused>(())
+/// ```
 ///
 /// # Proved
 ///

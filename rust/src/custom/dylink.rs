@@ -31,9 +31,25 @@ use crate::base::{DecodeError, Encode, Grammar, Kind, Layout, ReadFault, Readabl
 /// # }
 /// # example().unwrap();
 /// ```
+///
+/// The tool conventions define it in [Dynamic
+/// linking](https://github.com/WebAssembly/tool-conventions/blob/main/DynamicLinking.md).
+/// [`Items::Dylink`](crate::reader::Items::Dylink) has the subsections of a decoded section.
 pub type DylinkSection<A = Global> = CustomEntries<DylinkItems, A>;
 
 /// The kind of the items of a dynamic library's section: subsections.
+///
+/// It is the type argument of [`CustomEntries`](crate::fallible::CustomEntries) in
+/// [`DylinkSection`](crate::fallible::DylinkSection).
+///
+/// # Examples
+///
+/// ```
+/// use dolzhytik::fallible::{CustomKind, DylinkItems, DylinkSection, Global};
+///
+/// let section = DylinkSection::new(Global);
+/// assert_eq!((section.len(), DylinkItems::name()), (0, "dylink.0"));
+/// ```
 #[derive(Clone, Copy, Debug)]
 pub struct DylinkItems;
 
@@ -86,6 +102,26 @@ impl<A: Allocator> DylinkSection<A> {
     /// [`Memory`](crate::fallible::Refused::Memory) if an allocation fails. The builder is then
     /// unchanged.
     ///
+    /// # Examples
+    ///
+    /// ```
+    /// use dolzhytik::fallible::{DylinkMemory, DylinkSection, Encode, Global};
+    ///
+    /// let mut section = DylinkSection::new(Global);
+    /// section.memory(DylinkMemory {
+    ///     memory_size: 300,
+    ///     memory_alignment: 4,
+    ///     table_size: 5,
+    ///     table_alignment: 0,
+    /// })?;
+    /// let mut bytes = vec![];
+    /// section.encode(&mut bytes)?;
+    /// // Size 16: a name of 8 bytes; the subsection 1, of size 5: 300 = 2 * 128 + 44 bytes,
+    /// // aligned to 2 to the power of 4, and 5 elements, to 2 to the power of 0.
+    /// assert_eq!(bytes, *b"\x10\x08dylink.0\x01\x05\xAC\x02\x04\x05\0");
+    /// # Ok::<(), dolzhytik::fallible::Refused>(())
+    /// ```
+    ///
     /// # Proved
     ///
     /// The builder gains one entry with this encoding, or the call returns an error and changes nothing. A full builder, with 2^32 - 1 entries, returns `TooLong`.
@@ -111,6 +147,22 @@ impl<A: Allocator> DylinkSection<A> {
     /// entries, or if a count or length would pass 4294967295, and
     /// [`Memory`](crate::fallible::Refused::Memory) if an allocation fails. The builder is then
     /// unchanged.
+    ///
+    /// # Examples
+    ///
+    /// ```
+    /// use dolzhytik::fallible::{DylinkNeeded, DylinkSection, Encode, Global};
+    ///
+    /// let mut libraries = DylinkNeeded::new(Global);
+    /// libraries.library("a.so")?;
+    /// let mut section = DylinkSection::new(Global);
+    /// section.needed(&libraries)?;
+    /// let mut bytes = vec![];
+    /// section.encode(&mut bytes)?;
+    /// // Size 17: a name of 8 bytes; the subsection 2, of size 6: one name, of 4 bytes.
+    /// assert_eq!(bytes, *b"\x11\x08dylink.0\x02\x06\x01\x04a.so");
+    /// # Ok::<(), dolzhytik::fallible::Refused>(())
+    /// ```
     ///
     /// # Proved
     ///
@@ -181,6 +233,22 @@ impl<A: Allocator> DylinkSection<A> {
     /// [`Memory`](crate::fallible::Refused::Memory) if an allocation fails. The builder is then
     /// unchanged.
     ///
+    /// # Examples
+    ///
+    /// ```
+    /// use dolzhytik::fallible::{DylinkPath, DylinkSection, Encode, Global};
+    ///
+    /// let mut folders = DylinkPath::new(Global);
+    /// folders.folder("/l")?;
+    /// let mut section = DylinkSection::new(Global);
+    /// section.runtime_path(&folders)?;
+    /// let mut bytes = vec![];
+    /// section.encode(&mut bytes)?;
+    /// // Size 15: a name of 8 bytes; the subsection 5, of size 4: one path, of 2 bytes.
+    /// assert_eq!(bytes, *b"\x0F\x08dylink.0\x05\x04\x01\x02/l");
+    /// # Ok::<(), dolzhytik::fallible::Refused>(())
+    /// ```
+    ///
     /// # Proved
     ///
     /// The builder gains one entry with this encoding, or the call returns an error and changes nothing. A full builder, with 2^32 - 1 entries, returns `TooLong`.
@@ -191,12 +259,31 @@ impl<A: Allocator> DylinkSection<A> {
     /// ```
     ///
     /// Definitions: [`Adds`](crate::definitions::base::calls::Adds), [`subsection_encoding`](crate::definitions::custom::customs::subsection_encoding), [`list_encoding`](crate::definitions::custom::lists::list_encoding), [`HasEncodableSize`](crate::definitions::base::encodings::HasEncodableSize). [How to read clauses](crate::definitions).
+    #[doc(alias = "rpath")]
     pub fn runtime_path<B: Allocator>(&mut self, folders: &DylinkPath<B>) -> Result<()> {
         self.add_record(folders)
     }
 }
 
 /// A decoded subsection of a dynamic library's section.
+///
+/// [`Items::Dylink`](crate::reader::Items::Dylink) has them.
+///
+/// # Examples
+///
+/// ```
+/// use dolzhytik::fallible::{Global, read_dylink};
+/// use dolzhytik::reader::{DylinkItem, Padded};
+///
+/// // "dylink.0"; the subsection 2: size 6, one library, of a name of four bytes.
+/// let payload = b"\x08dylink.0\x02\x06\x01\x04a.so";
+/// let items = read_dylink::<Global, Padded>(payload, Global)?;
+/// let DylinkItem::Needed(libraries) = &items[0] else {
+///     panic!("another subsection")
+/// };
+/// assert_eq!(libraries[..], ["a.so"]);
+/// # Ok::<(), dolzhytik::reader::DecodeError>(())
+/// ```
 #[derive(Debug)]
 pub enum DylinkItem<'a, A: Allocator = Global> {
     /// The memory and the table that the library needs.
@@ -272,6 +359,28 @@ impl<'a, A: Allocator + Copy + 'a, G: Grammar> Readable<'a, A, G> for DylinkItem
 ///
 /// Any error but `Memory` means that the bytes are not such a payload.
 ///
+/// # Examples
+///
+/// ```
+/// use dolzhytik::fallible::{DylinkMemory, Global, read_dylink};
+/// use dolzhytik::reader::{DylinkItem, Padded};
+///
+/// // "dylink.0"; the subsection 1: size 4, 16 bytes of memory, aligned to 4 (2 to the
+/// // power of 2), no table.
+/// let payload = b"\x08dylink.0\x01\x04\x10\x02\0\0";
+/// let items = read_dylink::<Global, Padded>(payload, Global)?;
+/// assert!(matches!(
+///     items[..],
+///     [DylinkItem::Memory(DylinkMemory {
+///         memory_size: 16,
+///         memory_alignment: 2,
+///         table_size: 0,
+///         table_alignment: 0,
+///     })]
+/// ));
+/// # Ok::<(), dolzhytik::reader::DecodeError>(())
+/// ```
+///
 /// # Proved
 ///
 /// After `Ok`: `found`. After an error: `none`, the bytes as a whole are no such encoding, unless the cause is `Memory`.
@@ -298,7 +407,9 @@ pub fn read_dylink<'a, A: Allocator + Copy + 'a, G: Grammar>(
 ///
 /// # Proved
 ///
-/// After `Ok`: `ok`, the sink gains the minimal encoding. In any case: `front`; `too_long`, a value that has an encoding never gives `TooLong`. `front`: The new bytes begin with the old ones.
+/// - After `Ok`, `ok`: the sink gains the minimal encoding.
+/// - `front`: The new bytes begin with the old ones.
+/// - `too_long`: a value that has an encoding never gives `TooLong`.
 ///
 /// ```text
 /// ensures ok { OnOk result
@@ -332,7 +443,9 @@ impl<'a, A: Allocator> Shorten for DylinkItem<'a, A> {
 ///
 /// # Proved
 ///
-/// After `Ok`: `ok`, the sink gains the minimal encoding. In any case: `front`; `too_long`, a value that has an encoding never gives `TooLong`. `front`: The new bytes begin with the old ones.
+/// - After `Ok`, `ok`: the sink gains the minimal encoding.
+/// - `front`: The new bytes begin with the old ones.
+/// - `too_long`: a value that has an encoding never gives `TooLong`.
 ///
 /// ```text
 /// ensures ok { OnOk result
@@ -360,6 +473,18 @@ fn write_dylink<A: Allocator, B: Sink>(
 /// Returns [`TooLong`](crate::fallible::Refused::TooLong) if a count or length would pass
 /// 4294967295, and [`Memory`](crate::fallible::Refused::Memory) if an allocation fails. The
 /// bytes of the sink are then unchanged.
+///
+/// # Examples
+///
+/// ```
+/// use dolzhytik::fallible::{Global, append_dylink};
+///
+/// let mut payload = vec![];
+/// append_dylink::<Global, _>(&[], &mut payload)?;
+/// // "dylink.0", no subsections.
+/// assert_eq!(payload, *b"\x08dylink.0");
+/// # Ok::<(), dolzhytik::fallible::Refused>(())
+/// ```
 ///
 /// # Proved
 ///

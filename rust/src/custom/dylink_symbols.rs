@@ -9,6 +9,26 @@ use crate::alloc::{Allocator, Global};
 use crate::base::{DecodeError, Encode, Grammar, Layout, Readable, Result, Shorten, encoding_size};
 
 /// The memory and the table that a dynamic library needs at load time.
+///
+/// [`DylinkSection::memory`](crate::fallible::DylinkSection::memory) takes it, and
+/// [`DylinkItem::Memory`](crate::reader::DylinkItem::Memory) has it.
+///
+/// # Examples
+///
+/// ```
+/// use dolzhytik::fallible::{DylinkMemory, Encode};
+///
+/// let mut bytes = vec![];
+/// let memory = DylinkMemory {
+///     memory_size: 16,
+///     memory_alignment: 2,
+///     table_size: 1,
+///     table_alignment: 0,
+/// };
+/// memory.encode(&mut bytes)?;
+/// assert_eq!(bytes, [16, 2, 1, 0]);
+/// # Ok::<(), dolzhytik::fallible::Refused>(())
+/// ```
 #[derive(Clone, Copy, PartialEq, Eq, Debug)]
 pub struct DylinkMemory {
     /// The size of the memory, in bytes.
@@ -88,9 +108,38 @@ impl Shorten for DylinkMemory {
 
 /// The libraries that a dynamic library needs, in the order in which they are added. They are
 /// encoded as subsection 2.
+///
+/// It is a [`CountedList`](crate::fallible::CountedList), which
+/// [`DylinkSection::needed`](crate::fallible::DylinkSection::needed) takes.
+///
+/// # Examples
+///
+/// ```
+/// use dolzhytik::fallible::{DylinkNeeded, Encode, Global};
+///
+/// let mut libraries = DylinkNeeded::new(Global);
+/// libraries.library("a.so")?;
+/// let mut bytes = vec![];
+/// libraries.encode(&mut bytes)?;
+/// // Subsection 2, size 6: one name, of four bytes.
+/// assert_eq!(bytes, *b"\x02\x06\x01\x04a.so");
+/// # Ok::<(), dolzhytik::fallible::Refused>(())
+/// ```
 pub type DylinkNeeded<A = Global> = CountedList<NeededMembers, A>;
 
 /// The kind of the members of a list of libraries: their names.
+///
+/// It is the type argument of [`CountedList`](crate::fallible::CountedList) in
+/// [`DylinkNeeded`](crate::fallible::DylinkNeeded).
+///
+/// # Examples
+///
+/// ```
+/// use dolzhytik::fallible::{DylinkNeeded, Global, ListKind, NeededMembers};
+///
+/// let list = DylinkNeeded::new(Global);
+/// assert_eq!((list.len(), NeededMembers::subsection()), (0, Some(2)));
+/// ```
 #[derive(Clone, Copy, Debug)]
 pub struct NeededMembers;
 
@@ -137,9 +186,38 @@ impl<A: Allocator> DylinkNeeded<A> {
 
 /// The folders in which libraries are looked for, in the order in which they are added. They are
 /// encoded as subsection 5.
+///
+/// It is a [`CountedList`](crate::fallible::CountedList), which
+/// [`DylinkSection::runtime_path`](crate::fallible::DylinkSection::runtime_path) takes.
+///
+/// # Examples
+///
+/// ```
+/// use dolzhytik::fallible::{DylinkPath, Encode, Global};
+///
+/// let mut folders = DylinkPath::new(Global);
+/// folders.folder("/l")?;
+/// let mut bytes = vec![];
+/// folders.encode(&mut bytes)?;
+/// // Subsection 5, size 4: one path, of two bytes.
+/// assert_eq!(bytes, *b"\x05\x04\x01\x02/l");
+/// # Ok::<(), dolzhytik::fallible::Refused>(())
+/// ```
 pub type DylinkPath<A = Global> = CountedList<PathMembers, A>;
 
 /// The kind of the members of a list of folders: their paths.
+///
+/// It is the type argument of [`CountedList`](crate::fallible::CountedList) in
+/// [`DylinkPath`](crate::fallible::DylinkPath).
+///
+/// # Examples
+///
+/// ```
+/// use dolzhytik::fallible::{DylinkPath, Global, ListKind, PathMembers};
+///
+/// let list = DylinkPath::new(Global);
+/// assert_eq!((list.len(), PathMembers::subsection()), (0, Some(5)));
+/// ```
 #[derive(Clone, Copy, Debug)]
 pub struct PathMembers;
 
@@ -186,9 +264,38 @@ impl<A: Allocator> DylinkPath<A> {
 
 /// Flags of exported symbols, in the order in which they are added. They are encoded as subsection
 /// 3.
+///
+/// It is a [`CountedList`](crate::fallible::CountedList), which
+/// [`DylinkSection::exports`](crate::fallible::DylinkSection::exports) takes.
+///
+/// # Examples
+///
+/// ```
+/// use dolzhytik::fallible::{DylinkExports, Encode, Global, SymbolTable};
+///
+/// let mut exports = DylinkExports::new(Global);
+/// exports.export("f", SymbolTable::WASM_SYM_BINDING_WEAK)?;
+/// let mut bytes = vec![];
+/// exports.encode(&mut bytes)?;
+/// // Subsection 3, size 4: one export, "f", the flag 1.
+/// assert_eq!(bytes, *b"\x03\x04\x01\x01f\x01");
+/// # Ok::<(), dolzhytik::fallible::Refused>(())
+/// ```
 pub type DylinkExports<A = Global> = CountedList<ExportFlagMembers, A>;
 
 /// The kind of the members of a list of flags of exported symbols.
+///
+/// It is the type argument of [`CountedList`](crate::fallible::CountedList) in
+/// [`DylinkExports`](crate::fallible::DylinkExports).
+///
+/// # Examples
+///
+/// ```
+/// use dolzhytik::fallible::{DylinkExports, ExportFlagMembers, Global, ListKind};
+///
+/// let list = DylinkExports::new(Global);
+/// assert_eq!((list.len(), ExportFlagMembers::subsection()), (0, Some(3)));
+/// ```
 #[derive(Clone, Copy, Debug)]
 pub struct ExportFlagMembers;
 
@@ -235,8 +342,24 @@ impl<A: Allocator> DylinkExports<A> {
 }
 
 /// The flags of an exported symbol.
+///
+/// It is an item of [`DylinkItem::ExportFlags`](crate::reader::DylinkItem::ExportFlags).
+///
+/// # Examples
+///
+/// ```
+/// use dolzhytik::fallible::{DylinkExport, Global};
+/// use dolzhytik::reader::{Readable, Standard};
+///
+/// // "f", the flag 1.
+/// let (export, _) =
+///     <DylinkExport as Readable<Global, Standard>>::read(b"\x01f\x01", Global)?;
+/// assert_eq!((export.name, export.flags), ("f", 1));
+/// # Ok::<(), dolzhytik::reader::DecodeError>(())
+/// ```
 #[derive(Clone, Copy, Debug)]
 pub struct DylinkExport<'a> {
+    /// The name of the symbol.
     pub name: &'a str,
     /// Flags as those of a symbol table.
     pub flags: u32,
@@ -280,9 +403,38 @@ impl<'a> Shorten for DylinkExport<'a> {
 
 /// Flags of imported symbols, in the order in which they are added. They are encoded as subsection
 /// 4.
+///
+/// It is a [`CountedList`](crate::fallible::CountedList), which
+/// [`DylinkSection::imports`](crate::fallible::DylinkSection::imports) takes.
+///
+/// # Examples
+///
+/// ```
+/// use dolzhytik::fallible::{DylinkImports, Encode, Global, SymbolTable};
+///
+/// let mut imports = DylinkImports::new(Global);
+/// imports.import("env", "g", SymbolTable::WASM_SYM_BINDING_WEAK)?;
+/// let mut bytes = vec![];
+/// imports.encode(&mut bytes)?;
+/// // Subsection 4, size 8: one import, "env" and "g", the flag 1.
+/// assert_eq!(bytes, *b"\x04\x08\x01\x03env\x01g\x01");
+/// # Ok::<(), dolzhytik::fallible::Refused>(())
+/// ```
 pub type DylinkImports<A = Global> = CountedList<ImportFlagMembers, A>;
 
 /// The kind of the members of a list of flags of imported symbols.
+///
+/// It is the type argument of [`CountedList`](crate::fallible::CountedList) in
+/// [`DylinkImports`](crate::fallible::DylinkImports).
+///
+/// # Examples
+///
+/// ```
+/// use dolzhytik::fallible::{DylinkImports, Global, ImportFlagMembers, ListKind};
+///
+/// let list = DylinkImports::new(Global);
+/// assert_eq!((list.len(), ImportFlagMembers::subsection()), (0, Some(4)));
+/// ```
 #[derive(Clone, Copy, Debug)]
 pub struct ImportFlagMembers;
 
@@ -331,10 +483,26 @@ impl<A: Allocator> DylinkImports<A> {
 }
 
 /// The flags of an imported symbol.
+///
+/// It is an item of [`DylinkItem::ImportFlags`](crate::reader::DylinkItem::ImportFlags).
+///
+/// # Examples
+///
+/// ```
+/// use dolzhytik::fallible::{DylinkImport, Global};
+/// use dolzhytik::reader::{Readable, Standard};
+///
+/// // "env", "g", the flag 1.
+/// let (import, _) =
+///     <DylinkImport as Readable<Global, Standard>>::read(b"\x03env\x01g\x01", Global)?;
+/// assert_eq!((import.module_name, import.name, import.flags), ("env", "g", 1));
+/// # Ok::<(), dolzhytik::reader::DecodeError>(())
+/// ```
 #[derive(Clone, Copy, Debug)]
 pub struct DylinkImport<'a> {
     /// The name of the module that the symbol is imported from.
     pub module_name: &'a str,
+    /// The name of the symbol.
     pub name: &'a str,
     /// Flags as those of a symbol table.
     pub flags: u32,

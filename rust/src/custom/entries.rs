@@ -92,18 +92,18 @@ pub trait CustomKind: Kind {
 
 /// A custom section of entries of the kind `K`, modelled as the bytes of each entry.
 ///
+/// It is the builder of custom sections, such as [`NameSection`](crate::fallible::NameSection).
+/// The calls that add entries are those of the kind `K`.
+///
 /// # Errors
 ///
 /// An adding call that returns an error leaves the section unchanged. The error is `TooLong` only
 /// if the section is full or the item does not fit, and `Memory` only if an allocation fails.
 ///
-/// It is the builder of custom sections, such as [`NameSection`](crate::fallible::NameSection).
-/// The calls that add entries are those of the kind `K`.
-///
 /// # Examples
 ///
 /// ```
-/// use dolzhytik::fallible::{CoreDumpModulesSection, CustomEntries, Global, Refused};
+/// use dolzhytik::fallible::{CoreDumpModulesSection, CustomEntries, Global};
 ///
 /// /// Returns whether a section of any kind has entries.
 /// fn has_entries<K>(section: &CustomEntries<K>) -> bool {
@@ -113,7 +113,7 @@ pub trait CustomKind: Kind {
 /// let mut modules = CoreDumpModulesSection::new(Global);
 /// modules.module("a.wasm")?;
 /// assert!(has_entries(&modules));
-/// # Ok::<(), Refused>(())
+/// # Ok::<(), dolzhytik::fallible::Refused>(())
 /// ```
 #[derive(Debug)]
 pub struct CustomEntries<K, A: Allocator = Global> {
@@ -169,7 +169,7 @@ impl<K, A: Allocator> CustomEntries<K, A> {
     ///
     /// # Asks
     ///
-    /// Each iterator in the value ends, and yields as many items as it reports: the impl says so by `lawful`.
+    /// Each iterator in the value ends, and yields as many items as it reports: the impl says so by `lawful`. [What happens otherwise](crate::fallible#what-is-asked).
     ///
     /// ```text
     /// requires { T.lawful item }
@@ -348,7 +348,9 @@ fn data_size<B: Allocator>(front: &[u8], count: Count, pieces: &Pieces<B>) -> us
 ///
 /// # Proved
 ///
-/// In any case: `appends`; `few`; `too_many`, more than 4294967295 give `TooLong`. `appends`: The call appends the encoding, or returns an error and leaves the bytes as they were. If the value fits, the call never returns `TooLong`, and it succeeds within the spare capacity.
+/// - `appends`: The call appends the encoding, or returns an error and leaves the bytes as they were. If the value fits, the call never returns `TooLong`, and it succeeds within the spare capacity.
+/// - In any case: `few`.
+/// - `too_many`: more than 4294967295 give `TooLong`.
 ///
 /// ```text
 /// ensures appends { Appends

@@ -138,7 +138,7 @@ impl<A: Allocator> BranchHints<A> {
     ///
     /// # Asks
     ///
-    /// The iterator ends, and yields as many items as it reports.
+    /// The iterator ends, and yields as many items as it reports. [What happens otherwise](crate::fallible#what-is-asked).
     ///
     /// ```text
     /// requires { HasKnownLength H.into_iter_gives H.IntoIter.can_next H.IntoIter.next_gives
@@ -266,7 +266,7 @@ impl<'a, A: Allocator + Copy, G: Grammar> DecodesItems<'a, (u32, Vec<BranchHint,
 ///
 /// ```
 /// use dolzhytik::fallible::{Global, read_hints};
-/// use dolzhytik::reader::{DecodeError, Padded};
+/// use dolzhytik::reader::Padded;
 ///
 /// // The name; one function, 7, of one hint: offset 3, one byte, likely.
 /// let payload = b"\x19metadata.code.branch_hint\x01\x07\x01\x03\x01\x01";
@@ -276,7 +276,7 @@ impl<'a, A: Allocator + Copy, G: Grammar> DecodesItems<'a, (u32, Vec<BranchHint,
 ///     (*function, hints[0].branch_func_offset, hints[0].branch_hint_value),
 ///     (7, 3, 1)
 /// );
-/// # Ok::<(), DecodeError>(())
+/// # Ok::<(), dolzhytik::reader::DecodeError>(())
 /// ```
 ///
 /// # Proved
@@ -311,13 +311,13 @@ pub fn read_hints<'a, A: Allocator + Copy, G: Grammar>(
 /// # Examples
 ///
 /// ```
-/// use dolzhytik::fallible::{Global, Refused, append_hints};
+/// use dolzhytik::fallible::{Global, append_hints};
 ///
 /// let mut payload = vec![];
 /// append_hints::<Global, _>(&[], &mut payload)?;
 /// // The name, no functions.
 /// assert_eq!(payload, *b"\x19metadata.code.branch_hint\0");
-/// # Ok::<(), Refused>(())
+/// # Ok::<(), dolzhytik::fallible::Refused>(())
 /// ```
 ///
 /// # Proved

@@ -86,13 +86,13 @@ impl<A: Allocator> InitFunctions<A> {
 ///
 /// ```
 /// use dolzhytik::fallible::{Global, InitFunction};
-/// use dolzhytik::reader::{DecodeError, Readable, Standard};
+/// use dolzhytik::reader::{Readable, Standard};
 ///
 /// // The priority 10, the symbol 3.
 /// let (function, _) =
 ///     <InitFunction as Readable<Global, Standard>>::read(&[10, 3], Global)?;
 /// assert_eq!((function.priority, function.symbol), (10, 3));
-/// # Ok::<(), DecodeError>(())
+/// # Ok::<(), dolzhytik::reader::DecodeError>(())
 /// ```
 #[derive(Clone, Copy, Debug)]
 pub struct InitFunction {

@@ -10,7 +10,8 @@
 ///
 /// # Proved
 ///
-/// `names`, `linking`, `objects`, `producers`, `dylink`, `target_features`, `hints`, `modules`, `instances`, `core`, `stack`, `source_maps`, `debug_files`, `build_ids`, `customs`, `subsections`, `links`, `symbols`, `object_links`, `object_symbols`, `segments`, `init_functions`, `comdat_symbols`, `comdats`, `fields`, `dylink_items`, `dylink_needs`, `export_flags`, `import_flags`, `prefixes`, `features`, `functions_hints`, `marked_names`, `single_instances`, `frames`, `values`: A format whose encodings determine their own end is unambiguous in every mode, with encodings as `HasEncodings` states. `name_laws`, `linking_items`, `object_laws`, `producer_laws`, `dylink_laws`, `feature_laws`, `hint_laws`, `module_laws`, `instance_laws`, `layout_laws`: The laws of a kind of items: the format is unambiguous, and a well-formed record whose size fits encodes its normal form.
+/// - `names`, `linking`, `objects`, `producers`, `dylink`, `target_features`, `hints`, `modules`, `instances`, `core`, `stack`, `source_maps`, `debug_files`, `build_ids`, `customs`, `subsections`, `links`, `symbols`, `object_links`, `object_symbols`, `segments`, `init_functions`, `comdat_symbols`, `comdats`, `fields`, `dylink_items`, `dylink_needs`, `export_flags`, `import_flags`, `prefixes`, `features`, `functions_hints`, `marked_names`, `single_instances`, `frames`, `values`: A format whose encodings determine their own end is unambiguous in every mode, with encodings as `HasEncodings` states.
+/// - `name_laws`, `linking_items`, `object_laws`, `producer_laws`, `dylink_laws`, `feature_laws`, `hint_laws`, `module_laws`, `instance_laws`, `layout_laws`: The laws of a kind of items: the format is unambiguous, and a well-formed record whose size fits encodes its normal form.
 ///
 /// ```text
 /// ensures names { Unambiguous (size_prefixed name_payload) }
@@ -97,7 +98,9 @@ pub fn padded() {}
 ///
 /// # Proved
 ///
-/// `names`, `linking`, `objects`, `producers`, `dylink`, `features`, `hints`, `modules`, `instances`, `frames`: A section without entries holds no items. The entry of a well-formed record adds its normal form, and an entry of raw bytes adds the item that they minimally encode. `add_all` adds its records as if one by one. `name_maps`, `indirect_maps`, `symbol_tables`, `object_symbols`, `segments`, `init_functions`, `comdat_symbols`, `comdats`, `dylink_names`, `dylink_exports`, `dylink_imports`, `producer_fields`: A list without entries holds no members. An entry that is the encoding of a member adds this member, if the list is not full. `name_maps_encoding`, `indirect_maps_encoding`, `symbol_tables_encoding`, `object_symbols_encoding`, `segments_encoding`, `init_functions_encoding`, `comdat_symbols_encoding`, `comdats_encoding`, `dylink_names_encoding`, `dylink_exports_encoding`, `dylink_imports_encoding`, `producer_fields_encoding`: The encoding of a list that holds members is the vector of these members.
+/// - `names`, `linking`, `objects`, `producers`, `dylink`, `features`, `hints`, `modules`, `instances`, `frames`: A section without entries holds no items. The entry of a well-formed record adds its normal form, and an entry of raw bytes adds the item that they minimally encode. `add_all` adds its records as if one by one.
+/// - `name_maps`, `indirect_maps`, `symbol_tables`, `object_symbols`, `segments`, `init_functions`, `comdat_symbols`, `comdats`, `dylink_names`, `dylink_exports`, `dylink_imports`, `producer_fields`: A list without entries holds no members. An entry that is the encoding of a member adds this member, if the list is not full.
+/// - `name_maps_encoding`, `indirect_maps_encoding`, `symbol_tables_encoding`, `object_symbols_encoding`, `segments_encoding`, `init_functions_encoding`, `comdat_symbols_encoding`, `comdats_encoding`, `dylink_names_encoding`, `dylink_exports_encoding`, `dylink_imports_encoding`, `producer_fields_encoding`: The encoding of a list that holds members is the vector of these members.
 ///
 /// ```text
 /// ensures names { ContainsMore name_items }
@@ -166,7 +169,7 @@ pub fn padded_calls() {}
 ///
 /// # Proved
 ///
-/// `names`, `linking`, `objects`, `producers`, `dylink`, `features`, `hints`, `modules`, `instances`, `core`, `stack`, `source_maps`, `debug_files`, `build_ids`, `customs`: If size-prefixed bytes decode to `x` alone, their payload decodes to `x` alone.
+/// `names`, `linking`, `objects`, `producers`, `dylink`, `features`, `hints`, `modules`, `instances`, `core`, `stack`, `source_maps`, `debug_files`, `build_ids`, `customs`: If size-prefixed bytes decode to one value alone, their payload decodes to it alone.
 ///
 /// ```text
 /// ensures names { DecodesPayloads name_payload }
@@ -193,7 +196,7 @@ pub fn payloads() {}
 ///
 /// # Proved
 ///
-/// `names`, `linking`, `objects`, `producers`, `dylink`, `features`, `hints`, `modules`, `instances`, `core`, `stack`, `source_maps`, `debug_files`, `build_ids`, `customs`: As `DecodesPayloads`, for padded LEB128.
+/// `names`, `linking`, `objects`, `producers`, `dylink`, `features`, `hints`, `modules`, `instances`, `core`, `stack`, `source_maps`, `debug_files`, `build_ids`, `customs`: If size-prefixed bytes decode to one value alone, with padding allowed, so does their payload.
 ///
 /// ```text
 /// ensures names { DecodesPayloadsPadded name_payload }
@@ -222,7 +225,7 @@ pub fn padded_payloads() {}
 ///
 /// # Proved
 ///
-/// `decoded`, `encoded`, `minimal_decoded`, `minimal_encoded`, `built`: Every encoding by `S` is an encoding of the same value by `T`.
+/// `decoded`, `encoded`, `minimal_decoded`, `minimal_encoded`, `built`: Every encoding by the first format is an encoding of the same value by the second.
 ///
 /// ```text
 /// ensures decoded { IsIncludedIn (linking_payload standard) (object_payload standard) }

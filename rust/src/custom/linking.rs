@@ -152,7 +152,7 @@ const VERSION: u32 = 2;
 ///
 /// ```
 /// use dolzhytik::fallible::{Global, read_links};
-/// use dolzhytik::reader::{DecodeError, LinkItem, Padded, Symbol};
+/// use dolzhytik::reader::{LinkItem, Padded, Symbol};
 ///
 /// // "linking", version 2; a symbol table: 8, size 6, one symbol: a function (0), no
 /// // flags, the index 5, "f".
@@ -163,7 +163,7 @@ const VERSION: u32 = 2;
 ///     symbols[..],
 ///     [Symbol::Function { index: 5, name: Some("f"), .. }]
 /// ));
-/// # Ok::<(), DecodeError>(())
+/// # Ok::<(), dolzhytik::reader::DecodeError>(())
 /// ```
 #[derive(Debug)]
 pub enum LinkItem<'a, A: Allocator = Global> {
@@ -267,7 +267,8 @@ impl<'a, A: Allocator + Copy + 'a, G: Grammar> Readable<'a, A, G> for LinkItem<'
 ///
 /// # Proved
 ///
-/// After `Ok`: `found`. After an error: `none`, the bytes do not begin with such an encoding, unless the cause is `Memory`. `found`: `bytes` is an encoding of `x` in this mode, followed by `rest`.
+/// - After `Ok`, `found`: The bytes begin with such an encoding, and the remaining bytes follow it.
+/// - After an error, `none`: the bytes do not begin with such an encoding, unless the cause is `Memory`.
 ///
 /// ```text
 /// ensures found { IfOk result
@@ -301,12 +302,12 @@ fn after_version<'a, A: Allocator + Copy, G: Grammar>(
 ///
 /// ```
 /// use dolzhytik::fallible::{Global, read_links};
-/// use dolzhytik::reader::{DecodeError, Padded};
+/// use dolzhytik::reader::Padded;
 ///
 /// // "linking", version 2, no subsections.
 /// let items = read_links::<Global, Padded>(b"\x07linking\x02", Global)?;
 /// assert!(items.is_empty());
-/// # Ok::<(), DecodeError>(())
+/// # Ok::<(), dolzhytik::reader::DecodeError>(())
 /// ```
 ///
 /// # Proved
@@ -336,7 +337,9 @@ pub fn read_links<'a, A: Allocator + Copy + 'a, G: Grammar>(
 ///
 /// # Proved
 ///
-/// After `Ok`: `ok`, the sink gains the minimal encoding. In any case: `front`; `too_long`, a value that has an encoding never gives `TooLong`. `front`: The new bytes begin with the old ones.
+/// - After `Ok`, `ok`: the sink gains the minimal encoding.
+/// - `front`: The new bytes begin with the old ones.
+/// - `too_long`: a value that has an encoding never gives `TooLong`.
 ///
 /// ```text
 /// ensures ok { OnOk result
@@ -364,7 +367,9 @@ pub(crate) fn append_vector<T: Shorten, A: Allocator, B: Sink>(
 ///
 /// # Proved
 ///
-/// After `Ok`: `ok`, the sink gains the minimal encoding. In any case: `front`; `too_long`, a value that has an encoding never gives `TooLong`. `front`: The new bytes begin with the old ones.
+/// - After `Ok`, `ok`: the sink gains the minimal encoding.
+/// - `front`: The new bytes begin with the old ones.
+/// - `too_long`: a value that has an encoding never gives `TooLong`.
 ///
 /// ```text
 /// ensures ok { OnOk result
@@ -398,7 +403,9 @@ impl<'a, A: Allocator> Shorten for LinkItem<'a, A> {
 ///
 /// # Proved
 ///
-/// After `Ok`: `ok`, the sink gains the minimal encoding. In any case: `front`; `too_long`, a value that has an encoding never gives `TooLong`. `front`: The new bytes begin with the old ones.
+/// - After `Ok`, `ok`: the sink gains the minimal encoding.
+/// - `front`: The new bytes begin with the old ones.
+/// - `too_long`: a value that has an encoding never gives `TooLong`.
 ///
 /// ```text
 /// ensures ok { OnOk result
@@ -431,12 +438,12 @@ fn write_links<A: Allocator, B: Sink>(
 /// # Examples
 ///
 /// ```
-/// use dolzhytik::fallible::{Global, Refused, append_links};
+/// use dolzhytik::fallible::{Global, append_links};
 ///
 /// let mut payload = vec![];
 /// append_links::<Global, _>(&[], &mut payload)?;
 /// assert_eq!(payload, *b"\x07linking\x02");
-/// # Ok::<(), Refused>(())
+/// # Ok::<(), dolzhytik::fallible::Refused>(())
 /// ```
 ///
 /// # Proved

@@ -54,18 +54,18 @@ pub trait ListKind {
 
 /// A list of counted members of the kind `K`, modelled as the bytes of each entry.
 ///
+/// It is a list in a custom section, such as [`NameMap`](crate::fallible::NameMap). The calls
+/// that add members are those of the kind `K`.
+///
 /// # Errors
 ///
 /// An adding call that returns an error leaves the list unchanged. The error is `TooLong` only if
 /// the list is full or the member does not fit, and `Memory` only if an allocation fails.
 ///
-/// It is a list in a custom section, such as [`NameMap`](crate::fallible::NameMap). The calls
-/// that add members are those of the kind `K`.
-///
 /// # Examples
 ///
 /// ```
-/// use dolzhytik::fallible::{Encode, Global, NameMap, Refused};
+/// use dolzhytik::fallible::{Encode, Global, NameMap};
 ///
 /// let mut names = NameMap::new(Global);
 /// names.append(5, "f")?;
@@ -73,7 +73,7 @@ pub trait ListKind {
 /// names.encode(&mut bytes)?;
 /// // One name: the index 5, "f".
 /// assert_eq!(bytes, *b"\x01\x05\x01f");
-/// # Ok::<(), Refused>(())
+/// # Ok::<(), dolzhytik::fallible::Refused>(())
 /// ```
 #[derive(Debug)]
 pub struct CountedList<K: ListKind, A: Allocator = Global> {
@@ -115,6 +115,8 @@ impl<K: ListKind, A: Allocator> CountedList<K, A> {
     /// Adds the encoding of the record as an entry.
     ///
     /// # Asks
+    ///
+    /// [What happens otherwise](crate::fallible#what-is-asked).
     ///
     /// ```text
     /// requires { T.encodable given.now

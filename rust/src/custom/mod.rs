@@ -49,27 +49,38 @@ pub use core_dumps::{
     CoreDumpInstancesSection, CoreDumpModulesSection, CoreDumpSection, InstanceItems, ModuleItems,
     append_instances, append_modules, append_process, read_instances, read_modules, read_process,
 };
-pub use core_stack::{CoreDumpStackSection, CoreFrame, append_stack, read_stack};
+pub use core_stack::{CoreDumpStackSection, append_stack, read_stack};
+pub(crate) use core_stack::CoreFrame;
 pub use core_values::CoreDumpValue;
 pub use custom_section::CustomSection;
-pub use debug_files::{
-    BuildId, ExternalDebugInfo, SourceMappingUrl, append_build_id, append_debug_file,
-    append_source_map, read_build_id, read_debug_file, read_source_map,
-};
-pub use dylink::{DylinkItem, DylinkItems, DylinkSection, append_dylink, read_dylink};
-pub use dylink_symbols::{
-    DylinkExport, DylinkExports, DylinkImport, DylinkImports, DylinkMemory, DylinkNeeded,
-    DylinkPath, ExportFlagMembers, ImportFlagMembers, NeededMembers, PathMembers,
-};
+pub use debug_files::{append_build_id, append_debug_file, append_source_map, read_build_id, read_debug_file, read_source_map};
+#[doc(alias = "build_id")]
+pub use debug_files::BuildId;
+#[doc(alias = "dwarf")]
+#[doc(alias = "external_debug_info")]
+pub use debug_files::ExternalDebugInfo;
+#[doc(alias = "source map")]
+#[doc(alias = "sourceMappingURL")]
+pub use debug_files::SourceMappingUrl;
+pub use dylink::{DylinkItems, append_dylink};
+#[doc(alias = "dylink.0")]
+#[doc(alias = "dynamic linking")]
+#[doc(alias = "shared library")]
+pub use dylink::DylinkSection;
+#[doc(alias = "dylink.0")]
+pub use dylink::read_dylink;
+pub(crate) use dylink::DylinkItem;
+pub use dylink_symbols::{DylinkExport, DylinkExports, DylinkImport, DylinkImports, DylinkMemory, DylinkNeeded, ExportFlagMembers, ImportFlagMembers, NeededMembers, PathMembers};
+#[doc(alias = "rpath")]
+pub use dylink_symbols::DylinkPath;
 pub use entries::{CustomEntries, CustomKind};
 pub use hints::{BranchHint, BranchHints, HintItems, append_hints, read_hints};
 pub use init_functions::{InitFunction, InitFunctions, InitMembers};
-pub use linking::{LinkItem, LinkingItems, LinkingSection, append_links, read_links};
+pub use linking::{LinkingItems, LinkingSection, append_links, read_links};
+pub(crate) use linking::LinkItem;
 pub use lists::{CountedList, ListKind};
-pub use names::{
-    IndirectMembers, IndirectNameMap, NameItem, NameItems, NameMap, NameMembers, NameSection,
-    append_names, read_names,
-};
+pub use names::{IndirectMembers, IndirectNameMap, NameItems, NameMap, NameMembers, NameSection, append_names, read_names};
+pub(crate) use names::NameItem;
 pub use object_linking::{ObjectLinking, ObjectLinkingItems};
 pub use object_symbols::{ObjectSymbolMembers, ObjectSymbols};
 pub use producers::{
@@ -77,7 +88,21 @@ pub use producers::{
 };
 pub use raw_custom::RawCustomSection;
 pub use segments::{SegmentInfo, SegmentInfos, SegmentMembers};
-pub use symbols::{DataSymbolDefinition, Symbol, SymbolKind, SymbolMembers, SymbolTable};
-pub use target_features::{
-    FeatureItems, FeaturePrefix, TargetFeaturesSection, append_features, read_features,
-};
+pub use symbols::{DataSymbolDefinition, SymbolKind, SymbolMembers, SymbolTable};
+pub(crate) use symbols::Symbol;
+pub use target_features::{FeatureItems, FeaturePrefix, append_features};
+#[doc(alias = "target_features")]
+#[doc(alias = "simd128")]
+#[doc(alias = "bulk-memory")]
+pub use target_features::TargetFeaturesSection;
+#[doc(alias = "target_features")]
+pub use target_features::read_features;
+
+/// The names that decode, which `reader` exports.
+pub(crate) mod reading {
+    pub use super::core_stack::CoreFrame;
+    pub use super::dylink::DylinkItem;
+    pub use super::linking::LinkItem;
+    pub use super::names::NameItem;
+    pub use super::symbols::Symbol;
+}

@@ -32,7 +32,8 @@ fn other_name(name: &str, known: &str, rest: &[u8]) -> DecodeError {
 ///
 /// # Proved
 ///
-/// After `Ok`: `found`. After an error: `none`, the bytes do not begin with such an encoding, unless the cause is `Memory`. `found`: `bytes` is an encoding of `x` in this mode, followed by `rest`.
+/// - After `Ok`, `found`: The bytes begin with such an encoding, and the remaining bytes follow it.
+/// - After an error, `none`: the bytes do not begin with such an encoding, unless the cause is `Memory`.
 ///
 /// ```text
 /// ensures found { IfOk result

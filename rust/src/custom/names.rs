@@ -19,14 +19,14 @@ use crate::base::{CowSlice, CowStr, DecodeError, Encode, Grammar, Kind, Layout, 
 /// # Examples
 ///
 /// ```
-/// use dolzhytik::fallible::{Global, NameMap, NameSection, Refused};
+/// use dolzhytik::fallible::{Global, NameMap, NameSection};
 ///
 /// let mut functions = NameMap::new(Global);
 /// functions.append(0, "main")?;
 /// let mut names = NameSection::new(Global);
 /// names.functions(&functions)?;
 /// assert_eq!(names.len(), 1);
-/// # Ok::<(), Refused>(())
+/// # Ok::<(), dolzhytik::fallible::Refused>(())
 /// ```
 pub type NameMap<A = Global> = CountedList<NameMembers, A>;
 
@@ -128,7 +128,7 @@ impl Encode for IndexedName<'_> {
 /// # Examples
 ///
 /// ```
-/// use dolzhytik::fallible::{Encode, Global, IndirectNameMap, NameMap, Refused};
+/// use dolzhytik::fallible::{Encode, Global, IndirectNameMap, NameMap};
 ///
 /// let mut parameters = NameMap::new(Global);
 /// parameters.append(0, "x")?;
@@ -138,7 +138,7 @@ impl Encode for IndexedName<'_> {
 /// locals.encode(&mut bytes)?;
 /// // One function, 5, of one name: the index 0, "x".
 /// assert_eq!(bytes, [1, 5, 1, 0, 1, b'x']);
-/// # Ok::<(), Refused>(())
+/// # Ok::<(), dolzhytik::fallible::Refused>(())
 /// ```
 pub type IndirectNameMap<A = Global> = CountedList<IndirectMembers, A>;
 
@@ -322,13 +322,13 @@ impl<A: Allocator> NameSection<A> {
     /// # Examples
     ///
     /// ```
-    /// use dolzhytik::fallible::{Global, NameSection, Refused};
+    /// use dolzhytik::fallible::{Global, NameSection};
     ///
     /// let mut names = NameSection::new(Global);
     /// names.module("m")?;
     /// // Subsection 0, size 2, a name of one byte.
     /// assert_eq!(names.as_custom().bytes.as_slice(), [0, 2, 1, b'm']);
-    /// # Ok::<(), Refused>(())
+    /// # Ok::<(), dolzhytik::fallible::Refused>(())
     /// ```
     ///
     /// # Proved
@@ -684,13 +684,13 @@ impl<A: Allocator> NameSection<A> {
     /// # Examples
     ///
     /// ```
-    /// use dolzhytik::fallible::{Global, NameSection, Refused};
+    /// use dolzhytik::fallible::{Global, NameSection};
     ///
     /// let mut names = NameSection::new(Global);
     /// names.raw(99, &[1, 2])?;
     /// // The id, the size, the content.
     /// assert_eq!(names.as_custom().bytes.as_slice(), [99, 2, 1, 2]);
-    /// # Ok::<(), Refused>(())
+    /// # Ok::<(), dolzhytik::fallible::Refused>(())
     /// ```
     ///
     /// # Proved
@@ -736,7 +736,7 @@ impl<A: Allocator> NameSection<A> {
 ///
 /// ```
 /// use dolzhytik::fallible::{Global, read_names};
-/// use dolzhytik::reader::{DecodeError, NameItem, Padded};
+/// use dolzhytik::reader::{NameItem, Padded};
 ///
 /// // "name"; the subsection 1, functions: size 4, one name: the index 5, "f".
 /// let payload = b"\x04name\x01\x04\x01\x05\x01f";
@@ -745,7 +745,7 @@ impl<A: Allocator> NameSection<A> {
 ///     panic!("another subsection")
 /// };
 /// assert_eq!(names[..], [(5, "f")]);
-/// # Ok::<(), DecodeError>(())
+/// # Ok::<(), dolzhytik::reader::DecodeError>(())
 /// ```
 #[derive(Debug)]
 pub enum NameItem<'a, A: Allocator = Global> {
@@ -884,12 +884,12 @@ impl<'a, A: Allocator + Copy + 'a, G: Grammar> Readable<'a, A, G> for NameItem<'
 ///
 /// ```
 /// use dolzhytik::fallible::{Global, read_names};
-/// use dolzhytik::reader::{DecodeError, NameItem, Padded};
+/// use dolzhytik::reader::{NameItem, Padded};
 ///
 /// // "name"; the subsection 0: size 2, the name of the module.
 /// let items = read_names::<Global, Padded>(b"\x04name\0\x02\x01m", Global)?;
 /// assert!(matches!(items[..], [NameItem::Module("m")]));
-/// # Ok::<(), DecodeError>(())
+/// # Ok::<(), dolzhytik::reader::DecodeError>(())
 /// ```
 ///
 /// # Proved
@@ -937,7 +937,9 @@ impl<'a, A: Allocator> NameItem<'a, A> {
     ///
     /// # Proved
     ///
-    /// After `Ok`: `ok`, the sink gains the minimal encoding. In any case: `front`; `too_long`, a value that has an encoding never gives `TooLong`. `front`: The new bytes begin with the old ones.
+    /// - After `Ok`, `ok`: the sink gains the minimal encoding.
+    /// - `front`: The new bytes begin with the old ones.
+    /// - `too_long`: a value that has an encoding never gives `TooLong`.
     ///
     /// ```text
     /// ensures ok { OnOk result
@@ -978,7 +980,9 @@ impl<'a, A: Allocator> Shorten for NameItem<'a, A> {
 ///
 /// # Proved
 ///
-/// After `Ok`: `ok`, the sink gains the minimal encoding. In any case: `front`; `too_long`, a value that has an encoding never gives `TooLong`. `front`: The new bytes begin with the old ones.
+/// - After `Ok`, `ok`: the sink gains the minimal encoding.
+/// - `front`: The new bytes begin with the old ones.
+/// - `too_long`: a value that has an encoding never gives `TooLong`.
 ///
 /// ```text
 /// ensures ok { OnOk result
@@ -1010,13 +1014,13 @@ fn write_names<A: Allocator, B: Sink>(
 /// # Examples
 ///
 /// ```
-/// use dolzhytik::fallible::{Global, Refused, append_names};
+/// use dolzhytik::fallible::{Global, append_names};
 /// use dolzhytik::reader::NameItem;
 ///
 /// let mut payload = vec![];
 /// append_names::<Global, _>(&[NameItem::Module("m")], &mut payload)?;
 /// assert_eq!(payload, *b"\x04name\0\x02\x01m");
-/// # Ok::<(), Refused>(())
+/// # Ok::<(), dolzhytik::fallible::Refused>(())
 /// ```
 ///
 /// # Proved

@@ -16,7 +16,7 @@ use crate::base::{DecodeError, Grammar, Kind, Lent, Readable, Result, Shorten};
 /// # Examples
 ///
 /// ```
-/// use dolzhytik::fallible::{Encode, Global, ProducersField, Refused};
+/// use dolzhytik::fallible::{Encode, Global, ProducersField};
 ///
 /// let mut languages = ProducersField::new(Global);
 /// languages.value("C", "99")?;
@@ -24,7 +24,7 @@ use crate::base::{DecodeError, Grammar, Kind, Lent, Readable, Result, Shorten};
 /// languages.encode(&mut bytes)?;
 /// // One value: "C", "99".
 /// assert_eq!(bytes, *b"\x01\x01C\x0299");
-/// # Ok::<(), Refused>(())
+/// # Ok::<(), dolzhytik::fallible::Refused>(())
 /// ```
 pub type ProducersField<A = Global> = CountedList<ValueMembers, A>;
 
@@ -239,13 +239,13 @@ impl<'a, A: Allocator + Copy + 'a, G: Grammar> DecodesItems<
 ///
 /// ```
 /// use dolzhytik::fallible::{Global, read_producers};
-/// use dolzhytik::reader::{DecodeError, Padded};
+/// use dolzhytik::reader::Padded;
 ///
 /// // "producers"; one field, "language", of one value: "C", "99".
 /// let payload = b"\x09producers\x01\x08language\x01\x01C\x0299";
 /// let fields = read_producers::<Global, Padded>(payload, Global)?;
 /// assert_eq!((fields[0].0, &fields[0].1[..]), ("language", &[("C", "99")][..]));
-/// # Ok::<(), DecodeError>(())
+/// # Ok::<(), dolzhytik::reader::DecodeError>(())
 /// ```
 ///
 /// # Proved
@@ -280,13 +280,13 @@ pub fn read_producers<'a, A: Allocator + Copy + 'a, G: Grammar>(
 /// # Examples
 ///
 /// ```
-/// use dolzhytik::fallible::{Global, Refused, Vec, append_producers};
+/// use dolzhytik::fallible::{Global, Vec, append_producers};
 ///
 /// let mut payload = vec![];
 /// append_producers(&Vec::new(Global), &mut payload)?;
 /// // "producers", no fields.
 /// assert_eq!(payload, *b"\x09producers\0");
-/// # Ok::<(), Refused>(())
+/// # Ok::<(), dolzhytik::fallible::Refused>(())
 /// ```
 ///
 /// # Proved

@@ -89,13 +89,13 @@ impl<A: Allocator> SegmentInfos<A> {
 ///
 /// ```
 /// use dolzhytik::fallible::{Global, SegmentInfo};
-/// use dolzhytik::reader::{DecodeError, Readable, Standard};
+/// use dolzhytik::reader::{Readable, Standard};
 ///
 /// // ".data", the alignment 2 (4 bytes), no flags.
 /// let bytes = b"\x05.data\x02\0";
 /// let (info, _) = <SegmentInfo as Readable<Global, Standard>>::read(bytes, Global)?;
 /// assert_eq!((info.name, info.alignment), (".data", 2));
-/// # Ok::<(), DecodeError>(())
+/// # Ok::<(), dolzhytik::reader::DecodeError>(())
 /// ```
 #[derive(Clone, Copy, Debug)]
 pub struct SegmentInfo<'a> {

@@ -104,12 +104,12 @@ impl Encode for DataSymbolDefinition {
 /// # Examples
 ///
 /// ```
-/// use dolzhytik::fallible::{Encode, Refused, SymbolKind};
+/// use dolzhytik::fallible::{Encode, SymbolKind};
 ///
 /// let mut bytes = vec![];
 /// SymbolKind::Table.encode(&mut bytes)?;
 /// assert_eq!(bytes, [0x05]);
-/// # Ok::<(), Refused>(())
+/// # Ok::<(), dolzhytik::fallible::Refused>(())
 /// ```
 #[derive(Clone, Copy, Debug)]
 pub enum SymbolKind {
@@ -210,6 +210,8 @@ impl<A: Allocator> SymbolTable<A> {
     ///
     /// # Asks
     ///
+    /// [What happens otherwise](crate::fallible#what-is-asked).
+    ///
     /// ```text
     /// requires { IsBuiltKind kind }
     /// ```
@@ -251,7 +253,7 @@ impl<A: Allocator> SymbolTable<A> {
     /// # Examples
     ///
     /// ```
-    /// use dolzhytik::fallible::{Encode, Global, Refused, SymbolTable};
+    /// use dolzhytik::fallible::{Encode, Global, SymbolTable};
     ///
     /// let mut symbols = SymbolTable::new(Global);
     /// symbols.function(0, 5, Some("f"))?;
@@ -259,7 +261,7 @@ impl<A: Allocator> SymbolTable<A> {
     /// symbols.encode(&mut bytes)?;
     /// // Subsection 8, size 6, one symbol: a function (0), no flags, the index 5, "f".
     /// assert_eq!(bytes, [8, 6, 1, 0, 0, 5, 1, b'f']);
-    /// # Ok::<(), Refused>(())
+    /// # Ok::<(), dolzhytik::fallible::Refused>(())
     /// ```
     ///
     /// # Proved
@@ -365,13 +367,13 @@ impl<A: Allocator> SymbolTable<A> {
 ///
 /// ```
 /// use dolzhytik::fallible::Global;
-/// use dolzhytik::reader::{DecodeError, Padded, Readable, Symbol};
+/// use dolzhytik::reader::{Padded, Readable, Symbol};
 ///
 /// // A data symbol (1), undefined (10), "d".
 /// let (symbol, _) =
 ///     <Symbol as Readable<Global, Padded>>::read(&[1, 0x10, 1, b'd'], Global)?;
 /// assert!(matches!(symbol, Symbol::DataSymbol { name: "d", definition: None, .. }));
-/// # Ok::<(), DecodeError>(())
+/// # Ok::<(), dolzhytik::reader::DecodeError>(())
 /// ```
 #[derive(Clone, Copy, Debug)]
 pub enum Symbol<'a> {
@@ -664,7 +666,9 @@ impl<'a, A: Allocator + Copy, G: Grammar> Readable<'a, A, G> for Symbol<'a> {
 ///
 /// # Proved
 ///
-/// After `Ok`: `ok`, the sink gains the minimal encoding. In any case: `front`; `too_long`, a value that has an encoding never gives `TooLong`. `front`: The new bytes begin with the old ones.
+/// - After `Ok`, `ok`: the sink gains the minimal encoding.
+/// - `front`: The new bytes begin with the old ones.
+/// - `too_long`: a value that has an encoding never gives `TooLong`.
 ///
 /// ```text
 /// ensures ok { OnOk result
@@ -687,7 +691,9 @@ fn append_name<B: Sink>(flags: u32, name: Option<&str>, sink: &mut B) -> Result<
 ///
 /// # Proved
 ///
-/// After `Ok`: `ok`, the sink gains the minimal encoding. In any case: `front`; `too_long`, a value that has an encoding never gives `TooLong`. `front`: The new bytes begin with the old ones.
+/// - After `Ok`, `ok`: the sink gains the minimal encoding.
+/// - `front`: The new bytes begin with the old ones.
+/// - `too_long`: a value that has an encoding never gives `TooLong`.
 ///
 /// ```text
 /// ensures ok { OnOk result
@@ -718,7 +724,9 @@ fn append_indexed<B: Sink>(
 ///
 /// # Proved
 ///
-/// After `Ok`: `ok`, the sink gains the minimal encoding. In any case: `front`; `too_long`, a value that has an encoding never gives `TooLong`. `front`: The new bytes begin with the old ones.
+/// - After `Ok`, `ok`: the sink gains the minimal encoding.
+/// - `front`: The new bytes begin with the old ones.
+/// - `too_long`: a value that has an encoding never gives `TooLong`.
 ///
 /// ```text
 /// ensures ok { OnOk result
@@ -746,7 +754,9 @@ fn append_definition<B: Sink>(
 ///
 /// # Proved
 ///
-/// After `Ok`: `ok`, the sink gains the minimal encoding. In any case: `front`; `too_long`, a value that has an encoding never gives `TooLong`. `front`: The new bytes begin with the old ones.
+/// - After `Ok`, `ok`: the sink gains the minimal encoding.
+/// - `front`: The new bytes begin with the old ones.
+/// - `too_long`: a value that has an encoding never gives `TooLong`.
 ///
 /// ```text
 /// ensures ok { OnOk result
@@ -774,7 +784,9 @@ fn append_data<B: Sink>(
 ///
 /// # Proved
 ///
-/// After `Ok`: `ok`, the sink gains the minimal encoding. In any case: `front`; `too_long`, no error is `TooLong`. `front`: The new bytes begin with the old ones.
+/// - After `Ok`, `ok`: the sink gains the minimal encoding.
+/// - `front`: The new bytes begin with the old ones.
+/// - `too_long`: no error is `TooLong`.
 ///
 /// ```text
 /// ensures ok { OnOk result

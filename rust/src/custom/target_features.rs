@@ -23,13 +23,46 @@ use crate::base::{DecodeError, Encode, Grammar, Kind, Layout, ReadFault, Readabl
 /// # }
 /// # example().unwrap();
 /// ```
+///
+/// The tool conventions define it in
+/// [Linking](https://github.com/WebAssembly/tool-conventions/blob/main/Linking.md#target-features-section).
+/// [`Items::TargetFeatures`](crate::reader::Items::TargetFeatures) has the features of a
+/// decoded section. A module of the root takes the encoding as a
+/// [`RawCustomSection`](crate::RawCustomSection).
 pub type TargetFeaturesSection<A = Global> = CustomEntries<FeatureItems, A>;
 
 /// The kind of a target features section's items: features.
+///
+/// It is the type argument of [`CustomEntries`](crate::fallible::CustomEntries) in
+/// [`TargetFeaturesSection`](crate::fallible::TargetFeaturesSection).
+///
+/// # Examples
+///
+/// ```
+/// use dolzhytik::fallible::{CustomKind, FeatureItems, Global, TargetFeaturesSection};
+///
+/// let section = TargetFeaturesSection::new(Global);
+/// assert_eq!((section.len(), FeatureItems::name()), (0, "target_features"));
+/// ```
 #[derive(Clone, Copy, Debug)]
 pub struct FeatureItems;
 
 /// What a linker must know about a feature.
+///
+/// [`TargetFeaturesSection::feature`](crate::fallible::TargetFeaturesSection::feature) takes
+/// it.
+///
+/// # Examples
+///
+/// ```
+/// use dolzhytik::fallible::{Encode, FeaturePrefix};
+///
+/// let mut bytes = vec![];
+/// FeaturePrefix::Used.encode(&mut bytes)?;
+/// FeaturePrefix::Disallowed.encode(&mut bytes)?;
+/// assert_eq!(bytes, *b"+-");
+/// # Ok::<(), dolzhytik::fallible::Refused>(())
+/// ```
 #[derive(Clone, Copy, PartialEq, Eq, Hash, Debug)]
 pub enum FeaturePrefix {
     /// `+`: the object uses the feature, and the linked module must allow it.
@@ -105,6 +138,22 @@ impl<A: Allocator> TargetFeaturesSection<A> {
     /// entries, or if a count or length would pass 4294967295, and
     /// [`Memory`](crate::fallible::Refused::Memory) if an allocation fails. The builder is then
     /// unchanged.
+    ///
+    /// # Examples
+    ///
+    /// ```
+    /// use dolzhytik::fallible::{
+    ///     Encode, FeaturePrefix, Global, TargetFeaturesSection,
+    /// };
+    ///
+    /// let mut features = TargetFeaturesSection::new(Global);
+    /// features.feature(FeaturePrefix::Used, "simd128")?;
+    /// let mut bytes = vec![];
+    /// features.encode(&mut bytes)?;
+    /// // Size 26: a name of 15 bytes; one feature, "+", a name of 7.
+    /// assert_eq!(bytes, *b"\x1A\x0Ftarget_features\x01+\x07simd128");
+    /// # Ok::<(), dolzhytik::fallible::Refused>(())
+    /// ```
     ///
     /// # Proved
     ///
@@ -198,6 +247,19 @@ impl<'a, A: Allocator + Copy, G: Grammar> DecodesItems<'a, (FeaturePrefix, &'a s
 ///
 /// Any error but `Memory` means that the bytes are not such a payload.
 ///
+/// # Examples
+///
+/// ```
+/// use dolzhytik::fallible::{FeaturePrefix, Global, read_features};
+/// use dolzhytik::reader::Padded;
+///
+/// // "target_features"; one feature: used (+), "simd128".
+/// let payload = b"\x0Ftarget_features\x01+\x07simd128";
+/// let features = read_features::<Global, Padded>(payload, Global)?;
+/// assert!(matches!(features[..], [(FeaturePrefix::Used, "simd128")]));
+/// # Ok::<(), dolzhytik::reader::DecodeError>(())
+/// ```
+///
 /// # Proved
 ///
 /// After `Ok`: `found`. After an error: `none`, the bytes as a whole are no such encoding, unless the cause is `Memory`.
@@ -226,6 +288,17 @@ pub fn read_features<'a, A: Allocator + Copy, G: Grammar>(
 /// Returns [`TooLong`](crate::fallible::Refused::TooLong) if a count or length would pass
 /// 4294967295, and [`Memory`](crate::fallible::Refused::Memory) if an allocation fails. The
 /// bytes of the sink are then unchanged.
+///
+/// # Examples
+///
+/// ```
+/// use dolzhytik::fallible::{FeaturePrefix, append_features};
+///
+/// let mut payload = vec![];
+/// append_features(&[(FeaturePrefix::Used, "simd128")], &mut payload)?;
+/// assert_eq!(payload, *b"\x0Ftarget_features\x01+\x07simd128");
+/// # Ok::<(), dolzhytik::fallible::Refused>(())
+/// ```
 ///
 /// # Proved
 ///

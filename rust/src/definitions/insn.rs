@@ -7,7 +7,7 @@
 ///
 /// [How to read definitions](super). The file is [`Aggregate.antt`](https://github.com/dolzhytik/dolzhytik/blob/main/crates/wasm_insn/specs/Aggregate.antt).
 pub trait aggregate {
-    /// the number of a case after the prefix
+    /// The number of a case after the prefix.
     ///
     /// ```text
     /// abbrev pub aggregate_number : Aggregate → ℕ
@@ -137,7 +137,7 @@ pub trait arguments {
 ///
 /// [How to read definitions](super). The file is [`Atomic.antt`](https://github.com/dolzhytik/dolzhytik/blob/main/crates/wasm_insn/specs/Atomic.antt).
 pub trait atomic {
-    /// the op and the arguments of a case
+    /// The op and the arguments of a case.
     ///
     /// ```text
     /// abbrev pub atomic_row : Atomic → Plain
@@ -1347,7 +1347,7 @@ pub trait instructions {
 ///
 /// [How to read definitions](super). The file is [`Numeric.antt`](https://github.com/dolzhytik/dolzhytik/blob/main/crates/wasm_insn/specs/Numeric.antt).
 pub trait numeric {
-    /// the op of a case
+    /// The op of a case.
     ///
     /// ```text
     /// abbrev pub numeric_number : Numeric → ℕ
@@ -1814,7 +1814,7 @@ pub trait plain {
 ///
 /// [How to read definitions](super). The file is [`PrefixedNumeric.antt`](https://github.com/dolzhytik/dolzhytik/blob/main/crates/wasm_insn/specs/PrefixedNumeric.antt).
 pub trait prefixed_numeric {
-    /// the number of a case after the prefix
+    /// The number of a case after the prefix.
     ///
     /// ```text
     /// abbrev pub prefixed_numeric_number : PrefixedNumeric → ℕ
@@ -2231,7 +2231,7 @@ pub trait table {
 ///
 /// [How to read definitions](super). The file is [`Vector.antt`](https://github.com/dolzhytik/dolzhytik/blob/main/crates/wasm_insn/specs/Vector.antt).
 pub trait vector {
-    /// the number of a case after the prefix
+    /// The number of a case after the prefix.
     ///
     /// ```text
     /// abbrev pub vector_number : Vector → ℕ
@@ -2461,7 +2461,7 @@ pub trait vector {
 ///
 /// [How to read definitions](super). The file is [`VectorImmediate.antt`](https://github.com/dolzhytik/dolzhytik/blob/main/crates/wasm_insn/specs/VectorImmediate.antt).
 pub trait vector_immediate {
-    /// the op and the arguments of a case
+    /// The op and the arguments of a case.
     ///
     /// ```text
     /// abbrev pub vector_immediate_row : VectorImmediate → Plain

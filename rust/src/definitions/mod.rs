@@ -8,7 +8,7 @@
 //! | name | |
 //! |---|---|
 //! | `ok` | What holds after `Ok`. |
-//! | `found` | What holds after `Ok`. |
+//! | `found` | After `Ok`: what the bytes encode. |
 //! | `none` | What holds after an error. |
 //! | `was_encodable` | After `Ok`, the counts and lengths that were encoded were at most 4294967295. |
 //! | `too_long` | When the call does not return `TooLong`. |

@@ -163,6 +163,8 @@ impl InstructionSink<'_> {
 
     /// Appends `call` (opcode 0x10), a control instruction that calls a function.
     ///
+    /// Imported functions have the first indices: see [`ImportSection`](super::ImportSection).
+    ///
     /// [`Instruction::Call`](super::Instruction::Call) is the same instruction as a value.
     /// The proved [`call`](insn::InstructionSink::call) of `fallible` encodes it.
     #[inline]
@@ -190,6 +192,8 @@ impl InstructionSink<'_> {
     }
 
     /// Appends `return_call` (opcode 0x12), a control instruction that calls a function, and returns its results.
+    ///
+    /// Imported functions have the first indices: see [`ImportSection`](super::ImportSection).
     ///
     /// [`Instruction::ReturnCall`](super::Instruction::ReturnCall) is the same instruction as a value.
     #[inline]
@@ -1819,6 +1823,8 @@ impl InstructionSink<'_> {
     }
 
     /// Appends `ref.func` (opcode 0xD2), a reference instruction that returns a reference to a function.
+    ///
+    /// Imported functions have the first indices: see [`ImportSection`](super::ImportSection).
     ///
     /// [`Instruction::RefFunc`](super::Instruction::RefFunc) is the same instruction as a value.
     /// The proved [`ref_func`](insn::InstructionSink::ref_func) of `fallible` encodes it.

@@ -177,6 +177,9 @@ impl Function {
     /// assert_eq!(body.byte_len(), 3);
     /// ```
     #[doc(alias = "offset")]
+    #[doc(alias = "byte offset")]
+    #[doc(alias = "instruction offset")]
+    #[doc(alias = "position")]
     pub fn byte_len(&self) -> usize {
         self.bytes.len()
     }

@@ -100,6 +100,7 @@ pub use crate::types::FieldType;
 pub use crate::types::StorageType;
 
 #[doc(alias = "bodies")]
+#[doc(alias = "code section")]
 pub use code::CodeSection;
 #[doc(alias = "body")]
 #[doc(alias = "func")]
@@ -126,15 +127,20 @@ pub use custom::CoreDumpSection;
 pub use custom::CoreDumpStackSection;
 #[doc(alias = "metadata")]
 #[doc(alias = "dwarf")]
+#[doc(alias = "custom section")]
 pub use custom::CustomSection;
 #[doc(alias = "object file")]
 #[doc(alias = "linker")]
+#[doc(alias = "linking section")]
 pub use custom::LinkingSection;
 #[doc(alias = "debug names")]
+#[doc(alias = "name section")]
 pub use custom::NameSection;
+#[doc(alias = "producers section")]
+pub use custom::ProducersSection;
 #[doc(alias = "symtab")]
 pub use custom::SymbolTable;
-pub use custom::{IndirectNameMap, NameMap, ProducersField, ProducersSection};
+pub use custom::{IndirectNameMap, NameMap, ProducersField};
 #[doc(alias = "leb128")]
 #[doc(alias = "varint")]
 #[doc(alias = "uleb128")]
@@ -164,24 +170,33 @@ pub use kinds::{ExportKind, SectionId, TagType};
 #[doc(alias = "encoder")]
 pub use module::Module;
 pub use module::RawSection;
+#[doc(alias = "data section")]
+pub use sections::DataSection;
 #[doc(alias = "elem")]
+#[doc(alias = "element section")]
 pub use sections::ElementSection;
 #[doc(alias = "export")]
+#[doc(alias = "export section")]
 pub use sections::ExportSection;
+#[doc(alias = "function section")]
+pub use sections::FunctionSection;
+#[doc(alias = "global section")]
+pub use sections::GlobalSection;
 #[doc(alias = "import")]
+#[doc(alias = "import section")]
 pub use sections::ImportSection;
 #[doc(alias = "memory64")]
 #[doc(alias = "linear memory")]
+#[doc(alias = "memory section")]
 pub use sections::MemorySection;
 #[doc(alias = "table64")]
+#[doc(alias = "table section")]
 pub use sections::TableSection;
 #[doc(alias = "exception handling")]
 #[doc(alias = "event")]
+#[doc(alias = "tag section")]
 pub use sections::TagSection;
-pub use sections::{
-    DataSection, DataSegment, DataSegmentMode, ElementMode, ElementSegment, Elements,
-    FunctionSection, GlobalSection,
-};
+pub use sections::{DataSegment, DataSegmentMode, ElementMode, ElementSegment, Elements};
 #[doc(alias = "signature")]
 #[doc(alias = "functype")]
 pub use types::FuncType;
@@ -192,6 +207,7 @@ pub use types::StructType;
 pub use types::SubType;
 #[doc(alias = "gc")]
 #[doc(alias = "rectype")]
+#[doc(alias = "type section")]
 pub use types::TypeSection;
 pub use types::{CompositeInnerType, CompositeType, CoreTypeEncoder};
 

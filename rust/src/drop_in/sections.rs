@@ -34,6 +34,11 @@ sections! {
     ///
     /// Core specification, Modules, Import Section.
     ///
+    /// Imported items have the first indices of their kind, in the order of the imports. With one
+    /// imported function, the first function that the module defines has the index 1. So one more
+    /// import shifts the index of each item of its kind that the module defines, also in `call`,
+    /// `ref.func`, exports, element segments, the start section and names.
+    ///
     /// ```
     /// use dolzhytik::{Encode, EntityType, ImportSection};
     ///
@@ -45,11 +50,14 @@ sections! {
     /// assert_eq!(bytes, *b"\x09\x01\x03env\x01f\0\x05");
     /// ```
     ImportSection of Import
-    /// The function section: the type of each function that the module defines, by its index.
+    /// The function section: the indices of the types of the functions that the module defines, in
+    /// the order of their bodies.
     ///
     /// Core specification, Modules, Function Section.
     ///
-    /// The bodies are in the [`CodeSection`](super::CodeSection), in the same order.
+    /// The [`TypeSection`](super::TypeSection) has the types, and the
+    /// [`CodeSection`](super::CodeSection) the bodies. The functions have the indices after those of
+    /// imported functions.
     ///
     /// ```
     /// use dolzhytik::{Encode, FunctionSection};
@@ -289,11 +297,12 @@ impl GlobalSection {
 }
 
 impl ExportSection {
-    /// Appends an export of the item with this kind and index.
+    /// Appends an export of the item with this kind and index. Imported items have the first
+    /// indices of their kind: see [`ImportSection`].
     ///
     /// # Panics
     ///
-    /// Panics if the name has more than 4294967295 bytes.
+    /// Panics if the section has 4294967295 entries, or if the name has more than 4294967295 bytes.
     #[inline]
     pub fn export(&mut self, name: &str, kind: ExportKind, index: u32) -> &mut Self {
         let kind = kind.into();
@@ -394,7 +403,8 @@ impl ElementSection {
     ///
     /// # Panics
     ///
-    /// Panics if the segment has more than 4294967295 elements.
+    /// Panics if the section has 4294967295 entries, or if the segment has more than 4294967295
+    /// elements.
     pub fn segment<'a>(&mut self, segment: ElementSegment<'a>) -> &mut Self {
         let offset;
         let mode = match segment.mode {
@@ -429,7 +439,8 @@ impl ElementSection {
     ///
     /// # Panics
     ///
-    /// Panics if the segment has more than 4294967295 elements.
+    /// Panics if the section has 4294967295 entries, or if the segment has more than 4294967295
+    /// elements.
     pub fn active(
         &mut self,
         table_index: Option<u32>,
@@ -449,7 +460,8 @@ impl ElementSection {
     ///
     /// # Panics
     ///
-    /// Panics if the segment has more than 4294967295 elements.
+    /// Panics if the section has 4294967295 entries, or if the segment has more than 4294967295
+    /// elements.
     pub fn passive<'a>(&mut self, elements: Elements<'a>) -> &mut Self {
         self.segment(ElementSegment {
             mode: ElementMode::Passive,
@@ -461,7 +473,8 @@ impl ElementSection {
     ///
     /// # Panics
     ///
-    /// Panics if the segment has more than 4294967295 elements.
+    /// Panics if the section has 4294967295 entries, or if the segment has more than 4294967295
+    /// elements.
     pub fn declared<'a>(&mut self, elements: Elements<'a>) -> &mut Self {
         self.segment(ElementSegment {
             mode: ElementMode::Declared,
@@ -532,7 +545,8 @@ impl DataSection {
     ///
     /// # Panics
     ///
-    /// Panics if the iterator reports more than 4294967295 bytes, before one is requested.
+    /// Panics if the section has 4294967295 entries. Panics if the iterator reports more than
+    /// 4294967295 bytes, before one is requested.
     pub fn segment<D>(&mut self, segment: DataSegment<D>) -> &mut Self
     where
         D: IntoIterator<Item = u8>,
@@ -552,7 +566,8 @@ impl DataSection {
     ///
     /// # Panics
     ///
-    /// Panics if the iterator reports more than 4294967295 bytes, before one is requested.
+    /// Panics if the section has 4294967295 entries. Panics if the iterator reports more than
+    /// 4294967295 bytes, before one is requested.
     pub fn active<D>(&mut self, memory_index: u32, offset: &ConstExpr, data: D) -> &mut Self
     where
         D: IntoIterator<Item = u8>,
@@ -570,7 +585,8 @@ impl DataSection {
     ///
     /// # Panics
     ///
-    /// Panics if the iterator reports more than 4294967295 bytes, before one is requested.
+    /// Panics if the section has 4294967295 entries. Panics if the iterator reports more than
+    /// 4294967295 bytes, before one is requested.
     pub fn passive<D>(&mut self, data: D) -> &mut Self
     where
         D: IntoIterator<Item = u8>,

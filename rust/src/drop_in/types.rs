@@ -281,7 +281,8 @@ impl CoreTypeEncoder<'_> {
     ///
     /// # Panics
     ///
-    /// Panics if an iterator reports more than 4294967295 types, before one is requested.
+    /// Panics if the section has 4294967295 entries. Panics if an iterator reports more than
+    /// 4294967295 types, before one is requested.
     #[inline]
     pub fn function<P, R>(self, params: P, results: R)
     where
@@ -299,7 +300,8 @@ impl CoreTypeEncoder<'_> {
     ///
     /// # Panics
     ///
-    /// Panics if the section has 4294967295 entries, or if a list of the type has more items.
+    /// Panics if the section has 4294967295 entries, or if a list of the type has more than
+    /// 4294967295 items.
     pub fn func_type(self, ty: &FuncType) {
         self.0.add(&ty.0)
     }
@@ -321,7 +323,8 @@ impl CoreTypeEncoder<'_> {
     ///
     /// # Panics
     ///
-    /// Panics if the iterator reports more than 4294967295 fields, before one is requested.
+    /// Panics if the section has 4294967295 entries. Panics if the iterator reports more than
+    /// 4294967295 fields, before one is requested.
     pub fn struct_<F>(self, fields: F)
     where
         F: IntoIterator<Item = FieldType>,
@@ -365,7 +368,8 @@ impl CoreTypeEncoder<'_> {
     ///
     /// # Panics
     ///
-    /// Panics if the section has 4294967295 entries, or if a list of the type has more items.
+    /// Panics if the section has 4294967295 entries, or if a list of the type has more than
+    /// 4294967295 items.
     pub fn subtype(self, ty: &SubType) {
         self.0.add(&types::SubType::from(ty.clone()))
     }
@@ -386,7 +390,8 @@ impl CoreTypeEncoder<'_> {
     ///
     /// # Panics
     ///
-    /// Panics if the iterator reports more than 4294967295 types, before one is requested.
+    /// Panics if the section has 4294967295 entries. Panics if the iterator reports more than
+    /// 4294967295 types, before one is requested.
     #[doc(alias = "recursive type")]
     #[doc(alias = "recursion group")]
     pub fn rec<T>(self, types: T)

@@ -11,7 +11,8 @@
 ///
 /// # Proved
 ///
-/// `memory`, `block`, `catch`, `handle`, `ordering`, `vector`: A format whose encodings determine their own end is unambiguous in every mode, with encodings as `HasEncodings` states. `memory_encodings`, `block_encodings`, `catch_encodings`, `handle_encodings`, `ordering_encodings`, `vector_encodings`: Each value that fits has the minimal encoding `encoding x`.
+/// - `memory`, `block`, `catch`, `handle`, `ordering`, `vector`: A format whose encodings determine their own end is unambiguous in every mode, with encodings as `HasEncodings` states.
+/// - `memory_encodings`, `block_encodings`, `catch_encodings`, `handle_encodings`, `ordering_encodings`, `vector_encodings`: Each value that fits has a minimal encoding, which the last function in the clause returns.
 ///
 /// ```text
 /// ensures memory { Unambiguous mem_arg }

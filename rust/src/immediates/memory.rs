@@ -293,6 +293,8 @@ fn encode_plain<A: Sink>(flags: u32, offset: u64, sink: &mut A) -> Result<()> {
 ///
 /// # Asks
 ///
+/// [What happens otherwise](crate::fallible#what-is-asked).
+///
 /// ```text
 /// requires small { first < 0x80 × second < 0x80 }
 /// requires spare { vec_len sink.old + 2 ≤ vec_capacity sink.old }

@@ -12,13 +12,13 @@ use crate::insn::op::Op;
 /// # Examples
 ///
 /// ```
-/// use dolzhytik::fallible::{Aggregate, Encode, Instruction, Refused};
+/// use dolzhytik::fallible::{Aggregate, Encode, Instruction};
 ///
 /// let instruction: Instruction = Instruction::Aggregate(Aggregate::ArrayLen);
 /// let mut bytes = Vec::new();
 /// instruction.encode(&mut bytes)?;
 /// assert_eq!(bytes, [0xFB, 15]);
-/// # Ok::<(), Refused>(())
+/// # Ok::<(), dolzhytik::fallible::Refused>(())
 /// ```
 #[derive(Clone, Copy, Debug)]
 pub enum Aggregate {

@@ -17,7 +17,7 @@ use crate::immediates::{BlockType, Catch, Handle, Ieee32, Ieee64, MemArg, Orderi
 ///
 /// ```
 /// use dolzhytik::fallible::Global;
-/// use dolzhytik::reader::{Arg, DecodeError, Instructions};
+/// use dolzhytik::reader::{Arg, Instructions};
 ///
 /// // br_table: 0E, one label, 5, and the default label, 6.
 /// let mut instructions = Instructions::new(&[0x0E, 1, 5, 6], Global);
@@ -26,7 +26,7 @@ use crate::immediates::{BlockType, Catch, Handle, Ieee32, Ieee64, MemArg, Orderi
 ///     panic!("other immediates");
 /// };
 /// assert_eq!((&labels[..], *default), (&[5][..], 6));
-/// # Ok::<(), DecodeError>(())
+/// # Ok::<(), dolzhytik::reader::DecodeError>(())
 /// ```
 #[derive(Debug)]
 pub enum Arg<A: Allocator = Global> {
@@ -541,6 +541,8 @@ pub(crate) fn read_part<'a, A: Allocator + Copy, G: Grammar>(
 ///
 /// # Asks
 ///
+/// [What happens otherwise](crate::fallible#what-is-asked).
+///
 /// ```text
 /// requires { args.old.items ≡ [] }
 /// ```
@@ -549,7 +551,8 @@ pub(crate) fn read_part<'a, A: Allocator + Copy, G: Grammar>(
 ///
 /// # Proved
 ///
-/// After `Ok`: `found`. After an error: `none`, the bytes do not begin with such an encoding, unless the cause is `Memory`. `found`: `bytes` is an encoding of `x` in this mode, followed by `rest`.
+/// - After `Ok`, `found`: The bytes begin with such an encoding, and the remaining bytes follow it.
+/// - After an error, `none`: the bytes do not begin with such an encoding, unless the cause is `Memory`.
 ///
 /// ```text
 /// ensures found { IfOk result
@@ -667,7 +670,8 @@ pub(crate) fn read_arguments<'a, A: Allocator + Copy, G: Grammar>(
 ///
 /// # Proved
 ///
-/// After `Ok`: `found`. After an error: `none`, the bytes do not begin with such an encoding, unless the cause is `Memory`. `found`: `bytes` is an encoding of `x` in this mode, followed by `rest`.
+/// - After `Ok`, `found`: The bytes begin with such an encoding, and the remaining bytes follow it.
+/// - After an error, `none`: the bytes do not begin with such an encoding, unless the cause is `Memory`.
 ///
 /// ```text
 /// ensures found { IfOk result
@@ -739,7 +743,8 @@ fn keep_one<'a, A: Allocator + Copy>(
 ///
 /// # Proved
 ///
-/// After `Ok`: `found`. After an error: `none`, the bytes do not begin with such an encoding, unless the cause is `Memory`. `found`: `bytes` is an encoding of `x` in this mode, followed by `rest`.
+/// - After `Ok`, `found`: The bytes begin with such an encoding, and the remaining bytes follow it.
+/// - After an error, `none`: the bytes do not begin with such an encoding, unless the cause is `Memory`.
 ///
 /// ```text
 /// ensures found { IfOk result
@@ -812,7 +817,9 @@ fn append_argument<A: Allocator, B: Sink>(arg: &Arg<A>, sink: &mut B) -> Result<
 ///
 /// # Proved
 ///
-/// After `Ok`: `ok`. In any case: `front`; `too_long`. `front`: The new bytes begin with the old ones.
+/// - After `Ok`: `ok`.
+/// - `front`: The new bytes begin with the old ones.
+/// - In any case: `too_long`.
 ///
 /// ```text
 /// ensures ok { OnOk result

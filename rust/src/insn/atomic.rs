@@ -14,14 +14,14 @@ use crate::immediates::{MemArg, Ordering};
 /// # Examples
 ///
 /// ```
-/// use dolzhytik::fallible::{Atomic, Encode, Instruction, Ordering, Refused};
+/// use dolzhytik::fallible::{Atomic, Encode, Instruction, Ordering};
 ///
 /// let instruction: Instruction =
 ///     Instruction::Atomic(Atomic::AtomicFence(Ordering::SeqCst));
 /// let mut bytes = Vec::new();
 /// instruction.encode(&mut bytes)?;
 /// assert_eq!(bytes, [0xFE, 3, 0]);
-/// # Ok::<(), Refused>(())
+/// # Ok::<(), dolzhytik::fallible::Refused>(())
 /// ```
 #[derive(Clone, Copy, Debug)]
 pub enum Atomic {

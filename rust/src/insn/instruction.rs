@@ -26,7 +26,7 @@ use crate::immediates::{BlockType, Catch, Handle, Ieee32, Ieee64, MemArg};
 /// # Examples
 ///
 /// ```
-/// use dolzhytik::fallible::{CowSlice, Encode, Instruction, Refused};
+/// use dolzhytik::fallible::{CowSlice, Encode, Instruction};
 ///
 /// let table: Instruction = Instruction::BrTable(CowSlice::Borrowed(&[0, 0]), 0);
 /// let mut bytes = Vec::new();
@@ -36,7 +36,7 @@ use crate::immediates::{BlockType, Catch, Handle, Ieee32, Ieee64, MemArg};
 /// // i32.const: 41 and -1 as signed LEB128. i32.add: 6A. br_table: 0E, two labels, the
 /// // default one.
 /// assert_eq!(bytes, [0x41, 0x7F, 0x6A, 0x0E, 2, 0, 0, 0]);
-/// # Ok::<(), Refused>(())
+/// # Ok::<(), dolzhytik::fallible::Refused>(())
 /// ```
 pub enum Instruction<'a, A: Allocator = Global> {
     /// `unreachable` (opcode 0x00), a control instruction that traps.

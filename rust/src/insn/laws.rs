@@ -17,7 +17,10 @@ use crate::alloc::Allocator;
 ///
 /// # Proved
 ///
-/// `unique`: A format whose encodings determine their own end is unambiguous in every mode, with encodings as `HasEncodings` states. `encodings`: Each value that fits has the minimal encoding `encoding x`. `table`: The table has 628 rows on 627 ops, in ascending order; two neighbours share an op, 1C, and no others do. `apart`: The opcodes are prefix-free: if two encodings begin the same bytes, they are of the same opcode.
+/// - `unique`: A format whose encodings determine their own end is unambiguous in every mode, with encodings as `HasEncodings` states.
+/// - `encodings`: Each value that fits has a minimal encoding, which the last function in the clause returns.
+/// - `table`: The table has 628 rows on 627 ops, in ascending order; two neighbours share an op, 1C, and no others do.
+/// - `apart`: The opcodes are prefix-free: if two encodings begin the same bytes, they are of the same opcode.
 ///
 /// ```text
 /// ensures unique { Unambiguous opcode }
@@ -61,7 +64,8 @@ pub fn cases<A: Allocator>() {}
 ///
 /// # Proved
 ///
-/// `unique`: A format whose encodings determine their own end is unambiguous in every mode, with encodings as `HasEncodings` states.
+/// - `unique`: A format whose encodings determine their own end is unambiguous in every mode, with encodings as `HasEncodings` states.
+/// - In any case: `plain`, `one_encoding`.
 ///
 /// ```text
 /// ensures unique { Unambiguous (instruction table) }
@@ -76,7 +80,8 @@ pub fn instructions<A: Allocator>() {}
 ///
 /// # Proved
 ///
-/// `opcode`, `instruction`: With padding allowed a format is unambiguous, and it keeps every minimal encoding. `list`: As `UnambiguousPadded`, for a format that takes all of the bytes.
+/// - `opcode`, `instruction`: With padding allowed a format is unambiguous, and it keeps every minimal encoding.
+/// - `list`: As `UnambiguousPadded`, for a format that takes all of the bytes.
 ///
 /// ```text
 /// ensures opcode { UnambiguousPadded opcode }

@@ -12,14 +12,14 @@ use crate::insn::op::Op;
 /// # Examples
 ///
 /// ```
-/// use dolzhytik::fallible::{Encode, Instruction, Numeric, Refused};
+/// use dolzhytik::fallible::{Encode, Instruction, Numeric};
 ///
 /// let add: Instruction = Instruction::Numeric(Numeric::I32Add);
 /// let mut bytes = Vec::new();
 /// add.encode(&mut bytes)?;
 /// Instruction::I32Add.encode(&mut bytes)?;
 /// assert_eq!(bytes, [0x6A, 0x6A]);
-/// # Ok::<(), Refused>(())
+/// # Ok::<(), dolzhytik::fallible::Refused>(())
 /// ```
 #[derive(Clone, Copy, Debug)]
 pub enum Numeric {

@@ -12,13 +12,13 @@ use crate::base::{DecodeError, Encode, Grammar, Readable, Result};
 /// # Examples
 ///
 /// ```
-/// use dolzhytik::fallible::{Encode, Op, Refused};
+/// use dolzhytik::fallible::{Encode, Op};
 ///
 /// let mut bytes = Vec::new();
 /// Op::Byte(0x6A).encode(&mut bytes)?; // i32.add
 /// Op::Prefixed(0xFC, 10).encode(&mut bytes)?; // memory.copy
 /// assert_eq!(bytes, [0x6A, 0xFC, 10]);
-/// # Ok::<(), Refused>(())
+/// # Ok::<(), dolzhytik::fallible::Refused>(())
 /// ```
 #[derive(Clone, Copy, PartialEq, Eq, Hash, Debug)]
 pub enum Op {

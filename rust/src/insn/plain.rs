@@ -14,13 +14,13 @@ use crate::base::{DecodeError, Encode, Grammar, Layout, ReadFault, Readable, Res
 ///
 /// ```
 /// use dolzhytik::fallible::{Global, Op};
-/// use dolzhytik::reader::{Arg, DecodeError, Padded, Plain, Readable};
+/// use dolzhytik::reader::{Arg, Padded, Plain, Readable};
 ///
 /// let (plain, _) = <Plain as Readable<Global, Padded>>::read(&[0x41, 0x7F], Global)?;
 /// // i32.const -1.
 /// assert_eq!(plain.op, Op::Byte(0x41));
 /// assert!(matches!(plain.args[..], [Arg::S32(-1)]));
-/// # Ok::<(), DecodeError>(())
+/// # Ok::<(), dolzhytik::reader::DecodeError>(())
 /// ```
 #[derive(Debug)]
 pub struct Plain<A: Allocator = Global> {
@@ -88,7 +88,9 @@ pub fn read_instruction_into<'a, A: Allocator + Copy, G: Grammar>(
 ///
 /// # Proved
 ///
-/// After `Ok`: `ok`, the sink gains the minimal encoding. In any case: `front`; `too_long`, a value that has an encoding never gives `TooLong`. `front`: The new bytes begin with the old ones.
+/// - After `Ok`, `ok`: the sink gains the minimal encoding.
+/// - `front`: The new bytes begin with the old ones.
+/// - `too_long`: a value that has an encoding never gives `TooLong`.
 ///
 /// ```text
 /// ensures ok { OnOk result

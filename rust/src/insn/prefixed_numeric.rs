@@ -12,14 +12,14 @@ use crate::insn::op::Op;
 /// # Examples
 ///
 /// ```
-/// use dolzhytik::fallible::{Encode, Instruction, PrefixedNumeric, Refused};
+/// use dolzhytik::fallible::{Encode, Instruction, PrefixedNumeric};
 ///
 /// let instruction: Instruction =
 ///     Instruction::PrefixedNumeric(PrefixedNumeric::I32TruncSatF64U);
 /// let mut bytes = Vec::new();
 /// instruction.encode(&mut bytes)?;
 /// assert_eq!(bytes, [0xFC, 3]);
-/// # Ok::<(), Refused>(())
+/// # Ok::<(), dolzhytik::fallible::Refused>(())
 /// ```
 #[derive(Clone, Copy, Debug)]
 pub enum PrefixedNumeric {

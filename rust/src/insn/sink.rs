@@ -16,12 +16,12 @@ use crate::immediates::{BlockType, Ieee32, Ieee64, MemArg};
 /// # Examples
 ///
 /// ```
-/// use dolzhytik::fallible::{Buffer, Function, Global, Refused};
+/// use dolzhytik::fallible::{Buffer, Function, Global};
 ///
 /// let mut body = Function::new(Global, [])?;
 /// body.append(&0x0B_u8)?; // end
 /// assert_eq!(body.into_raw_body()[..], [0, 0x0B]);
-/// # Ok::<(), Refused>(())
+/// # Ok::<(), dolzhytik::fallible::Refused>(())
 /// ```
 ///
 /// # Defined
@@ -69,7 +69,7 @@ pub trait Buffer {
     ///
     /// # Asks
     ///
-    /// The iterator ends, and yields as many items as it reports.
+    /// The iterator ends, and yields as many items as it reports. [What happens otherwise](crate::fallible#what-is-asked).
     ///
     /// ```text
     /// requires { HasKnownLength V.into_iter_gives V.IntoIter.can_next V.IntoIter.next_gives
@@ -144,18 +144,18 @@ impl<A: Sink> Buffer for A {
 
 /// Appends instructions to a buffer that it borrows.
 ///
+/// [`Function::instructions`](crate::fallible::Function::instructions) returns one.
+/// [`InstructionSink`](crate::InstructionSink) of the root has a call for each instruction.
+///
 /// # Errors
 ///
 /// A call that fails leaves the buffer's bytes unchanged. The error is `TooLong` only if a list is
 /// too long.
 ///
-/// [`Function::instructions`](crate::fallible::Function::instructions) returns one.
-/// [`InstructionSink`](crate::InstructionSink) of the root has a call for each instruction.
-///
 /// # Examples
 ///
 /// ```
-/// use dolzhytik::fallible::{InstructionSink, Refused};
+/// use dolzhytik::fallible::InstructionSink;
 ///
 /// let mut bytes = Vec::new();
 /// let mut sink = InstructionSink::new(&mut bytes);
@@ -166,7 +166,7 @@ impl<A: Sink> Buffer for A {
 /// // local.get 0: 20 00. i32.const 64: 41, and 64 as signed LEB128, C0 00. i32.add:
 /// // 6A. end: 0B.
 /// assert_eq!(bytes, [0x20, 0x00, 0x41, 0xC0, 0x00, 0x6A, 0x0B]);
-/// # Ok::<(), Refused>(())
+/// # Ok::<(), dolzhytik::fallible::Refused>(())
 /// ```
 pub struct InstructionSink<'a, B: Buffer> {
     sink: &'a mut B,
@@ -191,7 +191,8 @@ impl<'a, B: Buffer> InstructionSink<'a, B> {
     ///
     /// # Proved
     ///
-    /// In any case: `same_reference`, the sink writes to the buffer that it wrote to; `writes`. `writes`: The sink gains the encoding, or the call returns an error and leaves the bytes as they were. If the value fits, the call never returns `TooLong`, and it succeeds within the spare capacity.
+    /// - `same_reference`: the sink writes to the buffer that it wrote to.
+    /// - `writes`: The sink gains the encoding, or the call returns an error and leaves the bytes as they were. If the value fits, the call never returns `TooLong`, and it succeeds within the spare capacity.
     ///
     /// ```text
     /// ensures same_reference { self.new.sink.ghost_name ≡ self.old.sink.ghost_name }
@@ -215,18 +216,19 @@ impl<'a, B: Buffer> InstructionSink<'a, B> {
     /// # Examples
     ///
     /// ```
-    /// use dolzhytik::fallible::{InstructionSink, Op, Refused};
+    /// use dolzhytik::fallible::{InstructionSink, Op};
     ///
     /// let mut bytes = Vec::new();
     /// let mut sink = InstructionSink::new(&mut bytes);
     /// sink.op(Op::Byte(0x6C))?; // i32.mul
     /// assert_eq!(bytes, [0x6C]);
-    /// # Ok::<(), Refused>(())
+    /// # Ok::<(), dolzhytik::fallible::Refused>(())
     /// ```
     ///
     /// # Proved
     ///
-    /// In any case: `same_reference`, the sink writes to the buffer that it wrote to; `writes`. `writes`: The sink gains the encoding, or the call returns an error and leaves the bytes as they were. If the value fits, the call never returns `TooLong`, and it succeeds within the spare capacity.
+    /// - `same_reference`: the sink writes to the buffer that it wrote to.
+    /// - `writes`: The sink gains the encoding, or the call returns an error and leaves the bytes as they were. If the value fits, the call never returns `TooLong`, and it succeeds within the spare capacity.
     ///
     /// ```text
     /// ensures same_reference { self.new.sink.ghost_name ≡ self.old.sink.ghost_name }
@@ -249,7 +251,8 @@ impl<'a, B: Buffer> InstructionSink<'a, B> {
     ///
     /// # Proved
     ///
-    /// In any case: `same_reference`, the sink writes to the buffer that it wrote to; `writes`. `writes`: The sink gains the encoding of the instruction, or the call returns an error and leaves the bytes as they were.
+    /// - `same_reference`: the sink writes to the buffer that it wrote to.
+    /// - `writes`: The sink gains the encoding of the instruction, or the call returns an error and leaves the bytes as they were.
     ///
     /// ```text
     /// ensures same_reference { self.new.sink.ghost_name ≡ self.old.sink.ghost_name }
@@ -271,7 +274,8 @@ impl<'a, B: Buffer> InstructionSink<'a, B> {
     ///
     /// # Proved
     ///
-    /// In any case: `same_reference`, the sink writes to the buffer that it wrote to; `writes`. `writes`: The sink gains the encoding of the instruction, or the call returns an error and leaves the bytes as they were.
+    /// - `same_reference`: the sink writes to the buffer that it wrote to.
+    /// - `writes`: The sink gains the encoding of the instruction, or the call returns an error and leaves the bytes as they were.
     ///
     /// ```text
     /// ensures same_reference { self.new.sink.ghost_name ≡ self.old.sink.ghost_name }
@@ -293,7 +297,8 @@ impl<'a, B: Buffer> InstructionSink<'a, B> {
     ///
     /// # Proved
     ///
-    /// In any case: `same_reference`, the sink writes to the buffer that it wrote to; `writes`. `writes`: The sink gains the encoding of the instruction, or the call returns an error and leaves the bytes as they were.
+    /// - `same_reference`: the sink writes to the buffer that it wrote to.
+    /// - `writes`: The sink gains the encoding of the instruction, or the call returns an error and leaves the bytes as they were.
     ///
     /// ```text
     /// ensures same_reference { self.new.sink.ghost_name ≡ self.old.sink.ghost_name }
@@ -315,7 +320,8 @@ impl<'a, B: Buffer> InstructionSink<'a, B> {
     ///
     /// # Proved
     ///
-    /// In any case: `same_reference`, the sink writes to the buffer that it wrote to; `writes`. `writes`: The sink gains the encoding of the instruction, or the call returns an error and leaves the bytes as they were.
+    /// - `same_reference`: the sink writes to the buffer that it wrote to.
+    /// - `writes`: The sink gains the encoding of the instruction, or the call returns an error and leaves the bytes as they were.
     ///
     /// ```text
     /// ensures same_reference { self.new.sink.ghost_name ≡ self.old.sink.ghost_name }
@@ -337,7 +343,8 @@ impl<'a, B: Buffer> InstructionSink<'a, B> {
     ///
     /// # Proved
     ///
-    /// In any case: `same_reference`, the sink writes to the buffer that it wrote to; `writes`. `writes`: The sink gains the encoding of the instruction, or the call returns an error and leaves the bytes as they were.
+    /// - `same_reference`: the sink writes to the buffer that it wrote to.
+    /// - `writes`: The sink gains the encoding of the instruction, or the call returns an error and leaves the bytes as they were.
     ///
     /// ```text
     /// ensures same_reference { self.new.sink.ghost_name ≡ self.old.sink.ghost_name }
@@ -359,7 +366,8 @@ impl<'a, B: Buffer> InstructionSink<'a, B> {
     ///
     /// # Proved
     ///
-    /// In any case: `same_reference`, the sink writes to the buffer that it wrote to; `writes`. `writes`: The sink gains the encoding of the instruction, or the call returns an error and leaves the bytes as they were.
+    /// - `same_reference`: the sink writes to the buffer that it wrote to.
+    /// - `writes`: The sink gains the encoding of the instruction, or the call returns an error and leaves the bytes as they were.
     ///
     /// ```text
     /// ensures same_reference { self.new.sink.ghost_name ≡ self.old.sink.ghost_name }
@@ -381,7 +389,8 @@ impl<'a, B: Buffer> InstructionSink<'a, B> {
     ///
     /// # Proved
     ///
-    /// In any case: `same_reference`, the sink writes to the buffer that it wrote to; `writes`. `writes`: The sink gains the encoding of the instruction, or the call returns an error and leaves the bytes as they were.
+    /// - `same_reference`: the sink writes to the buffer that it wrote to.
+    /// - `writes`: The sink gains the encoding of the instruction, or the call returns an error and leaves the bytes as they were.
     ///
     /// ```text
     /// ensures same_reference { self.new.sink.ghost_name ≡ self.old.sink.ghost_name }
@@ -403,7 +412,8 @@ impl<'a, B: Buffer> InstructionSink<'a, B> {
     ///
     /// # Proved
     ///
-    /// In any case: `same_reference`, the sink writes to the buffer that it wrote to; `writes`. `writes`: The sink gains the encoding of the instruction, or the call returns an error and leaves the bytes as they were.
+    /// - `same_reference`: the sink writes to the buffer that it wrote to.
+    /// - `writes`: The sink gains the encoding of the instruction, or the call returns an error and leaves the bytes as they were.
     ///
     /// ```text
     /// ensures same_reference { self.new.sink.ghost_name ≡ self.old.sink.ghost_name }
@@ -425,7 +435,8 @@ impl<'a, B: Buffer> InstructionSink<'a, B> {
     ///
     /// # Proved
     ///
-    /// In any case: `same_reference`, the sink writes to the buffer that it wrote to; `writes`. `writes`: The sink gains the encoding of the instruction, or the call returns an error and leaves the bytes as they were.
+    /// - `same_reference`: the sink writes to the buffer that it wrote to.
+    /// - `writes`: The sink gains the encoding of the instruction, or the call returns an error and leaves the bytes as they were.
     ///
     /// ```text
     /// ensures same_reference { self.new.sink.ghost_name ≡ self.old.sink.ghost_name }
@@ -448,7 +459,7 @@ impl<'a, B: Buffer> InstructionSink<'a, B> {
     ///
     /// # Asks
     ///
-    /// The iterator ends, and yields as many items as it reports.
+    /// The iterator ends, and yields as many items as it reports. [What happens otherwise](crate::fallible#what-is-asked).
     ///
     /// ```text
     /// requires { HasKnownLength V.into_iter_gives V.IntoIter.can_next V.IntoIter.next_gives
@@ -459,7 +470,8 @@ impl<'a, B: Buffer> InstructionSink<'a, B> {
     ///
     /// # Proved
     ///
-    /// In any case: `same_reference`, the sink writes to the buffer that it wrote to; `writes`. `writes`: The sink gains `br_table` with the labels that the iterator yields, or the call returns an error and changes nothing. More than 2^32 - 1 labels give `TooLong`.
+    /// - `same_reference`: the sink writes to the buffer that it wrote to.
+    /// - `writes`: The sink gains `br_table` with the labels that the iterator yields, or the call returns an error and changes nothing. More than 2^32 - 1 labels give `TooLong`.
     ///
     /// ```text
     /// ensures same_reference { self.new.sink.ghost_name ≡ self.old.sink.ghost_name }
@@ -485,7 +497,8 @@ impl<'a, B: Buffer> InstructionSink<'a, B> {
     ///
     /// # Proved
     ///
-    /// In any case: `same_reference`, the sink writes to the buffer that it wrote to; `writes`. `writes`: The sink gains the encoding of the instruction, or the call returns an error and leaves the bytes as they were.
+    /// - `same_reference`: the sink writes to the buffer that it wrote to.
+    /// - `writes`: The sink gains the encoding of the instruction, or the call returns an error and leaves the bytes as they were.
     ///
     /// ```text
     /// ensures same_reference { self.new.sink.ghost_name ≡ self.old.sink.ghost_name }
@@ -507,7 +520,8 @@ impl<'a, B: Buffer> InstructionSink<'a, B> {
     ///
     /// # Proved
     ///
-    /// In any case: `same_reference`, the sink writes to the buffer that it wrote to; `writes`. `writes`: The sink gains the encoding of the instruction, or the call returns an error and leaves the bytes as they were.
+    /// - `same_reference`: the sink writes to the buffer that it wrote to.
+    /// - `writes`: The sink gains the encoding of the instruction, or the call returns an error and leaves the bytes as they were.
     ///
     /// ```text
     /// ensures same_reference { self.new.sink.ghost_name ≡ self.old.sink.ghost_name }
@@ -529,7 +543,8 @@ impl<'a, B: Buffer> InstructionSink<'a, B> {
     ///
     /// # Proved
     ///
-    /// In any case: `same_reference`, the sink writes to the buffer that it wrote to; `writes`. `writes`: The sink gains the encoding of the instruction, or the call returns an error and leaves the bytes as they were.
+    /// - `same_reference`: the sink writes to the buffer that it wrote to.
+    /// - `writes`: The sink gains the encoding of the instruction, or the call returns an error and leaves the bytes as they were.
     ///
     /// ```text
     /// ensures same_reference { self.new.sink.ghost_name ≡ self.old.sink.ghost_name }
@@ -552,7 +567,8 @@ impl<'a, B: Buffer> InstructionSink<'a, B> {
     ///
     /// # Proved
     ///
-    /// In any case: `same_reference`, the sink writes to the buffer that it wrote to; `writes`. `writes`: The sink gains the encoding of the instruction, or the call returns an error and leaves the bytes as they were.
+    /// - `same_reference`: the sink writes to the buffer that it wrote to.
+    /// - `writes`: The sink gains the encoding of the instruction, or the call returns an error and leaves the bytes as they were.
     ///
     /// ```text
     /// ensures same_reference { self.new.sink.ghost_name ≡ self.old.sink.ghost_name }
@@ -574,7 +590,8 @@ impl<'a, B: Buffer> InstructionSink<'a, B> {
     ///
     /// # Proved
     ///
-    /// In any case: `same_reference`, the sink writes to the buffer that it wrote to; `writes`. `writes`: The sink gains the encoding of the instruction, or the call returns an error and leaves the bytes as they were.
+    /// - `same_reference`: the sink writes to the buffer that it wrote to.
+    /// - `writes`: The sink gains the encoding of the instruction, or the call returns an error and leaves the bytes as they were.
     ///
     /// ```text
     /// ensures same_reference { self.new.sink.ghost_name ≡ self.old.sink.ghost_name }
@@ -596,7 +613,8 @@ impl<'a, B: Buffer> InstructionSink<'a, B> {
     ///
     /// # Proved
     ///
-    /// In any case: `same_reference`, the sink writes to the buffer that it wrote to; `writes`. `writes`: The sink gains the encoding of the instruction, or the call returns an error and leaves the bytes as they were.
+    /// - `same_reference`: the sink writes to the buffer that it wrote to.
+    /// - `writes`: The sink gains the encoding of the instruction, or the call returns an error and leaves the bytes as they were.
     ///
     /// ```text
     /// ensures same_reference { self.new.sink.ghost_name ≡ self.old.sink.ghost_name }
@@ -619,7 +637,8 @@ impl<'a, B: Buffer> InstructionSink<'a, B> {
     ///
     /// # Proved
     ///
-    /// In any case: `same_reference`, the sink writes to the buffer that it wrote to; `writes`. `writes`: The sink gains the encoding of the instruction, or the call returns an error and leaves the bytes as they were.
+    /// - `same_reference`: the sink writes to the buffer that it wrote to.
+    /// - `writes`: The sink gains the encoding of the instruction, or the call returns an error and leaves the bytes as they were.
     ///
     /// ```text
     /// ensures same_reference { self.new.sink.ghost_name ≡ self.old.sink.ghost_name }
@@ -642,7 +661,8 @@ impl<'a, B: Buffer> InstructionSink<'a, B> {
     ///
     /// # Proved
     ///
-    /// In any case: `same_reference`, the sink writes to the buffer that it wrote to; `writes`. `writes`: The sink gains the encoding of the instruction, or the call returns an error and leaves the bytes as they were.
+    /// - `same_reference`: the sink writes to the buffer that it wrote to.
+    /// - `writes`: The sink gains the encoding of the instruction, or the call returns an error and leaves the bytes as they were.
     ///
     /// ```text
     /// ensures same_reference { self.new.sink.ghost_name ≡ self.old.sink.ghost_name }
@@ -664,7 +684,8 @@ impl<'a, B: Buffer> InstructionSink<'a, B> {
     ///
     /// # Proved
     ///
-    /// In any case: `same_reference`, the sink writes to the buffer that it wrote to; `writes`. `writes`: The sink gains the encoding of the instruction, or the call returns an error and leaves the bytes as they were.
+    /// - `same_reference`: the sink writes to the buffer that it wrote to.
+    /// - `writes`: The sink gains the encoding of the instruction, or the call returns an error and leaves the bytes as they were.
     ///
     /// ```text
     /// ensures same_reference { self.new.sink.ghost_name ≡ self.old.sink.ghost_name }
@@ -686,7 +707,8 @@ impl<'a, B: Buffer> InstructionSink<'a, B> {
     ///
     /// # Proved
     ///
-    /// In any case: `same_reference`, the sink writes to the buffer that it wrote to; `writes`. `writes`: The sink gains the encoding of the instruction, or the call returns an error and leaves the bytes as they were.
+    /// - `same_reference`: the sink writes to the buffer that it wrote to.
+    /// - `writes`: The sink gains the encoding of the instruction, or the call returns an error and leaves the bytes as they were.
     ///
     /// ```text
     /// ensures same_reference { self.new.sink.ghost_name ≡ self.old.sink.ghost_name }
@@ -708,7 +730,8 @@ impl<'a, B: Buffer> InstructionSink<'a, B> {
     ///
     /// # Proved
     ///
-    /// In any case: `same_reference`, the sink writes to the buffer that it wrote to; `writes`. `writes`: The sink gains the encoding of the instruction, or the call returns an error and leaves the bytes as they were.
+    /// - `same_reference`: the sink writes to the buffer that it wrote to.
+    /// - `writes`: The sink gains the encoding of the instruction, or the call returns an error and leaves the bytes as they were.
     ///
     /// ```text
     /// ensures same_reference { self.new.sink.ghost_name ≡ self.old.sink.ghost_name }
@@ -730,7 +753,8 @@ impl<'a, B: Buffer> InstructionSink<'a, B> {
     ///
     /// # Proved
     ///
-    /// In any case: `same_reference`, the sink writes to the buffer that it wrote to; `writes`. `writes`: The sink gains the encoding of the instruction, or the call returns an error and leaves the bytes as they were.
+    /// - `same_reference`: the sink writes to the buffer that it wrote to.
+    /// - `writes`: The sink gains the encoding of the instruction, or the call returns an error and leaves the bytes as they were.
     ///
     /// ```text
     /// ensures same_reference { self.new.sink.ghost_name ≡ self.old.sink.ghost_name }
@@ -752,7 +776,8 @@ impl<'a, B: Buffer> InstructionSink<'a, B> {
     ///
     /// # Proved
     ///
-    /// In any case: `same_reference`, the sink writes to the buffer that it wrote to; `writes`. `writes`: The sink gains the encoding of the instruction, or the call returns an error and leaves the bytes as they were.
+    /// - `same_reference`: the sink writes to the buffer that it wrote to.
+    /// - `writes`: The sink gains the encoding of the instruction, or the call returns an error and leaves the bytes as they were.
     ///
     /// ```text
     /// ensures same_reference { self.new.sink.ghost_name ≡ self.old.sink.ghost_name }
@@ -774,7 +799,8 @@ impl<'a, B: Buffer> InstructionSink<'a, B> {
     ///
     /// # Proved
     ///
-    /// In any case: `same_reference`, the sink writes to the buffer that it wrote to; `writes`. `writes`: The sink gains the encoding of the instruction, or the call returns an error and leaves the bytes as they were.
+    /// - `same_reference`: the sink writes to the buffer that it wrote to.
+    /// - `writes`: The sink gains the encoding of the instruction, or the call returns an error and leaves the bytes as they were.
     ///
     /// ```text
     /// ensures same_reference { self.new.sink.ghost_name ≡ self.old.sink.ghost_name }
@@ -796,7 +822,8 @@ impl<'a, B: Buffer> InstructionSink<'a, B> {
     ///
     /// # Proved
     ///
-    /// In any case: `same_reference`, the sink writes to the buffer that it wrote to; `writes`. `writes`: The sink gains the encoding of the instruction, or the call returns an error and leaves the bytes as they were.
+    /// - `same_reference`: the sink writes to the buffer that it wrote to.
+    /// - `writes`: The sink gains the encoding of the instruction, or the call returns an error and leaves the bytes as they were.
     ///
     /// ```text
     /// ensures same_reference { self.new.sink.ghost_name ≡ self.old.sink.ghost_name }
@@ -818,7 +845,8 @@ impl<'a, B: Buffer> InstructionSink<'a, B> {
     ///
     /// # Proved
     ///
-    /// In any case: `same_reference`, the sink writes to the buffer that it wrote to; `writes`. `writes`: The sink gains the encoding of the instruction, or the call returns an error and leaves the bytes as they were.
+    /// - `same_reference`: the sink writes to the buffer that it wrote to.
+    /// - `writes`: The sink gains the encoding of the instruction, or the call returns an error and leaves the bytes as they were.
     ///
     /// ```text
     /// ensures same_reference { self.new.sink.ghost_name ≡ self.old.sink.ghost_name }
@@ -840,7 +868,8 @@ impl<'a, B: Buffer> InstructionSink<'a, B> {
     ///
     /// # Proved
     ///
-    /// In any case: `same_reference`, the sink writes to the buffer that it wrote to; `writes`. `writes`: The sink gains the encoding of the instruction, or the call returns an error and leaves the bytes as they were.
+    /// - `same_reference`: the sink writes to the buffer that it wrote to.
+    /// - `writes`: The sink gains the encoding of the instruction, or the call returns an error and leaves the bytes as they were.
     ///
     /// ```text
     /// ensures same_reference { self.new.sink.ghost_name ≡ self.old.sink.ghost_name }
@@ -862,7 +891,8 @@ impl<'a, B: Buffer> InstructionSink<'a, B> {
     ///
     /// # Proved
     ///
-    /// In any case: `same_reference`, the sink writes to the buffer that it wrote to; `writes`. `writes`: The sink gains the encoding of the instruction, or the call returns an error and leaves the bytes as they were.
+    /// - `same_reference`: the sink writes to the buffer that it wrote to.
+    /// - `writes`: The sink gains the encoding of the instruction, or the call returns an error and leaves the bytes as they were.
     ///
     /// ```text
     /// ensures same_reference { self.new.sink.ghost_name ≡ self.old.sink.ghost_name }
@@ -884,7 +914,8 @@ impl<'a, B: Buffer> InstructionSink<'a, B> {
     ///
     /// # Proved
     ///
-    /// In any case: `same_reference`, the sink writes to the buffer that it wrote to; `writes`. `writes`: The sink gains the encoding of the instruction, or the call returns an error and leaves the bytes as they were.
+    /// - `same_reference`: the sink writes to the buffer that it wrote to.
+    /// - `writes`: The sink gains the encoding of the instruction, or the call returns an error and leaves the bytes as they were.
     ///
     /// ```text
     /// ensures same_reference { self.new.sink.ghost_name ≡ self.old.sink.ghost_name }
@@ -906,7 +937,8 @@ impl<'a, B: Buffer> InstructionSink<'a, B> {
     ///
     /// # Proved
     ///
-    /// In any case: `same_reference`, the sink writes to the buffer that it wrote to; `writes`. `writes`: The sink gains the encoding of the instruction, or the call returns an error and leaves the bytes as they were.
+    /// - `same_reference`: the sink writes to the buffer that it wrote to.
+    /// - `writes`: The sink gains the encoding of the instruction, or the call returns an error and leaves the bytes as they were.
     ///
     /// ```text
     /// ensures same_reference { self.new.sink.ghost_name ≡ self.old.sink.ghost_name }
@@ -928,7 +960,8 @@ impl<'a, B: Buffer> InstructionSink<'a, B> {
     ///
     /// # Proved
     ///
-    /// In any case: `same_reference`, the sink writes to the buffer that it wrote to; `writes`. `writes`: The sink gains the encoding of the instruction, or the call returns an error and leaves the bytes as they were.
+    /// - `same_reference`: the sink writes to the buffer that it wrote to.
+    /// - `writes`: The sink gains the encoding of the instruction, or the call returns an error and leaves the bytes as they were.
     ///
     /// ```text
     /// ensures same_reference { self.new.sink.ghost_name ≡ self.old.sink.ghost_name }
@@ -951,7 +984,8 @@ impl<'a, B: Buffer> InstructionSink<'a, B> {
     ///
     /// # Proved
     ///
-    /// In any case: `same_reference`, the sink writes to the buffer that it wrote to; `writes`. `writes`: The sink gains the encoding of the instruction, or the call returns an error and leaves the bytes as they were.
+    /// - `same_reference`: the sink writes to the buffer that it wrote to.
+    /// - `writes`: The sink gains the encoding of the instruction, or the call returns an error and leaves the bytes as they were.
     ///
     /// ```text
     /// ensures same_reference { self.new.sink.ghost_name ≡ self.old.sink.ghost_name }
@@ -973,7 +1007,8 @@ impl<'a, B: Buffer> InstructionSink<'a, B> {
     ///
     /// # Proved
     ///
-    /// In any case: `same_reference`, the sink writes to the buffer that it wrote to; `writes`. `writes`: The sink gains the encoding of the instruction, or the call returns an error and leaves the bytes as they were.
+    /// - `same_reference`: the sink writes to the buffer that it wrote to.
+    /// - `writes`: The sink gains the encoding of the instruction, or the call returns an error and leaves the bytes as they were.
     ///
     /// ```text
     /// ensures same_reference { self.new.sink.ghost_name ≡ self.old.sink.ghost_name }
@@ -995,7 +1030,8 @@ impl<'a, B: Buffer> InstructionSink<'a, B> {
     ///
     /// # Proved
     ///
-    /// In any case: `same_reference`, the sink writes to the buffer that it wrote to; `writes`. `writes`: The sink gains the encoding of the instruction, or the call returns an error and leaves the bytes as they were.
+    /// - `same_reference`: the sink writes to the buffer that it wrote to.
+    /// - `writes`: The sink gains the encoding of the instruction, or the call returns an error and leaves the bytes as they were.
     ///
     /// ```text
     /// ensures same_reference { self.new.sink.ghost_name ≡ self.old.sink.ghost_name }
@@ -1017,7 +1053,8 @@ impl<'a, B: Buffer> InstructionSink<'a, B> {
     ///
     /// # Proved
     ///
-    /// In any case: `same_reference`, the sink writes to the buffer that it wrote to; `writes`. `writes`: The sink gains the encoding of the instruction, or the call returns an error and leaves the bytes as they were.
+    /// - `same_reference`: the sink writes to the buffer that it wrote to.
+    /// - `writes`: The sink gains the encoding of the instruction, or the call returns an error and leaves the bytes as they were.
     ///
     /// ```text
     /// ensures same_reference { self.new.sink.ghost_name ≡ self.old.sink.ghost_name }
@@ -1039,7 +1076,8 @@ impl<'a, B: Buffer> InstructionSink<'a, B> {
     ///
     /// # Proved
     ///
-    /// In any case: `same_reference`, the sink writes to the buffer that it wrote to; `writes`. `writes`: The sink gains the encoding of the instruction, or the call returns an error and leaves the bytes as they were.
+    /// - `same_reference`: the sink writes to the buffer that it wrote to.
+    /// - `writes`: The sink gains the encoding of the instruction, or the call returns an error and leaves the bytes as they were.
     ///
     /// ```text
     /// ensures same_reference { self.new.sink.ghost_name ≡ self.old.sink.ghost_name }
@@ -1061,7 +1099,8 @@ impl<'a, B: Buffer> InstructionSink<'a, B> {
     ///
     /// # Proved
     ///
-    /// In any case: `same_reference`, the sink writes to the buffer that it wrote to; `writes`. `writes`: The sink gains the encoding of the instruction, or the call returns an error and leaves the bytes as they were.
+    /// - `same_reference`: the sink writes to the buffer that it wrote to.
+    /// - `writes`: The sink gains the encoding of the instruction, or the call returns an error and leaves the bytes as they were.
     ///
     /// ```text
     /// ensures same_reference { self.new.sink.ghost_name ≡ self.old.sink.ghost_name }
@@ -1083,7 +1122,8 @@ impl<'a, B: Buffer> InstructionSink<'a, B> {
     ///
     /// # Proved
     ///
-    /// In any case: `same_reference`, the sink writes to the buffer that it wrote to; `writes`. `writes`: The sink gains the encoding of the instruction, or the call returns an error and leaves the bytes as they were.
+    /// - `same_reference`: the sink writes to the buffer that it wrote to.
+    /// - `writes`: The sink gains the encoding of the instruction, or the call returns an error and leaves the bytes as they were.
     ///
     /// ```text
     /// ensures same_reference { self.new.sink.ghost_name ≡ self.old.sink.ghost_name }
@@ -1105,7 +1145,8 @@ impl<'a, B: Buffer> InstructionSink<'a, B> {
     ///
     /// # Proved
     ///
-    /// In any case: `same_reference`, the sink writes to the buffer that it wrote to; `writes`. `writes`: The sink gains the encoding of the instruction, or the call returns an error and leaves the bytes as they were.
+    /// - `same_reference`: the sink writes to the buffer that it wrote to.
+    /// - `writes`: The sink gains the encoding of the instruction, or the call returns an error and leaves the bytes as they were.
     ///
     /// ```text
     /// ensures same_reference { self.new.sink.ghost_name ≡ self.old.sink.ghost_name }
@@ -1127,7 +1168,8 @@ impl<'a, B: Buffer> InstructionSink<'a, B> {
     ///
     /// # Proved
     ///
-    /// In any case: `same_reference`, the sink writes to the buffer that it wrote to; `writes`. `writes`: The sink gains the encoding of the instruction, or the call returns an error and leaves the bytes as they were.
+    /// - `same_reference`: the sink writes to the buffer that it wrote to.
+    /// - `writes`: The sink gains the encoding of the instruction, or the call returns an error and leaves the bytes as they were.
     ///
     /// ```text
     /// ensures same_reference { self.new.sink.ghost_name ≡ self.old.sink.ghost_name }
@@ -1149,7 +1191,8 @@ impl<'a, B: Buffer> InstructionSink<'a, B> {
     ///
     /// # Proved
     ///
-    /// In any case: `same_reference`, the sink writes to the buffer that it wrote to; `writes`. `writes`: The sink gains the encoding of the instruction, or the call returns an error and leaves the bytes as they were.
+    /// - `same_reference`: the sink writes to the buffer that it wrote to.
+    /// - `writes`: The sink gains the encoding of the instruction, or the call returns an error and leaves the bytes as they were.
     ///
     /// ```text
     /// ensures same_reference { self.new.sink.ghost_name ≡ self.old.sink.ghost_name }

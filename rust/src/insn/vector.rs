@@ -12,14 +12,14 @@ use crate::insn::op::Op;
 /// # Examples
 ///
 /// ```
-/// use dolzhytik::fallible::{Encode, Instruction, Refused, Vector};
+/// use dolzhytik::fallible::{Encode, Instruction, Vector};
 ///
 /// let instruction: Instruction = Instruction::Vector(Vector::I16x8Abs);
 /// let mut bytes = Vec::new();
 /// instruction.encode(&mut bytes)?;
 /// // The number 128 is LEB128: 80 01.
 /// assert_eq!(bytes, [0xFD, 0x80, 0x01]);
-/// # Ok::<(), Refused>(())
+/// # Ok::<(), dolzhytik::fallible::Refused>(())
 /// ```
 #[derive(Clone, Copy, Debug)]
 pub enum Vector {

@@ -26,14 +26,14 @@ pub(crate) fn vector_bytes(value: i128) -> [u8; 16] {
 /// # Examples
 ///
 /// ```
-/// use dolzhytik::fallible::{Encode, Instruction, Refused, VectorImmediate};
+/// use dolzhytik::fallible::{Encode, Instruction, VectorImmediate};
 ///
 /// let lane = VectorImmediate::I32x4ExtractLane(3);
 /// let instruction: Instruction = Instruction::VectorImmediate(lane);
 /// let mut bytes = Vec::new();
 /// instruction.encode(&mut bytes)?;
 /// assert_eq!(bytes, [0xFD, 27, 3]);
-/// # Ok::<(), Refused>(())
+/// # Ok::<(), dolzhytik::fallible::Refused>(())
 /// ```
 #[derive(Clone, Copy, Debug)]
 pub enum VectorImmediate {

@@ -21,7 +21,7 @@ use crate::code::Instructions;
 ///
 /// ```
 /// use dolzhytik::fallible::{Global, Op};
-/// use dolzhytik::reader::{ReadError, Sections};
+/// use dolzhytik::reader::Sections;
 ///
 /// // A code section: id 10, size 6, one body, of size 4: no locals, i32.const 7, end.
 /// let module = b"\0asm\x01\0\0\0\x0A\x06\x01\x04\0\x41\x07\x0B";
@@ -37,7 +37,7 @@ use crate::code::Instructions;
 /// }
 /// // Offsets in the module.
 /// assert_eq!(found, [(13, Op::Byte(0x41)), (15, Op::Byte(0x0B))]);
-/// # Ok::<(), ReadError>(())
+/// # Ok::<(), dolzhytik::reader::ReadError>(())
 /// ```
 #[derive(Clone, Debug)]
 pub struct Bodies<'a, A: Allocator = Global> {
@@ -60,7 +60,7 @@ impl<'a, A: Allocator + Copy> Section<'a, A> {
     ///
     /// ```
     /// use dolzhytik::fallible::Global;
-    /// use dolzhytik::reader::{ReadError, Sections};
+    /// use dolzhytik::reader::Sections;
     ///
     /// // A code section: id 10, size 4, one body, of size 2: no locals, end.
     /// let module = b"\0asm\x01\0\0\0\x0A\x04\x01\x02\0\x0B";
@@ -68,12 +68,12 @@ impl<'a, A: Allocator + Copy> Section<'a, A> {
     /// let mut bodies = section.bodies()?;
     /// assert_eq!(bodies.next().unwrap()?.bytes(), [0x00, 0x0B]);
     /// assert!(bodies.next().is_none());
-    /// # Ok::<(), ReadError>(())
+    /// # Ok::<(), dolzhytik::reader::ReadError>(())
     /// ```
     ///
     /// # Proved
     ///
-    /// After `Ok`: `id`, this is a code section; `found`; `end`, the iterator ends with the section. After an error: `none`, this is no code section, or its payload does not begin with a number, unless the cause is `Memory`; `from`, the offset of the error is not before this one; `within`, the offset of the error is not after the section. `found`: `bytes` is an encoding of `x` in this mode, followed by `rest`.
+    /// After `Ok`: `id`, this is a code section; `found`, the payload begins with the number of bodies, and the bytes of the iterator follow it; `end`, the iterator ends with the section. After an error: `none`, this is no code section, or its payload does not begin with a number, unless the cause is `Memory`; `from`, the offset of the error is not before this one; `within`, the offset of the error is not after the section.
     ///
     /// ```text
     /// ensures id { IfOk result (λ _. self.now.section.id ≡ 10) }
@@ -189,7 +189,7 @@ impl<'a, A: Allocator + Copy> FusedIterator for Bodies<'a, A> {}
 ///
 /// ```
 /// use dolzhytik::fallible::{Global, ValType};
-/// use dolzhytik::reader::{ReadError, Sections};
+/// use dolzhytik::reader::Sections;
 ///
 /// // A code section: id 10, size 6, one body, of size 4: one run of locals, 2 of i32
 /// // (7F); end.
@@ -202,7 +202,7 @@ impl<'a, A: Allocator + Copy> FusedIterator for Bodies<'a, A> {}
 ///     (&locals[..], instructions.rest()),
 ///     (&[(2, ValType::I32)][..], &[0x0B][..])
 /// );
-/// # Ok::<(), ReadError>(())
+/// # Ok::<(), dolzhytik::reader::ReadError>(())
 /// ```
 #[derive(Clone, Copy, Debug)]
 pub struct CodeBody<'a, A: Allocator = Global> {
@@ -248,7 +248,7 @@ impl<'a, A: Allocator + Copy> CodeBody<'a, A> {
     ///
     /// # Proved
     ///
-    /// After `Ok`: `found`; `same`, the visitor is over the bytes of the body; `inside`, the offset is in the body, or at its end; `before`, the visitor has no immediates yet. After an error: `none`, the bytes as a whole are no such encoding, unless the cause is `Memory`; `from`, the offset of the error is not before this one; `within`, the offset of the error is not after the body. `found`: `bytes` is an encoding of `x` in this mode, followed by `rest`.
+    /// After `Ok`: `found`, the bytes begin with an encoding of the locals, and the instructions follow it; `same`, the visitor is over the bytes of the body; `inside`, the offset is in the body, or at its end; `before`, the visitor has no immediates yet. After an error: `none`, the bytes as a whole are no such encoding, unless the cause is `Memory`; `from`, the offset of the error is not before this one; `within`, the offset of the error is not after the body.
     ///
     /// ```text
     /// ensures found { IfOk result
@@ -283,7 +283,7 @@ impl<'a, A: Allocator + Copy> CodeBody<'a, A> {
     ///
     /// ```
     /// use dolzhytik::fallible::Global;
-    /// use dolzhytik::reader::{ReadError, ReadFault, Sections};
+    /// use dolzhytik::reader::{ReadFault, Sections};
     ///
     /// // A code section: id 10, size 4, one body, of size 2: no locals, and FF, no opcode.
     /// let module = b"\0asm\x01\0\0\0\x0A\x04\x01\x02\0\xFF";
@@ -292,7 +292,7 @@ impl<'a, A: Allocator + Copy> CodeBody<'a, A> {
     /// let (_, mut instructions) = body.instructions()?;
     /// let error = instructions.next().map_err(|error| body.locate(error)).unwrap_err();
     /// assert_eq!((error.cause, error.offset), (ReadFault::UnknownOpcode, 13));
-    /// # Ok::<(), ReadError>(())
+    /// # Ok::<(), dolzhytik::reader::ReadError>(())
     /// ```
     ///
     /// # Proved

@@ -20,12 +20,12 @@ use crate::types::{TypeEntry, append_types, read_types};
 ///
 /// ```
 /// use dolzhytik::fallible::Global;
-/// use dolzhytik::reader::{Items, ReadFault, SectionKind, read_section};
+/// use dolzhytik::reader::{Items, SectionKind, read_section};
 ///
 /// // A start section without its id: size 1, the function 5.
 /// let (items, taken) = read_section(Global, SectionKind::Start, &[1, 5])?;
 /// assert!(matches!((items, taken), (Items::Start(5), 2)));
-/// # Ok::<(), ReadFault>(())
+/// # Ok::<(), dolzhytik::reader::ReadFault>(())
 /// ```
 #[derive(Clone, Copy, PartialEq, Eq, Debug)]
 pub enum SectionKind {
@@ -143,9 +143,7 @@ impl SectionKind {
 ///
 /// ```
 /// use dolzhytik::fallible::{ExportKind, Global};
-/// use dolzhytik::reader::{
-///     Items, ReadFault, SectionKind, encode_items, read_section,
-/// };
+/// use dolzhytik::reader::{Items, SectionKind, encode_items, read_section};
 ///
 /// // An export section without its id: size 5, one export, "f", the function (00) 7.
 /// let (items, _) =
@@ -159,7 +157,7 @@ impl SectionKind {
 /// let mut payload = vec![];
 /// encode_items(&items, &mut payload)?;
 /// assert_eq!(payload, *b"\x01\x01f\x00\x07");
-/// # Ok::<(), ReadFault>(())
+/// # Ok::<(), dolzhytik::reader::ReadFault>(())
 /// ```
 #[derive(Debug)]
 pub enum Items<'a, A: Allocator = Global> {
@@ -227,6 +225,7 @@ pub enum Items<'a, A: Allocator = Global> {
     ExternalDebugInfo(&'a str),
     /// The bytes that identify the build.
     BuildId(&'a [u8]),
+    /// The subsections of a dynamic library's section.
     Dylink(Vec<DylinkItem<'a, A>, A>),
 }
 
@@ -452,6 +451,10 @@ fn append_custom<B: Sink>(name: &str, bytes: &[u8], sink: &mut B) -> Result<()> 
 /// Items that no bytes encode have no promise: an instruction whose arguments are not those of its
 /// opcode, say.
 ///
+/// The encoding is minimal in the grammar of the builders. It can be longer than the bytes that
+/// [`Section::items`](crate::reader::Section::items) decoded: `anyref` in one byte, 6E, becomes
+/// 63 6E.
+///
 /// # Errors
 ///
 /// Returns `TooLong` if a count or a length is above 4294967295, and `Memory` if an allocation
@@ -460,14 +463,14 @@ fn append_custom<B: Sink>(name: &str, bytes: &[u8], sink: &mut B) -> Result<()> 
 /// # Examples
 ///
 /// ```
-/// use dolzhytik::fallible::{Global, Refused};
+/// use dolzhytik::fallible::Global;
 /// use dolzhytik::reader::{Items, encode_items};
 ///
 /// let mut payload = vec![];
 /// encode_items(&Items::<Global>::Start(300), &mut payload)?;
 /// // 300 = 2 * 128 + 44.
 /// assert_eq!(payload, [0xAC, 0x02]);
-/// # Ok::<(), Refused>(())
+/// # Ok::<(), dolzhytik::fallible::Refused>(())
 /// ```
 ///
 /// # Proved

@@ -12,7 +12,9 @@ use crate::code::shorten_body;
 ///
 /// # Proved
 ///
-/// After `Ok`: `found`. After an error: `none`, the bytes as a whole are no such encoding, unless the cause is `Memory`. In any case: `front`. `front`: The new bytes begin with the old ones.
+/// - After `Ok`: `found`.
+/// - After an error, `none`: the bytes as a whole are no such encoding, unless the cause is `Memory`.
+/// - `front`: The new bytes begin with the old ones.
 ///
 /// ```text
 /// ensures found { OnOk result
@@ -48,7 +50,9 @@ fn shorten_bodies<A: Allocator + Copy, B: Sink>(
 ///
 /// # Proved
 ///
-/// After `Ok`: `found`. After an error: `none`, the bytes as a whole are no such encoding, unless the cause is `Memory`. In any case: `front`. `front`: The new bytes begin with the old ones.
+/// - After `Ok`: `found`.
+/// - After an error, `none`: the bytes as a whole are no such encoding, unless the cause is `Memory`.
+/// - `front`: The new bytes begin with the old ones.
 ///
 /// ```text
 /// ensures found { OnOk result
@@ -81,7 +85,9 @@ fn shorten_content<A: Allocator + Copy, B: Sink>(
 ///
 /// # Proved
 ///
-/// After `Ok`: `found`. After an error: `none`, the bytes as a whole are no such encoding, unless the cause is `Memory`. In any case: `front`. `front`: The new bytes begin with the old ones.
+/// - After `Ok`: `found`.
+/// - After an error, `none`: the bytes as a whole are no such encoding, unless the cause is `Memory`.
+/// - `front`: The new bytes begin with the old ones.
 ///
 /// ```text
 /// ensures found { OnOk result
@@ -121,19 +127,21 @@ fn shorten_sized<A: Allocator + Copy, B: Sink>(
 ///
 /// ```
 /// use dolzhytik::fallible::{Global, Vec};
-/// use dolzhytik::reader::{ReadFault, SectionKind, shorten};
+/// use dolzhytik::reader::{SectionKind, shorten};
 ///
 /// // Size 6, one function, of type 5: both in more bytes than needed.
 /// let padded = [0x86, 0x00, 0x01, 0x85, 0x80, 0x80, 0x80, 0x00];
 /// let mut minimal = Vec::new(Global);
 /// let taken = shorten(SectionKind::Functions, &padded, &mut minimal)?;
 /// assert_eq!((&minimal[..], taken), (&[2, 1, 5][..], 8));
-/// # Ok::<(), ReadFault>(())
+/// # Ok::<(), dolzhytik::reader::ReadFault>(())
 /// ```
 ///
 /// # Proved
 ///
-/// After `Ok`: `ok`. After an error: `err`, the bytes of the sink are unchanged; `none`, the bytes do not begin with such an encoding, unless the cause is `Memory`. `ok`: The first `n` bytes are a section of this kind. The buffer gains its minimal encoding, which has at most `n` bytes.
+/// - After `Ok`, `ok`: As many bytes as the result says are a section of this kind, from the first one on. The buffer gains its minimal encoding, which is at most as long.
+/// - After an error, `err`: the bytes of the sink are unchanged.
+/// - After an error, `none`: the bytes do not begin with such an encoding, unless the cause is `Memory`.
 ///
 /// ```text
 /// ensures ok { IfOk result
@@ -156,7 +164,9 @@ pub fn shorten<A: Allocator + Copy>(
 ///
 /// # Proved
 ///
-/// After `Ok`: `ok`. After an error: `err`, the bytes of the sink are unchanged; `none`, the bytes do not begin with such an encoding, unless the cause is `Memory`. `ok`: The first `n` bytes are a section of this kind. The buffer gains its minimal encoding, which has at most `n` bytes.
+/// - After `Ok`, `ok`: As many bytes as the result says are a section of this kind, from the first one on. The buffer gains its minimal encoding, which is at most as long.
+/// - After an error, `err`: the bytes of the sink are unchanged.
+/// - After an error, `none`: the bytes do not begin with such an encoding, unless the cause is `Memory`.
 ///
 /// ```text
 /// ensures ok { IfOk result

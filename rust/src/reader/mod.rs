@@ -1,18 +1,12 @@
 // Written by tools/to-rust from crates/wasm_reader/src/lib.rt: change that.
 #![doc = include_str!("../reader.md")]
 
-//! Decodes sections, exactly: `Ok` holds the items that the bytes encode, padded numbers included,
-//! and any error but [`ReadFault::Memory`] means that the bytes encode no such items.
-//!
-//! [`Sections`] iterates over the sections of a module, and [`Section::items`] decodes one, in the
-//! standard's grammar. [`read_section`] decodes a section of a [`SectionKind`], without its id, into
-//! [`Items`], and [`shorten`] writes its minimal encoding. A custom section decodes by the kind that
-//! its name selects; a payload that is not of that kind is an error. One of another name decodes to
-//! its name and data.
-
 pub use crate::base::reading::*;
+pub use crate::types::reading::*;
 pub use crate::insn::reading::*;
 pub use crate::code::reading::*;
+pub use crate::sections::reading::*;
+pub use crate::custom::reading::*;
 
 mod code_bodies;
 mod counts;
@@ -28,7 +22,11 @@ mod standing;
 mod whole;
 
 pub use code_bodies::{Bodies, CodeBody};
-pub use kinds::{Items, SectionKind, encode_items};
+pub use kinds::{Items, SectionKind};
+#[doc(alias = "edit")]
+#[doc(alias = "insert")]
+#[doc(alias = "rewrite")]
+pub use kinds::encode_items;
 #[doc(alias = "minimize")]
 #[doc(alias = "leb128")]
 #[doc(alias = "wasm-opt")]
@@ -49,12 +47,10 @@ pub use sections::Section;
 pub use sections::Sections;
 pub use crate::base::reading::ReadFault;
 pub use crate::code::reading::{Body, Expression};
-pub use crate::custom::{CoreFrame, DylinkItem, LinkItem, NameItem, Symbol};
+pub use crate::custom::reading::{CoreFrame, DylinkItem, LinkItem, NameItem, Symbol};
 pub use crate::insn::reading::{Arg, Plain};
-pub use crate::sections::{
-    ElementItem, ElementItemMode, ElementList, GlobalItem, Segment, TableItem,
-};
-pub use crate::types::TypeEntry;
+pub use crate::sections::reading::{ElementItem, ElementItemMode, ElementList, GlobalItem, Segment, TableItem};
+pub use crate::types::reading::TypeEntry;
 pub use whole::ModuleFault;
 #[doc(alias = "relocations")]
 #[doc(alias = "source map")]

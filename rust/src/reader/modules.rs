@@ -18,14 +18,14 @@ pub(crate) const HEADER: [u8; 8] = [0x00, 0x61, 0x73, 0x6D, 0x01, 0x00, 0x00, 0x
 ///
 /// ```
 /// use dolzhytik::fallible::Global;
-/// use dolzhytik::reader::{Listed, ReadFault, list_module};
+/// use dolzhytik::reader::{Listed, list_module};
 ///
 /// // A custom section: id 0, size 2, the name "a".
 /// let lines = list_module(Global, b"\0asm\x01\0\0\0\0\x02\x01a")?;
 /// let [Listed { id: 0, size: 2, items: None }] = lines[..] else {
 ///     panic!("other sections")
 /// };
-/// # Ok::<(), (usize, ReadFault)>(())
+/// # Ok::<(), (usize, dolzhytik::reader::ReadFault)>(())
 /// ```
 #[derive(Clone, Copy, PartialEq, Eq, Debug)]
 pub struct Listed {
@@ -93,6 +93,8 @@ fn line_of<A: Allocator + Copy>(section: &Section<'_, A>) -> Result<Listed, Read
 /// Lists the sections of a module. Each section is decoded as the kind of its id; type sections and
 /// those of ids above 13 are taken as raw bytes.
 ///
+/// An error is the pair `(number, cause)`, and `number` counts sections from 1.
+///
 /// # Errors
 ///
 /// Returns the error and a section number, counted from 1. For any error but `Memory`, this is the
@@ -103,17 +105,19 @@ fn line_of<A: Allocator + Copy>(section: &Section<'_, A>) -> Result<Listed, Read
 ///
 /// ```
 /// use dolzhytik::fallible::Global;
-/// use dolzhytik::reader::{ReadFault, list_module};
+/// use dolzhytik::reader::list_module;
 ///
 /// // A function section: id 3, size 3, two functions.
 /// let lines = list_module(Global, b"\0asm\x01\0\0\0\x03\x03\x02\x05\x06")?;
 /// assert_eq!((lines[0].id, lines[0].size, lines[0].items), (3, 3, Some(2)));
-/// # Ok::<(), (usize, ReadFault)>(())
+/// # Ok::<(), (usize, dolzhytik::reader::ReadFault)>(())
 /// ```
 ///
 /// # Proved
 ///
-/// After `Ok`: `found`. After an error: `none`, the bytes stop being a module at this section, unless the cause is `Memory`; `header`, with the number 0 the cause is `Ended`, `UnknownTag` or `Memory`. `found`: The bytes are a module whose sections have these lines.
+/// - After `Ok`, `found`: The bytes are a module whose sections have these lines.
+/// - After an error, `none`: the bytes stop being a module at this section, unless the cause is `Memory`.
+/// - After an error, `header`: with the number 0 the cause is `Ended`, `UnknownTag` or `Memory`.
 ///
 /// ```text
 /// ensures found { IfOk result (λ lines. HasLines bytes.now lines.items) }

@@ -14,7 +14,7 @@ use crate::base::ReadFault;
 ///
 /// ```
 /// use dolzhytik::fallible::Global;
-/// use dolzhytik::reader::{Outlined, ReadFault, outline};
+/// use dolzhytik::reader::{Outlined, outline};
 ///
 /// fn total(lines: &[Outlined<'_>]) -> u32 {
 ///     lines.iter().map(|line| line.size).sum()
@@ -22,7 +22,7 @@ use crate::base::ReadFault;
 ///
 /// let lines = outline(Global, b"\0asm\x01\0\0\0\x03\x02\x01\x05")?;
 /// assert_eq!(total(&lines), 2);
-/// # Ok::<(), (usize, ReadFault)>(())
+/// # Ok::<(), (usize, dolzhytik::reader::ReadFault)>(())
 /// ```
 #[derive(Clone, Copy, PartialEq, Eq, Debug)]
 pub struct Outlined<'a> {
@@ -45,7 +45,8 @@ pub struct Outlined<'a> {
 ///
 /// # Proved
 ///
-/// After `Ok`: `found`. After an error: `memory`, the cause is `Memory`. `found`: The payload decodes to this number of items of the kind. There is no number if it does not decode, or if its items are not counted.
+/// - After `Ok`, `found`: The payload decodes to this number of items of the kind. There is no number if it does not decode, or if its items are not counted.
+/// - After an error, `memory`: the cause is `Memory`.
 ///
 /// ```text
 /// ensures found { IfOk result
@@ -67,7 +68,8 @@ fn count<A: Allocator + Copy>(section: &Section<'_, A>) -> Result<Option<u32>, R
 ///
 /// # Proved
 ///
-/// After `Ok`: `found`. After an error: `memory`, the cause is `Memory`. `found`: The line describes a section whose id is at this offset.
+/// - After `Ok`, `found`: The line describes a section whose id is at this offset.
+/// - After an error, `memory`: the cause is `Memory`.
 ///
 /// ```text
 /// ensures found { IfOk result
@@ -92,6 +94,8 @@ fn line_of<'a, A: Allocator + Copy>(section: &Section<'a, A>) -> Result<Outlined
 ///
 /// A custom section decodes by the kind that its name selects, and a type section as types.
 ///
+/// An error is the pair `(number, cause)`, and `number` counts sections from 1.
+///
 /// # Errors
 ///
 /// Returns the error and a section number, counted from 1. For any error but `Memory`, this is the
@@ -102,18 +106,20 @@ fn line_of<'a, A: Allocator + Copy>(section: &Section<'a, A>) -> Result<Outlined
 ///
 /// ```
 /// use dolzhytik::fallible::Global;
-/// use dolzhytik::reader::{ReadFault, outline};
+/// use dolzhytik::reader::outline;
 ///
 /// // A custom section: id 0, size 2, the name "a". A section of the id 14: size 1.
 /// let lines = outline(Global, b"\0asm\x01\0\0\0\0\x02\x01a\x0E\x01\xFF")?;
 /// assert_eq!((lines[0].name, lines[0].offset), (Some("a"), 10));
 /// assert_eq!((lines[1].id, lines[1].size, lines[1].items), (14, 1, None));
-/// # Ok::<(), (usize, ReadFault)>(())
+/// # Ok::<(), (usize, dolzhytik::reader::ReadFault)>(())
 /// ```
 ///
 /// # Proved
 ///
-/// After `Ok`: `found`. After an error: `none`; `no_module`, the bytes are no module, unless the cause is `Memory`. `found`: The bytes are a module of sections that the lines describe.
+/// - After `Ok`, `found`: The bytes are a module of sections that the lines describe.
+/// - After an error: `none`.
+/// - After an error, `no_module`: the bytes are no module, unless the cause is `Memory`.
 ///
 /// ```text
 /// ensures found { IfOk result (λ lines. HasOutline bytes.now lines.items) }

@@ -46,6 +46,8 @@ impl ReadError {
     ///
     /// # Asks
     ///
+    /// [What happens otherwise](crate::fallible#what-is-asked).
+    ///
     /// ```text
     /// requires { size ≤ end }
     /// ```

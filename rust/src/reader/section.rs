@@ -16,7 +16,7 @@ use crate::base::{Padded, ReadFault, Readable};
 ///
 /// ```
 /// use dolzhytik::fallible::Global;
-/// use dolzhytik::reader::{Items, ReadFault, SectionKind, read_section};
+/// use dolzhytik::reader::{Items, SectionKind, read_section};
 ///
 /// // A function section without its id: size 2, one function, of type 5. Another byte
 /// // follows.
@@ -24,12 +24,13 @@ use crate::base::{Padded, ReadFault, Readable};
 ///     read_section(Global, SectionKind::Functions, &[2, 1, 5, 0xFF])?;
 /// let Items::Functions(types) = items else { panic!("another kind") };
 /// assert_eq!((&types[..], taken), (&[5][..], 3));
-/// # Ok::<(), ReadFault>(())
+/// # Ok::<(), dolzhytik::reader::ReadFault>(())
 /// ```
 ///
 /// # Proved
 ///
-/// After `Ok`: `found`. After an error: `none`, the bytes do not begin with such an encoding, unless the cause is `Memory`. `found`: The first `n` bytes are a section of this kind, possibly padded, with this content.
+/// - After `Ok`, `found`: As many bytes as the result says are a section of this kind, from the first one on, possibly padded, with this content.
+/// - After an error, `none`: the bytes do not begin with such an encoding, unless the cause is `Memory`.
 ///
 /// ```text
 /// ensures found { IfOk result (λ x. Takes kind bytes.now (contents_of x.0) x.1) }

@@ -41,7 +41,7 @@ fn common_length(bytes: &[u8], other: &[u8]) -> usize {
 ///
 /// ```
 /// use dolzhytik::fallible::Global;
-/// use dolzhytik::reader::{ReadError, Sections};
+/// use dolzhytik::reader::Sections;
 ///
 /// // The header; a function section, id 3, of one function; a custom section, id 0, of
 /// // the name "a".
@@ -52,7 +52,7 @@ fn common_length(bytes: &[u8], other: &[u8]) -> usize {
 ///     found.push((section.id(), section.name(), section.range()));
 /// }
 /// assert_eq!(found, [(3, None, 10..12), (0, Some("a"), 14..16)]);
-/// # Ok::<(), ReadError>(())
+/// # Ok::<(), dolzhytik::reader::ReadError>(())
 /// ```
 #[derive(Clone, Debug)]
 pub struct Sections<'a, A: Allocator = Global> {
@@ -179,7 +179,7 @@ impl<'a, A: Allocator + Copy> FusedIterator for Sections<'a, A> {}
 ///
 /// ```
 /// use dolzhytik::fallible::Global;
-/// use dolzhytik::reader::{Items, ReadError, SectionKind, Sections};
+/// use dolzhytik::reader::{Items, SectionKind, Sections};
 ///
 /// // A function section: id 3, size 2, one function, of type 5.
 /// let module = b"\0asm\x01\0\0\0\x03\x02\x01\x05";
@@ -189,7 +189,7 @@ impl<'a, A: Allocator + Copy> FusedIterator for Sections<'a, A> {}
 /// assert_eq!(section.count()?, Some(1));
 /// let Items::Functions(types) = section.items()? else { panic!("another kind") };
 /// assert_eq!(types[..], [5]);
-/// # Ok::<(), ReadError>(())
+/// # Ok::<(), dolzhytik::reader::ReadError>(())
 /// ```
 #[derive(Clone, Copy, Debug)]
 pub struct Section<'a, A: Allocator = Global> {
@@ -332,14 +332,14 @@ impl<'a, A: Allocator + Copy> Section<'a, A> {
     ///
     /// ```
     /// use dolzhytik::fallible::Global;
-    /// use dolzhytik::reader::{ReadError, Sections};
+    /// use dolzhytik::reader::Sections;
     ///
     /// // A function section of two functions; a custom section.
     /// let module = b"\0asm\x01\0\0\0\x03\x03\x02\x05\x06\0\x02\x01a";
     /// let counts: Result<Vec<_>, _> =
     ///     Sections::new(Global, module)?.map(|section| section?.count()).collect();
     /// assert_eq!(counts?, [Some(2), None]);
-    /// # Ok::<(), ReadError>(())
+    /// # Ok::<(), dolzhytik::reader::ReadError>(())
     /// ```
     ///
     /// # Proved

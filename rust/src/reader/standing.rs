@@ -40,7 +40,8 @@ impl Standing<'_> {
 ///
 /// # Proved
 ///
-/// After `Ok`: `found`. After an error: `memory`, the cause is `Memory`. `found`: The name of a section: that at the front of a custom section's payload. There is none if no name decodes there, or if the id is not 0.
+/// - After `Ok`, `found`: The name of a section: that at the front of a custom section's payload. There is none if no name decodes there, or if the id is not 0.
+/// - After an error, `memory`: the cause is `Memory`.
 ///
 /// ```text
 /// ensures found { IfOk result
@@ -69,7 +70,9 @@ fn read_name<'a, A: Allocator + Copy>(
 ///
 /// # Proved
 ///
-/// After `Ok`: `found`; `split`. After an error: `none`, the bytes do not begin with such an encoding, unless the cause is `Memory`. `found`: The bytes after the id are this payload with its size prefix, and the payload has this name.
+/// - After `Ok`, `found`: The bytes after the id are this payload with its size prefix, and the payload has this name.
+/// - After `Ok`: `split`.
+/// - After an error, `none`: the bytes do not begin with such an encoding, unless the cause is `Memory`.
 ///
 /// ```text
 /// ensures found { IfOk result (λ x. IsSection (section_of x.0)) }

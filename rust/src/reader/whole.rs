@@ -235,6 +235,8 @@ impl Standing<'_> {
 ///
 /// # Asks
 ///
+/// [What happens otherwise](crate::fallible#what-is-asked).
+///
 /// ```text
 /// requires { IsSection (section_of section.now) }
 /// ```
@@ -312,6 +314,8 @@ struct Written {
 ///
 /// # Asks
 ///
+/// [What happens otherwise](crate::fallible#what-is-asked).
+///
 /// ```text
 /// requires { IsSection (section_of section.now) }
 /// ```
@@ -320,7 +324,9 @@ struct Written {
 ///
 /// # Proved
 ///
-/// After `Ok`: `ok`. After an error: `err`, the bytes of the sink are unchanged; `memory`, the cause is `Memory`. `ok`: The buffer gains the output for the section.
+/// - After `Ok`, `ok`: The buffer gains the output for the section.
+/// - After an error, `err`: the bytes of the sink are unchanged.
+/// - After an error, `memory`: the cause is `Memory`.
 ///
 /// ```text
 /// ensures ok { IfOk result
@@ -493,6 +499,8 @@ impl Tally {
     ///
     /// # Asks
     ///
+    /// [What happens otherwise](crate::fallible#what-is-asked).
+    ///
     /// ```text
     /// requires { self.sections + 1 < 2 ^ 64 × self.kept ≤ self.sections }
     /// ```
@@ -570,6 +578,8 @@ fn is_same(a: usize, b: usize) -> bool {
 ///
 /// # Asks
 ///
+/// [What happens otherwise](crate::fallible#what-is-asked).
+///
 /// ```text
 /// requires { length (ahead sections) < 2 ^ 64 }
 /// ```
@@ -578,7 +588,9 @@ fn is_same(a: usize, b: usize) -> bool {
 ///
 /// # Proved
 ///
-/// After `Ok`: `ok`. After an error: `none`. In any case: `front`. `ok`: The bytes begin with sections, followed by `rest`, and the output for these sections is appended. `front`: The new bytes begin with the old ones.
+/// - After `Ok`, `ok`: The bytes begin with sections, and the output for these sections is appended.
+/// - After an error: `none`.
+/// - `front`: The new bytes begin with the old ones.
 ///
 /// ```text
 /// ensures ok { IfOk result
@@ -637,7 +649,9 @@ fn begin_module<A: Sink>(spare: usize, sink: &mut A) -> Result<(), AllocError> {
 ///
 /// # Proved
 ///
-/// After `Ok`: `ok`. After an error: `why`. In any case: `front`. `ok`: The buffer gains the header and the output for each section: its minimal encoding, or its bytes unchanged if they do not decode by its kind. `kept` counts the unchanged ones. With `Refuse` every section keeps its offsets, and with `LeaveOut` exactly the sections that hold offsets are left out. The output is a module with the ids of the sections that are not left out, and is no longer than the input. `front`: The new bytes begin with the old ones. `why`: The meaning of an error. Either the section of this number is the first that is malformed, whatever its payload, and the bytes are not a module. Or the section of this number loses its offsets. `Memory` means nothing about the bytes.
+/// - After `Ok`, `ok`: The buffer gains the header and the output for each section: its minimal encoding, or its bytes unchanged if they do not decode by its kind. The result counts the unchanged ones. With `Refuse` every section keeps its offsets, and with `LeaveOut` exactly the sections that hold offsets are left out. The output is a module with the ids of the sections that are not left out, and is no longer than the input.
+/// - After an error, `why`: The meaning of an error. Either the section of this number is the first that is malformed, whatever its payload, and the bytes are not a module. Or the section of this number loses its offsets. `Memory` means nothing about the bytes.
+/// - `front`: The new bytes begin with the old ones.
 ///
 /// ```text
 /// ensures ok { IfOk result
@@ -698,19 +712,21 @@ fn append_module<A: Allocator + Copy, B: Sink>(
 ///
 /// ```
 /// use dolzhytik::fallible::Global;
-/// use dolzhytik::reader::{ModuleFault, Offsets, shorten_module};
+/// use dolzhytik::reader::{Offsets, shorten_module};
 ///
 /// // A function section: id 3, size 3, one function, of type 5 in two bytes.
 /// let module = b"\0asm\x01\0\0\0\x03\x03\x01\x85\x00";
 /// let mut minimal = vec![];
 /// let kept = shorten_module(Global, module, Offsets::Refuse, &mut minimal)?;
 /// assert_eq!((kept, &minimal[8..]), (0, &[3, 2, 1, 5][..]));
-/// # Ok::<(), ModuleFault>(())
+/// # Ok::<(), dolzhytik::reader::ModuleFault>(())
 /// ```
 ///
 /// # Proved
 ///
-/// After `Ok`: `ok`. After an error: `err`, the bytes of the sink are unchanged; `why`. `ok`: The buffer gains the header and the output for each section: its minimal encoding, or its bytes unchanged if they do not decode by its kind. `kept` counts the unchanged ones. With `Refuse` every section keeps its offsets, and with `LeaveOut` exactly the sections that hold offsets are left out. The output is a module with the ids of the sections that are not left out, and is no longer than the input. `why`: The meaning of an error. Either the section of this number is the first that is malformed, whatever its payload, and the bytes are not a module. Or the section of this number loses its offsets. `Memory` means nothing about the bytes.
+/// - After `Ok`, `ok`: The buffer gains the header and the output for each section: its minimal encoding, or its bytes unchanged if they do not decode by its kind. The result counts the unchanged ones. With `Refuse` every section keeps its offsets, and with `LeaveOut` exactly the sections that hold offsets are left out. The output is a module with the ids of the sections that are not left out, and is no longer than the input.
+/// - After an error, `err`: the bytes of the sink are unchanged.
+/// - After an error, `why`: The meaning of an error. Either the section of this number is the first that is malformed, whatever its payload, and the bytes are not a module. Or the section of this number loses its offsets. `Memory` means nothing about the bytes.
 ///
 /// ```text
 /// ensures ok { IfOk result

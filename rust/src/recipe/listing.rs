@@ -71,7 +71,8 @@ fn without_end(text: &[u8]) -> &[u8] {
 ///
 /// # Proved
 ///
-/// After `Ok`: `bytes`. After an error: `usage`. `bytes`: The text is the hexadecimal digits of the bytes, and blanks may follow.
+/// - After `Ok`, `bytes`: The text is the hexadecimal digits of the bytes, and blanks may follow.
+/// - After an error: `usage`.
 ///
 /// ```text
 /// ensures bytes { IfOk result (λ bytes. IsHexText text.now bytes.items) }
@@ -93,7 +94,8 @@ fn hex_bytes<A: Allocator>(alloc: A, text: &[u8]) -> Result<Vec<u8, A>, Trouble>
 ///
 /// # Proved
 ///
-/// After `Ok`: `listed`. After an error: `usage`. `listed`: The text is the hexadecimal text of a module, and these are the lines of its sections.
+/// - After `Ok`, `listed`: The text is the hexadecimal text of a module, and these are the lines of its sections.
+/// - After an error: `usage`.
 ///
 /// ```text
 /// ensures listed { IfOk result (λ lines. Lists text.now (string_bytes lines)) }

@@ -627,7 +627,9 @@ impl<A: Allocator + Copy> Recipe<A> {
     ///
     /// # Proved
     ///
-    /// After `Ok`: `ok`; `was_encodable`. In any case: `too_long`. `was_encodable`: The items fit their sections.
+    /// - After `Ok`: `ok`.
+    /// - After `Ok`, `was_encodable`: The items fit their sections.
+    /// - In any case: `too_long`.
     ///
     /// ```text
     /// ensures ok { IfOk result (λ bytes. bytes.items ≡ module_encoding (listed self.now)) }
@@ -709,7 +711,10 @@ impl<A: Allocator + Copy> Recipe<A> {
 ///
 /// # Proved
 ///
-/// After `Ok`: `good`; `was_encodable`; `value`; `read`. After an error: `fault`. `was_encodable`: Every count and size that the module needs is at most 2^32 - 1. `read`: As `DecodesUniquely`, for a format that takes all of the bytes: `encoding` as a whole decodes to `x` alone. `fault`: The error names a line, or 0 after the last one, and the cause. No line before it has an error.
+/// - After `Ok`: `good`, `value`.
+/// - After `Ok`, `was_encodable`: Every count and size that the module needs is at most 2^32 - 1.
+/// - After `Ok`, `read`: The result is the only minimal encoding of these sections. In every mode, all of its bytes decode to them alone.
+/// - After an error, `fault`: The error names a line, or 0 after the last one, and the cause. No line before it has an error.
 ///
 /// ```text
 /// ensures good { OnOk result (All (IsGood First) (lines_of lines.now)) }
@@ -767,7 +772,10 @@ pub fn assemble<A: Allocator + Copy>(alloc: A, lines: &str) -> Result<Vec<u8, A>
 ///
 /// # Proved
 ///
-/// After `Ok`: `good`; `used`; `was_encodable`; `value`; `read`. After an error: `fault`. `was_encodable`: Every count and size that the module needs is at most 2^32 - 1. `read`: As `DecodesUniquely`, for a format that takes all of the bytes: `encoding` as a whole decodes to `x` alone. `fault`: The error names a line, or 0 after the last one, and the cause. No line before it has an error.
+/// - After `Ok`: `good`, `used`, `value`.
+/// - After `Ok`, `was_encodable`: Every count and size that the module needs is at most 2^32 - 1.
+/// - After `Ok`, `read`: The result is the only minimal encoding of these sections. In every mode, all of its bytes decode to them alone.
+/// - After an error, `fault`: The error names a line, or 0 after the last one, and the cause. No line before it has an error.
 ///
 /// ```text
 /// ensures good { OnOk result

@@ -52,33 +52,31 @@ pub trait ItemKind: Kind {
 /// # Examples
 ///
 /// ```
-/// use dolzhytik::fallible::{Global, Refused, TagKind, TagSection, TagType, add_all};
+/// use dolzhytik::fallible::{Global, TagKind, TagSection, TagType, add_all};
 ///
 /// let tag = |func_type_idx| TagType { kind: TagKind::Exception, func_type_idx };
 /// let mut tags = TagSection::new(Global);
 /// add_all(&mut tags, &[tag(5), tag(6)])?;
 /// assert_eq!(tags.len(), 2);
-/// # Ok::<(), (usize, Refused)>(())
+/// # Ok::<(), (usize, dolzhytik::fallible::Refused)>(())
 /// ```
 pub trait RecordOf<K>: Encode {}
 
 /// A section of counted items of the kind `K`, modelled as the bytes of each entry.
+///
+/// It is the builder of core sections, such as
+/// [`ExportSection`](crate::fallible::ExportSection). The calls that add items are those of the
+/// kind `K`.
 ///
 /// # Errors
 ///
 /// An adding call that returns an error leaves the section unchanged. The error is `TooLong` only
 /// if the section is full or the item does not fit, and `Memory` only if an allocation fails.
 ///
-/// It is the builder of core sections, such as
-/// [`ExportSection`](crate::fallible::ExportSection). The calls that add items are those of the
-/// kind `K`.
-///
 /// # Examples
 ///
 /// ```
-/// use dolzhytik::fallible::{
-///     CountedSection, ExportKind, ExportSection, Global, Refused,
-/// };
+/// use dolzhytik::fallible::{CountedSection, ExportKind, ExportSection, Global};
 ///
 /// /// Returns whether a section of any kind has entries.
 /// fn has_entries<K>(section: &CountedSection<K>) -> bool {
@@ -90,7 +88,7 @@ pub trait RecordOf<K>: Encode {}
 /// assert!(has_entries(&exports));
 /// // The entry: a name of one byte, the kind 0, the index 0.
 /// assert_eq!(exports.piece(0), Some(&[1, b'f', 0, 0][..]));
-/// # Ok::<(), Refused>(())
+/// # Ok::<(), dolzhytik::fallible::Refused>(())
 /// ```
 #[derive(Debug)]
 pub struct CountedSection<K, A: Allocator = Global> {
@@ -161,7 +159,7 @@ impl<K, A: Allocator> CountedSection<K, A> {
     ///
     /// # Asks
     ///
-    /// Each iterator in the value ends, and yields as many items as it reports: the impl says so by `lawful`.
+    /// Each iterator in the value ends, and yields as many items as it reports: the impl says so by `lawful`. [What happens otherwise](crate::fallible#what-is-asked).
     ///
     /// ```text
     /// requires { T.lawful item }

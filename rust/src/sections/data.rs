@@ -50,7 +50,7 @@ pub struct DataItems;
 ///
 /// ```
 /// use dolzhytik::fallible::{
-///     ConstExpr, DataSection, DataSegment, DataSegmentMode, Global, Refused,
+///     ConstExpr, DataSection, DataSegment, DataSegmentMode, Global,
 /// };
 ///
 /// let offset = ConstExpr::i32_const(Global, 8)?;
@@ -59,7 +59,7 @@ pub struct DataItems;
 /// section.segment(DataSegment { mode, bytes: *b"hi" })?;
 /// // Active in memory 0: 0. i32.const 8 and end: 41 08 0B. Two bytes.
 /// assert_eq!(section.piece(0), Some(&[0, 0x41, 8, 0x0B, 2, b'h', b'i'][..]));
-/// # Ok::<(), Refused>(())
+/// # Ok::<(), dolzhytik::fallible::Refused>(())
 /// ```
 #[derive(Debug)]
 pub enum DataSegmentMode<'a, A: Allocator = Global> {
@@ -81,16 +81,14 @@ pub enum DataSegmentMode<'a, A: Allocator = Global> {
 /// # Examples
 ///
 /// ```
-/// use dolzhytik::fallible::{
-///     DataSection, DataSegment, DataSegmentMode, Global, Refused,
-/// };
+/// use dolzhytik::fallible::{DataSection, DataSegment, DataSegmentMode, Global};
 ///
 /// let mut section = DataSection::new(Global);
 /// let mode: DataSegmentMode<'_> = DataSegmentMode::Passive;
 /// section.segment(DataSegment { mode, bytes: *b"hi" })?;
 /// // Passive: 1. Two bytes.
 /// assert_eq!(section.piece(0), Some(&[1, 2, b'h', b'i'][..]));
-/// # Ok::<(), Refused>(())
+/// # Ok::<(), dolzhytik::fallible::Refused>(())
 /// ```
 #[derive(Debug)]
 pub struct DataSegment<'a, D, A: Allocator = Global> {
@@ -198,7 +196,7 @@ impl<A: Allocator> DataSection<A> {
     ///
     /// # Asks
     ///
-    /// The iterator ends, and yields as many items as it reports.
+    /// The iterator ends, and yields as many items as it reports. [What happens otherwise](crate::fallible#what-is-asked).
     ///
     /// ```text
     /// requires { HasKnownLength D.into_iter_gives D.IntoIter.can_next D.IntoIter.next_gives
@@ -247,7 +245,7 @@ impl<A: Allocator> DataSection<A> {
     /// # Examples
     ///
     /// ```
-    /// use dolzhytik::fallible::{ConstExpr, DataSection, Global, Refused};
+    /// use dolzhytik::fallible::{ConstExpr, DataSection, Global};
     ///
     /// let offset = ConstExpr::i32_const(Global, 8)?;
     /// let mut section = DataSection::new(Global);
@@ -256,12 +254,12 @@ impl<A: Allocator> DataSection<A> {
     /// // In memory 0: 0. In another memory: 2, and its index. i32.const 8 and end. Two bytes.
     /// assert_eq!(section.piece(0), Some(&[0, 0x41, 8, 0x0B, 2, b'h', b'i'][..]));
     /// assert_eq!(section.piece(1), Some(&[2, 1, 0x41, 8, 0x0B, 2, b'h', b'i'][..]));
-    /// # Ok::<(), Refused>(())
+    /// # Ok::<(), dolzhytik::fallible::Refused>(())
     /// ```
     ///
     /// # Asks
     ///
-    /// The iterator ends, and yields as many items as it reports.
+    /// The iterator ends, and yields as many items as it reports. [What happens otherwise](crate::fallible#what-is-asked).
     ///
     /// ```text
     /// requires { HasKnownLength D.into_iter_gives D.IntoIter.can_next D.IntoIter.next_gives
@@ -309,18 +307,18 @@ impl<A: Allocator> DataSection<A> {
     /// # Examples
     ///
     /// ```
-    /// use dolzhytik::fallible::{DataSection, Global, Refused};
+    /// use dolzhytik::fallible::{DataSection, Global};
     ///
     /// let mut section = DataSection::new(Global);
     /// section.passive(*b"hi")?;
     /// // Passive: 1. Two bytes.
     /// assert_eq!(section.piece(0), Some(&[1, 2, b'h', b'i'][..]));
-    /// # Ok::<(), Refused>(())
+    /// # Ok::<(), dolzhytik::fallible::Refused>(())
     /// ```
     ///
     /// # Asks
     ///
-    /// The iterator ends, and yields as many items as it reports.
+    /// The iterator ends, and yields as many items as it reports. [What happens otherwise](crate::fallible#what-is-asked).
     ///
     /// ```text
     /// requires { HasKnownLength D.into_iter_gives D.IntoIter.can_next D.IntoIter.next_gives
@@ -371,7 +369,7 @@ impl<A: Allocator> DataSection<A> {
     ///
     /// # Asks
     ///
-    /// The iterator ends, and yields as many items as it reports.
+    /// The iterator ends, and yields as many items as it reports. [What happens otherwise](crate::fallible#what-is-asked).
     ///
     /// ```text
     /// requires length { HasKnownLength D.into_iter_gives D.IntoIter.can_next
@@ -452,13 +450,13 @@ impl<'a, A: Allocator + Copy, G: Grammar> Readable<'a, A, G> for Bytes<'a> {
 ///
 /// ```
 /// use dolzhytik::fallible::Global;
-/// use dolzhytik::reader::{DecodeError, Padded, Readable, Segment};
+/// use dolzhytik::reader::{Padded, Readable, Segment};
 ///
 /// // Active in memory 0: 0. i32.const 8 and end. Two bytes.
 /// let bytes = [0, 0x41, 8, 0x0B, 2, b'h', b'i'];
 /// let (segment, _) = <Segment as Readable<Global, Padded>>::read(&bytes, Global)?;
 /// assert!(matches!(segment, Segment::Active { memory: 0, bytes: b"hi", .. }));
-/// # Ok::<(), DecodeError>(())
+/// # Ok::<(), dolzhytik::reader::DecodeError>(())
 /// ```
 #[derive(Debug)]
 pub enum Segment<'a, A: Allocator = Global> {
@@ -574,12 +572,12 @@ impl<'a, A: Allocator + Copy, G: Grammar> Readable<'a, A, G> for Segment<'a, A> 
 ///
 /// ```
 /// use dolzhytik::fallible::{Global, read_segments};
-/// use dolzhytik::reader::{DecodeError, Padded, Segment};
+/// use dolzhytik::reader::{Padded, Segment};
 ///
 /// // One segment: passive (1), two bytes.
 /// let segments = read_segments::<Global, Padded>(b"\x01\x01\x02hi", Global)?;
 /// assert!(matches!(segments[..], [Segment::Passive { bytes: b"hi" }]));
-/// # Ok::<(), DecodeError>(())
+/// # Ok::<(), dolzhytik::reader::DecodeError>(())
 /// ```
 ///
 /// # Proved
@@ -606,7 +604,9 @@ pub fn read_segments<'a, A: Allocator + Copy + 'a, G: Grammar>(
 ///
 /// # Proved
 ///
-/// After `Ok`: `ok`, the sink gains the minimal encoding. In any case: `front`; `too_long`, a value that has an encoding never gives `TooLong`. `front`: The new bytes begin with the old ones.
+/// - After `Ok`, `ok`: the sink gains the minimal encoding.
+/// - `front`: The new bytes begin with the old ones.
+/// - `too_long`: a value that has an encoding never gives `TooLong`.
 ///
 /// ```text
 /// ensures ok { OnOk result
@@ -631,7 +631,9 @@ fn append_placed<A: Allocator, B: Sink>(
 ///
 /// # Proved
 ///
-/// After `Ok`: `ok`, the sink gains the minimal encoding. In any case: `front`; `too_long`, a value that has an encoding never gives `TooLong`. `front`: The new bytes begin with the old ones.
+/// - After `Ok`, `ok`: the sink gains the minimal encoding.
+/// - `front`: The new bytes begin with the old ones.
+/// - `too_long`: a value that has an encoding never gives `TooLong`.
 ///
 /// ```text
 /// ensures ok { OnOk result

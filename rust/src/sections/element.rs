@@ -50,13 +50,13 @@ pub struct ElementItems;
 /// # Examples
 ///
 /// ```
-/// use dolzhytik::fallible::{CowSlice, ElementSection, Elements, Global, Refused};
+/// use dolzhytik::fallible::{CowSlice, ElementSection, Elements, Global};
 ///
 /// let mut section = ElementSection::new(Global);
 /// section.passive::<Global>(Elements::Functions(CowSlice::Borrowed(&[5, 6])))?;
-/// // Passive, of functions: 1 and 0. Two indices.
+/// // Passive: flag 1. The kind 0: functions. Two indices.
 /// assert_eq!(section.piece(0), Some(&[1, 0, 2, 5, 6][..]));
-/// # Ok::<(), Refused>(())
+/// # Ok::<(), dolzhytik::fallible::Refused>(())
 /// ```
 #[derive(Debug)]
 pub enum Elements<'a, A: Allocator = Global> {
@@ -75,7 +75,7 @@ pub enum Elements<'a, A: Allocator = Global> {
 /// ```
 /// use dolzhytik::fallible::{
 ///     ConstExpr, CowSlice, ElementMode, ElementSection, ElementSegment, Elements,
-///     Global, Refused,
+///     Global,
 /// };
 ///
 /// let offset = ConstExpr::i32_const(Global, 3)?;
@@ -85,7 +85,7 @@ pub enum Elements<'a, A: Allocator = Global> {
 /// section.segment(ElementSegment { mode, elements })?;
 /// // Active in table 0: 0. i32.const 3 and end: 41 03 0B. One index.
 /// assert_eq!(section.piece(0), Some(&[0, 0x41, 3, 0x0B, 1, 5][..]));
-/// # Ok::<(), Refused>(())
+/// # Ok::<(), dolzhytik::fallible::Refused>(())
 /// ```
 #[derive(Debug)]
 pub enum ElementMode<'a, A: Allocator = Global> {
@@ -113,7 +113,6 @@ pub enum ElementMode<'a, A: Allocator = Global> {
 /// ```
 /// use dolzhytik::fallible::{
 ///     CowSlice, ElementMode, ElementSection, ElementSegment, Elements, Global,
-///     Refused,
 /// };
 ///
 /// let elements: Elements<'_> = Elements::Functions(CowSlice::Borrowed(&[5]));
@@ -121,7 +120,7 @@ pub enum ElementMode<'a, A: Allocator = Global> {
 /// section.segment(ElementSegment { mode: ElementMode::Declared, elements })?;
 /// // Declared, of functions: 3 and 0. One index.
 /// assert_eq!(section.piece(0), Some(&[3, 0, 1, 5][..]));
-/// # Ok::<(), Refused>(())
+/// # Ok::<(), dolzhytik::fallible::Refused>(())
 /// ```
 #[derive(Debug)]
 pub struct ElementSegment<'a, A: Allocator = Global> {
@@ -456,14 +455,13 @@ impl<A: Allocator> ElementSection<A> {
     ///
     /// ```
     /// use dolzhytik::fallible::{ConstExpr, CowSlice, ElementSection, Elements, Global};
-    /// use dolzhytik::fallible::Refused;
     ///
     /// let offset = ConstExpr::i32_const(Global, 3)?;
     /// let mut section = ElementSection::new(Global);
     /// section.active(None, &offset, Elements::Functions(CowSlice::Borrowed(&[5])))?;
     /// // In table 0: 0. i32.const 3 and end. One function, 5.
     /// assert_eq!(section.piece(0), Some(&[0, 0x41, 3, 0x0B, 1, 5][..]));
-    /// # Ok::<(), Refused>(())
+    /// # Ok::<(), dolzhytik::fallible::Refused>(())
     /// ```
     ///
     /// # Proved

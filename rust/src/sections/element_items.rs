@@ -81,15 +81,13 @@ impl<'a, A: Allocator + Copy, G: Grammar> Readable<'a, A, G> for ElementFlag {
 ///
 /// ```
 /// use dolzhytik::fallible::Global;
-/// use dolzhytik::reader::{
-///     DecodeError, ElementItem, ElementItemMode, Padded, Readable,
-/// };
+/// use dolzhytik::reader::{ElementItem, ElementItemMode, Padded, Readable};
 ///
 /// // Active in table 0: 0. i32.const 3 and end. One index.
 /// let bytes = [0, 0x41, 3, 0x0B, 1, 5];
 /// let (item, _) = <ElementItem as Readable<Global, Padded>>::read(&bytes, Global)?;
 /// assert!(matches!(item.mode, ElementItemMode::Active { table: None, .. }));
-/// # Ok::<(), DecodeError>(())
+/// # Ok::<(), dolzhytik::reader::DecodeError>(())
 /// ```
 #[derive(Debug)]
 pub enum ElementItemMode<A: Allocator = Global> {
@@ -114,7 +112,7 @@ pub enum ElementItemMode<A: Allocator = Global> {
 ///
 /// ```
 /// use dolzhytik::fallible::{Global, RefType};
-/// use dolzhytik::reader::{DecodeError, ElementItem, ElementList, Padded, Readable};
+/// use dolzhytik::reader::{ElementItem, ElementList, Padded, Readable};
 ///
 /// // Passive, of expressions: 5. funcref: 70. One expression: ref.func 7, end.
 /// let bytes = [5, 0x70, 1, 0xD2, 7, 0x0B];
@@ -123,7 +121,7 @@ pub enum ElementItemMode<A: Allocator = Global> {
 ///     panic!("functions")
 /// };
 /// assert_eq!((ty, expressions.len()), (RefType::FUNCREF, 1));
-/// # Ok::<(), DecodeError>(())
+/// # Ok::<(), dolzhytik::reader::DecodeError>(())
 /// ```
 #[derive(Debug)]
 pub enum ElementList<A: Allocator = Global> {
@@ -142,10 +140,10 @@ pub enum ElementList<A: Allocator = Global> {
 /// ```
 /// use dolzhytik::fallible::Global;
 /// use dolzhytik::reader::{
-///     DecodeError, ElementItem, ElementItemMode, ElementList, Padded, Readable,
+///     ElementItem, ElementItemMode, ElementList, Padded, Readable,
 /// };
 ///
-/// // Passive, of functions: 1 and 0. Two indices.
+/// // Passive: flag 1. The kind 0: functions. Two indices.
 /// let bytes = [1, 0, 2, 5, 6];
 /// let (item, _) = <ElementItem as Readable<Global, Padded>>::read(&bytes, Global)?;
 /// assert!(matches!(item.mode, ElementItemMode::Passive));
@@ -153,7 +151,7 @@ pub enum ElementList<A: Allocator = Global> {
 ///     panic!("expressions")
 /// };
 /// assert_eq!(functions[..], [5, 6]);
-/// # Ok::<(), DecodeError>(())
+/// # Ok::<(), dolzhytik::reader::DecodeError>(())
 /// ```
 #[derive(Debug)]
 pub struct ElementItem<A: Allocator = Global> {
@@ -331,7 +329,9 @@ impl<'a, A: Allocator + Copy, G: Grammar> Readable<'a, A, G> for ElementItem<A> 
 ///
 /// # Proved
 ///
-/// After `Ok`: `ok`, the sink gains the minimal encoding. In any case: `front`; `too_long`, a value that has an encoding never gives `TooLong`. `front`: The new bytes begin with the old ones.
+/// - After `Ok`, `ok`: the sink gains the minimal encoding.
+/// - `front`: The new bytes begin with the old ones.
+/// - `too_long`: a value that has an encoding never gives `TooLong`.
 ///
 /// ```text
 /// ensures ok { OnOk result
@@ -359,7 +359,9 @@ fn append_functions<A: Allocator, B: Sink>(
 ///
 /// # Proved
 ///
-/// After `Ok`: `ok`, the sink gains the minimal encoding. In any case: `front`; `too_long`, a value that has an encoding never gives `TooLong`. `front`: The new bytes begin with the old ones.
+/// - After `Ok`, `ok`: the sink gains the minimal encoding.
+/// - `front`: The new bytes begin with the old ones.
+/// - `too_long`: a value that has an encoding never gives `TooLong`.
 ///
 /// ```text
 /// ensures ok { OnOk result
@@ -389,7 +391,9 @@ fn append_expressions<A: Allocator, B: Sink>(
 ///
 /// # Proved
 ///
-/// After `Ok`: `ok`, the sink gains the minimal encoding. In any case: `front`; `too_long`, a value that has an encoding never gives `TooLong`. `front`: The new bytes begin with the old ones.
+/// - After `Ok`, `ok`: the sink gains the minimal encoding.
+/// - `front`: The new bytes begin with the old ones.
+/// - `too_long`: a value that has an encoding never gives `TooLong`.
 ///
 /// ```text
 /// ensures ok { OnOk result
@@ -448,7 +452,9 @@ impl<A: Allocator> ElementItem<A> {
     ///
     /// # Proved
     ///
-    /// After `Ok`: `ok`, the sink gains the minimal encoding. In any case: `front`; `too_long`, a value that has an encoding never gives `TooLong`. `front`: The new bytes begin with the old ones.
+    /// - After `Ok`, `ok`: the sink gains the minimal encoding.
+    /// - `front`: The new bytes begin with the old ones.
+    /// - `too_long`: a value that has an encoding never gives `TooLong`.
     ///
     /// ```text
     /// ensures ok { OnOk result
@@ -473,7 +479,9 @@ impl<A: Allocator> ElementItem<A> {
 ///
 /// # Proved
 ///
-/// After `Ok`: `ok`, the sink gains the minimal encoding. In any case: `front`; `too_long`, a value that has an encoding never gives `TooLong`. `front`: The new bytes begin with the old ones.
+/// - After `Ok`, `ok`: the sink gains the minimal encoding.
+/// - `front`: The new bytes begin with the old ones.
+/// - `too_long`: a value that has an encoding never gives `TooLong`.
 ///
 /// ```text
 /// ensures ok { OnOk result

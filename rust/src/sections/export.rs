@@ -46,12 +46,12 @@ pub struct ExportItems;
 /// # Examples
 ///
 /// ```
-/// use dolzhytik::fallible::{Encode, ExportKind, Refused};
+/// use dolzhytik::fallible::{Encode, ExportKind};
 ///
 /// let mut bytes = Vec::new();
 /// ExportKind::Memory.encode(&mut bytes)?;
 /// assert_eq!(bytes, [0x02]);
-/// # Ok::<(), Refused>(())
+/// # Ok::<(), dolzhytik::fallible::Refused>(())
 /// ```
 #[derive(Clone, Copy, PartialEq, Eq, Hash, Debug)]
 pub enum ExportKind {
@@ -75,14 +75,12 @@ pub enum ExportKind {
 /// # Examples
 ///
 /// ```
-/// use dolzhytik::fallible::{
-///     Export, ExportKind, ExportSection, Global, Refused, add_all,
-/// };
+/// use dolzhytik::fallible::{Export, ExportKind, ExportSection, Global, add_all};
 ///
 /// let mut exports = ExportSection::new(Global);
 /// add_all(&mut exports, &[Export { name: "f", kind: ExportKind::Func, index: 5 }])?;
 /// assert_eq!(exports.piece(0), Some(&[1, b'f', 0, 5][..]));
-/// # Ok::<(), (usize, Refused)>(())
+/// # Ok::<(), (usize, dolzhytik::fallible::Refused)>(())
 /// ```
 #[derive(Clone, Copy, Debug)]
 pub struct Export<'a> {

@@ -248,7 +248,7 @@ impl<'a, A: Allocator + Copy, G: Grammar> Readable<'a, A, G> for GlobalType {
 ///
 /// ```
 /// use dolzhytik::fallible::{Global, ValType};
-/// use dolzhytik::reader::{DecodeError, GlobalItem, Padded, Readable};
+/// use dolzhytik::reader::{GlobalItem, Padded, Readable};
 ///
 /// // i64 (7E), mutable (01). i64.const 7, end.
 /// let bytes = [0x7E, 1, 0x42, 7, 0x0B];
@@ -257,7 +257,7 @@ impl<'a, A: Allocator + Copy, G: Grammar> Readable<'a, A, G> for GlobalType {
 ///     (global.global_type.val_type, global.global_type.mutable),
 ///     (ValType::I64, true)
 /// );
-/// # Ok::<(), DecodeError>(())
+/// # Ok::<(), dolzhytik::reader::DecodeError>(())
 /// ```
 #[derive(Debug)]
 pub struct GlobalItem<A: Allocator = Global> {

@@ -52,7 +52,7 @@ pub struct ImportItems;
 /// # Examples
 ///
 /// ```
-/// use dolzhytik::fallible::{Encode, EntityType, GlobalType, Refused, ValType};
+/// use dolzhytik::fallible::{Encode, EntityType, GlobalType, ValType};
 ///
 /// let mut bytes = Vec::new();
 /// EntityType::Function(5).encode(&mut bytes)?;
@@ -60,7 +60,7 @@ pub struct ImportItems;
 /// EntityType::Global(ty).encode(&mut bytes)?;
 /// // A function: 00, its type. A global: 03, i64 (7E), mutable (01).
 /// assert_eq!(bytes, [0x00, 5, 0x03, 0x7E, 0x01]);
-/// # Ok::<(), Refused>(())
+/// # Ok::<(), dolzhytik::fallible::Refused>(())
 /// ```
 #[derive(Clone, Copy, PartialEq, Eq, Debug)]
 pub enum EntityType {
@@ -159,16 +159,14 @@ impl Encode for EntityType {
 /// # Examples
 ///
 /// ```
-/// use dolzhytik::fallible::{
-///     EntityType, Global, Import, ImportSection, Refused, add_all,
-/// };
+/// use dolzhytik::fallible::{EntityType, Global, Import, ImportSection, add_all};
 ///
 /// let import = Import { module: "m", name: "f", ty: EntityType::Function(5) };
 /// let mut imports = ImportSection::new(Global);
 /// add_all(&mut imports, &[import])?;
 /// // "m", "f", a function (00) of type 5.
 /// assert_eq!(imports.piece(0), Some(&b"\x01m\x01f\0\x05"[..]));
-/// # Ok::<(), (usize, Refused)>(())
+/// # Ok::<(), (usize, dolzhytik::fallible::Refused)>(())
 /// ```
 #[derive(Clone, Copy, Debug)]
 pub struct Import<'a> {
@@ -188,7 +186,7 @@ pub struct Import<'a> {
 ///
 /// ```
 /// use dolzhytik::fallible::{
-///     CowSlice, EntityType, Global, ImportCompact, ImportSection, Imports, Refused,
+///     CowSlice, EntityType, Global, ImportCompact, ImportSection, Imports,
 /// };
 ///
 /// let items = [ImportCompact { name: "f", ty: EntityType::Function(5) }];
@@ -199,7 +197,7 @@ pub struct Import<'a> {
 /// })?;
 /// // "m", an empty name and 7F, one item: "f", a function (00) of type 5.
 /// assert_eq!(imports.piece(0), Some(&b"\x01m\0\x7F\x01\x01f\0\x05"[..]));
-/// # Ok::<(), Refused>(())
+/// # Ok::<(), dolzhytik::fallible::Refused>(())
 /// ```
 #[derive(Clone, Copy, Debug)]
 pub struct ImportCompact<'a> {
@@ -219,7 +217,7 @@ pub struct ImportCompact<'a> {
 ///
 /// ```
 /// use dolzhytik::fallible::{
-///     CowSlice, EntityType, Global, ImportSection, Imports, Refused,
+///     CowSlice, EntityType, Global, ImportSection, Imports,
 /// };
 ///
 /// let mut imports = ImportSection::new(Global);
@@ -230,7 +228,7 @@ pub struct ImportCompact<'a> {
 /// })?;
 /// // "m", an empty name and 7E, a function (00) of type 0, two names.
 /// assert_eq!(imports.piece(0), Some(&b"\x01m\0\x7E\0\0\x02\x01a\x01b"[..]));
-/// # Ok::<(), Refused>(())
+/// # Ok::<(), dolzhytik::fallible::Refused>(())
 /// ```
 #[derive(Debug)]
 pub enum Imports<'a, A: Allocator = Global> {
@@ -388,13 +386,13 @@ impl<A: Allocator> ImportSection<A> {
     /// # Examples
     ///
     /// ```
-    /// use dolzhytik::fallible::{EntityType, Global, ImportSection, Refused};
+    /// use dolzhytik::fallible::{EntityType, Global, ImportSection};
     ///
     /// let mut imports = ImportSection::new(Global);
     /// imports.import("m", "f", EntityType::Function(5))?;
     /// // "m", "f", a function (00) of type 5.
     /// assert_eq!(imports.piece(0), Some(&b"\x01m\x01f\0\x05"[..]));
-    /// # Ok::<(), Refused>(())
+    /// # Ok::<(), dolzhytik::fallible::Refused>(())
     /// ```
     ///
     /// # Proved
@@ -593,7 +591,7 @@ impl<'a, A: Allocator + Copy, G: Grammar> Readable<'a, A, G> for Imports<'a, A> 
 ///
 /// ```
 /// use dolzhytik::fallible::{Global, Import, Imports, read_imports};
-/// use dolzhytik::reader::{DecodeError, Padded};
+/// use dolzhytik::reader::Padded;
 ///
 /// // One import: "m", "f", a function (00) of type 5.
 /// let imports = read_imports::<Global, Padded>(b"\x01\x01m\x01f\0\x05", Global)?;
@@ -601,7 +599,7 @@ impl<'a, A: Allocator + Copy, G: Grammar> Readable<'a, A, G> for Imports<'a, A> 
 ///     imports[..],
 ///     [Imports::Single(Import { module: "m", name: "f", .. })]
 /// ));
-/// # Ok::<(), DecodeError>(())
+/// # Ok::<(), dolzhytik::reader::DecodeError>(())
 /// ```
 ///
 /// # Proved
@@ -630,7 +628,9 @@ pub fn read_imports<'a, A: Allocator + Copy + 'a, G: Grammar>(
 ///
 /// # Proved
 ///
-/// After `Ok`: `ok`, the sink gains the minimal encoding. In any case: `front`; `too_long`, a value that has an encoding never gives `TooLong`. `front`: The new bytes begin with the old ones.
+/// - After `Ok`, `ok`: the sink gains the minimal encoding.
+/// - `front`: The new bytes begin with the old ones.
+/// - `too_long`: a value that has an encoding never gives `TooLong`.
 ///
 /// ```text
 /// ensures ok { OnOk result
@@ -665,15 +665,13 @@ fn write_imports<A: Allocator, B: Sink>(
 /// # Examples
 ///
 /// ```
-/// use dolzhytik::fallible::{
-///     EntityType, Global, Import, Imports, Refused, append_imports,
-/// };
+/// use dolzhytik::fallible::{EntityType, Global, Import, Imports, append_imports};
 ///
 /// let import = Import { module: "m", name: "f", ty: EntityType::Function(5) };
 /// let mut bytes = Vec::new();
 /// append_imports::<Global, _>(&[Imports::Single(import)], &mut bytes)?;
 /// assert_eq!(bytes, *b"\x01\x01m\x01f\0\x05");
-/// # Ok::<(), Refused>(())
+/// # Ok::<(), dolzhytik::fallible::Refused>(())
 /// ```
 ///
 /// # Proved

@@ -17,7 +17,8 @@ use crate::alloc::Allocator;
 ///
 /// # Proved
 ///
-/// `functions`, `tables`, `memories`, `globals`, `exports`, `elements`, `segments`, `tags`, `imports`, `entities`, `table_types`, `global_types`, `numbers`: A format whose encodings determine their own end is unambiguous in every mode, with encodings as `HasEncodings` states. `function_items`, `table_items`, `memory_items`, `global_items`, `export_items`, `element_items`, `data_items`, `import_items`, `tag_items`: The laws of a kind of items: the format is unambiguous, and a well-formed record whose size fits encodes its normal form.
+/// - `functions`, `tables`, `memories`, `globals`, `exports`, `elements`, `segments`, `tags`, `imports`, `entities`, `table_types`, `global_types`, `numbers`: A format whose encodings determine their own end is unambiguous in every mode, with encodings as `HasEncodings` states.
+/// - `function_items`, `table_items`, `memory_items`, `global_items`, `export_items`, `element_items`, `data_items`, `import_items`, `tag_items`: The laws of a kind of items: the format is unambiguous, and a well-formed record whose size fits encodes its normal form.
 ///
 /// ```text
 /// ensures functions { Unambiguous (counted_format u32_format) }
@@ -149,7 +150,7 @@ pub fn given_elements<A: Allocator>() {}
 ///
 /// # Proved
 ///
-/// `functions`, `tables`, `memories`, `globals`, `exports`, `elements`, `segments`, `imports`, `tags`, `numbers`: If size-prefixed bytes decode to `x` alone, their payload decodes to `x` alone.
+/// `functions`, `tables`, `memories`, `globals`, `exports`, `elements`, `segments`, `imports`, `tags`, `numbers`: If size-prefixed bytes decode to one value alone, their payload decodes to it alone.
 ///
 /// ```text
 /// ensures functions { DecodesPayloads (vec u32_format) }
@@ -171,7 +172,7 @@ pub fn payloads() {}
 ///
 /// # Proved
 ///
-/// `functions`, `tables`, `memories`, `globals`, `exports`, `elements`, `segments`, `imports`, `tags`, `numbers`: As `DecodesPayloads`, for padded LEB128.
+/// `functions`, `tables`, `memories`, `globals`, `exports`, `elements`, `segments`, `imports`, `tags`, `numbers`: If size-prefixed bytes decode to one value alone, with padding allowed, so does their payload.
 ///
 /// ```text
 /// ensures functions { DecodesPayloadsPadded (vec u32_format) }
@@ -215,7 +216,8 @@ pub fn rejections() {}
 ///
 /// # Proved
 ///
-/// `plain`: The export is well-formed: its name is UTF-8, and its index is below 2^32.
+/// - `plain`: The export is well-formed: its name is UTF-8, and its index is below 2^32.
+/// - In any case: `index`.
 ///
 /// ```text
 /// ensures plain { IsExport export.now }

@@ -101,7 +101,7 @@ impl MemoryType {
     ///
     /// # Asks
     ///
-    /// A page has less than 2^32 bytes.
+    /// A page has less than 2^32 bytes. [What happens otherwise](crate::fallible#what-is-asked).
     ///
     /// ```text
     /// requires { page_exponent self.now.page_size_log2 < 32 }

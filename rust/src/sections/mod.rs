@@ -22,17 +22,28 @@ pub(crate) mod table;
 pub(crate) mod tag;
 
 pub use counted_section::{CountedSection, ItemKind, RecordOf};
-pub use data::{DataItems, DataSection, DataSegment, DataSegmentMode, Segment, read_segments};
+pub use data::{DataItems, DataSection, DataSegment, DataSegmentMode, read_segments};
+pub(crate) use data::Segment;
 pub use element::{ElementItems, ElementMode, ElementSection, ElementSegment, Elements};
-pub use element_items::{ElementItem, ElementItemMode, ElementList};
+pub(crate) use element_items::{ElementItem, ElementItemMode, ElementList};
 pub use export::{Export, ExportItems, ExportKind, ExportSection};
 pub use function::{FunctionItems, FunctionSection};
-pub use global::{GlobalItem, GlobalItems, GlobalSection, GlobalType};
+pub use global::{GlobalItems, GlobalSection, GlobalType};
+pub(crate) use global::GlobalItem;
 pub use import::{
     EntityType, Import, ImportCompact, ImportItems, ImportSection, Imports, append_imports,
     read_imports,
 };
 pub use memory::{MemoryItems, MemorySection, MemoryType};
 pub use start::{DataCountSection, StartSection};
-pub use table::{TableItem, TableItems, TableSection, TableType};
+pub use table::{TableItems, TableSection, TableType};
+pub(crate) use table::TableItem;
 pub use tag::{TagItems, TagKind, TagSection, TagType};
+
+/// The names that decode, which `reader` exports.
+pub(crate) mod reading {
+    pub use super::data::Segment;
+    pub use super::element_items::{ElementItem, ElementItemMode, ElementList};
+    pub use super::global::GlobalItem;
+    pub use super::table::TableItem;
+}

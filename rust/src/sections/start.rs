@@ -51,7 +51,8 @@ pub struct DataCountSection {
 ///
 /// # Proved
 ///
-/// After `Ok`: `read`. In any case: `appends`. `appends`: The call appends the encoding, or returns an error and leaves the bytes as they were. If the value fits, the call never returns `TooLong`, and it succeeds within the spare capacity. `read`: The headline of a section: `encoding` is the one minimal encoding of any items that satisfy `Says`, and decodes to them alone.
+/// - After `Ok`, `read`: The encoding is the only minimal one of these items, and decodes to them alone.
+/// - `appends`: The call appends the encoding, or returns an error and leaves the bytes as they were. If the value fits, the call never returns `TooLong`, and it succeeds within the spare capacity.
 ///
 /// ```text
 /// ensures appends { Appends (size_prefixed_encoding (unsigned_encoding number))

@@ -200,7 +200,7 @@ impl<A: Allocator> TableSection<A> {
     /// # Examples
     ///
     /// ```
-    /// use dolzhytik::fallible::{ConstExpr, Global, HeapType, RefType, Refused};
+    /// use dolzhytik::fallible::{ConstExpr, Global, HeapType, RefType};
     /// use dolzhytik::fallible::{TableSection, TableType};
     ///
     /// let table_type = TableType {
@@ -215,7 +215,7 @@ impl<A: Allocator> TableSection<A> {
     /// // 40 00; funcref (70), no maximum (0), at least 3 elements; ref.null func (D0 70), end.
     /// let expected = [0x40, 0x00, 0x70, 0, 3, 0xD0, 0x70, 0x0B];
     /// assert_eq!(tables.piece(0), Some(&expected[..]));
-    /// # Ok::<(), Refused>(())
+    /// # Ok::<(), dolzhytik::fallible::Refused>(())
     /// ```
     ///
     /// # Proved
@@ -318,7 +318,7 @@ pub(crate) const BEFORE_INIT: [u8; 2] = [0x40, 0x00];
 ///
 /// ```
 /// use dolzhytik::fallible::{Global, RefType};
-/// use dolzhytik::reader::{DecodeError, Padded, Readable, TableItem};
+/// use dolzhytik::reader::{Padded, Readable, TableItem};
 ///
 /// // funcref (70). No maximum: 0. At least 3 elements.
 /// let (table, _) =
@@ -328,7 +328,7 @@ pub(crate) const BEFORE_INIT: [u8; 2] = [0x40, 0x00];
 ///     (RefType::FUNCREF, 3)
 /// );
 /// assert!(table.init.is_none());
-/// # Ok::<(), DecodeError>(())
+/// # Ok::<(), dolzhytik::reader::DecodeError>(())
 /// ```
 #[derive(Debug)]
 pub struct TableItem<A: Allocator = Global> {

@@ -46,13 +46,13 @@ pub struct TagItems;
 /// # Examples
 ///
 /// ```
-/// use dolzhytik::fallible::{Global, Refused, TagKind, TagSection, TagType};
+/// use dolzhytik::fallible::{Global, TagKind, TagSection, TagType};
 ///
 /// let mut tags = TagSection::new(Global);
 /// tags.tag(TagType { kind: TagKind::Exception, func_type_idx: 5 })?;
 /// // An exception (00) of type 5.
 /// assert_eq!(tags.piece(0), Some(&[0x00, 5][..]));
-/// # Ok::<(), Refused>(())
+/// # Ok::<(), dolzhytik::fallible::Refused>(())
 /// ```
 #[derive(Clone, Copy, PartialEq, Eq, Debug)]
 pub enum TagKind {
@@ -68,13 +68,13 @@ pub enum TagKind {
 /// # Examples
 ///
 /// ```
-/// use dolzhytik::fallible::{Encode, Refused, TagKind, TagType};
+/// use dolzhytik::fallible::{Encode, TagKind, TagType};
 ///
 /// let mut bytes = Vec::new();
 /// TagType { kind: TagKind::Exception, func_type_idx: 5 }.encode(&mut bytes)?;
 /// // An exception (00) of type 5.
 /// assert_eq!(bytes, [0x00, 5]);
-/// # Ok::<(), Refused>(())
+/// # Ok::<(), dolzhytik::fallible::Refused>(())
 /// ```
 #[derive(Clone, Copy, PartialEq, Eq, Debug)]
 pub struct TagType {

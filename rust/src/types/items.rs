@@ -14,14 +14,14 @@ use crate::base::{DecodeError, Encode, Grammar, Layout, Lent, ReadFault, Readabl
 /// # Examples
 ///
 /// ```
-/// use dolzhytik::fallible::{Global, SubItem};
-/// use dolzhytik::reader::{DecodeError, Padded, Readable};
+/// use dolzhytik::fallible::Global;
+/// use dolzhytik::reader::{Padded, Readable, SubItem};
 ///
 /// // Not final: 50. One supertype, 5. A function without parameters and results.
 /// let bytes = [0x50, 1, 5, 0x60, 0, 0];
 /// let (ty, _) = <SubItem as Readable<Global, Padded>>::read(&bytes, Global)?;
 /// assert_eq!((ty.is_final, &ty.supertypes[..]), (false, &[5][..]));
-/// # Ok::<(), DecodeError>(())
+/// # Ok::<(), dolzhytik::reader::DecodeError>(())
 /// ```
 #[derive(Debug)]
 pub struct SubItem<A: Allocator = Global> {
@@ -41,14 +41,14 @@ pub struct SubItem<A: Allocator = Global> {
 ///
 /// ```
 /// use dolzhytik::fallible::Global;
-/// use dolzhytik::reader::{DecodeError, Padded, Readable, TypeEntry};
+/// use dolzhytik::reader::{Padded, Readable, TypeEntry};
 ///
 /// // A group (4E) of two functions without parameters and results.
 /// let bytes = [0x4E, 2, 0x60, 0, 0, 0x60, 0, 0];
 /// let (entry, _) = <TypeEntry as Readable<Global, Padded>>::read(&bytes, Global)?;
 /// let TypeEntry::Group(types) = entry else { panic!("one type") };
 /// assert_eq!(types.len(), 2);
-/// # Ok::<(), DecodeError>(())
+/// # Ok::<(), dolzhytik::reader::DecodeError>(())
 /// ```
 #[derive(Debug)]
 pub enum TypeEntry<A: Allocator = Global> {
@@ -62,7 +62,8 @@ pub enum TypeEntry<A: Allocator = Global> {
 ///
 /// # Proved
 ///
-/// After `Ok`: `found`. After an error: `none`, the bytes do not begin with such an encoding, unless the cause is `Memory`. `found`: `bytes` is an encoding of `x` in this mode, followed by `rest`.
+/// - After `Ok`, `found`: The bytes begin with such an encoding, and the remaining bytes follow it.
+/// - After an error, `none`: the bytes do not begin with such an encoding, unless the cause is `Memory`.
 ///
 /// ```text
 /// ensures found { IfOk result
@@ -87,7 +88,8 @@ fn read_supertypes_and<'a, A: Allocator + Copy, G: Grammar>(
 ///
 /// # Proved
 ///
-/// After `Ok`: `found`. After an error: `none`, the bytes do not begin with such an encoding, unless the cause is `Memory`. `found`: `bytes` is an encoding of `x` in this mode, followed by `rest`.
+/// - After `Ok`, `found`: The bytes begin with such an encoding, and the remaining bytes follow it.
+/// - After an error, `none`: the bytes do not begin with such an encoding, unless the cause is `Memory`.
 ///
 /// ```text
 /// ensures found { IfOk result

@@ -7,7 +7,8 @@
 ///
 /// # Proved
 ///
-/// `section`, `item`, `sub`, `composite`, `field`, `storage`: A format whose encodings determine their own end is unambiguous in every mode, with encodings as `HasEncodings` states. `items`: The laws of a kind of items: the format is unambiguous, and a well-formed record whose size fits encodes its normal form.
+/// - `section`, `item`, `sub`, `composite`, `field`, `storage`: A format whose encodings determine their own end is unambiguous in every mode, with encodings as `HasEncodings` states.
+/// - `items`: The laws of a kind of items: the format is unambiguous, and a well-formed record whose size fits encodes its normal form.
 ///
 /// ```text
 /// ensures section { Unambiguous (counted_format type_item) }
@@ -83,7 +84,7 @@ pub fn padded_calls() {}
 ///
 /// # Proved
 ///
-/// If size-prefixed bytes decode to `x` alone, their payload decodes to `x` alone.
+/// If size-prefixed bytes decode to one value alone, their payload decodes to it alone.
 ///
 /// ```text
 /// ensures { DecodesPayloads (vec type_item) }
@@ -96,7 +97,7 @@ pub fn payloads() {}
 ///
 /// # Proved
 ///
-/// As `DecodesPayloads`, for padded LEB128.
+/// If size-prefixed bytes decode to one value alone, with padding allowed, so does their payload.
 ///
 /// ```text
 /// ensures { DecodesPayloadsPadded (vec type_item) }

@@ -12,7 +12,7 @@ pub(crate) mod shapes;
 pub(crate) mod type_section;
 pub(crate) mod types;
 
-pub use items::{SubItem, TypeEntry};
+pub(crate) use items::{SubItem, TypeEntry};
 pub use type_section::{CoreTypeEncoder, TypeItems, append_types, read_types};
 #[doc(alias = "signature")]
 #[doc(alias = "rectype")]
@@ -20,3 +20,8 @@ pub use type_section::TypeSection;
 pub use types::{ArrayType, CompositeInnerType, CompositeType, ContType, FieldType, StorageType, StructType, SubType};
 #[doc(alias = "signature")]
 pub use types::FuncType;
+
+/// The names that decode, which `reader` exports.
+pub(crate) mod reading {
+    pub use super::items::{SubItem, TypeEntry};
+}

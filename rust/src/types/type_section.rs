@@ -249,13 +249,13 @@ impl<A: Allocator, B: Allocator> Counted<TypeEntry<B>> for TypeSection<A> {
 /// # Examples
 ///
 /// ```
-/// use dolzhytik::fallible::{Global, Refused, TypeSection, ValType};
+/// use dolzhytik::fallible::{Global, TypeSection, ValType};
 ///
 /// let mut types = TypeSection::new(Global);
 /// types.ty().function([ValType::I32], [])?;
 /// // A function: 60. One parameter, i32 (7F), and no results.
 /// assert_eq!(types.piece(0), Some(&[0x60, 1, 0x7F, 0][..]));
-/// # Ok::<(), Refused>(())
+/// # Ok::<(), dolzhytik::fallible::Refused>(())
 /// ```
 #[derive(Debug)]
 pub struct CoreTypeEncoder<'a, A: Allocator = Global> {
@@ -300,13 +300,13 @@ impl<'a, A: Allocator> CoreTypeEncoder<'a, A> {
     /// # Examples
     ///
     /// ```
-    /// use dolzhytik::fallible::{Global, Refused, StorageType, TypeSection};
+    /// use dolzhytik::fallible::{Global, StorageType, TypeSection};
     ///
     /// let mut types = TypeSection::new(Global);
     /// types.ty().array(&StorageType::I8, true)?;
     /// // An array: 5E. i8 (78), mutable (01).
     /// assert_eq!(types.piece(0), Some(&[0x5E, 0x78, 0x01][..]));
-    /// # Ok::<(), Refused>(())
+    /// # Ok::<(), dolzhytik::fallible::Refused>(())
     /// ```
     ///
     /// # Proved
@@ -340,13 +340,13 @@ impl<'a, A: Allocator> CoreTypeEncoder<'a, A> {
     /// # Examples
     ///
     /// ```
-    /// use dolzhytik::fallible::{ContType, Global, Refused, TypeSection};
+    /// use dolzhytik::fallible::{ContType, Global, TypeSection};
     ///
     /// let mut types = TypeSection::new(Global);
     /// types.ty().cont(&ContType(64))?;
     /// // A continuation: 5D. The index is signed LEB128: 64 is C0 00.
     /// assert_eq!(types.piece(0), Some(&[0x5D, 0xC0, 0x00][..]));
-    /// # Ok::<(), Refused>(())
+    /// # Ok::<(), dolzhytik::fallible::Refused>(())
     /// ```
     ///
     /// # Proved
@@ -401,7 +401,7 @@ impl<'a, A: Allocator> CoreTypeEncoder<'a, A> {
     ///
     /// # Asks
     ///
-    /// The iterator ends, and yields as many items as it reports.
+    /// The iterator ends, and yields as many items as it reports. [What happens otherwise](crate::fallible#what-is-asked).
     ///
     /// ```text
     /// requires params { HasKnownLength P.into_iter_gives P.IntoIter.can_next
@@ -451,18 +451,18 @@ impl<'a, A: Allocator> CoreTypeEncoder<'a, A> {
     /// # Examples
     ///
     /// ```
-    /// use dolzhytik::fallible::{FieldType, Global, Refused, StorageType, TypeSection};
+    /// use dolzhytik::fallible::{FieldType, Global, StorageType, TypeSection};
     ///
     /// let mut types = TypeSection::new(Global);
     /// types.ty().struct_([FieldType { element_type: StorageType::I16, mutable: false }])?;
     /// // A structure: 5F. One field, i16 (77), immutable (00).
     /// assert_eq!(types.piece(0), Some(&[0x5F, 1, 0x77, 0x00][..]));
-    /// # Ok::<(), Refused>(())
+    /// # Ok::<(), dolzhytik::fallible::Refused>(())
     /// ```
     ///
     /// # Asks
     ///
-    /// The iterator ends, and yields as many items as it reports.
+    /// The iterator ends, and yields as many items as it reports. [What happens otherwise](crate::fallible#what-is-asked).
     ///
     /// ```text
     /// requires { HasKnownLength F.into_iter_gives F.IntoIter.can_next F.IntoIter.next_gives
@@ -503,18 +503,18 @@ impl<'a, A: Allocator> CoreTypeEncoder<'a, A> {
     /// # Examples
     ///
     /// ```
-    /// use dolzhytik::fallible::{Global, Refused, SubType, TypeSection};
+    /// use dolzhytik::fallible::{Global, SubType, TypeSection};
     ///
     /// let mut types = TypeSection::new(Global);
     /// types.ty().rec::<[SubType; 0], Global>([])?;
     /// // A group of no types: 4E and the count.
     /// assert_eq!(types.piece(0), Some(&[0x4E, 0][..]));
-    /// # Ok::<(), Refused>(())
+    /// # Ok::<(), dolzhytik::fallible::Refused>(())
     /// ```
     ///
     /// # Asks
     ///
-    /// The iterator ends, and yields as many items as it reports.
+    /// The iterator ends, and yields as many items as it reports. [What happens otherwise](crate::fallible#what-is-asked).
     ///
     /// ```text
     /// requires { HasKnownLength T.into_iter_gives T.IntoIter.can_next T.IntoIter.next_gives
@@ -560,12 +560,12 @@ pub(crate) const REC: u8 = 0x4E;
 ///
 /// ```
 /// use dolzhytik::fallible::{Global, read_types};
-/// use dolzhytik::reader::{DecodeError, Padded, TypeEntry};
+/// use dolzhytik::reader::{Padded, TypeEntry};
 ///
 /// // One function without parameters and results.
 /// let types = read_types::<Global, Padded>(&[1, 0x60, 0, 0], Global)?;
 /// assert!(matches!(types[..], [TypeEntry::Single(_)]));
-/// # Ok::<(), DecodeError>(())
+/// # Ok::<(), dolzhytik::reader::DecodeError>(())
 /// ```
 ///
 /// # Proved
@@ -601,14 +601,14 @@ pub fn read_types<'a, A: Allocator + Copy, G: Grammar>(
 ///
 /// ```
 /// use dolzhytik::fallible::{Global, append_types, read_types};
-/// use dolzhytik::reader::{DecodeError, Padded};
+/// use dolzhytik::reader::Padded;
 ///
 /// // The count, 1, in two bytes; a function without parameters and results.
 /// let types = read_types::<Global, Padded>(&[0x81, 0x00, 0x60, 0, 0], Global)?;
 /// let mut bytes = vec![];
 /// append_types(&types, &mut bytes)?;
 /// assert_eq!(bytes, [1, 0x60, 0, 0]);
-/// # Ok::<(), DecodeError>(())
+/// # Ok::<(), dolzhytik::reader::DecodeError>(())
 /// ```
 ///
 /// # Proved

@@ -102,7 +102,7 @@ pub struct ContType(pub u32);
 /// # Examples
 ///
 /// ```
-/// use dolzhytik::fallible::{FuncType, Global, Refused, TypeSection, ValType};
+/// use dolzhytik::fallible::{FuncType, Global, TypeSection, ValType};
 ///
 /// let ty = FuncType::new(Global, [ValType::I32, ValType::I64], [ValType::F32])?;
 /// assert_eq!((ty.params().len(), ty.results()), (2, &[ValType::F32][..]));
@@ -111,7 +111,7 @@ pub struct ContType(pub u32);
 /// types.ty().func_type(&ty)?;
 /// // A function: 60. Parameters i32 (7F) and i64 (7E), the result f32 (7D).
 /// assert_eq!(types.piece(0), Some(&[0x60, 2, 0x7F, 0x7E, 1, 0x7D][..]));
-/// # Ok::<(), Refused>(())
+/// # Ok::<(), dolzhytik::fallible::Refused>(())
 /// ```
 #[derive(Debug)]
 pub struct FuncType<A: Allocator = Global> {
@@ -127,7 +127,7 @@ pub struct FuncType<A: Allocator = Global> {
 ///
 /// ```
 /// use dolzhytik::fallible::{
-///     Encode, FieldType, Global, Refused, StorageType, StructType, Vec,
+///     Encode, FieldType, Global, StorageType, StructType, Vec,
 /// };
 ///
 /// let field = FieldType { element_type: StorageType::I16, mutable: false };
@@ -136,7 +136,7 @@ pub struct FuncType<A: Allocator = Global> {
 /// ty.encode(&mut bytes)?;
 /// // A structure: 5F. One field, i16 (77), immutable (00).
 /// assert_eq!(bytes, [0x5F, 1, 0x77, 0x00]);
-/// # Ok::<(), Refused>(())
+/// # Ok::<(), dolzhytik::fallible::Refused>(())
 /// ```
 #[derive(Debug)]
 pub struct StructType<A: Allocator = Global> {
@@ -152,7 +152,7 @@ pub struct StructType<A: Allocator = Global> {
 ///
 /// ```
 /// use dolzhytik::fallible::{
-///     ArrayType, CompositeInnerType, Encode, FieldType, Refused, StorageType,
+///     ArrayType, CompositeInnerType, Encode, FieldType, StorageType,
 /// };
 ///
 /// let field = FieldType { element_type: StorageType::I8, mutable: true };
@@ -161,7 +161,7 @@ pub struct StructType<A: Allocator = Global> {
 /// ty.encode(&mut bytes)?;
 /// // An array: 5E. i8 (78), mutable (01).
 /// assert_eq!(bytes, [0x5E, 0x78, 0x01]);
-/// # Ok::<(), Refused>(())
+/// # Ok::<(), dolzhytik::fallible::Refused>(())
 /// ```
 #[derive(Debug)]
 pub enum CompositeInnerType<A: Allocator = Global> {
@@ -183,7 +183,7 @@ pub enum CompositeInnerType<A: Allocator = Global> {
 ///
 /// ```
 /// use dolzhytik::fallible::{
-///     CompositeInnerType, CompositeType, Encode, FuncType, Global, Refused,
+///     CompositeInnerType, CompositeType, Encode, FuncType, Global,
 /// };
 ///
 /// let inner = CompositeInnerType::Func(FuncType::new(Global, [], [])?);
@@ -192,7 +192,7 @@ pub enum CompositeInnerType<A: Allocator = Global> {
 /// ty.encode(&mut bytes)?;
 /// // A function without parameters and results.
 /// assert_eq!(bytes, [0x60, 0, 0]);
-/// # Ok::<(), Refused>(())
+/// # Ok::<(), dolzhytik::fallible::Refused>(())
 /// ```
 #[derive(Debug)]
 pub struct CompositeType<A: Allocator = Global> {
@@ -216,8 +216,7 @@ pub struct CompositeType<A: Allocator = Global> {
 ///
 /// ```
 /// use dolzhytik::fallible::{
-///     CompositeInnerType, CompositeType, FuncType, Global, Refused, SubType,
-///     TypeSection,
+///     CompositeInnerType, CompositeType, FuncType, Global, SubType, TypeSection,
 /// };
 ///
 /// let inner = CompositeInnerType::Func(FuncType::new(Global, [], [])?);
@@ -228,7 +227,7 @@ pub struct CompositeType<A: Allocator = Global> {
 /// types.ty().subtype(&ty)?;
 /// // Not final: 50. One supertype, 5. A function without parameters and results.
 /// assert_eq!(types.piece(0), Some(&[0x50, 1, 5, 0x60, 0, 0][..]));
-/// # Ok::<(), Refused>(())
+/// # Ok::<(), dolzhytik::fallible::Refused>(())
 /// ```
 #[derive(Debug)]
 pub struct SubType<A: Allocator = Global> {
@@ -249,7 +248,7 @@ impl<A: Allocator + Copy> FuncType<A> {
     ///
     /// # Asks
     ///
-    /// The iterator ends.
+    /// The iterator ends. [What happens otherwise](crate::fallible#what-is-asked).
     ///
     /// ```text
     /// requires params { (it : P.IntoIter) → P.into_iter_gives params it
@@ -292,7 +291,7 @@ impl<A: Allocator + Copy> FuncType<A> {
 ///
 /// # Asks
 ///
-/// The iterator ends.
+/// The iterator ends. [What happens otherwise](crate::fallible#what-is-asked).
 ///
 /// ```text
 /// requires { (it : P.IntoIter) → P.into_iter_gives types it

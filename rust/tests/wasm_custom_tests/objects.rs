@@ -6,7 +6,8 @@ use dolzhytik::fallible::Global;
 use crate::host::Abort;
 use dolzhytik::fallible::Encode;
 use dolzhytik::reader::{Padded, ReadFault, Standard};
-use dolzhytik::fallible::{ComdatSymbols, Comdats, InitFunctions, LinkItem, ObjectLinking, ObjectSymbols, SegmentInfos, Symbol, append_links, read_links};
+use dolzhytik::fallible::{ComdatSymbols, Comdats, InitFunctions, ObjectLinking, ObjectSymbols, SegmentInfos, append_links, read_links};
+use dolzhytik::reader::{LinkItem, Symbol};
 
 /// A section with each subsection: its size, its name, version 2, the segments, the init functions,
 /// the COMDAT groups, the symbols and the target.

@@ -2,7 +2,8 @@
 // Items of custom sections as plain data.
 
 use dolzhytik::fallible::Global;
-use dolzhytik::fallible::{CoreDumpValue, CoreFrame, DataSymbolDefinition, DylinkItem, FeaturePrefix, LinkItem, NameItem, Symbol};
+use dolzhytik::fallible::{CoreDumpValue, DataSymbolDefinition, FeaturePrefix};
+use dolzhytik::reader::{CoreFrame, DylinkItem, LinkItem, NameItem, Symbol};
 use dolzhytik::reader::{Items, SectionKind, read_section};
 
 /// A value of a core dump.

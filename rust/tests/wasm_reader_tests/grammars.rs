@@ -8,7 +8,7 @@ use dolzhytik::fallible::{AbstractHeapType, HeapType, RefType, ValType};
 use dolzhytik::reader::{Grammar, Padded, ReadFault, Readable, SizePrefixed, Skip, Standard};
 use dolzhytik::reader::Body;
 use dolzhytik::fallible::{BlockType, MemArg, MemArgTarget};
-use dolzhytik::fallible::Segment;
+use dolzhytik::reader::Segment;
 
 /// Returns the cause of the error of decoding a `T` in the grammar, and its place.
 fn place_of<'a, T: Readable<'a, Global, G>, G: Grammar>(

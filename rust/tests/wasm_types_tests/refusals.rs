@@ -10,7 +10,8 @@ use crate::host::Abort;
 use crate::test_support::{Heap, MOST, Refusing};
 use dolzhytik::fallible::{Counted, Encode, Result, Section, ValType};
 use dolzhytik::reader::Padded;
-use dolzhytik::fallible::{ContType, FuncType, StorageType, SubType, TypeEntry, TypeSection, read_types};
+use dolzhytik::fallible::{ContType, FuncType, StorageType, SubType, TypeSection, read_types};
+use dolzhytik::reader::TypeEntry;
 
 /// A type section with an allocator that fails requests.
 type Lent<'h> = TypeSection<&'h Refusing<Global>>;

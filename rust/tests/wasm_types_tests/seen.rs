@@ -4,7 +4,8 @@
 use dolzhytik::fallible::Global;
 use dolzhytik::reader::Padded;
 use dolzhytik::fallible::ValType;
-use dolzhytik::fallible::{CompositeInnerType, FieldType, SubItem, TypeEntry, read_types};
+use dolzhytik::fallible::{CompositeInnerType, FieldType, read_types};
+use dolzhytik::reader::{SubItem, TypeEntry};
 
 /// A composite type's inner type.
 #[derive(Clone, Copy, PartialEq, Debug)]

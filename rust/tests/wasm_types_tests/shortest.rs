@@ -6,7 +6,8 @@ use crate::host::Abort;
 use crate::test_support::{Heap, MOST, Refusing};
 use dolzhytik::reader::{Padded, ReadFault};
 use dolzhytik::fallible::Refused;
-use dolzhytik::fallible::{TypeEntry, append_types, read_types};
+use dolzhytik::reader::TypeEntry;
+use dolzhytik::fallible::{append_types, read_types};
 
 /// Bytes, and the minimal encoding of the types in them.
 type Row = (&'static [u8], &'static [u8]);

@@ -59,6 +59,11 @@ def prose(text: str, paths: Mapping[str, str]) -> str:
     return ''.join(out)
 
 
+def ended(sentence: str) -> str:
+    """Returns a sentence with a capital at its start and a full stop at its end."""
+    return sentence[:1].upper() + sentence[1:] + ('' if sentence.endswith(('.', ':')) else '.') if sentence else ''
+
+
 def names_in(text: str) -> str:
     """Returns the parts of a sentence in backticks."""
     return ' '.join(text.split('`')[1::2])
@@ -76,7 +81,7 @@ def item(library: Library, file: Specs, it: Definition) -> Iterator[str]:
         raise Stop(f'{file.path}: {it.name} is a keyword of Rust, and can have no page')
     cited = library.cited_by(file, it)
     sentence = library.cited(names_in(it.sentence), library.imports_within(file), {it.name}, file.path)
-    lines = [prose(it.sentence, near(file.crate, sentence)), '', '```text', *laid_out(it.text), '```']
+    lines = [prose(ended(it.sentence), near(file.crate, sentence)), '', '```text', *laid_out(it.text), '```']
     if cited:
         lines += ['', f'Definitions: {links(near(file.crate, cited))}.']
     yield from documented(lines, '    ')

@@ -21,9 +21,19 @@ def signature(case: Case) -> str:
     return "    pub fn %s%s(&mut self%s) -> &mut Self%s" % (case.call, generic, parameters, where)
 
 
+# What an index counts, by the names of calls.
+INDICES = {
+    "call": "Imported functions have the first indices: see [`ImportSection`](super::ImportSection).",
+    "ref_func": "Imported functions have the first indices: see [`ImportSection`](super::ImportSection).",
+    "return_call": "Imported functions have the first indices: see [`ImportSection`](super::ImportSection).",
+}
+
+
 def documentation(case: Case, proved: dict[str, str]) -> str:
     """Returns the doc comment of a call."""
     lines = ["Appends %s" % said(case), ""]
+    if case.call in INDICES:
+        lines += [INDICES[case.call], ""]
     lines.append("[`Instruction::%s`](super::Instruction::%s) is the same instruction as a value." % (case.name, case.name))
     if case.call in proved:
         name = proved[case.call]

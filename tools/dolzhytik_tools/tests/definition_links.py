@@ -53,7 +53,9 @@ def glosses() -> None:
     assert gloss(['ensures { p }']) == ''
     adds = 'ensures { Adds (f x) ⊤ self.old self.new result }'
     assert gloss([adds], {adds: 'It adds.'}) == 'It adds.'
-    assert gloss([ok, adds.replace('ensures', 'ensures c')], {adds.replace('ensures', 'ensures c'): 'It adds.'}) == 'After `Ok`: `a`. In any case: `c`. `c`: It adds.'
+    assert gloss([ok, adds.replace('ensures', 'ensures c')], {adds.replace('ensures', 'ensures c'): 'It adds.'}) == '- After `Ok`: `a`.\n- `c`: It adds.'
+    two = ['ensures c { Adds x ⊤ self.old self.new result }', 'ensures d { Adds y ⊤ self.old self.new result }']
+    assert gloss(two, dict.fromkeys(two, 'It adds.')) == '`c`, `d`: It adds.'
     assert [head(it) for it in (adds, ok.replace('x. x', 'x. P x'), 'ensures { x.y ≡ z }', 'ensures { P x → Q y }')] == ['Adds', 'P', '', '']
     memory = 'ensures m { result ≢ Err TooLong }'
     assert gloss([ok, memory]) == 'After `Ok`: `a`. In any case: `m`, no error is `TooLong`.'

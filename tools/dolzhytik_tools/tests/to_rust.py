@@ -47,6 +47,7 @@ FORMS = {
     'path': [('crate', r'(?:in )?crate(?: : : \w+)+'), (r'wasm_\w+(?: : : laws)?|hex', r'(?:crate|dolzhytik)(?: : : \w+)+'), ('test_support|examples', r'crate : : \w+')],
     'link': [('', '')],
     'replaced': [('', '')],
+    'prose': [('', '')],
     'alias': [('', r'(?:# \[ doc \( alias = "[^"]*" \) \] ?)+')],
     'module': [('mod', r'pub \( crate \) mod')],
     'border': [(r'extern "C"', ''), ('mod', r'pub \( crate \) mod')],

@@ -4,8 +4,8 @@ by the table of instructions.
 A file of tools/rustdoc has the texts of a library's items. `## NAME` or `## OWNER::NAME` begins the
 text of an item, lines `alias: WORD, WORD` are what search finds it by, lines `- NAME: TEXT` document
 its variants and fields (`VARIANT.FIELD` is a field of a variant), and what follows is appended to its
-doc comment, or replaces that of an item that the root of the package exports. The tool stops at a text
-whose item is missing.
+doc comment, or replaces that of an item that the root of the package exports. Paragraphs go before
+the first heading of the doc comment. The tool stops at a text whose item is missing.
 """
 from __future__ import annotations
 
@@ -22,12 +22,15 @@ from ..repository import TOP, text_of
 from .asks import owner_of
 from .ghosts import item_start
 from .glosses import parts
+from .render import wrapped
 from .source import Source
 from .tables import BETWEEN, LIBRARIES
 
 FOLDER = 'tools/rustdoc'
 HEAD = 'rust/src/drop_in/mod.rs'
 KINDS = ('struct', 'enum', 'trait', 'fn', 'type', 'const')
+# The headings of a doc comment, before which a text's paragraphs go.
+HEADINGS = ('/// # Errors', '/// # Panics', '/// # Examples')
 
 
 @dataclass
@@ -175,8 +178,14 @@ def add_beside(source: Source) -> None:
 
 def add(source: Source, item: Item, text: Text) -> None:
     """Adds a text to an item."""
-    if text.lines:
-        source.note(item.start, 'Text', '\n'.join(text.lines))
+    lines = text.lines
+    heading = first_heading(source, item)
+    if heading is not None:
+        prose = lines[:next((i for i, line in enumerate(lines) if line.startswith(('```', '# '))), len(lines))]
+        lines = lines[len(prose):]
+        insert_prose(source, heading, prose)
+    if lines:
+        source.note(item.start, 'Text', '\n'.join(lines))
     if '```' in text.lines:
         drop_sketch(source, item)
     if text.aliases and '::' in item.name:
@@ -190,6 +199,21 @@ def add(source: Source, item: Item, text: Text) -> None:
             if source.with_docs(found[name]) != found[name]:
                 raise Stop(f'{text.where}: {name} has a doc comment already')
             source.note(found[name], 'Text', said)
+
+
+def first_heading(source: Source, item: Item) -> int | None:
+    """Returns the line of an item's doc comment that is its first heading, if it has one."""
+    docs = range(source.with_docs(item.start), item.start)
+    return next((at for at in docs if source.tokens[at] in HEADINGS), None)
+
+
+def insert_prose(source: Source, place: int, prose: list[str]) -> None:
+    """Inserts paragraphs into a doc comment before the line at `place`."""
+    indent = re.search(r'[^\n]*$', source.tokens[place - 1])[0] if place else ''
+    lines = [it for line in '\n'.join(prose).strip().split('\n') for it in wrapped(line)]
+    if any(lines):
+        text = ''.join(f'/// {line}'.rstrip() + f'\n{indent}' for line in [*lines, ''])
+        source.edit(place, place, text, 'prose')
 
 
 def drop_sketch(source: Source, item: Item) -> None:

@@ -32,7 +32,7 @@ class Name:
 OK, ERROR = r'(?:IfOk|OnOk) result .*', r'IfErr result .*'
 NAMES = [
     Name('ok', OK, 'What holds after `Ok`.'),
-    Name('found', OK, 'What holds after `Ok`.'),
+    Name('found', OK, 'After `Ok`: what the bytes encode.'),
     Name('none', ERROR, 'What holds after an error.'),
     Name('was_encodable', r'(?:IfOk|OnOk) result .*(?:[Ee]ncodable|≤ longest).*', 'After `Ok`, the counts and lengths that were encoded were at most 4294967295.'),
     Name('too_long', r'(?:.* → )?result ≢ Err (?:\w+\.)?TooLong', 'When the call does not return `TooLong`.'),
@@ -54,6 +54,7 @@ SAID = (
     (r'IfErr result \(λ _\. Rejects .*\)', BEGINS_NOT),
     (r'IfErr result \(λ e\. e(?:\.cause)? ≡ Memory\)', 'the cause is `Memory`'),
     (r'IfOk result \(λ x\. Decodes .* bytes\.now .*x\.0.* x\.1\.now\)', 'the bytes begin with an encoding of the value, and the returned bytes follow it'),
+    (r'IfOk result \(λ x\. Decodes \(vec \(pair u32 val_type\)\) .* x\.0\.items \(ahead(?:_in)? x\.1\)\)', 'the bytes begin with an encoding of the locals, and the instructions follow it'),
     (r'IfOk result \(λ x\. (?:T\.format|members T\.format|body|content kind) \S.* bytes\.now \S*.*\)', 'the bytes as a whole encode the value'),
     (r'IfOk result \(λ (\w+)\. \1 ≡ self\.now\)', 'the result equals the value'),
     (r'IfOk result \(λ cow\. (?:items|encoding)_of cow ≡ (?:items|encoding)_of self\.now\)', 'the result has the same content'),
@@ -106,6 +107,8 @@ EXACT = {
     'self.new.bytes ≡ self.old.bytes': 'the bytes stay the same',
     'IfErr result (λ _. ahead self.old ≢ [])': 'bytes were left',
     'IfOk result (λ _. self.now.section.id ≡ 10)': 'this is a code section',
+    'IfOk result (λ it. Decodes u32 padded self.now.section.payload it.left it.rest)': 'the payload begins with the number of bodies, and the bytes of the iterator follow it',
+    'IfOk result (λ step. Decodes (instruction table) (padded_of G.grammar) (ahead self.old) (record { op = step.op; arguments = self.new.arguments }) (ahead self.new))': 'an instruction of this opcode and these immediates was next',
     'IfOk result (λ it. it.end ≡ end_of self.now)': 'the iterator ends with the section',
     'IfErr result (λ e. e.cause ≢ Memory → (self.now.section.id ≢ 10) ⊎ Rejects u32 padded self.now.section.payload)': 'this is no code section, or its payload does not begin with a number, unless the cause is `Memory`',
     'IfErr result (λ e. self.now.offset ≤ e.offset)': 'the offset of the error is not before this one',
@@ -127,6 +130,40 @@ EXACT = {
     'result.start + length self.now.section.payload ≡ end_of self.now': 'the range is as long as the payload',
     'result.end ≡ end_of self.now': 'it ends with the section',
     'self.now.offset < result.start': 'it begins after the id',
+}
+# What definitions say on the page of a call, where their sentence has names of their parameters.
+IN_WORDS = {
+    'AddsTwoLists': (
+        'The builder gains one entry of the items that both iterators yield, or the call returns an error and changes nothing. '
+        'It returns `TooLong` if either has too many items, and never if all items fit and items and entries are few enough.'
+    ),
+    'Decodes': 'The bytes begin with such an encoding, and the remaining bytes follow it.',
+    'DecodesBack': 'The encoding is the only minimal one of these items, and decodes to them alone.',
+    'DecodesPayloads': 'If size-prefixed bytes decode to one value alone, their payload decodes to it alone.',
+    'DecodesPayloadsPadded': 'If size-prefixed bytes decode to one value alone, with padding allowed, so does their payload.',
+    'DecodesWhole': 'The result is the only minimal encoding of these sections. In every mode, all of its bytes decode to them alone.',
+    'HasGroups': (
+        'The bytes begin with LEB128 groups: their sum, 128 to the power of their number, and the last group. '
+        'The returned bytes follow them.'
+    ),
+    'HasMinimalEncodings': 'Each value that fits has a minimal encoding, which the last function in the clause returns.',
+    'IsIncludedIn': 'Every encoding by the first format is an encoding of the same value by the second.',
+    'IsRefFunc': 'The result is `Some(f)` exactly if the bytes begin with `ref.func f`.',
+    'Rewrites': 'The bytes begin with sections, and the output for these sections is appended.',
+    'Shortens': (
+        'As many bytes as the result says are a section of this kind, from the first one on. '
+        'The buffer gains its minimal encoding, which is at most as long.'
+    ),
+    'ShortensModule': (
+        'The buffer gains the header and the output for each section: its minimal encoding, or its bytes unchanged if they do not decode by its kind. '
+        'The result counts the unchanged ones. With `Refuse` every section keeps its offsets, and with `LeaveOut` exactly the sections that hold offsets are left out. '
+        'The output is a module with the ids of the sections that are not left out, and is no longer than the input.'
+    ),
+    'Stores': (
+        'The bytes gain the encoding of the instruction. If it is well-formed and the old bytes minimally encode instructions, '
+        'the new bytes encode these and its normal form.'
+    ),
+    'Takes': 'As many bytes as the result says are a section of this kind, from the first one on, possibly padded, with this content.',
 }
 # What `requires` clauses ask.
 ASKED = (
@@ -232,12 +269,30 @@ def gloss(clauses: Sequence[str], sentences: Mapping[str, str] | None = None) ->
         if words:
             return f'{when}, {words}.' if when else words[0].upper() + words[1:] + '.'
         return ' '.join(filter(None, [when and f'{when}:', next(iter(said), '')]))
-    words = [f'{listed(names)}: {sentence}' if all(names) else sentence for sentence, names in said.items()]
     always = [it for it in sorted_clauses if it not in ok + error]
+    groups = [('After `Ok`', ok), ('After an error', error), ('In any case', always)]
+    if said:
+        return items(groups, {name: sentence for sentence, names in said.items() for name in names})
     if ok or error or any(words_of(term) for _, term in always):
-        groups = [('After `Ok`', ok), ('After an error', error), ('In any case', always)]
-        words = [f'{when}: {"; ".join(told(*it) for it in found)}.' for when, found in groups if found] + words
-    return ' '.join(words)
+        return ' '.join(f'{when}: {"; ".join(told(*it) for it in found)}.' for when, found in groups if found)
+    return ''
+
+
+def items(groups: Sequence[tuple[str, list[tuple[str, str]]]], sentences: Mapping[str, str]) -> str:
+    """Returns a list of what clauses say and when: an item for each sentence and each form that is
+    known, with the names of its clauses. Without more than one item it is a sentence."""
+    found: dict[tuple[str, str], list[str]] = {}
+    for when, clauses in groups:
+        for name, term in clauses:
+            said = sentences.get(name) or words_of(term)
+            always = when == 'In any case'
+            found.setdefault(('' if always and said else when, said), []).append(name)
+    lines = []
+    for (when, said), names in found.items():
+        head = ', '.join(filter(None, [when, listed(filter(None, names))]))
+        said = said.rstrip('.') + '.' if said else ''
+        lines.append(f'{head}: {said}' if head and said else said or f'{when}: {listed(names)}.')
+    return lines[0] if len(lines) == 1 else '\n'.join(f'- {line}' for line in lines)
 
 
 def names_table() -> str:

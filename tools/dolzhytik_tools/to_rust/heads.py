@@ -59,7 +59,7 @@ def imports_of(lines: list[str]) -> list[str]:
 def runnable(text: list[str], lead: str) -> list[str]:
     """Returns the lines of an example, with imports and variables, and hidden lines around it."""
     joined = '\n'.join(text)
-    given = [let for name, let in GIVEN.items() if re.search(rf'\b{name}\b', joined) and not re.search(rf'\blet (mut )?{name}\b', joined)]
+    given = [let for name, let in GIVEN.items() if re.search(rf'\b{name}\b(?!: )', joined) and not re.search(rf'\blet (mut )?{name}\b', joined)]
     own = [re.sub(r'\balloc\b', 'Global', line.removeprefix(lead).removeprefix(' ')) for line in text]
     uses = imports_of(given + own)
     shown = [*uses, *([''] if uses else []), *given, *own]

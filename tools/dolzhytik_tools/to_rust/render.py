@@ -10,6 +10,9 @@ from .source import Notes, Source
 from .words import line_of_links
 
 
+OTHERWISE = '[What happens otherwise](crate::fallible#what-is-asked).'
+
+
 def documentation(source: Source, place: int) -> list[str]:
     """Returns the lines of documentation of the clauses before a token: in libraries with words
     above them, and with links to the definitions that they name."""
@@ -22,7 +25,7 @@ def documentation(source: Source, place: int) -> list[str]:
         text = '\n'.join(notes[heading])
         above = words_above(source, heading, notes[heading]) if paths is not None else ''
         code = text.split('\n') if paths is None else laid_out(text)
-        lines += ['', f'# {heading}', '', *([above, ''] if above else []), '```text', *code, '```']
+        lines += ['', f'# {heading}', '', *([*above.split('\n'), ''] if above else []), '```text', *code, '```']
         if paths is not None:
             lines += ['', line_of_links(paths)]
     return [f'/// {line}'.rstrip() for line in lines]
@@ -32,7 +35,7 @@ def words_above(source: Source, heading: str, clauses: list[str]) -> str:
     """Returns the words above clauses."""
     if heading == 'Proved':
         return gloss(clauses, source.sentences)
-    return ' '.join(dict.fromkeys(filter(None, map(asked, clauses)))) if heading == 'Asks' else ''
+    return ' '.join([*dict.fromkeys(filter(None, map(asked, clauses))), OTHERWISE]) if heading == 'Asks' else ''
 
 
 def wrapped(line: str) -> list[str]:

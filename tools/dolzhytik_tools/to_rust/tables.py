@@ -50,13 +50,16 @@ READERS = {
         'DecodeError', 'Dropped', 'Grammar', 'Layout', 'Padded', 'ReadFault', 'Readable', 'Shorten', 'SizePrefixed', 'Skip',
         'Standard', 'append_all', 'prefix_size_since', 'read_before', 'read_optional', 'read_to_end', 'read_whole', 'skip_many',
     },
+    'wasm_types': {'SubItem', 'TypeEntry'},
     'wasm_insn': {'Arg', 'Plain'},
     'wasm_code': {'Body', 'Expression', 'Instructions', 'Step', 'read_body', 'read_code', 'shorten_body'},
+    'wasm_sections': {'ElementItem', 'ElementItemMode', 'ElementList', 'GlobalItem', 'Segment', 'TableItem'},
+    'wasm_custom': {'CoreFrame', 'DylinkItem', 'LinkItem', 'NameItem', 'Symbol'},
 }
 READING = 'reading'
 # The names that only libraries above use: private in the package.
 BETWEEN = {'wasm_base': {'read_index', 'read_val_after'}, 'wasm_insn': {'append_instruction', 'read_instruction_into'}}
-# Hand-written pages below rust/src: each is before the documentation of a library's module.
+# Hand-written pages below rust/src: each is in place of the documentation of a library's module.
 PAGES = {'wasm_reader': 'reader.md'}
 # The libraries whose private items the root of the package uses, such as the first bytes of
 # segments.

@@ -7,7 +7,7 @@ from ..definitions.imports import Import, parsed
 from ..definitions.library import PAGES, library
 from ..definitions.pages import links, prose
 from ..rattle.lexer import is_word
-from .glosses import head
+from .glosses import IN_WORDS, head
 from .source import Source
 from .tables import LIBRARIES
 
@@ -94,6 +94,8 @@ def sentence(source: Source, clause: str, place: int) -> str:
     if not is_word(first.replace('.', '')) or not first[0].isupper():
         return ''
     found = library().meant(first, imports_at(source, place), f'{source.path}:{source.line(place)}')
+    if found and found[1].definition.name in IN_WORDS:
+        return IN_WORDS[found[1].definition.name]
     return prose(found[1].definition.sentence, {}) if found and not found[1].is_constructor else ''
 
 

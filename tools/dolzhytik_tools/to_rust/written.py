@@ -29,6 +29,8 @@ class Written:
         body = '\n'.join(examples_run(body.rstrip('\n').split('\n'))) + '\n'
         self.page = f'#![doc = include_str!("../{PAGES[crate.name]}")]\n' if is_root and crate.name in PAGES else ''
         head, rest = head_and_rest(body)
+        if self.page:
+            head = ''.join(line + '\n' for line in head.split('\n') if line and not line.startswith('//!'))
         parts = [self.page, head, self.before + rest.rstrip('\n') + '\n', self.behind]
         self.text = f'// Written by tools/to-rust from {self.path}: change that.\n' + '\n'.join(part for part in parts if part)
 

@@ -6,7 +6,8 @@ use dolzhytik::fallible::{Module, Result, add_all};
 use dolzhytik::fallible::{CodeSection, Function};
 use dolzhytik::fallible::{CoreDumpSection, CoreDumpStackSection, CustomSection, NameMap, NameSection};
 use dolzhytik::fallible::Instruction;
-use dolzhytik::fallible::{CompositeInnerType, CompositeType, FuncType, StructType, SubType, TypeEntry, TypeSection};
+use dolzhytik::fallible::{CompositeInnerType, CompositeType, FuncType, StructType, SubType, TypeSection};
+use dolzhytik::reader::TypeEntry;
 
 /// Returns a module of the same sections.
 ///

@@ -7,7 +7,8 @@ use crate::examples::read_back::read_and_shorten;
 use dolzhytik::fallible::Allocator;
 use dolzhytik::fallible::{CowSlice, CowStr, Encode, Result};
 use dolzhytik::reader::{Padded, ReadFault};
-use dolzhytik::fallible::{BranchHint, BranchHints, CustomSection, DataSymbolDefinition, FeaturePrefix, LinkingSection, NameItem, NameSection, ProducersField, ProducersSection, SymbolTable, TargetFeaturesSection, append_names, read_names};
+use dolzhytik::fallible::{BranchHint, BranchHints, CustomSection, DataSymbolDefinition, FeaturePrefix, LinkingSection, NameSection, ProducersField, ProducersSection, SymbolTable, TargetFeaturesSection, append_names, read_names};
+use dolzhytik::reader::NameItem;
 use dolzhytik::reader::{Items, SectionKind};
 
 /// Appends a name section: the name of the module, and bytes of an id that no call has.
