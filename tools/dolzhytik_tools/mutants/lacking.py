@@ -38,19 +38,18 @@ def owes_edit(source: str, function: Function, head: int, body: int, end: int) -
 
 
 def lacking(repository: Repository, args: argparse.Namespace) -> tuple[int, int]:
-    """Names the functions that need a mutant and have none, and the mutants of private functions
-    that cannot be applied. Returns how many functions have a mutant, and how many of both were
-    named."""
+    """Names the functions that need a mutant and have none, and the mutants that cannot be applied.
+    Returns how many functions have a mutant, and how many of both were named."""
     has_one: list[bool] = []
     for name in args.names or repository:
         if os.path.isfile(f"crates/{name}/src/lib.rt"):
             edits = edits_of(name, f"crates/{name}")
-            has_one += [False] * bad_private(edits["private"])
+            has_one += [False] * sum(map(count_bad, edits.values()))
             has_one += functions_with_one(name, edits)
     return sum(has_one), len(has_one) - sum(has_one)
 
 
-def bad_private(edits: list[Edit]) -> int:
+def count_bad(edits: list[Edit]) -> int:
     """Names the mutants that cannot be applied, and returns how many there are."""
     bad = [it for it in edits if it.bad]
     for it in bad:
