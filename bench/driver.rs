@@ -1,4 +1,5 @@
-//! Measures the workloads of `crates/wasm_bench`. What is measured, and how, is told in `README.md` beside this file.
+//! Measures the workloads of `crates/wasm_bench`. `README.md` in this folder describes the
+//! measurements.
 
 mod leb128;
 
@@ -187,7 +188,8 @@ impl Input {
         }
     }
 
-    /// What stands before the entries, which is their number or the section's own name, and their bytes, by the straight encoder below.
+    /// Returns the bytes before the entries, by the straight encoder below: their number, or the
+    /// section's own name; and the bytes of the entries.
     fn entries(&self) -> (Vec<u8>, Vec<u8>) {
         match self {
             Input::Code { words, .. } => (number(words[0] as usize), straight_code(words)),
@@ -254,7 +256,7 @@ fn memory_argument(body: &mut Vec<u8>, offset: u32, align: u32, memory: u32) {
     unsigned(body, u64::from(offset));
 }
 
-/// Appends an instruction, and answers how many words it had.
+/// Appends an instruction, and returns its number of words.
 fn straight_instruction(body: &mut Vec<u8>, w: &[u32]) -> usize {
     let plain = |body: &mut Vec<u8>, op: u8| {
         body.push(op);
@@ -494,7 +496,7 @@ impl Numbers {
     }
 }
 
-/// The codes that an instruction is taken from: those of common instructions stand more than once.
+/// The codes that an instruction is taken from. Those of common instructions are repeated.
 const CODES: [u32; 64] = [
     0, 0, 0, 0, 0, 0, 0, 0, 0, 0, 0, 0, 0, 1, 1, 1, 1, 1, 2, 2, 2, 3, 3, 3, 3, 3, 3, 3, 4, 4, 5, 6,
     6, 6, 6, 7, 7, 8, 9, 9, 10, 10, 10, 10, 11, 11, 11, 12, 12, 12, 13, 14, 14, 15, 16, 17, 18, 18,
@@ -635,7 +637,7 @@ fn checksum(bytes: &[u8]) -> u64 {
     })
 }
 
-/// The library's answer of the phase is these bytes.
+/// Checks that the library's result of the phase is these bytes.
 fn check_bytes(name: &str, input: &Input, phase: u32, expected: &[u8]) {
     let mut out = vec![0; expected.len() + 1];
     let n = input.call(phase, &mut out);
@@ -717,7 +719,8 @@ fn check_wrong_inputs() {
 
 // ---- measures
 
-/// The shortest run of each, in nanoseconds. They are run by turns, so that what else the machine does falls on all of them.
+/// Returns the shortest run of each, in nanoseconds. Runs alternate, so that other load of the
+/// machine affects all of them.
 fn best<const N: usize>(mut runs: [&mut dyn FnMut(); N]) -> [f64; N] {
     let begin = Instant::now();
     let mut best = [Duration::MAX; N];
@@ -780,7 +783,8 @@ fn measure_all(names: &[impl AsRef<str>]) {
     }
 }
 
-/// Runs a phase, or the straight encoder for the section or its entries, or nothing; and gives the number of bytes.
+/// Runs a phase, or the straight encoder for the section or its entries, or nothing. Returns the
+/// number of bytes.
 fn run_once(input: &Input, phase: &str) -> u64 {
     match phase {
         "straight" => input.section().len() as u64,

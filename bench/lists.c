@@ -1,4 +1,5 @@
-/* Nothing but the lists of arguments: as many requests of as many bytes as two words say, each written to, and given back in the order in which they were made. See README.md. */
+/* The cost of lists of arguments alone: COUNT requests of SIZE bytes, each written to, and freed in
+   the order of the requests. See README.md. */
 #include <stdio.h>
 #include <stdlib.h>
 

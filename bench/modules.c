@@ -1,5 +1,8 @@
-/* Calls that read whole modules, once each, for a profiler: `modules list|outline|shorten|nothing FILE`. `modules write NAME` writes a module of some 1 MB of the shape of that name, and
-   `modules` the names of the shapes. See README.md. */
+/* Calls that read whole modules, for a profiler. See README.md.
+
+       modules list|outline|shorten|nothing FILE    makes one call with the module in the file
+       modules write NAME                           writes a module of about 1 MB of this shape
+       modules                                      writes the names of the shapes */
 #include <dolzhytik.h>
 #include <stdio.h>
 #include <stdlib.h>
@@ -7,12 +10,12 @@
 
 enum { BYTES = 1000000 };
 
-/* Bytes that are repeated, in a section of this id, between those that stand before and behind. */
+/* A section of this id: bytes that are repeated, between a front and an end. */
 typedef struct {
     const char *name;
     int id;
-    int framed; /* whether all of it is in a frame, behind a 1: the one body of a code section, and the names of functions */
-    int counted; /* whether the number of what is repeated stands before it */
+    int framed; /* whether all is size-prefixed, after a 1: one body, or the names of functions */
+    int counted; /* whether the number of repetitions is before them */
     size_t name_len, before_len, item_len, after_len;
     const char *custom, *before, *item, *after;
 } shape;
@@ -51,7 +54,7 @@ static size_t number(uint8_t *out, size_t n) {
     return len;
 }
 
-/* Puts the size before what stands there. */
+/* Inserts the size prefix before a payload. */
 static size_t frame(uint8_t *out, size_t len) {
     uint8_t size[10];
     size_t more = number(size, len);

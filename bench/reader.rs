@@ -1,5 +1,6 @@
-//! Measures the reader of the library `wasm_bench`: a code section read whole, and its bodies gone over instruction by instruction, beside a
-//! straight decoder that keeps nothing. The section is made here, or that of a module in a file. See README.md.
+//! Measures the reader of the library `wasm_bench`. It decodes a code section into a list of
+//! bodies, and visits its instructions one by one; a straight decoder that keeps nothing is the
+//! comparison. The section is made here, or is that of a module in a file. See README.md.
 
 mod leb128;
 
@@ -9,7 +10,7 @@ use std::fs;
 use std::hint::black_box;
 use std::time::{Duration, Instant};
 
-// Slices are handed over as a pointer and a length.
+// Slices are passed as a pointer and a length.
 #[rustfmt::skip]
 /// The workloads in the build by rustc.
 #[cfg(feature = "rust")]
@@ -82,7 +83,7 @@ fn instruction(bytes: &mut Vec<u8>, numbers: &mut Numbers) {
     }
 }
 
-/// The bodies of functions of so many instructions in all, without their sizes.
+/// The bodies of functions of this many instructions in all, without their sizes.
 fn bodies(items: usize) -> Vec<Vec<u8>> {
     let mut numbers = Numbers(0x9E37_79B9_7F4A_7C15);
     let mut bodies = Vec::new();
@@ -126,7 +127,7 @@ fn bodies_of(module: &[u8]) -> Option<Vec<Vec<u8>>> {
     None
 }
 
-/// The bytes of a frame.
+/// The payload after a size prefix.
 fn framed<'a>(bytes: &mut &'a [u8]) -> Option<&'a [u8]> {
     let size = number(bytes, 32)?;
     let (content, rest) = bytes.split_at_checked(usize::try_from(size).ok()?)?;
@@ -176,7 +177,7 @@ fn signed_number(bytes: &mut &[u8]) -> Option<()> {
     None
 }
 
-/// How many instructions a body has.
+/// The number of instructions in a body.
 #[inline(never)]
 pub fn straight(body: &[u8]) -> Option<u64> {
     let mut rest = body;

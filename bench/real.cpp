@@ -1,4 +1,5 @@
-// What templates of the C++ library make: strings, vectors, maps, sorting, streams and regular expressions. Nothing of it is run.
+// Code that templates of the C++ library expand to: strings, vectors, maps, sorting, streams and
+// regular expressions. None of it is run.
 #include <algorithm>
 #include <map>
 #include <numeric>
@@ -8,10 +9,10 @@
 #include <unordered_map>
 #include <vector>
 
-// Whether the text is one of the pattern.
+// Whether the text matches the pattern.
 extern "C" bool matches(const char *text, const char *pattern) { return std::regex_match(std::string(text), std::regex(pattern)); }
 
-// How often the most frequent word of a text stands there.
+// The number of occurrences of the most frequent word of a text.
 extern "C" int most_frequent(const char *text) {
     std::map<std::string, int> counts;
     std::istringstream words(text);

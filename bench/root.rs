@@ -2,10 +2,10 @@
 //!
 //!     root WORKLOAD ITEMS [module | keep]
 //!
-//! makes so many items, in a section or in the bodies of a code section. With `module` the section is
-//! appended to a module, with `keep` it is never given back, so that what it takes can be seen at
-//! the end. All names are those of `wasm-encoder`, so that whoever has that crate can measure it too.
-//! What is counted is the difference of two runs, so that the start cancels out.
+//! makes this many items, in a section or in the bodies of a code section. With `module` the
+//! section is appended to a module. With `keep` it is never freed, so that its memory is in use at
+//! the end. All names are those of `wasm-encoder`, so that the same workloads can measure that
+//! crate. The difference of two runs is counted, so that the start of the program cancels out.
 use dolzhytik as wasm_encoder;
 
 use std::borrow::Cow;
@@ -31,13 +31,13 @@ const LONG_DATA: usize = 65536;
 /// The bodies of a section that is cloned.
 const CLONED_BODIES: usize = 1000;
 
-/// Where a section goes.
+/// The use of a finished section.
 enum Output {
-    /// Nowhere.
+    /// It is dropped.
     Nothing,
-    /// To the end of a module.
+    /// It is appended to a module.
     Module(Module),
-    /// Where it is never given back.
+    /// It is never freed.
     Kept,
 }
 
@@ -79,7 +79,7 @@ impl Numbers {
     }
 }
 
-/// Writes the body of a function: so many calls, each made by a closure of its place.
+/// Writes the body of a function: this many calls, each made by a closure of its index.
 fn bodies(items: usize, output: &mut Output, mut call: impl FnMut(&mut Function, usize)) {
     let mut code = CodeSection::new();
     for first in (0..items).step_by(CALLS_OF_A_BODY) {
@@ -177,7 +177,7 @@ fn value(place: usize, numbers: &mut Numbers) -> Instruction<'static> {
     }
 }
 
-/// Makes one of four named calls over which no proved call stands.
+/// Makes one of four named calls that have no proved call.
 fn unproved_call(sink: &mut InstructionSink, place: usize, numbers: &mut Numbers) {
     match place % 4 {
         0 => sink.table_get(numbers.next()),
@@ -317,7 +317,7 @@ fn name_map(items: usize, output: &mut Output) {
     black_box(map);
 }
 
-/// Segments of so many bytes, so many of them in a section.
+/// Segments of this many bytes, this many of them in a section.
 fn data(items: usize, output: &mut Output, size: usize, segments: usize) {
     let bytes = black_box(vec![0x2A; size]);
     for _ in 0..items / segments {
@@ -432,7 +432,7 @@ fn declarations(items: usize, output: &mut Output, numbers: &mut Numbers) {
     output.section(tags);
 }
 
-/// A section of so many bodies of so many bytes.
+/// A section of this many bodies of this many bytes.
 fn raw_bodies(items: usize, size: usize) -> CodeSection {
     let body = black_box(vec![0x01; size]);
     let mut section = CodeSection::new();
@@ -483,7 +483,7 @@ fn line(items: usize, output: &mut Output, numbers: &mut Numbers) {
     });
 }
 
-/// Does the work of this name, and tells whether there is one.
+/// Runs the workload of this name, and returns whether there is one.
 fn work(name: &str, items: usize, output: &mut Output) -> bool {
     let numbers = &mut Numbers(1);
     match name {
@@ -520,7 +520,7 @@ fn work(name: &str, items: usize, output: &mut Output) -> bool {
     true
 }
 
-/// What the last word says of the output.
+/// Returns the use that the last argument selects.
 fn output_of(words: &[String]) -> Option<Output> {
     match words {
         [] => Some(Output::Nothing),

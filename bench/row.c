@@ -1,5 +1,6 @@
-/* An allocator that hands out memory in a row and takes none back, to be loaded before that of the C library (LD_PRELOAD): what is left of a workload is its own share. Where the process
-   ends it writes the size that was asked for most often, and how often. See README.md. */
+/* An allocator that returns memory in sequence and frees none. It is loaded before that of the C
+   library (LD_PRELOAD), so that a workload's own share remains. At the end of the process it writes
+   the most frequent size of a request, and the number of these requests. See README.md. */
 #include <stdio.h>
 #include <stdlib.h>
 #include <string.h>

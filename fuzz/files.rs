@@ -1,4 +1,5 @@
-//! Decodes each section of modules that other tools wrote, in both grammars, and damaged ones. See README.md.
+//! Decodes each section of modules that other tools wrote, in both grammars, and damaged copies.
+//! See README.md.
 
 use crate::items::by_library;
 use crate::maker::Random;
@@ -38,7 +39,8 @@ fn count(
     Ok(())
 }
 
-/// Decodes the sections of these files. Returns whether all are modules whose sections decode in the standard's grammar.
+/// Decodes the sections of these files. Returns whether all files are modules whose sections decode
+/// in the standard's grammar.
 pub fn run(paths: &[String]) -> bool {
     let mut counts = BTreeMap::new();
     let mut failed = 0;
@@ -64,7 +66,7 @@ pub fn run(paths: &[String]) -> bool {
 /// How many damaged copies there are of each section.
 const COPIES: usize = 50;
 
-/// What became of damaged sections.
+/// The results for damaged sections.
 #[derive(Default)]
 struct Damages {
     all: u64,
@@ -75,7 +77,7 @@ struct Damages {
     outside: u64,
 }
 
-/// Changes one to three bytes of a payload. Returns the first of their places.
+/// Changes one to three bytes of a payload. Returns the least offset of a changed byte.
 fn damage(random: &mut Random, payload: &mut [u8]) -> usize {
     let places = (0..1 + random.below(3)).map(|_| {
         let place = random.below(payload.len());
@@ -109,7 +111,8 @@ impl Damages {
     }
 }
 
-/// Decodes damaged copies of the sections of these files. Returns whether each is rejected inside of the section, if at all.
+/// Decodes damaged copies of the sections of these files. Returns whether each error is at an
+/// offset in the section.
 pub fn damaged(paths: &[String]) -> bool {
     let mut random = Random::new(1);
     let mut damages = Damages::default();

@@ -1,5 +1,6 @@
-//! The grammar of all kinds of sections, written from docs/FORMAT.md once for both who follow it: the plain reader, which returns the minimal encoding of
-//! what it decodes, and the maker of random encodings.
+//! The grammar of all kinds of sections, written from docs/FORMAT.md once for its two users: the
+//! plain reader, which returns the minimal encoding of decoded items, and the maker of random
+//! encodings.
 
 use std::sync::OnceLock;
 
@@ -26,10 +27,10 @@ pub trait Follow: Sized {
     /// A byte that is one of these.
     fn tag(&mut self, tags: &[u8]) -> Option<u8>;
 
-    /// A byte that is one of these, or `Some(None)` where what follows begins with none of them.
+    /// A byte that is one of these, or `Some(None)` if the remaining bytes begin with none of them.
     fn tag_or_else(&mut self, tags: &[u8], others: u32) -> Option<Option<u8>>;
 
-    /// Bytes that are these, or `false` where something else follows.
+    /// Bytes that are these, or `false` if the remaining bytes begin with others.
     fn fixed_or_else(&mut self, bytes: &[u8]) -> Option<bool>;
 
     fn raw(&mut self, count: usize) -> Option<()>;
@@ -37,7 +38,7 @@ pub trait Follow: Sized {
     /// Bytes up to the end.
     fn all(&mut self) -> Option<()>;
 
-    /// A number of so many bits that may be: its largest value, and whether it is in a set.
+    /// A number of at most this many bits: its largest value, and whether it is in a set.
     fn number(&mut self, bits: u32, is_in: fn(u64) -> bool) -> Option<u64>;
 
     fn signed(&mut self, bits: u32) -> Option<i64>;
@@ -49,7 +50,10 @@ pub trait Follow: Sized {
 
     fn named(&mut self, name: &str) -> Option<()>;
 
-    /// The opcode of an instruction, which isn't `End` where that has no place.
+    /// A name that begins with `prefix`.
+    fn name_after(&mut self, prefix: &str) -> Option<()>;
+
+    /// The opcode of an instruction, which is not `End` if no `End` may be here.
     fn opcode(&mut self, with_end: bool) -> Option<&'static str>;
 
     fn vector(&mut self, member: fn(&mut Self) -> Option<()>) -> Option<()>;
@@ -61,10 +65,10 @@ pub trait Follow: Sized {
 
     fn frame(&mut self, content: &dyn Fn(&mut Self) -> Option<()>) -> Option<()>;
 
-    /// Whether the bytes, or those of the frame, go on.
+    /// Whether bytes remain, in the payload or in the whole.
     fn goes_on(&mut self) -> bool;
 
-    /// Whether the byte of `End` follows, which is then gone over.
+    /// Skips the byte of `End`, and returns whether it was the next one.
     fn ends(&mut self) -> Option<bool>;
 }
 
@@ -77,7 +81,8 @@ pub struct Row {
     pub shape: &'static str,
 }
 
-/// All opcodes: below a line of names, lines of bytes or of a prefix and a number, a name, and a shape.
+/// All opcodes. Below a line of names are lines of a byte, or of a prefix and a number, a name and
+/// a shape.
 pub fn table() -> &'static [Row] {
     static TABLE: OnceLock<Vec<Row>> = OnceLock::new();
     TABLE.get_or_init(|| {
@@ -142,7 +147,7 @@ fn heap<G: Follow>(g: &mut G) -> Option<()> {
     heap_but(g, &[])
 }
 
-/// What follows the first byte of a reference type.
+/// The bytes after the first byte of a reference type.
 fn reference_after<G: Follow>(g: &mut G, tag: u8) -> Option<()> {
     match (tag, g.grammar()) {
         (0x63, Grammar::Builders) => heap_but(g, &[0x70, 0x6F]),
@@ -453,7 +458,8 @@ fn field_type<G: Follow>(g: &mut G) -> Option<()> {
     g.tag(&[0, 1]).map(|_| ())
 }
 
-/// A composite type: the byte of a shared one, and the indices of what it describes and of what describes it, where they are given, and a shape.
+/// A composite type: the byte of a shared one, the optional indices of the described and the
+/// describing type, and a shape.
 fn composite<G: Follow>(g: &mut G) -> Option<()> {
     g.fixed_or_else(&[0x65])?;
     for tag in [0x4C, 0x4D] {
@@ -646,6 +652,19 @@ fn library<G: Follow>(g: &mut G) -> Option<()> {
     }
 }
 
+/// A relocation: the byte of its kind, an offset, an index, and an addend if the kind has one.
+fn relocation<G: Follow>(g: &mut G) -> Option<()> {
+    let kinds: Vec<u8> = (0..=26).collect();
+    let kind = g.tag(&kinds)?;
+    u32_any(g)?;
+    u32_any(g)?;
+    match kind {
+        3 | 4 | 5 | 8 | 9 | 11 | 21 | 23 => g.signed(32).map(|_| ()),
+        14..=17 | 22 | 25 => g.signed(64).map(|_| ()),
+        _ => Some(()),
+    }
+}
+
 fn any_byte<G: Follow>(g: &mut G) -> Option<()> {
     g.raw(1)
 }
@@ -660,7 +679,7 @@ fn until_end<G: Follow>(g: &mut G, item: fn(&mut G) -> Option<()>) -> Option<()>
 // ---- sections
 
 /// The kinds of sections, in the order of their numbers.
-pub const KINDS: [&str; 28] = [
+pub const KINDS: [&str; 29] = [
     "Bodies",
     "Segments",
     "DataCount",
@@ -689,6 +708,7 @@ pub const KINDS: [&str; 28] = [
     "ExternalDebugInfo",
     "BuildId",
     "Dylink",
+    "Relocations",
 ];
 
 fn content<G: Follow>(g: &mut G, kind: &str) -> Option<()> {
@@ -729,6 +749,11 @@ fn content<G: Follow>(g: &mut G, kind: &str) -> Option<()> {
         "Types" => g.vector(type_item),
         "TargetFeatures" => g.named("target_features").and_then(|()| g.vector(feature)),
         "Dylink" => g.named("dylink.0").and_then(|()| until_end(g, library)),
+        "Relocations" => {
+            g.name_after("reloc.")?;
+            u32_any(g)?;
+            g.vector(relocation)
+        }
         "SourceMappingUrl" => g.named("sourceMappingURL").and_then(|()| g.name()),
         "ExternalDebugInfo" => g.named("external_debug_info").and_then(|()| g.name()),
         "BuildId" => g.named("build_id").and_then(|()| g.vector(any_byte)),
@@ -736,7 +761,7 @@ fn content<G: Follow>(g: &mut G, kind: &str) -> Option<()> {
     }
 }
 
-/// A section of the kind: a frame.
+/// A section of the kind: its size-prefixed payload.
 pub fn section<G: Follow>(g: &mut G, kind: &str) -> Option<()> {
     g.frame(&|g: &mut G| content(g, kind))
 }

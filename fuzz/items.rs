@@ -1,7 +1,7 @@
-//! Decodes sections of every kind by the library's decoders, in a grammar given by type.
+//! Decodes sections of every kind by the library's decoders, in the grammar of a type parameter.
 
 use dolzhytik::fallible::{
-    BranchHint, Export, FeaturePrefix, Global, Imports, MemoryType, TagType, Vec,
+    BranchHint, Export, FeaturePrefix, Global, Imports, MemoryType, Relocation, TagType, Vec,
 };
 use dolzhytik::reader::{
     self, Body, CoreFrame, DecodeError, DylinkItem, ElementItem, GlobalItem, LinkItem, NameItem,
@@ -9,7 +9,7 @@ use dolzhytik::reader::{
 };
 use std::fmt::Debug;
 
-/// A value that the library decodes at the front, as a text, and the bytes behind it.
+/// A value that the library decodes at the front, as text, and the remaining bytes.
 type Decoded<'a> = Result<(String, &'a [u8]), DecodeError>;
 
 fn wrong(rest: &[u8]) -> DecodeError {
@@ -27,7 +27,7 @@ fn one<'a, T: Readable<'a, Global, G> + Debug, G: reader::Grammar>(bytes: &'a [u
     Ok((format!("{value:?} "), rest))
 }
 
-/// Decodes items behind their number.
+/// Decodes items after their number.
 fn counted<'a, G: reader::Grammar>(
     bytes: &'a [u8],
     item: fn(&'a [u8]) -> Decoded<'a>,
@@ -61,7 +61,7 @@ fn vector<'a, T: Readable<'a, Global, G> + Debug, G: reader::Grammar>(
     Ok((format!("{:?}", &items[..]), rest))
 }
 
-/// Decodes a value behind a byte 00.
+/// Decodes a value after the byte 00.
 fn marked<'a, T: Readable<'a, Global, G> + Debug, G: reader::Grammar>(
     bytes: &'a [u8],
 ) -> Decoded<'a> {
@@ -71,7 +71,7 @@ fn marked<'a, T: Readable<'a, Global, G> + Debug, G: reader::Grammar>(
     }
 }
 
-/// Goes past the name of a custom section.
+/// Skips the name of a custom section.
 fn behind<'a, G: reader::Grammar>(bytes: &'a [u8], name: &str) -> Result<&'a [u8], DecodeError> {
     let (found, rest) = value::<&str, G>(bytes)?;
     if found == name {
@@ -89,6 +89,16 @@ fn linking<G: reader::Grammar>(bytes: &[u8]) -> Decoded<'_> {
         (2, rest) => to_end(rest, one::<LinkItem<'_>, G>),
         _ => Err(wrong(bytes)),
     }
+}
+
+fn relocations<G: reader::Grammar>(bytes: &[u8]) -> Decoded<'_> {
+    let (name, rest) = value::<&str, G>(bytes)?;
+    if !name.starts_with("reloc.") {
+        return Err(wrong(bytes));
+    }
+    let (section, rest) = one::<u32, G>(rest)?;
+    let (relocations, rest) = vector::<Relocation, G>(rest)?;
+    Ok((format!("{name:?} {section}{relocations}"), rest))
 }
 
 fn stack<G: reader::Grammar>(bytes: &[u8]) -> Decoded<'_> {
@@ -126,6 +136,7 @@ fn payload<'a, G: reader::Grammar>(bytes: &'a [u8], kind: &str) -> Decoded<'a> {
             Ok((format!("{name:?} {data:?}"), &[]))
         }
         "Raw" => Ok((format!("{bytes:?}"), &[])),
+        "Relocations" => relocations::<G>(bytes),
         "Dylink" => to_end(behind("dylink.0")?, one::<DylinkItem<'_>, G>),
         "SourceMappingUrl" => one::<&str, G>(behind("sourceMappingURL")?),
         "ExternalDebugInfo" => one::<&str, G>(behind("external_debug_info")?),
@@ -135,7 +146,7 @@ fn payload<'a, G: reader::Grammar>(bytes: &'a [u8], kind: &str) -> Decoded<'a> {
     }
 }
 
-/// What the library decodes of a section behind its id: its items as a text, and how many bytes it is.
+/// Decodes a section after its id. Returns its items as text, and its length in bytes.
 pub fn by_library<G: reader::Grammar>(
     bytes: &[u8],
     kind: &str,

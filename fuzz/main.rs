@@ -1,4 +1,5 @@
-//! Compares the proved reader with a plain one: random and changed sections of every kind through `dz_shorten`. See README.md.
+//! Compares the proved reader with a plain one: random and changed sections of every kind, by
+//! `dz_shorten`. See README.md.
 
 mod grammar;
 mod maker;
@@ -11,7 +12,7 @@ use std::env;
 use std::process::ExitCode;
 use std::time::Instant;
 
-// Slices are handed over as a pointer and a length.
+// Slices are passed as a pointer and a length.
 #[rustfmt::skip]
 unsafe extern "C" {
     fn dz_shorten(kind: u32, bytes: *const u8, bytes_len: usize, out: *mut u8, out_len: usize, taken: *mut u64, cause: *mut u32) -> u64;
@@ -19,7 +20,7 @@ unsafe extern "C" {
 
 const NO_ANSWER: u64 = u64::MAX;
 
-/// What inputs are made in: most of those in the builders' grammar are sections.
+/// The grammars of inputs: most of those in the builders' grammar are sections.
 const GRAMMARS: [Grammar; 4] = [
     Grammar::Builders,
     Grammar::Builders,
@@ -30,7 +31,8 @@ const GRAMMARS: [Grammar; 4] = [
 /// The bytes of the output that the library must not write.
 const BLANK: u8 = 0xA5;
 
-/// The length of the minimal encoding that the library writes, and how many bytes it decodes. `Err` is the number of a cause, or 0 if the outputs contradict one another.
+/// Returns the length of the minimal encoding that the library writes, and the number of decoded
+/// bytes. `Err` is the number of a cause, or 0 if the outputs contradict each other.
 fn by_library(kind: u32, bytes: &[u8], room: &mut [u8]) -> Result<(usize, u64), u32> {
     let (mut taken, mut cause) = (7, 7);
     let answer = unsafe {
@@ -55,7 +57,7 @@ fn by_library(kind: u32, bytes: &[u8], room: &mut [u8]) -> Result<(usize, u64), 
     }
 }
 
-/// Whether both readers give the same; and whether there was a section.
+/// Whether both readers return the same, and whether there was a section.
 fn agree(kind: u32, bytes: &[u8]) -> (bool, bool) {
     let mut room = vec![BLANK; bytes.len()];
     let library = by_library(kind, bytes, &mut room);
@@ -70,7 +72,7 @@ fn agree(kind: u32, bytes: &[u8]) -> (bool, bool) {
                 && room[length..].iter().all(|byte| *byte == BLANK),
             true,
         ),
-        // A padded number is no fault, and memory is there.
+        // Padded LEB128 is no error, and allocations do not fail.
         (None, Err(cause)) => ((1..=7).contains(&cause) && cause != 2, false),
         _ => (false, false),
     }

@@ -196,6 +196,11 @@ impl Follow for Maker<'_> {
         Some(())
     }
 
+    fn name_after(&mut self, prefix: &str) -> Option<()> {
+        let name = format!("{prefix}{}", self.random.one_of(&NAMES));
+        self.named(&name)
+    }
+
     fn opcode(&mut self, with_end: bool) -> Option<&'static str> {
         let rows = table();
         // Ops with immediates that have many forms are made more often.
@@ -264,13 +269,13 @@ impl Follow for Maker<'_> {
     }
 }
 
-/// Bytes that mean something in many places.
+/// Bytes that have a meaning at many offsets.
 const BYTES: [u8; 24] = [
     0x00, 0x01, 0x02, 0x03, 0x04, 0x05, 0x0B, 0x1C, 0x1F, 0x20, 0x40, 0x41, 0x60, 0x62, 0x63, 0x64,
     0x65, 0x6F, 0x70, 0x7E, 0x7F, 0x80, 0xFC, 0xFF,
 ];
 
-/// One change: a byte is another, comes or goes, or what follows is cut off.
+/// One change: a byte is replaced, inserted or removed, or the remaining bytes are cut off.
 fn change(random: &mut Random, encoding: &mut Vec<u8>) {
     if encoding.is_empty() {
         return;
@@ -292,7 +297,8 @@ fn change(random: &mut Random, encoding: &mut Vec<u8>) {
     }
 }
 
-/// A section of the kind in the grammar, sometimes changed, and sometimes with bytes after it; or, sometimes, any bytes.
+/// A section of the kind in the grammar, sometimes changed or with bytes after it, and sometimes
+/// any bytes.
 pub fn input(random: &mut Random, kind: &str, grammar: Grammar) -> Vec<u8> {
     let left = 1 + random.below(8);
     let mut maker = Maker::new(random, left, grammar);

@@ -1,4 +1,5 @@
-//! Compares `shorten_module`, `outline`, `Sections` and `encode_items` with a plain reader: random modules of random and changed sections. See README.md.
+//! Compares `shorten_module`, `outline`, `Sections` and `encode_items` with a plain reader, on
+//! random modules of random and changed sections. See README.md.
 
 use crate::grammar::{Grammar, KINDS};
 use crate::maker::{Maker, Random, input};
@@ -27,10 +28,11 @@ const HOLDING: [&str; 7] = [
     "metadata.code.",
 ];
 
-/// What relocations are of, behind `reloc.`.
+/// The names after `reloc.`.
 const TARGETS: [&str; 5] = ["CODE", "DATA", ".debug_info", "name", ""];
 
-/// Names of custom sections that hold no offsets, though some nearly.
+/// Names of custom sections that hold no offsets, though some are similar to names of those that
+/// do.
 const OTHERS: [&str; 10] = [
     "sourceMappingURLs",
     "reloc",
@@ -65,7 +67,7 @@ fn id_of(random: &mut Random, kind: &str) -> u8 {
     }
 }
 
-/// The bytes after a size prefix, as many as it says or as there are; or all bytes, if there is no size prefix.
+/// The bytes after a size prefix, up to that size or the end. Without a size prefix, all bytes.
 fn unframed(bytes: &[u8]) -> &[u8] {
     let mut along = Plain::new(bytes, Grammar::Builders);
     match along.unsigned(32) {
@@ -74,7 +76,8 @@ fn unframed(bytes: &[u8]) -> &[u8] {
     }
 }
 
-/// Relocations: the index of a section, and entries of a type, an offset, an index, and an addend for most types.
+/// Relocations: the index of a section, and entries of a type, an offset, an index, and for most
+/// types an addend.
 fn relocations(random: &mut Random) -> Vec<u8> {
     let (section, count) = (random.below(6) as u64, random.below(3));
     let mut maker = Maker::new(random, 0, Grammar::Builders);
@@ -123,7 +126,8 @@ fn framed(random: &mut Random, payload: &[u8]) -> Vec<u8> {
     maker.encoding
 }
 
-/// Appends a section of a kind, sometimes changed, mostly with a size that fits, and sometimes with another id.
+/// Appends a section of a kind, sometimes changed or with another id, and mostly with a correct
+/// size.
 fn add_section(random: &mut Random, module: &mut Vec<u8>) {
     if random.one_in(4) {
         let payload = custom(random);
@@ -151,7 +155,7 @@ fn add_section(random: &mut Random, module: &mut Vec<u8>) {
     }
 }
 
-/// A module, which is none at times.
+/// A module, or sometimes bytes that are no module.
 fn module(random: &mut Random) -> Vec<u8> {
     let mut module = b"\0asm\x01\0\0\0".to_vec();
     for _ in 0..random.below(6) {
@@ -168,12 +172,12 @@ fn module(random: &mut Random) -> Vec<u8> {
     module
 }
 
-// ---- what the library gives
+// ---- results of the library
 
 /// The bytes in the sink before.
 const BEFORE: [u8; 3] = [0x0A, 0x80, 0xA5];
 
-/// What the library gives, or `None` if the sink or the cause contradicts it.
+/// The result of the library, or `None` if the sink or the cause contradicts it.
 fn by_library(bytes: &[u8], offsets: Offsets) -> Option<Answer> {
     let mut sink = dolzhytik::fallible::Vec::from_slice(Global, &BEFORE).ok()?;
     let answer = shorten_module(Global, bytes, offsets, &mut sink);
@@ -193,7 +197,8 @@ fn by_library(bytes: &[u8], offsets: Offsets) -> Option<Answer> {
     }
 }
 
-/// Whether the output is a module with the same ids in the same order, but those that are left out, is no longer, and is minimized to itself.
+/// Whether the output is a module with the ids of the kept sections in the same order, is no
+/// longer, and is minimized to itself.
 fn is_settled(bytes: &[u8], encoding: &[u8], kept: usize, offsets: Offsets) -> bool {
     let (Ok(before), Ok(after)) = (sections(bytes), sections(encoding)) else {
         return false;
@@ -232,7 +237,8 @@ fn is_outlined(bytes: &[u8]) -> bool {
     }
 }
 
-/// Whether items decode exactly if the plain reader decodes them, are as many, and are encoded as the plain reader does; an error is inside of the payload.
+/// Whether items decode exactly if the plain reader decodes them. Their number and their encoding
+/// must be the same, and an error must be at an offset in the payload.
 fn has_items(given: &reader::Section<'_>, expected: &Section<'_>) -> bool {
     match (given.items(), given.count()) {
         (Ok(items), Ok(count)) => {
@@ -295,7 +301,8 @@ fn is_same_section(given: &reader::Section<'_>, expected: &Section<'_>) -> bool 
         && (given.kind() != Some(SectionKind::Bodies) || has_bodies(given))
 }
 
-/// Whether the iterator gives the sections of the plain reader, or as many as come before the first that is none, and then an error there.
+/// Whether the iterator returns the sections of the plain reader. If a section is malformed, it
+/// must return those before it, and then an error there.
 fn is_iterated(bytes: &[u8]) -> bool {
     let given: Result<Vec<_>, _> = match Sections::new(Global, bytes) {
         Ok(sections) => sections.collect(),
@@ -327,16 +334,16 @@ struct Counts {
     no_section: u64,
     offsets: u64,
     left_out: u64,
-    /// Modules whose offsets lead elsewhere in what the library writes.
+    /// Modules whose offsets point to other bytes in the output.
     broken: u64,
-    /// Modules that get smaller and keep their offsets, by the first section that holds some.
+    /// Modules that become shorter and keep their offsets, by the first section that holds some.
     saved: [u64; HOLDERS.len()],
-    /// Modules that are refused though no offset would lead elsewhere, by why.
+    /// Modules that are rejected although no offset would point to other bytes, by the reason.
     careful: [u64; CARES.len()],
 }
 
 impl Counts {
-    /// Counts what becomes of offsets.
+    /// Counts the results for offsets.
     fn count_offsets(&mut self, bytes: &[u8], answer: &Answer) {
         match answer {
             Answer::Shortened { encoding, .. } if encoding.len() < bytes.len() => {
@@ -360,7 +367,7 @@ impl Counts {
         }
     }
 
-    /// Counts the answer where offsets are refused.
+    /// Counts the result if lost offsets are an error.
     fn count(&mut self, bytes: &[u8], answer: &Answer) {
         match answer {
             Answer::Shortened { encoding, kept } => {
@@ -374,7 +381,8 @@ impl Counts {
     }
 }
 
-/// Whether the offsets that the library says are kept lead where they did, and the section that it names comes no later than the first whose offsets would not.
+/// Whether the offsets that the library reports as kept point to the same bytes, and the reported
+/// section is no later than the first whose offsets would not.
 fn keeps_offsets(bytes: &[u8], answer: &Answer) -> bool {
     match answer {
         Answer::Shortened { encoding, .. } => first_broken(bytes, encoding).is_none(),
@@ -386,7 +394,7 @@ fn keeps_offsets(bytes: &[u8], answer: &Answer) -> bool {
     }
 }
 
-/// Whether the library and the plain reader answer the same.
+/// Whether the library and the plain reader return the same.
 fn agree(bytes: &[u8], offsets: Offsets, counts: &mut Counts) -> bool {
     let expected = shortened_module(bytes, offsets == Offsets::LeaveOut);
     let given = by_library(bytes, offsets);
@@ -419,7 +427,7 @@ fn show(bytes: &[u8]) -> String {
     bytes.iter().map(|byte| format!("{byte:02x}")).collect()
 }
 
-/// Compares so many modules of the seed. Returns whether all answers are the same.
+/// Compares this many modules of the seed. Returns whether all results are the same.
 pub fn run(seed: u64, count: u64) -> bool {
     let begun = Instant::now();
     let mut random = Random::new(seed);

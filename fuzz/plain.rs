@@ -1,4 +1,5 @@
-//! A plain reader: it decodes bytes, and writes the minimal encoding of the same items as builders write it.
+//! A plain reader: it decodes bytes, and writes the minimal encoding of the same items, as builders
+//! write it.
 
 use crate::grammar::{Follow, Grammar, table};
 use std::collections::HashMap;
@@ -59,7 +60,7 @@ impl<'a> Plain<'a> {
         Some(front)
     }
 
-    /// The groups of seven bits, and how many they are: at most as many as the bits take.
+    /// The groups of seven bits, and their number: at most as many as this many bits need.
     fn groups(&mut self, bits: u32) -> Option<(u128, u32, u8)> {
         let mut sum = 0;
         for place in 0..bits.div_ceil(7) {
@@ -173,6 +174,15 @@ impl Follow for Plain<'_> {
         (bytes == name.as_bytes()).then_some(())
     }
 
+    fn name_after(&mut self, prefix: &str) -> Option<()> {
+        let begun = self.encoding.len();
+        self.name()?;
+        // The size of the name has five bytes at most.
+        let name = &self.encoding[begun..];
+        let text = name.iter().position(|byte| *byte < 0x80)? + 1;
+        name[text..].starts_with(prefix.as_bytes()).then_some(())
+    }
+
     fn opcode(&mut self, with_end: bool) -> Option<&'static str> {
         let byte = self.byte()?;
         self.encoding.push(byte);
@@ -240,7 +250,8 @@ impl Follow for Plain<'_> {
     }
 }
 
-/// The minimal encoding, by builders, of the section of the kind at the front, and how many bytes that section has.
+/// Returns the minimal encoding, as builders write it, of the section of the kind at the front, and
+/// the length of that section in bytes.
 pub fn shortened(bytes: &[u8], kind: &str, grammar: Grammar) -> Option<(Vec<u8>, usize)> {
     let mut along = Plain::new(bytes, grammar);
     crate::grammar::section(&mut along, kind)?;

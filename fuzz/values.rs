@@ -1,4 +1,5 @@
-//! Compares the decoders of items, in both grammars, with a plain reader: random and changed sections of every kind. See README.md.
+//! Compares the decoders of items, in both grammars, with a plain reader, on random and changed
+//! sections of every kind. See README.md.
 
 use crate::grammar::{Grammar, KINDS};
 use crate::items::by_library;
@@ -7,7 +8,8 @@ use crate::plain::shortened;
 use dolzhytik::reader::{self, Padded, ReadFault, Standard};
 use std::time::Instant;
 
-/// Whether the library decodes what the plain reader does, to the values that it decodes of their encoding by builders; and whether there was a section.
+/// Whether the library decodes exactly the sections that the plain reader decodes, to the values of
+/// their minimal encodings; and whether there was a section.
 fn agree<G: reader::Grammar>(bytes: &[u8], kind: &str, grammar: Grammar) -> (bool, bool) {
     match (
         shortened(bytes, kind, grammar),
@@ -37,7 +39,7 @@ fn show(bytes: &[u8]) -> String {
     bytes.iter().map(|byte| format!("{byte:02x}")).collect()
 }
 
-/// Compares so many sections of the seed. Returns whether all items are the same.
+/// Compares this many sections of the seed. Returns whether all items are the same.
 pub fn run(seed: u64, count: u64) -> bool {
     let begun = Instant::now();
     let mut random = Random::new(seed);

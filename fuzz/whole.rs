@@ -1,4 +1,4 @@
-//! A plain reader of modules: their sections, an outline of them, and the module with minimal sections.
+//! A plain reader of modules: their sections, their outline, and the module with minimal sections.
 
 use crate::grammar::{Follow, Grammar};
 use crate::plain::{Plain, shortened};
@@ -55,7 +55,7 @@ pub fn sections(bytes: &[u8]) -> Result<Vec<Section<'_>>, usize> {
 }
 
 impl Section<'_> {
-    /// What it is read as.
+    /// The kind that it is decoded as.
     pub fn kind(&self) -> &'static str {
         match (self.id, self.name) {
             (0, Some("name")) => "Names",
@@ -71,6 +71,7 @@ impl Section<'_> {
             (0, Some("coremodules")) => "CoreModules",
             (0, Some("coreinstances")) => "CoreInstances",
             (0, Some("corestack")) => "CoreStack",
+            (0, Some(name)) if name.starts_with("reloc.") => "Relocations",
             (0, _) => "Custom",
             (1, _) => "Types",
             (2, _) => "Imports",
@@ -89,13 +90,14 @@ impl Section<'_> {
         }
     }
 
-    /// The minimal encoding of the size and the payload, if the section decodes as its kind in the grammar.
+    /// The minimal encoding of the size prefix and the payload, if the section decodes as its kind
+    /// in the grammar.
     pub fn shortest(&self, grammar: Grammar) -> Option<Vec<u8>> {
         let (encoding, taken) = shortened(self.framed, self.kind(), grammar)?;
         (taken == self.framed.len()).then_some(encoding)
     }
 
-    /// How many items an outline has.
+    /// The number of items in an outline.
     pub fn items(&self) -> Option<u32> {
         self.shortest(Grammar::Standard)?;
         match self.id {
@@ -107,7 +109,7 @@ impl Section<'_> {
         }
     }
 
-    /// What tools say of the offsets in it, by its name.
+    /// The kind of offsets in it, by its name, as tools define them.
     pub fn holder(&self) -> Option<Holder> {
         let name = self.name?;
         match name {
@@ -122,7 +124,7 @@ impl Section<'_> {
     }
 }
 
-// ---- where offsets lead
+// ---- the targets of offsets
 
 /// A custom section that holds offsets.
 #[derive(Clone, Copy, PartialEq, Eq, Debug)]
@@ -131,11 +133,12 @@ pub enum Holder {
     Symbols,
     /// `reloc.*`: a section by index, and offsets from the front of its payload.
     Relocations,
-    /// DWARF, in the module or in a file that it names or that knows it by its `build_id`: offsets from the front of the code section's payload.
+    /// DWARF, in the module or in a file that the module names or shares a `build_id` with: offsets
+    /// from the front of the code section's payload.
     Debug,
     /// `metadata.code.*`: offsets in function bodies.
     Metadata,
-    /// `sourceMappingURL`: the map's columns are offsets from the first byte of the module, in the code.
+    /// `sourceMappingURL`: the map's columns are offsets of code from the first byte of the module.
     SourceMap,
 }
 
@@ -147,12 +150,14 @@ pub const HOLDERS: [Holder; 5] = [
     Holder::SourceMap,
 ];
 
-/// Types of relocations that have an addend (Linking.md), and of these the ones whose addend is an offset in a function, or in a custom section.
+/// Types of relocations that have an addend (Linking.md), and those of them whose addend is an
+/// offset in a function or in a custom section.
 const WITH_ADDEND: [u8; 15] = [3, 4, 5, 8, 9, 11, 14, 15, 16, 17, 21, 22, 23, 25, 27];
 const IN_FUNCTION: [u8; 2] = [8, 22];
 const IN_CUSTOM: u8 = 9;
 
-/// The ids of sections into which a relocation section leads: the section that it names, and those that its addends count in.
+/// The ids of sections that a relocation section points into: the section that it names, and those
+/// of its addends.
 struct Relocations {
     section: usize,
     in_functions: bool,
@@ -191,14 +196,15 @@ fn has_same_payload(before: &Section<'_>, after: &Section<'_>) -> bool {
             .all(|(offset, byte)| after.payload[offset] == *byte)
 }
 
-/// Whether the bytes that the offsets in a section lead to stand elsewhere, once the sections before are written as those after.
+/// Whether the bytes that the offsets in a section point to are at other offsets, if the sections
+/// `before` are written as those `after`.
 fn is_broken(holder: &Section<'_>, before: &[Section<'_>], after: &[Section<'_>]) -> bool {
     let pairs = || before.iter().zip(after);
     let moves = |ids: &[u8]| pairs().any(|(b, a)| ids.contains(&b.id) && !has_same_payload(b, a));
     match holder.holder() {
         None | Some(Holder::Symbols) => false,
         Some(Holder::Debug | Holder::Metadata) => moves(&[10]),
-        // The place in the module of each byte of the code.
+        // The offset in the module of each byte of the code.
         Some(Holder::SourceMap) => {
             pairs().any(|(b, a)| b.id == 10 && (b.offset != a.offset || !has_same_payload(b, a)))
         }
@@ -211,7 +217,8 @@ fn is_broken(holder: &Section<'_>, before: &[Section<'_>], after: &[Section<'_>]
     }
 }
 
-/// The number of the first section whose offsets lead elsewhere, of a module and the same module with its sections written in another way.
+/// The number of the first section whose offsets point to other bytes, between a module and the
+/// same module with its sections encoded differently.
 pub fn first_broken(before: &[u8], after: &[u8]) -> Option<usize> {
     let (before, after) = (sections(before).ok()?, sections(after).ok()?);
     before
@@ -222,20 +229,20 @@ pub fn first_broken(before: &[u8], after: &[u8]) -> Option<usize> {
 
 // ---- modules
 
-/// What minimizing a module gives.
+/// The result of minimizing a module.
 #[derive(PartialEq, Eq, Debug)]
 pub enum Answer {
     Shortened {
         encoding: Vec<u8>,
         kept: usize,
     },
-    /// The section of this number is none.
+    /// The section of this number is malformed.
     NoSection(usize),
     /// The section of this number holds offsets that would be lost.
     Offsets(usize),
 }
 
-/// A section, and what is written for it.
+/// A section, and the output for it.
 struct Rewritten<'a, 'b> {
     section: &'b Section<'a>,
     encoding: Vec<u8>,
@@ -267,7 +274,7 @@ fn joined(written: &[Rewritten<'_, '_>]) -> Vec<u8> {
     module
 }
 
-/// Whether docs/FORMAT.md says that a module with such a holder is refused.
+/// Whether a module with such a holder is rejected, by docs/FORMAT.md.
 fn is_refused(holder: Holder, written: &[Rewritten<'_, '_>]) -> bool {
     let differs = |ids: &[u8]| {
         written
@@ -290,12 +297,12 @@ fn is_refused(holder: Holder, written: &[Rewritten<'_, '_>]) -> bool {
     }
 }
 
-/// The module with minimal sections, whether offsets in it are still right or not.
+/// The module with minimal sections, even if offsets in it become wrong.
 pub fn shortest_module(bytes: &[u8]) -> Option<Vec<u8>> {
     Some(joined(&rewritten(sections(bytes).ok()?.iter())))
 }
 
-/// What minimizing the module gives, with sections that hold offsets or without them.
+/// The result of minimizing the module, with sections that hold offsets or without them.
 pub fn shortened_module(bytes: &[u8], leaves_out: bool) -> Answer {
     let sections = match sections(bytes) {
         Ok(sections) => sections,
@@ -320,16 +327,16 @@ pub fn shortened_module(bytes: &[u8], leaves_out: bool) -> Answer {
     }
 }
 
-/// Why a module is refused though no offset would lead elsewhere.
+/// The reason for which a module is rejected although no offset would point to other bytes.
 #[derive(Clone, Copy, PartialEq, Eq, Debug)]
 pub enum Care {
-    /// `linking`, whose numbers count in segments, and not in sections.
+    /// `linking`, whose offsets count in segments, not in sections.
     Symbols,
-    /// Of the sections that are to stay, only sizes were padded, and the payloads stay.
+    /// Only size prefixes of the sections that must stay were padded: their payloads are unchanged.
     SizeAlone,
-    /// The code stays, and the holder leads into code alone.
+    /// The code is unchanged, and the holder points into code alone.
     DataAlone,
-    /// Relocations of a section that stays, or of none.
+    /// Relocations of a section that is unchanged, or of none.
     OtherTarget,
 }
 
@@ -340,7 +347,8 @@ pub const CARES: [Care; 4] = [
     Care::OtherTarget,
 ];
 
-/// Why the section of this number is named, where no offset in the module would lead elsewhere.
+/// The reason for which the section of this number is reported, although no offset in the module
+/// would point to other bytes.
 pub fn why_refused(before: &[u8], number: usize) -> Option<Care> {
     let all = sections(before).ok()?;
     let written = rewritten(all.iter());

@@ -1,13 +1,14 @@
 //! The proved builders, which return an error where those at the root panic or abort.
 //!
-//! Use them if a program must not end when memory runs out or a list is too long. A call that fails returns [`Refused`]
-//! and changes nothing: [`Refused::Memory`] if an allocation fails, and [`Refused::TooLong`] if a count, run or length
-//! would pass 4294967295. ([`add_all`] keeps the items before the failing one, and returns their number.) Calls that make
-//! a value take an [`Allocator`] first. [`Global`] is that of the program. One of your own can limit the memory of
+//! Use them if a program must not end when memory runs out or a list is too long. A call that fails
+//! returns [`Refused`] and changes nothing: [`Refused::Memory`] if an allocation fails, and
+//! [`Refused::TooLong`] if a count, run or length would exceed 4294967295. ([`add_all`] keeps the
+//! items before the failing one, and returns their number.) Calls that make a value take an
+//! [`Allocator`] first. [`Global`] is that of the program. One of your own can limit the memory of
 //! builders: [`Allocator`] shows a shared budget.
 //!
-//! Builders have the names of those at the root, and [`From`] converts what is built here with [`Global`] to the root's
-//! type:
+//! Builders have the names of those at the root. [`From`] converts a value that is built here with
+//! [`Global`] to the root's type:
 //!
 //! ```
 //! use dolzhytik::fallible::{self, Global, Refused};
@@ -42,11 +43,13 @@
 //! # Ok::<(), dolzhytik::fallible::Refused>(())
 //! ```
 //!
-//! Types without a builder, such as [`ValType`], [`MemArg`] and [`MemoryType`], are the root's own. [`SectionId`],
-//! [`ExportKind`], [`TagKind`], [`TagType`], [`EntityType`], [`Import`] and [`ImportCompact`] convert both ways.
-//! `Instruction::from(&instruction)` converts an instruction of the root, and borrows its lists.
+//! Types without a builder, such as [`ValType`], [`MemArg`] and [`MemoryType`], are the root's own.
+//! [`SectionId`], [`ExportKind`], [`TagKind`], [`TagType`], [`EntityType`], [`Import`] and
+//! [`ImportCompact`] convert both ways. `Instruction::from(&instruction)` converts an instruction
+//! of the root, and borrows its lists.
 //!
-//! A glob import of this module hides the [`Vec`](alloc_crate::vec::Vec) and [`String`](alloc_crate::string::String) of `std`.
+//! A glob import of this module hides the [`Vec`](alloc_crate::vec::Vec) and
+//! [`String`](alloc_crate::string::String) of `std`.
 //!
 //! # Beside the root
 //!
@@ -63,31 +66,35 @@
 //!
 //! # What is proved
 //!
-//! This module and [`reader`](crate::reader) are the repository's libraries with the contracts erased. Written by
-//! hand are only [`Allocator`], [`Vec`], [`String`], [`Sink`], their impls and errors, and [`hex`]. Every other
-//! function is proved to be safe, to return, and to keep the clauses that its page has under **Proved**, word for
-//! word. The words above clauses are a summary. Trusted are the prover, the definitions that clauses name,
-//! `tools/to-rust`, which erases the contracts, the code written by hand, and rustc with its library.
+//! This module and [`reader`](crate::reader) are the repository's libraries with the contracts
+//! erased. Only [`Allocator`], [`Vec`], [`String`], [`Sink`], their impls and errors, and [`hex`]
+//! are written by hand. Every other function is proved to be safe, to return, and to keep the
+//! clauses that its page has under **Proved**, word for word. The words above clauses are a
+//! summary. Trusted are the prover, the definitions that clauses name, `tools/to-rust`, which
+//! erases the contracts, the code written by hand, and rustc with its library.
 //!
-//! [`definitions`](crate::definitions) has these definitions, and says how to read clauses. **Defined** has the words of
-//! a trait's clauses, such as `encoding`, the encoding.
+//! [`definitions`](crate::definitions) has these definitions, and says how to read clauses.
+//! **Defined** has the words of a trait's clauses, such as `encoding`, the encoding.
 //!
 //! # Instructions
 //!
-//! An instruction is found by its opcode. One-byte instructions outside 45 to C4 (hexadecimal), and those with fields
-//! after the prefixes FB and FC, are cases of [`Instruction`]. The others are in an enum for each group of opcodes:
-//! [`Numeric`] (45 to C4), [`Aggregate`] (FB), [`PrefixedNumeric`] (FC), [`Vector`] and [`VectorImmediate`] (FD, without
-//! and with fields), and [`Atomic`] (FE). Those without fields are constants too: `Instruction::I32Add` is an instruction.
+//! The opcode of an instruction determines its enum. One-byte instructions outside 45 to C4
+//! (hexadecimal), and those with fields after the prefixes FB and FC, are cases of [`Instruction`].
+//! The others are in an enum for each group of opcodes: [`Numeric`] (45 to C4), [`Aggregate`] (FB),
+//! [`PrefixedNumeric`] (FC), [`Vector`] and [`VectorImmediate`] (FD, without and with fields), and
+//! [`Atomic`] (FE). Those without fields are constants too: `Instruction::I32Add` is an
+//! instruction.
 //!
 //! # What is asked
 //!
-//! **Asks** on a page is what the caller owes and types do not ensure: mostly that an iterator ends, or has the length
-//! that it reports. Otherwise a call may return a wrong result or panic, but has no undefined behaviour. Calls ask this:
+//! **Asks** on a page lists the caller's obligations that types do not ensure: mostly that an
+//! iterator ends, or has the length that it reports. If one is not met, a call may return a wrong
+//! result or panic, but has no undefined behaviour. Calls ask this:
 //!
 #![doc = include_str!("asks.md")]
 
-// Names that the root or `reader` has too: rustdoc has one page for each, there. The globs below have
-// those of the root.
+// Names that the root or `reader` has too: rustdoc makes the page of each there. The globs below
+// have the names of the root.
 #[doc(no_inline)]
 pub use crate::reader::{
     CoreFrame, DylinkItem, ElementItem, ElementItemMode, ElementList, GlobalItem, LinkItem,
@@ -132,10 +139,12 @@ pub mod laws {
     pub use crate::types::laws as types;
 }
 
-/// Recipes of modules: lines of text that each add an item to a section. It needs the feature `recipe`.
+/// Recipes of modules: lines of text that each add an item to a section. It needs the feature
+/// `recipe`.
 ///
-/// [`assemble`](recipe::assemble) returns the module of a recipe, or the first error in it. The page
-/// [Recipes](https://github.com/dolzhytik/dolzhytik/blob/main/docs/RECIPES.md) has the lines.
+/// [`assemble`](recipe::assemble) returns the module of a recipe, or the first error in it. The
+/// page [Recipes](https://github.com/dolzhytik/dolzhytik/blob/main/docs/RECIPES.md) lists the
+/// commands.
 #[cfg_attr(
     feature = "programs",
     doc = "With the feature `programs`, [`run`](recipe::run) is the program `wasmrow`."

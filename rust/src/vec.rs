@@ -171,11 +171,11 @@ impl<T, A: Allocator> Vec<T, A> {
         if let Some(most) = most
             && most <= spare
         {
-            // The loop of `std` copies as a whole where the iterator is one of `std`. `take` bounds it, so that it
-            // never grows the vector itself, which would abort where memory is refused.
+            // The loop of `std` copies all items at once for an iterator of `std`. `take` bounds
+            // it, so that it never grows the vector, which would abort if an allocation failed.
             self.items.extend(items.by_ref().take(most));
         }
-        // An iterator may hold more items than it said.
+        // An iterator may have more items than it reported.
         for item in items {
             self.push(item).map_err(|_| AllocError)?;
         }

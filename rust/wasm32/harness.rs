@@ -1,6 +1,6 @@
-//! What a test program needs on wasm32 without `std`: an allocator, a panic handler, the names of `std` that the tests
-//! use, and the calls that `run.mjs` makes and takes. `tools/wasm32` declares this module in the root of each test
-//! program.
+//! The environment of a test program on wasm32 without `std`: an allocator, a panic handler, the
+//! names of `std` that the tests use, and the imports and exports that `run.mjs` needs.
+//! `tools/wasm32` declares this module in the root of each test program.
 use alloc_crate::alloc::{GlobalAlloc, Layout};
 use core::arch::wasm32::{memory_grow, memory_size, unreachable};
 use core::ffi::c_void;
@@ -83,7 +83,7 @@ unsafe impl GlobalAlloc for Heap {
     unsafe fn dealloc(&self, _first: *mut u8, _layout: Layout) {}
 }
 
-/// A text of zeros, in new pages that nothing is read from: a check of its bytes would take a second.
+/// A string of zeros, in new pages that nothing reads: checking its bytes would take a second.
 pub fn zeros(len: usize) -> prelude::String {
     // SAFETY: zeros are UTF-8.
     unsafe { prelude::String::from_utf8_unchecked(vec![0; len]) }
@@ -103,7 +103,8 @@ fn say(text: &str) {
     unsafe { tell(text.as_ptr(), text.len()) }
 }
 
-/// Returns whether a call panics with a message that has this text. The stack isn't unwound: nothing is dropped.
+/// Returns whether a call panics with a message that contains this string. The stack is not
+/// unwound: values are not dropped.
 pub fn panics_with(text: &str, call: impl FnOnce()) -> bool {
     let mut call = Some(call);
     let mut once = || call.take().into_iter().for_each(|call| call());

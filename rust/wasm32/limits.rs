@@ -1,5 +1,6 @@
-//! Lengths near what 32 bits can address. A slice has at most 2^31 - 1 bytes, and memory holds one such slice, not two:
-//! a call that needs a second one is refused, and nothing is lost.
+//! Lengths near the limit of 32-bit addresses. A slice has at most 2^31 - 1 bytes, and memory has
+//! space for one such slice, not two: a call that needs a second one returns an error and changes
+//! nothing.
 use crate::harness::{panics_with, zeros};
 use dolzhytik as root;
 use dolzhytik::fallible::{
@@ -13,7 +14,8 @@ use dolzhytik::reader::{Outlined, outline};
 /// The most bytes that a slice has.
 const MOST: usize = isize::MAX as usize;
 
-/// The bytes of most of a half of memory, which the allocator refuses beside as many. Past `MOST` it isn't asked.
+/// Most of a half of memory, in bytes. The allocator refuses a second request of this size.
+/// Requests of more than `MOST` do not reach it.
 const HALF: usize = (1 << 31) - (1 << 16);
 
 fn custom<'a>(name: &'a str, bytes: &'a [u8]) -> CustomSection<'a> {
@@ -29,7 +31,7 @@ fn encoded(value: &impl Encode) -> Result<Vec<u8>> {
     Ok(bytes)
 }
 
-/// Checks that a section is refused, and that the sink and the module go on as they were.
+/// Checks that a section is an error, and that the sink and the module are unchanged.
 fn check_section(long: &impl Section, refused: Refused) -> Result<()> {
     let mut sink = vec![7];
     assert_eq!(long.encode(&mut sink), Err(refused));
@@ -63,7 +65,8 @@ fn sections_that_memory_does_not_hold() -> Result<()> {
     Ok(())
 }
 
-/// The size of the section is twice the length, and the five bytes of the name's length: at most 4294967295.
+/// The size of the section is twice the length, and the five bytes of the name's length: at most
+/// 4294967295.
 #[test]
 fn a_name_and_data_whose_sum_passes_32_bits() -> Result<()> {
     let text = zeros(MOST);

@@ -1,4 +1,5 @@
-// Calls the package for tools/web: each line of standard input is a request, each line of standard output its answer.
+// Calls the package for tools/web: each line of standard input is a request, each line of standard
+// output its answer.
 import { readFileSync, writeFileSync } from 'node:fs';
 import { createInterface } from 'node:readline';
 import { DolzhytikError, assemble, list, minimize, outline } from './dolzhytik.js';

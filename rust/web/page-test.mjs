@@ -3,10 +3,11 @@
 //
 //     rust/web/page-test.mjs [FOLDER [MODULE..]]
 //
-// Writes screenshots to FOLDER. Compares the page with dolzhytik.js in node for each MODULE, or for dolzhytik.wasm.
+// Writes screenshots to FOLDER. Compares the page with dolzhytik.js in node for each MODULE, or for
+// dolzhytik.wasm.
 //
-// The last line is 'N passed, M failed'. Exit status: 0 all passed, 1 a failed test, 77 not run because there is no
-// chromium, or no dolzhytik.wasm.
+// The last line is 'N passed, M failed'. Exit status: 0 all passed, 1 a failed test, 77 not run
+// because there is no chromium, or no dolzhytik.wasm.
 import assert from 'node:assert/strict';
 import { spawn } from 'node:child_process';
 import fs from 'node:fs';

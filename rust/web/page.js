@@ -754,8 +754,8 @@ function goToOffset(event) {
 // Savings.
 
 /**
- * For each section the one after minimizing, or null where it was left out. Sections keep their order, and those of a
- * name are all left out or all kept.
+ * For each section the one after minimizing, or null where it was left out. Sections keep their
+ * order, and those of a name are all left out or all kept.
  */
 function paired(before, after) {
   let next = 0;

@@ -1,4 +1,5 @@
-// The tests of the package, which tools/web runs. Expected bytes are from the WebAssembly format, by hand.
+// The tests of the package, which tools/web runs. Expected bytes are from the WebAssembly format,
+// by hand.
 import assert from 'node:assert/strict';
 import { copyFile, mkdtemp, readFile, rm, writeFile } from 'node:fs/promises';
 import { tmpdir } from 'node:os';

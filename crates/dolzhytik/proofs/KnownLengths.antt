@@ -1,2 +1,2 @@
--- This file passes on the lemmas that the head of a caller's crate cites.
+-- This file re-exports the lemmas that the first lines of a caller's crate cite.
 pub use Rattle.wasm_base.proofs.KnownLengths.{drained_array, drained_copied, drained_vec}

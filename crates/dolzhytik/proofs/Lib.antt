@@ -1,4 +1,5 @@
--- This file passes on the lemmas of the libraries: `Rattle.dolzhytik.proofs.base` are those of wasm_base.
+-- This file re-exports the lemmas of the libraries: those of wasm_base are
+-- `Rattle.dolzhytik.proofs.base`, and so on.
 pub mod KnownLengths
 pub use Rattle.wasm_base.proofs as base
 pub use Rattle.wasm_immediates.proofs as immediates

@@ -1,4 +1,5 @@
--- This file passes on the definitions of the libraries: `Rattle.dolzhytik.specs.base` are those of wasm_base.
+-- This file re-exports the definitions of the libraries: those of wasm_base are
+-- `Rattle.dolzhytik.specs.base`, and so on.
 pub use Rattle.wasm_base.specs as base
 pub use Rattle.wasm_immediates.specs as immediates
 pub use Rattle.wasm_insn.specs as insn

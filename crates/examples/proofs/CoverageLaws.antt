@@ -1,10 +1,12 @@
 -- This file proves that a module whose functions count their calls decodes as `IsCovered` says.
-use Rattle.wasm_base.proofs.Words.{◌≡◌, ◌≢◌, ℕ, zero, suc, ◌+◌, ◌<◌, ◌≤◌, List, [], ◌∷◌, ◌++◌, length, get_or, map, take, take_more, drop, ints, pos, OnOk, val_type, replicate, cond, if◌then◌else◌, Bool, true, false, ◌||◌, ◌==◌, flat_map, Option, Some, None, Result, Ok, Err, refl, sym, ap, ap₂, subst, ◌∙◌, arith, add-one, append_assoc, ◌^◌, codes, IsUtf8, ascii, append-nil}
-use Rattle.wasm_base.proofs.Words.{Mode, map-append, length-append, eqb-true, eq-eqb, ne_eqb, AllByRecursion, AllZip, Format, Decodes, Rejects, RejectsWhole, DecodesWhole, DecodesOneMore, Unambiguous, UnambiguousWhole, minimal, padded, standard}
-use Rattle.wasm_base.proofs.Words.{AreGroups, any_bytes, any_section, header, members, name, pair, size_prefixed, u32, unsigned_encoding, vec, wasm_module, IsEncodableSection, SectionPayload, joined}
-use Rattle.wasm_base.proofs.Words.{members_start, members_step, whole_decodes, decodes_same, u32_in, u32_unambiguous, name_unambiguous, size_prefixed_bytes_unambiguous, size_prefixed_in, size_prefixed_encoding, HasEncodableSize, vec_of_pieces, whole_from_unique}
-use Rattle.wasm_base.proofs.Words.{vec_unambiguous, longest}
-use Rattle.std.proofs.Common.{count_by, decimal, fold}
+use Rattle.wasm_base.proofs.Words.{◌≡◌, ◌≢◌, ℕ, zero, suc, ◌+◌, ◌<◌, ◌≤◌, List, [], ◌∷◌, ◌++◌, length, get_or, map, take, take_more, drop, ints, pos, OnOk, val_type, replicate, cond, if◌then◌else◌}
+use Rattle.wasm_base.proofs.Words.{Bool, true, false, ◌||◌, ◌==◌, flat_map, Option, Some, None, Result, Ok, Err, refl, sym, ap, ap₂, subst, ◌∙◌, arith, add-one, append_assoc, ◌^◌, codes, IsUtf8}
+use Rattle.wasm_base.proofs.Words.{ascii, append-nil, Mode, map-append, length-append, eqb-true, eq-eqb, ne_eqb, AllByRecursion, AllZip, Format, Decodes, Rejects, RejectsWhole, DecodesWhole}
+use Rattle.wasm_base.proofs.Words.{DecodesOneMore, Unambiguous, UnambiguousWhole, minimal, padded, standard, AreGroups, any_bytes, any_section, header, members, name, pair, size_prefixed, u32}
+use Rattle.wasm_base.proofs.Words.{unsigned_encoding, vec, wasm_module, IsEncodableSection, SectionPayload, joined, members_start, members_step, whole_decodes, decodes_same, u32_in, u32_unambiguous}
+use Rattle.wasm_base.proofs.Words.{name_unambiguous, size_prefixed_bytes_unambiguous, size_prefixed_in, size_prefixed_encoding, HasEncodableSize, vec_of_pieces, whole_from_unique, vec_unambiguous}
+use Rattle.wasm_base.proofs.Words.{longest}
+use Rattle.std.proofs.Common.{count_by, decimal, fold, IfErr, IsErrAnd}
 use Rattle.std.proofs.lemmas.List.{append_cancel_right}
 use Rattle.std.proofs.lemmas.Fmt.{IsAscii-decimal}
 use Rattle.std.proofs.lemmas.Str.{IsUtf8-append}
@@ -37,15 +39,15 @@ use Rattle.wasm_reader.specs.declared.kinds.Items.TheVariants as items
 use Rattle.wasm_reader.specs.Outlines.{IsNameOf, kind_at}
 use Rattle.wasm_reader.specs.Shortening.{contains_offsets}
 use Rattle.wasm_reader.specs.declared.kinds.SectionKind.TheVariants as kinds
-use Rattle.std.proofs.Common.{IfErr, IsErrAnd}
 use Rattle.wasm_base.specs.declared.fault.ReadFault.TheVariants.{Memory}
 use Rattle.examples.specs.declared.coverage.CoverageError.{CoverageError}
 use Rattle.examples.specs.declared.coverage.CoverageError.TheVariants as errors
 use Rattle.examples.specs.declared.coverage.Numbers.{Numbers}
 use Rattle.examples.specs.declared.coverage.imports.Space.{Space}
 use Rattle.examples.specs.declared.coverage.imports.Space.TheVariants as spaces
-use Rattle.examples.specs.Coverage.{counting, covered_body, covered_bodies, counter, counter_export, counter_exports, names_counter, has_counter, imported, imported_from, payloads_of, AreImports, DecodesOnly, IsKept, row, AreSectionsOf, IsSplit, GainsSections, GainsItems, IsExtended}
-use Rattle.examples.specs.Coverage.{GainsEncoding, IsJoined, EncodeBodies, AddsBody, KeepsSections, HasNumbers, IsMalformed, HasDecoding, IsDecodable, Others, Payloads, sections_of, HasNone, IsCoverable, IsCovered, IsUnfit}
+use Rattle.examples.specs.Coverage.{counting, covered_body, covered_bodies, counter, counter_export, counter_exports, names_counter, has_counter, imported, imported_from, payloads_of, AreImports}
+use Rattle.examples.specs.Coverage.{DecodesOnly, IsKept, row, AreSectionsOf, IsSplit, GainsSections, GainsItems, IsExtended, GainsEncoding, IsJoined, EncodeBodies, AddsBody, KeepsSections, HasNumbers}
+use Rattle.examples.specs.Coverage.{IsMalformed, HasDecoding, IsDecodable, Others, Payloads, sections_of, HasNone, IsCoverable, IsCovered, IsUnfit}
 
 -- ---- lists of values
 
@@ -300,14 +302,20 @@ bodies_number s is x n h counted e =
     let long : Some (length items.0) ≡ Some n = ap number_in items.1 ∙ counted in
     (items.0, items.2, cc)
 
+pub bodies_have_number : (s : Section) (is : IsSection s) (x : Contents) → content (section_kind_of s) standard s.payload x → number_in x ≡ None → s.id ≡ 10 → ⊥
+bodies_have_number s is x h none e =
+    let items = bodies_in s is x h e in
+    let long : Some (length items.0) ≡ None = ap number_in items.1 ∙ none in
+    cc long
+
 -- ---- bodies
 
-abbrev pub encoding_of : Instruction Global → List ℕ
-encoding_of i = instruction_encoding i
+abbrev pub utf8_of : Instruction Global → List ℕ
+utf8_of i = instruction_encoding i
 
 -- The four instructions that count.
 abbrev counting_encoding : ℕ → List ℕ
-counting_encoding index = encoding_of (GlobalGet index) ++ (encoding_of (I32Const (pos 1)) ++ (encoding_of (Numeric I32Add) ++ encoding_of (GlobalSet index)))
+counting_encoding index = utf8_of (GlobalGet index) ++ (utf8_of (I32Const (pos 1)) ++ (utf8_of (Numeric I32Add) ++ utf8_of (GlobalSet index)))
 
 counting_encodes : (index : ℕ) → index < 2 ^ 32 → members (instruction table) standard (counting_encoding index) (counting index)
 counting_encodes index fits =
@@ -315,18 +323,18 @@ counting_encodes index fits =
     let one = normal_encodes {A = Global} (I32Const (pos 1)) ((omega (arith, ints), omega (arith, ints)), tt) in
     let add = normal_encodes {A = Global} (Numeric I32Add) tt in
     let set = normal_encodes {A = Global} (GlobalSet index) (fits, tt) in
-    let last = members_one (instruction table) minimal (encoding_of (GlobalSet index)) _ set in
-    let all : members (instruction table) minimal (counting_encoding index) (counting index) = (encoding_of (GlobalGet index), _, refl, get, (encoding_of (I32Const (pos 1)), _, refl, one, (encoding_of (Numeric I32Add), encoding_of (GlobalSet index), refl, add, last))) in
+    let last = members_one (instruction table) minimal (utf8_of (GlobalSet index)) _ set in
+    let all : members (instruction table) minimal (counting_encoding index) (counting index) = (utf8_of (GlobalGet index), _, refl, get, (utf8_of (I32Const (pos 1)), _, refl, one, (utf8_of (Numeric I32Add), utf8_of (GlobalSet index), refl, add, last))) in
     lists_whole.encodings.included padded standard tt (counting_encoding index) (counting index) (lists_whole.encodings.included minimal padded tt (counting_encoding index) (counting index) all)
 
 -- The calls that append them.
-pub counting_gained : (index : ℕ) (old start first second third last new : List ℕ) (result : Result (Unit {0}) Refused) → index < 2 ^ 32 → start ≡ old → first ≡ start ++ encoding_of (GlobalGet index) → second ≡ first ++ encoding_of (I32Const (pos 1)) → third ≡ second ++ encoding_of (Numeric I32Add)
-    → last ≡ appended result third (encoding_of (GlobalSet index)) → new ≡ last → OnOk result (GainsEncoding (members (instruction table)) (counting index) old new)
+pub counting_gained : (index : ℕ) (old start first second third last new : List ℕ) (result : Result (Unit {0}) Refused) → index < 2 ^ 32 → start ≡ old → first ≡ start ++ utf8_of (GlobalGet index) → second ≡ first ++ utf8_of (I32Const (pos 1)) → third ≡ second ++ utf8_of (Numeric I32Add)
+    → last ≡ appended result third (utf8_of (GlobalSet index)) → new ≡ last → OnOk result (GainsEncoding (members (instruction table)) (counting index) old new)
 counting_gained index old start first second third last new (Ok u) fits same a b c d e =
-    let get = encoding_of (GlobalGet index) in
-    let one = encoding_of (I32Const (pos 1)) in
-    let add = encoding_of (Numeric I32Add) in
-    let set = encoding_of (GlobalSet index) in
+    let get = utf8_of (GlobalGet index) in
+    let one = utf8_of (I32Const (pos 1)) in
+    let add = utf8_of (Numeric I32Add) in
+    let set = utf8_of (GlobalSet index) in
     record {
       encoding = counting_encoding index;
       added = e ∙ d ∙ ap (λ s. s ++ set) (c ∙ ap (λ s. s ++ add) (b ∙ ap (λ s. s ++ one) (a ∙ ap (λ s. s ++ get) same)))
@@ -405,7 +413,7 @@ next_body {old = old} {new = new} {b = b} (x ∷ others) g h =
       left = subst (λ s. members (size_prefixed body) standard s others) same.2 h.4;
     }
 
--- The iterator has given some of the bodies, and the code section has these, covered.
+-- The iterator has returned some of the bodies, and the code section has these, covered.
 pub record HasCovered (first : ℕ) (bodies : List Body) (it : Visiting) (entries : List (List ℕ)) (next : ℕ) : Type 0 where
   pub done : List Body
   pub todo : List Body
@@ -451,7 +459,7 @@ covered_all {first = first} {entries = entries} h e =
     let none = none_left h.todo (subst (λ s. members (size_prefixed body) standard s h.todo) e h.rest) in
     subst (λ bodies. EncodeBodies entries (covered_bodies first bodies)) (sym (h.all ∙ ap (λ l. h.done ++ l) none ∙ append-nil h.done)) h.encode
 
--- A padded number, as the standard admits it.
+-- LEB128 that the standard's grammar admits is admitted as padded LEB128.
 as_padded : {s : List ℕ} {n : ℕ} → u32 standard s n → u32 padded s n
 as_padded h = record { groups = h.groups; total = h.total; range = h.range; size = h.size }
 
@@ -459,7 +467,7 @@ as_padded h = record { groups = h.groups; total = h.total; range = h.range; size
 pub no_number : {payload : List ℕ} (bodies : List Body) → vec (size_prefixed body) standard payload bodies → Rejects u32 padded payload → ⊥
 no_number bodies h n = n.none (length bodies) h.back (record { front = h.front; split = h.joined; encodes = as_padded h.first })
 
--- The iterator fails only without memory.
+-- The iterator fails only if an allocation fails.
 pub no_error : {first : ℕ} {bodies : List Body} {old new : Visiting} {e : ReadError} {entries : List (List ℕ)} {next : ℕ} → HasCovered first bodies old entries next → EndsBodies old e new → e.cause ≢ Memory → ⊥
 no_error {old = old} h ends other = go h.todo h.number h.rest
   where
@@ -649,7 +657,7 @@ covered_result {bytes = bytes} {before = before} {first_rest = first_rest} {glob
     subst (λ s. IsCovered bytes s) (sym finish)
     (is_covered all_again (subst (λ l. IsSplit 6 l before globals first_rest) (same ∙ sym twice) at_globals) at_exports at_code numbers short exports.0 exports.1 exports.2 empty (b first.0) (g numbers.global_items numbers.globals_read) (w second.0) exports.3 (m third.0) (c numbers.bodies numbers.bodies_read) (a third.2))
 
--- The parts of a list of sections.
+-- The lists that a list of sections is split into.
 pub record AreSections (again before between middle after : List Located) (globals exports code : Located) : Type 0 where
   pub each : AreAll again
   pub before_are : AreAll before

@@ -1,3 +1,5 @@
+-- This file lists the crate's files of lemmas.
+pub mod Common
 pub mod Gains
 pub mod Rows
 pub mod Branch

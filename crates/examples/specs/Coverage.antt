@@ -1,6 +1,7 @@
 -- This file defines a module whose functions count their calls: each function that the module
 -- defines has a counter, to which it adds 1 before its own instructions.
-use Rattle.std.specs.Prelude.{◌≡◌, ◌≢◌, ℕ, zero, suc, ◌+◌, ◌<◌, ◌^◌, List, [], ◌∷◌, ◌++◌, length, map, nat_eq, ◌||◌, replicate, codes, decimal, count_by, flat_map, pos, Bool, true, false, ◌==◌, if◌then◌else◌, Some, ⊤}
+use Rattle.std.specs.Prelude.{◌≡◌, ◌≢◌, ℕ, zero, suc, ◌+◌, ◌<◌, ◌^◌, List, [], ◌∷◌, ◌++◌, length, map, nat_eq, ◌||◌, replicate, codes, decimal, count_by, flat_map, pos, Bool, true, false, ◌==◌}
+use Rattle.std.specs.Prelude.{if◌then◌else◌, Some, ⊤}
 use Rattle.std.specs.List.{AllByRecursion, AllZip, starts_with}
 use Rattle.std.specs.declared.alloc.Global.{Global}
 use Rattle.wasm_base.specs.Words.{Format, Decodes, DecodesWhole, padded, standard, name, u32, vec, size_prefixed, wasm_module, number_of, members, unsigned_encoding}
@@ -57,11 +58,11 @@ abbrev pub counter_exports : (function index number : ℕ) → List ExportItem
 counter_exports function index zero = []
 counter_exports function index (suc number) = counter_export function index ∷ counter_exports (suc function) (suc index) number
 
--- Whether the name of an export begins as those of counters.
+-- Whether the name of an export begins with the prefix of counters' names.
 abbrev pub names_counter : ExportItem → Bool
 names_counter e = starts_with nat_eq e.name (codes "coverage.")
 
--- Whether the name of any of the exports does.
+-- Whether the name of any of the exports begins with that prefix.
 abbrev pub has_counter : List ExportItem → Bool
 has_counter [] = false
 has_counter (e ∷ exports) = names_counter e || has_counter exports
@@ -157,7 +158,7 @@ pub record HasItems (others : Others) (payloads : Payloads) (items : Items) : Ty
   pub exports : vec export standard payloads.exports items.exports
   pub bodies : vec (size_prefixed body) standard payloads.code items.bodies
 
--- The payloads have a counter and an export more for each body, and the covered bodies.
+-- The payloads have one more counter and one more export for each body, and the covered bodies.
 pub record HasCounters (payloads : Payloads) (items : Items) : Type 0 where
   pub globals : DecodesOnly (vec global_item) payloads.globals (items.globals ++ replicate (length items.bodies) counter)
   pub exports : DecodesOnly (vec export) payloads.exports (items.exports ++ counter_exports (imported Functions items.imports) (first_counter items) (length items.bodies))
@@ -165,7 +166,7 @@ pub record HasCounters (payloads : Payloads) (items : Items) : Type 0 where
 
 -- The bytes are a module that can be covered. It has less than 256 MiB, and sections of globals,
 -- exports and code, in this order and once each. No custom section holds offsets into the code, by
--- its name. No name of an export begins as those of counters.
+-- its name. No name of an export begins with the prefix of counters' names.
 pub record IsCoverable (bytes : List ℕ) : Type 0 where
   pub short : length bytes < 2 ^ 28
   pub others : Others
@@ -194,7 +195,7 @@ IsMalformed (errors.Offsets offset) = ⊥
 IsMalformed (errors.Taken offset) = ⊥
 IsMalformed errors.TooLong = ⊥
 
--- The error says that the module cannot be covered, and nothing of how it decodes.
+-- The error says that the module cannot be covered, and no decoder returned it.
 abbrev pub IsUnfit : CoverageError → Type 0
 IsUnfit (errors.Read e) = ⊥
 IsUnfit (errors.Missing id) = ⊤

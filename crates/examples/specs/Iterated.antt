@@ -3,7 +3,7 @@ use Rattle.std.specs.Prelude.{◌≡◌, ℕ, List, ◌++◌}
 use Rattle.wasm_base.specs.Words.{minimal, padded, standard, any_bytes, header, size_prefixed, u32, Decodes}
 use Rattle.wasm_reader.specs.Words.{Contents, content, kind_in, Section, IsSection, LocatedBody, bytes_of, section_kind_of}
 
--- The bytes are the header of a module and a section of this payload, and any rest.
+-- The bytes are the header of a module, a section of this payload, and any suffix.
 pub record BeginsWithPayload (bytes payload : List ℕ) : Type 0 where
   pub section : Section
   pub rest : List ℕ
@@ -18,7 +18,7 @@ pub record IsEncodedAgain (s : Section) (new : List ℕ) : Type 0 where
   pub decoded : content (section_kind_of s) standard s.payload items
   pub encoded : (bytes : List ℕ) → content (kind_in items) padded bytes items → content (kind_in items) minimal new items
 
--- The payload is a number, this body with its size prefix, and any rest.
+-- The payload is a number, this body with its size prefix, and any suffix.
 pub record IsFirstBody (s : Section) (body : LocatedBody) : Type 0 where
   pub count : ℕ
   pub rest : List ℕ

@@ -1,3 +1,4 @@
+-- This file lists the crate's files of definitions.
 pub mod Bodies
 pub mod Whole
 pub mod Filled
@@ -20,5 +21,6 @@ pub mod FirstValues
 pub mod Handed
 pub mod Iterated
 pub mod ReadPadded
+pub mod Relocated
 pub mod Stored
 pub mod Stripped

@@ -1,5 +1,5 @@
 //! Callers of the reader, which prove its result: for each kind of section that a builder writes,
-//! for sections of padded LEB128, and for sections of arguments.
+//! for sections with padded LEB128, and for sections that are built from arguments.
 ghost use Rattle.std.specs.Prelude.{◌≡◌, ◌≢◌, ◌⊎◌, ◌≤◌, ◌++◌, [], ◌∷◌, ℕ, List, length, IfOk, IfErr, OnOk, OnErr};
 ghost use Rattle.wasm_base.specs.Entries.{counted_format};
 ghost use Rattle.wasm_base.specs.Formats.{u32 as u32_format, size_prefixed, wasm_module};
@@ -21,6 +21,7 @@ pub mod dumps;
 pub mod dylink;
 pub mod handed;
 pub mod padded;
+pub mod relocations;
 pub mod stored;
 
 use std::alloc::Allocator;

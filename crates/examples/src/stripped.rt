@@ -16,7 +16,8 @@ use wasm_reader::{ReadError, Section, Sections};
 ///
 /// # Errors
 ///
-/// An error but `Memory` means that the bytes are no module, whatever the payloads of its sections.
+/// An error but `Memory` means that the bytes are no module: the header, then sections of any
+/// payload.
 pub fn without_custom<A: Allocator + Copy>(bytes: &[u8], alloc: A) -> Result<Vec<u8, A>, ReadError>
     ensures found { IfOk result (λ kept. IsStripped bytes.now kept.items) }
     ensures none { IfErr result (λ e. e.cause ≢ Memory → RejectsWhole wasm_module padded bytes.now) }
@@ -51,7 +52,7 @@ fn refused_at(offset: usize) -> ReadError
     }
 }
 
-/// Appends a section to the module as it is.
+/// Appends a section to the module, with the same payload.
 pub(crate) fn copy<A: Allocator + Copy>(
     section: &Section<'_, A>,
     module: &mut Module<A>,

@@ -1,4 +1,4 @@
--- This file proves that the library reads fixed-width numbers as the definitions encode them.
+-- This file proves that the library decodes fixed-width numbers as the definitions encode them.
 use Rattle.wasm_base.proofs.Std.{◌≡◌, inl, inr, ℕ, zero, suc, ◌-◌, ◌^◌, ◌<◌, ◌≤◌, List, [], ◌∷◌, ◌++◌, length, take, drop, slice_index_or, ℤ, refl, sym, ap, subst, ◌∙◌, arith, cases_lt}
 use Rattle.wasm_base.proofs.Std.{take-append-drop, length-take-le, pow-suc, w32, w64, w128, from_le_bytes, cast_signed, to_z_pos, to_z-neg}
 use Rattle.std.proofs.lemmas.List.{length-append}

@@ -79,10 +79,6 @@ val_type_is =
 pub val_appended : (ty : ValType) (old new : List ℕ) → new ≡ old ++ val_encoding ty → AppendsMinimal val_type ty old new
 val_appended ty old new e = fitting_appended val_type IsVal val_encoding ty old new val-encodings val_type_is e
 
--- ---- orderings and memory arguments
-
--- ---- block types, catch clauses and handle clauses
-
 -- ---- vectors
 
 members_are : {X : Type 0} (Q : X → Type 0) (F : Format X) → AllValues Q F → (mode : Mode) (s : List ℕ) (xs : List X) → members F mode s xs → All Q xs

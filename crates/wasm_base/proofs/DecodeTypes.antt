@@ -2,12 +2,11 @@
 use Rattle.wasm_base.proofs.Std.{◌≡◌, ◌≢◌, ◌⊎◌, inl, inr, Result, IfErr, ℕ, ◌<◌, ◌≤◌, List, [], ◌∷◌, ◌++◌, Bool, true, false, refl, sym, ap, subst, ◌∙◌, arith}
 use Rattle.wasm_base.specs.{Mode, Grammar, builders, admitted, padded, padded_of, standard, is_admitted, Format, u32, byte, s33, after_byte, choice, impossible, mapped, tagged, one_of, BeginsWith}
 use Rattle.wasm_base.specs.{Decodes, Rejects, abstract_code, abstract_type, unshared, shared, heap_tags, heap_type, HasNoByte, HasLongForm, FUNCREF, EXTERNREF, nullable_to, nullable_abstract, to}
-use Rattle.wasm_base.specs.{ref_tags, admitted_tags, ref_type, val_tags, val_type, IsIndexByte}
+use Rattle.wasm_base.specs.{ref_tags, admitted_tags, ref_type, val_tags, val_type, IsIndexByte, Failure}
 use Rattle.wasm_base.specs.declared.types.AbstractHeapType.{AbstractHeapType}
 use Rattle.wasm_base.specs.declared.types.HeapType.{HeapType}
 use Rattle.wasm_base.specs.declared.types.RefType.{RefType}
 use Rattle.wasm_base.specs.declared.types.ValType.{ValType}
-use Rattle.wasm_base.specs.{Failure}
 use Rattle.wasm_base.specs.declared.types.HeapType.TheVariants.{Abstract, Concrete, Exact}
 use Rattle.wasm_base.specs.declared.types.ValType.TheVariants.{I32, I64, F32, F64, V128, Ref}
 use Rattle.wasm_base.proofs.FormatLaws.{byte_unambiguous}
@@ -131,7 +130,7 @@ short_builders w b r e f t ty = absurd (cc (e, f, t))
 
 pub ruleset short_steps = (short_is, short_builders)
 
--- ---- what follows the first byte
+-- ---- after the first byte
 
 pub tagged_after : {X : Type 0} (G : ℕ → Format X) (b : ℕ) {m : Mode} {bytes rest : List ℕ} {x : X} → Decodes (G b) m bytes x rest → Decodes (after_byte (tagged byte G) b) m bytes x rest
 tagged_after G b {m = m} {x = x} h = record { front = h.front; split = h.split; encodes = tagged_encodes m b h.front x h.encodes }

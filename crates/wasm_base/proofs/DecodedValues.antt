@@ -1,5 +1,5 @@
--- This file proves that the parts of a value that has an encoding have encodings. All counts and
--- sizes of its minimal encoding fit.
+-- This file proves that the components of a value that has an encoding have encodings, and that all
+-- counts and sizes of its minimal encoding fit.
 use Rattle.wasm_base.proofs.Std.{◌≡◌, ◌≢◌, Result, Ok, Err, IsErrAnd, ℕ, zero, suc, ◌<◌, ◌≤◌, List, [], ◌∷◌, length, drop, get_or, map, sym, ap, subst, ◌∙◌, arith, drop_at, length-map}
 use Rattle.wasm_base.specs.{minimal, padded, builders, Format, mapped, pair, prefixed, tagged, members, vec, size_prefixed, name, any_bytes, HasEncodings, HasEncodableSize, longest, AppendsMinimal}
 use Rattle.wasm_base.specs.{HasEncoding}
@@ -12,7 +12,7 @@ pub stays_short : {T U : Type 0} (r : Result T Refused) (q : Result U Refused) (
 stays_short (Ok x) q e is h p = elim h [ ]
 stays_short (Err y) q e is h p = λ k. p (cc (is, h, k))
 
--- ---- parts
+-- ---- components
 
 module _ {X Y : Type 0} (F : Format X) where
   pub left_encoded : (G : Format Y) (x : X) (y : Y) → HasEncoding (pair F G) (x, y) → HasEncoding F x

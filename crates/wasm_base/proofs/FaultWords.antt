@@ -32,7 +32,7 @@ failure_again f =
     let small : cause_number f.cause < 256 = omega (arith, number_small f.cause) in
     ap₂ (λ c n. record { cause = c; left = n }) (ap cause_numbered (mod-mul-add f.left 256 (cause_number f.cause) small) ∙ cause_again f.cause) (div-mul-add f.left 256 (cause_number f.cause) small)
 
--- The number of a failure whose place has 32 bits.
+-- The number of a failure whose number of bytes left is below 2^32.
 pub is_word : (f : Failure) → f.left < 2 ^ 32 → IsWord (word_of f)
 is_word f h =
     let small : cause_number f.cause < 256 = omega (arith, number_small f.cause) in

@@ -1,4 +1,4 @@
--- The lemmas of the crate, each file. `Words` passes on what the crates above use.
+-- The lemmas of the crate: each file as a module. `Words` re-exports what dependent crates use.
 pub mod Std
 pub mod Words
 pub mod NumberLaws

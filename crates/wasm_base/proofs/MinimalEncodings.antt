@@ -1,5 +1,5 @@
--- This file proves that minimizers append the one minimal encoding of a decoded value, part by
--- part.
+-- This file proves that minimizers append the one minimal encoding of a decoded value, component by
+-- component.
 use Rattle.wasm_base.proofs.Std.{Result, Ok, Err, ◌≡◌, ℕ, ◌+◌, ◌<◌, ◌≤◌, List, [], ◌∷◌, ◌++◌, length, take, drop, get_or, map, refl, sym, ap, ap₂, subst, ◌∙◌, append_assoc, append-nil, All, flat_map}
 use Rattle.wasm_base.proofs.Std.{Vec, All-head, All-tail, drop_at, take_at, map-append, length-map, take_more, take_all}
 use Rattle.wasm_base.specs.{minimal, padded, unsigned_encoding, Format, u32, fixed, mapped, Then, pair, prefixed, tagged, members, vec, size_prefixed, Appends, size_prefixed_encoding}

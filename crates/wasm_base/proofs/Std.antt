@@ -1,4 +1,4 @@
--- This file passes on the names of std that the lemmas of this crate use.
+-- This file re-exports the names of std that the lemmas of this crate use.
 pub use Rattle.std.proofs.Common.{Bool, Err, IfErr, IsErrAnd, IsUtf8, List, None, Ok, Option, Result, Some, [], add-one, ap, append-nil, append_assoc, ap₂, arith, cond, drop, eqb, false, get_or, inl}
 pub use Rattle.std.proofs.Common.{inr, le_refl, length, length-append, length-take, lit<, ltb, map, neg_ℤ, negsuc, pos, refl, rules, slice_index, slice_index_or, slice_set, subst, suc, sym, take}
 pub use Rattle.std.proofs.Common.{to_z-of_z, true, vec_capacity, vec_len, zero, ℕ, ℤ, ◌%◌, ◌&&◌, ◌*ℤ◌, ◌*◌, ◌++◌, ◌+ℤ◌, ◌+◌, ◌-ℤ◌, ◌-◌, ◌/◌, ◌<ℤ◌, ◌<◌, ◌^◌, ◌∙◌, ◌∷◌, ◌≡◌, ◌≢◌, ◌≤ℤ◌, ◌≤◌, ◌⊎◌}

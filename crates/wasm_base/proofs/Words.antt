@@ -1,4 +1,4 @@
--- This file passes on what the crates above use.
+-- This file re-exports the names that the proofs of dependent crates use.
 pub use Rattle.std.proofs.Common.{Bool, Bor, Decides, Err, IsUtf8, List, MatchBool, None, Ok, Option, Result, Some, [], add-one, ap, append-nil, append_assoc, ap₂, arith, cond, drop, eq-eqb, eqb}
 pub use Rattle.std.proofs.Common.{false, get_or, if◌then◌else◌, inl, inr, leb, length, length-append, lit<, lit≤, ltb, map, min, neg_ℤ, negsuc, not, option_map, pos, refl, replicate, rules}
 pub use Rattle.std.proofs.Common.{slice_index_or, string_bytes, subst, suc, sym, take, to_z-of_z, true, unwrap_or, vec_capacity, vec_len, zero, ℕ, ℤ, ◌%◌, ◌&&◌, ◌*◌, ◌++◌, ◌+◌, ◌-◌, ◌/◌, ◌<◌, ◌==◌}

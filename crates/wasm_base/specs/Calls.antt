@@ -34,20 +34,20 @@ pub record AddsEach {T : Type 0} (encoding : T → List ℕ) (Encodable : T → 
   pub counted : 0 < length items → length new ≤ longest
 
 -- The builder gains all items; or it gains as many as the error reports, and the next item fails.
--- The error is `TooLong` if the builder is full, and only then if the item fits.
+-- If the builder is full, the error is `TooLong`; if it is not and that item fits, it is another.
 pub record AddsAll {T : Type 0} (encoding : T → List ℕ) (Encodable : T → Type 0) (items : List T) (old new : List (List ℕ)) (result : Result (Unit {0}) (ℕ × Refused)) : Type 0 where
   pub ok : OnOk result (AddsEach encoding Encodable items old new)
   pub err : IfErr result (λ stopped. (stopped.0 < length items) × AddsEach encoding Encodable (take stopped.0 items) old new)
   pub too_long : IfErr result (λ stopped. stopped.1 ≡ TooLong → IfSome (slice_get items stopped.0) (λ item. Encodable item → longest ≤ length new))
   pub full : IfErr result (λ stopped. length new ≡ longest → stopped.1 ≡ TooLong)
 
--- The headline of a section: `encoding` is the one minimal encoding of any items that satisfy `Says`,
--- and decodes to them alone.
+-- The headline of a section: `encoding` is the one minimal encoding of any items that satisfy
+-- `Says`, and decodes to them alone.
 pub record DecodesBack {Items : Type 0} (F : Format Items) (Says : Items → Type 0) (encoding : List ℕ) : Type 0 where
   pub for_each : (items : Items) → Says items → DecodesUniquely F encoding items
 
--- The headline for padded LEB128: `encoding` is a possibly padded encoding of any items that satisfy
--- `Says`, and decodes to them alone.
+-- The headline for padded LEB128: `encoding` is a possibly padded encoding of any items that
+-- satisfy `Says`, and decodes to them alone.
 pub record DecodesBackPadded {Items : Type 0} (F : Format Items) (Says : Items → Type 0) (encoding : List ℕ) : Type 0 where
   pub for_each : (items : Items) → Says items → DecodesUniquelyPadded F encoding items
 

@@ -16,8 +16,8 @@ pub record Decodes {X : Type 0} (F : Format X) (mode : Mode) (bytes : List ℕ) 
 pub record Rejects {X : Type 0} (F : Format X) (mode : Mode) (bytes : List ℕ) : Type 0 where
   pub none : (x : X) (rest : List ℕ) → Decodes F mode bytes x rest → ⊥
 
--- `encoding` is the one minimal encoding of `x`. In every mode, and whatever bytes follow, it decodes
--- to `x` alone and all of it is used.
+-- `encoding` is the one minimal encoding of `x`. In every mode, and whatever bytes follow, it
+-- decodes to `x` alone, and decoding ends exactly after it.
 pub record DecodesUniquely {X : Type 0} (F : Format X) (encoding : List ℕ) (x : X) : Type 0 where
   pub encodes : F minimal encoding x
   pub unique : (mode : Mode) (after : List ℕ) (y : X) (rest : List ℕ) → Decodes F mode (encoding ++ after) y rest → (y ≡ x) × (rest ≡ after)
@@ -29,13 +29,14 @@ pub record DecodesWhole {X : Type 0} (F : Format X) (encoding : List ℕ) (x : X
   pub unique : (mode : Mode) (y : X) → F mode encoding y → y ≡ x
   pub one : (other : List ℕ) → F minimal other x → other ≡ encoding
 
--- `encoding` is a possibly padded encoding of `x`. With padding allowed, and whatever bytes follow, it
--- decodes to `x` alone and all of it is used.
+-- `encoding` is a possibly padded encoding of `x`. With padding allowed, and whatever bytes follow,
+-- it decodes to `x` alone, and decoding ends exactly after it.
 pub record DecodesUniquelyPadded {X : Type 0} (F : Format X) (encoding : List ℕ) (x : X) : Type 0 where
   pub encodes : F padded encoding x
   pub unique : (after : List ℕ) (y : X) (rest : List ℕ) → Decodes F padded (encoding ++ after) y rest → (y ≡ x) × (rest ≡ after)
 
--- The same for a format that takes all of the bytes.
+-- The same for a format that takes all of the bytes: `encoding` is a possibly padded encoding of
+-- `x`, and as a whole decodes to `x` alone.
 pub record DecodesWholePadded {X : Type 0} (F : Format X) (encoding : List ℕ) (x : X) : Type 0 where
   pub encodes : F padded encoding x
   pub unique : (y : X) → F padded encoding y → y ≡ x
@@ -46,7 +47,7 @@ pub record DecodesWholePadded {X : Type 0} (F : Format X) (encoding : List ℕ) 
 abbrev pub DeterminesPrefix : {X : Type 0} → Encoding X → Type 0
 DeterminesPrefix {X} S = (s t r q : List ℕ) (x y : X) → S s x → S t y → s ++ r ≡ t ++ q → (x ≡ y) × (s ≡ t) × (r ≡ q)
 
--- Unambiguous as a whole: no two values have the same bytes as encoding.
+-- Unambiguous as a whole: no two values have the same encoding.
 abbrev pub DeterminesWhole : {X : Type 0} → Encoding X → Type 0
 DeterminesWhole {X} S = (s : List ℕ) (x y : X) → S s x → S s y → x ≡ y
 

@@ -1,10 +1,10 @@
--- This file defines the errors of calls that decode: a cause, and a place.
+-- This file defines the errors of calls that decode: a cause, and the number of bytes left.
 use Rattle.std.specs.Prelude.{◌≡◌, ◌==◌, if◌then◌else◌, ℕ, ◌+◌, ◌*◌, ◌/◌, ◌%◌, ◌<◌, ◌^◌}
 use Rattle.wasm_base.specs.declared.fault.ReadFault.{ReadFault}
 use Rattle.wasm_base.specs.declared.fault.ReadFault.TheVariants.{Ended, NotShortest, TooLarge, UnknownTag, UnknownOpcode, NotUtf8, SizeMismatch, Memory}
 
--- A failed decoding: its cause, and how many bytes of the input are left at its place. No contract
--- says more of that number.
+-- A failed decoding: its cause, and how many bytes of the input are left. No contract determines
+-- that number.
 pub record Failure : Type 0 where
   pub cause : ReadFault
   pub left : ℕ
@@ -32,7 +32,7 @@ cause_numbered n =
     else if n == 6 then SizeMismatch
     else Memory
 
--- A failure as one number: the place times 256, and the number of the cause.
+-- A failure as one number: the number of bytes left times 256, plus the number of the cause.
 abbrev pub word_of : Failure → ℕ
 word_of f = f.left * 256 + cause_number f.cause
 
@@ -40,7 +40,7 @@ word_of f = f.left * 256 + cause_number f.cause
 abbrev pub failure_of : ℕ → Failure
 failure_of word = record { cause = cause_numbered (word % 256); left = word / 256 }
 
--- The number is that of a failure, whose place has 32 bits.
+-- The number is that of a failure, whose number of bytes left is below 2^32.
 pub record IsWord (word : ℕ) : Type 0 where
   pub is_number : word_of (failure_of word) ≡ word
   pub left : word / 256 < 2 ^ 32

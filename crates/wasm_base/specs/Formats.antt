@@ -31,7 +31,8 @@ s32 mode = Signed mode 32
 abbrev pub s64 : Format ℤ
 s64 mode = Signed mode 64
 
--- A number below 2^32, encoded as a signed number of 33 bits.
+-- A number below 2^32, encoded as a signed number of 33 bits. Core specification, Binary Format,
+-- Types, Heap Types.
 abbrev pub s33 : Format ℕ
 s33 mode s n = Signed mode 33 s (pos n)
 
@@ -112,12 +113,12 @@ abbrev pub members : {X : Type 0} → Format X → Format (List X)
 members F mode s [] = s ≡ []
 members F mode s (x ∷ xs) = (front back : List ℕ) × (s ≡ front ++ back) × F mode front x × members F mode back xs
 
--- A vector: the count of its members, then the members. Core specification, Binary Format,
--- Conventions.
+-- A vector (the standard's "list"): the count of its members, then the members. Core specification,
+-- Binary Format, Conventions.
 abbrev pub vec : {X : Type 0} → Format X → Format (List X)
 vec F mode s xs = Then u32 (λ n. members F) mode s (length xs, xs)
 
--- A size prefix, then a payload of exactly that many bytes, which together encode one value.
+-- A size prefix, then a payload of exactly that many bytes, all of which encode one value.
 pub record SizePrefixed {X : Type 0} (F : Format X) (mode : Mode) (s : List ℕ) (x : X) : Type 0 where
   pub front : List ℕ
   pub content : List ℕ
@@ -138,7 +139,7 @@ ended stop F mode s (x ∷ xs) = (front back : List ℕ) × (s ≡ front ++ back
 abbrev pub optional : {X : Type 0} → Bool → Format X → Format (Option X)
 optional flag F = when flag (mapped Some F) (fixed [] None)
 
--- Whether an optional value is there.
+-- Whether an optional value is present.
 abbrev pub is_given : {X : Type 0} → Option X → Bool
 is_given None = false
 is_given (Some x) = true

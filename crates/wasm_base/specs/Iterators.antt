@@ -7,13 +7,13 @@ use Rattle.wasm_base.specs.Encodings.{longest, vec_encoding, IsEncodableVec}
 use Rattle.wasm_base.specs.declared.refused.Refused.{Refused}
 use Rattle.wasm_base.specs.declared.refused.Refused.TheVariants.{TooLong}
 
--- Each iterator of the elements may be called, and yields as many items as it reported.
+-- Each iterator of the elements may be called, and yields as many items as it reports.
 pub record HasKnownLength {U S T : Type 0} (becomes : U → S → Type 0) (can_next : S → Type 0) (gives : S → Option T → S → Type 0) (remaining : S → Count) (elements : U) : Type 0 where
   pub can : (it : S) → becomes elements it → can_next it
   pub reported : (it : S) (xs : List T) → becomes elements it → Drains gives it xs → length xs ≡ size (remaining it)
 
 -- The call appends the vector of the items that the iterator yields, or returns an error and leaves
--- the bytes as they were. More than 2^32 - 1 items give `TooLong`.
+-- the bytes as they were. It returns `TooLong` if the iterator reports more than 2^32 - 1 items.
 pub record AppendsVec {U S T A : Type 0} (becomes : U → S → Type 0) (gives : S → Option T → S → Type 0) (remaining : S → Count) (Encodable : T → Type 0) (encoding : T → List ℕ)
     (elements : U) (old new : Vec ℕ A) (result : Result (Unit {0}) Refused) : Type 0 where
   pub ok : OnOk result ((it : S) × (xs : List T) × becomes elements it × Drains gives it xs × IsEncodableVec Encodable xs × (new.items ≡ old.items ++ vec_encoding encoding xs))

@@ -31,8 +31,8 @@ abstract_code kinds.None = 0x71
 abstract_code kinds.Cont = 0x68
 abstract_code kinds.NoCont = 0x75
 
--- The encoding of a heap type. A shared abstract type has the byte 65 before its own, and an exact
--- type the byte 62 before its index. Neither is in the core specification.
+-- The encoding of a heap type. A shared abstract type has the byte 0x65 before its own, and an
+-- exact type the byte 0x62 before its index. Neither is in the core specification.
 abbrev pub heap_encoding : HeapType → List ℕ
 heap_encoding (Abstract false ty) = abstract_code ty ∷ []
 heap_encoding (Abstract true ty) = 0x65 ∷ abstract_code ty ∷ []
@@ -95,12 +95,12 @@ unshared ty = Abstract false ty
 abbrev pub shared : AbstractHeapType → HeapType
 shared ty = Abstract true ty
 
--- The formats after the tag bytes 65 (shared) and 62 (exact) of a heap type.
+-- The formats after the tag bytes 0x65 (shared) and 0x62 (exact) of a heap type.
 abbrev pub heap_tags : List (ℕ × Format HeapType)
 heap_tags = (0x65, mapped shared abstract_type) ∷ (0x62, mapped Exact u32) ∷ []
 
--- A heap type. Its first byte decides which case it is: no index begins with a byte of another
--- case.
+-- A heap type. Its first byte determines its case: no index begins with a byte of another case.
+-- Core specification, Binary Format, Types, Heap Types.
 abbrev pub heap_type : Format HeapType
 heap_type = one_of (mapped unshared abstract_type) (one_of (tagged byte (choice heap_tags (λ b. impossible))) (mapped Concrete s33))
 
@@ -144,11 +144,11 @@ HasNoCode (Abstract true ty) = Unit {0}
 HasNoCode (Concrete index) = Unit {0}
 HasNoCode (Exact index) = Unit {0}
 
--- The formats after 63 and 64 where every reference type has one encoding.
+-- The formats after the bytes 0x63 and 0x64 if every reference type has one encoding.
 abbrev pub tight_tags : List (ℕ × Format RefType)
 tight_tags = (0x63, mapped nullable_to (such HasNoCode heap_type)) ∷ (0x64, mapped to heap_type) ∷ []
 
--- The formats after 63 and 64 that the standard admits.
+-- The formats after the bytes 0x63 and 0x64 that the standard admits.
 abbrev pub admitted_tags : List (ℕ × Format RefType)
 admitted_tags = (0x63, mapped nullable_to heap_type) ∷ (0x64, mapped to heap_type) ∷ []
 
@@ -160,12 +160,13 @@ tight_ref = one_of (mapped nullable_abstract abstract_type) (tagged byte (choice
 abbrev pub admitted_ref : Format RefType
 admitted_ref = one_of (mapped nullable_abstract abstract_type) (tagged byte (choice admitted_tags (λ b. impossible)))
 
--- The byte 63 may precede the heap type of a nullable reference type.
+-- In this grammar, the byte 0x63 may precede the heap type of a nullable reference type.
 abbrev pub HasLongForm : Grammar → HeapType → Type 0
 HasLongForm builders heap = HasNoByte heap
 HasLongForm admitted heap = Unit {0}
 
--- A reference type.
+-- A reference type: as builders write it, or in the standard's grammar minimal or as admitted. Core
+-- specification, Binary Format, Types, Reference Types.
 abbrev pub ref_type : Format RefType
 ref_type = by_mode built_ref tight_ref admitted_ref
 

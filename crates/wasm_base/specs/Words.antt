@@ -1,7 +1,7 @@
--- This file passes on the definitions that those of the crates above use.
+-- This file re-exports the definitions that the specs of dependent crates use.
 pub use Rattle.wasm_base.specs.Calls.{DecodesBack, DecodesBackPadded}
 pub use Rattle.wasm_base.specs.Continuing.{RejectsWhole}
-pub use Rattle.wasm_base.specs.Cow.{encoding_of, items_of}
+pub use Rattle.wasm_base.specs.Cow.{utf8_of, items_of}
 pub use Rattle.wasm_base.specs.Decoding.{BeginsWith, Decodes, DecodesUniquely, DecodesWhole, Rejects, Unambiguous}
 pub use Rattle.wasm_base.specs.Encodings.{HasEncodableSize, IsEncodableVec, IsSizePrefixed, any_section_encoding, little_endian_encoding, longest, optional_encoding, size_prefixed_encoding}
 pub use Rattle.wasm_base.specs.Encodings.{vec_encoding}

@@ -1,6 +1,6 @@
 // Slices and strings that are borrowed or owned.
 ghost use Rattle.std.specs.Prelude.{◌≡◌, ◌≢◌, IfOk};
-ghost use Rattle.wasm_base.specs.Cow.{items_of, encoding_of};
+ghost use Rattle.wasm_base.specs.Cow.{items_of, utf8_of};
 ghost use Rattle.wasm_base.specs.Encodings.{vec_encoding, IsEncodableVec, size_prefixed_encoding, HasEncodableSize};
 
 use crate::encode::Encode;
@@ -27,7 +27,11 @@ impl<'a, T, A: Allocator> CowSlice<'a, T, A> {
 }
 
 impl<'a, T: Copy, A: Allocator + Copy> CowSlice<'a, T, A> {
-    /// Returns the same items, and copies owned ones into memory of their own.
+    /// Returns a copy: borrowed items stay borrowed, and owned ones are copied to a new `Vec`.
+    ///
+    /// # Errors
+    ///
+    /// Returns [`Memory`](crate::Refused::Memory) if an allocation fails.
     pub fn clone(&self) -> Result<Self>
         ensures same { IfOk result (λ cow. items_of cow ≡ items_of self.now) }
         ensures memory { result ≢ Err Refused.TooLong }
@@ -63,7 +67,7 @@ pub enum CowStr<'a, A: Allocator = Global> {
 impl<'a, A: Allocator> CowStr<'a, A> {
     /// Returns the string.
     pub fn as_str(&self) -> &str
-        ensures { result.now ≡ encoding_of self.now }
+        ensures { result.now ≡ utf8_of self.now }
     {
         match self {
             CowStr::Borrowed(encoding) => encoding,
@@ -73,9 +77,14 @@ impl<'a, A: Allocator> CowStr<'a, A> {
 }
 
 impl<'a, A: Allocator + Copy> CowStr<'a, A> {
-    /// Returns the same string, and copies an owned one into memory of its own.
+    /// Returns a copy: a borrowed string stays borrowed, and an owned one is copied to a new
+    /// `String`.
+    ///
+    /// # Errors
+    ///
+    /// Returns [`Memory`](crate::Refused::Memory) if an allocation fails.
     pub fn clone(&self) -> Result<Self>
-        ensures same { IfOk result (λ cow. encoding_of cow ≡ encoding_of self.now) }
+        ensures same { IfOk result (λ cow. utf8_of cow ≡ utf8_of self.now) }
         ensures memory { result ≢ Err Refused.TooLong }
     {
         match self {
@@ -90,9 +99,9 @@ impl<'a, A: Allocator + Copy> CowStr<'a, A> {
 
 /// Encodes the string as a name.
 impl<A: Allocator> Encode for CowStr<'_, A> {
-    ghost encoding = { λ cow. size_prefixed_encoding (encoding_of cow) };
+    ghost encoding = { λ cow. size_prefixed_encoding (utf8_of cow) };
 
-    ghost encodable = { λ cow. HasEncodableSize (encoding_of cow) };
+    ghost encodable = { λ cow. HasEncodableSize (utf8_of cow) };
 
     fn encode<B: Allocator>(&self, sink: &mut Vec<u8, B>) -> Result<()> {
         self.as_str().encode(sink)

@@ -13,38 +13,38 @@ use thiserror::Error;
 #[derive(Clone, Copy, PartialEq, Eq, Debug, Error)]
 pub enum ReadFault {
     /// The bytes end before the value does.
-    #[error("Ended")]
+    #[error("unexpected end of input")]
     Ended,
     /// A number is padded. No call returns it, since padded numbers are accepted.
-    #[error("NotShortest")]
+    #[error("padded integer")]
     NotShortest,
     /// A number is out of the range of its type, or has more bytes than the type's limit.
-    #[error("TooLarge")]
+    #[error("integer too large")]
     TooLarge,
     /// A byte, a number or a name that selects a case is unknown to the grammar.
-    #[error("UnknownTag")]
+    #[error("unexpected byte or value")]
     UnknownTag,
     /// No instruction has the opcode.
-    #[error("UnknownOpcode")]
+    #[error("unknown opcode")]
     UnknownOpcode,
     /// The bytes of a name are not UTF-8.
-    #[error("NotUtf8")]
+    #[error("invalid UTF-8")]
     NotUtf8,
     /// Payload bytes remain after the value that a size prefix delimits.
-    #[error("SizeMismatch")]
+    #[error("bytes remain after the value")]
     SizeMismatch,
     /// An allocation failed.
-    #[error("Memory")]
+    #[error("out of memory")]
     Memory,
 }
 
-/// The cause of a failed decoding, and its place.
+/// The cause of a failed decoding, and the number of bytes left at the failure.
 ///
 /// Both are in one number of 64 bits, so that a result with a slice has two words, and the slice's
 /// address is moved as a whole.
 #[derive(Clone, Copy, PartialEq, Eq)]
 pub struct DecodeError {
-    /// The place times 256, and the number of the cause.
+    /// The number of bytes left times 256, plus the number of the cause.
     word: u64,
 }
 
@@ -89,7 +89,7 @@ impl ReadFault {
 }
 
 impl DecodeError {
-    /// Returns the error with this cause and this place.
+    /// Returns the error with this cause and this number of bytes left.
     #[tactic(auto, using(crate::proofs::FaultWords::failure_again, crate::proofs::FaultWords::is_word))]
     fn new(cause: ReadFault, left: u32) -> DecodeError
         ensures { result ≡ record { cause = cause; left = left } }
@@ -116,9 +116,10 @@ impl DecodeError {
         }
     }
 
-    /// Returns the place: the number of bytes from the first one that cannot be part of an encoding
-    /// to the end of the input, or from the end of a payload that ends too soon; 4294967295 if
-    /// there are more. It means nothing for `Memory`. Tests show it; no contract says it.
+    /// Returns the number of bytes left, from the first byte that cannot be part of an encoding to
+    /// the end of the input. If a payload ends too soon, the count begins at the payload's end.
+    /// The number saturates at 4294967295, and means nothing for `Memory`. Tests show it; no
+    /// contract says it.
     pub fn left(self) -> u32
         ensures { result ≡ self.left }
     {
@@ -140,7 +141,7 @@ impl fmt::Debug for DecodeError {
     }
 }
 
-/// Returns the error of a failed allocation, which has no place.
+/// Returns the error of a failed allocation, with no bytes left.
 fn no_memory() -> DecodeError
     ensures { result.cause ≡ Memory }
 {
@@ -166,7 +167,7 @@ impl<T: Drop> From<AllocFailed<T>> for DecodeError {
 /// An error of a call that appends becomes `Memory`. Such a call never returns `TooLong` for a
 /// value that has an encoding, as each decoded value has (`too_long` of
 /// [`Shorten`](crate::Shorten)). A body that is passed without its size may be too long for a size
-/// prefix: that becomes `Memory` too.
+/// prefix: that error becomes `Memory` too.
 impl From<Refused> for DecodeError {
     ghost from_gives = { λ _ error. error.cause ≡ Memory };
 

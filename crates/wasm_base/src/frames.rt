@@ -18,6 +18,11 @@ use crate::whole::read_before;
 use std::alloc::Allocator;
 
 /// Appends a size prefix, and reserves spare capacity for the payload that the caller appends next.
+///
+/// # Errors
+///
+/// Returns [`Refused::TooLong`] if the size exceeds 4294967295, and [`Refused::Memory`] if an
+/// allocation fails. The bytes of the sink are unchanged in both cases.
 pub fn begin_size_prefixed<A: Allocator>(sink: &mut Vec<u8, A>, size: usize) -> Result<()>
     ensures ok { OnOk result (sink.new.items ≡ sink.old.items ++ unsigned_encoding size) }
     ensures reserved { OnOk result (vec_len sink.new + size ≤ vec_capacity sink.new) }
@@ -43,6 +48,11 @@ pub fn begin_size_prefixed<A: Allocator>(sink: &mut Vec<u8, A>, size: usize) -> 
 const SHORT: usize = 0x80;
 
 /// Appends the bytes with their size prefix.
+///
+/// # Errors
+///
+/// Returns [`Refused::TooLong`] if there are more than 4294967295 bytes, and [`Refused::Memory`] if
+/// an allocation fails. The bytes of the sink are unchanged in both cases.
 #[tactic(auto, using(crate::proofs::NumberEncodings::one_group))]
 #[inline(always)]
 pub fn encode_size_prefixed<A: Allocator>(sink: &mut Vec<u8, A>, bytes: &[u8]) -> Result<()>
@@ -72,6 +82,11 @@ fn encode_long_payload<A: Allocator>(sink: &mut Vec<u8, A>, bytes: &[u8]) -> Res
 
 /// Appends a size prefix, then `count`, then the bytes. This is a counted section if the bytes are
 /// the encodings of `count` entries; the call does not check that.
+///
+/// # Errors
+///
+/// Returns [`Refused::TooLong`] if the size exceeds 4294967295, and [`Refused::Memory`] if an
+/// allocation fails. The bytes of the sink are unchanged in both cases.
 pub fn encode_section<A: Allocator>(sink: &mut Vec<u8, A>, count: u32, bytes: &[u8]) -> Result<()>
     ensures appends { Appends (size_prefixed_encoding (unsigned_encoding count ++ bytes.now)) (HasEncodableSize (unsigned_encoding count ++ bytes.now)) sink.old sink.new result }
     ensures too_many { longest < length (unsigned_encoding count ++ bytes.now) → result ≡ Err Refused.TooLong }
@@ -111,6 +126,11 @@ impl<'a, A: Allocator + Copy, G: Grammar, T: Readable<'a, A, G>> Readable<'a, A,
 
 /// Inserts the size of the bytes from `start` on before them, so that they become a size prefix and
 /// its payload.
+///
+/// # Errors
+///
+/// Returns [`Refused::TooLong`] only if there are more than 4294967295 such bytes, and
+/// [`Refused::Memory`] if an allocation fails. The bytes of the sink are unchanged in both cases.
 pub fn prefix_size_since<B: Allocator>(sink: &mut Vec<u8, B>, start: usize) -> Result<()>
     requires { start ≤ vec_len sink.old }
     ensures sized { OnOk result (sink.new.items ≡ take start sink.old.items ++ size_prefixed_encoding (drop start sink.old.items)) }

@@ -5,7 +5,7 @@ ghost use Rattle.wasm_base.specs.Numbers.{Grammar as GrammarOf, builders, admitt
 /// The encodings that a decoder accepts. In each grammar a value has exactly one minimal encoding,
 /// and its numbers may be padded.
 pub trait Grammar {
-    // The grammar, as formats take it.
+    // The grammar, from which `minimal_of` and `padded_of` select the mode of a format.
     ghost grammar: { GrammarOf };
 
     /// Returns `true` if all encodings that the standard admits are accepted.

@@ -1,7 +1,7 @@
 // The trait `Kind`: how the items of a section are encoded, and to which values they decode.
 ghost use Rattle.wasm_base.specs.Entries.{Kind as KindOf, ItemLaws};
 
-/// A kind of items, as a section of counted items has them.
+/// A kind of items, such as those of a counted section.
 pub trait Kind {
     /// The argument of an adding call.
     ghost Record: { Type 0 };

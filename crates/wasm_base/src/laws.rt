@@ -111,7 +111,7 @@ pub fn types()
 {}
 
 /// In the standard's grammar, the byte of an abstract heap type is the minimal encoding of the
-/// nullable reference type to it. In the builders' grammar only 70 and 6F are.
+/// nullable reference type to it. In the builders' grammar only 0x70 and 0x6F are.
 #[tactic(auto, using(crate::proofs::RefTypeLaws::standard_types))]
 pub fn standard_types()
     ensures reference { (ty : AbstractHeapType) → ref_type standard_minimal (abstract_code ty ∷ []) (nullable_abstract ty) }

@@ -96,8 +96,8 @@ fn put_two_groups<A: Allocator>(sink: &mut Vec<u8, A>, negative: bool, limit: u6
 /// The most groups that a number of 64 bits has.
 const MOST_GROUPS: usize = 10;
 
-/// Appends the several groups of `n`. With spare capacity for `MOST_GROUPS` the groups are not
-/// counted first, and two groups are written without a loop.
+/// Appends the groups of `n`, of which there are at least two. With spare capacity for
+/// `MOST_GROUPS` they are not counted first, and two groups are written without a loop.
 #[tactic(auto, using(crate::proofs::NumberEncodings::most_groups))]
 #[inline(always)]
 fn append_groups<A: Allocator>(
@@ -121,7 +121,7 @@ fn append_groups<A: Allocator>(
     Ok(())
 }
 
-/// Appends the groups of `n`, after one request for exactly the memory that they take.
+/// Appends the groups of `n`, which are counted first so that one reservation suffices.
 #[cold]
 #[inline(never)]
 fn append_counted_groups<A: Allocator>(
@@ -169,6 +169,7 @@ fn append_unsigned<A: Allocator>(sink: &mut Vec<u8, A>, n: u64) -> Result<()>
     append_long_unsigned(sink, n)
 }
 
+/// Appends a signed number. Most have one byte, which is written here without a call.
 #[tactic(auto, using(crate::proofs::NumberEncodings::one_group))]
 #[inline]
 fn append_signed<A: Allocator>(sink: &mut Vec<u8, A>, n: i64) -> Result<()>
@@ -207,7 +208,7 @@ impl Encode for u64 {
     }
 }
 
-/// Encodes a count or a length as unsigned LEB128. A number above 4294967295 is `TooLong`.
+/// Encodes a count or a length as unsigned LEB128. Returns `TooLong` for a number above 4294967295.
 impl Encode for usize {
     ghost encoding = { unsigned_encoding };
 
@@ -320,7 +321,7 @@ fn signed_byte(group: u8) -> i16
     }
 }
 
-/// At most five groups, as in [`Groups`], in 64 bits.
+/// At most five groups, with the fields of [`Groups`] in 64 bits.
 #[derive(Clone, Copy)]
 struct FewGroups {
     sum: u64,
@@ -543,6 +544,10 @@ impl<'a, A: Allocator + Copy, G: Grammar> Readable<'a, A, G> for i64 {
 
 /// Decodes an index, encoded as a signed number of 33 bits. Negative numbers encode types, whose
 /// known bytes the caller has already matched.
+///
+/// # Errors
+///
+/// Any error but `Memory` means that no such index is at the front.
 #[tactic(auto, using(crate::proofs::DecodeNumbers::index_steps))]
 #[inline]
 pub fn read_index<G: Grammar>(bytes: &[u8]) -> Result<(u32, &[u8]), DecodeError>

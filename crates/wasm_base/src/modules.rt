@@ -63,7 +63,11 @@ impl<A: Allocator> Module<A> {
         section.append_to(&mut self.bytes)
     }
 
-    /// Returns a module of the same bytes, in memory of its own.
+    /// Returns a copy of the module in newly allocated memory.
+    ///
+    /// # Errors
+    ///
+    /// Returns [`Memory`](crate::Refused::Memory) if an allocation fails.
     pub fn clone(&self) -> Result<Module<A>>
     where
         A: Clone,

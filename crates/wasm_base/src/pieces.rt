@@ -149,7 +149,7 @@ impl<A: Allocator> Pieces<A> {
 }
 
 impl<A: Allocator + Copy> Pieces<A> {
-    /// Returns no entries, without an allocation.
+    /// Returns a buffer without entries. It allocates nothing.
     pub fn new(alloc: A) -> Self
         ensures { result ≡ [] }
     {
@@ -159,7 +159,11 @@ impl<A: Allocator + Copy> Pieces<A> {
         }
     }
 
-    /// Returns the same entries, in memory of their own.
+    /// Returns a copy of the entries in newly allocated memory.
+    ///
+    /// # Errors
+    ///
+    /// Returns [`Refused::Memory`] if an allocation fails, and never [`Refused::TooLong`].
     pub fn clone(&self) -> Result<Self>
         ensures same { IfOk result (λ pieces. pieces ≡ self.now) }
         ensures memory { result ≢ Err Refused.TooLong }

@@ -6,8 +6,8 @@ use std::alloc::{AllocError, AllocFailed};
 use std::result;
 use thiserror::Error;
 
-/// The error of a call that appends to a sink or adds to a builder. Unless its documentation says
-/// otherwise, such a call changes nothing.
+/// The error of a call that appends to a sink or adds to a builder. A call that returns it changes
+/// nothing, unless its documentation says otherwise.
 #[derive(Clone, Copy, PartialEq, Eq, Debug, Error)]
 pub enum Refused {
     /// An allocation failed. Tests show that calls return it in no other case; no contract says

@@ -35,7 +35,12 @@ pub trait Section: Encode {
     fn id(&self) -> u8
         ensures { result ≡ id_of self.now };
 
-    /// Appends the id and the encoding. On an error, the bytes of `dst` are unchanged.
+    /// Appends the id and the encoding.
+    ///
+    /// # Errors
+    ///
+    /// Returns [`Refused`], and leaves the bytes of `dst` unchanged, if the section is too long or
+    /// an allocation fails.
     fn append_to<A: Allocator>(&self, dst: &mut Vec<u8, A>) -> Result<()>
         ensures appends { Appends (id_of self.now ∷ Self.encoding self.now) (Self.encodable self.now) dst.old dst.new result }
         ensures read { OnOk result (Self.decoding self.now) }

@@ -17,7 +17,12 @@ pub trait Shorten: Layout {
         ensures front { IsFrontOf sink.old.items sink.new.items }
         ensures too_long { HasEncoding Self.format (Self.view self.now) → result ≢ Err TooLong };
 
-    /// Appends the minimal encoding of the value. On an error, the sink is unchanged.
+    /// Appends the minimal encoding of the value.
+    ///
+    /// # Errors
+    ///
+    /// Returns [`Refused`](crate::Refused), and leaves the bytes of the sink unchanged, if an
+    /// allocation fails. A decoded value never causes `TooLong`.
     fn append_minimal<B: Allocator>(&self, sink: &mut Vec<u8, B>) -> Result<()>
         ensures ok { OnOk result (AppendsMinimal Self.format (Self.view self.now) sink.old.items sink.new.items) }
         ensures err { OnErr result (sink.new.items ≡ sink.old.items) }

@@ -23,7 +23,7 @@ pub trait Skip<'a, A: Allocator + Copy, G: Grammar>: Layout {
         ensures none { IfErr result (λ e. e.cause ≢ Memory → Rejects Self.format (padded_of G.grammar) bytes.now) };
 }
 
-/// A value that is decoded, and dropped at once.
+/// A value that is skipped by decoding it, for types without a cheaper `skip`.
 pub struct Dropped<T>(T);
 
 impl<T: Layout> Layout for Dropped<T> {

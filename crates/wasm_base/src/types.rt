@@ -20,8 +20,7 @@ use crate::refused::Result;
 use crate::shorten::Shorten;
 use std::alloc::Allocator;
 
-/// The heap types that have a name, as the core specification ("Heap Types") and its proposals
-/// define them.
+/// An abstract heap type, as the core specification ("Heap Types") and its proposals define it.
 #[derive(Clone, Copy, PartialEq, Eq, Hash, Debug)]
 pub enum AbstractHeapType {
     Func = 0x70,
@@ -137,8 +136,8 @@ impl Encode for HeapType {
 }
 
 impl RefType {
-    /// Appends the byte that says whether null is admitted, and the heap type. Out of line: most
-    /// reference types have a byte of their own.
+    /// Appends the byte for the nullability, and the heap type. Out of line, since most reference
+    /// types have a byte of their own.
     #[inline(never)]
     fn encode_heap_type<A: Allocator>(self, sink: &mut Vec<u8, A>) -> Result<()>
         ensures { Appends (cond self.nullable 0x63 0x64 ∷ heap_encoding self.heap_type) ⊤ sink.old sink.new result }
@@ -197,7 +196,7 @@ impl Encode for ValType {
     }
 }
 
-/// Returns the abstract heap type of this byte.
+/// Returns the abstract heap type that the byte encodes, or `None` if it encodes none.
 #[tactic(auto, using(crate::proofs::DecodeTypes::abstract_steps))]
 fn abstract_of(byte: u8) -> Option<AbstractHeapType>
     ensures { MatchOption result ((ty : Abstract) → byte ≢ abstract_code ty) (λ ty. byte ≡ abstract_code ty) }
@@ -293,7 +292,7 @@ fn has_own_byte(heap: HeapType) -> bool
     }
 }
 
-/// Returns `true` if the byte 63 may precede the heap type of a nullable reference type.
+/// Returns `true` if the byte 0x63 may precede the heap type of a nullable reference type.
 #[tactic(auto, using(crate::proofs::DecodeTypes::long_form_steps))]
 fn has_long_form<G: Grammar>(heap: HeapType) -> bool
     ensures yes { IsTrue result → HasLongForm G.grammar heap }
@@ -305,8 +304,8 @@ fn has_long_form<G: Grammar>(heap: HeapType) -> bool
     !has_own_byte(heap)
 }
 
-/// Returns the reference type that the byte encodes by the standard, if the grammar is the
-/// standard's.
+/// Returns the nullable reference type that the byte alone encodes in the standard's grammar.
+/// Returns `None` for any other byte, and in the builders' grammar.
 #[tactic(auto, using(crate::proofs::DecodeTypes::short_steps))]
 fn short_ref<G: Grammar>(byte: u8) -> Option<RefType>
     ensures { MatchOption result (is_admitted G.grammar ≡ true → (ty : Abstract) → byte ≢ abstract_code ty) (λ r. ref_type (padded_of G.grammar) (byte ∷ []) r) }
@@ -387,6 +386,10 @@ impl<'a, A: Allocator + Copy, G: Grammar> Readable<'a, A, G> for RefType {
 }
 
 /// Decodes a value type after its first byte, `tag`.
+///
+/// # Errors
+///
+/// Any error but `Memory` means that no value type is at the front of `tag` and the bytes.
 #[tactic(auto, using(crate::proofs::DecodeTypes::val_steps))]
 pub fn read_val_after<'a, A: Allocator + Copy, G: Grammar>(
     tag: u8,

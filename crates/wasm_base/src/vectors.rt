@@ -37,8 +37,12 @@ impl<T: Encode> Encode for &[T] {
 }
 
 /// Appends the elements as a vector: the length that their iterator reports, and then each element.
-/// On an error, the bytes of the sink are unchanged. If the reported length exceeds 4294967295, the
-/// call returns `TooLong`, and requests no element, as tests show.
+///
+/// # Errors
+///
+/// Returns [`Refused`](crate::Refused), and leaves the bytes of the sink unchanged, if an element
+/// does not fit or an allocation fails. If the reported length exceeds 4294967295, the call returns
+/// `TooLong`, and requests no element, as tests show.
 pub fn encode_vec<T: Encode + Drop, V: IntoIterator<Item = T>, A: Allocator>(
     elements: V,
     sink: &mut Vec<u8, A>,
@@ -94,8 +98,12 @@ fn write_all<T: Shorten, B: Allocator>(items: &[T], sink: &mut Vec<u8, B>) -> Re
     Ok(())
 }
 
-/// Appends the minimal encodings of the values, one after another. On an error, the sink is
-/// unchanged.
+/// Appends the minimal encodings of the values, one after another.
+///
+/// # Errors
+///
+/// Returns [`Refused`](crate::Refused), and leaves the bytes of the sink unchanged, if an
+/// allocation fails. Decoded values never cause `TooLong`.
 pub fn append_all<T: Shorten, B: Allocator>(items: &[T], sink: &mut Vec<u8, B>) -> Result<()>
     ensures ok { OnOk result (AppendsMinimal (members T.format) (map T.view items.now) sink.old.items sink.new.items) }
     ensures err { OnErr result (sink.new.items ≡ sink.old.items) }

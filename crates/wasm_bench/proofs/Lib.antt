@@ -1,1 +1,2 @@
+-- This file lists the crate's files of lemmas.
 pub mod PieceLengths

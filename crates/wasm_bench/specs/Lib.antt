@@ -1,2 +1,3 @@
+-- This file lists the crate's files of definitions.
 pub mod Answers
 pub mod Decodings

@@ -74,7 +74,8 @@ enum dz_kind {
     DZ_SOURCE_MAPPING_URL,
     DZ_EXTERNAL_DEBUG_INFO,
     DZ_BUILD_ID,
-    DZ_DYLINK
+    DZ_DYLINK,
+    DZ_RELOCATIONS
 };
 
 /* A section that dz_list returns: the number of its items, the size of its payload in bytes, and

@@ -1,2 +1,3 @@
+-- This file lists the crate's files of lemmas.
 pub mod Assembled
 pub mod Named

@@ -1,3 +1,4 @@
+-- This file lists the crate's files of definitions.
 pub mod Assembled
 pub mod Causes
 pub mod Listing

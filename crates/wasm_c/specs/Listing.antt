@@ -37,7 +37,7 @@ pub record Lists (module_bytes : List ℕ) (old new : List DzSection) (place cau
   pub no_cause : cause ≡ 0
 
 -- The call returns no list, and writes nothing. The section of this number is the first that does
--- not decode, or memory was refused. At 0, the header, the error is `Ended` or `UnknownTag`.
+-- not decode, or an allocation failed. At 0, the header, the error is `Ended` or `UnknownTag`.
 pub record Refuses (module_bytes : List ℕ) (old new : List DzSection) (place cause n : ℕ) : Type 0 where
   pub answer : n ≡ NO_ANSWER
   pub kept : new ≡ old

@@ -59,7 +59,7 @@ pub record Outlines (module_bytes : List ℕ) (old new : List DzOutlined) (place
   pub no_cause : cause ≡ 0
 
 -- The call returns no outline, and writes nothing. The section of this number is the first that is
--- malformed, whatever its payload, or memory was refused.
+-- malformed, whatever its payload, or an allocation failed.
 pub record Refuses (module_bytes : List ℕ) (old new : List DzOutlined) (place cause n : ℕ) : Type 0 where
   pub answer : n ≡ NO_ANSWER
   pub kept : new ≡ old

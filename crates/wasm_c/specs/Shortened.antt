@@ -18,8 +18,8 @@ pub record Shortened (number : ℕ) (bytes old new : List ℕ) (taken cause n : 
   pub gives : Gives text old new n
   pub no_cause : cause ≡ 0
 
--- No kind has the number; or the bytes do not begin with a section of the kind, or memory was
--- refused.
+-- No kind has the number; or the bytes do not begin with a section of the kind, or an allocation
+-- failed.
 abbrev pub IsWhy : ℕ → List ℕ → ℕ → Type 0
 IsWhy number bytes cause =
     ((cause ≡ 9) × (kind_numbered number ≡ None))

@@ -24,7 +24,7 @@ pub record Shortened (module_bytes : List ℕ) (drop_offsets : ℕ) (old new : L
   pub no_cause : cause ≡ 0
 
 -- The section of this number would lose its offsets; or it is the first that is malformed, whatever
--- its payload, or memory was refused.
+-- its payload, or an allocation failed.
 abbrev pub IsWhy : List ℕ → ℕ → ℕ → ℕ → Type 0
 IsWhy module_bytes drop_offsets place cause =
     ((cause ≡ 10) × Explains (offsets_numbered drop_offsets) module_bytes (faults.Offsets place))

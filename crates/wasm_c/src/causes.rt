@@ -44,7 +44,7 @@ fn recipe_text(cause: u32) -> Option<&'static str>
 }
 
 /// Writes the message of a cause of [`dz_list`](crate::listing::dz_list),
-/// [`dz_outline`](crate::outlining::dz_outline), [`dz_shorten`](crate::shortest::dz_shorten) or
+/// [`dz_outline`](crate::outlining::dz_outline), [`dz_shorten`](crate::minimal::dz_shorten) or
 /// [`dz_shorten_module`](crate::whole::dz_shorten_module), in ASCII and without a terminating NUL.
 /// Returns its length in bytes, or [`NO_ANSWER`] for any other number.
 #[unsafe(no_mangle)]

@@ -163,7 +163,7 @@ fn minimal_encodings(rt: HostRuntime) {
 
 /// Bytes that end too early, bytes of another kind, a number that no kind has, and no bytes.
 #[test]
-fn no_section_stands(rt: HostRuntime) {
+fn no_section_decodes(rt: HostRuntime) {
     let alloc = rt.alloc();
     let padded: &[u8] = &[0x86, 0x00, 0x01, 0x85, 0x80, 0x80, 0x80, 0x00, 0x99];
     check_text(
@@ -498,7 +498,7 @@ const CAUSES: [RecipeCause; 9] = [
 #[test]
 fn texts_that_are_printed(rt: HostRuntime) {
     for fault in FAULTS {
-        let said = format!(in rt.alloc(); "{fault}").expect(&rt, "accepted");
+        let said = format!(in rt.alloc(); "{fault:?}").expect(&rt, "accepted");
         let mut room = [9; 20];
         let answer = dz_cause(fault_number(fault), &mut room);
         check_told(&rt, answer, &room, said.as_bytes());

@@ -38,7 +38,7 @@ body_appended runs code old middle new a b =
     let given = subst (λ z. AppendsMinimal (vec (pair u32 val_type)) z old middle) (map-id runs) a in
     mapped_appended body_of (pair (vec (pair u32 val_type)) (members (instruction table))) (runs, code) old new (λ z e. ap (λ x. (x.runs, x.code)) e) (pair_appended (vec (pair u32 val_type)) (members (instruction table)) given b)
 
--- ---- parts that have encodings
+-- ---- components that have encodings
 
 pub code_encoded : (is : List Plain) → HasEncoding expression is → HasEncoding (members (instruction table)) is
 code_encoded is h = let read = before_end IsNoEnd (instruction table) 0x0B is h.bytes h.decoded in record { bytes = read.0; decoded = read.1 }

@@ -114,14 +114,14 @@ overfull t old types are e encodable full =
     let all = encodable new (are_runs_of (types ++ t ∷ []) new (more.runs are) (more.expanded ∙ ap (λ z. z ++ t ∷ []) e)) in
     omega (arith, full.full, All-last IsCounted full.others (full.count + 1, t) all.counts)
 
--- A call that adds a local therefore fails for another reason.
+-- If the runs of all types fit, a call that adds a local never returns `TooLong`.
 pub not_full : (result : Result (Unit {0}) Refused) (t : ValType) (old : List Run) (types : List ValType) → IsRuns old → expand old ≡ types → ((runs : List Run) → AreRunsOf (types ++ t ∷ []) runs → AreEncodableRuns runs)
     → (result ≡ Err TooLong → IsFull t old) → result ≢ Err TooLong
 not_full result t old types are e encodable full is = overfull t old types are e encodable (full is)
 
 -- ---- calls
 
--- A call that takes types and passes their runs on encodes these runs.
+-- A call that passes the runs of its types to `new` encodes these runs.
 pub types_given : {U S V W A : Type 0} (becomes : U → S → Type 0) (gives : S → Option ValType → S → Type 0) (vec_becomes : V → W → Type 0) (vec_gives : W → Option Run → W → Type 0) (remaining : W → Count)
     (elements : U) (given : V) (runs : Vec Run A) (result : Result (List ℕ) Refused)
     → ((it : W) (xs : List Run) → vec_becomes given it → Drains vec_gives it xs → xs ≡ runs.items) → ((it : W) → vec_becomes given it → size (remaining it) ≡ length runs.items)

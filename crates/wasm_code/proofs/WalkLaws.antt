@@ -13,11 +13,11 @@ use Rattle.wasm_code.proofs.DecodeLists.{body_no_runs, ended_start, ended_fail, 
 pub decodes_there : {m : Mode} {X : Type 0} {F : Format X} {bytes other rest : List ℕ} {x : X} → bytes ≡ other → Decodes F m bytes x rest → Decodes F m other x rest
 decodes_there {m = m} {F = F} {rest = rest} {x = x} e h = subst (λ z. Decodes F m z x rest) e h
 
--- The bytes from the offset on, as a range takes them.
-pub from_place : (bytes : List ℕ) (offset : ℕ) → take (length bytes - offset) (drop offset bytes) ≡ drop offset bytes
-from_place bytes offset = take_all (length bytes - offset) (drop offset bytes) (omega (arith, length-drop offset bytes))
+-- The bytes from the offset on, as a range index selects them.
+pub from_offset : (bytes : List ℕ) (offset : ℕ) → take (length bytes - offset) (drop offset bytes) ≡ drop offset bytes
+from_offset bytes offset = take_all (length bytes - offset) (drop offset bytes) (omega (arith, length-drop offset bytes))
 
--- The suffix of a value begins at the offset that its length gives.
+-- The suffix after a value begins at the offset that follows from the suffix's length.
 pub follows : {m : Mode} {X : Type 0} (F : Format X) (bytes rest : List ℕ) (offset : ℕ) (x : X) → offset ≤ length bytes → Decodes F m (drop offset bytes) x rest → drop (length bytes - length rest) bytes ≡ rest
 follows F bytes rest offset x l h =
     let long : length (drop offset bytes) ≡ length h.front + length rest = ap length h.split ∙ length-append h.front rest in

@@ -1,4 +1,4 @@
--- This file passes on what the crates above use.
+-- This file re-exports the names that the proofs of dependent crates use.
 pub use Rattle.wasm_code.proofs.BodyLaws.{body_whole, grows, has_locals, no_locals, size_prefixed_body_unambiguous}
 pub use Rattle.wasm_code.proofs.Calls.{adds_bodies, adds_bodies_padded, adds_body, adds_body_padded, adds_constant, adds_instruction, adds_instruction_padded, adds_instructions_padded, all_of}
 pub use Rattle.wasm_code.proofs.Calls.{encodes_code, encodes_code_padded, encodes_padded, gains_code, gains_code_padded, gains_raw_code, included_body, included_constant, lent, new_code, new_function}

@@ -61,7 +61,7 @@ pub record MoreRuns (type : ValType) (old new : List Run) : Type 0 where
   pub runs : IsRuns old → IsRuns new
   pub expanded : expand new ≡ expand old ++ type ∷ []
 
--- The last run has this type, and its count cannot grow beyond 2^32 - 1.
+-- The last run has this type, and its count is at least 2^32 - 1.
 pub record IsFull (type : ValType) (runs : List Run) : Type 0 where
   pub others : List Run
   pub count : ℕ
@@ -123,7 +123,8 @@ pub record HasLocals (runs : List Run) (bytes : List ℕ) : Type 0 where
   pub encoding : bytes ≡ locals_encoding runs
   pub plain : length runs ≤ longest → All IsRun runs → IsWellFormedBody bytes (record { runs = runs; code = [] })
 
--- The new function has the runs that the iterator yields. More than 2^32 - 1 runs give `TooLong`.
+-- The new function has the runs that the iterator yields. If the iterator reports more than
+-- 2^32 - 1 runs, the call returns `TooLong`.
 pub record BeginsWithRuns {U S : Type 0} (becomes : U → S → Type 0) (gives : S → Option Run → S → Type 0) (remaining : S → Count) (elements : U) (result : Result (List ℕ) Refused) : Type 0 where
   pub ok : IfOk result (λ bytes. (it : S) × (runs : List Run) × becomes elements it × Drains gives it runs × (length runs ≤ longest) × HasLocals runs bytes)
   pub too_long : ((it : S) → becomes elements it → size (remaining it) ≤ longest) → result ≢ Err TooLong

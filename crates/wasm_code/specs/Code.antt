@@ -33,8 +33,8 @@ EncodesBodies entries bodies = EncodesBodiesIn minimal entries bodies
 abbrev pub EncodesBodiesPadded : List (List ℕ) → List Body → Type 0
 EncodesBodiesPadded entries bodies = EncodesBodiesIn padded entries bodies
 
--- The headline: the bytes decode to the raw bodies alone, and if these encode bodies, possibly
--- padded, to these alone.
+-- The headline: the bytes decode to the raw bodies alone. If the raw bodies encode some bodies,
+-- minimally or padded, the bytes decode to those bodies alone.
 pub record DecodesCode (entries : List (List ℕ)) (encoding : List ℕ) : Type 0 where
   pub raw : DecodesBack raw_code (ContainsBodies entries) encoding
   pub bodies : DecodesBack code_section (EncodesBodies entries) encoding

@@ -20,8 +20,8 @@ use Rattle.wasm_insn.specs.declared.instruction.Instruction.TheVariants as instr
 abbrev pub IsNoEnd : Plain → Type 0
 IsNoEnd i = same_op i.op (Byte 0x0B) ≡ false
 
--- An expression: instructions other than `end`, then `end`. An expression with a nested block does
--- not decode.
+-- An expression: instructions other than `end`, then `end`. The first `end` ends it, even that of a
+-- nested block.
 abbrev pub expression : Format (List Plain)
 expression = ended 0x0B (such IsNoEnd (instruction table))
 

@@ -77,7 +77,8 @@ impl<A: Allocator> CodeSection<A> {
         self.pieces.is_empty()
     }
 
-    /// Returns the bytes of the entry at `index`: a raw body with its size prefix.
+    /// Returns the bytes of the entry at `index`, a raw body with its size prefix, or `None` if
+    /// there is no such entry.
     pub fn piece(&self, index: u32) -> Option<&[u8]>
         ensures { option_copied result ≡ slice_get self.now index }
     {
@@ -109,7 +110,7 @@ impl<A: Allocator + Copy> CodeSection<A> {
         }
     }
 
-    /// Returns a section of the same bodies, in memory of its own.
+    /// Returns a copy of the section in newly allocated memory.
     pub fn clone(&self) -> Result<Self>
         ensures same { IfOk result (λ section. section ≡ self.now) }
         ensures memory { result ≢ Err TooLong }

@@ -6,6 +6,7 @@ ghost use Rattle.wasm_base.specs.declared.refused.Refused.TheVariants.{TooLong};
 ghost use Rattle.wasm_base.specs.Encodings.{optional_encoding};
 ghost use Rattle.wasm_code.specs.Expressions.{expression, expression_encoding, StoresInstructions, instruction_of, first_encoding, Stores, StoresGiven, AppendsEach, IsRefFunc};
 
+use crate::expression::END;
 use crate::first::First;
 use crate::function::append_all;
 use std::alloc::{Allocator, Global};
@@ -22,8 +23,8 @@ use wasm_insn::{Ieee32, Ieee64, Instruction, InstructionSink, Numeric, VectorImm
 ///
 /// # Errors
 ///
-/// Its calls return `Memory` if an allocation fails. `extended` alone can return `TooLong`: then an
-/// instruction has a list that is too long.
+/// Calls return `Memory` if an allocation fails. Only `extended` can return `TooLong`: if a list in
+/// an instruction is too long. A call that consumes an expression drops it on an error.
 #[derive(Drop, Debug)]
 pub struct ConstExpr<A: Allocator = Global> {
     first: Option<First>,
@@ -82,7 +83,7 @@ impl<A: Allocator> ConstExpr<A> {
         Ok(ConstExpr { first: None, bytes })
     }
 
-    /// Returns the instructions that these bytes encode, and allocates nothing.
+    /// Returns the expression whose stored bytes these are, and allocates nothing.
     pub(crate) fn stored(bytes: Vec<u8, A>) -> Self
         ensures { result ≡ bytes.items }
     {
@@ -313,7 +314,7 @@ impl<A: Allocator> ConstExpr<A> {
         Ok(self)
     }
 
-    /// Returns the index of `RefFunc`, if the expression begins with it.
+    /// Returns the index of `RefFunc` if the expression begins with it, and `None` otherwise.
     #[tactic(auto, using(crate::proofs::RefFuncLaws::first_index))]
     pub fn get_ref_func(&self) -> Option<u32>
         ensures { IsRefFunc self.now result }
@@ -325,7 +326,7 @@ impl<A: Allocator> ConstExpr<A> {
     }
 }
 
-/// Returns the index of `RefFunc`, if the bytes begin with it.
+/// Returns the index of `RefFunc` if the bytes begin with it, and `None` otherwise.
 #[tactic(auto, using(crate::proofs::RefFuncLaws::ref_func_steps))]
 pub(crate) fn function_at_front(bytes: &[u8]) -> Option<u32>
     ensures { IsRefFunc bytes.now result }
@@ -346,7 +347,7 @@ pub(crate) fn function_at_front(bytes: &[u8]) -> Option<u32>
     }
 }
 
-/// Appends the encodings of the elements.
+/// Appends the encodings of the elements. After an error, some of them may be in the sink.
 fn encode_each<T: Encode + Drop, I: IntoIterator<Item = T>, A: Allocator>(
     elements: I,
     sink: &mut Vec<u8, A>,
@@ -363,7 +364,7 @@ where
 }
 
 impl<A: Allocator + Copy> ConstExpr<A> {
-    /// Returns the same expression, in memory of its own.
+    /// Returns a copy of the expression in newly allocated memory.
     pub fn clone(&self) -> Result<Self>
         ensures same { IfOk result (λ e. e ≡ self.now) }
         ensures memory { result ≢ Err TooLong }
@@ -392,9 +393,6 @@ impl Encode for Stored<'_> {
         Ok(())
     }
 }
-
-/// The opcode of `End`.
-pub(crate) const END: u8 = 0x0B;
 
 /// Encodes the stored bytes, and `End`.
 impl<A: Allocator> Encode for ConstExpr<A> {

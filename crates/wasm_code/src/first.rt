@@ -20,7 +20,7 @@ pub enum First {
 }
 
 impl First {
-    /// Returns the index of `RefFunc`.
+    /// Returns the index of `RefFunc`, or `None` for other instructions.
     pub fn function_index(self) -> Option<u32>
         ensures index { result ≡ index_of self }
         ensures range { IfSome result (λ index. index < 2 ^ 32) }

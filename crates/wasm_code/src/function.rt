@@ -43,9 +43,12 @@ impl<A: Allocator> Model for Function<A> {
 }
 
 impl<A: Allocator> Function<A> {
-    /// Returns a function with these runs of locals, to which instructions are then appended. If
-    /// the length that the locals report exceeds 4294967295, the call returns `TooLong`, and
-    /// requests none of them, as tests show.
+    /// Returns a function with these runs of locals, to which instructions are then appended.
+    ///
+    /// # Errors
+    ///
+    /// Returns `Memory` if an allocation fails. If the length that the locals report exceeds
+    /// 4294967295, the call returns `TooLong`, and requests none of them, as tests show.
     pub fn new<V: IntoIterator<Item = (u32, ValType)>>(alloc: A, locals: V) -> Result<Self>
     where
         V::IntoIter: ExactSizeIterator + Drop,
@@ -110,8 +113,7 @@ impl<A: Allocator> Function<A> {
 }
 
 impl<A: Allocator + Copy> Function<A> {
-    /// Returns a function with locals of these types: `new` of their runs. Neighbours of one type
-    /// form one run.
+    /// Returns a function with locals of these types. Neighbours of one type form one run.
     pub fn new_with_locals_types<I: IntoIterator<Item = ValType>>(
         alloc: A,
         locals: I,
@@ -125,7 +127,7 @@ impl<A: Allocator + Copy> Function<A> {
         Function::new(alloc, runs)
     }
 
-    /// Returns the same function, in memory of its own.
+    /// Returns a copy of the function in newly allocated memory.
     pub fn clone(&self) -> Result<Self>
         ensures same { IfOk result (λ f. f ≡ self.now) }
         ensures memory { result ≢ Err TooLong }

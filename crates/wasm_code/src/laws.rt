@@ -50,8 +50,8 @@ pub fn offset<A: Allocator>()
     ensures added { (i : Instruction A) → FindsAdded i }
 {}
 
-/// If a module decodes to ids and payloads, and a code section decodes to bodies alone, then its
-/// payload decodes to these alone.
+/// If a module decodes to ids and payloads, and a code section decodes to bodies alone, then the
+/// section's payload decodes to these alone.
 #[tactic(auto, using(crate::proofs::CodeLaws::payloads))]
 pub fn payloads()
     ensures raw_code { DecodesPayloads (vec (size_prefixed any_bytes)) }
@@ -110,9 +110,9 @@ pub fn rejections()
     ensures padded_of { RejectsAllAfter code_section (5 ∷ 1 ∷ 3 ∷ 128 ∷ 0 ∷ 11 ∷ []) }
 {}
 
-/// The visitor of a body reports the offsets that `Function::byte_len` of `wasm_code` returned.
-/// After as many instructions as a raw body has, a visitor of a longer body that begins with it is
-/// at that raw body's length. It has then visited exactly that body.
+/// The visitor of a body is at the offsets that `Function::byte_len` returned when the body was
+/// built. After as many instructions as a raw body has, a visitor of a longer body that begins with
+/// it is at that raw body's length. It has then visited exactly that body.
 #[tactic(auto, using(crate::proofs::OffsetSteps::offsets))]
 pub fn offsets()
     ensures { OffsetLaws }

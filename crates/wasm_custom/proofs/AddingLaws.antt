@@ -30,16 +30,16 @@ module _ {U S T : Type 0} (becomes : U → S → Type 0) (gives : S → Option T
 
 module _ {U S V R T W : Type 0} (becomes : U → S → Type 0) (gives : S → Option T → S → Type 0) (remaining : S → Count) (first : U) (it : S) (from : becomes first it) (count : ℕ) (known : size (remaining it) ≡ count) (few : count ≤ longest)
     (turns : V → R → Type 0) (hands : R → Option W → R → Type 0) (left : R → Count) (second : V) (jt : R) (made : turns second jt) (number : ℕ) (tells : size (left jt) ≡ number) (low : number ≤ longest)
-    (front : List ℕ) (encodable : Type 0) (was_encodable : encodable) (Encodable : T → Type 0) (Suits : W → Type 0) (encoding : T → List ℕ) (encoding_of : W → List ℕ) where
-  pub adds_two : (old new : List (List ℕ)) (result : Result (Unit {0}) Refused) → AddsOnce (GivesTriple front encodable (GivesVec gives Encodable encoding it) (GivesVec hands Suits encoding_of jt)) (encodable × YieldsEncodable gives Encodable it × YieldsEncodable hands Suits jt) old new result
-      → AddsTwoLists becomes gives remaining first turns hands left second Encodable Suits (λ xs ys. front ++ (vec_encoding encoding xs ++ vec_encoding encoding_of ys)) old new result
+    (front : List ℕ) (encodable : Type 0) (was_encodable : encodable) (Encodable : T → Type 0) (Suits : W → Type 0) (encoding : T → List ℕ) (utf8_of : W → List ℕ) where
+  pub adds_two : (old new : List (List ℕ)) (result : Result (Unit {0}) Refused) → AddsOnce (GivesTriple front encodable (GivesVec gives Encodable encoding it) (GivesVec hands Suits utf8_of jt)) (encodable × YieldsEncodable gives Encodable it × YieldsEncodable hands Suits jt) old new result
+      → AddsTwoLists becomes gives remaining first turns hands left second Encodable Suits (λ xs ys. front ++ (vec_encoding encoding xs ++ vec_encoding utf8_of ys)) old new result
   adds_two old new (Ok x) h = record {
     ok =
         let said = h.ok in
         let pair = said.1 in
         let a = pair.first in
         let b = pair.second in
-        let is : said.0 ≡ front ++ (vec_encoding encoding a.items ++ vec_encoding encoding_of b.items) = pair.is ∙ ap (λ s. front ++ s) (ap₂ ◌++◌ a.is b.is) in
+        let is : said.0 ≡ front ++ (vec_encoding encoding a.items ++ vec_encoding utf8_of b.items) = pair.is ∙ ap (λ s. front ++ s) (ap₂ ◌++◌ a.is b.is) in
         (it, a.items, jt, b.items, from, a.drained, a.encodable, made, b.drained, b.encodable, subst (λ t. new ≡ old ++ t ∷ []) is said.2);
     err = h.err;
     counted = h.counted;

@@ -19,18 +19,20 @@ use Rattle.wasm_custom.specs.{link_encoding, IsObjectLink, full_link, ContainsOb
 use Rattle.wasm_custom.specs.{AreComdatSymbols, Comdat, AreComdats, version, LinkItem, Target, link, ContainsLinks, linking_payload, list_encoding, IsListOf, name_name, Naming, Inside, NameItem}
 use Rattle.wasm_custom.specs.{Module, Map, Indirect, Other, name_map, indirect_map, subsection, of_map, of_indirect, of_other, name_kind_of, AreNamings, AreInsides, ContainsNames, name_payload}
 use Rattle.wasm_custom.specs.{producers_name, Producer, Field, field, AreProducers, ContainsFields, producers_payload, Symbol, symbol_encoding, IsFullSymbol, IsGivenSymbol, IsAsFlagged, AreSymbols}
-use Rattle.wasm_custom.specs.{AreObjectSymbols, prefix_code, Feature, feature, features_name, ContainsFeatures, features_payload, source_map_name, debug_file_name}
-use Rattle.wasm_custom.specs.{AreNames, AreDylinkExports, AreDylinkImports, DylinkExport, DylinkImport, DylinkItem, needs_encoding, AreNeeds, export_flags_encoding, import_flags_encoding, dylink_encoding}
-use Rattle.wasm_custom.specs.{IsDylink, dylink_item, ContainsDylink, dylink_name, dylink_payload}
-use Rattle.wasm_custom.specs.{build_id_name, source_map_payload, debug_file_payload, build_id_payload, SaysText}
+use Rattle.wasm_custom.specs.{AreObjectSymbols, prefix_code, Feature, feature, features_name, ContainsFeatures, features_payload, source_map_name, debug_file_name, AreNames, AreDylinkExports}
+use Rattle.wasm_custom.specs.{AreDylinkImports, DylinkExport, DylinkImport, DylinkItem, needs_encoding, AreNeeds, export_flags_encoding, import_flags_encoding, dylink_encoding, IsDylink, dylink_item}
+use Rattle.wasm_custom.specs.{ContainsDylink, dylink_name, dylink_payload, build_id_name, source_map_payload, debug_file_payload, build_id_payload, SaysText}
+use Rattle.wasm_custom.specs.{relocations_name, relocation_encoding, IsRelocation, relocations_payload, SaysRelocations}
 use Rattle.wasm_custom.specs.Dylink.{Memory, Needed, ExportFlags, ImportFlags, RuntimePath}
 use Rattle.wasm_custom.specs.Hints.{Hints}
 use Rattle.wasm_custom.specs.Linking.{Segments, InitFunctions, Comdats, Symbols}
+use Rattle.wasm_custom.specs.Relocations.{Relocations}
 use Rattle.wasm_custom.specs.declared.init_functions.InitFunction.{InitFunction}
 use Rattle.wasm_custom.specs.declared.comdats.ComdatSymbol.{ComdatSymbol}
 use Rattle.wasm_custom.specs.declared.dylink_symbols.DylinkMemory.{DylinkMemory}
 use Rattle.wasm_custom.specs.declared.hints.BranchHint.{BranchHint}
 use Rattle.wasm_custom.specs.declared.core_values.CoreDumpValue.{CoreDumpValue}
+use Rattle.wasm_custom.specs.declared.relocations.Relocation.{Relocation}
 use Rattle.wasm_custom.proofs.CustomLaws.{custom_back}
 use Rattle.wasm_custom.proofs.ListLaws.{lists_none, lists_more, list_vector}
 use Rattle.wasm_custom.proofs.NameLaws.{names_padded, names_inside_padded, subsection_unambiguous, names_section}
@@ -41,6 +43,7 @@ use Rattle.wasm_custom.proofs.FeatureLaws.{prefix_unambiguous, feature_unambiguo
 use Rattle.wasm_custom.proofs.HintLaws.{hints_unambiguous, hints_section}
 use Rattle.wasm_custom.proofs.LinkLaws.{link_unambiguous, linking_section, full_link_unambiguous, object_section}
 use Rattle.wasm_custom.proofs.ProducerLaws.{field_unambiguous, producers_section}
+use Rattle.wasm_custom.proofs.RelocationLaws.{kind_unambiguous, relocation_unambiguous, relocation_laws, relocations_whole, relocations_unambiguous}
 use Rattle.wasm_custom.proofs.SymbolLaws.{symbol_unambiguous, full_symbol_unambiguous}
 use Rattle.wasm_custom.proofs.SegmentLaws.{segment_unambiguous}
 use Rattle.wasm_custom.proofs.SingleLaws.{source_map_whole, debug_file_whole, build_id_whole, source_map_unambiguous, debug_file_unambiguous, build_id_unambiguous}
@@ -372,8 +375,8 @@ adds_instance before i added range memories globals = adds_instance_of before i 
 pub new_stack : {n : List ℕ} {stack : List ℕ × List (List ℕ)} → stack ≡ (marked_encoding n, []) → IsUtf8 n → SaysStack stack.0 stack.1 (n, [])
 new_stack e utf8 = (utf8, ap (λ s. s.0) e, new_section (ap (λ s. s.1) e))
 
--- The stack gains a frame, whose numbers are in range, and whose locals and part of the stack
--- iterators yield.
+-- The stack gains a frame, whose numbers are in range, and whose locals and operand stack iterators
+-- yield.
 pub adds_frame_of : {U S V R : Type 0} {becomes : U → S → Type 0} {gives : S → Option CoreDumpValue → S → Type 0} {remaining : S → Count} {first : U} {turns : V → R → Type 0} {hands : R → Option CoreDumpValue → R → Type 0} {left : R → Count} {second : V}
     {old new : List ℕ × List (List ℕ)} {thread : List ℕ} {frames : List StackFrame} → SaysStack old.0 old.1 (thread, frames) → (f : StackFrame)
     → AddsTwoLists becomes gives remaining first turns hands left second (λ x. Unit {0}) (λ x. Unit {0})
@@ -397,6 +400,16 @@ pub adds_frame : {n m : ℕ} {remaining : IntoIter CoreDumpValue n → Count} {l
     (λ xs ys. (0x00 ∷ (unsigned_encoding f.instance ++ (unsigned_encoding f.function ++ unsigned_encoding f.offset))) ++ (vec_encoding value_encoding xs ++ vec_encoding value_encoding ys)) old.1 new.1 (Ok (tt {0}))
     → new.0 ≡ old.0 → f.instance < 2 ^ 32 → f.function < 2 ^ 32 → f.offset < 2 ^ 32 → AllByRecursion IsValue f.locals → AllByRecursion IsValue f.stack → SaysStack new.0 new.1 (thread, frames ++ f ∷ [])
 adds_frame before f added thread instance function offset locals stack = adds_frame_of before f added thread (array_gives f.locals) (array_gives f.stack) instance function offset locals stack
+
+-- ---- relocations
+
+pub new_relocations : {n : List ℕ} {section : ℕ} {made : (List ℕ × List ℕ) × List (List ℕ)} → made ≡ ((relocations_name n, unsigned_encoding section), []) → IsUtf8 (relocations_name n) → section < 2 ^ 32 → SaysRelocations made.0.0 made.0.1 made.1 (relocations_name n, (section, []))
+new_relocations e utf8 range = record { named = ap (λ s. s.0.0) e; utf8 = utf8; begins = refl; section = ap (λ s. s.0.1) e; range = range; contains = new_section (ap (λ s. s.1) e) }
+
+-- The section gains a relocation, whose numbers are in range.
+pub adds_relocation : {old new : (List ℕ × List ℕ) × List (List ℕ)} {n : List ℕ} {section : ℕ} {relocations : List Relocation} → SaysRelocations old.0.0 old.0.1 old.1 (n, (section, relocations)) → (r : Relocation) → new.1 ≡ old.1 ++ relocation_encoding r ∷ [] → new.0 ≡ old.0
+    → IsRelocation r → SaysRelocations new.0.0 new.0.1 new.1 (n, (section, relocations ++ r ∷ []))
+adds_relocation before r e same plain = record { named = ap (λ s. s.0) same ∙ before.named; utf8 = before.utf8; begins = before.begins; section = ap (λ s. s.1) same ∙ before.section; range = before.range; contains = adds_item before.contains r e plain }
 
 -- ---- a module and one more section
 
@@ -483,6 +496,14 @@ pub gains_stack : {decodings : List SectionDecoding} {id : ℕ} {old new n : Lis
     → DecodesBack (size_prefixed stack_payload) (SaysStack stack.0 stack.1) (named_encoding stack_name (entries_encoding stack.0 true stack.1)) → SaysStack stack.0 stack.1 (n, frames) → DecodesSections (decodings ++ decoding_of id stack_payload (n, frames) ∷ []) new
 gains_stack before more encodable decodes says = gains_custom stack_whole before _ more encodable decodes says
 
+-- The module gains a relocation section.
+pub gains_relocations : {decodings : List SectionDecoding} {id : ℕ} {old new : List ℕ} {made : (List ℕ × List ℕ) × List (List ℕ)} {said : Relocations} → DecodesSections decodings old
+    → DecodesOneMore (NamedPayload made.0.0 (entries_encoding made.0.1 true made.1)) id old new → IsEncodableNamed made.0.0 (entries_encoding made.0.1 true made.1)
+    → DecodesBack (size_prefixed relocations_payload) (SaysRelocations made.0.0 made.0.1 made.1) (named_encoding made.0.0 (entries_encoding made.0.1 true made.1)) → SaysRelocations made.0.0 made.0.1 made.1 said → DecodesSections (decodings ++ decoding_of id relocations_payload said ∷ []) new
+gains_relocations {made = made} {said = said} before more encodable decodes says =
+    let content = entries_encoding made.0.1 true made.1 in
+    gains_section {F = relocations_payload} before more (payload-decodes relocations_whole) (named_encoding made.0.0 content) (size_prefixed_encoding made.0.0 ++ content) refl (named_sized made.0.0 content (size_prefixed_encoding made.0.0 ++ content) encodable refl) said (decodes.for_each said says)
+
 -- The module gains a custom section of a name and data.
 pub gains_given : {decodings : List SectionDecoding} {id : ℕ} {old new n content : List ℕ} → DecodesSections decodings old → DecodesOneMore (NamedPayload n content) id old new → IsEncodableNamed n content
     → DecodesBack custom (λ said. IsUtf8 n × (said ≡ (n, content))) (named_encoding n content) → IsUtf8 n → DecodesSections (decodings ++ decoding_of id (pair name any_bytes) (n, content) ∷ []) new
@@ -515,7 +536,7 @@ encodes_entries F Says SaysPadded {result = Err e} appends decodes says = tt
 pub ruleset sections = (names_section, linking_section, object_section, producers_section, dylink_section, features_section, hints_section, modules_section, instances_section)
 
 -- The other unambiguous formats: sections without entries, and the entries of sections.
-pub ruleset parts = (core_unambiguous, stack_unambiguous, source_map_unambiguous, debug_file_unambiguous, build_id_unambiguous, custom_unambiguous, subsection_unambiguous, link_unambiguous, symbol_unambiguous, full_link_unambiguous, full_symbol_unambiguous, segment_unambiguous, init_unambiguous, comdat_symbol_unambiguous, comdat_unambiguous, field_unambiguous, prefix_unambiguous, feature_unambiguous, dylink_unambiguous, needs_unambiguous, export_flags_unambiguous, import_flags_unambiguous, hints_unambiguous, marked_unambiguous, instance_unambiguous, stack_frame_unambiguous, value_unambiguous, stack_frame_laws)
+pub ruleset parts = (kind_unambiguous, relocation_unambiguous, relocation_laws, relocations_unambiguous, core_unambiguous, stack_unambiguous, source_map_unambiguous, debug_file_unambiguous, build_id_unambiguous, custom_unambiguous, subsection_unambiguous, link_unambiguous, symbol_unambiguous, full_link_unambiguous, full_symbol_unambiguous, segment_unambiguous, init_unambiguous, comdat_symbol_unambiguous, comdat_unambiguous, field_unambiguous, prefix_unambiguous, feature_unambiguous, dylink_unambiguous, needs_unambiguous, export_flags_unambiguous, import_flags_unambiguous, hints_unambiguous, marked_unambiguous, instance_unambiguous, stack_frame_unambiguous, value_unambiguous, stack_frame_laws)
 
 -- The payloads of the other sections.
-pub ruleset payloads = (payload-decodes, core_whole, stack_whole, source_map_whole, debug_file_whole, build_id_whole, custom-payload)
+pub ruleset payloads = (payload-decodes, core_whole, stack_whole, relocations_whole, source_map_whole, debug_file_whole, build_id_whole, custom-payload)

@@ -111,7 +111,7 @@ instance_appended n ms gs old front first second new e a b c =
     let all = pair_appended u32 (pair (vec u32) (vec u32)) a lists in
     mapped_appended instance_of (prefixed (0x00 ∷ []) (pair u32 (pair (vec u32) (vec u32)))) parts old new (λ z k. ap (λ i. (i.module_index, (i.memories, i.globals))) k) (prefixed_appended (0x00 ∷ []) (pair u32 (pair (vec u32) (vec u32))) parts old front new e all)
 
--- ---- parts that have encodings
+-- ---- names and fields of values that have encodings
 
 pub marked_encoded : (n : List ℕ) → HasEncoding marked_name n → HasEncoding name n
 marked_encoded n h = prefixed_encoded (0x00 ∷ []) name n h

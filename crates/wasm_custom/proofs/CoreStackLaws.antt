@@ -233,7 +233,7 @@ pub stack_appended : (thread : List ℕ) (frames : List StackFrame) (old front m
     → AppendsMinimal stack_payload (thread, frames) old new
 stack_appended thread frames old front middle new encodable e a b = named_appended stack_name (pair marked_name (vec stack_frame)) (thread, frames) encodable e (pair_appended marked_name (vec stack_frame) a b)
 
--- ---- parts that have encodings
+-- ---- fields of a frame that has an encoding
 
 values_encodable : (vs : List CoreDumpValue) → HasEncoding (vec value) vs → IsEncodableVec (λ v. Unit {0}) vs
 values_encodable vs h = record { count = counted_encodable value vs h; members = λ k d l. tt }

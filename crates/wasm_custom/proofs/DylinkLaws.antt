@@ -2,10 +2,10 @@
 -- minimized.
 use Rattle.wasm_base.proofs.Words.{◌≡◌, ◌≢◌, ◌+◌, ℕ, List, [], ◌∷◌, ◌++◌, length, length-append, false, ap, ap₂, refl, sym, subst, ◌∙◌, Format, u32, byte, name, just, vec, pair, mapped, fixed}
 use Rattle.wasm_base.proofs.Words.{prefixed, size_prefixed, members, choice, impossible, minimal, Mode, Unambiguous, Decodes, Rejects, RejectsWhole, AppendsMinimal, HasEncoding, HasEncodableSize}
-use Rattle.wasm_base.proofs.Words.{IsEncodableName, IsEncodableVec, unsigned_encoding, size_prefixed_encoding, vec_encoding, AllDetermine, ItemLaws, SectionLaws, pair_encodes, u32_encodes, name_encodes}
-use Rattle.wasm_base.proofs.Words.{vec_encodes, size_prefixed_encodes, tagged_encodes, tagged_begins, mapped_unambiguous, pair_unambiguous, name_unambiguous, u32_unambiguous, byte_unambiguous}
-use Rattle.wasm_base.proofs.Words.{vec_unambiguous, size_prefixed_unambiguous, whole_from_unique, fixed_unambiguous, choice_of, ascii, mapped_decodes, mapped_rejects, tagged_decodes, tagged_none}
-use Rattle.wasm_base.proofs.Words.{tagged_rejects, no_choice, mapped_appended, pair_appended, prefixed_appended, prefixed_encoded, mapped_encoded, left_encoded, right_encoded}
+use Rattle.wasm_base.proofs.Words.{IsEncodableName, IsEncodableVec, unsigned_encoding, size_prefixed_encoding, vec_encoding, AllDetermine, ItemLaws, SectionLaws, pair_encodes, u32_encodes}
+use Rattle.wasm_base.proofs.Words.{name_encodes, vec_encodes, size_prefixed_encodes, tagged_encodes, tagged_begins, mapped_unambiguous, pair_unambiguous, name_unambiguous, u32_unambiguous}
+use Rattle.wasm_base.proofs.Words.{byte_unambiguous, vec_unambiguous, size_prefixed_unambiguous, whole_from_unique, fixed_unambiguous, choice_of, ascii, mapped_decodes, mapped_rejects, tagged_decodes}
+use Rattle.wasm_base.proofs.Words.{tagged_none, tagged_rejects, no_choice, mapped_appended, pair_appended, prefixed_appended, prefixed_encoded, mapped_encoded, left_encoded, right_encoded}
 use Rattle.wasm_custom.specs.{CustomLayoutLaws, needs_encoding, AreNeeds, needs_of, needs, DylinkExport, export_flags_encoding, IsDylinkExport, export_flags_of, export_flags}
 use Rattle.wasm_custom.specs.{DylinkImport, import_flags_encoding, IsDylinkImport, import_flags_of, import_flags, DylinkItem, dylink_encoding, IsDylink, dylink_tags, dylink_item, dylink_items}
 use Rattle.wasm_custom.specs.{dylink_name, dylink_payload}

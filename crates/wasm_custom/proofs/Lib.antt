@@ -1,5 +1,6 @@
--- The lemmas of the crate, each file. `Words` passes on what the crates above use.
+-- This file lists the crate's files of lemmas. `Words` re-exports what dependent crates use.
 pub mod Words
+pub mod Common
 pub mod CustomLaws
 pub mod EntriesLaws
 pub mod ListLaws
@@ -18,6 +19,7 @@ pub mod CoreDumpLaws
 pub mod CoreStackLaws
 pub mod SingleLaws
 pub mod DylinkLaws
+pub mod RelocationLaws
 pub mod RejectionLaws
 pub mod Calls
 pub mod DecodeMarked

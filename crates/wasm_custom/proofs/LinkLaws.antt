@@ -302,7 +302,7 @@ links_appended xs old front middle new encodable e f a =
     let just_version = just_appended u32 version front middle (u32_appended version front middle f) in
     named_appended linking_name (entries (just version u32) false link) xs encodable e (tagged_appended (just version u32) (λ u. listing false link) (λ s z h. refl) just_version a)
 
--- ---- parts that have encodings
+-- ---- contents of a subsection that has an encoding
 
 module _ {X : Type 0} (F : Format X) (id : ℕ) (xs : List X) where
   pub vector_encoded : HasEncoding (prefixed (id ∷ []) (size_prefixed (vec F))) xs → HasEncoding (vec F) xs

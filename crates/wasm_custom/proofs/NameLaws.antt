@@ -268,7 +268,7 @@ subsection_appended x start old front middle new e l a encodable is =
 pub names_appended : (xs : List NameItem) (old middle new : List ℕ) → HasEncodableSize name_name → middle ≡ old ++ size_prefixed_encoding name_name → AppendsMinimal (members subsection) xs middle new → AppendsMinimal name_payload xs old new
 names_appended xs old middle new encodable e a = items_appended name_name false subsection xs encodable e a
 
--- ---- parts that have encodings
+-- ---- contents of a subsection that has an encoding
 
 pub module_encoded : (n : List ℕ) → HasEncoding (inside of_module 0) (Module n) → HasEncoding name n
 module_encoded n h = mapped_encoded Module name n (λ z k. cc k) h

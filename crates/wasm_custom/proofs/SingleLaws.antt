@@ -1,7 +1,8 @@
 -- This file proves how custom sections of one value are encoded, decoded and minimized.
-use Rattle.wasm_base.proofs.Words.{◌≡◌, ℕ, List, ◌++◌, length, IsUtf8, refl, sym, subst, arith, length-append, DecodesBack, Format, Mode, name, any_bytes, just, size_prefixed, minimal, unsigned_encoding}
-use Rattle.wasm_base.proofs.Words.{Unambiguous, UnambiguousWhole, Decodes, Rejects, RejectsWhole, DecodesUniquely, size_prefixed_encoding, HasEncodableSize, name_unambiguous, any_bytes_whole, ascii}
-use Rattle.wasm_base.proofs.Words.{whole_from_unique, size_prefixed_unambiguous, decodes_uniquely, name_encodes, size_prefixed_encodes, after_whole, AppendsMinimal, HasEncoding}
+use Rattle.wasm_base.proofs.Words.{◌≡◌, ℕ, List, ◌++◌, length, IsUtf8, refl, sym, subst, arith, length-append, DecodesBack, Format, Mode, name, any_bytes, just, size_prefixed, minimal}
+use Rattle.wasm_base.proofs.Words.{unsigned_encoding, Unambiguous, UnambiguousWhole, Decodes, Rejects, RejectsWhole, DecodesUniquely, size_prefixed_encoding, HasEncodableSize, name_unambiguous}
+use Rattle.wasm_base.proofs.Words.{any_bytes_whole, ascii, whole_from_unique, size_prefixed_unambiguous, decodes_uniquely, name_encodes, size_prefixed_encodes, after_whole, AppendsMinimal}
+use Rattle.wasm_base.proofs.Words.{HasEncoding}
 use Rattle.wasm_custom.specs.{named_section, named_payload, named_encoding, IsEncodableNamed, source_map_name, debug_file_name, build_id_name, source_map_payload, debug_file_payload, build_id_payload}
 use Rattle.wasm_custom.specs.{source_map_section, debug_file_section, build_id_section, SaysText}
 use Rattle.wasm_custom.proofs.CustomLaws.{named_unambiguous, named_encodes, data_encodable, named_appended, named_encoded, named_encodable}
@@ -9,11 +10,11 @@ use Rattle.wasm_custom.proofs.DecodeNamed.{named_fills, named_none, named_reject
 
 -- ---- sections of one value
 
--- The bytes fit if the section does.
+-- If the section's size is at most 2^32 - 1, so is the number of its bytes.
 value_encodable : (n bytes : List ℕ) → IsEncodableNamed n (size_prefixed_encoding bytes) → HasEncodableSize bytes
 value_encodable n bytes encodable = omega (arith, data_encodable n (size_prefixed_encoding bytes) encodable, length-append (unsigned_encoding (length bytes)) bytes)
 
--- The section of a text decodes to the text alone.
+-- The section of a UTF-8 string decodes to that string alone.
 pub text_back : (n given : List ℕ) → IsUtf8 n → IsEncodableNamed n (size_prefixed_encoding given) → DecodesBack (named_section n name) (SaysText given) (named_encoding n (size_prefixed_encoding given))
 text_back n given utf8 encodable = record {
   for_each = λ said says.

@@ -323,7 +323,7 @@ data_short flags n d old new a = tag_appended symbol_tags full_symbol_tags code_
 pub section_short : (flags index : ℕ) (old new : List ℕ) → AppendsMinimal (prefixed (0x03 ∷ []) section_symbol) (of_section flags index) old new → AppendsMinimal symbol (of_section flags index) old new
 section_short flags index old new a = unknown_appended symbol_tags full_symbol_tags code_of built_kinds (of_section flags index) refl (prefixed (0x03 ∷ []) section_symbol) (of_section flags index) a
 
--- ---- parts that have encodings
+-- ---- fields of a symbol that has an encoding
 
 some_encoded : {X : Type 0} (F : Format X) (flag : Bool) (x : X) → HasEncoding (optional flag F) (Some x) → HasEncoding F x
 some_encoded F true x h = mapped_encoded Some F x (λ z k. cc k) h

@@ -45,7 +45,7 @@ module _ {X : Type 0} (F G : Format X) (m : Mode) (h : IsIncludedIn (F m) (G m))
   pub rejects_included : {bytes : List ℕ} → Rejects G m bytes → Rejects F m bytes
   rejects_included none = record { none = λ x rest d. none.none x rest (record { front = d.front; split = d.split; encodes = h d.front x d.encodes }) }
 
--- ---- a format that is wider in the standard's grammar
+-- ---- a format that has more encodings in the standard's grammar
 
 pub wider_unambiguous : {X : Type 0} (F G : Format X) → Unambiguous F → Unambiguous G → IsIncludedIn (F padded) (G padded) → Unambiguous (by_mode F G G)
 wider_unambiguous F G f g within =

@@ -8,7 +8,7 @@ use Rattle.wasm_custom.specs.Customs.{named_section, named_payload, decoding_as}
 use Rattle.wasm_custom.specs.declared.core_values.CoreDumpValue.{CoreDumpValue}
 use Rattle.wasm_custom.specs.declared.core_stack.CoreFrame.{CoreFrame}
 
--- A stack frame: its code location, its locals, and its part of the stack.
+-- A stack frame: its code location, its locals, and its operand stack.
 pub record StackFrame : Type 0 where
   pub instance : ℕ
   pub function : ℕ
@@ -17,7 +17,7 @@ pub record StackFrame : Type 0 where
   pub stack : List CoreDumpValue
 
 -- The encoding of a stack frame: the byte 00, its code location, and the vectors of its locals and
--- of its part of the stack.
+-- its operand stack.
 abbrev pub frame_entry : StackFrame → List ℕ
 frame_entry f = (0x00 ∷ (unsigned_encoding f.instance ++ (unsigned_encoding f.function ++ unsigned_encoding f.offset))) ++ (vec_encoding value_encoding f.locals ++ vec_encoding value_encoding f.stack)
 
@@ -34,12 +34,12 @@ pub record IsFrame (f : StackFrame) : Type 0 where
 abbrev pub CodeLocation : Type 0
 CodeLocation = ℕ × (ℕ × ℕ)
 
--- The stack frame at this location, with these locals and this part of the stack.
+-- The stack frame at this location, with these locals and this operand stack.
 abbrev pub stack_frame_of : CodeLocation × (List CoreDumpValue × List CoreDumpValue) → StackFrame
 stack_frame_of p = record { instance = p.0.0; function = p.0.1.0; offset = p.0.1.1; locals = p.1.0; stack = p.1.1 }
 
--- A stack frame: the byte 00, its code location, and the vectors of its locals and of its part of
--- the stack.
+-- A stack frame: the byte 00, its code location, and the vectors of its locals and its operand
+-- stack.
 abbrev pub stack_frame : Format StackFrame
 stack_frame = mapped stack_frame_of (pair (prefixed (0x00 ∷ []) (pair u32 (pair u32 u32))) (pair (vec value) (vec value)))
 

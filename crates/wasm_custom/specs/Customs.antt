@@ -1,9 +1,10 @@
 -- This file defines custom sections: a size-prefixed name and data. Core specification, Binary
 -- Format, Modules, Custom Section.
-use Rattle.std.specs.Prelude.{◌≡◌, ℕ, List, ◌∷◌, ◌++◌, Bool, ◌&&◌}
+use Rattle.std.specs.Prelude.{◌≡◌, ℕ, List, ◌∷◌, ◌++◌, Bool, ◌&&◌, nat_eq}
 use Rattle.std.proofs.Common.{sym, ap, subst}
+use Rattle.std.specs.List.{starts_with}
 use Rattle.std.specs.Str.{bytes_eq}
-use Rattle.wasm_base.specs.Words.{items_of, encoding_of, Format, after, size_prefixed, name, pair, any_bytes, size_prefixed_encoding, HasEncodableSize, IsSizePrefixed, SectionDecoding, decoding_of}
+use Rattle.wasm_base.specs.Words.{items_of, utf8_of, Format, after, size_prefixed, name, pair, any_bytes, size_prefixed_encoding, HasEncodableSize, IsSizePrefixed, SectionDecoding, decoding_of}
 use Rattle.wasm_base.specs.Words.{number_of}
 use Rattle.wasm_custom.specs.declared.custom_section.CustomSection.{CustomSection}
 use Rattle.wasm_base.specs.declared.section_id.SectionId.TheVariants as ids
@@ -35,11 +36,15 @@ named_sized n content bytes encodable e = record { is = ap size_prefixed_encodin
 
 -- Whether two sections have the same name and the same data.
 abbrev pub same_section : {A : Type 0} → CustomSection A → CustomSection A → Bool
-same_section s t = bytes_eq (encoding_of s.name) (encoding_of t.name) && bytes_eq (items_of s.bytes) (items_of t.bytes)
+same_section s t = bytes_eq (utf8_of s.name) (utf8_of t.name) && bytes_eq (items_of s.bytes) (items_of t.bytes)
 
 -- The encoding of a subsection: an id, then the size-prefixed content.
 abbrev pub subsection_encoding : ℕ → List ℕ → List ℕ
 subsection_encoding id content = id ∷ size_prefixed_encoding content
+
+-- Whether the name begins with these bytes.
+abbrev pub begins_with : List ℕ → List ℕ → Bool
+begins_with front n = starts_with nat_eq n front
 
 -- The custom section whose payload decodes to `x`.
 abbrev pub decoding_as : {X : Type 0} → Format X → X → SectionDecoding

@@ -41,7 +41,7 @@ debug_file_section = named_section debug_file_name name
 abbrev pub build_id_section : Format (List ℕ)
 build_id_section = named_section build_id_name (size_prefixed any_bytes)
 
--- The section holds this text, which is UTF-8.
+-- The string in the section is the given one, and is UTF-8.
 abbrev pub SaysText : List ℕ → List ℕ → Type 0
 SaysText given said = IsUtf8 said × (said ≡ given)
 

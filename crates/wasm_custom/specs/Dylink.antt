@@ -1,5 +1,5 @@
--- This file defines the section of a dynamic library, its encoding and its format. Tool conventions,
--- WebAssembly Dynamic Linking, The "dylink.0" Section.
+-- This file defines the section of a dynamic library, its encoding and its format. Tool
+-- conventions, WebAssembly Dynamic Linking, The "dylink.0" Section.
 use Rattle.std.specs.Prelude.{ℕ, ◌^◌, ◌<◌, List, [], ◌∷◌, ◌++◌, codes, map, false}
 use Rattle.wasm_base.specs.Words.{Kind, ContainsItems, Format, u32, byte, name, impossible, fixed, mapped, pair, tagged, choice, vec, size_prefixed, IsEncodableName, unsigned_encoding}
 use Rattle.wasm_base.specs.Words.{size_prefixed_encoding, vec_encoding, IsEncodableVec, SectionDecoding}
@@ -14,8 +14,8 @@ use Rattle.wasm_custom.specs.declared.dylink.DylinkItem.TheVariants as items
 
 -- ---- memory and table
 
--- The encoding of what a library needs: the size and the alignment of its memory, then of its
--- table.
+-- The encoding of a library's requirements: the size of its memory and the exponent of the
+-- memory's alignment, then those of its table.
 abbrev pub needs_encoding : DylinkMemory → List ℕ
 needs_encoding m = (unsigned_encoding m.memory_size ++ unsigned_encoding m.memory_alignment) ++ (unsigned_encoding m.table_size ++ unsigned_encoding m.table_alignment)
 
@@ -101,7 +101,7 @@ AreDylinkImports = IsListOf import_flags_encoding IsDylinkImport
 -- ---- subsections
 
 -- A subsection: the memory and the table, the libraries that are needed, flags of exports and of
--- imports, or the folders in which libraries are looked for.
+-- imports, or the folders in which the loader searches for libraries.
 pub data DylinkItem : Type 0 where
   Memory : DylinkMemory → DylinkItem
   Needed : List (List ℕ) → DylinkItem
@@ -126,8 +126,8 @@ IsDylink (ExportFlags exports) = IsEncodableVec IsDylinkExport exports
 IsDylink (ImportFlags imports) = IsEncodableVec IsDylinkImport imports
 IsDylink (RuntimePath paths) = IsEncodableVec IsEncodableName paths
 
--- The formats of a subsection by its id: memory and table after 1, names of libraries after 2, flags
--- of exports after 3, flags of imports after 4, and folders after 5.
+-- The formats of a subsection by its id: memory and table after 1, names of libraries after 2,
+-- flags of exports after 3, flags of imports after 4, and folders after 5.
 abbrev pub dylink_tags : List (ℕ × Format DylinkItem)
 dylink_tags =
     (1, mapped Memory (size_prefixed needs)) ∷

@@ -1,9 +1,9 @@
--- This file defines custom sections that are a list of entries.
+-- This file defines custom sections whose data are a front and a list of entries.
 use Rattle.std.specs.Prelude.{◌≡◌, ℕ, List, [], ◌++◌, length, Bool, true, false, cond, IsUtf8}
 use Rattle.wasm_base.specs.Words.{Format, fixed, tagged, vec, members, when, minimal, unsigned_encoding, joined, Unambiguous, BeginsWith}
 use Rattle.wasm_custom.specs.Customs.{named_payload}
 
--- The count, if the entries are counted.
+-- The encoding of the count, or no bytes if the entries are not counted.
 abbrev pub count_encoding : Bool → ℕ → List ℕ
 count_encoding counted n = cond counted (unsigned_encoding n) []
 
@@ -11,7 +11,7 @@ count_encoding counted n = cond counted (unsigned_encoding n) []
 abbrev pub entries_encoding : List ℕ → Bool → List (List ℕ) → List ℕ
 entries_encoding front counted pieces = front ++ (count_encoding counted (length pieces) ++ joined pieces)
 
--- The items: a vector if they are counted, or one after another up to the last byte.
+-- A list of items: a vector if they are counted, or one after another up to the last byte.
 abbrev pub listing : {Item : Type 0} → Bool → Format Item → Format (List Item)
 listing counted F = when counted (vec F) (members F)
 

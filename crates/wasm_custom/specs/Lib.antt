@@ -1,4 +1,4 @@
--- The definitions of the crate, each file, and all of them by one import.
+-- This file lists the crate's files of definitions, and re-exports definitions for its proofs.
 pub mod Words
 pub mod Customs
 pub mod Entries
@@ -18,6 +18,7 @@ pub mod CoreValues
 pub mod CoreStacks
 pub mod DebugFiles
 pub mod Dylink
+pub mod Relocations
 unfoldable pub use Rattle.wasm_custom.specs.Customs.*
 unfoldable pub use Rattle.wasm_custom.specs.Entries.*
 unfoldable pub use Rattle.wasm_custom.specs.Lists.*
@@ -36,3 +37,4 @@ unfoldable pub use Rattle.wasm_custom.specs.CoreValues.*
 unfoldable pub use Rattle.wasm_custom.specs.CoreStacks.*
 unfoldable pub use Rattle.wasm_custom.specs.DebugFiles.*
 unfoldable pub use Rattle.wasm_custom.specs.Dylink.*
+unfoldable pub use Rattle.wasm_custom.specs.Relocations.*

@@ -57,8 +57,8 @@ abbrev pub built_link : Format LinkItem
 built_link = tagged byte (choice link_tags (λ b. impossible))
 
 -- The formats of a subsection by its id, as the tool conventions have them: segments after 5, init
--- functions after 6, COMDAT groups after 7, a table of symbols of all kinds after 8, and the name of
--- an architecture after 9.
+-- functions after 6, COMDAT groups after 7, a table of symbols of all kinds after 8, and the name
+-- of an architecture after 9.
 abbrev pub full_link_tags : List (ℕ × Format LinkItem)
 full_link_tags =
     (5, mapped Segments (size_prefixed (vec segment))) ∷

@@ -1,10 +1,10 @@
--- This file defines lists that are one argument of a call, as name maps and symbol tables are.
+-- This file defines lists that a caller passes as one argument: name maps and symbol tables, say.
 use Rattle.std.specs.Prelude.{◌≡◌, ℕ, ◌<◌, List, [], ◌∷◌, ◌++◌, length, map, Option, Some, None, ⊤}
 use Rattle.std.specs.Borrow.{Bor}
 use Rattle.wasm_base.specs.Words.{unsigned_encoding, joined, longest, vec_encoding, IsEncodableVec, HasEncodableSize}
 use Rattle.wasm_custom.specs.Customs.{subsection_encoding}
 
--- The encoding of a list's entries: their count and the entries.
+-- The encoding of a list's entries as a vector: their count, then the entries.
 unfoldable pub list_encoding : List (List ℕ) → List ℕ
 list_encoding pieces = unsigned_encoding (length pieces) ++ joined pieces
 
@@ -45,7 +45,7 @@ pub record ListMore {X : Type 0} (encoding : X → List ℕ) (Is : X → Type 0)
   pub none : IsListOf encoding Is [] []
   pub given : (pieces : List (List ℕ)) (xs : List X) (x : X) → IsListOf encoding Is pieces xs → length pieces < longest → Is x → IsListOf encoding Is (pieces ++ encoding x ∷ []) (xs ++ x ∷ [])
 
--- The bytes of an optional name.
+-- The bytes of an optional name that is borrowed.
 abbrev pub given_name : Option (Bor (List ℕ)) → Option (List ℕ)
 given_name None = None
 given_name (Some n) = Some n.now

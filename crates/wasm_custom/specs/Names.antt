@@ -17,7 +17,7 @@ use Rattle.wasm_custom.specs.declared.names.NameKind.TheVariants as kinds
 abbrev pub Naming : Type 0
 Naming = ℕ × List ℕ
 
--- An indirect name association: an index, and the names of what is inside it.
+-- An indirect name association: an index, and the name associations of the items in it.
 abbrev pub Inside : Type 0
 Inside = ℕ × List Naming
 

@@ -1,7 +1,7 @@
 // Core dump sections: the process, its modules and its instances.
 ghost use Rattle.std.specs.Prelude.{◌≡◌, ◌≢◌, ℕ, List, [], ◌∷◌, ◌++◌, IfOk, true, ⊤, IfErr, Err, OnOk, OnErr, map};
 ghost use Rattle.wasm_base.specs.Calls.{Adds, DecodesBack};
-ghost use Rattle.wasm_base.specs.Cow.{items_of, encoding_of};
+ghost use Rattle.wasm_base.specs.Cow.{items_of, utf8_of};
 ghost use Rattle.wasm_base.specs.Formats.{fixed};
 ghost use Rattle.wasm_base.specs.Continuing.{RejectsWhole};
 ghost use Rattle.wasm_base.specs.Iterators.{HasKnownLength};
@@ -174,9 +174,9 @@ impl<A: Allocator> CoreDumpModulesSection<A> {
         self.add_record(&(0x00u8, name))
     }
 
-    /// Returns the section as a custom section, with its data in memory of their own.
+    /// Returns the section as a custom section, which owns a copy of the data.
     pub fn as_custom<B: Allocator>(&self, alloc: B) -> Result<CustomSection<'_, B>>
-        ensures same { IfOk result (λ s. (encoding_of s.name ≡ modules_name) × (items_of s.bytes ≡ entries_encoding [] true self.now)) }
+        ensures same { IfOk result (λ s. (utf8_of s.name ≡ modules_name) × (items_of s.bytes ≡ entries_encoding [] true self.now)) }
         ensures memory { result ≢ Err TooLong }
     {
         self.owned(alloc)
@@ -233,8 +233,10 @@ impl CustomKind for InstanceItems {
 }
 
 impl<A: Allocator> CoreDumpInstancesSection<A> {
-    /// Adds an instance of the module, with these memories and globals. If there are too many of
-    /// either, it returns `TooLong` and requests none, as tests show.
+    /// Adds an instance of the module, with these memories and globals.
+    ///
+    /// If there are more than 4294967295 memories or globals, the call returns `TooLong` and
+    /// requests none of either, as tests show.
     pub fn instance<M: IntoIterator<Item = u32>, G: IntoIterator<Item = u32> + Drop>(
         &mut self,
         module_index: u32,
@@ -254,9 +256,9 @@ impl<A: Allocator> CoreDumpInstancesSection<A> {
         self.add_once(((0x00u8, module_index), memories, globals))
     }
 
-    /// Returns the section as a custom section, with its data in memory of their own.
+    /// Returns the section as a custom section, which owns a copy of the data.
     pub fn as_custom<B: Allocator>(&self, alloc: B) -> Result<CustomSection<'_, B>>
-        ensures same { IfOk result (λ s. (encoding_of s.name ≡ instances_name) × (items_of s.bytes ≡ entries_encoding [] true self.now)) }
+        ensures same { IfOk result (λ s. (utf8_of s.name ≡ instances_name) × (items_of s.bytes ≡ entries_encoding [] true self.now)) }
         ensures memory { result ≢ Err TooLong }
     {
         self.owned(alloc)

@@ -1,7 +1,7 @@
 // The stack section of a core dump: its builder, its reader and its minimizer.
 ghost use Rattle.std.specs.Prelude.{◌≡◌, ◌≢◌, ℕ, List, [], ◌∷◌, ◌++◌, IfOk, true, ⊤, IfErr, Err, OnOk, OnErr, map};
 ghost use Rattle.wasm_base.specs.Calls.{DecodesBack};
-ghost use Rattle.wasm_base.specs.Cow.{items_of, encoding_of};
+ghost use Rattle.wasm_base.specs.Cow.{items_of, utf8_of};
 ghost use Rattle.wasm_base.specs.Continuing.{RejectsWhole};
 ghost use Rattle.wasm_base.specs.Iterators.{HasKnownLength};
 ghost use Rattle.wasm_base.specs.Numbers.{unsigned_encoding, padded_of};
@@ -82,8 +82,10 @@ impl<A: Allocator + Copy> CoreDumpStackSection<A> {
 
 impl<A: Allocator> CoreDumpStackSection<A> {
     /// Adds a stack frame: its instance and function, the offset in the function, its locals, and
-    /// its operand stack. If there are too many values in either list, it returns `TooLong` and
-    /// requests none, as tests show.
+    /// its operand stack.
+    ///
+    /// If there are more than 4294967295 values in either list, the call returns `TooLong` and
+    /// requests none of either, as tests show.
     pub fn frame<
         L: IntoIterator<Item = CoreDumpValue>,
         S: IntoIterator<Item = CoreDumpValue> + Drop,
@@ -103,9 +105,9 @@ impl<A: Allocator> CoreDumpStackSection<A> {
         self.frames.add_once(((0x00u8, place), locals, stack))
     }
 
-    /// Returns the section as a custom section, with its data in memory of their own.
+    /// Returns the section as a custom section, which owns a copy of the data.
     pub fn as_custom<B: Allocator>(&self, alloc: B) -> Result<CustomSection<'_, B>>
-        ensures same { IfOk result (λ s. (encoding_of s.name ≡ stack_name) × (items_of s.bytes ≡ entries_encoding self.now.0 true self.now.1)) }
+        ensures same { IfOk result (λ s. (utf8_of s.name ≡ stack_name) × (items_of s.bytes ≡ entries_encoding self.now.0 true self.now.1)) }
         ensures memory { result ≢ Err TooLong }
     {
         let data = data_of(alloc, &self.front, true, &self.frames)?;
@@ -156,7 +158,7 @@ impl<A: Allocator> Section for CoreDumpStackSection<A> {
     ghost decodes_back = { λ s promised. promised };
 }
 
-/// A decoded frame of a stack.
+/// A decoded stack frame.
 #[derive(Debug, Drop)]
 pub struct CoreFrame<A: Allocator = Global> {
     pub instanceidx: u32,

@@ -7,7 +7,7 @@ use std::alloc::Allocator;
 use wasm_base::{DecodeError, Encode, Grammar, Layout, ReadFault, Readable, Result};
 use wasm_immediates::{Ieee32, Ieee64};
 
-/// A value of a local or of the stack, or none if it was optimized away.
+/// The value of a local or of an operand, or `Missing` if it was optimized away.
 #[derive(Clone, Copy, Debug)]
 pub enum CoreDumpValue {
     Missing,

@@ -16,7 +16,7 @@ use wasm_base::{DecodeError, Encode, Grammar, ReadFault, Readable, Result};
 
 /// A kind whose items can be encoded from a decoded `T`.
 pub(crate) trait ItemsAs<T>: CustomKind {
-    // The item, without its location in memory.
+    // The view of a decoded value: the item, without its location in memory.
     ghost Said: { Type 0 };
 
     // The format: which bytes encode which item.
@@ -24,7 +24,7 @@ pub(crate) trait ItemsAs<T>: CustomKind {
 
     ghost view: { T → Said };
 
-    /// Proves that the format is unambiguous: one item decodes from the front, whatever follows.
+    /// Proves that the format is unambiguous: at most one item decodes from the front of any bytes.
     /// The function does nothing.
     fn unique()
         ensures { Unambiguous format };
@@ -113,8 +113,8 @@ fn write_counted<K: ItemsAs<T>, T, B: Allocator>(items: &[T], sink: &mut Vec<u8,
     append_items::<K, T, _>(items, sink)
 }
 
-/// Appends the minimal encoding of the payload of a section of the kind, which has these items. On
-/// an error, the sink is unchanged.
+/// Appends the minimal encoding of the payload of a section of this kind with these items. On an
+/// error, the sink is unchanged.
 pub(crate) fn append_counted<K: ItemsAs<T>, T, B: Allocator>(
     items: &[T],
     sink: &mut Vec<u8, B>,

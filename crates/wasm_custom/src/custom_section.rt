@@ -1,7 +1,7 @@
 // Custom sections: a name, and data up to the end of the payload.
 ghost use Rattle.std.specs.Prelude.{◌≡◌, ◌≢◌, ℕ, ◌+◌, ◌<◌, ◌≤◌, List, ◌++◌, length, vec_len, vec_capacity, OnOk, OnErr, IfOk, IsOk, IsUtf8};
 ghost use Rattle.wasm_base.specs.Calls.{DecodesBack};
-ghost use Rattle.wasm_base.specs.Cow.{items_of, encoding_of};
+ghost use Rattle.wasm_base.specs.Cow.{items_of, utf8_of};
 ghost use Rattle.wasm_base.specs.Formats.{custom};
 ghost use Rattle.wasm_base.specs.Numbers.{unsigned_encoding};
 ghost use Rattle.wasm_base.specs.Encodings.{longest, size_prefixed_encoding};
@@ -64,7 +64,7 @@ pub struct CustomSection<'a, A: Allocator = Global> {
 impl<'a, A: Allocator + Copy> CustomSection<'a, A> {
     /// Returns the same name and data, and copies owned ones into memory of their own.
     pub fn clone(&self) -> Result<Self>
-        ensures same { IfOk result (λ s. (encoding_of s.name ≡ encoding_of self.now.name) × (items_of s.bytes ≡ items_of self.now.bytes)) }
+        ensures same { IfOk result (λ s. (utf8_of s.name ≡ utf8_of self.now.name) × (items_of s.bytes ≡ items_of self.now.bytes)) }
         ensures memory { result ≢ Err Refused.TooLong }
     {
         Ok(CustomSection {
@@ -99,13 +99,13 @@ impl<A: Allocator> Eq for CustomSection<'_, A> {
 
 /// Encodes the size prefix, the name and the data.
 impl<A: Allocator> Encode for CustomSection<'_, A> {
-    ghost encoding = { λ s. named_encoding (encoding_of s.name) (items_of s.bytes) };
+    ghost encoding = { λ s. named_encoding (utf8_of s.name) (items_of s.bytes) };
 
-    ghost encodable = { λ s. IsEncodableNamed (encoding_of s.name) (items_of s.bytes) };
+    ghost encodable = { λ s. IsEncodableNamed (utf8_of s.name) (items_of s.bytes) };
 
-    ghost overlong = { λ s. longest < length (size_prefixed_encoding (encoding_of s.name)) + length (items_of s.bytes) };
+    ghost overlong = { λ s. longest < length (size_prefixed_encoding (utf8_of s.name)) + length (items_of s.bytes) };
 
-    ghost decoding = { λ s. DecodesBack custom (λ said. IsUtf8 (encoding_of s.name) × (said ≡ (encoding_of s.name, items_of s.bytes))) (named_encoding (encoding_of s.name) (items_of s.bytes)) };
+    ghost decoding = { λ s. DecodesBack custom (λ said. IsUtf8 (utf8_of s.name) × (said ≡ (utf8_of s.name, items_of s.bytes))) (named_encoding (utf8_of s.name) (items_of s.bytes)) };
 
     #[tactic(auto, unfolding(crate::specs::Customs::named_encoding))]
     fn encode<B: Allocator>(&self, sink: &mut Vec<u8, B>) -> Result<()> {
@@ -118,7 +118,7 @@ impl<A: Allocator> Encode for CustomSection<'_, A> {
 
 impl<A: Allocator> Section for CustomSection<'_, A> {
     ghost use Rattle.std.specs.Prelude.{IsUtf8};
-    ghost use Rattle.wasm_base.specs.Cow.{items_of, encoding_of};
+    ghost use Rattle.wasm_base.specs.Cow.{items_of, utf8_of};
     ghost use Rattle.wasm_base.specs.Formats.{custom};
     ghost use Rattle.wasm_base.specs.SectionId.{number_of};
     ghost use Rattle.wasm_base.specs.declared.section_id.SectionId.TheVariants as ids;
@@ -130,15 +130,15 @@ impl<A: Allocator> Section for CustomSection<'_, A> {
 
     ghost format = { custom };
 
-    ghost says = { λ s said. IsUtf8 (encoding_of s.name) × (said ≡ (encoding_of s.name, items_of s.bytes)) };
+    ghost says = { λ s said. IsUtf8 (utf8_of s.name) × (said ≡ (utf8_of s.name, items_of s.bytes)) };
 
-    ghost payload = { λ s. NamedPayload (encoding_of s.name) (items_of s.bytes) };
+    ghost payload = { λ s. NamedPayload (utf8_of s.name) (items_of s.bytes) };
 
     fn id(&self) -> u8 {
         SectionId::Custom.into()
     }
 
-    ghost sized = { λ s bytes encodable pays. named_sized (encoding_of s.name) (items_of s.bytes) bytes encodable pays };
+    ghost sized = { λ s bytes encodable pays. named_sized (utf8_of s.name) (items_of s.bytes) bytes encodable pays };
 
     ghost decodes_back = { λ s promised. promised };
 }

@@ -88,7 +88,8 @@ pub fn append_source_map<B: Allocator>(url: &str, sink: &mut Vec<u8, B>) -> Resu
     append_single("sourceMappingURL", &url, sink)
 }
 
-/// The `external_debug_info` section: the path of a file that has the debug information of a module.
+/// The `external_debug_info` section: the path of a file that has the debug information of a
+/// module.
 ///
 /// ```rust
 /// module.section(&ExternalDebugInfo("a.debug.wasm"))?;

@@ -28,14 +28,19 @@ use wasm_base::{
     append_all, read_to_end,
 };
 
-/// The `dylink.0` section: what a dynamic library needs at load time. It is the first section of a
-/// module. Each call adds a subsection, and `new` allocates nothing.
+/// The `dylink.0` section: the requirements of a dynamic library at load time. It is the first
+/// section of a module. Each call adds a subsection, and `new` allocates nothing.
 ///
 /// ```rust
 /// let mut needed = DylinkNeeded::new(alloc);
 /// needed.library("libc.so")?;
 /// let mut dylink = DylinkSection::new(alloc);
-/// dylink.memory(DylinkMemory { memory_size: 16, memory_alignment: 2, table_size: 0, table_alignment: 0 })?;
+/// dylink.memory(DylinkMemory {
+///     memory_size: 16,
+///     memory_alignment: 2,
+///     table_size: 0,
+///     table_alignment: 0,
+/// })?;
 /// dylink.needed(&needed)?;
 /// module.section(&dylink)?;
 /// ```
@@ -113,7 +118,7 @@ impl<A: Allocator> DylinkSection<A> {
         self.add_record(imports)
     }
 
-    /// Adds the folders in which libraries are looked for.
+    /// Adds the folders in which the loader searches for libraries.
     pub fn runtime_path<B: Allocator>(&mut self, folders: &DylinkPath<B>) -> Result<()>
         ensures { Adds (subsection_encoding 5 (list_encoding folders.now)) (HasEncodableSize (list_encoding folders.now) × ⊤) self.old self.new result }
     {
@@ -132,7 +137,7 @@ pub enum DylinkItem<'a, A: Allocator = Global> {
     ExportFlags(Vec<DylinkExport<'a>, A>),
     /// Flags of imported symbols.
     ImportFlags(Vec<DylinkImport<'a>, A>),
-    /// The folders in which libraries are looked for.
+    /// The folders in which the loader searches for libraries.
     RuntimePath(Vec<&'a str, A>),
 }
 

@@ -120,8 +120,8 @@ impl<A: Allocator> DylinkNeeded<A> {
     }
 }
 
-/// The folders in which libraries are looked for, in the order in which they are added. They are
-/// encoded as subsection 5.
+/// The folders in which the loader searches for libraries, in the order in which they are added.
+/// They are encoded as subsection 5.
 pub type DylinkPath<A = Global> = CountedList<PathMembers, A>;
 
 /// The kind of the members of a list of folders: their paths.

@@ -1,7 +1,7 @@
 // The builder of all custom sections of entries.
 ghost use Rattle.std.specs.Prelude.{◌≡◌, ◌≢◌, ℕ, ◌+◌, ◌<◌, ◌≤◌, List, [], length, Bool, Err, IfOk, IsTrue, ◌↔◌, ⊤};
 ghost use Rattle.wasm_base.specs.Calls.{Adds, Appends, DecodesBackBoth};
-ghost use Rattle.wasm_base.specs.Cow.{items_of, encoding_of};
+ghost use Rattle.wasm_base.specs.Cow.{items_of, utf8_of};
 ghost use Rattle.wasm_base.specs.Entries.{ContainsItems, ContainsPadded};
 ghost use Rattle.wasm_base.specs.Numbers.{Mode};
 ghost use Rattle.wasm_base.specs.Once.{AddsOnce};
@@ -130,9 +130,9 @@ impl<K, A: Allocator + Copy> CustomEntries<K, A> {
 }
 
 impl<K: CustomKind, A: Allocator> CustomEntries<K, A> {
-    /// Returns the section as a custom section, with its data in memory of their own.
+    /// Returns the section as a custom section, which owns a copy of the data.
     pub(crate) fn owned<B: Allocator>(&self, alloc: B) -> Result<CustomSection<'_, B>>
-        ensures same { IfOk result (λ s. (encoding_of s.name ≡ K.name) × (items_of s.bytes ≡ entries_encoding K.front K.counted self.now)) }
+        ensures same { IfOk result (λ s. (utf8_of s.name ≡ K.name) × (items_of s.bytes ≡ entries_encoding K.front K.counted self.now)) }
         ensures memory { result ≢ Err TooLong }
     {
         let data = data_of(alloc, K::front(), K::counted(), &self.pieces)?;
@@ -164,7 +164,7 @@ impl Count {
     }
 }
 
-/// Encodes the number, or nothing.
+/// Encodes the number if entries are counted, and no bytes otherwise.
 impl Encode for Count {
     ghost encoding = { λ c. count_encoding c.counted c.number };
 
@@ -217,7 +217,7 @@ pub(crate) fn encode_entries<A: Allocator, B: Allocator>(
     Ok(())
 }
 
-/// Returns the data, in memory of their own.
+/// Returns a copy of the data of a section.
 pub(crate) fn data_of<A: Allocator, B: Allocator>(
     alloc: A,
     front: &[u8],

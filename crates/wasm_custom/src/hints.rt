@@ -46,7 +46,7 @@ pub struct BranchHint {
     pub branch_hint_value: u32,
 }
 
-/// Encodes the offset, a length of 1, and the value.
+/// Encodes the offset, the size 01 of the value, and the value.
 impl Encode for BranchHint {
     ghost encoding = { hint_encoding };
 
@@ -94,8 +94,10 @@ impl CustomKind for HintItems {
 }
 
 impl<A: Allocator> BranchHints<A> {
-    /// Adds the hints of a function. If there are too many hints, it returns `TooLong` and requests
-    /// none, as tests show.
+    /// Adds the hints of a function.
+    ///
+    /// If there are more than 4294967295 hints, the call returns `TooLong` and requests none of
+    /// them, as tests show.
     pub fn function_hints<H: IntoIterator<Item = BranchHint>>(
         &mut self,
         func: u32,

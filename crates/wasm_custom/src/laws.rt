@@ -19,6 +19,7 @@ ghost use Rattle.wasm_custom.specs.DebugFiles.{source_map_payload, debug_file_pa
 ghost use Rattle.wasm_custom.specs.Hints.{hints, hints_name, hint_items, hints_payload};
 ghost use Rattle.wasm_base.specs.Numbers.{padded as padded_mode, standard, standard_minimal};
 ghost use Rattle.wasm_custom.specs.Linking.{link, linking_name, link_items, linking_payload, full_link, object_items, object_payload};
+ghost use Rattle.wasm_custom.specs.Relocations.{relocation_code, relocation, relocation_items, relocations_payload};
 ghost use Rattle.wasm_custom.specs.Segments.{segment_encoding, IsSegment, segment};
 ghost use Rattle.wasm_custom.specs.InitFunctions.{init_encoding, IsInit, init_function};
 ghost use Rattle.wasm_custom.specs.Comdats.{comdat_symbol_encoding, IsComdatSymbol, comdat_symbol, comdat_encoding, IsComdat, comdat};
@@ -45,6 +46,7 @@ pub fn sections()
     ensures source_maps { Unambiguous (size_prefixed source_map_payload) }
     ensures debug_files { Unambiguous (size_prefixed debug_file_payload) }
     ensures build_ids { Unambiguous (size_prefixed build_id_payload) }
+    ensures relocation_sections { Unambiguous (size_prefixed relocations_payload) }
     ensures customs { Unambiguous custom }
     ensures subsections { Unambiguous subsection }
     ensures links { Unambiguous link }
@@ -67,6 +69,8 @@ pub fn sections()
     ensures single_instances { Unambiguous instance }
     ensures frames { Unambiguous stack_frame }
     ensures values { Unambiguous value }
+    ensures relocation_kinds { Unambiguous (coded relocation_code) }
+    ensures relocations { Unambiguous relocation }
 
     ensures name_laws { ItemLaws name_items }
     ensures linking_items { ItemLaws link_items }
@@ -78,10 +82,11 @@ pub fn sections()
     ensures module_laws { ItemLaws module_items }
     ensures instance_laws { ItemLaws instance_items }
     ensures layout_laws { ItemLaws frame_items }
+    ensures relocation_laws { ItemLaws relocation_items }
 {}
 
-/// With padded numbers the formats of sections are unambiguous too. A minimal encoding is also an
-/// encoding in this mode.
+/// The formats of sections are also unambiguous if padded LEB128 is admitted. A minimal encoding is
+/// an encoding in that mode too.
 pub fn padded()
     ensures names { UnambiguousPadded (size_prefixed name_payload) }
     ensures linking { UnambiguousPadded (size_prefixed linking_payload) }
@@ -97,6 +102,7 @@ pub fn padded()
     ensures source_maps { UnambiguousPadded (size_prefixed source_map_payload) }
     ensures debug_files { UnambiguousPadded (size_prefixed debug_file_payload) }
     ensures build_ids { UnambiguousPadded (size_prefixed build_id_payload) }
+    ensures relocations { UnambiguousPadded (size_prefixed relocations_payload) }
     ensures customs { UnambiguousPadded custom }
 {}
 
@@ -113,6 +119,7 @@ pub fn calls()
     ensures modules { ContainsMore module_items }
     ensures instances { ContainsMore instance_items }
     ensures frames { ContainsMore frame_items }
+    ensures relocations { ContainsMore relocation_items }
     ensures name_maps { ListMore naming_encoding IsNaming }
     ensures indirect_maps { ListMore inside_encoding IsInside }
     ensures symbol_tables { ListMore symbol_encoding IsGivenSymbol }
@@ -139,7 +146,7 @@ pub fn calls()
     ensures producer_fields_encoding { IsVectorOf producer_encoding IsProducer }
 {}
 
-/// The same with padded numbers, for the sections of entries: an entry may be a padded encoding of
+/// The same with padded LEB128, for the sections of entries: an entry may be a padded encoding of
 /// its item.
 #[tactic(auto, using(crate::proofs::Calls::sections, wasm_base::proofs::SectionLaws::held_padded))]
 pub fn padded_calls()
@@ -172,10 +179,11 @@ pub fn payloads()
     ensures source_maps { DecodesPayloads source_map_payload }
     ensures debug_files { DecodesPayloads debug_file_payload }
     ensures build_ids { DecodesPayloads build_id_payload }
+    ensures relocations { DecodesPayloads relocations_payload }
     ensures customs { DecodesPayloads (pair name any_bytes) }
 {}
 
-/// The same with padded numbers.
+/// The same with padded LEB128.
 #[tactic(auto, using(wasm_base::proofs::Payloads::padded_payloads))]
 pub fn padded_payloads()
     ensures names { DecodesPayloadsPadded name_payload }
@@ -192,6 +200,7 @@ pub fn padded_payloads()
     ensures source_maps { DecodesPayloadsPadded source_map_payload }
     ensures debug_files { DecodesPayloadsPadded debug_file_payload }
     ensures build_ids { DecodesPayloadsPadded build_id_payload }
+    ensures relocations { DecodesPayloadsPadded relocations_payload }
     ensures customs { DecodesPayloadsPadded (pair name any_bytes) }
 {}
 
@@ -207,8 +216,8 @@ pub fn object_linking()
     ensures built { IsIncludedIn (linking_payload padded_mode) (object_payload padded_mode) }
 {}
 
-/// These two byte sequences encode no section, with padded numbers neither. In that of branch
-/// hints, a value has two bytes. In that of links, a defined function has no name.
+/// Two byte sequences that encode no section, even if padded LEB128 is admitted. In the branch
+/// hints, a value has two bytes. In the linking section, a defined function has no name.
 #[tactic(auto, using(crate::proofs::RejectionLaws::nothing))]
 pub fn rejections()
     ensures long_value { RejectsAllAfterPadded (size_prefixed hints_payload) (33 ∷ 25 ∷ (hints_name ++ (1 ∷ 0 ∷ 1 ∷ 3 ∷ 1 ∷ 128 ∷ 1 ∷ []))) }

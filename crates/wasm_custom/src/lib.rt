@@ -1,5 +1,5 @@
-//! The custom sections of a WebAssembly module: names, linking, producers, target features, dynamic
-//! linking, branch hints, core dumps, and references to debug information.
+//! The custom sections of a WebAssembly module: names, linking, relocations, producers, target
+//! features, dynamic linking, branch hints, core dumps, and references to debug information.
 //!
 //! The crate builds these sections, decodes them, and writes decoded ones in their minimal
 //! encoding. A call that decodes receives the payload of a section: its name and its items, up to
@@ -35,6 +35,7 @@ mod object_linking;
 mod object_symbols;
 mod producers;
 mod raw_custom;
+mod relocations;
 mod segments;
 mod single;
 mod standard;
@@ -42,42 +43,109 @@ mod subsections;
 mod symbols;
 mod target_features;
 
-pub use comdats::{
-    Comdat, ComdatMembers, ComdatSymbol, ComdatSymbolMembers, ComdatSymbols, Comdats,
-};
-pub use core_dumps::{
-    CoreDumpInstancesSection, CoreDumpModulesSection, CoreDumpSection, InstanceItems, ModuleItems,
-    append_instances, append_modules, append_process, read_instances, read_modules, read_process,
-};
-pub use core_stack::{CoreDumpStackSection, CoreFrame, append_stack, read_stack};
+pub use comdats::Comdat;
+pub use comdats::ComdatMembers;
+pub use comdats::ComdatSymbol;
+pub use comdats::ComdatSymbolMembers;
+pub use comdats::ComdatSymbols;
+pub use comdats::Comdats;
+pub use core_dumps::CoreDumpInstancesSection;
+pub use core_dumps::CoreDumpModulesSection;
+pub use core_dumps::CoreDumpSection;
+pub use core_dumps::InstanceItems;
+pub use core_dumps::ModuleItems;
+pub use core_dumps::append_instances;
+pub use core_dumps::append_modules;
+pub use core_dumps::append_process;
+pub use core_dumps::read_instances;
+pub use core_dumps::read_modules;
+pub use core_dumps::read_process;
+pub use core_stack::CoreDumpStackSection;
+pub use core_stack::CoreFrame;
+pub use core_stack::append_stack;
+pub use core_stack::read_stack;
 pub use core_values::CoreDumpValue;
 pub use custom_section::CustomSection;
-pub use debug_files::{
-    BuildId, ExternalDebugInfo, SourceMappingUrl, append_build_id, append_debug_file,
-    append_source_map, read_build_id, read_debug_file, read_source_map,
-};
-pub use dylink::{DylinkItem, DylinkItems, DylinkSection, append_dylink, read_dylink};
-pub use dylink_symbols::{
-    DylinkExport, DylinkExports, DylinkImport, DylinkImports, DylinkMemory, DylinkNeeded,
-    DylinkPath, ExportFlagMembers, ImportFlagMembers, NeededMembers, PathMembers,
-};
-pub use entries::{CustomEntries, CustomKind};
-pub use hints::{BranchHint, BranchHints, HintItems, append_hints, read_hints};
-pub use init_functions::{InitFunction, InitFunctions, InitMembers};
-pub use linking::{LinkItem, LinkingItems, LinkingSection, append_links, read_links};
-pub use lists::{CountedList, ListKind};
-pub use names::{
-    IndirectMembers, IndirectNameMap, NameItem, NameItems, NameMap, NameMembers, NameSection,
-    append_names, read_names,
-};
-pub use object_linking::{ObjectLinking, ObjectLinkingItems};
-pub use object_symbols::{ObjectSymbolMembers, ObjectSymbols};
-pub use producers::{
-    ProducerItems, ProducersField, ProducersSection, ValueMembers, append_producers, read_producers,
-};
+pub use debug_files::BuildId;
+pub use debug_files::ExternalDebugInfo;
+pub use debug_files::SourceMappingUrl;
+pub use debug_files::append_build_id;
+pub use debug_files::append_debug_file;
+pub use debug_files::append_source_map;
+pub use debug_files::read_build_id;
+pub use debug_files::read_debug_file;
+pub use debug_files::read_source_map;
+pub use dylink::DylinkItem;
+pub use dylink::DylinkItems;
+pub use dylink::DylinkSection;
+pub use dylink::append_dylink;
+pub use dylink::read_dylink;
+pub use dylink_symbols::DylinkExport;
+pub use dylink_symbols::DylinkExports;
+pub use dylink_symbols::DylinkImport;
+pub use dylink_symbols::DylinkImports;
+pub use dylink_symbols::DylinkMemory;
+pub use dylink_symbols::DylinkNeeded;
+pub use dylink_symbols::DylinkPath;
+pub use dylink_symbols::ExportFlagMembers;
+pub use dylink_symbols::ImportFlagMembers;
+pub use dylink_symbols::NeededMembers;
+pub use dylink_symbols::PathMembers;
+pub use entries::CustomEntries;
+pub use entries::CustomKind;
+pub use hints::BranchHint;
+pub use hints::BranchHints;
+pub use hints::HintItems;
+pub use hints::append_hints;
+pub use hints::read_hints;
+pub use init_functions::InitFunction;
+pub use init_functions::InitFunctions;
+pub use init_functions::InitMembers;
+pub use linking::LinkItem;
+pub use linking::LinkingItems;
+pub use linking::LinkingSection;
+pub use linking::append_links;
+pub use linking::read_links;
+pub use lists::CountedList;
+pub use lists::ListKind;
+pub use names::IndirectMembers;
+pub use names::IndirectNameMap;
+pub use names::NameItem;
+pub use names::NameItems;
+pub use names::NameMap;
+pub use names::NameMembers;
+pub use names::NameSection;
+pub use names::append_names;
+pub use names::read_names;
+pub use object_linking::ObjectLinking;
+pub use object_linking::ObjectLinkingItems;
+pub use object_symbols::ObjectSymbolMembers;
+pub use object_symbols::ObjectSymbols;
+pub use producers::ProducerItems;
+pub use producers::ProducersField;
+pub use producers::ProducersSection;
+pub use producers::ValueMembers;
+pub use producers::append_producers;
+pub use producers::read_producers;
 pub use raw_custom::RawCustomSection;
-pub use segments::{SegmentInfo, SegmentInfos, SegmentMembers};
-pub use symbols::{DataSymbolDefinition, Symbol, SymbolKind, SymbolMembers, SymbolTable};
-pub use target_features::{
-    FeatureItems, FeaturePrefix, TargetFeaturesSection, append_features, read_features,
-};
+pub use relocations::Addend32Relocation;
+pub use relocations::Addend64Relocation;
+pub use relocations::PlainRelocation;
+pub use relocations::Relocation;
+pub use relocations::RelocationKind;
+pub use relocations::RelocationSection;
+pub use relocations::append_relocations;
+pub use relocations::read_relocations;
+pub use segments::SegmentInfo;
+pub use segments::SegmentInfos;
+pub use segments::SegmentMembers;
+pub use symbols::DataSymbolDefinition;
+pub use symbols::Symbol;
+pub use symbols::SymbolKind;
+pub use symbols::SymbolMembers;
+pub use symbols::SymbolTable;
+pub use target_features::FeatureItems;
+pub use target_features::FeaturePrefix;
+pub use target_features::TargetFeaturesSection;
+pub use target_features::append_features;
+pub use target_features::read_features;

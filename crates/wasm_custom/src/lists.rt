@@ -1,4 +1,4 @@
-// Counted lists that are passed to sections as a whole.
+// Counted lists, each of which is one argument of a call that adds to a section.
 ghost use Rattle.std.specs.Prelude.{◌≡◌, ◌≢◌, ℕ, List, [], length, IfOk, IsTrue, ◌↔◌, ⊤, Option};
 ghost use Rattle.wasm_base.specs.Calls.{Adds};
 ghost use Rattle.wasm_base.specs.declared.refused.Refused.TheVariants.{TooLong};
@@ -20,11 +20,11 @@ pub trait ListKind {
     /// A property of each member that is added.
     ghost is_member: { Member → Type 0 };
 
-    /// The id of the subsection that a list is encoded as, or none if it is encoded as a vector
+    /// The id of the subsection that a list is encoded as, or `None` if the encoding is the vector
     /// alone.
     ghost subsection: { Option ℕ };
 
-    /// Returns that id.
+    /// Returns the id of the subsection, or `None`.
     fn subsection() -> Option<u8>
         ensures { result ≡ subsection };
 }
@@ -133,7 +133,7 @@ impl<K: ListKind, A: Allocator> Content for Entries<'_, K, A> {
     }
 }
 
-/// Encodes the vector of the entries: alone, or in the subsection of the kind.
+/// Encodes the vector of the entries: alone, or as the content of the kind's subsection.
 impl<K: ListKind, A: Allocator> Encode for CountedList<K, A> {
     ghost encoding = { listed_encoding K.subsection };
 

@@ -8,8 +8,9 @@ ghost use Rattle.wasm_base.specs.declared.fault.ReadFault.TheVariants.{Memory, U
 use std::alloc::Allocator;
 use wasm_base::{DecodeError, Grammar, ReadFault, Readable};
 
-/// Returns the error of a name that is not `name`, and which `rest` follows. Its place is the last
-/// byte of the size prefix if the sizes differ, and otherwise the first byte that differs.
+/// Returns the error of a section name `known` that is not `name`; `rest` are the bytes after it.
+/// The error's offset is that of the size prefix's last byte if the sizes differ, and otherwise
+/// that of the first byte that differs.
 fn other_name(name: &str, known: &str, rest: &[u8]) -> DecodeError
     ensures { result.cause ≡ UnknownTag }
 {

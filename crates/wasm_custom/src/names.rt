@@ -1,7 +1,7 @@
 // The name section: its builder, its reader and its minimizer.
 ghost use Rattle.std.specs.Prelude.{None, ◌≡◌, ◌++◌, [], false, ⊤, ◌≢◌, IfOk, IfErr, Err, OnOk, OnErr, map};
 ghost use Rattle.wasm_base.specs.Calls.{Adds};
-ghost use Rattle.wasm_base.specs.Cow.{items_of, encoding_of};
+ghost use Rattle.wasm_base.specs.Cow.{items_of, utf8_of};
 ghost use Rattle.wasm_base.specs.Formats.{fixed, u32};
 ghost use Rattle.wasm_base.specs.Continuing.{RejectsWhole};
 ghost use Rattle.wasm_base.specs.Numbers.{unsigned_encoding, padded_of};
@@ -247,7 +247,7 @@ impl<A: Allocator> NameSection<A> {
         self.map(9, names)
     }
 
-    /// Adds the names of tags. The same as `tags`.
+    /// Adds the names of tags, as `tags` does.
     pub fn tag<B: Allocator>(&mut self, names: &NameMap<B>) -> Result<()>
         ensures { Adds (subsection_encoding 11 (list_encoding names.now)) (HasEncodableSize (list_encoding names.now) × ⊤) self.old self.new result }
     {
@@ -309,7 +309,7 @@ impl<A: Allocator> NameSection<A> {
 
     /// Returns the section as a custom section that borrows the entries, and allocates nothing.
     pub fn as_custom(&self) -> CustomSection<'_>
-        ensures name { encoding_of result.name ≡ name_name }
+        ensures name { utf8_of result.name ≡ name_name }
         ensures bytes { items_of result.bytes ≡ joined self.now }
     {
         CustomSection {
@@ -363,7 +363,7 @@ fn name_kind_of(id: u8) -> NameKind
     }
 }
 
-/// Decodes the content of a subsection of this kind and id, which `rest` follows.
+/// Decodes the content of a subsection of this kind and id. `rest` are the bytes after the content.
 #[tactic(auto, using(crate::proofs::NameLaws::kind_steps))]
 fn fill_subsection<'a, A: Allocator + Copy + 'a, G: Grammar>(
     kind: NameKind,

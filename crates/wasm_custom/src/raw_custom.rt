@@ -7,8 +7,8 @@ ghost use Rattle.wasm_base.specs.Numbers.{minimal, padded};
 use std::alloc::Allocator;
 use wasm_base::{Encode, Result, Section, SectionId};
 
-/// A custom section of raw bytes, including its size prefix. If they are not a size prefix, a name
-/// and data, then a reader of the module decodes something else there, or fails.
+/// A custom section of raw bytes, including its size prefix. The bytes are not checked: if they are
+/// not a size prefix, a name and data, a reader of the module decodes other sections, or fails.
 ///
 /// ```rust
 /// module.section(&RawCustomSection(&[2, 1, b'a']))?;
@@ -30,7 +30,7 @@ impl Encode for RawCustomSection<'_> {
     }
 }
 
-/// The payload is the bytes after their size prefix.
+/// The payload is the bytes after the size prefix.
 impl Section for RawCustomSection<'_> {
     ghost use Rattle.wasm_base.specs.Formats.{custom};
     ghost use Rattle.wasm_base.specs.Numbers.{minimal};

@@ -67,8 +67,8 @@ fn write_single<T: Shorten, B: Allocator>(
     value.write_minimal(sink)
 }
 
-/// Appends the minimal encoding of the payload of a custom section of this name, whose data are this
-/// value. On an error, the sink is unchanged.
+/// Appends the minimal encoding of the payload of a custom section of this name, whose data are
+/// this value. On an error, the sink is unchanged.
 pub(crate) fn append_single<T: Shorten, B: Allocator>(
     name: &str,
     value: &T,

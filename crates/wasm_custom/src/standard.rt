@@ -4,8 +4,8 @@ ghost use Rattle.wasm_base.specs.Numbers.{is_admitted};
 
 use wasm_base::{DecodeError, Grammar, ReadFault};
 
-/// Returns an error unless the grammar is the standard's. The place of the error is the byte just
-/// before `rest`, which selects the case.
+/// Returns an error unless the grammar is the standard's. The error's offset is that of the byte
+/// just before `rest`, which selects the case.
 pub(crate) fn require_standard<G: Grammar>(rest: &[u8]) -> Result<(), DecodeError>
     ensures found { IfOk result (λ _. is_admitted G.grammar ≡ true) }
     ensures none { IfErr result (λ _. is_admitted G.grammar ≡ false) }

@@ -1,4 +1,4 @@
-// Subsections: an id, and a size-prefixed content.
+// Subsections of custom sections: an id, and a size-prefixed content.
 ghost use Rattle.std.specs.Prelude.{◌≡◌, ◌≢◌, ◌+◌, ◌≤◌, length, vec_len, vec_capacity, Err, IsOk, ⊤};
 ghost use Rattle.wasm_base.specs.Calls.{Appends};
 ghost use Rattle.wasm_base.specs.Numbers.{unsigned_encoding};

@@ -31,7 +31,7 @@ pub type TargetFeaturesSection<A = Global> = CustomEntries<FeatureItems, A>;
 #[derive(Clone, Copy, Debug)]
 pub struct FeatureItems;
 
-/// What a linker must know about a feature.
+/// The policy of an object file for a feature, which a linker enforces.
 #[derive(Clone, Copy, PartialEq, Eq, Hash, Debug)]
 pub enum FeaturePrefix {
     /// `+`: the object uses the feature, and the linked module must allow it.

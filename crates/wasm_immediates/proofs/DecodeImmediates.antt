@@ -1,18 +1,18 @@
 -- This file proves how readers decode immediates.
-use Rattle.wasm_base.proofs.Words.{val_type_rejects, val_type_none, begins_fixed, val_type_decodes, val_type, [], IsValByte, BeginsWith, fixed, after_byte, ◌∙◌, Mode, minimal, padded, standard_minimal, standard, Grammar, builders, admitted, is_admitted, padded_of, ◌≡◌, ◌≢◌}
-use Rattle.wasm_base.proofs.Words.{◌⊎◌, inl, inr, ℕ, ◌<◌, ◌≤◌, ◌/◌, ◌%◌, ◌^◌, ◌==◌, List, ◌∷◌, Bool, true, false, Option, Some, None, option_map, refl, sym, ap, subst, arith, lt-ltb, le-ltb, Format}
-use Rattle.wasm_base.proofs.Words.{u32, u64, byte, s33, choice, impossible, pair, optional, when, Decodes, Rejects, IsIndexByte, byte_unambiguous, optional_unambiguous, u32_unambiguous, begins_s33}
-use Rattle.wasm_base.proofs.Words.{val_begins, u32_byte, no_index_byte, then_decodes, then_rejects_first, then_rejects_second, mapped_decodes, mapped_rejects, such_decodes, such_none, such_rejects}
-use Rattle.wasm_base.proofs.Words.{tagged_decodes, tagged_none, tagged_rejects, no_choice, fixed_decodes, impossible_rejects, optional_none, one_of_rejects, not_begun, no_bytes, code_decodes}
-use Rattle.wasm_base.proofs.Words.{code_none, code_unknown}
+use Rattle.wasm_base.proofs.Words.{val_type_rejects, val_type_none, begins_fixed, val_type_decodes, val_type, [], IsValByte, BeginsWith, fixed, after_byte, ◌∙◌, Mode, minimal, padded}
+use Rattle.wasm_base.proofs.Words.{standard_minimal, standard, Grammar, builders, admitted, is_admitted, padded_of, ◌≡◌, ◌≢◌, ◌⊎◌, inl, inr, ℕ, ◌<◌, ◌≤◌, ◌/◌, ◌%◌, ◌^◌, ◌==◌, List, ◌∷◌, Bool, true}
+use Rattle.wasm_base.proofs.Words.{false, Option, Some, None, option_map, refl, sym, ap, subst, arith, lt-ltb, le-ltb, Format, u32, u64, byte, s33, choice, impossible, pair, optional, when, Decodes}
+use Rattle.wasm_base.proofs.Words.{Rejects, IsIndexByte, byte_unambiguous, optional_unambiguous, u32_unambiguous, begins_s33, val_begins, u32_byte, no_index_byte, then_decodes, then_rejects_first}
+use Rattle.wasm_base.proofs.Words.{then_rejects_second, mapped_decodes, mapped_rejects, such_decodes, such_none, such_rejects, tagged_decodes, tagged_none, tagged_rejects, no_choice, fixed_decodes}
+use Rattle.wasm_base.proofs.Words.{impossible_rejects, optional_none, one_of_rejects, not_begun, no_bytes, code_decodes, code_none, code_unknown}
 use Rattle.wasm_base.specs.declared.types.ValType.{ValType}
 use Rattle.wasm_immediates.specs.declared.memory.Ordering.{Ordering}
 use Rattle.wasm_immediates.specs.declared.memory.MemArgOrdering.{MemArgOrdering}
 use Rattle.wasm_immediates.specs.declared.memory.MemArg.{MemArg}
 use Rattle.wasm_immediates.specs.declared.control.Catch.{Catch}
 use Rattle.wasm_immediates.specs.declared.control.Handle.{Handle}
-use Rattle.wasm_immediates.specs.{ordering_code, block_type, ordering_format, mem_orderings, mem_ordering, bit, HasIndex, mem_arg_in, target_of, mem_arg_of, mem_arg_with, after_flags, mem_arg, one_of_pair, one_ref_of_pair}
-use Rattle.wasm_immediates.specs.{catch_tags, catch, on_label_of_pair, handle_tags, handle}
+use Rattle.wasm_immediates.specs.{ordering_code, block_type, ordering_format, mem_orderings, mem_ordering, bit, HasIndex, mem_arg_in, target_of, mem_arg_of, mem_arg_with, after_flags, mem_arg}
+use Rattle.wasm_immediates.specs.{one_of_pair, one_ref_of_pair, catch_tags, catch, on_label_of_pair, handle_tags, handle}
 use Rattle.wasm_immediates.specs.declared.memory.Ordering.TheVariants.{AcqRel, SeqCst}
 use Rattle.wasm_immediates.specs.declared.memory.MemArgTarget.{MemArgTarget}
 use Rattle.wasm_immediates.specs.declared.memory.MemArgTarget.TheVariants.{Memory, Array}
@@ -181,9 +181,9 @@ pub memory_unknown : {m : Mode} (bytes rest : List ℕ) (flags : ℕ) → Decode
 memory_unknown {m = m} bytes rest flags h l =
     mode_rejects (tagged_rejects {G = after_flags (grammar_of m)} u32_unambiguous h (subst (λ low. Rejects (mem_after (grammar_of m) flags low) m rest) (sym (le-ltb flags 0x80 l)) (impossible_rejects rest)))
 
--- Bit tests of the flags are false where the arithmetic gives 0.
-unset : (place flags : ℕ) → flags / 2 ^ place % 2 ≡ 0 → bit place flags ≡ false
-unset place flags e = ap (λ z. z == 1) e
+-- Bit tests of the flags are false where the arithmetic yields 0.
+unset : (index flags : ℕ) → flags / 2 ^ index % 2 ≡ 0 → bit index flags ≡ false
+unset index flags e = ap (λ z. z == 1) e
 
 module _ (bytes start : List ℕ) (flags : ℕ) (e : bytes ≡ flags ∷ start) (low : flags < 0x10) where
   few_flags : (w : Grammar) → Decodes u32 (padded_of w) bytes flags start

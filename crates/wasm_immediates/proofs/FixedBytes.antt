@@ -1,4 +1,4 @@
--- This file proves that the library writes fixed-width numbers as the definitions encode them.
+-- This file proves that the library encodes fixed-width numbers as the definitions do.
 use Rattle.wasm_base.proofs.Words.{◌≡◌, ℕ, zero, suc, ◌/◌, ◌%◌, ◌^◌, ◌∷◌, refl, ap, ap₂, ◌∙◌, arith, ℤ, pos, negsuc, pow-suc, div-div-eq-div-mul, w32, w64, w128, to_le_bytes, byte_at, bytes_low_first}
 use Rattle.wasm_base.proofs.Words.{cast_unsigned, little_endian_encoding, twos_complement}
 use Rattle.wasm_immediates.specs.{vector_encoding}

@@ -1,7 +1,6 @@
 -- This file proves that the encodings of well-formed immediates encode their normal forms.
-use Rattle.wasm_base.proofs.Words.{builders}
-use Rattle.wasm_base.proofs.Words.{◌≡◌, ℕ, zero, suc, ◌+◌, ◌*◌, ◌%◌, ◌^◌, ◌<◌, List, [], ◌∷◌, ◌++◌, Bool, true, false, eqb, Option, Some, None, refl, sym, ap, ap₂, subst, ◌∙◌, arith, inl, inr, ℤ, pos}
-use Rattle.wasm_base.proofs.Words.{negsuc, lt-ltb, or_shifted, or_comm, bit_or, nat_lt, ⊤, minimal, unsigned_encoding, u32, pair, optional, twos_complement, vector_format, IsVector}
+use Rattle.wasm_base.proofs.Words.{builders, ◌≡◌, ℕ, zero, suc, ◌+◌, ◌*◌, ◌%◌, ◌^◌, ◌<◌, List, [], ◌∷◌, ◌++◌, Bool, true, false, eqb, Option, Some, None, refl, sym, ap, ap₂, subst, ◌∙◌, arith, inl}
+use Rattle.wasm_base.proofs.Words.{inr, ℤ, pos, negsuc, lt-ltb, or_shifted, or_comm, bit_or, nat_lt, ⊤, minimal, unsigned_encoding, u32, pair, optional, twos_complement, vector_format, IsVector}
 use Rattle.wasm_base.proofs.Words.{HasMinimalEncodings, UnambiguousPadded, optional_encoding, unambiguous_padded, vector_unambiguous, one_group, val-encodings, decodes_uniquely, u32_encodes}
 use Rattle.wasm_base.proofs.Words.{u64_encodes, s33_encodes, little_endian_encodes, tagged_encodes}
 use Rattle.wasm_immediates.specs.declared.memory.Ordering.TheVariants.{AcqRel, SeqCst}
@@ -29,8 +28,8 @@ one_or_none : (b : Bool) → where_set b 1 < 2
 one_or_none true = omega arith
 one_or_none false = omega arith
 
-or_above : (k place n : ℕ) → n < 2 ^ place → bit_or n (k * 2 ^ place) ≡ n + k * 2 ^ place
-or_above k place n h = omega (arith, or_comm n (k * 2 ^ place), or_shifted k place n h)
+or_above : (k index n : ℕ) → n < 2 ^ index → bit_or n (k * 2 ^ index) ≡ n + k * 2 ^ index
+or_above k index n h = omega (arith, or_comm n (k * 2 ^ index), or_shifted k index n h)
 
 bit_four : (a : Bool) → where_set a 0x10 ≡ where_set a 1 * 2 ^ 4
 bit_four true = refl

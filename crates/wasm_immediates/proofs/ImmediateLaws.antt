@@ -2,10 +2,11 @@
 use Rattle.wasm_base.proofs.Words.{s33, val_type, inl, inr, one_of, values_one_of, val_unambiguous, begins_weaker, ◌⊎◌, begins_fixed, begins_one_of, IsValByte, ◌≡◌, ℕ, zero, suc, ◌+◌, ◌*◌, ◌/◌, ◌%◌}
 use Rattle.wasm_base.proofs.Words.{◌^◌, ◌<◌, List, [], ◌∷◌, Bool, true, false, cond, eqb, Option, refl, sym, ap, ◌∙◌, arith, eqb-true, eqb-false, ltb-true, nat_lt, Mode, Format, u32, byte, impossible}
 use Rattle.wasm_base.proofs.Words.{mapped, when, pair, optional, Unambiguous, BeginsWith, IsIndexByte, IsInjective, DeterminesTag, when_unambiguous, mapped_unambiguous, such_unambiguous}
-use Rattle.wasm_base.proofs.Words.{coded_unambiguous, fixed_unambiguous, impossible_unambiguous, tagged_unambiguous, one_of_unambiguous, byte_unambiguous, pair_unambiguous, optional_unambiguous}
-use Rattle.wasm_base.proofs.Words.{u64, subst, ◌==◌, None, Grammar, builders, admitted, minimal, padded, standard_minimal, standard, by_mode, by_mode_unambiguous, Then_unambiguous, DeterminesPrefix, IsIncludedIn, AreGroups, u32_small}
+use Rattle.wasm_base.proofs.Words.{coded_unambiguous, fixed_unambiguous, impossible_unambiguous, tagged_unambiguous, one_of_unambiguous, byte_unambiguous, pair_unambiguous, optional_unambiguous, u64}
+use Rattle.wasm_base.proofs.Words.{subst, ◌==◌, None, Grammar, builders, admitted, minimal, padded, standard_minimal, standard, by_mode, by_mode_unambiguous, Then_unambiguous, DeterminesPrefix}
+use Rattle.wasm_base.proofs.Words.{IsIncludedIn, AreGroups, u32_small, ◌-◌, ◌≤◌, ◌++◌, length, length-append, lt-ltb, choice_of, begins_mapped, values_mapped, none_in_common, u32_unambiguous}
+use Rattle.wasm_base.proofs.Words.{u64_unambiguous, s33_unambiguous, val_begins, begins_s33}
 use Rattle.wasm_base.specs.Decoding.{ShrinksTo}
-use Rattle.wasm_base.proofs.Words.{◌-◌, ◌≤◌, ◌++◌, length, length-append, lt-ltb, choice_of, begins_mapped, values_mapped, none_in_common, u32_unambiguous, u64_unambiguous, s33_unambiguous, val_begins, begins_s33}
 use Rattle.wasm_immediates.specs.declared.memory.Ordering.{Ordering}
 use Rattle.wasm_immediates.specs.declared.memory.MemArgOrdering.{MemArgOrdering}
 use Rattle.wasm_immediates.specs.declared.memory.MemArg.{MemArg}
@@ -160,8 +161,8 @@ target_narrowed true true s t h = absurd h
 abbrev EndsAlone : ℕ → List ℕ → MemArg → Type 0
 EndsAlone f s m = (front back : List ℕ) × (s ≡ front ++ back) × (f < 0x80) × (0x40 ≤ f) × after_flags builders (f - 0x40) standard back m
 
-same_bit : (place f g : ℕ) → f / 2 ^ place % 2 ≡ g / 2 ^ place % 2 → bit place f ≡ bit place g
-same_bit place f g e = ap (λ z. z == 1) e
+same_bit : (index f g : ℕ) → f / 2 ^ index % 2 ≡ g / 2 ^ index % 2 → bit index f ≡ bit index g
+same_bit index f g e = ap (λ z. z == 1) e
 
 -- After flags with bit 6 alone of bits 5 and 6, the bytes after the index encode the target memory
 -- 0 behind flags without bit 6.
@@ -237,7 +238,7 @@ block_case blocks.Empty = 0
 block_case (blocks.Result t) = 1
 block_case (blocks.FunctionType f) = 2
 
--- Bytes from 0x63 on up to 0x7F, or of an index: no typed block begins with 40.
+-- Bytes from 0x63 to 0x7F, or of an index: no typed block begins with 0x40.
 abbrev IsTypedByte : ℕ → Type 0
 IsTypedByte b = IsValByte b ⊎ IsIndexByte b
 
@@ -305,5 +306,3 @@ handle_unambiguous =
     choice_of byte handle_tag handle_tags byte_unambiguous
     (mapped_unambiguous on_label_of_pair (λ x y e. ap handle_numbers e) numbers_unambiguous, (mapped_unambiguous OnSwitch (λ x y e. cc) u32_unambiguous, tt))
     (λ mode s x h. ap handle_tag h.1, (λ mode s x h. ap handle_tag h.1, tt))
-
--- ---- vectors of 128 bits

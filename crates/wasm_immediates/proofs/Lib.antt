@@ -1,5 +1,6 @@
--- The lemmas of the crate, each file. `Words` passes on what the crates above use.
+-- The lemmas of the crate: each file as a module. `Words` re-exports what dependent crates use.
 pub mod Words
+pub mod Common
 pub mod FixedBytes
 pub mod ImmediateLaws
 pub mod ImmediateEncodings

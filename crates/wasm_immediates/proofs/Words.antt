@@ -1,4 +1,4 @@
--- This file passes on what the crates above use.
+-- This file re-exports the names that the proofs of dependent crates use.
 pub use Rattle.wasm_immediates.proofs.DecodeImmediates.{option_same}
 pub use Rattle.wasm_immediates.proofs.DecodePlain.{block_is, catch_is, handle_is, memory_is}
 pub use Rattle.wasm_immediates.proofs.ImmediateEncodings.{block_encodes, catch_encodes, handle_encodes, memory_encodes, vector_encodes}

@@ -1,5 +1,6 @@
 -- This file defines well-formed immediates, their normal forms and their formats.
-use Rattle.wasm_base.specs.Words.{val_type, Format, Grammar, builders, admitted, by_mode, u32, u64, s33, byte, fixed, impossible, coded, mapped, such, when, choice, tagged, one_of, pair, optional, DecodesUniquely, IsVal}
+use Rattle.wasm_base.specs.Words.{val_type, Format, Grammar, builders, admitted, by_mode, u32, u64, s33, byte, fixed, impossible, coded, mapped, such, when, choice, tagged, one_of, pair, optional}
+use Rattle.wasm_base.specs.Words.{DecodesUniquely, IsVal}
 use Rattle.std.specs.Prelude.{◌≡◌, ℕ, ◌/◌, ◌%◌, ◌^◌, ◌<◌, List, [], ◌∷◌, Bool, true, false, ◌==◌, nat_lt, Option, Some, None, ⊤}
 use Rattle.wasm_immediates.specs.declared.memory.Ordering.{Ordering}
 use Rattle.wasm_immediates.specs.declared.memory.Ordering.TheVariants.{AcqRel, SeqCst}
@@ -19,7 +20,7 @@ use Rattle.wasm_immediates.specs.declared.block_type.BlockType.TheVariants as bl
 -- ---- normal form
 
 -- The normal form of an ordering: `SeqCst` becomes that of an operation, since both have the byte
--- 00.
+-- 0x00.
 abbrev pub normal_ordering : MemArgOrdering → MemArgOrdering
 normal_ordering (orders.Op o) = orders.Op o
 normal_ordering (orders.Rmw SeqCst) = orders.Op SeqCst
@@ -78,8 +79,8 @@ ordering_encoding o = ordering_code o ∷ []
 
 -- ---- formats
 
--- A block type: 40, a value type, or an index, whose first byte is neither 40 nor that of a value
--- type. Core specification, Binary Format, Instructions, Control Instructions.
+-- A block type: 0x40, a value type, or an index, whose first byte is neither 0x40 nor that of a
+-- value type. Core specification, Binary Format, Instructions, Control Instructions.
 abbrev pub block_type : Format BlockType
 block_type = one_of (fixed (0x40 ∷ []) blocks.Empty) (one_of (mapped blocks.Result val_type) (mapped blocks.FunctionType s33))
 
@@ -87,7 +88,7 @@ block_type = one_of (fixed (0x40 ∷ []) blocks.Empty) (one_of (mapped blocks.Re
 abbrev pub ordering_format : Format Ordering
 ordering_format = coded ordering_code
 
--- The formats of orderings in normal form by their bytes: 00 is that of an operation.
+-- The formats of orderings in normal form by their bytes: 0x00 is that of an operation.
 abbrev pub mem_orderings : List (ℕ × Format MemArgOrdering)
 mem_orderings = (0x00, fixed [] (orders.Op SeqCst)) ∷ (0x01, fixed [] (orders.Op AcqRel)) ∷ (0x11, fixed [] (orders.Rmw AcqRel)) ∷ []
 
@@ -97,15 +98,15 @@ mem_ordering = tagged byte (choice mem_orderings (λ b. impossible))
 
 -- Whether the bit at this position is set in the flags.
 abbrev pub bit : ℕ → ℕ → Bool
-bit place flags = flags / 2 ^ place % 2 == 1
+bit index flags = flags / 2 ^ index % 2 == 1
 
 -- The memories whose index is encoded. Builders encode none for memory 0; the standard admits it.
 abbrev pub HasIndex : Grammar → ℕ → Type 0
 HasIndex builders n = 0 < n
 HasIndex admitted n = ⊤
 
--- The target of a memory argument, by bits 5 and 6 of its flags. Without an index it is memory 0,
--- and both bits together do not decode.
+-- The target of a memory argument, by bits 5 and 6 of its flags. With neither bit it is memory 0,
+-- and with both nothing decodes.
 abbrev pub target_of : Grammar → (array other_memory : Bool) → Format MemArgTarget
 target_of w false false = fixed [] (Memory 0)
 target_of w true false = mapped Array u32
@@ -120,12 +121,12 @@ mem_arg_of align p = record { offset = p.1.1; align = align; target = p.0; order
 abbrev pub mem_arg_with : Grammar → ℕ → (ordered array other_memory : Bool) → Format MemArg
 mem_arg_with w align ordered array other_memory = mapped (mem_arg_of align) (pair (target_of w array other_memory) (pair (optional ordered mem_ordering) u64))
 
--- The bytes after flags below 128: bits 0 to 3 are the alignment, and bits 4, 5 and 6 say which
--- immediates are encoded. Higher flags do not decode.
+-- The bytes after flags below 128: bits 0 to 3 are the alignment, and bits 4, 5 and 6 select the
+-- fields that follow. Higher flags do not decode.
 abbrev pub after_flags : Grammar → ℕ → Format MemArg
 after_flags w flags = when (nat_lt flags 0x80) (mem_arg_with w (flags % 16) (bit 4 flags) (bit 5 flags) (bit 6 flags)) impossible
 
--- A memory argument of a grammar: flags, an index and an ordering if the flags say so, and the
+-- A memory argument of a grammar: flags, the index and the ordering that the flags select, and the
 -- offset.
 abbrev pub mem_arg_in : Grammar → Format MemArg
 mem_arg_in w = tagged u32 (after_flags w)
@@ -154,11 +155,12 @@ abbrev pub catch_tags : List (ℕ × Format Catch)
 catch_tags =
     (0x00, mapped one_of_pair (pair u32 u32)) ∷ (0x01, mapped one_ref_of_pair (pair u32 u32)) ∷ (0x02, mapped All u32) ∷ (0x03, mapped AllRef u32) ∷ []
 
--- A catch clause: a byte for its kind, a tag for 00 and 01, and a label.
+-- A catch clause: a byte for its kind, a tag for 00 and 01, and a label. Core specification, Binary
+-- Format, Instructions, Control Instructions.
 abbrev pub catch : Format Catch
 catch = tagged byte (choice catch_tags (λ b. impossible))
 
--- The clause `on` of this tag and label.
+-- The clause `on` that branches to this label for this tag.
 abbrev pub on_label_of_pair : ℕ × ℕ → Handle
 on_label_of_pair p = OnLabel p.0 p.1
 

@@ -24,7 +24,7 @@ abbrev pub ordering_code : Ordering → ℕ
 ordering_code SeqCst = 0x00
 ordering_code AcqRel = 0x01
 
--- The byte of a memory argument's ordering. `SeqCst` has the byte 00 for an operation and for a
+-- The byte of a memory argument's ordering. `SeqCst` has the byte 0x00 for an operation and for a
 -- read-modify-write operation.
 abbrev pub mem_ordering_code : MemArgOrdering → ℕ
 mem_ordering_code (orders.Op SeqCst) = 0x00
@@ -64,21 +64,23 @@ abbrev pub mem_flags : MemArg → ℕ
 mem_flags m = bit_or (bit_or m.align (where_set (has_ordering m.ordering) 0x10)) (bit_or (where_set (is_array m.target) 0x20) (where_set (has_memory m.target) 0x40))
 
 -- The encoding of a memory argument: flags, the index if it is encoded, the byte of the ordering if
--- it is explicit, and the offset.
+-- it is explicit, and the offset. Core specification, Binary Format, Instructions, Memory
+-- Instructions.
 abbrev pub mem_arg_encoding : MemArg → List ℕ
 mem_arg_encoding m =
     unsigned_encoding (mem_flags m) ++ (optional_encoding unsigned_encoding (index_of m.target) ++ (optional_encoding (λ o. mem_ordering_code o ∷ []) m.ordering ++ unsigned_encoding m.offset))
 
 -- ---- blocks, catches and handles
 
--- The encoding of a block type: 40 without a result, a value type, or a type index as a signed
+-- The encoding of a block type: 0x40 without a result, a value type, or a type index as a signed
 -- number. Core specification, Binary Format, Instructions, Control Instructions.
 abbrev pub block_encoding : BlockType → List ℕ
 block_encoding blocks.Empty = 0x40 ∷ []
 block_encoding (blocks.Result ty) = val_encoding ty
 block_encoding (blocks.FunctionType index) = signed_encoding (pos index)
 
--- The encoding of a catch clause: a byte for its kind, its tag if it has one, and its label.
+-- The encoding of a catch clause: a byte for its kind, its tag if it has one, and its label. Core
+-- specification, Binary Format, Instructions, Control Instructions.
 abbrev pub catch_encoding : Catch → List ℕ
 catch_encoding (One tag label) = 0x00 ∷ (unsigned_encoding tag ++ unsigned_encoding label)
 catch_encoding (OneRef tag label) = 0x01 ∷ (unsigned_encoding tag ++ unsigned_encoding label)
@@ -93,6 +95,7 @@ handle_encoding (OnSwitch tag) = 0x01 ∷ unsigned_encoding tag
 
 -- ---- vectors of 128 bits
 
--- The encoding of a vector: 16 little-endian bytes in two's complement.
+-- The encoding of a vector: 16 little-endian bytes in two's complement. Core specification, Binary
+-- Format, Instructions, Vector Instructions.
 unfoldable pub vector_encoding : ℤ → List ℕ
 vector_encoding v = little_endian_encoding 16 (twos_complement 128 v)

@@ -252,7 +252,7 @@ fn read_target<'a, A: Allocator + Copy, G: Grammar>(
     }
 }
 
-/// Decodes a memory argument with any flags. Out of line.
+/// Decodes a memory argument with any flags. Out of line, since most have memory 0 and no ordering.
 #[inline(never)]
 #[tactic(auto, using(crate::proofs::DecodeImmediates::memory_steps))]
 fn read_any_memory<'a, A: Allocator + Copy, G: Grammar>(

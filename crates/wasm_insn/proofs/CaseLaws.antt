@@ -116,49 +116,49 @@ abbrev position_of : {A : Type 0} → Instruction A → ℕ
 position_of (cases.TypedSelectMulti a) = suc (position_in table (Byte 0x1C))
 position_of i = position_in table (row_of i).op
 
-abbrev Stands : {A : Type 0} → Instruction A → Type 0
-Stands i = slice_get (all_cases (fields_of i)) (position_of i) ≡ Some i
+abbrev HasPosition : {A : Type 0} → Instruction A → Type 0
+HasPosition i = slice_get (all_cases (fields_of i)) (position_of i) ≡ Some i
 
-numeric_stands : {A : Type 0} (i : Numeric) → Stands {A = A} (cases.Numeric i)
+numeric_at_position : {A : Type 0} (i : Numeric) → HasPosition {A = A} (cases.Numeric i)
 unfolding table
-numeric_stands numeric.I32Eqz = refl
-numeric_stands _ = refl
+numeric_at_position numeric.I32Eqz = refl
+numeric_at_position _ = refl
 
-aggregate_stands : {A : Type 0} (i : Aggregate) → Stands {A = A} (cases.Aggregate i)
+aggregate_at_position : {A : Type 0} (i : Aggregate) → HasPosition {A = A} (cases.Aggregate i)
 unfolding table
-aggregate_stands aggregate.ArrayLen = refl
-aggregate_stands _ = refl
+aggregate_at_position aggregate.ArrayLen = refl
+aggregate_at_position _ = refl
 
-prefixed_numeric_stands : {A : Type 0} (i : PrefixedNumeric) → Stands {A = A} (cases.PrefixedNumeric i)
+prefixed_numeric_at_position : {A : Type 0} (i : PrefixedNumeric) → HasPosition {A = A} (cases.PrefixedNumeric i)
 unfolding table
-prefixed_numeric_stands prefixed_numeric.I32TruncSatF32S = refl
-prefixed_numeric_stands _ = refl
+prefixed_numeric_at_position prefixed_numeric.I32TruncSatF32S = refl
+prefixed_numeric_at_position _ = refl
 
-vector_stands : {A : Type 0} (i : Vector) → Stands {A = A} (cases.Vector i)
+vector_at_position : {A : Type 0} (i : Vector) → HasPosition {A = A} (cases.Vector i)
 unfolding table
-vector_stands vectors.I8x16Swizzle = refl
-vector_stands _ = refl
+vector_at_position vectors.I8x16Swizzle = refl
+vector_at_position _ = refl
 
-vector_immediate_stands : {A : Type 0} (i : VectorImmediate) → Stands {A = A} (cases.VectorImmediate i)
+vector_immediate_at_position : {A : Type 0} (i : VectorImmediate) → HasPosition {A = A} (cases.VectorImmediate i)
 unfolding table
-vector_immediate_stands (vector_immediate.V128Load _) = refl
-vector_immediate_stands _ = refl
+vector_immediate_at_position (vector_immediate.V128Load _) = refl
+vector_immediate_at_position _ = refl
 
-atomic_stands : {A : Type 0} (i : Atomic) → Stands {A = A} (cases.Atomic i)
+atomic_at_position : {A : Type 0} (i : Atomic) → HasPosition {A = A} (cases.Atomic i)
 unfolding table
-atomic_stands (atomic.MemoryAtomicNotify _) = refl
-atomic_stands _ = refl
+atomic_at_position (atomic.MemoryAtomicNotify _) = refl
+atomic_at_position _ = refl
 
-stands : {A : Type 0} (i : Instruction A) → Stands i
+at_position : {A : Type 0} (i : Instruction A) → HasPosition i
 unfolding table
-stands (cases.Numeric i) = numeric_stands i
-stands (cases.Aggregate i) = aggregate_stands i
-stands (cases.PrefixedNumeric i) = prefixed_numeric_stands i
-stands (cases.Vector i) = vector_stands i
-stands (cases.VectorImmediate i) = vector_immediate_stands i
-stands (cases.Atomic i) = atomic_stands i
-stands cases.Unreachable = refl
-stands _ = refl
+at_position (cases.Numeric i) = numeric_at_position i
+at_position (cases.Aggregate i) = aggregate_at_position i
+at_position (cases.PrefixedNumeric i) = prefixed_numeric_at_position i
+at_position (cases.Vector i) = vector_at_position i
+at_position (cases.VectorImmediate i) = vector_immediate_at_position i
+at_position (cases.Atomic i) = atomic_at_position i
+at_position cases.Unreachable = refl
+at_position _ = refl
 
 found : {X : Type 0} (xs : List X) (k : ℕ) (x : X) → slice_get xs k ≡ Some x → Contains xs x
 found [] k x e = absurd (cc e)
@@ -166,4 +166,4 @@ found (y ∷ xs) zero x e = (0, omega arith, cc e)
 found (y ∷ xs) (suc k) x e = let h = found xs k x e in (suc h.0, omega (arith, h.1), h.2)
 
 pub is_case : {A : Type 0} (i : Instruction A) → IsCase i
-is_case i = record { fields = fields_of i; stands = found (all_cases (fields_of i)) (position_of i) i (stands i) }
+is_case i = record { fields = fields_of i; contained = found (all_cases (fields_of i)) (position_of i) i (at_position i) }

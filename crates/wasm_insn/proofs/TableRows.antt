@@ -56,7 +56,7 @@ IfRow false shape ps = ⊥
 IfRow true None ps = ⊥
 IfRow true (Some shape) ps = ps ≡ parts_of shape
 
--- The opcode is one of the table, and the runs give it the shape of these immediates.
+-- The opcode is in the table, and its shape in the runs is the one of these immediates.
 abbrev Computes : Plain → Type 0
 Computes i = IfRow (is_op i.op) (by_runs i.op) (map part_of i.arguments)
 

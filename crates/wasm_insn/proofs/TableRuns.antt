@@ -9,7 +9,7 @@ use Rattle.wasm_insn.specs.declared.op.Op.TheVariants.{Byte, Prefixed}
 use Rattle.wasm_insn.specs.declared.op.Shape.{Shape}
 use Rattle.wasm_insn.specs.declared.table.Run.{Run}
 
--- The first of two optional shapes that is there.
+-- The first of two optional shapes that is present.
 abbrev or_else : Option Shape → Option Shape → Option Shape
 or_else None y = y
 or_else (Some x) y = Some x

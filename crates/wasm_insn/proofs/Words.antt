@@ -1,4 +1,4 @@
--- This file passes on what the crates above use.
+-- This file re-exports the names that the proofs of dependent crates use.
 pub use Rattle.wasm_insn.proofs.InstructionLaws.{any_begins, br_table_encodes, byte_encodes, decodes, lists_whole, one_argument, unique}
 pub use Rattle.wasm_insn.proofs.PlainLaws.{opcode_encodes, opcode_unambiguous, plain_encodes}
 pub use Rattle.wasm_insn.proofs.TableRows.{instruction_row}

@@ -1,9 +1,9 @@
--- The numbers of the instructions of `Aggregate`.
+-- This file defines the opcodes of the instructions of `Aggregate`.
 use Rattle.std.specs.Prelude.{ℕ}
 use Rattle.wasm_insn.specs.declared.aggregate.Aggregate.{Aggregate}
 use Rattle.wasm_insn.specs.declared.aggregate.Aggregate.TheVariants as cases
 
--- the number of a case after the prefix
+-- The number of each instruction after the prefix FB.
 abbrev pub aggregate_number : Aggregate → ℕ
 aggregate_number cases.ArrayLen = 15
 aggregate_number cases.AnyConvertExtern = 26

@@ -14,7 +14,7 @@ use Rattle.wasm_immediates.specs.Words.{ordering_code, mem_arg_encoding, block_e
 use Rattle.wasm_insn.specs.declared.part.Part.{Part}
 use Rattle.wasm_insn.specs.declared.part.Part.TheVariants as parts
 
--- An immediate of an instruction, or a list of immediates.
+-- An immediate of an instruction. A vector of labels, clauses or types is one immediate.
 pub data Argument : Type 0 where
   unsigned : ℕ → Argument
   signed32 : ℤ → Argument
@@ -79,7 +79,7 @@ abbrev pub arguments_encoding : List Argument → List ℕ
 arguments_encoding [] = []
 arguments_encoding (x ∷ xs) = argument_encoding x ++ arguments_encoding xs
 
--- A list among the immediates has at most 2^32 - 1 members.
+-- If the immediate is a list, it has at most 2^32 - 1 members.
 abbrev pub argument_encodable : Argument → Type 0
 argument_encodable (labels ns) = IsEncodableVec (λ n. ⊤) ns
 argument_encodable (catches cs) = IsEncodableVec (λ c. ⊤) cs

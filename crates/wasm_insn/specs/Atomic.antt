@@ -1,4 +1,4 @@
--- The rows of the instructions of `Atomic`.
+-- This file defines the opcodes and immediates of the instructions of `Atomic`.
 use Rattle.std.specs.Prelude.{[], ◌∷◌}
 use Rattle.wasm_insn.specs.declared.atomic.Atomic.{Atomic}
 use Rattle.wasm_insn.specs.declared.atomic.Atomic.TheVariants as cases
@@ -6,7 +6,7 @@ use Rattle.wasm_insn.specs.declared.op.Op.TheVariants.{Prefixed}
 use Rattle.wasm_insn.specs.Arguments.{unsigned, memory, ordering}
 use Rattle.wasm_insn.specs.Plain.{Plain}
 
--- the op and the arguments of a case
+-- The opcode and the immediates of each instruction.
 abbrev pub atomic_row : Atomic → Plain
 atomic_row (cases.MemoryAtomicNotify a) = record { op = Prefixed 0xFE 0x00; arguments = memory a ∷ [] }
 atomic_row (cases.MemoryAtomicWait32 a) = record { op = Prefixed 0xFE 0x01; arguments = memory a ∷ [] }

@@ -690,4 +690,4 @@ pub record AreRows {A : Type 0} (is : List (Instruction A)) (rows : Table) : Typ
 -- The instruction is one of the cases, with some fields.
 pub record IsCase {A : Type 0} (i : Instruction A) : Type 0 where
   pub fields : Given A
-  pub stands : Contains (all_cases fields) i
+  pub contained : Contains (all_cases fields) i

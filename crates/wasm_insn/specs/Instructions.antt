@@ -23,7 +23,7 @@ abbrev pub bit_of : Bool → ℕ
 bit_of true = 1
 bit_of false = 0
 
--- The flags of a cast: bit 0 says that the first type is nullable, bit 1 that the second is.
+-- The flags of a cast: bit 0 is set if the first type is nullable, and bit 1 if the second is.
 abbrev pub cast_flag_of : RefType → RefType → ℕ
 cast_flag_of from to = bit_of from.nullable + 2 * bit_of to.nullable
 
@@ -169,8 +169,8 @@ instruction_encoding i = plain_encoding (row_of i)
 abbrev pub IsEncodableInstruction : {A : Type 0} → Instruction A → Type 0
 IsEncodableInstruction i = arguments_encodable (row_of i).arguments
 
--- The instruction is well-formed: alignments are below 16, lists fit, and numbers are in range.
--- Lists and numbers of every instruction that code builds are so.
+-- The instruction is well-formed: alignments are below 16, lists fit, and numbers are in range. The
+-- types of its fields ensure the ranges.
 abbrev pub IsWellFormedInstruction : {A : Type 0} → Instruction A → Type 0
 IsWellFormedInstruction i = AreWellFormed (row_of i).arguments
 

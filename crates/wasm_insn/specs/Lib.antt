@@ -1,4 +1,4 @@
--- The definitions of the crate, each file, and all of them by one import.
+-- The definitions of the crate: each file as a module, and all of them in one import.
 pub mod Words
 pub mod Opcodes
 pub mod Parts

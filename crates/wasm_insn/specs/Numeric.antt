@@ -1,9 +1,9 @@
--- The numbers of the instructions of `Numeric`.
+-- This file defines the opcodes of the instructions of `Numeric`.
 use Rattle.std.specs.Prelude.{ℕ}
 use Rattle.wasm_insn.specs.declared.numeric.Numeric.{Numeric}
 use Rattle.wasm_insn.specs.declared.numeric.Numeric.TheVariants as cases
 
--- the op of a case
+-- The opcode of each instruction, a byte.
 abbrev pub numeric_number : Numeric → ℕ
 numeric_number cases.I32Eqz = 0x45
 numeric_number cases.I32Eq = 0x46

@@ -4,7 +4,8 @@ use Rattle.wasm_base.specs.Words.{unsigned_encoding}
 use Rattle.wasm_insn.specs.declared.op.Op.{Op}
 use Rattle.wasm_insn.specs.declared.op.Op.TheVariants.{Byte, Prefixed}
 
--- The byte, or the prefix and a number.
+-- The encoding of an opcode: its byte, or its prefix and an unsigned number. Core specification,
+-- Binary Format, Instructions.
 abbrev pub op_encoding : Op → List ℕ
 op_encoding (Byte b) = b ∷ []
 op_encoding (Prefixed prefix number) = prefix ∷ unsigned_encoding number

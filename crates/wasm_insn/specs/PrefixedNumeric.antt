@@ -1,9 +1,9 @@
--- The numbers of the instructions of `PrefixedNumeric`.
+-- This file defines the opcodes of the instructions of `PrefixedNumeric`.
 use Rattle.std.specs.Prelude.{ℕ}
 use Rattle.wasm_insn.specs.declared.prefixed_numeric.PrefixedNumeric.{PrefixedNumeric}
 use Rattle.wasm_insn.specs.declared.prefixed_numeric.PrefixedNumeric.TheVariants as cases
 
--- the number of a case after the prefix
+-- The number of each instruction after the prefix FC.
 abbrev pub prefixed_numeric_number : PrefixedNumeric → ℕ
 prefixed_numeric_number cases.I32TruncSatF32S = 0
 prefixed_numeric_number cases.I32TruncSatF32U = 1

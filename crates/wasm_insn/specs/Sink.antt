@@ -31,7 +31,8 @@ WritesInstruction written has_spare_capacity i old new result =
     Writes (instruction_encoding i) (IsEncodableInstruction i) (has_spare_capacity old (length (instruction_encoding i))) (written old) (written new) result
 
 -- The sink gains `before`, the vector of the items that the iterator yields, and `after`; or the
--- call returns an error and changes nothing. More than 2^32 - 1 items give `TooLong`.
+-- call returns an error and changes nothing. If the iterator reports more than 2^32 - 1 items, the
+-- error is `TooLong`.
 pub record WritesVec {E I T : Type 0} (becomes : E → I → Type 0) (gives : I → Option T → I → Type 0) (remaining : I → Count) (Encodable : T → Type 0) (encoding : T → List ℕ)
     (elements : E) (others_encodable : Type 0) (before after old new : List ℕ) (result : Result (Unit {0}) Refused) : Type 0 where
   pub ok : OnOk result ((it : I) × (xs : List T) × becomes elements it × Drains gives it xs × IsEncodableVec Encodable xs × others_encodable × (new ≡ old ++ (before ++ (vec_encoding encoding xs ++ after))))
@@ -47,7 +48,7 @@ abbrev pub br_table_encoding : List ℕ → ℕ → List ℕ
 br_table_encoding ls default = plain_encoding (record { op = Byte 0x0E; arguments = labels ls ∷ unsigned default ∷ [] })
 
 -- The sink gains `br_table` with the labels that the iterator yields, or the call returns an error
--- and changes nothing. More than 2^32 - 1 labels give `TooLong`.
+-- and changes nothing. If the iterator reports more than 2^32 - 1 labels, the error is `TooLong`.
 pub record WritesLabels {E I : Type 0} (becomes : E → I → Type 0) (gives : I → Option ℕ → I → Type 0) (remaining : I → Count)
     (given : E) (default : ℕ) (old new : List ℕ) (result : Result (Unit {0}) Refused) : Type 0 where
   pub ok : OnOk result ((it : I) × (ls : List ℕ) × becomes given it × Drains gives it ls × (length ls ≤ longest) × (new ≡ old ++ br_table_encoding ls default))

@@ -210,7 +210,8 @@ ops_of (row ∷ []) = row.0 ∷ []
 ops_of (row ∷ next ∷ rows) = cond (same_op row.0 next.0) (ops_of (next ∷ rows)) (row.0 ∷ ops_of (next ∷ rows))
 
 -- begin: written by tools/instructions
--- The table has 628 rows on 627 ops, in ascending order; two neighbours share an op, 1C, and no others do.
+-- The table has 628 rows on 627 opcodes, in ascending order. Two neighbours share the opcode 1C,
+-- and no others share one.
 pub record IsOpcodeTable (rows : Table) : Type 0 where
   pub row_count : length rows ≡ 628
   pub op_count : length (ops_of rows) ≡ 627

@@ -1,9 +1,9 @@
--- The numbers of the instructions of `Vector`.
+-- This file defines the opcodes of the instructions of `Vector`.
 use Rattle.std.specs.Prelude.{ℕ}
 use Rattle.wasm_insn.specs.declared.vector.Vector.{Vector}
 use Rattle.wasm_insn.specs.declared.vector.Vector.TheVariants as cases
 
--- the number of a case after the prefix
+-- The number of each instruction after the prefix FD.
 abbrev pub vector_number : Vector → ℕ
 vector_number cases.I8x16Swizzle = 14
 vector_number cases.I8x16Splat = 15

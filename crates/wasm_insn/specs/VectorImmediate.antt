@@ -1,4 +1,4 @@
--- The rows of the instructions of `VectorImmediate`.
+-- This file defines the opcodes and immediates of the instructions of `VectorImmediate`.
 use Rattle.std.specs.Prelude.{[], ◌∷◌}
 use Rattle.wasm_insn.specs.declared.vector_immediate.VectorImmediate.{VectorImmediate}
 use Rattle.wasm_insn.specs.declared.vector_immediate.VectorImmediate.TheVariants as cases
@@ -6,7 +6,7 @@ use Rattle.wasm_insn.specs.declared.op.Op.TheVariants.{Prefixed}
 use Rattle.wasm_insn.specs.Arguments.{vector, memory, lane, lanes}
 use Rattle.wasm_insn.specs.Plain.{Plain}
 
--- the op and the arguments of a case
+-- The opcode and the immediates of each instruction.
 abbrev pub vector_immediate_row : VectorImmediate → Plain
 vector_immediate_row (cases.V128Load a) = record { op = Prefixed 0xFD 0; arguments = memory a ∷ [] }
 vector_immediate_row (cases.V128Load8x8S a) = record { op = Prefixed 0xFD 1; arguments = memory a ∷ [] }

@@ -1,11 +1,11 @@
-// Instructions on aggregates and references without fields: those after the prefix FB.
+// Instructions on aggregates and references without immediates: those after the prefix FB.
 ghost use Rattle.std.specs.Prelude.{◌≡◌};
 ghost use Rattle.wasm_insn.specs.Aggregate.{aggregate_number};
 
 use crate::instruction::Instruction;
 use crate::op::Op;
 
-/// Instructions on aggregates and references without fields: those after the prefix FB.
+/// Instructions on aggregates and references without immediates: those after the prefix FB.
 #[derive(Clone, Copy, Debug)]
 pub enum Aggregate {
     ArrayLen = 15,
@@ -17,7 +17,7 @@ pub enum Aggregate {
 }
 
 impl Aggregate {
-    /// The op of the table.
+    /// Returns the opcode, as in the opcode table.
     pub fn op(self) -> Op
         ensures { result ≡ Op.Prefixed 0xFB (aggregate_number self) }
     {
@@ -25,7 +25,7 @@ impl Aggregate {
     }
 }
 
-/// Their names as instructions.
+/// The same instructions as constants of `Instruction`.
 impl Instruction<'static> {
     pub const ArrayLen: Self = Instruction::Aggregate(Aggregate::ArrayLen);
 

@@ -26,9 +26,9 @@ use wasm_immediates::{BlockType, Catch, Handle, Ieee32, Ieee64, MemArg, Ordering
 pub enum Arg<A: Allocator = Global> {
     /// A number of 32 bits: an index, a label or a length.
     U32(u32),
-    /// A constant of 32 bits.
+    /// A signed constant of 32 bits.
     S32(i32),
-    /// A constant of 64 bits.
+    /// A signed constant of 64 bits.
     S64(i64),
     F32(Ieee32),
     F64(Ieee64),
@@ -414,7 +414,7 @@ fn read_any_into<'a, A: Allocator + Copy, G: Grammar>(
     read_parts::<A, G>(shape.parts(), bytes, alloc, args)
 }
 
-/// Drops the arguments of the list. One without arguments takes no call.
+/// Drops the arguments of the list. For an empty list, no call is needed.
 #[inline(always)]
 fn drop_all<A: Allocator + Copy>(args: &mut Vec<Arg<A>, A>)
     ensures { args.new.items ≡ [] }

@@ -582,7 +582,7 @@ impl Atomic {
     }
 }
 
-/// The instructions without fields, by their names on `Instruction`.
+/// The instructions without fields as constants of `Instruction`.
 impl Instruction<'static> {
     // begin: written by tools/instructions
     pub const Pause: Self = Instruction::Atomic(Atomic::Pause);

@@ -230,9 +230,9 @@ pub enum Instruction<'a, A: Allocator = Global> {
     TableSize(u32),
     TableFill(u32),
     MemoryDiscard(u32),
-    /// Numeric instructions, the ops 45 to C4.
+    /// Numeric instructions: the one-byte opcodes 45 to C4.
     Numeric(Numeric),
-    /// Instructions on aggregates and references without fields: those after the prefix FB.
+    /// Instructions on aggregates and references without immediates: those after the prefix FB.
     Aggregate(Aggregate),
     /// Numeric instructions after the prefix FC: truncations that saturate, and wide arithmetic.
     PrefixedNumeric(PrefixedNumeric),
@@ -671,6 +671,10 @@ impl<'a, A: Allocator> Instruction<'a, A> {
 // number of arms.
 impl<'a, A: Allocator + Copy> Instruction<'a, A> {
     /// Returns a copy. Owned lists are copied with their own allocator.
+    ///
+    /// # Errors
+    ///
+    /// Returns [`Refused::Memory`] if an allocation fails, and never [`Refused::TooLong`].
     pub fn clone(&self) -> Result<Self>
         ensures ok { IfOk result (λ i. row_of i ≡ row_of self.now) }
         ensures err { result ≢ Err Refused.TooLong }

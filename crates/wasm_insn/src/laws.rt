@@ -30,8 +30,8 @@ pub fn opcodes()
     ensures apart { BeginsNoOther }
 {}
 
-/// Each instruction is a row of the table, with one immediate for each immediate of the row's
-/// shape.
+/// The opcode of each instruction has a row in the table, and the instruction's immediates are of
+/// the types of that row's shape.
 pub fn rows<A: Allocator>()
     ensures { (i : Instruction A) → IsRow table (row_of i) }
 {}
@@ -67,8 +67,8 @@ pub fn lists()
     ensures { UnambiguousWhole (members (instruction table)) }
 {}
 
-/// An instruction is well-formed if its alignments are below 16 and its lists can be counted. A
-/// call that encodes it has promised the latter.
+/// An instruction is well-formed if its alignments are below 16 and each of its lists has at most
+/// 4294967295 members. A call that has encoded it promises the latter.
 pub fn plain_instruction<A: Allocator>(instruction: &Instruction<'_, A>)
     ensures { IsWellFormedWhereAligned instruction.now }
 {

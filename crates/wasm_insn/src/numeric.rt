@@ -1,11 +1,11 @@
-// Numeric instructions, the ops 45 to C4.
+// Numeric instructions: the one-byte opcodes 45 to C4.
 ghost use Rattle.std.specs.Prelude.{◌≡◌};
 ghost use Rattle.wasm_insn.specs.Numeric.{numeric_number};
 
 use crate::instruction::Instruction;
 use crate::op::Op;
 
-/// Numeric instructions, the ops 45 to C4.
+/// Numeric instructions: the one-byte opcodes 45 to C4.
 #[derive(Clone, Copy, Debug)]
 pub enum Numeric {
     I32Eqz = 0x45,
@@ -139,7 +139,7 @@ pub enum Numeric {
 }
 
 impl Numeric {
-    /// The op of the table.
+    /// Returns the opcode, as in the opcode table.
     pub fn op(self) -> Op
         ensures { result ≡ Op.Byte (numeric_number self) }
     {
@@ -147,7 +147,7 @@ impl Numeric {
     }
 }
 
-/// Their names as instructions.
+/// The same instructions as constants of `Instruction`.
 impl Instruction<'static> {
     pub const I32Eqz: Self = Instruction::Numeric(Numeric::I32Eqz);
 

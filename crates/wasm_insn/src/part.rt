@@ -1,4 +1,4 @@
-// The immediates of which shapes consist.
+// The types of immediates, and the list of them for each shape.
 ghost use Rattle.std.specs.Prelude.{◌≡◌};
 ghost use Rattle.wasm_insn.specs.Parts.{parts_of};
 

@@ -49,6 +49,11 @@ impl<'a, A: Allocator + Copy, G: Grammar> Readable<'a, A, G> for Plain<A> {
 
 /// Decodes the instruction at the front: returns its opcode and the remaining bytes, and replaces
 /// the content of `args` by its arguments.
+///
+/// # Errors
+///
+/// Any error but `Memory` means that no instruction is at the front. After an error, the content of
+/// `args` is unspecified.
 #[tactic(auto, using(crate::proofs::DecodeInstructions::instruction_steps))]
 pub fn read_instruction_into<'a, A: Allocator + Copy, G: Grammar>(
     bytes: &'a [u8],
@@ -67,6 +72,12 @@ pub fn read_instruction_into<'a, A: Allocator + Copy, G: Grammar>(
 }
 
 /// Appends the minimal encoding of the instruction.
+///
+/// # Errors
+///
+/// Returns [`Refused`](wasm_base::Refused) if an allocation fails. A decoded instruction never
+/// causes `TooLong`. After an error, the old bytes are unchanged, but part of the encoding may
+/// follow them.
 pub fn append_instruction<A: Allocator, B: Allocator>(
     op: Op,
     args: &[Arg<A>],

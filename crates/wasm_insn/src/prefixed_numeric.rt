@@ -23,7 +23,7 @@ pub enum PrefixedNumeric {
 }
 
 impl PrefixedNumeric {
-    /// The op of the table.
+    /// Returns the opcode, as in the opcode table.
     pub fn op(self) -> Op
         ensures { result ≡ Op.Prefixed 0xFC (prefixed_numeric_number self) }
     {
@@ -31,7 +31,7 @@ impl PrefixedNumeric {
     }
 }
 
-/// Their names as instructions.
+/// The same instructions as constants of `Instruction`.
 impl Instruction<'static> {
     pub const I32TruncSatF32S: Self = Instruction::PrefixedNumeric(
         PrefixedNumeric::I32TruncSatF32S,

@@ -22,13 +22,22 @@ pub trait Buffer {
     /// this unspecified.
     ghost has_spare_capacity: { Self → ℕ → Type 0 } = { λ _ _. ⊥ };
 
-    /// Appends the encoding of the value. On an error, the bytes are unchanged.
+    /// Appends the encoding of the value.
+    ///
+    /// # Errors
+    ///
+    /// Returns [`Refused`], and leaves the bytes unchanged, if the value does not fit or an
+    /// allocation fails.
     fn append<E: Encode>(&mut self, value: &E) -> Result<()>
         ensures { Writes (E.encoding value.now) (E.encodable value.now) (has_spare_capacity self.old (length (E.encoding value.now))) (written self.old) (written self.new) result };
 
-    /// Appends a value, the elements as a vector, and another value. On an error, the bytes are
-    /// unchanged. If the length that the elements report exceeds 4294967295, the call returns
-    /// `TooLong`; a `Vec` then requests no element, as tests show.
+    /// Appends a value, the elements as a vector, and another value.
+    ///
+    /// # Errors
+    ///
+    /// Returns [`Refused`], and leaves the bytes unchanged, if a value does not fit or an
+    /// allocation fails. If the length that the elements report exceeds 4294967295, the call
+    /// returns `TooLong`; a `Vec` then requests no element, as tests show.
     fn append_vec<S: Encode, T: Encode + Drop, V: IntoIterator<Item = T>, U: Encode>(
         &mut self,
         before: &S,
@@ -98,7 +107,7 @@ impl<'a, B: Buffer> InstructionSink<'a, B> {
         InstructionSink { sink }
     }
 
-    /// Appends one encoded instruction. Each call but `br_table` uses it.
+    /// Appends one encoded instruction. All appending methods but `br_table` call it.
     fn emit<E: Encode>(&mut self, value: &E) -> Result<()>
         ensures same_reference { self.new.sink.ghost_name ≡ self.old.sink.ghost_name }
         ensures writes { Writes (E.encoding value.now) (E.encodable value.now) (B.has_spare_capacity self.old.sink.now (length (E.encoding value.now))) (B.written self.old.sink.now) (B.written self.new.sink.now) result }

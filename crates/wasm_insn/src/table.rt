@@ -50,7 +50,7 @@ static ONE_BYTE: [Option<Shape>; 256] = [
     // end: written by tools/instructions
 ];
 
-/// Ops after the prefix FB.
+/// The opcodes after the prefix FB.
 // begin: written by tools/instructions
 static AFTER_FB: [Run; 14] = [
     Run(0, 1, Shape::U),
@@ -70,7 +70,7 @@ static AFTER_FB: [Run; 14] = [
     // end: written by tools/instructions
 ];
 
-/// Ops after the prefix FC.
+/// The opcodes after the prefix FC.
 // begin: written by tools/instructions
 static AFTER_FC: [Run; 10] = [
     Run(0, 7, Shape::Nothing),
@@ -86,7 +86,7 @@ static AFTER_FC: [Run; 10] = [
     // end: written by tools/instructions
 ];
 
-/// Ops after the prefix FD.
+/// The opcodes after the prefix FD.
 // begin: written by tools/instructions
 static AFTER_FD: [Run; 21] = [
     Run(0, 11, Shape::M),
@@ -113,7 +113,7 @@ static AFTER_FD: [Run; 21] = [
     // end: written by tools/instructions
 ];
 
-/// Ops after the prefix FE.
+/// The opcodes after the prefix FE.
 // begin: written by tools/instructions
 static AFTER_FE: [Run; 8] = [
     Run(0x00, 0x02, Shape::M),
@@ -127,7 +127,7 @@ static AFTER_FE: [Run; 8] = [
     // end: written by tools/instructions
 ];
 
-/// Returns the shape of the opcode of this number among the runs.
+/// Returns the shape of the opcode with this number, or `None` if no run contains it.
 #[inline(never)]
 fn find_shape(runs: &[Run], number: u32) -> Option<Shape>
     ensures { result ≡ shape_in runs.now number }
@@ -137,7 +137,7 @@ fn find_shape(runs: &[Run], number: u32) -> Option<Shape>
         .map(|run| run.2)
 }
 
-/// Returns the shape of the one-byte opcode.
+/// Returns the shape of the one-byte opcode, or `None` if there is no such opcode.
 #[inline]
 fn byte_shape(byte: u8) -> Option<Shape>
     ensures { result ≡ shape_of table (Byte byte) }

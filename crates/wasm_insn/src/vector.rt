@@ -229,7 +229,7 @@ pub enum Vector {
 }
 
 impl Vector {
-    /// The op of the table.
+    /// Returns the opcode, as in the opcode table.
     pub fn op(self) -> Op
         ensures { result ≡ Op.Prefixed 0xFD (vector_number self) }
     {
@@ -237,7 +237,7 @@ impl Vector {
     }
 }
 
-/// Their names as instructions.
+/// The same instructions as constants of `Instruction`.
 impl Instruction<'static> {
     pub const I8x16Swizzle: Self = Instruction::Vector(Vector::I8x16Swizzle);
 

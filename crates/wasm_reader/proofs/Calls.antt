@@ -33,8 +33,8 @@ decodes_padded {kind = kind} h r =
     ((section_unambiguous kind).unique padded h.decodes.front r.front _ _ _ _ h.decodes.encodes r.encodes (sym h.decodes.split ∙ r.split)).0
 
 -- The reader returns no error but `Memory`.
-pub padded_stands : (kind : SectionKind) {bytes rest : List ℕ} {x : Contents} → Rejects (section kind) padded bytes → Decodes (section kind) padded bytes x rest → ⊥
-padded_stands kind {rest = rest} {x = x} n r = n.none x rest r
+pub padded_not_rejected : (kind : SectionKind) {bytes rest : List ℕ} {x : Contents} → Rejects (section kind) padded bytes → Decodes (section kind) padded bytes x rest → ⊥
+padded_not_rejected kind {rest = rest} {x = x} n r = n.none x rest r
 
 -- The minimizer appends the minimal encoding of these items.
 pub shortens_padded : {kind : SectionKind} {padded_bytes rest bytes : List ℕ} {x : Contents} {n : ℕ} {old new : List ℕ} → Shortens kind padded_bytes n old new → Decodes (section kind) padded padded_bytes x rest → section kind minimal bytes x → new ≡ old ++ bytes
@@ -51,8 +51,8 @@ pub decodes_written : {kind : SectionKind} {bytes : List ℕ} {x y : Contents} {
 decodes_written {kind = kind} h s = decodes_padded h (at_front kind s)
 
 -- The reader returns no error but `Memory`.
-pub written_stands : (kind : SectionKind) {bytes : List ℕ} {x : Contents} → Rejects (section kind) padded bytes → section kind minimal bytes x → ⊥
-written_stands kind n s = padded_stands kind n (at_front kind s)
+pub written_not_rejected : (kind : SectionKind) {bytes : List ℕ} {x : Contents} → Rejects (section kind) padded bytes → section kind minimal bytes x → ⊥
+written_not_rejected kind n s = padded_not_rejected kind n (at_front kind s)
 
 -- The minimizer appends the section itself.
 pub shortens_written : {kind : SectionKind} {bytes : List ℕ} {x : Contents} {n : ℕ} {old new : List ℕ} → Shortens kind bytes n old new → section kind minimal bytes x → new ≡ old ++ bytes

@@ -1,4 +1,4 @@
--- This file proves that a cause remains true when a call propagates it without its place.
+-- This file proves that a cause remains true when a call propagates it without its offset.
 use Rattle.wasm_base.proofs.Words.{◌≡◌, ◌≢◌, Result, Ok, Err, ◌∙◌}
 use Rattle.std.proofs.Common.{IfErr, IsErrAnd}
 use Rattle.wasm_base.specs.declared.fault.ReadFault.{ReadFault}

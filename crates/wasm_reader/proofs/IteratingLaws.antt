@@ -1,6 +1,6 @@
 -- This file proves how the iterators over sections and over bodies advance.
-use Rattle.wasm_base.proofs.Words.{◌≡◌, ◌≢◌, ℕ, ◌+◌, ◌-◌, ◌<◌, ◌≤◌, List, [], ◌∷◌, ◌++◌, length, take, drop, Some, Result, Ok, Err, refl, sym, ap, subst, ◌∙◌, arith, drop_at, drop-drop, drop_all, length-drop, length-take-le}
-use Rattle.wasm_base.proofs.Words.{padded, any_bytes, any_section, byte, size_prefixed, header, Decodes, Rejects}
+use Rattle.wasm_base.proofs.Words.{◌≡◌, ◌≢◌, ℕ, ◌+◌, ◌-◌, ◌<◌, ◌≤◌, List, [], ◌∷◌, ◌++◌, length, take, drop, Some, Result, Ok, Err, refl, sym, ap, subst, ◌∙◌, arith, drop_at, drop-drop, drop_all}
+use Rattle.wasm_base.proofs.Words.{length-drop, length-take-le, padded, any_bytes, any_section, byte, size_prefixed, header, Decodes, Rejects}
 use Rattle.std.proofs.lemmas.List.{length-append}
 use Rattle.wasm_base.specs.declared.fault.ReadFault.TheVariants.{Memory}
 use Rattle.wasm_reader.specs.{Section, IsSection, bytes_of}
@@ -10,14 +10,14 @@ use Rattle.wasm_reader.proofs.DecodeOutlines.{one_section}
 
 -- ---- offsets
 
--- The suffix after the front of the bytes at the offset begins at the offset that its length gives.
+-- The suffix after a front of the bytes at an offset begins at the offset that its length implies.
 pub follows : (bytes front rest : List ℕ) (offset : ℕ) → offset ≤ length bytes → drop offset bytes ≡ front ++ rest → drop (length bytes - length rest) bytes ≡ rest
 follows bytes front rest offset l e =
     let long : length (drop offset bytes) ≡ length front + length rest = ap length e ∙ length-append front rest in
     let at : length bytes - length rest ≡ offset + length front = omega (arith, l, long, length-drop offset bytes) in
     ap (λ n. drop n bytes) at ∙ sym (drop-drop (length front) offset bytes) ∙ ap (drop (length front)) e ∙ drop_at front rest (length front) refl
 
--- Nothing follows the offset in the bytes before it.
+-- No bytes are ahead of an offset in the bytes before it.
 pub none_after : (bytes : List ℕ) (offset : ℕ) → offset ≤ length bytes → drop offset (take offset bytes) ≡ []
 none_after bytes offset l = drop_all offset (take offset bytes) (omega (arith, length-take-le offset bytes l))
 

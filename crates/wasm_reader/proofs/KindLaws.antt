@@ -6,12 +6,11 @@ use Rattle.wasm_base.proofs.Words.{vec_unambiguous, whole_from_unique, mapped_wh
 use Rattle.wasm_base.proofs.Words.{mapped_appended, records_appended, RejectsWhole, bytes_eq, ne_eqb}
 use Rattle.wasm_base.proofs.Words.{All, All-nil, All-cons, HasEncoding, members, coded, mapped_encoded, members_encoded, counted_encodable, left_encoded, name_encodable}
 use Rattle.wasm_base.proofs.DecodedValues.{viewed_encodable}
-use Rattle.std.proofs.Common.{None, zero, suc, ◌≤◌, arith}
+use Rattle.std.proofs.Common.{None, zero, suc, ◌≤◌, arith, IfOk}
 use Rattle.std.proofs.lemmas.Option.{slice_get_past}
 use Rattle.wasm_base.specs.Faults.{Failure}
 use Rattle.wasm_base.specs.declared.refused.Refused.{Refused}
 use Rattle.wasm_base.specs.declared.refused.Refused.TheVariants.{TooLong}
-use Rattle.std.proofs.Common.{IfOk}
 use Rattle.wasm_code.proofs.Words.{body, size_prefixed_body_unambiguous}
 use Rattle.wasm_sections.proofs.Words.{data_item, element, global_item, import_format, table_item, IsEncodableExport, export_encoding, item_of, export, memory_encoding, memory_type, tag_encoding}
 use Rattle.wasm_sections.proofs.Words.{tag_type, export_short, exports_section, memory_encodes, memory_is, memories_section, tag_encodes, tag_is, tags_section, segments_section, elements_section}
@@ -25,9 +24,10 @@ use Rattle.wasm_custom.proofs.Words.{core_name, modules_name, instances_name, co
 use Rattle.wasm_custom.proofs.Words.{linking_payload, name_name, name_payload, producers_name, producers_payload, core_whole, modules_section, instances_section, stack_whole, hints_section}
 use Rattle.wasm_custom.proofs.Words.{linking_section, names_section, producers_section, named_payload, features_name, features_payload, features_section}
 use Rattle.wasm_custom.proofs.Words.{source_map_name, debug_file_name, build_id_name, source_map_payload, debug_file_payload, build_id_payload, source_map_whole, debug_file_whole, build_id_whole}
-use Rattle.wasm_custom.proofs.Words.{dylink_name, dylink_payload, dylink_section}
+use Rattle.wasm_custom.proofs.Words.{dylink_name, dylink_payload, dylink_section, begins_with, relocations_payload, relocations_prefix, relocations_whole}
 use Rattle.wasm_reader.specs.{Contents, Bodies, Segments, DataCount, Elements, Exports, Functions, Globals, Imports, Memories, Start, Tables, Tags, Types, Names, Linking, Producers, Hints, Core}
-use Rattle.wasm_reader.specs.{CoreModules, CoreInstances, CoreStack, Custom, Raw, TargetFeatures, SourceMappingUrl, ExternalDebugInfo, BuildId, Dylink, content, kind_in, number_in, kind_among, known_kinds, kind_of_id, kind_among_names, known_names, kind_named, kinds_in_order, kind_numbered}
+use Rattle.wasm_reader.specs.{CoreModules, CoreInstances, CoreStack, Custom, Raw, TargetFeatures, SourceMappingUrl, ExternalDebugInfo, BuildId, Dylink, Relocations, content, kind_in, number_in}
+use Rattle.wasm_reader.specs.{kind_among, known_kinds, kind_of_id, kind_among_names, known_names, kind_named, kinds_in_order, kind_numbered}
 use Rattle.wasm_reader.specs.declared.kinds.SectionKind.{SectionKind}
 use Rattle.wasm_reader.specs.declared.kinds.SectionKind.TheVariants as kinds
 
@@ -57,6 +57,7 @@ AppendsItems (SourceMappingUrl x) old new = AppendsMinimal source_map_payload x 
 AppendsItems (ExternalDebugInfo x) old new = AppendsMinimal debug_file_payload x old new
 AppendsItems (BuildId x) old new = AppendsMinimal build_id_payload x old new
 AppendsItems (Dylink x) old new = AppendsMinimal dylink_payload x old new
+AppendsItems (Relocations x) old new = AppendsMinimal relocations_payload x old new
 AppendsItems x old new = ⊥
 
 pub items_appended : (x : Contents) (old new : List ℕ) → AppendsItems x old new → AppendsMinimal (content (kind_in x)) x old new
@@ -88,6 +89,7 @@ items_appended (SourceMappingUrl x) old new a = mapped_appended SourceMappingUrl
 items_appended (ExternalDebugInfo x) old new a = mapped_appended ExternalDebugInfo _ x old new (λ z e. cc e) a
 items_appended (BuildId x) old new a = mapped_appended BuildId _ x old new (λ z e. cc e) a
 items_appended (Dylink x) old new a = mapped_appended Dylink _ x old new (λ z e. cc e) a
+items_appended (Relocations x) old new a = mapped_appended Relocations _ x old new (λ z e. cc e) a
 
 pub exports_appended : (es : List Export) (old new : List ℕ) → IsEncodableVec IsEncodableExport es → new ≡ old ++ vec_encoding export_encoding es → AppendsMinimal (content kinds.Exports) (Exports (map item_of es)) old new
 exports_appended es old new encodable e = mapped_appended Exports (vec export) (map item_of es) old new (λ z k. cc k) (records_appended export item_of export_encoding IsEncodableExport es old new export_short encodable e)
@@ -115,8 +117,8 @@ pub ruleset contents = (items_appended, exports_appended, functions_appended, me
 
 -- ---- the errors of each kind
 
--- The call does not return `TooLong` if some bytes encode these items, as one value of the format of
--- their kind.
+-- The call does not return `TooLong` if some bytes encode these items, as one value of the format
+-- of their kind.
 abbrev pub FitsItems : Contents → Result (Unit {0}) Refused → Type 0
 FitsItems (Bodies x) r = HasEncoding (vec (size_prefixed body)) x → r ≢ Err TooLong
 FitsItems (Segments x) r = HasEncoding (vec data_item) x → r ≢ Err TooLong
@@ -140,6 +142,7 @@ FitsItems (SourceMappingUrl x) r = HasEncoding source_map_payload x → r ≢ Er
 FitsItems (ExternalDebugInfo x) r = HasEncoding debug_file_payload x → r ≢ Err TooLong
 FitsItems (BuildId x) r = HasEncoding build_id_payload x → r ≢ Err TooLong
 FitsItems (Dylink x) r = HasEncoding dylink_payload x → r ≢ Err TooLong
+FitsItems (Relocations x) r = HasEncoding relocations_payload x → r ≢ Err TooLong
 FitsItems x r = ⊥
 
 pub items_fit : (x : Contents) (r : Result (Unit {0}) Refused) → FitsItems x r → HasEncoding (content (kind_in x)) x → r ≢ Err TooLong
@@ -171,6 +174,7 @@ items_fit (SourceMappingUrl x) r fits h = fits (mapped_encoded SourceMappingUrl 
 items_fit (ExternalDebugInfo x) r fits h = fits (mapped_encoded ExternalDebugInfo _ x (λ z e. cc e) h)
 items_fit (BuildId x) r fits h = fits (mapped_encoded BuildId _ x (λ z e. cc e) h)
 items_fit (Dylink x) r fits h = fits (mapped_encoded Dylink _ x (λ z e. cc e) h)
+items_fit (Relocations x) r fits h = fits (mapped_encoded Relocations _ x (λ z e. cc e) h)
 
 -- Each member of a list that has an encoding has a property that each decoded member has.
 each_encodable : {T X : Type 0} (F : Format X) (view : T → X) (P : T → Type 0) → ((x : T) (s : List ℕ) → F padded s (view x) → P x) → (xs : List T) (s : List ℕ) → members F padded s (map view xs) → All P xs
@@ -234,6 +238,7 @@ content_whole kinds.SourceMappingUrl = mapped_whole SourceMappingUrl (λ x y e. 
 content_whole kinds.ExternalDebugInfo = mapped_whole ExternalDebugInfo (λ x y e. cc) debug_file_whole
 content_whole kinds.BuildId = mapped_whole BuildId (λ x y e. cc) build_id_whole
 content_whole kinds.Dylink = mapped_whole Dylink (λ x y e. cc) dylink_section.whole
+content_whole kinds.Relocations = mapped_whole Relocations (λ x y e. cc) relocations_whole
 
 -- The content that a kind decodes to is of that kind.
 pub kind_is : (kind : SectionKind) (s : List ℕ) (x : Contents) → content kind padded s x → kind_in x ≡ kind
@@ -265,6 +270,7 @@ kind_is kinds.SourceMappingUrl s x h = sym (ap kind_in h.1)
 kind_is kinds.ExternalDebugInfo s x h = sym (ap kind_in h.1)
 kind_is kinds.BuildId s x h = sym (ap kind_in h.1)
 kind_is kinds.Dylink s x h = sym (ap kind_in h.1)
+kind_is kinds.Relocations s x h = sym (ap kind_in h.1)
 
 -- ---- the decoding of each kind
 
@@ -356,6 +362,9 @@ build_id_read = decodes_as BuildId refl
 pub dylink_read : DecodesAs Dylink dylink_payload kinds.Dylink
 dylink_read = decodes_as Dylink refl
 
+pub relocations_read : DecodesAs Relocations relocations_payload kinds.Relocations
+relocations_read = decodes_as Relocations refl
+
 pub custom_read : (m : Mode) (kind : SectionKind) (bytes : List ℕ) → kind ≡ kinds.Custom → (Rejects name m bytes → RejectsWhole (content kind) m bytes) × ((encoding rest : List ℕ) → Decodes name m bytes encoding rest → content kind m bytes (Custom (encoding, rest)))
 custom_read m kind bytes e =
     let all = decodes_as Custom {F = pair name any_bytes} refl m kind bytes e in (
@@ -366,7 +375,7 @@ custom_read m kind bytes e =
 pub raw_read : (m : Mode) (bytes : List ℕ) → content kinds.Raw m bytes (Raw bytes)
 raw_read m bytes = (bytes, refl, refl)
 
-pub ruleset content_steps = (bodies_read, segments_read, data_count_read, elements_read, exports_read, functions_read, globals_read, imports_read, memories_read, start_read, tables_read, tags_read, names_read, linking_read, producers_read, hints_read, core_read, core_modules_read, core_instances_read, core_stack_read, types_read, target_features_read, source_map_read, debug_file_read, build_id_read, dylink_read, custom_read, raw_read)
+pub ruleset content_steps = (bodies_read, segments_read, data_count_read, elements_read, exports_read, functions_read, globals_read, imports_read, memories_read, start_read, tables_read, tags_read, names_read, linking_read, producers_read, hints_read, core_read, core_modules_read, core_instances_read, core_stack_read, types_read, target_features_read, source_map_read, debug_file_read, build_id_read, dylink_read, relocations_read, custom_read, raw_read)
 
 -- ---- numbers of kinds
 
@@ -379,8 +388,8 @@ none_below : (k n : ℕ) → IsNoneBelow k n → k ≤ n
 none_below zero n h = omega arith
 none_below (suc k) n h = omega (arith, h.0, none_below k n h.1)
 
-pub no_kind : (n : ℕ) → n ≢ 0 → n ≢ 1 → n ≢ 2 → n ≢ 3 → n ≢ 4 → n ≢ 5 → n ≢ 6 → n ≢ 7 → n ≢ 8 → n ≢ 9 → n ≢ 10 → n ≢ 11 → n ≢ 12 → n ≢ 13 → n ≢ 14 → n ≢ 15 → n ≢ 16 → n ≢ 17 → n ≢ 18 → n ≢ 19 → n ≢ 20 → n ≢ 21 → n ≢ 22 → n ≢ 23 → n ≢ 24 → n ≢ 25 → n ≢ 26 → n ≢ 27 → None ≡ kind_numbered n
-no_kind n p0 p1 p2 p3 p4 p5 p6 p7 p8 p9 p10 p11 p12 p13 p14 p15 p16 p17 p18 p19 p20 p21 p22 p23 p24 p25 p26 p27 = sym (slice_get_past kinds_in_order n (none_below 28 n (p27, (p26, (p25, (p24, (p23, (p22, (p21, (p20, (p19, (p18, (p17, (p16, (p15, (p14, (p13, (p12, (p11, (p10, (p9, (p8, (p7, (p6, (p5, (p4, (p3, (p2, (p1, (p0, tt))))))))))))))))))))))))))))))
+pub no_kind : (n : ℕ) → n ≢ 0 → n ≢ 1 → n ≢ 2 → n ≢ 3 → n ≢ 4 → n ≢ 5 → n ≢ 6 → n ≢ 7 → n ≢ 8 → n ≢ 9 → n ≢ 10 → n ≢ 11 → n ≢ 12 → n ≢ 13 → n ≢ 14 → n ≢ 15 → n ≢ 16 → n ≢ 17 → n ≢ 18 → n ≢ 19 → n ≢ 20 → n ≢ 21 → n ≢ 22 → n ≢ 23 → n ≢ 24 → n ≢ 25 → n ≢ 26 → n ≢ 27 → n ≢ 28 → None ≡ kind_numbered n
+no_kind n p0 p1 p2 p3 p4 p5 p6 p7 p8 p9 p10 p11 p12 p13 p14 p15 p16 p17 p18 p19 p20 p21 p22 p23 p24 p25 p26 p27 p28 = sym (slice_get_past kinds_in_order n (none_below 29 n (p28, (p27, (p26, (p25, (p24, (p23, (p22, (p21, (p20, (p19, (p18, (p17, (p16, (p15, (p14, (p13, (p12, (p11, (p10, (p9, (p8, (p7, (p6, (p5, (p4, (p3, (p2, (p1, (p0, tt)))))))))))))))))))))))))))))))
 
 -- ---- kinds of ids and names
 
@@ -465,6 +474,14 @@ custom_kept n s t rest x h g r =
     let same_key : h.0 ≡ g.0 = cc (h.1 ∙ sym g.1) in
     (b.back, subst (λ z. Decodes name padded t z b.back) (sym (same ∙ ap (λ z. z.0) same_key)) (record { front = b.front; split = b.joined; encodes = name_unambiguous.encodings.included minimal padded tt b.front g.0.0 b.first }))
 
+relocations_kept : (n : List ℕ) → KeepsName n kinds.Relocations
+relocations_kept n s t rest x h g r =
+    let a = h.2 in
+    let b = g.2 in
+    let same : n ≡ h.0.0 = (decodes_same name_unambiguous r (record { front = a.front; split = a.joined; encodes = a.first.0 })).0 in
+    let same_key : h.0 ≡ g.0 = cc (h.1 ∙ sym g.1) in
+    (b.back, subst (λ z. Decodes name padded t z b.back) (sym (same ∙ ap (λ z. z.0) same_key)) (record { front = b.front; split = b.joined; encodes = name_unambiguous.encodings.included minimal padded tt b.front g.0.0 b.first.0 }))
+
 -- Each of the kinds keeps each name.
 abbrev AllKeepNames : List (List ℕ × SectionKind) → Type 0
 AllKeepNames [] = Unit {0}
@@ -475,7 +492,7 @@ kept_among [] h n = custom_kept n
 kept_among (k ∷ ks) h n = for_if (KeepsName n) (bytes_eq n k.0) (h.0 n) (kept_among ks h.1 n)
 
 pub keeps_name : (n : List ℕ) → KeepsName n (kind_named n)
-keeps_name = kept_among known_names (names_kept, (linking_kept, (producers_kept, (target_features_kept, (hints_kept, (core_kept, (core_modules_kept, (core_instances_kept, (core_stack_kept, (source_map_kept, (debug_file_kept, (build_id_kept, (dylink_kept, tt)))))))))))))
+keeps_name n = for_if (KeepsName n) (begins_with relocations_prefix n) (relocations_kept n) (kept_among known_names (names_kept, (linking_kept, (producers_kept, (target_features_kept, (hints_kept, (core_kept, (core_modules_kept, (core_instances_kept, (core_stack_kept, (source_map_kept, (debug_file_kept, (build_id_kept, (dylink_kept, tt))))))))))))) n)
 
 -- ---- numbers of items
 
@@ -553,3 +570,4 @@ uncounted kinds.SourceMappingUrl m s x h n0 n1 n2 n3 n4 n5 n6 n7 n8 n9 n10 n11 n
 uncounted kinds.ExternalDebugInfo m s x h n0 n1 n2 n3 n4 n5 n6 n7 n8 n9 n10 n11 n12 = ap number_in h.1
 uncounted kinds.BuildId m s x h n0 n1 n2 n3 n4 n5 n6 n7 n8 n9 n10 n11 n12 = ap number_in h.1
 uncounted kinds.Dylink m s x h n0 n1 n2 n3 n4 n5 n6 n7 n8 n9 n10 n11 n12 = ap number_in h.1
+uncounted kinds.Relocations m s x h n0 n1 n2 n3 n4 n5 n6 n7 n8 n9 n10 n11 n12 = ap number_in h.1

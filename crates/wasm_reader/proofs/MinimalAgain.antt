@@ -52,11 +52,11 @@ decoding_of kind s encoding i h =
 -- ---- one section
 
 -- The output for `w` is the section `v`.
-record Stands (w v : Rewrite) : Type 0 where
+record IsOutputOf (w v : Rewrite) : Type 0 where
   id : w.section.id ≡ v.section.id
   encoding : w.encoding ≡ v.section.sized
 
-module _ (offsets : Offsets) (w v : Rewrite) (i : IsSection w.section) (j : IsSection v.section) (s : Stands w v) where
+module _ (offsets : Offsets) (w v : Rewrite) (i : IsSection w.section) (j : IsSection v.section) (s : IsOutputOf w v) where
   custom_has_name : (x : Contents) → w.section.id ≡ 0 → content (kind_at w.section.id None) padded w.section.payload x → (Rejects name padded w.section.payload) → ⊥
   custom_has_name x e h n = let g : content kinds.Custom padded w.section.payload x = subst (λ z. content (kind_at z None) padded w.section.payload x) e h in
       let a = g.2 in
@@ -136,7 +136,7 @@ IsAgain v = written v ≡ bytes_of v.section
 
 module _ (offsets : Offsets) where
   -- The next section of the output is the next section of the minimized module.
-  next : (w : Rewrite) (rest : List ℕ) (how : How) → IsSection w.section → IsWritten offsets how w.section w.encoding → how ≢ LeftOut → (v : Rewrite) (behind : List ℕ) → IsSection v.section → (w.section.id ∷ w.encoding) ++ rest ≡ bytes_of v.section ++ behind → Stands w v × (rest ≡ behind)
+  next : (w : Rewrite) (rest : List ℕ) (how : How) → IsSection w.section → IsWritten offsets how w.section w.encoding → how ≢ LeftOut → (v : Rewrite) (behind : List ℕ) → IsSection v.section → (w.section.id ∷ w.encoding) ++ rest ≡ bytes_of v.section ++ behind → IsOutputOf w v × (rest ≡ behind)
   next w rest how i h n v behind j e =
       let f = encoding_sized offsets w how i h n in
       let tails : w.encoding ++ rest ≡ v.section.sized ++ behind = cc e in

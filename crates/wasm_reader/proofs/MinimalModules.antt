@@ -130,7 +130,7 @@ rewrites_few offsets bytes rest old now tally r = omega (arith, r.tallied.sectio
 pub rewrites_below : (offsets : Offsets) (bytes rest old now : List ℕ) (tally : Tally) → Rewrites offsets bytes rest old now tally → length bytes < 2 ^ 64 → length rest ≢ 0 → tally.sections + 1 < 2 ^ 64
 rewrites_below offsets bytes rest old now tally r l more = omega (arith, rewrites_few offsets bytes rest old now tally r, l, more)
 
--- The remaining bytes are a part of the whole, and so is the output.
+-- The remaining bytes are no longer than the input, and the old bytes are a prefix of the new ones.
 pub rewrites_rest : (offsets : Offsets) (bytes rest old now : List ℕ) (tally : Tally) → Rewrites offsets bytes rest old now tally → length rest ≤ length bytes
 rewrites_rest offsets bytes rest old now tally r = omega (arith, ap length r.joined, length-append (flat_map (λ w. bytes_of w.section) r.rewrites) rest)
 

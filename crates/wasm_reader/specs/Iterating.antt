@@ -36,8 +36,8 @@ known_kind_of s = if nat_lt s.id 14 then Some (section_kind_of s) else None
 abbrev pub IsInPayload : Located → ℕ → Type 0
 IsInPayload s offset = (end_of s ≤ offset + length s.section.payload) × (offset ≤ end_of s)
 
--- The iterator gave this section: the next bytes are the section's, and its offset moves to their
--- end.
+-- The iterator returned this section: the next bytes are the section's, and the iterator's offset
+-- moves to their end.
 pub record GivesSection (old : Iterating) (s : Located) (new : Iterating) : Type 0 where
   pub is_section : IsSection s.section
   pub offset : s.offset ≡ old.offset
@@ -45,8 +45,8 @@ pub record GivesSection (old : Iterating) (s : Located) (new : Iterating) : Type
   pub after : new.offset ≡ end_of s
   pub bytes : new.bytes ≡ old.bytes
 
--- The iterator gave this error, and nothing more comes: no section is next, for any cause but
--- `Memory`.
+-- The iterator returned this error, and has ended. For any cause but `Memory`, no section decodes
+-- from the next bytes.
 pub record GivesError (old : Iterating) (e : ReadError) (new : Iterating) : Type 0 where
   pub none : e.cause ≢ Memory → Rejects any_section padded (ahead old)
   pub more : ahead old ≢ []
@@ -55,7 +55,7 @@ pub record GivesError (old : Iterating) (e : ReadError) (new : Iterating) : Type
   pub ended : ahead new ≡ []
   pub stays : new.offset ≡ old.offset
 
--- A call of `next`.
+-- The result of `next`: `None` at the end of the module, a section, or an error.
 abbrev pub NextSection : Iterating → Option (Result Located ReadError) → Iterating → Type 0
 NextSection old None new = (ahead old ≡ []) × (new ≡ old)
 NextSection old (Some (Ok s)) new = GivesSection old s new
@@ -76,15 +76,15 @@ pub record LocatedBody : Type 0 where
   pub offset : ℕ
   pub bytes : List ℕ
 
--- The iterator gave this body.
+-- The iterator returned this body, which was the next size-prefixed one.
 pub record GivesBody (old : Visiting) (b : LocatedBody) (new : Visiting) : Type 0 where
   pub left : old.left ≡ suc new.left
   pub decodes : Decodes (size_prefixed any_bytes) padded old.rest b.bytes new.rest
   pub offset : b.offset + (length b.bytes + length new.rest) ≡ old.end
   pub end : new.end ≡ old.end
 
--- The iterator gave this error, and nothing more comes. If bodies are left, no size-prefixed body
--- is next, for any cause but `Memory`. If none is left, bytes remain.
+-- The iterator returned this error, and has ended. If bodies are left, no size-prefixed body
+-- decodes from the next bytes, for any cause but `Memory`. If none is left, bytes remain.
 pub record EndsBodies (old : Visiting) (e : ReadError) (new : Visiting) : Type 0 where
   pub none : e.cause ≢ Memory → old.left ≢ 0 → Rejects (size_prefixed any_bytes) padded old.rest
   pub more : old.left ≡ 0 → old.rest ≢ []
@@ -92,7 +92,7 @@ pub record EndsBodies (old : Visiting) (e : ReadError) (new : Visiting) : Type 0
   pub within : e.offset ≤ old.end
   pub ended : (new.left ≡ 0) × (new.rest ≡ [])
 
--- A call of `next`.
+-- The result of `next`: `None` at the end of the section, a body, or an error.
 abbrev pub NextBody : Visiting → Option (Result LocatedBody ReadError) → Visiting → Type 0
 NextBody old None new = (old.left ≡ 0) × (old.rest ≡ []) × (new ≡ old)
 NextBody old (Some (Ok b)) new = GivesBody old b new

@@ -12,9 +12,9 @@ use Rattle.wasm_sections.specs.declared.tag.TagType.{TagType}
 use Rattle.wasm_types.specs.Words.{TypeItem, type_item, entry_view}
 use Rattle.wasm_custom.specs.Words.{Instance, core_name, modules_name, instances_name, instance_view, core_payload, modules_payload, instances_payload, StackFrame, stack_name, stack_frame_view}
 use Rattle.wasm_custom.specs.Words.{stack_payload, Hints as FunctionHints, hints_name, hints_view, hints_payload, LinkItem, linking_name, link_view, linking_payload, NameItem, name_name}
-use Rattle.wasm_custom.specs.Words.{name_item_view, name_payload, Field, producers_name, field_view, producers_payload, Feature, features_name, feature_view, features_payload}
-use Rattle.wasm_custom.specs.Words.{source_map_name, debug_file_name, build_id_name, source_map_payload, debug_file_payload, build_id_payload, DylinkItem, dylink_name, dylink_view}
-use Rattle.wasm_custom.specs.Words.{dylink_payload}
+use Rattle.wasm_custom.specs.Words.{name_item_view, name_payload, Field, producers_name, field_view, producers_payload, Feature, features_name, feature_view, features_payload, source_map_name}
+use Rattle.wasm_custom.specs.Words.{debug_file_name, build_id_name, source_map_payload, debug_file_payload, build_id_payload, DylinkItem, dylink_name, dylink_view, dylink_payload}
+use Rattle.wasm_custom.specs.Words.{Relocations as RelocationsModel, begins_with, relocations_payload, relocations_prefix}
 use Rattle.wasm_reader.specs.declared.kinds.Items.{Items}
 use Rattle.wasm_reader.specs.declared.kinds.SectionKind.{SectionKind}
 use Rattle.wasm_base.specs.declared.section_id.SectionId.TheVariants as ids
@@ -51,6 +51,7 @@ pub data Contents : Type 0 where
   ExternalDebugInfo : List ℕ → Contents
   BuildId : List ℕ → Contents
   Dylink : List DylinkItem → Contents
+  Relocations : RelocationsModel → Contents
 
 -- The format of the payload of a section of this kind.
 abbrev pub content : SectionKind → Format Contents
@@ -82,6 +83,7 @@ content kinds.SourceMappingUrl = mapped SourceMappingUrl source_map_payload
 content kinds.ExternalDebugInfo = mapped ExternalDebugInfo debug_file_payload
 content kinds.BuildId = mapped BuildId build_id_payload
 content kinds.Dylink = mapped Dylink dylink_payload
+content kinds.Relocations = mapped Relocations relocations_payload
 
 -- The kind of section that has this content.
 abbrev pub kind_in : Contents → SectionKind
@@ -113,6 +115,7 @@ kind_in (SourceMappingUrl x) = kinds.SourceMappingUrl
 kind_in (ExternalDebugInfo x) = kinds.ExternalDebugInfo
 kind_in (BuildId x) = kinds.BuildId
 kind_in (Dylink x) = kinds.Dylink
+kind_in (Relocations x) = kinds.Relocations
 
 -- The view of decoded items.
 abbrev pub contents_of : {A : Type 0} → Items A → Contents
@@ -144,12 +147,13 @@ contents_of (items.SourceMappingUrl x) = SourceMappingUrl x.now
 contents_of (items.ExternalDebugInfo x) = ExternalDebugInfo x.now
 contents_of (items.BuildId x) = BuildId x.now
 contents_of (items.Dylink v) = Dylink (map dylink_view v.items)
+contents_of (items.Relocations n section v) = Relocations (n.now, (section, v.items))
 
 -- The kinds, in the order of their numbers.
 abbrev pub kinds_in_order : List SectionKind
 kinds_in_order =
     kinds.Bodies ∷ kinds.Segments ∷ kinds.DataCount ∷ kinds.Elements ∷ kinds.Exports ∷ kinds.Functions ∷ kinds.Globals ∷ kinds.Imports ∷ kinds.Memories ∷ kinds.Start ∷ kinds.Tables ∷ kinds.Tags
-    ∷ kinds.Names ∷ kinds.Linking ∷ kinds.Producers ∷ kinds.Hints ∷ kinds.Core ∷ kinds.CoreModules ∷ kinds.CoreInstances ∷ kinds.CoreStack ∷ kinds.Custom ∷ kinds.Raw ∷ kinds.Types ∷ kinds.TargetFeatures ∷ kinds.SourceMappingUrl ∷ kinds.ExternalDebugInfo ∷ kinds.BuildId ∷ kinds.Dylink ∷ []
+    ∷ kinds.Names ∷ kinds.Linking ∷ kinds.Producers ∷ kinds.Hints ∷ kinds.Core ∷ kinds.CoreModules ∷ kinds.CoreInstances ∷ kinds.CoreStack ∷ kinds.Custom ∷ kinds.Raw ∷ kinds.Types ∷ kinds.TargetFeatures ∷ kinds.SourceMappingUrl ∷ kinds.ExternalDebugInfo ∷ kinds.BuildId ∷ kinds.Dylink ∷ kinds.Relocations ∷ []
 
 -- The kind of a number, counted from 0.
 abbrev pub kind_numbered : ℕ → Option SectionKind
@@ -197,9 +201,10 @@ known_names =
     ∷ (dylink_name, kinds.Dylink)
     ∷ []
 
--- The kind of a custom section of this name.
+-- The kind of a custom section of this name: `Relocations` if the name begins with `reloc.`, and
+-- otherwise that of the list.
 abbrev pub kind_named : List ℕ → SectionKind
-kind_named n = kind_among_names known_names n
+kind_named n = if begins_with relocations_prefix n then kinds.Relocations else kind_among_names known_names n
 
 -- The number of items, if they are counted. The items of a type section are its entries, and a
 -- recursion group is one entry.

@@ -1,4 +1,4 @@
--- The definitions of the crate, each file, and all of them by one import.
+-- This file lists the crate's files of definitions, and re-exports definitions for its proofs.
 pub mod Words
 pub mod Kinds
 pub mod Sections

@@ -34,6 +34,12 @@ abbrev pub IsNameOf : ℕ → List ℕ → Option (List ℕ) → Type 0
 IsNameOf id payload (Some n) = (id ≡ number_of ids.Custom) × (rest : List ℕ) × Decodes name padded payload n rest
 IsNameOf id payload None = id ≡ number_of ids.Custom → Rejects name padded payload
 
+-- The data of a section of this name: the bytes of the payload after the name, or all of them if
+-- there is no name.
+abbrev pub IsDataOf : Option (List ℕ) → List ℕ → List ℕ → Type 0
+IsDataOf (Some n) payload content = Decodes name padded payload n content
+IsDataOf None payload content = content ≡ payload
+
 -- The bytes after the id are this payload with its size prefix, and the payload has this name.
 pub record IsSection (s : Section) : Type 0 where
   pub contains : size_prefixed any_bytes padded s.sized s.payload

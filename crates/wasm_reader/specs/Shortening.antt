@@ -1,10 +1,10 @@
 -- This file defines the minimal form of a module, and the custom sections whose offsets it must
 -- preserve.
-use Rattle.std.specs.Prelude.{◌≡◌, ◌≢◌, ◌⊎◌, ◌||◌, ℕ, ◌+◌, ◌≤◌, List, [], ◌∷◌, ◌++◌, length, map, codes, nat_eq, min, Bool, true, false, if◌then◌else◌, Decides, MatchBool, Option, Some, None, is_some}
-use Rattle.std.specs.List.{AllByRecursion, flat_map, starts_with}
+use Rattle.std.specs.Prelude.{◌≡◌, ◌≢◌, ◌⊎◌, ◌||◌, ℕ, ◌+◌, ◌≤◌, List, [], ◌∷◌, ◌++◌, length, map, codes, min, Bool, true, false, if◌then◌else◌, Decides, MatchBool, Option, Some, None, is_some}
+use Rattle.std.specs.List.{AllByRecursion, flat_map}
 use Rattle.std.specs.Str.{bytes_eq}
 use Rattle.wasm_base.specs.Words.{padded, any_section, header, members, wasm_module, RejectsWhole, Decodes, Rejects, number_of}
-use Rattle.wasm_custom.specs.Words.{linking_name}
+use Rattle.wasm_custom.specs.Words.{begins_with, linking_name, relocations_prefix}
 use Rattle.wasm_reader.specs.Outlines.{Section, bytes_of, section_kind_of, IsSection, HasSections, EndsAt}
 use Rattle.wasm_reader.specs.Sections.{section, Shortens}
 use Rattle.wasm_reader.specs.declared.whole.Found.{Found}
@@ -23,10 +23,6 @@ pub use Rattle.wasm_base.specs.Minimal.{IsFrontOf}
 
 -- ---- custom sections that hold offsets
 
--- Whether the name begins with these bytes.
-abbrev pub begins_with : List ℕ → List ℕ → Bool
-begins_with front n = starts_with nat_eq n front
-
 -- Whether a custom section of this name holds offsets into code and data. These are symbols,
 -- debugging information, a reference to a file with it, the identity that ties such a file to the
 -- module, and code metadata.
@@ -39,7 +35,7 @@ names_code_offsets n =
 -- section, and a source map counts from the first byte of the module.
 abbrev pub target_named : List ℕ → Option Target
 target_named n =
-    if begins_with (codes "reloc.") n then Some Relocated else
+    if begins_with relocations_prefix n then Some Relocated else
     (if bytes_eq n (codes "sourceMappingURL") then Some Module else
     (if names_code_offsets n then Some CodeAndData else None))
 
@@ -169,7 +165,7 @@ pub record LosesOffsets (bytes : List ℕ) (number : ℕ) : Type 0 where
 
 -- The meaning of an error. Either the section of this number is the first that is malformed,
 -- whatever its payload, and the bytes are not a module. Or the section of this number loses its
--- offsets. `Memory` means nothing about the bytes.
+-- offsets. `Memory` implies nothing about the bytes.
 abbrev pub Explains : Offsets → List ℕ → ModuleFault → Type 0
 Explains offsets bytes (faults.Section number fault) = fault ≢ Memory → EndsAt bytes number × RejectsWhole wasm_module padded bytes
 Explains offsets bytes (faults.Offsets number) = (offsets ≡ Refuse) × LosesOffsets bytes number
@@ -180,7 +176,7 @@ Explains offsets bytes (faults.Offsets number) = (offsets ≡ Refuse) × LosesOf
 abbrev pub IsChange : Bool → Section → List ℕ → Type 0
 IsChange is_changed s encoding = MatchBool is_changed (encoding ≢ s.sized) (encoding ≡ s.sized)
 
--- The buffer gains the output for the section.
+-- The buffer gains the output for the section, encoded in this way.
 pub record GainsSection (offsets : Offsets) (s : Section) (how : How) (is_changed : Bool) (old new : List ℕ) : Type 0 where
   pub encoding : List ℕ
   pub written : IsWritten offsets how s encoding
@@ -277,12 +273,12 @@ pub record StopsAfter (bytes : List ℕ) (number : ℕ) : Type 0 where
 
 -- ---- laws
 
--- The module is rejected because memory was refused.
+-- The cause of the error is a failed allocation.
 abbrev pub IsMemory : ModuleFault → Type 0
 IsMemory (faults.Section number fault) = fault ≡ Memory
 IsMemory (faults.Offsets number) = ⊥
 
--- A minimized module can be minimized again, unless memory is refused, and becomes the same bytes.
+-- A minimized module can be minimized again, to the same bytes, unless an allocation fails.
 pub record IsIdempotent : Type 0 where
   pub again : (offsets : Offsets) (bytes old other encoding next : List ℕ) (kept more : ℕ) → ShortensModule offsets bytes kept old (old ++ encoding) → ShortensModule offsets encoding more other (other ++ next) → next ≡ encoding
   pub accepted : (offsets : Offsets) (bytes old encoding : List ℕ) (kept : ℕ) (fault : ModuleFault) → ShortensModule offsets bytes kept old (old ++ encoding) → Explains offsets encoding fault → IsMemory fault

@@ -19,8 +19,8 @@ use std::marker::Model;
 use wasm_base::{DecodeError, Padded, ReadFault, Readable, Standard, ValType};
 use wasm_code::Instructions;
 
-/// The bodies of a code section, one after another. It allocates nothing, and does not compare their
-/// number with that of the functions.
+/// The bodies of a code section, one after another. It allocates nothing, and does not compare
+/// their number with that of the functions.
 ///
 /// ```text
 /// for body in section.bodies()? {
@@ -142,8 +142,8 @@ impl<'a, A: Allocator + Copy> Iterator for Bodies<'a, A> {
 
 impl<'a, A: Allocator + Copy> FusedIterator for Bodies<'a, A> {}
 
-/// A body of a code section, not yet decoded. Blocks are not matched: a body decodes without its final
-/// `End` too, and with instructions after it.
+/// A body of a code section, not yet decoded. Blocks are not matched: a body also decodes without
+/// its final `End`, and with instructions after it.
 #[derive(Clone, Debug, Drop)]
 pub struct CodeBody<'a, A: Allocator = Global> {
     alloc: A,

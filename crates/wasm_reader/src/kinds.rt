@@ -5,7 +5,7 @@ ghost use Rattle.wasm_base.specs.Numbers.{padded_of};
 ghost use Rattle.wasm_base.specs.Minimal.{AppendsMinimal, HasEncoding};
 ghost use Rattle.wasm_base.specs.declared.fault.ReadFault.TheVariants.{Memory};
 ghost use Rattle.wasm_base.specs.declared.refused.Refused.TheVariants.{TooLong};
-ghost use Rattle.wasm_reader.specs.Kinds.{Contents, Custom, content, contents_of, kind_in, kind_named, kind_numbered, kind_of_id as kind_among_ids, number_in};
+ghost use Rattle.wasm_reader.specs.Kinds.{Contents, Custom, content, contents_of, kind_among_names, kind_in, kind_named, known_names, kind_numbered, kind_of_id as kind_among_ids, number_in};
 ghost use Rattle.wasm_reader.specs.declared.kinds.SectionKind.TheVariants as kinds;
 
 use crate::counts::count_skipped;
@@ -13,12 +13,12 @@ use std::alloc::{Allocator, Global};
 use wasm_base::{DecodeError, Dropped, Encode, Grammar, Readable, Result, Shorten, read_whole};
 use wasm_code::Body;
 use wasm_custom::{
-    BranchHint, CoreFrame, DylinkItem, FeaturePrefix, LinkItem, NameItem, append_build_id,
-    append_debug_file, append_dylink, append_features, append_hints, append_instances,
-    append_links, append_modules, append_names, append_process, append_producers,
-    append_source_map, append_stack, read_build_id, read_debug_file, read_dylink, read_features,
-    read_hints, read_instances, read_links, read_modules, read_names, read_process, read_producers,
-    read_source_map, read_stack,
+    BranchHint, CoreFrame, DylinkItem, FeaturePrefix, LinkItem, NameItem, Relocation,
+    append_build_id, append_debug_file, append_dylink, append_features, append_hints,
+    append_instances, append_links, append_modules, append_names, append_process, append_producers,
+    append_relocations, append_source_map, append_stack, read_build_id, read_debug_file,
+    read_dylink, read_features, read_hints, read_instances, read_links, read_modules, read_names,
+    read_process, read_producers, read_relocations, read_source_map, read_stack,
 };
 use wasm_sections::{
     ElementItem, Export, GlobalItem, Imports, MemoryType, Segment, TableItem, TagType,
@@ -72,8 +72,10 @@ pub enum SectionKind {
     ExternalDebugInfo,
     /// The section of a build's identity.
     BuildId,
-    /// The section of a dynamic library: what it needs at load time.
+    /// The section of a dynamic library: its requirements at load time.
     Dylink,
+    /// A relocation section, whose name begins with `reloc.`.
+    Relocations,
 }
 
 impl SectionKind {
@@ -111,6 +113,7 @@ impl SectionKind {
             25 => Some(SectionKind::ExternalDebugInfo),
             26 => Some(SectionKind::BuildId),
             27 => Some(SectionKind::Dylink),
+            28 => Some(SectionKind::Relocations),
             _ => None,
         }
     }
@@ -168,6 +171,13 @@ pub enum Items<'a, A: Allocator = Global> {
     /// The bytes that identify the build.
     BuildId(&'a [u8]),
     Dylink(Vec<DylinkItem<'a, A>, A>),
+    Relocations {
+        /// The whole name of the custom section, such as `reloc.CODE`.
+        name: &'a str,
+        /// The index of the section that is relocated.
+        section: u32,
+        relocations: Vec<Relocation, A>,
+    },
 }
 
 /// Returns the kind of a section of this id.
@@ -193,9 +203,9 @@ pub(crate) fn kind_of_id(id: u8) -> SectionKind
     }
 }
 
-/// Returns the kind of a custom section of this name.
-pub(crate) fn kind_of_name(name: &str) -> SectionKind
-    ensures { result ≡ kind_named name.now }
+/// Returns the kind of a custom section of one of these names, and `Custom` for all others.
+fn kind_of_whole_name(name: &str) -> SectionKind
+    ensures { result ≡ kind_among_names known_names name.now }
 {
     match name {
         "name" => SectionKind::Names,
@@ -212,6 +222,17 @@ pub(crate) fn kind_of_name(name: &str) -> SectionKind
         "build_id" => SectionKind::BuildId,
         "dylink.0" => SectionKind::Dylink,
         _ => SectionKind::Custom,
+    }
+}
+
+/// Returns the kind of a custom section of this name.
+pub(crate) fn kind_of_name(name: &str) -> SectionKind
+    ensures { result ≡ kind_named name.now }
+{
+    if name.as_bytes().starts_with(b"reloc.") {
+        SectionKind::Relocations
+    } else {
+        kind_of_whole_name(name)
     }
 }
 
@@ -284,6 +305,14 @@ pub(crate) fn read_content<'a, A: Allocator + Copy + 'a, G: Grammar>(
         )?)),
         SectionKind::BuildId => Ok(Items::BuildId(read_build_id::<A, G>(bytes, alloc)?)),
         SectionKind::Dylink => Ok(Items::Dylink(read_dylink::<A, G>(bytes, alloc)?)),
+        SectionKind::Relocations => {
+            let (name, section, relocations) = read_relocations::<A, G>(bytes, alloc)?;
+            Ok(Items::Relocations {
+                name,
+                section,
+                relocations,
+            })
+        }
     }
 }
 
@@ -340,15 +369,15 @@ fn append_custom<B: Allocator>(name: &str, bytes: &[u8], sink: &mut Vec<u8, B>) 
     }
 }
 
-/// Appends the encoding of a section's payload that has these items: as builders write it, in its
-/// fewest bytes. On an error, the sink is unchanged.
+/// Appends the minimal encoding of a section's payload with these items, as builders write it. On
+/// an error, the sink is unchanged.
 ///
 /// It is the inverse of [`read_section`](crate::read_section) and
-/// [`Section::items`](crate::Section::items). The payload becomes a section with an id and a size
-/// prefix, as by [`RawSection`](wasm_base::RawSection).
+/// [`Section::items`](crate::Section::items). [`RawSection`](wasm_base::RawSection) adds the id and
+/// the size prefix that make a section of the payload.
 ///
-/// Items that no bytes encode have no promise: an instruction whose arguments are not those of its
-/// opcode, say.
+/// The call promises nothing for items that no bytes encode: an instruction whose immediates are
+/// not those of its opcode, say.
 ///
 /// ```text
 /// let mut payload = Vec::new(alloc);
@@ -401,5 +430,10 @@ pub fn encode_items<A: Allocator, B: Allocator>(
         Items::ExternalDebugInfo(path) => append_debug_file(path, sink),
         Items::BuildId(bytes) => append_build_id(bytes, sink),
         Items::Dylink(items) => append_dylink(items, sink),
+        Items::Relocations {
+            name,
+            section,
+            relocations,
+        } => append_relocations(name, *section, relocations, sink),
     }
 }

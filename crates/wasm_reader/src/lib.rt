@@ -1,11 +1,11 @@
-//! Decodes sections, exactly: `Ok` holds the items that the bytes encode, padded numbers included,
-//! and any error but [`ReadFault::Memory`] means that the bytes encode no such items.
+//! Decodes sections, exactly: `Ok` holds the items that the bytes encode, possibly as padded
+//! LEB128, and any error but [`ReadFault::Memory`] means that the bytes encode no such items.
 //!
 //! [`Sections`] iterates over the sections of a module, and [`Section::items`] decodes one, in the
-//! standard's grammar. [`read_section`] decodes a section of a [`SectionKind`], without its id, into
-//! [`Items`], and [`shorten`] writes its minimal encoding. A custom section decodes by the kind that
-//! its name selects; a payload that is not of that kind is an error. One of another name decodes to
-//! its name and data.
+//! standard's grammar. [`read_section`] decodes a section of a [`SectionKind`], without its id,
+//! into [`Items`], and [`shorten`] writes its minimal encoding. A custom section decodes by the
+//! kind that its name selects; a payload that is not of that kind is an error. One of another name
+//! decodes to its name and data.
 #![tactic(auto)]
 
 mod code_bodies;

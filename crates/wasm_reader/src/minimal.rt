@@ -15,8 +15,8 @@ use std::alloc::Allocator;
 use wasm_base::{DecodeError, Padded, ReadFault, Readable, Shorten, prefix_size_since};
 use wasm_code::shorten_body;
 
-/// Appends the minimal encoding of a vector of bodies that occupies all of the bytes. It keeps none
-/// of them. After an error, the old bytes are still the front of the sink.
+/// Appends the minimal encoding of a vector of bodies that occupies all of the bytes. It keeps no
+/// decoded body. After an error, the old bytes are still the front of the sink.
 #[tactic(auto, using(wasm_base::proofs::MinimalEncodings::front_steps))]
 fn shorten_bodies<A: Allocator + Copy, B: Allocator>(
     bytes: &[u8],
@@ -64,8 +64,8 @@ fn shorten_content<A: Allocator + Copy, B: Allocator>(
     }
 }
 
-/// Appends the minimal encoding of a section of this kind, whose payload these bytes are. After an
-/// error, the old bytes are still the front of the sink.
+/// Appends the minimal encoding of a section of this kind with this payload. After an error, the
+/// old bytes are still the front of the sink.
 #[tactic(auto, using(wasm_base::proofs::MinimalEncodings::front_steps))]
 fn shorten_sized<A: Allocator + Copy, B: Allocator>(
     kind: SectionKind,
@@ -85,8 +85,8 @@ fn shorten_sized<A: Allocator + Copy, B: Allocator>(
 
 /// Appends the minimal encoding of the section at the front, and returns the section's length in
 /// the input, in bytes. Both are without the section's id. On an error, the bytes of the sink are
-/// unchanged. Decoded items are allocated with the sink's allocator, and dropped: of code, one
-/// instruction at a time.
+/// unchanged. Decoded items are allocated with the sink's allocator, and then dropped. Code is
+/// decoded one instruction at a time.
 ///
 /// In a code section that becomes shorter, instructions move. Offsets into it that are kept
 /// elsewhere are then wrong: relocations, debugging information, branch hints and source maps.
@@ -112,7 +112,7 @@ pub fn shorten<A: Allocator + Copy>(
     shorten_in(*sink.allocator(), kind, bytes, sink)
 }
 
-/// The same with an allocator for decoded items.
+/// Does what [`shorten`] does, with another allocator for decoded items.
 pub(crate) fn shorten_in<A: Allocator + Copy, B: Allocator>(
     alloc: A,
     kind: SectionKind,

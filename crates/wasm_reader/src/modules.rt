@@ -57,14 +57,14 @@ fn line_of<A: Allocator + Copy>(section: &Section<'_, A>) -> Result<Listed, Read
     Ok(Listed { id, size, items })
 }
 
-/// Lists the sections of a module. Each section is decoded as the kind of its id; type sections and
-/// those of ids above 13 are taken as raw bytes.
+/// Lists the sections of a module. Each section is decoded as the kind of its id. Type sections and
+/// those of ids above 13 count as raw bytes.
 ///
 /// # Errors
 ///
 /// Returns the error and a section number, counted from 1. For any error but `Memory`, this is the
 /// section at which the bytes stop being a module. It is 0 if they do not begin with the header.
-/// For `Memory` it is the section that was being decoded, which no contract says.
+/// For `Memory` it is the section that was being decoded, which no contract states.
 pub fn list_module<'a, A: Allocator + Copy>(
     alloc: A,
     bytes: &'a [u8],

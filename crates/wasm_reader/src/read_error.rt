@@ -11,28 +11,14 @@ use wasm_base::{DecodeError, ReadFault};
 /// println!("{error}");
 /// ```
 #[derive(Clone, Copy, PartialEq, Eq, Debug, Error)]
-#[error("{text} at offset {offset:#x}", text = text_of(.cause))]
+#[error("{cause} at offset {offset:#x}")]
 pub struct ReadError {
     pub cause: ReadFault,
     /// The offset of the first byte that cannot be part of an encoding, from the start of the
     /// module, in bytes; the end of a payload that ends too soon; the first byte of a name for
-    /// `NotUtf8`. It means nothing for `Memory`. Contracts say that it is in the section or the
-    /// payload that was decoded, and tests the rest.
+    /// `NotUtf8`. It is unspecified for `Memory`. Contracts promise that it is in the decoded
+    /// section or payload, and tests check which byte it is.
     pub offset: usize,
-}
-
-/// Returns the text of the cause.
-pub(crate) fn text_of(cause: &ReadFault) -> &'static str {
-    match cause {
-        ReadFault::Ended => "unexpected end of input",
-        ReadFault::NotShortest => "padded integer",
-        ReadFault::TooLarge => "integer too large",
-        ReadFault::UnknownTag => "unexpected byte or value",
-        ReadFault::UnknownOpcode => "unknown opcode",
-        ReadFault::NotUtf8 => "invalid UTF-8",
-        ReadFault::SizeMismatch => "bytes remain after the value",
-        ReadFault::Memory => "out of memory",
-    }
 }
 
 impl ReadError {

@@ -7,7 +7,7 @@ ghost use Rattle.wasm_base.specs.Continuing.{RejectsWhole};
 ghost use Rattle.wasm_base.specs.Decoding.{Rejects};
 ghost use Rattle.wasm_base.specs.declared.fault.ReadFault.TheVariants.{Ended, UnknownTag, Memory};
 ghost use Rattle.wasm_reader.specs.Kinds.{Contents, content, contents_of, number_in};
-ghost use Rattle.wasm_reader.specs.Outlines.{section_of, section_kind_of, bytes_of, IsSection};
+ghost use Rattle.wasm_reader.specs.Outlines.{section_of, section_kind_of, bytes_of, IsSection, IsDataOf};
 ghost use Rattle.wasm_reader.specs.Iterating.{Iterating, Located, ahead, end_of, known_kind_of, IsInPayload, NextSection};
 
 use crate::kinds::{Items, SectionKind, read_content, read_number};
@@ -20,7 +20,7 @@ use std::marker::Model;
 use std::ops::Range;
 use wasm_base::{ReadFault, Standard};
 
-/// Returns the number of bytes at the front that are those of the other slice.
+/// Returns the length of the longest common prefix of two slices.
 fn common_length(bytes: &[u8], other: &[u8]) -> usize
     ensures { result ≤ length bytes.now }
 {
@@ -40,8 +40,8 @@ fn common_length(bytes: &[u8], other: &[u8]) -> usize
 /// }
 /// ```
 ///
-/// It splits a module, and does not validate it: sections may have any ids, in any order and number.
-/// What is decoded of a section is in memory of the allocator.
+/// The iterator does not validate the module: sections may have any ids, in any order and number.
+/// Decoded items are in memory of the allocator.
 ///
 /// # Errors
 ///
@@ -155,11 +155,11 @@ impl<'a, A: Allocator> Model for Section<'a, A> {
 
     ghost view = { λ s. record { offset = s.offset; section = section_of s.standing } };
 
-    ghost invariant = { λ s. IsSection (section_of s.standing) × (s.bytes.now ≡ bytes_of (section_of s.standing)) × (s.offset + length s.bytes.now < 2 ^ 64) };
+    ghost invariant = { λ s. IsSection (section_of s.standing) × (s.bytes.now ≡ bytes_of (section_of s.standing)) × (s.offset + length s.bytes.now < 2 ^ 64) × IsDataOf (section_of s.standing).name (section_of s.standing).payload s.standing.data.now };
 }
 
 impl<'a, A: Allocator + Copy> Section<'a, A> {
-    /// Returns the allocator of what is decoded.
+    /// Returns the allocator of decoded items.
     pub(crate) fn allocator(&self) -> A {
         self.alloc
     }
@@ -178,8 +178,8 @@ impl<'a, A: Allocator + Copy> Section<'a, A> {
         self.standing.id
     }
 
-    /// Returns the kind as which the payload is decoded: by the id, and for a custom section by its
-    /// name. It is `None` if the id is above 13, whose items are `Items::Raw`.
+    /// Returns the kind that the payload is decoded as. The id selects it, and for a custom section
+    /// the name. It is `None` if the id is above 13, and the items are then `Items::Raw`.
     pub fn kind(&self) -> Option<SectionKind>
         ensures { result ≡ known_kind_of self.now.section }
     {
@@ -228,6 +228,14 @@ impl<'a, A: Allocator + Copy> Section<'a, A> {
         ensures size { length result.now < 2 ^ 32 }
     {
         self.standing.payload
+    }
+
+    /// Returns the data of a custom section: the bytes of the payload after the name. Of other
+    /// sections, and if the payload begins with no name, it returns the payload.
+    pub fn data(&self) -> &'a [u8]
+        ensures { IsDataOf self.now.section.name self.now.section.payload result.now }
+    {
+        self.standing.data
     }
 
     /// Returns the number of items, or `None` if they are not counted: those of custom sections,

@@ -4,7 +4,7 @@ ghost use Rattle.wasm_base.specs.Formats.{any_section};
 ghost use Rattle.wasm_base.specs.Numbers.{padded};
 ghost use Rattle.wasm_base.specs.Decoding.{Rejects};
 ghost use Rattle.wasm_base.specs.declared.fault.ReadFault.TheVariants.{Memory};
-ghost use Rattle.wasm_reader.specs.Outlines.{section_of, IsSection, IsNameOf, bytes_of, section_kind_of as kind_of_section};
+ghost use Rattle.wasm_reader.specs.Outlines.{section_of, IsSection, IsNameOf, IsDataOf, bytes_of, section_kind_of as kind_of_section};
 
 use crate::kinds::{SectionKind, kind_of_id, kind_of_name};
 use std::alloc::Allocator;
@@ -20,10 +20,12 @@ pub(crate) struct Standing<'a> {
     pub(crate) payload: &'a [u8],
     /// The name of a custom section, if its payload begins with one.
     pub(crate) name: Option<&'a str>,
+    /// The bytes of the payload after the name, or all of them if there is none.
+    pub(crate) data: &'a [u8],
 }
 
 impl Standing<'_> {
-    /// Returns the kind as which its payload is decoded.
+    /// Returns the kind that its payload is decoded as.
     pub(crate) fn kind(&self) -> SectionKind
         ensures { result ≡ kind_of_section (section_of self.now) }
     {
@@ -35,22 +37,23 @@ impl Standing<'_> {
     }
 }
 
-/// Decodes the name of a custom section from its payload.
+/// Decodes the name of a custom section from its payload, and returns it with the data after it.
 fn read_name<'a, A: Allocator + Copy>(
     id: u8,
     payload: &'a [u8],
     alloc: A,
-) -> Result<Option<&'a str>, DecodeError>
-    ensures found { IfOk result (λ name. IsNameOf id payload.now (option_map (λ n. n.now) name)) }
+) -> Result<(Option<&'a str>, &'a [u8]), DecodeError>
+    ensures found { IfOk result (λ x. IsNameOf id payload.now (option_map (λ n. n.now) x.0)) }
+    ensures data { IfOk result (λ x. IsDataOf (option_map (λ n. n.now) x.0) payload.now x.1.now) }
     ensures memory { IfErr result (λ e. e.cause ≡ Memory) }
 {
     if id != 0 {
-        return Ok(None);
+        return Ok((None, payload));
     }
     match <&'a str as Readable<'a, A, Padded>>::read(payload, alloc) {
-        Ok((name, _)) => Ok(Some(name)),
+        Ok((name, data)) => Ok((Some(name), data)),
         Err(error) if error.cause() == ReadFault::Memory => Err(error),
-        Err(_) => Ok(None),
+        Err(_) => Ok((None, payload)),
     }
 }
 
@@ -63,18 +66,20 @@ pub(crate) fn read_standing<'a, A: Allocator + Copy>(
 ) -> Result<(Standing<'a>, &'a [u8]), DecodeError>
     ensures found { IfOk result (λ x. IsSection (section_of x.0)) }
     ensures split { IfOk result (λ x. bytes.now ≡ bytes_of (section_of x.0) ++ x.1.now) }
+    ensures data { IfOk result (λ x. IsDataOf (section_of x.0).name (section_of x.0).payload x.0.data.now) }
     ensures none { IfErr result (λ e. e.cause ≢ Memory → Rejects any_section padded bytes.now) }
 {
     let (id, rest) = <u8 as Readable<'a, A, Padded>>::read(bytes, alloc)?;
     let (payload, after) = <&'a [u8] as Readable<'a, A, Padded>>::read(rest, alloc)?;
     let sized = &rest[..rest.len() - after.len()];
-    let name = read_name(id, payload, alloc)?;
+    let (name, data) = read_name(id, payload, alloc)?;
     Ok((
         Standing {
             id,
             sized,
             payload,
             name,
+            data,
         },
         after,
     ))

@@ -36,7 +36,6 @@ ghost use Rattle.wasm_reader.specs.Shortening.{
 
 use crate::minimal::shorten_in;
 use crate::modules::HEADER;
-use crate::read_error::text_of;
 use crate::sections::Sections;
 use crate::standing::Standing;
 use std::alloc::{AllocError, Allocator};
@@ -67,17 +66,12 @@ pub enum Offsets {
 pub enum ModuleFault {
     /// The bytes at the section of this number, counted from 1, are not an id and a size-prefixed
     /// payload; 0 is the header. Or an allocation failed there.
-    #[error("section {number}: {text}", text = words(.fault))]
+    #[error("section {number}: {fault}")]
     Section { number: usize, fault: ReadFault },
     /// The section of this number, counted from 1, is the first that holds offsets which would
     /// become wrong.
     #[error("section {number}: its offsets would become wrong")]
     Offsets { number: usize },
-}
-
-/// Returns the text of a fault.
-fn words(fault: &ReadFault) -> &'static str {
-    text_of(fault)
 }
 
 /// The sections into which the offsets of a custom section point.
@@ -98,7 +92,7 @@ pub(crate) enum How {
     Minimal,
     /// Its unchanged bytes, which do not decode as its kind.
     Kept,
-    /// Nothing: it holds offsets.
+    /// No bytes: the section holds offsets.
     LeftOut,
 }
 
@@ -151,9 +145,9 @@ impl Target {
         }
     }
 
-    /// Returns `true` if such offsets into a section of this id become wrong: given whether its
-    /// bytes change, and whether the output before it is as long as the input before it
-    /// (`is_level`).
+    /// Returns `true` if such offsets into a section of this id become wrong. `is_changed` says
+    /// whether its bytes change, and `is_level` whether the output before it is as long as the
+    /// input before it.
     fn loses(self, id: u8, is_changed: bool, is_level: bool) -> bool
         ensures { AreMoved result self id is_changed is_level }
     {
@@ -441,7 +435,7 @@ fn append_sections<A: Allocator + Copy, B: Allocator>(
     }
 }
 
-/// Appends the header, with spare capacity for `spare` bytes.
+/// Reserves capacity for `spare` bytes, and appends the header as the first of them.
 fn begin_module<A: Allocator>(spare: usize, sink: &mut Vec<u8, A>) -> Result<(), AllocError>
     ensures ok { OnOk result (sink.new.items ≡ sink.old.items ++ header) }
     ensures err { OnErr result (sink.new.items ≡ sink.old.items) }
@@ -491,13 +485,14 @@ fn append_module<A: Allocator + Copy, B: Allocator>(
 }
 
 /// Appends the module with each section in its minimal encoding, and returns the number of sections
-/// that are kept unchanged. These do not decode as their kinds, which for a custom section its name
-/// selects. On an error, the sink is unchanged.
+/// that are kept unchanged, because they do not decode as their kinds. The name of a custom section
+/// selects its kind. On an error, the sink is unchanged.
 ///
 /// When a section becomes shorter, its items and the sections after it move. `offsets` selects the
 /// treatment of custom sections that hold offsets. Either a module whose offsets might become wrong
-/// is an error ([`Offsets::Refuse`]), or these sections are left out. A minimized module can always
-/// be minimized again, unless an allocation fails. Decoded items are in memory of the allocator.
+/// is an error ([`Offsets::Refuse`]), or these sections are left out ([`Offsets::LeaveOut`]). A
+/// minimized module can always be minimized again, unless an allocation fails. Decoded items are in
+/// memory of the allocator.
 ///
 /// ```text
 /// let kept = shorten_module(alloc, bytes, Offsets::Refuse, &mut sink)?;

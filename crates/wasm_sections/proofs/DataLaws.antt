@@ -1,14 +1,14 @@
 -- This file proves that data segments are unambiguous, and how they are decoded and minimized.
 use Rattle.wasm_base.proofs.Words.{◌≡◌, ◌≢◌, ℕ, zero, suc, ◌^◌, ◌<◌, List, [], ◌∷◌, ◌++◌, length, Result, Ok, Err, Option, refl, sym, ap, subst, ◌∙◌, append_assoc, arith, length-append, ◌≤◌, ap₂}
-use Rattle.wasm_base.proofs.Words.{Bool, true, false, eqb, when, mapped, ◌⊎◌, inl, inr, Grammar, builders, admitted, is_admitted, standard_minimal, standard, padded_of, by_mode_unambiguous, Then_unambiguous}
-use Rattle.wasm_base.proofs.Words.{DeterminesPrefix, IsIncludedIn, AreGroups}
+use Rattle.wasm_base.proofs.Words.{Bool, true, false, eqb, when, mapped, ◌⊎◌, inl, inr, Grammar, builders, admitted, is_admitted, standard_minimal, standard, padded_of, by_mode_unambiguous}
+use Rattle.wasm_base.proofs.Words.{Then_unambiguous, DeterminesPrefix, IsIncludedIn, AreGroups, Count, Drains, size, Adds, ItemLaws, u32, byte, such, pair, vec, Format, any_bytes, choice}
+use Rattle.wasm_base.proofs.Words.{size_prefixed, impossible, members, Mode, minimal, unsigned_encoding, padded, IsOfBuilders, Unambiguous, Decodes, Rejects, size_prefixed_encoding, HasEncodableSize}
+use Rattle.wasm_base.proofs.Words.{vec_bytes_unambiguous, mapped_unambiguous, pair_unambiguous, such_unambiguous, DeterminesTag, choice_determines, choice_unambiguous, tagged_unambiguous}
+use Rattle.wasm_base.proofs.Words.{impossible_unambiguous, u32_unambiguous, u32_small, encodes_in, u32_in, pair_in, bytes_encodes, then_decodes, then_rejects_first, then_rejects_second}
+use Rattle.wasm_base.proofs.Words.{mapped_decodes, mapped_rejects, such_decodes, such_none, such_rejects, tagged_decodes, tagged_none, tagged_rejects, no_choice, SectionLaws, counted_laws_padded}
+use Rattle.wasm_base.proofs.Words.{AppendsMinimal, HasEncoding, left_encoded, right_encoded, tagged_encoded, mapped_encoded, counted_encodable, u32_appended, encoding_appended, pair_appended}
+use Rattle.wasm_base.proofs.Words.{tagged_appended, mapped_appended}
 use Rattle.wasm_base.specs.Decoding.{ShrinksTo}
-use Rattle.wasm_base.proofs.Words.{Count, Drains, size, Adds, ItemLaws, u32, byte, such, pair, vec, Format, any_bytes, choice, size_prefixed, impossible, members, Mode, minimal, unsigned_encoding}
-use Rattle.wasm_base.proofs.Words.{padded, IsOfBuilders, Unambiguous, Decodes, Rejects, size_prefixed_encoding, HasEncodableSize, vec_bytes_unambiguous, mapped_unambiguous, pair_unambiguous}
-use Rattle.wasm_base.proofs.Words.{such_unambiguous, DeterminesTag, choice_determines, choice_unambiguous, tagged_unambiguous, impossible_unambiguous, u32_unambiguous, u32_small, encodes_in, u32_in, pair_in, bytes_encodes, then_decodes}
-use Rattle.wasm_base.proofs.Words.{then_rejects_first, then_rejects_second, mapped_decodes, mapped_rejects, such_decodes, such_none, such_rejects, tagged_decodes, tagged_none, tagged_rejects}
-use Rattle.wasm_base.proofs.Words.{no_choice, SectionLaws, counted_laws_padded, AppendsMinimal, HasEncoding, left_encoded, right_encoded, tagged_encoded, mapped_encoded, counted_encodable}
-use Rattle.wasm_base.proofs.Words.{u32_appended, encoding_appended, pair_appended, tagged_appended, mapped_appended}
 use Rattle.wasm_base.specs.declared.refused.Refused.{Refused}
 use Rattle.wasm_code.proofs.Words.{expression, expression_encoding, expression_unambiguous, expression_encodes}
 use Rattle.wasm_immediates.specs.ImmediateFormats.{HasIndex}
@@ -365,7 +365,7 @@ other_appended memory offset bytes old middle new other e a =
     let inside = pair_appended (such (HasIndex builders) u32) (pair expression (vec byte)) index a in
     flagged (active memory offset bytes) 2 old flagged_end new (not_first memory offset bytes some) refl (mapped_appended in_memory (pair (such (HasIndex builders) u32) (pair expression (vec byte))) (memory, (offset, bytes)) flagged_end new (λ p k. ap active_parts k) inside)
 
--- ---- parts that have encodings
+-- ---- fields of a segment that has an encoding
 
 pub data_offset_encoded : (offset : List Plain) (bytes : List ℕ) → HasEncoding (pair expression (vec byte)) (offset, bytes) → HasEncoding expression offset
 data_offset_encoded offset bytes h = left_encoded expression (vec byte) offset bytes h

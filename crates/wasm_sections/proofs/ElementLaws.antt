@@ -440,7 +440,7 @@ pub expressions_implicit_appended : (explicit : Bool) (r : RefType) (es : List (
 expressions_implicit_appended explicit r es old new e a =
     subst (λ t. AppendsMinimal (elements_as t true) (expressions r es) old new) (sym e) (typed false r es old old new (nothing_appended (fixed [] FUNCREF) r old (λ s h. (refl, h.1))) a)
 
--- ---- parts that have encodings
+-- ---- fields of a segment that has an encoding
 
 parts_encoded : (x : ElementItem (List Plain)) → HasEncoding element x → HasEncoding (pair (segment_mode (flag_of x)) (elements_as (has_kind (flag_of x)) (are_expressions x.elements))) (x.segment_mode, x.elements)
 parts_encoded x h =

@@ -1,5 +1,6 @@
--- The lemmas of the crate, each file. `Words` passes on what the crates above use.
+-- This file lists the crate's files of lemmas. `Words` re-exports what dependent crates use.
 pub mod Words
+pub mod Common
 pub mod ViewedLists
 pub mod Prefixes
 pub mod FlagLaws

@@ -1,6 +1,6 @@
 -- This file proves that certain bytes are not a section.
-use Rattle.wasm_base.proofs.Words.{builders, ◌≡◌, ℕ, ◌<◌, List, [], ◌∷◌, ◌++◌, false, pos, refl, sym, subst, ◌∙◌, append-nil, arith, lit<, inl, inr, ints, IsUtf8-nil, counted_format, u32, impossible, choice}
-use Rattle.wasm_base.proofs.Words.{name, mapped, such, RejectsAllAfterPadded, minimal, padded, name_unambiguous, then_at, tagged_at, begins_mapped, u32_unambiguous, u32_small, rejects_padded}
+use Rattle.wasm_base.proofs.Words.{builders, ◌≡◌, ℕ, ◌<◌, List, [], ◌∷◌, ◌++◌, false, pos, refl, sym, subst, ◌∙◌, append-nil, arith, lit<, inl, inr, ints, IsUtf8-nil, counted_format, u32, impossible}
+use Rattle.wasm_base.proofs.Words.{choice, name, mapped, such, RejectsAllAfterPadded, minimal, padded, name_unambiguous, then_at, tagged_at, begins_mapped, u32_unambiguous, u32_small, rejects_padded}
 use Rattle.wasm_base.proofs.Words.{one_item, groups_encoding-last}
 use Rattle.std.specs.declared.alloc.Global.{Global}
 use Rattle.wasm_base.specs.declared.types.ValType.TheVariants.{I32}

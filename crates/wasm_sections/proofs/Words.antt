@@ -1,4 +1,4 @@
--- This file passes on what the crates above use.
+-- This file re-exports what the proofs of dependent crates use.
 pub use Rattle.wasm_sections.proofs.Calls.{adds_active, adds_active_padded, adds_alike, adds_element, adds_element_padded, adds_export, adds_expressions, adds_functions, adds_global}
 pub use Rattle.wasm_sections.proofs.Calls.{adds_global_padded, adds_passive, adds_table, adds_table_with_init, adds_table_with_init_padded, array_added, copied_added, gains_elements, gains_exports}
 pub use Rattle.wasm_sections.proofs.Calls.{gains_functions, gains_globals, gains_imports, gains_memories, gains_number, gains_segments, gains_tables, gains_tags, new_elements, new_exports}

@@ -6,7 +6,8 @@ use Rattle.wasm_immediates.specs.Words.{where_set}
 use Rattle.wasm_sections.specs.declared.memory.Flags.{Flags as ReadFlags}
 
 -- The flags of limits: a maximum is encoded, the table or memory is shared, its indices have 64
--- bits, a page size is encoded. The second and the fourth are not in the core specification.
+-- bits, a page size is encoded. The core specification lacks the second and the fourth, which are
+-- those of the proposals for threads and for custom page sizes.
 pub record Flags : Type 0 where
   pub has_maximum : Bool
   pub shared : Bool

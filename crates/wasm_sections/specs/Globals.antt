@@ -12,7 +12,8 @@ use Rattle.wasm_sections.specs.declared.global.GlobalFlags.{GlobalFlags as ReadF
 use Rattle.wasm_sections.specs.declared.global.GlobalItem.{GlobalItem as ReadGlobal}
 use Rattle.wasm_base.specs.declared.section_id.SectionId.TheVariants as ids
 
--- The flags of a global type. The second is not in the core specification.
+-- The flags of a global type: mutable and shared. The core specification lacks the second, which
+-- the shared-everything threads proposal adds.
 pub record GlobalFlags : Type 0 where
   pub mutable : Bool
   pub shared : Bool

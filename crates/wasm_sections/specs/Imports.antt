@@ -17,8 +17,8 @@ use Rattle.wasm_sections.specs.declared.import.Imports.TheVariants as groups
 
 -- ---- imported entities
 
--- The encoding of an entity: a byte for its kind, and its type. `FunctionExact` is not in the core
--- specification.
+-- The encoding of an entity: a byte for its kind, and its type. The core specification lacks
+-- `FunctionExact`, which the custom descriptors proposal adds.
 abbrev pub entity_encoding : EntityType → List ℕ
 entity_encoding (Function index) = 0x00 ∷ unsigned_encoding index
 entity_encoding (Table ty) = 0x01 ∷ table_encoding ty
@@ -50,7 +50,8 @@ entity = tagged byte (choice entity_tags (λ b. impossible))
 -- ---- imports
 
 -- The imports from a module: one entity, a group of names with an entity each, or a group of names
--- of one entity. Groups are not in the core specification.
+-- of one entity. The core specification lacks groups, which the compact import section proposal
+-- adds.
 pub data Imported : Type 0 where
   single : List ℕ → EntityType → Imported
   named : List (List ℕ × EntityType) → Imported

@@ -116,12 +116,14 @@ impl ItemKind for DataItems {
 }
 
 /// Adding calls. A segment is a flag, the memory if it is not 0, the offset of an active segment,
-/// and the bytes: see "Data Section".
+/// and the bytes. Core specification, Binary Format, Modules, Data Section.
 impl<A: Allocator> DataSection<A> {
     ghost use Rattle.wasm_sections.specs.DataSegments.{segment_encoding, active_encoding, passive_encoding, AddsBytes};
 
-    /// Adds a segment. If there are too many bytes, it returns `TooLong` and requests none, as
-    /// tests show.
+    /// Adds a segment.
+    ///
+    /// If there are more than 4294967295 bytes, the call returns `TooLong` and requests none of
+    /// them, as tests show.
     pub fn segment<D: IntoIterator<Item = u8>, B: Allocator>(
         &mut self,
         segment: DataSegment<'_, D, B>,
@@ -141,8 +143,9 @@ impl<A: Allocator> DataSection<A> {
         }
     }
 
-    /// Adds a segment whose bytes are copied to this memory when the module is instantiated. If
-    /// there are too many bytes, it returns `TooLong`.
+    /// Adds a segment whose bytes are copied to this memory when the module is instantiated.
+    ///
+    /// If there are more than 4294967295 bytes, the call returns `TooLong`.
     pub fn active<D: IntoIterator<Item = u8>, B: Allocator>(
         &mut self,
         memory_index: u32,
@@ -161,8 +164,9 @@ impl<A: Allocator> DataSection<A> {
         }
     }
 
-    /// Adds a segment whose bytes are copied to a memory by an instruction. If there are too many
-    /// bytes, it returns `TooLong`.
+    /// Adds a segment whose bytes are copied to a memory by an instruction.
+    ///
+    /// If there are more than 4294967295 bytes, the call returns `TooLong`.
     pub fn passive<D: IntoIterator<Item = u8>>(&mut self, bytes: D) -> Result<()>
     where
         D::IntoIter: ExactSizeIterator + Drop,
@@ -179,7 +183,7 @@ impl<A: Allocator> DataSection<A> {
         self.add_piece(segment)
     }
 
-    /// Adds a segment of `front` and the bytes.
+    /// Adds a segment that is encoded as `front` and the size-prefixed bytes.
     fn add_bytes<S: Encode + Drop, D: IntoIterator<Item = u8>>(
         &mut self,
         front: S,
@@ -196,14 +200,14 @@ impl<A: Allocator> DataSection<A> {
     }
 }
 
-// Flags of a segment.
+// The flags of segments. Core specification, Binary Format, Modules, Data Section.
 pub(crate) const ACTIVE: u8 = 0x00;
 
 pub(crate) const PASSIVE: u8 = 0x01;
 
 pub(crate) const ACTIVE_IN_MEMORY: u8 = 0x02;
 
-/// Bytes after their count.
+/// Size-prefixed bytes, as a vector of bytes.
 #[derive(Clone, Copy, Debug)]
 struct Bytes<'a>(&'a [u8]);
 
@@ -257,8 +261,8 @@ impl<'a, A: Allocator> Layout for Segment<'a, A> {
     {}
 }
 
-/// Returns `true` if the memory may be explicit, after flag 2: memory 0 in the standard's grammar
-/// alone.
+/// Returns `true` if the grammar admits this memory after flag 2, where it is explicit. Only the
+/// standard's grammar admits memory 0 there.
 #[tactic(auto, using(crate::proofs::DataLaws::index_steps))]
 #[inline]
 fn has_index<G: Grammar>(memory: u32) -> bool
@@ -347,7 +351,7 @@ fn append_placed<A: Allocator, B: Allocator>(
     encode_size_prefixed(sink, bytes)
 }
 
-/// Appends an active segment of the memory. Memory 0 has a flag of its own.
+/// Appends an active segment. Memory 0 is implied by flag 0, and others are explicit after flag 2.
 #[tactic(auto, using(crate::proofs::DataLaws::first_appended, crate::proofs::DataLaws::other_appended))]
 fn append_active<A: Allocator, B: Allocator>(
     memory: u32,

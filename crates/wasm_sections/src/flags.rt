@@ -1,4 +1,4 @@
-// Flag bytes.
+// Helpers for bytes of flags.
 ghost use Rattle.std.specs.Prelude.{◌≡◌, ◌≤◌};
 ghost use Rattle.wasm_immediates.specs.Immediates.{where_set};
 

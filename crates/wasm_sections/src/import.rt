@@ -137,7 +137,7 @@ pub enum Imports<'a, A: Allocator = Global> {
 }
 
 impl<A: Allocator + Copy> Imports<'_, A> {
-    /// Returns the same imports, and copies an owned list.
+    /// Returns the same imports. An owned list is copied into memory of its own.
     pub fn clone(&self) -> Result<Self>
         ensures same { IfOk result (λ imports. imports_item imports ≡ imports_item self.now) }
         ensures memory { result ≢ Err TooLong }
@@ -181,8 +181,8 @@ impl Encode for ImportCompact<'_> {
     }
 }
 
-/// Encodes a single import as such. A group is the name of the module, two bytes that no import has
-/// there, and the items.
+/// Encodes a single import, or a group: the module name, the byte 00, a kind byte that no entity
+/// has, and the items. A reader can therefore tell a group from an import of an empty name.
 impl<A: Allocator> Encode for Imports<'_, A> {
     ghost encoding = { λ imports. import_encoding (imports_item imports) };
 
@@ -308,8 +308,8 @@ impl<'a, A: Allocator + Copy, G: Grammar> Readable<'a, A, G> for ImportCompact<'
     }
 }
 
-/// Returns the kind byte of a group and the remaining bytes, if no single import is at the front:
-/// after an empty name, this byte is the kind of no entity.
+/// Returns the kind byte of a group and the remaining bytes, if the bytes begin with 00 and a byte
+/// that is the kind of no entity. No single import begins so after its module name.
 #[tactic(auto, using(crate::proofs::ImportLaws::group_steps))]
 fn group_kind<G: Grammar>(bytes: &[u8]) -> Option<(u8, &[u8])>
     ensures { MatchOption result (Rejects (prefixed (0x00 ∷ []) group) (padded_of G.grammar) bytes.now) (λ x. (bytes.now ≡ 0x00 ∷ x.0 ∷ x.1.now) × (0x7E ≤ x.0)) }

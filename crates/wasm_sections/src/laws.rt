@@ -67,8 +67,8 @@ pub fn standard()
     ensures { (bytes : List ℕ) (offset : List Plain) (content : List ℕ) → pair expression (vec byte) standard bytes (offset, content) → data_item standard (0x02 ∷ 0x00 ∷ bytes) (active 0 offset content) }
 {}
 
-/// With padded numbers the formats of sections are unambiguous too. A minimal encoding is also an
-/// encoding in this mode.
+/// The formats of sections are also unambiguous if padded LEB128 is admitted. A minimal encoding is
+/// an encoding in that mode too.
 pub fn padded()
     ensures functions { UnambiguousPadded (counted_format u32_format) }
     ensures tables { UnambiguousPadded (counted_format table_item) }
@@ -99,8 +99,8 @@ pub fn calls()
     ensures tags { ContainsMore tag_items }
 {}
 
-/// The same with padded numbers: a record may be well-formed but for padded numbers in its
-/// expressions, and an entry may be a padded encoding of its item.
+/// The same with padded LEB128: the expressions of a well-formed record may be padded, and an entry
+/// may be a padded encoding of its item.
 #[tactic(auto, using(crate::proofs::Calls::sections, wasm_base::proofs::SectionLaws::held_padded))]
 pub fn padded_calls()
     ensures functions { ContainsMorePadded function_items }
@@ -136,7 +136,7 @@ pub fn payloads()
     ensures numbers { DecodesPayloads u32_format }
 {}
 
-/// The same with padded numbers.
+/// The same with padded LEB128.
 #[tactic(auto, using(wasm_base::proofs::Payloads::padded_payloads))]
 pub fn padded_payloads()
     ensures functions { DecodesPayloadsPadded (vec u32_format) }
@@ -151,9 +151,9 @@ pub fn padded_payloads()
     ensures numbers { DecodesPayloadsPadded u32_format }
 {}
 
-/// These three byte sequences encode no section, with padded numbers neither. In that of globals,
-/// bytes follow the first `End` of a constant expression. In that of data, a segment with an
-/// explicit memory has memory 0. In that of imports, the byte 00 before a group is padded.
+/// Three byte sequences that encode no section, even if padded LEB128 is admitted. In the globals,
+/// bytes follow the first `End` of a constant expression. In the data, the explicit memory of a
+/// segment is memory 0. In the imports, the byte 00 before a group is padded.
 #[tactic(auto, using(crate::proofs::RejectionLaws::nothing))]
 pub fn rejections()
     ensures inner_end { RejectsAllAfterPadded (counted_format global_item) (9 ∷ 1 ∷ 127 ∷ 0 ∷ 65 ∷ 1 ∷ 11 ∷ 65 ∷ 2 ∷ 11 ∷ []) }
@@ -179,23 +179,23 @@ pub fn plain_exports(exports: &[Export<'_>])
     }
 }
 
-/// Proves that the numbers of a table type are in range. For one behind a reference, as in a list,
-/// no clause shows that; this call does.
+/// Proves that the numbers of a table type are in range. A caller needs this for a type behind a
+/// reference, as in a list, whose range no clause states.
 pub fn plain_table(table: TableType)
     ensures { IsTable table }
 {}
 
-/// Proves the same of a memory type.
+/// Proves that the numbers of a memory type are in range.
 pub fn plain_memory(memory: MemoryType)
     ensures { IsMemory memory }
 {}
 
-/// Proves the same of a global type.
+/// Proves that the numbers of a global type are in range.
 pub fn plain_global(global: GlobalType)
     ensures { IsGlobal global }
 {}
 
-/// Proves the same of the type of an import, whatever its kind.
+/// Proves that the numbers of an import's type are in range, whatever its kind.
 pub fn plain_entity(entity: EntityType)
     ensures { IsEntity entity }
 {}

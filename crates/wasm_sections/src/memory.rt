@@ -17,7 +17,13 @@ use wasm_base::{
 ///
 /// ```rust
 /// let mut memories = MemorySection::new(alloc);
-/// memories.memory(MemoryType { minimum: 1, maximum: None, memory64: false, shared: false, page_size_log2: None })?;
+/// memories.memory(MemoryType {
+///     minimum: 1,
+///     maximum: None,
+///     memory64: false,
+///     shared: false,
+///     page_size_log2: None,
+/// })?;
 /// module.section(&memories)?;
 /// ```
 pub type MemorySection<A = Global> = CountedSection<MemoryItems, A>;

@@ -20,7 +20,13 @@ use wasm_code::{ConstExpr, Expression};
 ///
 /// ```rust
 /// let mut tables = TableSection::new(alloc);
-/// let table_type = TableType { element_type: RefType::FUNCREF, table64: false, minimum: 128, maximum: None, shared: false };
+/// let table_type = TableType {
+///     element_type: RefType::FUNCREF,
+///     table64: false,
+///     minimum: 128,
+///     maximum: None,
+///     shared: false,
+/// };
 /// tables.table(table_type)?;
 /// tables.table_with_init(table_type, &ConstExpr::ref_null(alloc, HeapType::FUNC)?)?;
 /// module.section(&tables)?;

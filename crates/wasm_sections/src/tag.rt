@@ -25,7 +25,7 @@ pub type TagSection<A = Global> = CountedSection<TagItems, A>;
 #[derive(Clone, Copy, Debug)]
 pub struct TagItems;
 
-/// The purpose of a tag.
+/// The kind of a tag. The standard has exceptions only.
 #[derive(Clone, Copy, PartialEq, Eq, Debug)]
 pub enum TagKind {
     Exception,

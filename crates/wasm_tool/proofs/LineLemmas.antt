@@ -1,4 +1,4 @@
--- This file proves how a cut at the first space gives the words of a line.
+-- This file proves that cuts at the first space return the words of a line.
 use Rattle.wasm_base.proofs.Words.{◌≡◌, ℕ, ◌<◌, ◌==◌, false, List, [], ◌∷◌, length, refl, ap, ◌∙◌, sym, arith, ◌-◌, ◌≢◌, ◌++◌, get_or, take, cond, Bor, None, Some, Option, unwrap_or, eq-eqb, subst}
 use Rattle.wasm_base.proofs.Words.{◌+◌, Bool, true, not, drop, lit<, common_steps, IfSome, MatchOption, filter, CutsPrefixes, FindsCharPrefix, IsTrimStartMatches, drop_at_char, slice_split}
 use Rattle.wasm_base.proofs.Words.{before_first, after_first, position_or_len, drop_all, take_more, length-map, get_or-map, strip_carriage_return, All-from_get_or}
@@ -118,12 +118,12 @@ pub stripped : (line : List ℕ) (r : Option (Bor (List ℕ))) → MatchOption r
 stripped line None h whole e = e ∙ strip_carriage_return_none line h
 stripped line (Some x) h whole e = strip_carriage_return_some line x.now h
 
--- The part of a text between line feeds at this index.
+-- The piece of a text between line feeds at this index.
 pub record IsPart (text part : List ℕ) (n : ℕ) : Type 0 where
   pub within : n < length (slice_split (λ b. b == 0x0A) text)
   pub is : part ≡ get_or (slice_split (λ b. b == 0x0A) text) n part
 
--- The line of the part of a text at this index.
+-- The line of the piece of a text at this index.
 module _ {text part : List ℕ} {n : ℕ} (found : IsPart text part n) where
   pub within : n < length (lines_of text)
   within = omega (arith, found.within, length-map (slice_split (λ b. b == 0x0A) text) strip_carriage_return)

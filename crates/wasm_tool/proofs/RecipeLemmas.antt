@@ -1,9 +1,9 @@
 -- This file proves the sections after some lines of a recipe, and the meaning of an error in the
 -- next line.
 use Rattle.wasm_base.proofs.Words.{◌≡◌, ℕ, ◌+◌, ◌-◌, ◌<◌, ◌≤◌, length, List, [], ◌∷◌, ◌++◌, take, map, Option, Some, None, Ok, Err, Result, refl, ap, ◌∙◌, sym, subst, arith, append_assoc, append-nil}
-use Rattle.wasm_base.proofs.Words.{◌==◌, Bool, true, false, cond, Bor, ap₂, longest, take_all, Yields, slice_split, slice_get, flat_map, YieldsList, YieldsList-end, IsOk, IsOkAnd, IfOk, MatchResult, All-nil, All-push, All-head}
-use Rattle.wasm_base.proofs.Words.{All-append, filter-append, map-append, common_steps, flat_map-append, unsigned_encoding, HasEncodableSize, any_section_encoding, IsEncodableAnySection}
-use Rattle.wasm_base.proofs.Words.{module_encoding, IsEncodableModule, wasm_module, header, DecodesWhole, IsEncodableSection, module_encoding-decodes}
+use Rattle.wasm_base.proofs.Words.{◌==◌, Bool, true, false, cond, Bor, ap₂, longest, take_all, Yields, slice_split, slice_get, flat_map, YieldsList, YieldsList-end, IsOk, IsOkAnd, IfOk, MatchResult}
+use Rattle.wasm_base.proofs.Words.{All-nil, All-push, All-head, All-append, filter-append, map-append, common_steps, flat_map-append, unsigned_encoding, HasEncodableSize, any_section_encoding}
+use Rattle.wasm_base.proofs.Words.{IsEncodableAnySection, module_encoding, IsEncodableModule, wasm_module, header, DecodesWhole, IsEncodableSection, module_encoding-decodes}
 use Rattle.wasm_base.specs.declared.refused.Refused.{Refused}
 use Rattle.std.proofs.Common.{filter}
 use Rattle.wasm_tool.proofs.LineLemmas.{lines_of-length}
@@ -11,9 +11,9 @@ use Rattle.wasm_tool.proofs.VersionLemmas.{lines_with-length}
 use Rattle.std.specs.Prelude.{All, IsErrAnd, option_map}
 use Rattle.wasm_tool.specs.declared.fault.RecipeFault.{RecipeFault}
 use Rattle.wasm_tool.specs.declared.fault.RecipeCause.{RecipeCause}
-use Rattle.wasm_tool.specs.{lines_of, lines_with, header_of, version_of, version_with, versioned_lines, Addition, IsGood, AreEncodableNames, IsEncodableRecipe, entries_of, entry_of, added_to, body_encoding, bodies_of, left_locals, locals_id, last_of, names_of, section_of, start_of, sections_of, recipe_module}
-use Rattle.wasm_tool.specs.{lines_before, lines_through, AddsEntries, Explains, IsEncodableWith, AreEncodableSections, ContainsLines, IsModule, Follows, IsOfWords, SaysCause, cause_of, listed, replaced}
-use Rattle.wasm_tool.specs.{start_items}
+use Rattle.wasm_tool.specs.{lines_of, lines_with, header_of, version_of, version_with, versioned_lines, Addition, IsGood, AreEncodableNames, IsEncodableRecipe, entries_of, entry_of, added_to}
+use Rattle.wasm_tool.specs.{body_encoding, bodies_of, left_locals, locals_id, last_of, names_of, section_of, start_of, sections_of, recipe_module, lines_before, lines_through, AddsEntries, Explains}
+use Rattle.wasm_tool.specs.{IsEncodableWith, AreEncodableSections, ContainsLines, IsModule, Follows, IsOfWords, SaysCause, cause_of, listed, replaced, start_items}
 use Rattle.wasm_tool.specs.declared.fault.RecipeCause.TheVariants.{UnknownCommand, BadNumber, BadHex, MissingWord, Memory, TooLong, SurplusWord, UnknownType, UnusedLocals}
 use Rattle.wasm_tool.specs.declared.recipe.Recipe.{Recipe}
 use Rattle.wasm_tool.specs.declared.version.Version.{Version}
@@ -152,7 +152,7 @@ follows_words said old new Memory says of_words = absurd of_words
 follows_words said old new TooLong says of_words = absurd of_words
 follows_words said old new UnusedLocals says of_words = absurd of_words
 
--- So is a refused item, if the item fits unless `TooLong` is returned.
+-- So is the error of an item, if the item fits unless the error is `TooLong`.
 pub follows_refused : {A : Type 0} (said : Result (List Addition) RecipeCause) (entries : List Addition) (old new : Recipe A) (refused : Refused) (result : Result (Unit {0}) RecipeCause)
     → said ≡ Ok entries → (refused ≡ refusals.TooLong → ¬ (IsEncodableWith old entries)) → IsErrAnd result (λ cause. cause ≡ cause_of refused) → Follows said old new result
 follows_refused said entries old new refused (Ok done) says full made = absurd made
@@ -162,7 +162,7 @@ follows_refused said entries old new refused (Err cause) says full made = subst 
     go refusals.Memory full = tt
     go refusals.TooLong full = subst (λ said. IsOkAnd said (λ entries. ¬ (IsEncodableWith old entries))) (sym says) (full refl)
 
--- All lines are decoded if no part of the text remains.
+-- All lines are decoded if nothing of the text remains.
 pub all_read : {S A : Type 0} {steps : S → Option (Bor (List ℕ)) → S → Type 0} {s t u : S} {recipe : Recipe A} {number : ℕ} {next : Option (Bor (List ℕ))} (version : Version) (header : Option ℕ) (text : List ℕ) (parts : List (Bor (List ℕ)))
     → YieldsList steps (λ part. part.now) s (slice_split (λ b. b == 0x0A) text) → Yields steps s parts t → next ≡ None → steps t next u → number ≡ length parts
     → ContainsLines version (take number (lines_with header (lines_of text))) recipe → ContainsLines version (lines_with header (lines_of text)) recipe
@@ -318,7 +318,7 @@ module_decodes version lines recipe bytes contains encodable is =
     subst (λ sections. DecodesWhole wasm_module bytes sections) (listed-contains version lines recipe contains)
     (subst (λ bytes. DecodesWhole wasm_module bytes (listed recipe)) (sym is) (module_encoding-decodes (listed recipe) (listed-encodable recipe encodable)))
 
--- The result for the version that the text says.
+-- The result for the version that the text determines.
 pub of_header : {X A : Type 0} (text : List ℕ) (header : Option ℕ) (recipe : Recipe A) (result : Result X RecipeFault) (items : X → List ℕ) → header ≡ header_of (lines_of text)
     → MatchResult result (λ x. IsModule (version_with header) (lines_with header (lines_of text)) recipe (items x)) (λ fault. Explains (version_with header) (lines_with header (lines_of text)) fault.line fault.cause)
     → MatchResult result (λ x. IsModule (version_of text) (versioned_lines text) recipe (items x)) (λ fault. Explains (version_of text) (versioned_lines text) fault.line fault.cause)

@@ -1,6 +1,7 @@
--- This file proves how the lines of a text tell the version of a recipe, and what each line then is.
-use Rattle.wasm_base.proofs.Words.{◌≡◌, ℕ, ◌+◌, ◌<◌, ◌≤◌, ◌==◌, Bool, true, false, cond, List, [], ◌∷◌, ◌++◌, get_or, length, take, drop, Option, Some, None, option_map, refl, ap, sym, ◌∙◌, arith, suc}
-use Rattle.wasm_base.proofs.Words.{drop-cons, drop_all, eqb-true, eqb-false, slice_get, slice_get-get_or, strip_carriage_return, take_more}
+-- This file proves how the lines of a text determine the version of a recipe, and which lines the
+-- recipe then has.
+use Rattle.wasm_base.proofs.Words.{◌≡◌, ℕ, ◌+◌, ◌<◌, ◌≤◌, ◌==◌, Bool, true, false, cond, List, [], ◌∷◌, ◌++◌, get_or, length, take, drop, Option, Some, None, option_map, refl, ap, sym, ◌∙◌, arith}
+use Rattle.wasm_base.proofs.Words.{suc, drop-cons, drop_all, eqb-true, eqb-false, slice_get, slice_get-get_or, strip_carriage_return, take_more}
 use Rattle.std.specs.Prelude.{set}
 use Rattle.std.proofs.lemmas.Grind.{get_or-set_at}
 use Rattle.std.proofs.lemmas.List.{get_or-set_other, length-set}
@@ -30,7 +31,7 @@ one_later : (n : ℕ) (h : Option ℕ) → option_map (λ k. n + k) (option_map 
 one_later n None = refl
 one_later n (Some k) = ap Some (let e : n + suc k ≡ n + 1 + k = omega arith in e)
 
--- A line without words does not tell.
+-- A line without words does not determine the version.
 pub header_later : (lines : List (List ℕ)) (line : List ℕ) (n : ℕ) → n < length lines → get_or lines n line ≡ line
     → is_version_2 (counted_words Second line) ≡ None → IsHeaderAfter lines n → IsHeaderAfter lines (n + 1)
 header_later lines line n within is none after =
@@ -69,7 +70,7 @@ lines_with-at (Some index) lines n line within = go (index == n) refl
     go false is =
         get_or-set_other lines index n [] line (λ e. eqb-false index n is (sym e)) ∙ ap (λ t. cond t [] (get_or lines n line)) (sym is)
 
--- The line of a recipe of the part of a text at this index.
+-- The line of a recipe at this index of a text's pieces between line feeds.
 module _ (header : Option ℕ) {text part line : List ℕ} {n : ℕ} (found : IsPart text part n) (is : line ≡ line_with header n (strip_carriage_return part)) where
   pub line_within : n < length (lines_with header (lines_of text))
   line_within = omega (arith, within found, lines_with-length header (lines_of text))

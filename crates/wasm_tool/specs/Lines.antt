@@ -48,7 +48,7 @@ counted_words Second line = before_comment (words_of line)
 
 -- ---- the version of a recipe
 
--- Whether these words of a line are `version 2`. A line without words does not tell.
+-- Whether these words of a line are `version 2`; `None` if there are no words.
 abbrev pub is_version_2 : List (List ℕ) → Option Bool
 is_version_2 [] = None
 is_version_2 (command ∷ []) = Some false
@@ -72,7 +72,7 @@ abbrev pub version_with : Option ℕ → Version
 version_with None = First
 version_with (Some index) = Second
 
--- The lines of a recipe. The line `version 2` adds nothing: it is as an empty one.
+-- The lines of a recipe. The line `version 2` adds no item: it is replaced by an empty line.
 abbrev pub lines_with : Option ℕ → List (List ℕ) → List (List ℕ)
 lines_with None lines = lines
 lines_with (Some index) lines = set lines index []

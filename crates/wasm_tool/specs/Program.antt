@@ -12,7 +12,7 @@ use Rattle.wasm_tool.specs.declared.version.Version.TheVariants.{First}
 abbrev pub hex_line_of : List ℕ → List ℕ
 hex_line_of text = encode_lower (recipe_module (entries_of First (lines_of text))) ++ 0x0A ∷ []
 
--- Memory was refused, but not at a line of a recipe.
+-- An allocation failed, but not at a line of a recipe.
 abbrev pub IsLateRefusal : Trouble → Type 0
 IsLateRefusal (Recipe fault) = (fault.line ≡ 0) × (fault.cause ≡ Memory)
 IsLateRefusal _ = ⊥

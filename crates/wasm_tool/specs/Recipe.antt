@@ -1,7 +1,7 @@
 -- This file defines recipes: each line adds an entry to a section, and the sections make a module.
 -- Definitions take the version of the recipe, 1 or 2.
-use Rattle.std.specs.Prelude.{All, length, ℕ, suc, ℤ, pos, neg_ℤ, ◌-◌, ◌^◌, ◌==◌, ◌&&◌, ◌≤◌, ◌++◌, Bool, true, false, codes, if◌then◌else◌, nat_lt, List, [], ◌∷◌, filter, map, take, Option, Some, None}
-use Rattle.std.specs.Prelude.{option_map, Result, Ok, Err, IsOk}
+use Rattle.std.specs.Prelude.{All, length, ℕ, suc, ℤ, pos, neg_ℤ, ◌-◌, ◌^◌, ◌==◌, ◌&&◌, ◌≤◌, ◌++◌, Bool, true, false, codes, if◌then◌else◌, nat_lt, List, [], ◌∷◌, filter, map, take, Option, Some}
+use Rattle.std.specs.Prelude.{None, option_map, Result, Ok, Err, IsOk}
 use Rattle.std.specs.List.{flat_map}
 use Rattle.std.specs.declared.alloc.Global.{Global}
 use Rattle.std.specs.Result.{result_unwrap_or}

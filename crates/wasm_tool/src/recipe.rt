@@ -200,7 +200,7 @@ impl<A: Allocator + Copy> Recipe<A> {
     }
 
     /// Parses the lines of a recipe into sections without items. The line of the index `header`
-    /// adds nothing.
+    /// adds no item.
     fn read_lines(
         &mut self,
         alloc: A,
@@ -439,7 +439,7 @@ impl<A: Allocator + Copy> Recipe<A> {
     }
 
     /// Returns the module of a recipe, whose lines are parsed into sections without items. The
-    /// line of the index `header` adds nothing.
+    /// line of the index `header` adds no item.
     fn module_of(
         &mut self,
         alloc: A,

@@ -341,7 +341,8 @@ alone_encodes mode s c h = lifted IsCompositeByte alone_of {G = after_composite}
 abbrev EndsAlone : List ℕ → Sub → Type 0
 EndsAlone t x = (c : Composite) × (front back : List ℕ) × (t ≡ front ++ back) × composite_type standard back c × (alone_of c ≡ x)
 
--- A subtype of the standard's grammar is one that builders write, or has an empty vector after 4F.
+-- A subtype of the standard's grammar is one that builders write, or has an empty vector after
+-- 0x4F.
 narrowed : (b : ℕ) (t : List ℕ) (x : Sub) → after_in admitted b standard t x → after_in builders b standard t x ⊎ EndsAlone t x
 narrowed b t x h = go (eqb b 0x50) (eqb b 0x4F) h
   where

@@ -7,7 +7,7 @@ use Rattle.wasm_base.specs.declared.refused.Refused.{Refused}
 use Rattle.wasm_base.specs.declared.refused.Refused.TheVariants.{TooLong}
 
 -- The section gains one entry of the items that the iterator yields, or the call returns an error
--- and changes nothing. More than 2^32 - 1 items give `TooLong`.
+-- and changes nothing. If the iterator reports more than 2^32 - 1 items, the error is `TooLong`.
 pub record AddsListed {U S T : Type 0} (becomes : U → S → Type 0) (gives : S → Option T → S → Type 0) (remaining : S → Count) (Encodable : T → Type 0) (elements : U) (encoding : List T → List ℕ)
     (old new : List (List ℕ)) (result : Result (Unit {0}) Refused) : Type 0 where
   pub ok : OnOk result ((it : S) × (xs : List T) × becomes elements it × Drains gives it xs × IsEncodableVec Encodable xs × (new ≡ old ++ encoding xs ∷ []))
@@ -20,7 +20,7 @@ pub record AddsListed {U S T : Type 0} (becomes : U → S → Type 0) (gives : S
   pub too_many : ((it : S) → becomes elements it → longest < size (remaining it)) → result ≡ Err TooLong
 
 -- The section gains one entry of the items that both iterators yield, or the call returns an error
--- and changes nothing. More than 2^32 - 1 items of either give `TooLong`.
+-- and changes nothing. If either reports more than 2^32 - 1 items, the error is `TooLong`.
 pub record AddsTwoListed {U S V W T : Type 0} (becomes : U → S → Type 0) (gives : S → Option T → S → Type 0) (remaining : S → Count) (becomes₂ : V → W → Type 0) (gives₂ : W → Option T → W → Type 0) (remaining₂ : W → Count)
     (first : U) (second : V) (encoding : List T → List T → List ℕ) (old new : List (List ℕ)) (result : Result (Unit {0}) Refused) : Type 0 where
   pub ok : OnOk result ((it : S) × (other : W) × (xs ys : List T) × becomes first it × becomes₂ second other × Drains gives it xs × Drains gives₂ other ys

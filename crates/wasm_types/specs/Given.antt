@@ -24,11 +24,11 @@ shape_in (inner.Array a) = array a.0
 shape_in (inner.Struct s) = structure s.fields.items
 shape_in (inner.Cont c) = cont c.0
 
--- The composite type of an argument.
+-- The composite type that an argument encodes.
 abbrev pub composite_in : {A : Type 0} → CompositeType A → Composite
 composite_in c = record { shared = c.shared; describes = c.describes; descriptor = c.descriptor; shape = shape_in c.inner }
 
--- The subtype of an argument.
+-- The subtype that an argument encodes: it has at most one supertype.
 abbrev pub sub_in : {A : Type 0} → SubType A → Sub
 sub_in s = record { is_final = s.is_final; supertypes = listed s.supertype_idx; composite = composite_in s.composite_type }
 

@@ -1,4 +1,5 @@
--- This file defines the views of decoded types: their values without locations in memory.
+-- This file defines the views of decoded types, their values without locations in memory, and the
+-- encodings of decoded types.
 use Rattle.std.specs.Prelude.{ℕ, List, ◌∷◌, map, Option}
 use Rattle.wasm_base.specs.Words.{vec_encoding, IsEncodableVec}
 use Rattle.wasm_types.specs.Given.{composite_in, shape_in, IsEncodableShape}
@@ -29,7 +30,7 @@ entry_view (entries.Group v) = group (map sub_view v.items)
 abbrev pub IsEncodableSubItem : {A : Type 0} → SubItem A → Type 0
 IsEncodableSubItem s = IsEncodableVec (λ i. Unit {0}) s.supertypes.items × IsEncodableShape (shape_in s.composite_type.inner)
 
--- The encoding of an entry.
+-- The encoding of a decoded entry: a subtype, or 0x4E and the vector of its subtypes.
 abbrev pub entry_encoding : {A : Type 0} → TypeEntry A → List ℕ
 entry_encoding (entries.Single s) = sub_encoding (sub_view s)
 entry_encoding (entries.Group v) = 0x4E ∷ vec_encoding (λ s. sub_encoding (sub_view s)) v.items

@@ -51,19 +51,19 @@ abbrev pub mutable_code : Bool → ℕ
 mutable_code false = 0x00
 mutable_code true = 0x01
 
--- The encoding of a field type.
+-- The encoding of a field type: its storage type, then the byte for its mutability.
 abbrev pub field_encoding : FieldType → List ℕ
 field_encoding f = storage_encoding f.element_type ++ mutable_code f.mutable ∷ []
 
--- The encoding of a function type.
+-- The encoding of a function type: 0x60, then the vectors of its parameters and of its results.
 abbrev pub func_encoding : List ValType → List ValType → List ℕ
 func_encoding params results = 0x60 ∷ (vec_encoding val_encoding params ++ vec_encoding val_encoding results)
 
--- The encoding of a structure type.
+-- The encoding of a structure type: 0x5F, then the vector of its fields.
 abbrev pub struct_encoding : List FieldType → List ℕ
 struct_encoding fields = 0x5F ∷ vec_encoding field_encoding fields
 
--- The encoding of a continuation type.
+-- The encoding of a continuation type: 0x5D, then the index as a signed number.
 abbrev pub cont_encoding : ℕ → List ℕ
 cont_encoding index = 0x5D ∷ signed_encoding (pos index)
 
@@ -79,12 +79,12 @@ abbrev pub index_encoding : ℕ → Option ℕ → List ℕ
 index_encoding b None = []
 index_encoding b (Some index) = b ∷ unsigned_encoding index
 
--- The encoding of sharedness: 65 for a shared type, no bytes otherwise.
+-- The encoding of sharedness: 0x65 for a shared type, no bytes otherwise.
 abbrev pub shared_encoding : Bool → List ℕ
 shared_encoding false = []
 shared_encoding true = 0x65 ∷ []
 
--- The encoding of a composite type.
+-- The encoding of a composite type: its optional prefixes, then its shape.
 abbrev pub composite_encoding : Composite → List ℕ
 composite_encoding c = shared_encoding c.shared ++ (index_encoding 0x4C c.describes ++ (index_encoding 0x4D c.descriptor ++ shape_encoding c.shape))
 
@@ -95,11 +95,11 @@ before_encoding true [] = []
 before_encoding true (x ∷ xs) = 0x4F ∷ vec_encoding unsigned_encoding (x ∷ xs)
 before_encoding false xs = 0x50 ∷ vec_encoding unsigned_encoding xs
 
--- The encoding of a subtype.
+-- The encoding of a subtype: the bytes before its composite type, then that type.
 abbrev pub sub_encoding : Sub → List ℕ
 sub_encoding s = before_encoding s.is_final s.supertypes ++ composite_encoding s.composite
 
--- The encoding of an entry.
+-- The encoding of an entry: a subtype, or 0x4E and the vector of the group's subtypes.
 abbrev pub type_encoding : TypeItem → List ℕ
 type_encoding (single s) = sub_encoding s
 type_encoding (group subs) = 0x4E ∷ vec_encoding sub_encoding subs
@@ -115,7 +115,7 @@ IsStorage _ = Unit {0}
 abbrev pub IsField : FieldType → Type 0
 IsField f = IsStorage f.element_type
 
--- Indices in the shape are below 2^32, and so are the numbers of parameters, results and fields.
+-- Indices in the shape, and the numbers of parameters, results and fields, are below 2^32.
 abbrev pub IsShape : Shape → Type 0
 IsShape (func params results) = IsEncodableVec IsVal params × IsEncodableVec IsVal results
 IsShape (array field) = IsField field
@@ -126,18 +126,19 @@ IsShape (cont index) = index < 2 ^ 32
 abbrev pub IsGivenIndex : Option ℕ → Type 0
 IsGivenIndex index = IfSome index (IsUnsignedInRange 32)
 
--- The composite type is well-formed.
+-- The composite type is well-formed: its indices are below 2^32, and its shape is well-formed.
 pub record IsComposite (c : Composite) : Type 0 where
   pub describes : IsGivenIndex c.describes
   pub descriptor : IsGivenIndex c.descriptor
   pub shape : IsShape c.shape
 
--- The subtype is well-formed.
+-- The subtype is well-formed: its supertypes are indices below 2^32 and fit their count, and its
+-- composite type is well-formed.
 pub record IsSub (s : Sub) : Type 0 where
   pub supertypes : IsEncodableVec (IsUnsignedInRange 32) s.supertypes
   pub composite : IsComposite s.composite
 
--- The entry is well-formed.
+-- The entry is well-formed: each of its subtypes is, and they fit their count.
 abbrev pub IsType : TypeItem → Type 0
 IsType (single s) = IsSub s
 IsType (group subs) = IsEncodableVec IsSub subs
@@ -176,11 +177,11 @@ shape_tags = (0x60, mapped func_of (pair (vec val_type) (vec val_type))) ∷ (0x
 abbrev pub after_shape : ℕ → Format Shape
 after_shape b = choice shape_tags (λ c. impossible) b
 
--- A value with an index before it.
+-- A value that an index precedes.
 abbrev pub given_index : {X : Type 0} → ℕ × X → Option ℕ × X
 given_index parts = (Some parts.0, parts.1)
 
--- A value without an index before it.
+-- A value that no index precedes.
 abbrev pub no_index : {X : Type 0} → X → Option ℕ × X
 no_index x = (None, x)
 
@@ -206,8 +207,8 @@ composite_of is_shared parts = record { shared = is_shared; describes = parts.0;
 abbrev pub after_composite : ℕ → Format Composite
 after_composite b = choice ((0x65, mapped (composite_of true) (tagged byte after_describes)) ∷ []) (λ c. mapped (composite_of false) (after_describes c)) b
 
--- A composite type: 65 if it is shared, 4C and an index, 4D and an index, each optional, and a
--- shape.
+-- A composite type: 0x65 if it is shared, 0x4C and an index, 0x4D and an index, each optional, and
+-- a shape. Core specification, Binary Format, Types, Composite Types; it has only the shape.
 abbrev pub composite_type : Format Composite
 composite_type = tagged byte after_composite
 
@@ -223,13 +224,13 @@ alone_of composite = record { is_final = true; supertypes = []; composite = comp
 abbrev pub supertypes_and : Format (List ℕ × Composite)
 supertypes_and = pair (vec u32) composite_type
 
--- The byte 4F may precede this vector of supertypes and this composite type. The builders' grammar
--- has it where there is a supertype, and the standard's also before an empty vector.
+-- The byte 0x4F may precede this vector of supertypes and this composite type. In the builders'
+-- grammar it does if there is a supertype; in the standard's, also before an empty vector.
 abbrev pub HasFinalPrefix : Grammar → List ℕ × Composite → Type 0
 HasFinalPrefix builders parts = 0 < length parts.0
 HasFinalPrefix admitted parts = Unit {0}
 
--- The formats after 50 and 4F. Any other first byte of a subtype begins its composite type.
+-- The formats after 0x50 and 0x4F. Any other first byte of a subtype begins its composite type.
 abbrev pub sub_tags : Grammar → List (ℕ × Format Sub)
 sub_tags w = (0x50, mapped (sub_of false) supertypes_and) ∷ (0x4F, mapped (sub_of true) (such (HasFinalPrefix w) supertypes_and)) ∷ []
 
@@ -237,12 +238,13 @@ sub_tags w = (0x50, mapped (sub_of false) supertypes_and) ∷ (0x4F, mapped (sub
 abbrev pub after_alone : ℕ → Format Sub
 after_alone b = mapped alone_of (after_composite b)
 
--- A subtype with the prefixes of this grammar: 50, or 4F if it is final, supertypes and a composite
--- type; or a composite type alone.
+-- A subtype with the prefixes of this grammar: 0x50, or 0x4F if it is final, supertypes and a
+-- composite type; or a composite type alone.
 abbrev pub prefixed_sub : Grammar → Format Sub
 prefixed_sub w = tagged byte (choice (sub_tags w) after_alone)
 
 -- A subtype. The minimal encoding of a final type without supertypes is its composite type alone.
+-- Core specification, Binary Format, Types, Recursive Types.
 abbrev pub sub_type : Format Sub
 sub_type = by_mode (prefixed_sub builders) (prefixed_sub builders) (prefixed_sub admitted)
 
@@ -250,11 +252,12 @@ sub_type = by_mode (prefixed_sub builders) (prefixed_sub builders) (prefixed_sub
 abbrev pub after_sub : ℕ → Format Sub
 after_sub b = after_byte sub_type b
 
--- The format after 4E.
+-- The format after the byte 0x4E of a recursion group.
 abbrev pub group_tags : List (ℕ × Format TypeItem)
 group_tags = (0x4E, mapped group (vec sub_type)) ∷ []
 
--- A recursion group: 4E, which begins no subtype, and a vector of subtypes.
+-- A recursion group: 0x4E, which begins no subtype, and a vector of subtypes. Core specification,
+-- Binary Format, Types, Recursive Types.
 abbrev pub group_type : Format TypeItem
 group_type = tagged byte (choice group_tags (λ b. impossible))
 

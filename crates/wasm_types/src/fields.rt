@@ -1,4 +1,4 @@
-// Decoding and minimal encoding of storage and field types.
+// Decoding of storage and field types.
 ghost use Rattle.std.specs.Prelude.{Bool};
 ghost use Rattle.wasm_base.specs.Formats.{coded};
 ghost use Rattle.wasm_types.specs.RecTypes.{mutable_code, storage_type, field_type};

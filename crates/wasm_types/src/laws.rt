@@ -59,8 +59,8 @@ pub fn padded_payloads()
     ensures { DecodesPayloadsPadded (vec type_item) }
 {}
 
-/// These three byte sequences encode no type section in the builders' grammar, with padded numbers
-/// neither. In the first a structure has a field of mutability 2. In the second the byte of a group
+/// These three byte sequences encode no type section in the builders' grammar, not even with padded
+/// numbers. In the first a structure has a field of mutability 2. In the second the byte of a group
 /// is padded. In the third a final type has an empty list of supertypes, which the standard admits.
 #[tactic(auto, using(crate::proofs::RejectionLaws::nothing))]
 pub fn rejections()

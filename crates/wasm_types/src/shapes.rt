@@ -1,4 +1,4 @@
-// Decoding and minimal encoding of composite types.
+// Decoding of composite types.
 ghost use Rattle.std.specs.Prelude.{◌≢◌, IfOk, IfErr};
 ghost use Rattle.wasm_base.specs.Numbers.{padded_of};
 ghost use Rattle.wasm_base.specs.Decoding.{Decodes, Rejects};

@@ -113,7 +113,7 @@ impl<A: Allocator + Copy> TypeSection<A> {
         }
     }
 
-    /// Returns a section of the same entries, in memory of its own.
+    /// Returns a copy of the section in newly allocated memory.
     pub fn clone(&self) -> Result<Self>
         ensures same { IfOk result (λ section. section ≡ self.now) }
         ensures memory { result ≢ Err TooLong }
@@ -227,8 +227,8 @@ impl<'a, A: Allocator> CoreTypeEncoder<'a, A> {
         section.pieces.add_encoded(ty)
     }
 
-    /// Adds a function type of these parameters and results. If there are too many of either, it
-    /// returns `TooLong` and requests none.
+    /// Adds a function type of these parameters and results. If an iterator reports more than
+    /// 4294967295 items, the call returns `TooLong` and requests none, as tests show.
     pub fn function<P: IntoIterator<Item = ValType>, Q: IntoIterator<Item = ValType>>(
         self,
         params: P,
@@ -247,8 +247,8 @@ impl<'a, A: Allocator> CoreTypeEncoder<'a, A> {
         section.pieces.add_once((FUNC, params?, results?))
     }
 
-    /// Adds a structure type of these fields. If there are too many, it returns `TooLong` and
-    /// requests none.
+    /// Adds a structure type of these fields. If the iterator reports more than 4294967295 fields,
+    /// the call returns `TooLong` and requests none, as tests show.
     pub fn struct_<F: IntoIterator<Item = FieldType>>(self, fields: F) -> Result<()>
     where
         F::IntoIter: ExactSizeIterator + Drop,
@@ -260,8 +260,8 @@ impl<'a, A: Allocator> CoreTypeEncoder<'a, A> {
         section.pieces.add_once((STRUCT, fields))
     }
 
-    /// Adds a recursion group: subtypes that may refer to one another. If there are too many, it
-    /// returns `TooLong` and requests none.
+    /// Adds a recursion group: subtypes that may refer to one another. If the iterator reports more
+    /// than 4294967295 subtypes, the call returns `TooLong` and requests none, as tests show.
     pub fn rec<T: IntoIterator<Item = SubType<B>>, B: Allocator>(self, types: T) -> Result<()>
     where
         T::IntoIter: ExactSizeIterator + Drop,
@@ -277,8 +277,8 @@ impl<'a, A: Allocator> CoreTypeEncoder<'a, A> {
 /// The byte before a recursion group.
 pub(crate) const REC: u8 = 0x4E;
 
-/// Decodes the payload of a type section, in the grammar `G`: a count and that many types. They
-/// must occupy all of the bytes.
+/// Decodes the payload of a type section, in the grammar `G`: a count and that many entries, which
+/// occupy all of the bytes.
 ///
 /// # Errors
 ///
@@ -293,8 +293,12 @@ pub fn read_types<'a, A: Allocator + Copy, G: Grammar>(
     read_whole::<'a, Vec<TypeEntry<A>, A>, A, G>(bytes, alloc)
 }
 
-/// Appends the minimal encoding of a type section's payload: the number of types, and the types. On
-/// an error, the sink is unchanged.
+/// Appends the minimal encoding of a type section's payload: the number of types, and the types.
+///
+/// # Errors
+///
+/// Returns [`Refused`](wasm_base::Refused), and leaves the bytes of the sink unchanged, if an
+/// allocation fails. Decoded types never cause `TooLong`.
 #[tactic(auto, using(crate::proofs::MinimalTypes::types_appended))]
 pub fn append_types<A: Allocator, B: Allocator>(
     types: &[TypeEntry<A>],

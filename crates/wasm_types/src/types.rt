@@ -89,7 +89,11 @@ pub struct SubType<A: Allocator = Global> {
 }
 
 impl<A: Allocator + Copy> FuncType<A> {
-    /// Returns a function type of these parameters and results, from iterators.
+    /// Returns a function type of the parameters and results that these iterators yield.
+    ///
+    /// # Errors
+    ///
+    /// Returns [`Memory`](wasm_base::Refused::Memory) if an allocation fails.
     pub fn new<P: IntoIterator<Item = ValType>, Q: IntoIterator<Item = ValType>>(
         alloc: A,
         params: P,
@@ -153,7 +157,7 @@ impl<A: Allocator> FuncType<A> {
     }
 }
 
-/// Returns the same items, in memory of their own.
+/// Returns a copy of the items in newly allocated memory.
 fn copied<T: Copy, A: Allocator + Copy>(items: &Vec<T, A>) -> Result<Vec<T, A>>
     ensures same { IfOk result (λ copies. copies.items ≡ items.now.items) }
     ensures memory { result ≢ Err TooLong }
@@ -164,7 +168,11 @@ fn copied<T: Copy, A: Allocator + Copy>(items: &Vec<T, A>) -> Result<Vec<T, A>>
 impl<A: Allocator + Copy> FuncType<A> {
     ghost use Rattle.wasm_types.specs.Given.{func_in};
 
-    /// Returns the same type, in memory of its own.
+    /// Returns a copy of the type in newly allocated memory.
+    ///
+    /// # Errors
+    ///
+    /// Returns [`Memory`](wasm_base::Refused::Memory) if an allocation fails.
     pub fn clone(&self) -> Result<Self>
         ensures same { IfOk result (λ f. func_in f ≡ func_in self.now) }
         ensures memory { result ≢ Err TooLong }
@@ -177,7 +185,11 @@ impl<A: Allocator + Copy> FuncType<A> {
 }
 
 impl<A: Allocator + Copy> StructType<A> {
-    /// Returns the same type, in memory of its own.
+    /// Returns a copy of the type in newly allocated memory.
+    ///
+    /// # Errors
+    ///
+    /// Returns [`Memory`](wasm_base::Refused::Memory) if an allocation fails.
     pub fn clone(&self) -> Result<Self>
         ensures same { IfOk result (λ s. s.fields.items ≡ self.now.fields.items) }
         ensures memory { result ≢ Err TooLong }
@@ -191,7 +203,11 @@ impl<A: Allocator + Copy> StructType<A> {
 impl<A: Allocator + Copy> CompositeInnerType<A> {
     ghost use Rattle.wasm_types.specs.Given.{shape_in};
 
-    /// Returns the same type, in memory of its own.
+    /// Returns a copy of the type in newly allocated memory.
+    ///
+    /// # Errors
+    ///
+    /// Returns [`Memory`](wasm_base::Refused::Memory) if an allocation fails.
     pub fn clone(&self) -> Result<Self>
         ensures same { IfOk result (λ inner. shape_in inner ≡ shape_in self.now) }
         ensures memory { result ≢ Err TooLong }
@@ -208,7 +224,11 @@ impl<A: Allocator + Copy> CompositeInnerType<A> {
 impl<A: Allocator + Copy> CompositeType<A> {
     ghost use Rattle.wasm_types.specs.Given.{composite_in};
 
-    /// Returns the same type, in memory of its own.
+    /// Returns a copy of the type in newly allocated memory.
+    ///
+    /// # Errors
+    ///
+    /// Returns [`Memory`](wasm_base::Refused::Memory) if an allocation fails.
     pub fn clone(&self) -> Result<Self>
         ensures same { IfOk result (λ c. composite_in c ≡ composite_in self.now) }
         ensures memory { result ≢ Err TooLong }
@@ -225,7 +245,11 @@ impl<A: Allocator + Copy> CompositeType<A> {
 impl<A: Allocator + Copy> SubType<A> {
     ghost use Rattle.wasm_types.specs.Given.{sub_in};
 
-    /// Returns the same type, in memory of its own.
+    /// Returns a copy of the type in newly allocated memory.
+    ///
+    /// # Errors
+    ///
+    /// Returns [`Memory`](wasm_base::Refused::Memory) if an allocation fails.
     pub fn clone(&self) -> Result<Self>
         ensures same { IfOk result (λ s. sub_in s ≡ sub_in self.now) }
         ensures memory { result ≢ Err TooLong }
@@ -410,7 +434,7 @@ struct Before {
     supertype_idx: Option<u32>,
 }
 
-/// Encodes nothing for a final type without supertypes, and otherwise a byte and the vector of its
+/// Encodes nothing for a final type without a supertype, and otherwise a byte and the vector of its
 /// supertypes.
 impl Encode for Before {
     ghost use Rattle.wasm_types.specs.Given.{listed};
@@ -432,7 +456,7 @@ impl Encode for Before {
     }
 }
 
-/// Encodes the subtype's prefix, if it needs one, and the composite type.
+/// Encodes the subtype's prefix, unless it is final without a supertype, and the composite type.
 impl<A: Allocator> Encode for SubType<A> {
     ghost use Rattle.wasm_types.specs.Given.{sub_in, shape_in, IsEncodableShape};
 

@@ -1,4 +1,5 @@
-// Where the library is: `DOLZHYTIK` names the folder of the shared one that rustc builds; or `WASM_C` that of libwasm_c.a, and `KIT_C` that of liblibc_c.a.
+// Where the library is: `DOLZHYTIK` names the folder of the shared one that rustc builds; or
+// `WASM_C` that of libwasm_c.a, and `KIT_C` that of liblibc_c.a.
 use std::env;
 
 fn main() {

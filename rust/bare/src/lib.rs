@@ -1,5 +1,5 @@
-//! A static library without `std`, with a panic handler and an allocator of its own, for the program
-//! `main.c`. All that is `unsafe` is in this file; `adding` builds the module.
+//! A static library without `std`, with a panic handler and an allocator of its own, for the
+//! program `main.c`. All that is `unsafe` is in this file; `adding` builds the module.
 #![no_std]
 
 extern crate alloc;
@@ -31,15 +31,16 @@ static HEAP: Heap = Heap {
 unsafe impl Sync for Heap {}
 
 impl Heap {
-    /// The offset in the array at which an allocation of this layout begins, where `used` bytes are taken.
+    /// Returns the offset in the array of an allocation of this layout, if `used` bytes are in
+    /// use.
     fn begin(&self, used: usize, layout: Layout) -> usize {
         let first = self.bytes.get().addr();
         (first + used).next_multiple_of(layout.align()) - first
     }
 }
 
-// SAFETY: `alloc` returns null, or an aligned pointer to as many bytes of the array as the layout has,
-// which no other allocation has.
+// SAFETY: `alloc` returns null, or an aligned pointer to as many bytes of the array as the layout
+// has, which no other allocation has.
 unsafe impl GlobalAlloc for Heap {
     unsafe fn alloc(&self, layout: Layout) -> *mut u8 {
         let take = |used| {
@@ -67,8 +68,8 @@ fn stop(_: &PanicInfo) -> ! {
     loop {}
 }
 
-/// Writes a module that adds two numbers, and returns its size. Writes nothing where the module has
-/// more than `out_len` bytes.
+/// Writes a module that adds two numbers, and returns its size in bytes. Writes nothing if the
+/// module has more than `out_len` bytes.
 ///
 /// # Safety
 ///

@@ -1,4 +1,5 @@
-//! The workloads of `bench/` in the build by rustc: the border by which the drivers call them as they call those of the proved build.
+//! The workloads of `bench/` in the build by rustc. The drivers call them as those of the proved
+//! build.
 use calls::{code, data, decoding, exports, functions, imports, line, name_section, types};
 use dolzhytik::fallible::Global;
 use std::slice;
@@ -8,12 +9,14 @@ use std::slice;
 #[rustfmt::skip]
 mod calls;
 
-/// Writes the function that a driver calls for a workload: lists and their lengths, numbers, and the room for the answer.
+/// Defines the function that a driver calls for a workload. Its arguments are lists with their
+/// lengths, numbers, and the buffer of the result.
 macro_rules! workload {
     ($name:ident of $module:ident: [$($list:ident $len:ident: $item:ty),*] [$($number:ident),*] [$($out:ident $out_len:ident)?]) => {
         /// # Safety
         ///
-        /// Each pointer is valid for as many items as its length says, and what is written overlaps nothing else.
+        /// Each pointer is valid for as many items as its length says, and the memory that is
+        /// written overlaps nothing else.
         #[unsafe(no_mangle)]
         pub unsafe extern "C" fn $name(
             $($list: *const $item, $len: usize,)*

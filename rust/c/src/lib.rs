@@ -1,6 +1,7 @@
 //! The functions of `dolzhytik.h` on any platform.
 //!
-//! They turn pointers and lengths into slices, and call [`calls`], which `tools/to-rust` writes from the proved source.
+//! They turn pointers and lengths into slices, and call [`calls`], which `tools/to-rust` writes
+//! from the proved source.
 use calls::{DzOutlined, DzSection, causes, listing, minimal, outlining, recipes, whole};
 use dolzhytik::fallible::Global;
 use std::slice;
@@ -42,7 +43,8 @@ unsafe fn output<'a, T>(first: *mut T, len: usize) -> &'a mut [T] {
 ///
 /// # Safety
 ///
-/// As the header says: pointers are valid for their lengths, and the memory that is written overlaps nothing else.
+/// As the header says: pointers are valid for their lengths, and the memory that is written
+/// overlaps nothing else.
 #[unsafe(no_mangle)]
 pub unsafe extern "C" fn dz_assemble(
     recipe: *const u8,
@@ -61,7 +63,8 @@ pub unsafe extern "C" fn dz_assemble(
 ///
 /// # Safety
 ///
-/// As the header says: pointers are valid for their lengths, and the memory that is written overlaps nothing else.
+/// As the header says: pointers are valid for their lengths, and the memory that is written
+/// overlaps nothing else.
 #[unsafe(no_mangle)]
 pub unsafe extern "C" fn dz_assemble_versioned(
     recipe: *const u8,
@@ -80,7 +83,8 @@ pub unsafe extern "C" fn dz_assemble_versioned(
 ///
 /// # Safety
 ///
-/// As the header says: pointers are valid for their lengths, and the memory that is written overlaps nothing else.
+/// As the header says: pointers are valid for their lengths, and the memory that is written
+/// overlaps nothing else.
 #[unsafe(no_mangle)]
 pub unsafe extern "C" fn dz_list(
     module: *const u8,
@@ -95,11 +99,12 @@ pub unsafe extern "C" fn dz_list(
     listing::dz_list(Global, module, out, place, cause)
 }
 
-/// Writes the minimal text of a section.
+/// Writes the minimal encoding of a section.
 ///
 /// # Safety
 ///
-/// As the header says: pointers are valid for their lengths, and the memory that is written overlaps nothing else.
+/// As the header says: pointers are valid for their lengths, and the memory that is written
+/// overlaps nothing else.
 #[unsafe(no_mangle)]
 pub unsafe extern "C" fn dz_shorten(
     kind: u32,
@@ -119,7 +124,8 @@ pub unsafe extern "C" fn dz_shorten(
 ///
 /// # Safety
 ///
-/// As the header says: pointers are valid for their lengths, and the memory that is written overlaps nothing else.
+/// As the header says: pointers are valid for their lengths, and the memory that is written
+/// overlaps nothing else.
 #[unsafe(no_mangle)]
 pub unsafe extern "C" fn dz_outline(
     module: *const u8,
@@ -134,11 +140,12 @@ pub unsafe extern "C" fn dz_outline(
     outlining::dz_outline(Global, module, out, place, cause)
 }
 
-/// Writes the minimal text of a module.
+/// Writes a module with each section in its minimal encoding.
 ///
 /// # Safety
 ///
-/// As the header says: pointers are valid for their lengths, and the memory that is written overlaps nothing else.
+/// As the header says: pointers are valid for their lengths, and the memory that is written
+/// overlaps nothing else.
 #[unsafe(no_mangle)]
 #[allow(clippy::too_many_arguments, reason = "a slice is two of them")]
 pub unsafe extern "C" fn dz_shorten_module(
@@ -156,21 +163,23 @@ pub unsafe extern "C" fn dz_shorten_module(
     whole::dz_shorten_module(Global, module, drop_offsets, out, kept, place, cause)
 }
 
-/// The text of a cause of the other calls.
+/// Writes the message of a cause of the calls for sections and modules.
 ///
 /// # Safety
 ///
-/// As the header says: the pointer is valid for its length, and nobody else reads or writes what is written.
+/// As the header says: the pointer is valid for its length, and nobody else reads or writes the
+/// memory that is written.
 #[unsafe(no_mangle)]
 pub unsafe extern "C" fn dz_cause(cause: u32, out: *mut u8, out_len: usize) -> u64 {
     causes::dz_cause(cause, unsafe { output(out, out_len) })
 }
 
-/// The text of a cause of `dz_assemble`.
+/// Writes the message of a cause of the calls for recipes.
 ///
 /// # Safety
 ///
-/// As the header says: the pointer is valid for its length, and nobody else reads or writes what is written.
+/// As the header says: the pointer is valid for its length, and nobody else reads or writes the
+/// memory that is written.
 #[unsafe(no_mangle)]
 pub unsafe extern "C" fn dz_recipe_cause(cause: u32, out: *mut u8, out_len: usize) -> u64 {
     causes::dz_recipe_cause(cause, unsafe { output(out, out_len) })

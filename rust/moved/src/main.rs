@@ -1,4 +1,5 @@
-//! A small compiler that is written for the Rust crate `wasm-encoder`. It reads a program and writes its module.
+//! A small compiler that is written for the Rust crate `wasm-encoder`. It reads a program and
+//! writes its module.
 //!
 //! A program is a list of functions. All values are integers of 32 bits, and each form gives one.
 use std::borrow::Cow;

@@ -83,7 +83,7 @@ pub trait Counted<T>: Section {
 ///
 /// # Proved
 ///
-/// The builder gains all items; or it gains as many as the error reports, and the next item fails. The error is `TooLong` if the builder is full, and only then if the item fits.
+/// The builder gains all items; or it gains as many as the error reports, and the next item fails. If the builder is full, the error is `TooLong`; if it is not and that item fits, it is another.
 ///
 /// ```text
 /// ensures { AddsAll B.item_encoding B.item_encodable items.now (B.pieces builder.old)

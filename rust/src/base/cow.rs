@@ -50,11 +50,11 @@ impl<'a, T, A: Allocator> CowSlice<'a, T, A> {
 }
 
 impl<'a, T: Copy, A: Allocator + Copy> CowSlice<'a, T, A> {
-    /// Returns the same items, and copies owned ones into memory of their own.
+    /// Returns a copy: borrowed items stay borrowed, and owned ones are copied to a new `Vec`.
     ///
     /// # Errors
     ///
-    /// Returns [`Memory`](crate::fallible::Refused::Memory) if an allocation fails.
+    /// Returns [`Memory`](crate::base::Refused::Memory) if an allocation fails.
     ///
     /// # Proved
     ///
@@ -121,10 +121,10 @@ impl<'a, A: Allocator> CowStr<'a, A> {
     /// # Proved
     ///
     /// ```text
-    /// ensures { result.now ≡ encoding_of self.now }
+    /// ensures { result.now ≡ utf8_of self.now }
     /// ```
     ///
-    /// Definitions: [`encoding_of`](crate::definitions::base::cow::encoding_of). [How to read clauses](crate::definitions).
+    /// Definitions: [`utf8_of`](crate::definitions::base::cow::utf8_of). [How to read clauses](crate::definitions).
     pub fn as_str(&self) -> &str {
         match self {
             CowStr::Borrowed(encoding) => encoding,
@@ -134,22 +134,23 @@ impl<'a, A: Allocator> CowStr<'a, A> {
 }
 
 impl<'a, A: Allocator + Copy> CowStr<'a, A> {
-    /// Returns the same string, and copies an owned one into memory of its own.
+    /// Returns a copy: a borrowed string stays borrowed, and an owned one is copied to a new
+    /// `String`.
     ///
     /// # Errors
     ///
-    /// Returns [`Memory`](crate::fallible::Refused::Memory) if an allocation fails.
+    /// Returns [`Memory`](crate::base::Refused::Memory) if an allocation fails.
     ///
     /// # Proved
     ///
-    /// After `Ok`: `same`, the result has the same content. In any case: `memory`, no error is `TooLong`.
+    /// After `Ok`: `same`. In any case: `memory`, no error is `TooLong`.
     ///
     /// ```text
-    /// ensures same { IfOk result (λ cow. encoding_of cow ≡ encoding_of self.now) }
+    /// ensures same { IfOk result (λ cow. utf8_of cow ≡ utf8_of self.now) }
     /// ensures memory { result ≢ Err Refused.TooLong }
     /// ```
     ///
-    /// Definitions: [`encoding_of`](crate::definitions::base::cow::encoding_of). [How to read clauses](crate::definitions).
+    /// Definitions: [`utf8_of`](crate::definitions::base::cow::utf8_of). [How to read clauses](crate::definitions).
     pub fn clone(&self) -> Result<Self> {
         match self {
             CowStr::Borrowed(encoding) => Ok(CowStr::Borrowed(encoding)),
@@ -166,11 +167,11 @@ impl<'a, A: Allocator + Copy> CowStr<'a, A> {
 /// # Defined
 ///
 /// ```text
-/// encoding = { λ cow. size_prefixed_encoding (encoding_of cow) }
-/// encodable = { λ cow. HasEncodableSize (encoding_of cow) }
+/// encoding = { λ cow. size_prefixed_encoding (utf8_of cow) }
+/// encodable = { λ cow. HasEncodableSize (utf8_of cow) }
 /// ```
 ///
-/// Definitions: [`size_prefixed_encoding`](crate::definitions::base::encodings::size_prefixed_encoding), [`encoding_of`](crate::definitions::base::cow::encoding_of), [`HasEncodableSize`](crate::definitions::base::encodings::HasEncodableSize). [How to read clauses](crate::definitions).
+/// Definitions: [`size_prefixed_encoding`](crate::definitions::base::encodings::size_prefixed_encoding), [`utf8_of`](crate::definitions::base::cow::utf8_of), [`HasEncodableSize`](crate::definitions::base::encodings::HasEncodableSize). [How to read clauses](crate::definitions).
 impl<A: Allocator> Encode for CowStr<'_, A> {
     fn encode<B: Sink>(&self, sink: &mut B) -> Result<()> {
         self.as_str().encode(sink)

@@ -38,7 +38,7 @@ pub enum ReadFault {
     Memory,
 }
 
-/// The cause of a failed decoding, and its place.
+/// The cause of a failed decoding, and the number of bytes left at the failure.
 ///
 /// Both are in one number of 64 bits, so that a result with a slice has two words, and the slice's
 /// address is moved as a whole.
@@ -60,7 +60,7 @@ pub enum ReadFault {
 /// ```
 #[derive(Clone, Copy, PartialEq, Eq)]
 pub struct DecodeError {
-    /// The place times 256, and the number of the cause.
+    /// The number of bytes left times 256, plus the number of the cause.
     word: u64,
 }
 
@@ -102,7 +102,7 @@ impl ReadFault {
 }
 
 impl DecodeError {
-    /// Returns the error with this cause and this place.
+    /// Returns the error with this cause and this number of bytes left.
     ///
     /// # Proved
     ///
@@ -139,9 +139,10 @@ impl DecodeError {
         }
     }
 
-    /// Returns the place: the number of bytes from the first one that cannot be part of an encoding
-    /// to the end of the input, or from the end of a payload that ends too soon; 4294967295 if
-    /// there are more. It means nothing for `Memory`. Tests show it; no contract says it.
+    /// Returns the number of bytes left, from the first byte that cannot be part of an encoding to
+    /// the end of the input. If a payload ends too soon, the count begins at the payload's end.
+    /// The number saturates at 4294967295, and means nothing for `Memory`. Tests show it; no
+    /// contract says it.
     ///
     /// # Proved
     ///
@@ -175,7 +176,7 @@ impl fmt::Debug for DecodeError {
     }
 }
 
-/// Returns the error of a failed allocation, which has no place.
+/// Returns the error of a failed allocation, with no bytes left.
 ///
 /// # Proved
 ///
@@ -217,7 +218,7 @@ impl<T> From<AllocFailed<T>> for DecodeError {
 /// An error of a call that appends becomes `Memory`. Such a call never returns `TooLong` for a
 /// value that has an encoding, as each decoded value has (`too_long` of
 /// [`Shorten`](crate::base::Shorten)). A body that is passed without its size may be too long for a size
-/// prefix: that becomes `Memory` too.
+/// prefix: that error becomes `Memory` too.
 ///
 /// # Defined
 ///
@@ -289,14 +290,14 @@ impl From<DecodeError> for ReadFault {
 impl ::core::fmt::Display for ReadFault {
     fn fmt(&self, f: &mut ::core::fmt::Formatter<'_>) -> ::core::fmt::Result {
         match self {
-            Self::Ended => f.write_str("Ended"),
-            Self::NotShortest => f.write_str("NotShortest"),
-            Self::TooLarge => f.write_str("TooLarge"),
-            Self::UnknownTag => f.write_str("UnknownTag"),
-            Self::UnknownOpcode => f.write_str("UnknownOpcode"),
-            Self::NotUtf8 => f.write_str("NotUtf8"),
-            Self::SizeMismatch => f.write_str("SizeMismatch"),
-            Self::Memory => f.write_str("Memory"),
+            Self::Ended => f.write_str("unexpected end of input"),
+            Self::NotShortest => f.write_str("padded integer"),
+            Self::TooLarge => f.write_str("integer too large"),
+            Self::UnknownTag => f.write_str("unexpected byte or value"),
+            Self::UnknownOpcode => f.write_str("unknown opcode"),
+            Self::NotUtf8 => f.write_str("invalid UTF-8"),
+            Self::SizeMismatch => f.write_str("bytes remain after the value"),
+            Self::Memory => f.write_str("out of memory"),
         }
     }
 }

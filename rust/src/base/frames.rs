@@ -16,9 +16,8 @@ use crate::alloc::Allocator;
 ///
 /// # Errors
 ///
-/// Returns [`TooLong`](crate::fallible::Refused::TooLong) if a count or length would pass
-/// 4294967295, and [`Memory`](crate::fallible::Refused::Memory) if an allocation fails. The
-/// bytes of the sink are then unchanged.
+/// Returns [`Refused::TooLong`] if the size exceeds 4294967295, and [`Refused::Memory`] if an
+/// allocation fails. The bytes of the sink are unchanged in both cases.
 ///
 /// # Examples
 ///
@@ -66,9 +65,8 @@ const SHORT: usize = 0x80;
 ///
 /// # Errors
 ///
-/// Returns [`TooLong`](crate::fallible::Refused::TooLong) if a count or length would pass
-/// 4294967295, and [`Memory`](crate::fallible::Refused::Memory) if an allocation fails. The
-/// bytes of the sink are then unchanged.
+/// Returns [`Refused::TooLong`] if there are more than 4294967295 bytes, and [`Refused::Memory`] if
+/// an allocation fails. The bytes of the sink are unchanged in both cases.
 ///
 /// # Examples
 ///
@@ -131,9 +129,8 @@ fn encode_long_payload<A: Sink>(sink: &mut A, bytes: &[u8]) -> Result<()> {
 ///
 /// # Errors
 ///
-/// Returns [`TooLong`](crate::fallible::Refused::TooLong) if a count or length would pass
-/// 4294967295, and [`Memory`](crate::fallible::Refused::Memory) if an allocation fails. The
-/// bytes of the sink are then unchanged.
+/// Returns [`Refused::TooLong`] if the size exceeds 4294967295, and [`Refused::Memory`] if an
+/// allocation fails. The bytes of the sink are unchanged in both cases.
 ///
 /// # Examples
 ///
@@ -218,9 +215,8 @@ impl<'a, A: Allocator + Copy, G: Grammar, T: Readable<'a, A, G>> Readable<'a, A,
 ///
 /// # Errors
 ///
-/// Returns [`TooLong`](crate::fallible::Refused::TooLong) if a count or length would pass
-/// 4294967295, and [`Memory`](crate::fallible::Refused::Memory) if an allocation fails. The
-/// bytes of the sink are then unchanged.
+/// Returns [`Refused::TooLong`] only if there are more than 4294967295 such bytes, and
+/// [`Refused::Memory`] if an allocation fails. The bytes of the sink are unchanged in both cases.
 ///
 /// # Examples
 ///

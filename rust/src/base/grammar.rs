@@ -31,7 +31,7 @@
 ///
 /// Definitions: [`GrammarOf`](crate::definitions::base::numbers::Grammar). [How to read clauses](crate::definitions).
 pub trait Grammar {
-    // The grammar, as formats take it.
+    // The grammar, from which `minimal_of` and `padded_of` select the mode of a format.
 
     /// Returns `true` if all encodings that the standard admits are accepted.
     ///

@@ -1,7 +1,7 @@
 // Written by tools/to-rust from crates/wasm_base/src/kind.rt: change that.
 // The trait `Kind`: how the items of a section are encoded, and to which values they decode.
 
-/// A kind of items, as a section of counted items has them.
+/// A kind of items, such as those of a counted section.
 ///
 /// [`ItemKind`](crate::fallible::ItemKind) is a kind of core sections, and
 /// [`CustomKind`](crate::fallible::CustomKind) one of custom sections. A kind has no value: it

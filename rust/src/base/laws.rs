@@ -139,7 +139,7 @@ pub fn padded_payloads() {}
 pub fn types() {}
 
 /// In the standard's grammar, the byte of an abstract heap type is the minimal encoding of the
-/// nullable reference type to it. In the builders' grammar only 70 and 6F are.
+/// nullable reference type to it. In the builders' grammar only 0x70 and 0x6F are.
 ///
 /// # Proved
 ///

@@ -171,8 +171,8 @@ fn put_two_groups<A: Sink>(sink: &mut A, negative: bool, limit: u64, n: u64) {
 /// The most groups that a number of 64 bits has.
 const MOST_GROUPS: usize = 10;
 
-/// Appends the several groups of `n`. With spare capacity for `MOST_GROUPS` the groups are not
-/// counted first, and two groups are written without a loop.
+/// Appends the groups of `n`, of which there are at least two. With spare capacity for
+/// `MOST_GROUPS` they are not counted first, and two groups are written without a loop.
 ///
 /// # Asks
 ///
@@ -212,7 +212,7 @@ fn append_groups<A: Sink>(
     Ok(())
 }
 
-/// Appends the groups of `n`, after one request for exactly the memory that they take.
+/// Appends the groups of `n`, which are counted first so that one reservation suffices.
 ///
 /// # Asks
 ///
@@ -318,6 +318,8 @@ fn append_unsigned<A: Sink>(sink: &mut A, n: u64) -> Result<()> {
     append_long_unsigned(sink, n)
 }
 
+/// Appends a signed number. Most have one byte, which is written here without a call.
+///
 /// # Proved
 ///
 /// The call appends the encoding, or returns an error and leaves the bytes as they were. If the value fits, the call never returns `TooLong`, and it succeeds within the spare capacity.
@@ -372,7 +374,7 @@ impl Encode for u64 {
     }
 }
 
-/// Encodes a count or a length as unsigned LEB128. A number above 4294967295 is `TooLong`.
+/// Encodes a count or a length as unsigned LEB128. Returns `TooLong` for a number above 4294967295.
 ///
 /// # Defined
 ///
@@ -585,7 +587,7 @@ fn signed_byte(group: u8) -> i16 {
     }
 }
 
-/// At most five groups, as in [`Groups`], in 64 bits.
+/// At most five groups, with the fields of [`Groups`] in 64 bits.
 #[derive(Clone, Copy)]
 struct FewGroups {
     sum: u64,
@@ -874,6 +876,10 @@ impl<'a, A: Allocator + Copy, G: Grammar> Readable<'a, A, G> for i64 {
 
 /// Decodes an index, encoded as a signed number of 33 bits. Negative numbers encode types, whose
 /// known bytes the caller has already matched.
+///
+/// # Errors
+///
+/// Any error but `Memory` means that no such index is at the front.
 ///
 /// # Proved
 ///

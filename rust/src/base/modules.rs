@@ -85,11 +85,11 @@ impl<A: Allocator> Module<A> {
         section.append_to(&mut self.bytes)
     }
 
-    /// Returns a module of the same bytes, in memory of its own.
+    /// Returns a copy of the module in newly allocated memory.
     ///
     /// # Errors
     ///
-    /// Returns [`Memory`](crate::fallible::Refused::Memory) if an allocation fails.
+    /// Returns [`Memory`](crate::base::Refused::Memory) if an allocation fails.
     ///
     /// # Proved
     ///

@@ -252,7 +252,7 @@ const COUNT_BYTES: usize = 5;
 /// The number of bytes of a short run that are copied at a time.
 const BLOCK: usize = 16;
 
-/// The length limit of a short run, in bytes.
+/// The most bytes of a run that is copied in blocks.
 const SHORT: usize = 256;
 
 /// Returns the next `BLOCK` bytes of an iterator that has that many. Only their number is tested,
@@ -286,8 +286,8 @@ fn next_block<I: Iterator<Item = u8>>(items: &mut I) -> [u8; BLOCK] {
     block
 }
 
-/// Appends a short run but for its last few bytes, one block at a time, and nothing of a long run.
-/// The sink has spare capacity for the run.
+/// Appends a short run except its last few bytes, one block at a time, and nothing of a long run.
+/// The sink has spare capacity for the whole run.
 ///
 /// # Asks
 ///

@@ -258,7 +258,7 @@ impl<A: Allocator> Pieces<A> {
 }
 
 impl<A: Allocator + Copy> Pieces<A> {
-    /// Returns no entries, without an allocation.
+    /// Returns a buffer without entries. It allocates nothing.
     ///
     /// # Proved
     ///
@@ -276,11 +276,11 @@ impl<A: Allocator + Copy> Pieces<A> {
         }
     }
 
-    /// Returns the same entries, in memory of their own.
+    /// Returns a copy of the entries in newly allocated memory.
     ///
     /// # Errors
     ///
-    /// Returns [`Memory`](crate::fallible::Refused::Memory) if an allocation fails.
+    /// Returns [`Refused::Memory`] if an allocation fails, and never [`Refused::TooLong`].
     ///
     /// # Proved
     ///

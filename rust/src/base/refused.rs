@@ -4,8 +4,8 @@
 use crate::alloc::{AllocError, AllocFailed};
 use core::result;
 
-/// The error of a call that appends to a sink or adds to a builder. Unless its documentation says
-/// otherwise, such a call changes nothing.
+/// The error of a call that appends to a sink or adds to a builder. A call that returns it changes
+/// nothing, unless its documentation says otherwise.
 ///
 /// # Examples
 ///

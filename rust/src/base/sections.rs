@@ -59,13 +59,12 @@ pub trait Section: Encode {
     /// [How to read clauses](crate::definitions).
     fn id(&self) -> u8;
 
-    /// Appends the id and the encoding. On an error, the bytes of `dst` are unchanged.
+    /// Appends the id and the encoding.
     ///
     /// # Errors
     ///
-    /// Returns [`TooLong`](crate::fallible::Refused::TooLong) if a count or length would pass
-    /// 4294967295, and [`Memory`](crate::fallible::Refused::Memory) if an allocation fails. The
-    /// bytes of the sink are then unchanged.
+    /// Returns [`Refused`], and leaves the bytes of `dst` unchanged, if the section is too long or
+    /// an allocation fails.
     ///
     /// # Proved
     ///

@@ -46,13 +46,12 @@ pub trait Shorten: Layout {
     /// Definitions: [`AppendsMinimal`](crate::definitions::base::minimal::AppendsMinimal), [`IsFrontOf`](crate::definitions::base::minimal::IsFrontOf), [`HasEncoding`](crate::definitions::base::minimal::HasEncoding). [How to read clauses](crate::definitions).
     fn write_minimal<B: Sink>(&self, sink: &mut B) -> Result<()>;
 
-    /// Appends the minimal encoding of the value. On an error, the sink is unchanged.
+    /// Appends the minimal encoding of the value.
     ///
     /// # Errors
     ///
-    /// Returns [`TooLong`](crate::fallible::Refused::TooLong) if a count or length would pass
-    /// 4294967295, and [`Memory`](crate::fallible::Refused::Memory) if an allocation fails. The
-    /// bytes of the sink are then unchanged.
+    /// Returns [`Refused`](crate::base::Refused), and leaves the bytes of the sink unchanged, if an
+    /// allocation fails. A decoded value never causes `TooLong`.
     ///
     /// # Proved
     ///

@@ -44,7 +44,7 @@ pub trait Skip<'a, A: Allocator + Copy, G: Grammar>: Layout {
     fn skip(bytes: &'a [u8], alloc: A) -> Result<&'a [u8], DecodeError>;
 }
 
-/// A value that is decoded, and dropped at once.
+/// A value that is skipped by decoding it, for types without a cheaper `skip`.
 ///
 /// It makes a [`Readable`](crate::reader::Readable) value one to skip.
 ///

@@ -242,8 +242,8 @@ impl Encode for HeapType {
 }
 
 impl RefType {
-    /// Appends the byte that says whether null is admitted, and the heap type. Out of line: most
-    /// reference types have a byte of their own.
+    /// Appends the byte for the nullability, and the heap type. Out of line, since most reference
+    /// types have a byte of their own.
     ///
     /// # Proved
     ///
@@ -321,7 +321,7 @@ impl Encode for ValType {
     }
 }
 
-/// Returns the abstract heap type of this byte.
+/// Returns the abstract heap type that the byte encodes, or `None` if it encodes none.
 ///
 /// # Proved
 ///
@@ -430,7 +430,7 @@ fn has_own_byte(heap: HeapType) -> bool {
     }
 }
 
-/// Returns `true` if the byte 63 may precede the heap type of a nullable reference type.
+/// Returns `true` if the byte 0x63 may precede the heap type of a nullable reference type.
 ///
 /// # Proved
 ///
@@ -447,8 +447,8 @@ fn has_long_form<G: Grammar>(heap: HeapType) -> bool {
     !has_own_byte(heap)
 }
 
-/// Returns the reference type that the byte encodes by the standard, if the grammar is the
-/// standard's.
+/// Returns the nullable reference type that the byte alone encodes in the standard's grammar.
+/// Returns `None` for any other byte, and in the builders' grammar.
 ///
 /// # Proved
 ///
@@ -548,6 +548,10 @@ impl<'a, A: Allocator + Copy, G: Grammar> Readable<'a, A, G> for RefType {
 }
 
 /// Decodes a value type after its first byte, `tag`.
+///
+/// # Errors
+///
+/// Any error but `Memory` means that no value type is at the front of `tag` and the bytes.
 ///
 /// # Proved
 ///

@@ -37,14 +37,12 @@ impl<T: Encode> Encode for &[T] {
 }
 
 /// Appends the elements as a vector: the length that their iterator reports, and then each element.
-/// On an error, the bytes of the sink are unchanged. If the reported length exceeds 4294967295, the
-/// call returns `TooLong`, and requests no element, as tests show.
 ///
 /// # Errors
 ///
-/// Returns [`TooLong`](crate::fallible::Refused::TooLong) if a count or length would pass
-/// 4294967295, and [`Memory`](crate::fallible::Refused::Memory) if an allocation fails. The
-/// bytes of the sink are then unchanged.
+/// Returns [`Refused`](crate::base::Refused), and leaves the bytes of the sink unchanged, if an element
+/// does not fit or an allocation fails. If the reported length exceeds 4294967295, the call returns
+/// `TooLong`, and requests no element, as tests show.
 ///
 /// # Examples
 ///
@@ -71,7 +69,7 @@ impl<T: Encode> Encode for &[T] {
 ///
 /// # Proved
 ///
-/// The call appends the vector of the items that the iterator yields, or returns an error and leaves the bytes as they were. More than 2^32 - 1 items give `TooLong`.
+/// The call appends the vector of the items that the iterator yields, or returns an error and leaves the bytes as they were. It returns `TooLong` if the iterator reports more than 2^32 - 1 items.
 ///
 /// ```text
 /// ensures { AppendsVec V.into_iter_gives V.IntoIter.next_gives V.IntoIter.remaining
@@ -147,16 +145,14 @@ fn write_all<T: Shorten, B: Sink>(items: &[T], sink: &mut B) -> Result<()> {
     Ok(())
 }
 
-/// Appends the minimal encodings of the values, one after another. On an error, the sink is
-/// unchanged.
+/// Appends the minimal encodings of the values, one after another.
 ///
 /// The number of items is not among them.
 ///
 /// # Errors
 ///
-/// Returns [`TooLong`](crate::fallible::Refused::TooLong) if a count or length would pass
-/// 4294967295, and [`Memory`](crate::fallible::Refused::Memory) if an allocation fails. The
-/// bytes of the sink are then unchanged.
+/// Returns [`Refused`](crate::base::Refused), and leaves the bytes of the sink unchanged, if an
+/// allocation fails. Decoded values never cause `TooLong`.
 ///
 /// # Examples
 ///

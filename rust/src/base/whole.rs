@@ -49,8 +49,8 @@ pub fn read_whole<'a, T: Readable<'a, A, G>, A: Allocator + Copy, G: Grammar>(
     }
 }
 
-/// Decodes a value that occupies all of the bytes. Further bytes follow in the input, from which
-/// the place of an error counts.
+/// Decodes a value that occupies all of `bytes`, which `rest` follows in the input. The number of
+/// bytes left in an error includes those of `rest`.
 ///
 /// [`left`](crate::reader::DecodeError::left) of an error counts the bytes of `rest` too, as
 /// the example shows.

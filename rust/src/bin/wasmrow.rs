@@ -1,14 +1,15 @@
-//! Reads a recipe from standard input and writes the module in hexadecimal; with `--read` it goes the other way.
+//! Reads a recipe from standard input and writes the module in hexadecimal. With `--read` it lists
+//! the sections of a module in hexadecimal.
 use dolzhytik::fallible::recipe::run;
 use dolzhytik::fallible::{AllocError, Global, String};
 use std::env;
 use std::io::{self, IsTerminal};
 use std::process::ExitCode;
 
-/// What a build by rustc says where somebody looks on.
+/// The note that a build by rustc prints on a terminal.
 const UNPROVED: &str = "wasmrow: compiled by rustc from the proved source, and not proved on this machine: ./check does that";
 
-/// The words after the program's name. One that is no text is none that the program knows.
+/// The arguments after the program's name. One that is not UTF-8 becomes an unknown argument.
 fn words() -> Result<Vec<String>, AllocError> {
     env::args_os()
         .skip(1)

@@ -96,7 +96,8 @@ impl<A: Allocator> CodeSection<A> {
         self.pieces.is_empty()
     }
 
-    /// Returns the bytes of the entry at `index`: a raw body with its size prefix.
+    /// Returns the bytes of the entry at `index`, a raw body with its size prefix, or `None` if
+    /// there is no such entry.
     ///
     /// # Proved
     ///
@@ -176,7 +177,7 @@ impl<A: Allocator + Copy> CodeSection<A> {
         }
     }
 
-    /// Returns a section of the same bodies, in memory of its own.
+    /// Returns a copy of the section in newly allocated memory.
     ///
     /// # Errors
     ///

@@ -2,6 +2,7 @@
 // Constant expressions: the initializers of globals, tables and segments.
 
 use crate::vec::{Sink, Vec};
+use crate::code::expression::END;
 use crate::code::first::First;
 use crate::code::function::append_all;
 use crate::alloc::{Allocator, Global};
@@ -20,8 +21,8 @@ use crate::insn::{Ieee32, Ieee64, Instruction, InstructionSink};
 ///
 /// # Errors
 ///
-/// Its calls return `Memory` if an allocation fails. `extended` alone can return `TooLong`: then an
-/// instruction has a list that is too long.
+/// Calls return `Memory` if an allocation fails. Only `extended` can return `TooLong`: if a list in
+/// an instruction is too long. A call that consumes an expression drops it on an error.
 ///
 /// # Examples
 ///
@@ -162,7 +163,7 @@ impl<A: Allocator> ConstExpr<A> {
         Ok(ConstExpr { first: None, bytes })
     }
 
-    /// Returns the instructions that these bytes encode, and allocates nothing.
+    /// Returns the expression whose stored bytes these are, and allocates nothing.
     ///
     /// # Proved
     ///
@@ -695,7 +696,7 @@ impl<A: Allocator> ConstExpr<A> {
         Ok(self)
     }
 
-    /// Returns the index of `RefFunc`, if the expression begins with it.
+    /// Returns the index of `RefFunc` if the expression begins with it, and `None` otherwise.
     ///
     /// # Examples
     ///
@@ -724,7 +725,7 @@ impl<A: Allocator> ConstExpr<A> {
     }
 }
 
-/// Returns the index of `RefFunc`, if the bytes begin with it.
+/// Returns the index of `RefFunc` if the bytes begin with it, and `None` otherwise.
 ///
 /// # Proved
 ///
@@ -752,7 +753,7 @@ pub(crate) fn function_at_front(bytes: &[u8]) -> Option<u32> {
     }
 }
 
-/// Appends the encodings of the elements.
+/// Appends the encodings of the elements. After an error, some of them may be in the sink.
 ///
 /// # Asks
 ///
@@ -786,7 +787,7 @@ fn encode_each<T: Encode, I: IntoIterator<Item = T>, A: Sink>(
 }
 
 impl<A: Allocator + Copy> ConstExpr<A> {
-    /// Returns the same expression, in memory of its own.
+    /// Returns a copy of the expression in newly allocated memory.
     ///
     /// # Errors
     ///
@@ -831,9 +832,6 @@ impl Encode for Stored<'_> {
         Ok(())
     }
 }
-
-/// The opcode of `End`.
-pub(crate) const END: u8 = 0x0B;
 
 /// Encodes the stored bytes, and `End`.
 ///

@@ -26,6 +26,24 @@ pub(crate) const END: u8 = 0x0B;
 /// assert_eq!(rest, [0xFF]);
 /// # Ok::<(), dolzhytik::reader::DecodeError>(())
 /// ```
+///
+/// [`ConstExpr::extended`](crate::ConstExpr::extended) makes an expression of values again:
+///
+/// ```
+/// use dolzhytik::fallible::Global;
+/// use dolzhytik::reader::{Expression, Padded, Readable};
+/// use dolzhytik::{ConstExpr, Encode, Instruction};
+///
+/// // i32.const 7, with a padded number; end.
+/// let (Expression(code), _) =
+///     <Expression as Readable<Global, Padded>>::read(&[0x41, 0x87, 0, 0x0B], Global)?;
+/// let code = code.iter().map(Instruction::try_from);
+/// let code: Vec<Instruction> = code.collect::<Result<_, _>>().unwrap();
+/// let mut bytes = vec![];
+/// ConstExpr::extended(code).encode(&mut bytes);
+/// assert_eq!(bytes, [0x41, 7, 0x0B]);
+/// # Ok::<(), dolzhytik::reader::DecodeError>(())
+/// ```
 #[derive(Debug)]
 pub struct Expression<A: Allocator = Global>(pub Vec<Plain<A>, A>);
 

@@ -19,7 +19,7 @@ pub enum First {
 }
 
 impl First {
-    /// Returns the index of `RefFunc`.
+    /// Returns the index of `RefFunc`, or `None` for other instructions.
     ///
     /// # Proved
     ///

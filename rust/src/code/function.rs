@@ -38,14 +38,12 @@ pub struct Function<A: Allocator = Global> {
 const FIRST_CAPACITY: usize = 128;
 
 impl<A: Allocator> Function<A> {
-    /// Returns a function with these runs of locals, to which instructions are then appended. If
-    /// the length that the locals report exceeds 4294967295, the call returns `TooLong`, and
-    /// requests none of them, as tests show.
+    /// Returns a function with these runs of locals, to which instructions are then appended.
     ///
     /// # Errors
     ///
-    /// Returns [`TooLong`](crate::fallible::Refused::TooLong) if a count or length would pass
-    /// 4294967295, and [`Memory`](crate::fallible::Refused::Memory) if an allocation fails.
+    /// Returns `Memory` if an allocation fails. If the length that the locals report exceeds
+    /// 4294967295, the call returns `TooLong`, and requests none of them, as tests show.
     ///
     /// # Asks
     ///
@@ -60,7 +58,7 @@ impl<A: Allocator> Function<A> {
     ///
     /// # Proved
     ///
-    /// The new function has the runs that the iterator yields. More than 2^32 - 1 runs give `TooLong`.
+    /// The new function has the runs that the iterator yields. If the iterator reports more than 2^32 - 1 runs, the call returns `TooLong`.
     ///
     /// ```text
     /// ensures { BeginsWithRuns V.into_iter_gives V.IntoIter.next_gives V.IntoIter.remaining
@@ -211,8 +209,7 @@ impl<A: Allocator> Function<A> {
 }
 
 impl<A: Allocator + Copy> Function<A> {
-    /// Returns a function with locals of these types: `new` of their runs. Neighbours of one type
-    /// form one run.
+    /// Returns a function with locals of these types. Neighbours of one type form one run.
     ///
     /// # Errors
     ///
@@ -259,7 +256,7 @@ impl<A: Allocator + Copy> Function<A> {
         Function::new(alloc, runs)
     }
 
-    /// Returns the same function, in memory of its own.
+    /// Returns a copy of the function in newly allocated memory.
     ///
     /// # Errors
     ///

@@ -70,8 +70,8 @@ pub fn bodies() {}
 /// Definitions: [`HasOffsets`](crate::definitions::code::laws::HasOffsets), [`FindsAdded`](crate::definitions::code::laws::FindsAdded). [How to read clauses](crate::definitions).
 pub fn offset<A: Allocator>() {}
 
-/// If a module decodes to ids and payloads, and a code section decodes to bodies alone, then its
-/// payload decodes to these alone.
+/// If a module decodes to ids and payloads, and a code section decodes to bodies alone, then the
+/// section's payload decodes to these alone.
 ///
 /// # Proved
 ///
@@ -183,9 +183,9 @@ pub fn locals() {}
 /// Definitions: [`RejectsAllAfter`](crate::definitions::code::laws::RejectsAllAfter), [`code_section`](crate::definitions::code::code::code_section). [How to read clauses](crate::definitions).
 pub fn rejections() {}
 
-/// The visitor of a body reports the offsets that `Function::byte_len` of `wasm_code` returned.
-/// After as many instructions as a raw body has, a visitor of a longer body that begins with it is
-/// at that raw body's length. It has then visited exactly that body.
+/// The visitor of a body is at the offsets that `Function::byte_len` returned when the body was
+/// built. After as many instructions as a raw body has, a visitor of a longer body that begins with
+/// it is at that raw body's length. It has then visited exactly that body.
 ///
 /// # Proved
 ///

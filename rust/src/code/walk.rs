@@ -20,19 +20,18 @@ use crate::insn::{Arg, Op, read_instruction_into};
 /// # Examples
 ///
 /// ```
-/// use dolzhytik::fallible::{Global, Op};
-/// use dolzhytik::reader::{Arg, Instructions};
+/// use dolzhytik::Instruction;
+/// use dolzhytik::fallible::Global;
+/// use dolzhytik::reader::Instructions;
 ///
 /// // local.get 5: 20 05. i32.add: 6A. end: 0B.
 /// let mut instructions = Instructions::new(&[0x20, 5, 0x6A, 0x0B], Global);
 /// let mut found = vec![];
 /// while let Some(step) = instructions.next()? {
-///     found.push((step.offset, step.op, instructions.args().len()));
+///     let instruction = Instruction::try_from((step.op, instructions.args()));
+///     found.push(format!("{}: {:?}", step.offset, instruction.unwrap()));
 /// }
-/// assert_eq!(
-///     found,
-///     [(0, Op::Byte(0x20), 1), (2, Op::Byte(0x6A), 0), (3, Op::Byte(0x0B), 0)]
-/// );
+/// assert_eq!(found, ["0: LocalGet(5)", "2: I32Add", "3: End"]);
 /// # Ok::<(), dolzhytik::reader::DecodeError>(())
 /// ```
 #[derive(Debug)]

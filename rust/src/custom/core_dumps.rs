@@ -223,7 +223,7 @@ impl<A: Allocator> CoreDumpModulesSection<A> {
         self.add_record(&(0x00u8, name))
     }
 
-    /// Returns the section as a custom section, with its data in memory of their own.
+    /// Returns the section as a custom section, which owns a copy of the data.
     ///
     /// # Errors
     ///
@@ -235,12 +235,12 @@ impl<A: Allocator> CoreDumpModulesSection<A> {
     ///
     /// ```text
     /// ensures same { IfOk result
-    ///     (λ s. (encoding_of s.name ≡ modules_name)
+    ///     (λ s. (utf8_of s.name ≡ modules_name)
     ///         × (items_of s.bytes ≡ entries_encoding [] true self.now)) }
     /// ensures memory { result ≢ Err TooLong }
     /// ```
     ///
-    /// Definitions: [`encoding_of`](crate::definitions::base::cow::encoding_of), [`modules_name`](crate::definitions::custom::core_dumps::modules_name), [`items_of`](crate::definitions::base::cow::items_of), [`entries_encoding`](crate::definitions::custom::entries::entries_encoding). [How to read clauses](crate::definitions).
+    /// Definitions: [`utf8_of`](crate::definitions::base::cow::utf8_of), [`modules_name`](crate::definitions::custom::core_dumps::modules_name), [`items_of`](crate::definitions::base::cow::items_of), [`entries_encoding`](crate::definitions::custom::entries::entries_encoding). [How to read clauses](crate::definitions).
     pub fn as_custom<B: Allocator>(&self, alloc: B) -> Result<CustomSection<'_, B>> {
         self.owned(alloc)
     }
@@ -321,8 +321,10 @@ impl CustomKind for InstanceItems {
 }
 
 impl<A: Allocator> CoreDumpInstancesSection<A> {
-    /// Adds an instance of the module, with these memories and globals. If there are too many of
-    /// either, it returns `TooLong` and requests none, as tests show.
+    /// Adds an instance of the module, with these memories and globals.
+    ///
+    /// If there are more than 4294967295 memories or globals, the call returns `TooLong` and
+    /// requests none of either, as tests show.
     ///
     /// # Errors
     ///
@@ -373,7 +375,7 @@ impl<A: Allocator> CoreDumpInstancesSection<A> {
         self.add_once(((0x00u8, module_index), memories, globals))
     }
 
-    /// Returns the section as a custom section, with its data in memory of their own.
+    /// Returns the section as a custom section, which owns a copy of the data.
     ///
     /// # Errors
     ///
@@ -385,12 +387,12 @@ impl<A: Allocator> CoreDumpInstancesSection<A> {
     ///
     /// ```text
     /// ensures same { IfOk result
-    ///     (λ s. (encoding_of s.name ≡ instances_name)
+    ///     (λ s. (utf8_of s.name ≡ instances_name)
     ///         × (items_of s.bytes ≡ entries_encoding [] true self.now)) }
     /// ensures memory { result ≢ Err TooLong }
     /// ```
     ///
-    /// Definitions: [`encoding_of`](crate::definitions::base::cow::encoding_of), [`instances_name`](crate::definitions::custom::core_dumps::instances_name), [`items_of`](crate::definitions::base::cow::items_of), [`entries_encoding`](crate::definitions::custom::entries::entries_encoding). [How to read clauses](crate::definitions).
+    /// Definitions: [`utf8_of`](crate::definitions::base::cow::utf8_of), [`instances_name`](crate::definitions::custom::core_dumps::instances_name), [`items_of`](crate::definitions::base::cow::items_of), [`entries_encoding`](crate::definitions::custom::entries::entries_encoding). [How to read clauses](crate::definitions).
     pub fn as_custom<B: Allocator>(&self, alloc: B) -> Result<CustomSection<'_, B>> {
         self.owned(alloc)
     }

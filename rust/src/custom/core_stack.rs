@@ -92,8 +92,10 @@ impl<A: Allocator + Copy> CoreDumpStackSection<A> {
 
 impl<A: Allocator> CoreDumpStackSection<A> {
     /// Adds a stack frame: its instance and function, the offset in the function, its locals, and
-    /// its operand stack. If there are too many values in either list, it returns `TooLong` and
-    /// requests none, as tests show.
+    /// its operand stack.
+    ///
+    /// If there are more than 4294967295 values in either list, the call returns `TooLong` and
+    /// requests none of either, as tests show.
     ///
     /// # Errors
     ///
@@ -146,7 +148,7 @@ impl<A: Allocator> CoreDumpStackSection<A> {
         self.frames.add_once(((0x00u8, place), locals, stack))
     }
 
-    /// Returns the section as a custom section, with its data in memory of their own.
+    /// Returns the section as a custom section, which owns a copy of the data.
     ///
     /// # Errors
     ///
@@ -158,12 +160,12 @@ impl<A: Allocator> CoreDumpStackSection<A> {
     ///
     /// ```text
     /// ensures same { IfOk result
-    ///     (λ s. (encoding_of s.name ≡ stack_name)
+    ///     (λ s. (utf8_of s.name ≡ stack_name)
     ///         × (items_of s.bytes ≡ entries_encoding self.now.0 true self.now.1)) }
     /// ensures memory { result ≢ Err TooLong }
     /// ```
     ///
-    /// Definitions: [`encoding_of`](crate::definitions::base::cow::encoding_of), [`stack_name`](crate::definitions::custom::core_stacks::stack_name), [`items_of`](crate::definitions::base::cow::items_of), [`entries_encoding`](crate::definitions::custom::entries::entries_encoding). [How to read clauses](crate::definitions).
+    /// Definitions: [`utf8_of`](crate::definitions::base::cow::utf8_of), [`stack_name`](crate::definitions::custom::core_stacks::stack_name), [`items_of`](crate::definitions::base::cow::items_of), [`entries_encoding`](crate::definitions::custom::entries::entries_encoding). [How to read clauses](crate::definitions).
     pub fn as_custom<B: Allocator>(&self, alloc: B) -> Result<CustomSection<'_, B>> {
         let data = data_of(alloc, &self.front, true, &self.frames)?;
         Ok(CustomSection {
@@ -212,7 +214,7 @@ impl<A: Allocator> Section for CoreDumpStackSection<A> {
     }
 }
 
-/// A decoded frame of a stack.
+/// A decoded stack frame.
 ///
 /// [`Items::CoreStack`](crate::reader::Items::CoreStack) has them.
 ///

@@ -19,11 +19,11 @@ use crate::base::{DecodeError, Encode, Grammar, ReadFault, Readable, Result};
 ///
 /// Definitions: [`Mode`](crate::definitions::base::numbers::Mode). [How to read clauses](crate::definitions).
 pub(crate) trait ItemsAs<T>: CustomKind {
-    // The item, without its location in memory.
+    // The view of a decoded value: the item, without its location in memory.
 
     // The format: which bytes encode which item.
 
-    /// Proves that the format is unambiguous: one item decodes from the front, whatever follows.
+    /// Proves that the format is unambiguous: at most one item decodes from the front of any bytes.
     /// The function does nothing.
     ///
     /// # Proved
@@ -195,8 +195,8 @@ fn write_counted<K: ItemsAs<T>, T, B: Sink>(items: &[T], sink: &mut B) -> Result
     append_items::<K, T, _>(items, sink)
 }
 
-/// Appends the minimal encoding of the payload of a section of the kind, which has these items. On
-/// an error, the sink is unchanged.
+/// Appends the minimal encoding of the payload of a section of this kind with these items. On an
+/// error, the sink is unchanged.
 ///
 /// # Proved
 ///

@@ -89,12 +89,12 @@ impl<'a, A: Allocator + Copy> CustomSection<'a, A> {
     ///
     /// ```text
     /// ensures same { IfOk result
-    ///     (λ s. (encoding_of s.name ≡ encoding_of self.now.name)
+    ///     (λ s. (utf8_of s.name ≡ utf8_of self.now.name)
     ///         × (items_of s.bytes ≡ items_of self.now.bytes)) }
     /// ensures memory { result ≢ Err Refused.TooLong }
     /// ```
     ///
-    /// Definitions: [`encoding_of`](crate::definitions::base::cow::encoding_of), [`items_of`](crate::definitions::base::cow::items_of). [How to read clauses](crate::definitions).
+    /// Definitions: [`utf8_of`](crate::definitions::base::cow::utf8_of), [`items_of`](crate::definitions::base::cow::items_of). [How to read clauses](crate::definitions).
     pub fn clone(&self) -> Result<Self> {
         Ok(CustomSection {
             name: self.name.clone()?,
@@ -134,17 +134,16 @@ impl<A: Allocator> Eq for CustomSection<'_, A> {}
 /// # Defined
 ///
 /// ```text
-/// encoding = { λ s. named_encoding (encoding_of s.name) (items_of s.bytes) }
-/// encodable = { λ s. IsEncodableNamed (encoding_of s.name) (items_of s.bytes) }
+/// encoding = { λ s. named_encoding (utf8_of s.name) (items_of s.bytes) }
+/// encodable = { λ s. IsEncodableNamed (utf8_of s.name) (items_of s.bytes) }
 /// overlong = { λ s. longest
-///     < length (size_prefixed_encoding (encoding_of s.name)) + length (items_of s.bytes) }
+///     < length (size_prefixed_encoding (utf8_of s.name)) + length (items_of s.bytes) }
 /// decoding = { λ s. DecodesBack custom
-///     (λ said. IsUtf8 (encoding_of s.name)
-///         × (said ≡ (encoding_of s.name, items_of s.bytes)))
-///     (named_encoding (encoding_of s.name) (items_of s.bytes)) }
+///     (λ said. IsUtf8 (utf8_of s.name) × (said ≡ (utf8_of s.name, items_of s.bytes)))
+///     (named_encoding (utf8_of s.name) (items_of s.bytes)) }
 /// ```
 ///
-/// Definitions: [`named_encoding`](crate::definitions::custom::customs::named_encoding), [`encoding_of`](crate::definitions::base::cow::encoding_of), [`items_of`](crate::definitions::base::cow::items_of), [`IsEncodableNamed`](crate::definitions::custom::customs::IsEncodableNamed), [`longest`](crate::definitions::base::encodings::longest), [`size_prefixed_encoding`](crate::definitions::base::encodings::size_prefixed_encoding), [`DecodesBack`](crate::definitions::base::calls::DecodesBack), [`custom`](crate::definitions::base::formats::custom). [How to read clauses](crate::definitions).
+/// Definitions: [`named_encoding`](crate::definitions::custom::customs::named_encoding), [`utf8_of`](crate::definitions::base::cow::utf8_of), [`items_of`](crate::definitions::base::cow::items_of), [`IsEncodableNamed`](crate::definitions::custom::customs::IsEncodableNamed), [`longest`](crate::definitions::base::encodings::longest), [`size_prefixed_encoding`](crate::definitions::base::encodings::size_prefixed_encoding), [`DecodesBack`](crate::definitions::base::calls::DecodesBack), [`custom`](crate::definitions::base::formats::custom). [How to read clauses](crate::definitions).
 impl<A: Allocator> Encode for CustomSection<'_, A> {
     fn encode<B: Sink>(&self, sink: &mut B) -> Result<()> {
         let bytes = self.bytes.as_slice();
@@ -160,15 +159,15 @@ impl<A: Allocator> Encode for CustomSection<'_, A> {
 /// id_of = { λ _. number_of ids.Custom }
 /// Items = { List ℕ × List ℕ }
 /// format = { custom }
-/// says = { λ s said. IsUtf8 (encoding_of s.name)
-///     × (said ≡ (encoding_of s.name, items_of s.bytes)) }
-/// payload = { λ s. NamedPayload (encoding_of s.name) (items_of s.bytes) }
-/// sized = { λ s bytes encodable pays. named_sized (encoding_of s.name)
+/// says = { λ s said. IsUtf8 (utf8_of s.name)
+///     × (said ≡ (utf8_of s.name, items_of s.bytes)) }
+/// payload = { λ s. NamedPayload (utf8_of s.name) (items_of s.bytes) }
+/// sized = { λ s bytes encodable pays. named_sized (utf8_of s.name)
 ///     (items_of s.bytes) bytes encodable pays }
 /// decodes_back = { λ s promised. promised }
 /// ```
 ///
-/// Definitions: [`number_of`](crate::definitions::base::section_id::number_of), [`custom`](crate::definitions::base::formats::custom), [`encoding_of`](crate::definitions::base::cow::encoding_of), [`items_of`](crate::definitions::base::cow::items_of), [`NamedPayload`](crate::definitions::custom::customs::NamedPayload), [`named_sized`](crate::definitions::custom::customs::named_sized). [How to read clauses](crate::definitions).
+/// Definitions: [`number_of`](crate::definitions::base::section_id::number_of), [`custom`](crate::definitions::base::formats::custom), [`utf8_of`](crate::definitions::base::cow::utf8_of), [`items_of`](crate::definitions::base::cow::items_of), [`NamedPayload`](crate::definitions::custom::customs::NamedPayload), [`named_sized`](crate::definitions::custom::customs::named_sized). [How to read clauses](crate::definitions).
 impl<A: Allocator> Section for CustomSection<'_, A> {
     fn id(&self) -> u8 {
         SectionId::Custom.into()

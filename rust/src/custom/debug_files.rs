@@ -149,7 +149,8 @@ pub fn append_source_map<B: Sink>(url: &str, sink: &mut B) -> Result<()> {
     append_single("sourceMappingURL", &url, sink)
 }
 
-/// The `external_debug_info` section: the path of a file that has the debug information of a module.
+/// The `external_debug_info` section: the path of a file that has the debug information of a
+/// module.
 ///
 /// ```
 /// # fn example() -> Result<(), Box<dyn std::error::Error>> {

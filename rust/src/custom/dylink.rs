@@ -10,8 +10,8 @@ use crate::custom::subsections::Subsection;
 use crate::alloc::{Allocator, Global};
 use crate::base::{DecodeError, Encode, Grammar, Kind, Layout, ReadFault, Readable, Result, Shorten, SizePrefixed, append_all, read_to_end};
 
-/// The `dylink.0` section: what a dynamic library needs at load time. It is the first section of a
-/// module. Each call adds a subsection, and `new` allocates nothing.
+/// The `dylink.0` section: the requirements of a dynamic library at load time. It is the first
+/// section of a module. Each call adds a subsection, and `new` allocates nothing.
 ///
 /// ```
 /// # fn example() -> Result<(), Box<dyn std::error::Error>> {
@@ -24,7 +24,12 @@ use crate::base::{DecodeError, Encode, Grammar, Kind, Layout, ReadFault, Readabl
 /// let mut needed = DylinkNeeded::new(Global);
 /// needed.library("libc.so")?;
 /// let mut dylink = DylinkSection::new(Global);
-/// dylink.memory(DylinkMemory { memory_size: 16, memory_alignment: 2, table_size: 0, table_alignment: 0 })?;
+/// dylink.memory(DylinkMemory {
+///     memory_size: 16,
+///     memory_alignment: 2,
+///     table_size: 0,
+///     table_alignment: 0,
+/// })?;
 /// dylink.needed(&needed)?;
 /// module.section(&dylink)?;
 /// # Ok(())
@@ -224,7 +229,7 @@ impl<A: Allocator> DylinkSection<A> {
         self.add_record(imports)
     }
 
-    /// Adds the folders in which libraries are looked for.
+    /// Adds the folders in which the loader searches for libraries.
     ///
     /// # Errors
     ///
@@ -294,7 +299,7 @@ pub enum DylinkItem<'a, A: Allocator = Global> {
     ExportFlags(Vec<DylinkExport<'a>, A>),
     /// Flags of imported symbols.
     ImportFlags(Vec<DylinkImport<'a>, A>),
-    /// The folders in which libraries are looked for.
+    /// The folders in which the loader searches for libraries.
     RuntimePath(Vec<&'a str, A>),
 }
 

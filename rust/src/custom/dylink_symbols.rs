@@ -184,8 +184,8 @@ impl<A: Allocator> DylinkNeeded<A> {
     }
 }
 
-/// The folders in which libraries are looked for, in the order in which they are added. They are
-/// encoded as subsection 5.
+/// The folders in which the loader searches for libraries, in the order in which they are added.
+/// They are encoded as subsection 5.
 ///
 /// It is a [`CountedList`](crate::fallible::CountedList), which
 /// [`DylinkSection::runtime_path`](crate::fallible::DylinkSection::runtime_path) takes.

@@ -248,7 +248,7 @@ impl<K, A: Allocator + Copy> CustomEntries<K, A> {
 }
 
 impl<K: CustomKind, A: Allocator> CustomEntries<K, A> {
-    /// Returns the section as a custom section, with its data in memory of their own.
+    /// Returns the section as a custom section, which owns a copy of the data.
     ///
     /// # Proved
     ///
@@ -256,12 +256,12 @@ impl<K: CustomKind, A: Allocator> CustomEntries<K, A> {
     ///
     /// ```text
     /// ensures same { IfOk result
-    ///     (λ s. (encoding_of s.name ≡ K.name)
+    ///     (λ s. (utf8_of s.name ≡ K.name)
     ///         × (items_of s.bytes ≡ entries_encoding K.front K.counted self.now)) }
     /// ensures memory { result ≢ Err TooLong }
     /// ```
     ///
-    /// Definitions: [`encoding_of`](crate::definitions::base::cow::encoding_of), [`items_of`](crate::definitions::base::cow::items_of), [`entries_encoding`](crate::definitions::custom::entries::entries_encoding). [How to read clauses](crate::definitions).
+    /// Definitions: [`utf8_of`](crate::definitions::base::cow::utf8_of), [`items_of`](crate::definitions::base::cow::items_of), [`entries_encoding`](crate::definitions::custom::entries::entries_encoding). [How to read clauses](crate::definitions).
     pub(crate) fn owned<B: Allocator>(&self, alloc: B) -> Result<CustomSection<'_, B>> {
         let data = data_of(alloc, K::front(), K::counted(), &self.pieces)?;
         Ok(CustomSection {
@@ -298,7 +298,7 @@ impl Count {
     }
 }
 
-/// Encodes the number, or nothing.
+/// Encodes the number if entries are counted, and no bytes otherwise.
 ///
 /// # Defined
 ///
@@ -383,7 +383,7 @@ pub(crate) fn encode_entries<A: Sink, B: Allocator>(
     Ok(())
 }
 
-/// Returns the data, in memory of their own.
+/// Returns a copy of the data of a section.
 ///
 /// # Proved
 ///

@@ -1,5 +1,5 @@
 // Written by tools/to-rust from crates/wasm_custom/src/lists.rt: change that.
-// Counted lists that are passed to sections as a whole.
+// Counted lists, each of which is one argument of a call that adds to a section.
 
 use crate::vec::Sink;
 use crate::custom::subsections::{Content, Subsection};
@@ -33,14 +33,14 @@ use crate::base::{Encode, Pieces, Result, encoding_size};
 /// member_encoding: { Member → List ℕ }
 /// // A property of each member that is added.
 /// is_member: { Member → Type 0 }
-/// // The id of the subsection that a list is encoded as, or none if it is encoded as a
+/// // The id of the subsection that a list is encoded as, or `None` if the encoding is the
 /// // vector alone.
 /// subsection: { Option ℕ }
 /// ```
 ///
 /// [How to read clauses](crate::definitions).
 pub trait ListKind {
-    /// Returns that id.
+    /// Returns the id of the subsection, or `None`.
     ///
     /// # Proved
     ///
@@ -228,7 +228,7 @@ impl<K: ListKind, A: Allocator> Content for Entries<'_, K, A> {
     }
 }
 
-/// Encodes the vector of the entries: alone, or in the subsection of the kind.
+/// Encodes the vector of the entries: alone, or as the content of the kind's subsection.
 ///
 /// # Defined
 ///

@@ -510,7 +510,7 @@ impl<A: Allocator> NameSection<A> {
         self.map(9, names)
     }
 
-    /// Adds the names of tags. The same as `tags`.
+    /// Adds the names of tags, as `tags` does.
     ///
     /// # Errors
     ///
@@ -715,11 +715,11 @@ impl<A: Allocator> NameSection<A> {
     /// # Proved
     ///
     /// ```text
-    /// ensures name { encoding_of result.name ≡ name_name }
+    /// ensures name { utf8_of result.name ≡ name_name }
     /// ensures bytes { items_of result.bytes ≡ joined self.now }
     /// ```
     ///
-    /// Definitions: [`encoding_of`](crate::definitions::base::cow::encoding_of), [`name_name`](crate::definitions::custom::names::name_name), [`items_of`](crate::definitions::base::cow::items_of), [`joined`](crate::definitions::base::pieces::joined). [How to read clauses](crate::definitions).
+    /// Definitions: [`utf8_of`](crate::definitions::base::cow::utf8_of), [`name_name`](crate::definitions::custom::names::name_name), [`items_of`](crate::definitions::base::cow::items_of), [`joined`](crate::definitions::base::pieces::joined). [How to read clauses](crate::definitions).
     pub fn as_custom(&self) -> CustomSection<'_> {
         CustomSection {
             name: CowStr::Borrowed("name"),
@@ -802,7 +802,7 @@ fn name_kind_of(id: u8) -> NameKind {
     }
 }
 
-/// Decodes the content of a subsection of this kind and id, which `rest` follows.
+/// Decodes the content of a subsection of this kind and id. `rest` are the bytes after the content.
 ///
 /// # Proved
 ///

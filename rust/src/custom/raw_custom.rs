@@ -41,7 +41,7 @@ impl Encode for RawCustomSection<'_> {
     }
 }
 
-/// The payload is the bytes after their size prefix.
+/// The payload is the bytes after the size prefix.
 ///
 /// # Defined
 ///

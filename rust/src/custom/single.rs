@@ -88,8 +88,8 @@ fn write_single<T: Shorten, B: Sink>(
     value.write_minimal(sink)
 }
 
-/// Appends the minimal encoding of the payload of a custom section of this name, whose data are this
-/// value. On an error, the sink is unchanged.
+/// Appends the minimal encoding of the payload of a custom section of this name, whose data are
+/// this value. On an error, the sink is unchanged.
 ///
 /// # Proved
 ///

@@ -3,8 +3,8 @@
 
 use crate::base::{DecodeError, Grammar, ReadFault};
 
-/// Returns an error unless the grammar is the standard's. The place of the error is the byte just
-/// before `rest`, which selects the case.
+/// Returns an error unless the grammar is the standard's. The error's offset is that of the byte
+/// just before `rest`, which selects the case.
 ///
 /// # Proved
 ///

@@ -1,5 +1,5 @@
 // Written by tools/to-rust from crates/wasm_custom/src/subsections.rt: change that.
-// Subsections: an id, and a size-prefixed content.
+// Subsections of custom sections: an id, and a size-prefixed content.
 
 use crate::vec::Sink;
 use crate::base::{Encode, Result, begin_size_prefixed, encoding_size};

@@ -190,7 +190,7 @@ impl SymbolTable {
     pub const WASM_SYM_NO_STRIP: u32 = 0x80;
 }
 
-// The flags of the tool conventions, "Linking".
+// The flags of symbols. Tool conventions, Linking, Linking Metadata Section.
 const _: () = assert!(<SymbolTable>::WASM_SYM_BINDING_WEAK == 0x1);
 
 const _: () = assert!(<SymbolTable>::WASM_SYM_BINDING_LOCAL == 0x2);
@@ -431,7 +431,7 @@ pub enum Symbol<'a> {
     },
 }
 
-/// Returns `true` if the encoding of a symbol with an index has a name.
+/// Returns `true` if the flags say that the encoding of a symbol with an index has a name.
 ///
 /// # Proved
 ///
@@ -446,7 +446,7 @@ fn has_name(flags: u32) -> bool {
     !(undefined && !explicit)
 }
 
-/// Returns `true` if the encoding of a data symbol has a definition.
+/// Returns `true` if the flags say that the encoding of a data symbol has a definition.
 ///
 /// # Proved
 ///

@@ -47,7 +47,7 @@ pub type TargetFeaturesSection<A = Global> = CustomEntries<FeatureItems, A>;
 #[derive(Clone, Copy, Debug)]
 pub struct FeatureItems;
 
-/// What a linker must know about a feature.
+/// The policy of an object file for a feature, which a linker enforces.
 ///
 /// [`TargetFeaturesSection::feature`](crate::fallible::TargetFeaturesSection::feature) takes
 /// it.

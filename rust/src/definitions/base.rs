@@ -47,7 +47,7 @@ pub trait calls {
     ///
     /// Definitions: [`longest`](encodings::longest).
     type AddsEach;
-    /// The builder gains all items; or it gains as many as the error reports, and the next item fails. The error is `TooLong` if the builder is full, and only then if the item fits.
+    /// The builder gains all items; or it gains as many as the error reports, and the next item fails. If the builder is full, the error is `TooLong`; if it is not and that item fits, it is another.
     ///
     /// ```text
     /// pub record AddsAll {T : Type 0} (encoding : T → List ℕ) (Encodable : T → Type 0)
@@ -150,14 +150,14 @@ pub trait cow {
     /// items_of (slices.Owned items) = items.items
     /// ```
     type items_of;
-    /// The bytes of a string, borrowed or owned.
+    /// The UTF-8 bytes of a string, borrowed or owned.
     ///
     /// ```text
-    /// abbrev pub encoding_of : {A : Type 0} → CowStr A → List ℕ
-    /// encoding_of (encodings.Borrowed encoding) = encoding.now
-    /// encoding_of (encodings.Owned encoding) = string_bytes encoding
+    /// abbrev pub utf8_of : {A : Type 0} → CowStr A → List ℕ
+    /// utf8_of (strings.Borrowed text) = text.now
+    /// utf8_of (strings.Owned text) = string_bytes text
     /// ```
-    type encoding_of;
+    type utf8_of;
 }
 
 /// Decoding: when bytes decode to one value alone, and when a format is unambiguous.
@@ -189,7 +189,7 @@ pub trait decoding {
     ///
     /// Definitions: [`Format`](formats::Format), [`Mode`](numbers::Mode), [`Decodes`](decoding::Decodes).
     type Rejects;
-    /// `encoding` is the one minimal encoding of `x`. In every mode, and whatever bytes follow, it decodes to `x` alone and all of it is used.
+    /// `encoding` is the one minimal encoding of `x`. In every mode, and whatever bytes follow, it decodes to `x` alone, and decoding ends exactly after it.
     ///
     /// ```text
     /// pub record DecodesUniquely {X : Type 0} (F : Format X) (encoding : List ℕ) (x : X)
@@ -214,7 +214,7 @@ pub trait decoding {
     ///
     /// Definitions: [`Format`](formats::Format), [`minimal`](numbers::Mode), [`Mode`](numbers::Mode).
     type DecodesWhole;
-    /// `encoding` is a possibly padded encoding of `x`. With padding allowed, and whatever bytes follow, it decodes to `x` alone and all of it is used.
+    /// `encoding` is a possibly padded encoding of `x`. With padding allowed, and whatever bytes follow, it decodes to `x` alone, and decoding ends exactly after it.
     ///
     /// ```text
     /// pub record DecodesUniquelyPadded {X : Type 0} (F : Format X) (encoding : List ℕ) (x : X)
@@ -226,7 +226,7 @@ pub trait decoding {
     ///
     /// Definitions: [`Format`](formats::Format), [`padded`](numbers::Mode), [`Decodes`](decoding::Decodes).
     type DecodesUniquelyPadded;
-    /// As [`DecodesUniquelyPadded`](decoding::DecodesUniquelyPadded), for a format that takes all of the bytes.
+    /// As [`DecodesUniquelyPadded`](decoding::DecodesUniquelyPadded), for a format that takes all of the bytes: `encoding` is a possibly padded encoding of `x`, and as a whole decodes to `x` alone.
     ///
     /// ```text
     /// pub record DecodesWholePadded {X : Type 0} (F : Format X) (encoding : List ℕ) (x : X)
@@ -247,7 +247,7 @@ pub trait decoding {
     ///
     /// Definitions: [`Encoding`](formats::Encoding).
     type DeterminesPrefix;
-    /// Unambiguous as a whole: no two values have the same bytes as encoding.
+    /// Unambiguous as a whole: no two values have the same encoding.
     ///
     /// ```text
     /// abbrev pub DeterminesWhole : {X : Type 0} → Encoding X → Type 0
@@ -584,11 +584,11 @@ pub trait entries {
     type ItemLaws;
 }
 
-/// The errors of calls that decode: a cause, and a place.
+/// The errors of calls that decode: a cause, and the number of bytes left.
 ///
 /// [How to read definitions](super). The file is [`Faults.antt`](https://github.com/dolzhytik/dolzhytik/blob/main/crates/wasm_base/specs/Faults.antt).
 pub trait faults {
-    /// A failed decoding: its cause, and how many bytes of the input are left at its place. No contract says more of that number.
+    /// A failed decoding: its cause, and how many bytes of the input are left. No contract determines that number.
     ///
     /// ```text
     /// pub record Failure : Type 0 where
@@ -625,7 +625,7 @@ pub trait faults {
     ///     else Memory
     /// ```
     type cause_numbered;
-    /// A failure as one number: the place times 256, and the number of the cause.
+    /// A failure as one number: the number of bytes left times 256, plus the number of the cause.
     ///
     /// ```text
     /// abbrev pub word_of : Failure → ℕ
@@ -643,7 +643,7 @@ pub trait faults {
     ///
     /// Definitions: [`Failure`](faults::Failure), [`cause_numbered`](faults::cause_numbered).
     type failure_of;
-    /// The number is that of a failure, whose place has 32 bits.
+    /// The number is that of a failure, whose number of bytes left is below 2^32.
     ///
     /// ```text
     /// pub record IsWord (word : ℕ) : Type 0 where
@@ -716,7 +716,7 @@ pub trait formats {
     ///
     /// Definitions: [`Format`](formats::Format), [`Signed`](numbers::Signed).
     type s64;
-    /// A number below 2^32, encoded as a signed number of 33 bits.
+    /// A number below 2^32, encoded as a signed number of 33 bits. Core specification, Binary Format, Types, Heap Types.
     ///
     /// ```text
     /// abbrev pub s33 : Format ℕ
@@ -883,7 +883,7 @@ pub trait formats {
     ///
     /// Definitions: [`Format`](formats::Format).
     type members;
-    /// A vector: the count of its members, then the members. Core specification, Binary Format, Conventions.
+    /// A vector (the standard's "list"): the count of its members, then the members. Core specification, Binary Format, Conventions.
     ///
     /// ```text
     /// abbrev pub vec : {X : Type 0} → Format X → Format (List X)
@@ -892,7 +892,7 @@ pub trait formats {
     ///
     /// Definitions: [`Format`](formats::Format), [`Then`](formats::Then), [`u32`](formats::u32), [`members`](formats::members).
     type vec;
-    /// A size prefix, then a payload of exactly that many bytes, which together encode one value.
+    /// A size prefix, then a payload of exactly that many bytes, all of which encode one value.
     ///
     /// ```text
     /// pub record SizePrefixed {X : Type 0} (F : Format X) (mode : Mode) (s : List ℕ) (x : X)
@@ -935,7 +935,7 @@ pub trait formats {
     ///
     /// Definitions: [`Format`](formats::Format), [`when`](formats::when), [`mapped`](formats::mapped), [`fixed`](formats::fixed).
     type optional;
-    /// Whether an optional value is there.
+    /// Whether an optional value is present.
     ///
     /// ```text
     /// abbrev pub is_given : {X : Type 0} → Option X → Bool
@@ -1119,7 +1119,7 @@ pub trait groups {
 ///
 /// [How to read definitions](super). The file is [`Iterators.antt`](https://github.com/dolzhytik/dolzhytik/blob/main/crates/wasm_base/specs/Iterators.antt).
 pub trait iterators {
-    /// Each iterator of the elements may be called, and yields as many items as it reported.
+    /// Each iterator of the elements may be called, and yields as many items as it reports.
     ///
     /// ```text
     /// pub record HasKnownLength {U S T : Type 0} (becomes : U → S → Type 0)
@@ -1130,7 +1130,7 @@ pub trait iterators {
     ///       → length xs ≡ size (remaining it)
     /// ```
     type HasKnownLength;
-    /// The call appends the vector of the items that the iterator yields, or returns an error and leaves the bytes as they were. More than 2^32 - 1 items give `TooLong`.
+    /// The call appends the vector of the items that the iterator yields, or returns an error and leaves the bytes as they were. It returns `TooLong` if the iterator reports more than 2^32 - 1 items.
     ///
     /// ```text
     /// pub record AppendsVec {U S T A : Type 0} (becomes : U → S → Type 0)
@@ -1914,7 +1914,7 @@ pub trait types {
     /// abstract_code kinds.NoCont = 0x75
     /// ```
     type abstract_code;
-    /// The encoding of a heap type. A shared abstract type has the byte 65 before its own, and an exact type the byte 62 before its index. Neither is in the core specification.
+    /// The encoding of a heap type. A shared abstract type has the byte 0x65 before its own, and an exact type the byte 0x62 before its index. Neither is in the core specification.
     ///
     /// ```text
     /// abbrev pub heap_encoding : HeapType → List ℕ
@@ -2021,7 +2021,7 @@ pub trait types {
     /// shared ty = Abstract true ty
     /// ```
     type shared;
-    /// The formats after the tag bytes 65 (shared) and 62 (exact) of a heap type.
+    /// The formats after the tag bytes 0x65 (shared) and 0x62 (exact) of a heap type.
     ///
     /// ```text
     /// abbrev pub heap_tags : List (ℕ × Format HeapType)
@@ -2030,7 +2030,7 @@ pub trait types {
     ///
     /// Definitions: [`Format`](formats::Format), [`mapped`](formats::mapped), [`shared`](types::shared), [`abstract_type`](types::abstract_type), [`u32`](formats::u32).
     type heap_tags;
-    /// A heap type. Its first byte decides which case it is: no index begins with a byte of another case.
+    /// A heap type. Its first byte determines its case: no index begins with a byte of another case. Core specification, Binary Format, Types, Heap Types.
     ///
     /// ```text
     /// abbrev pub heap_type : Format HeapType
@@ -2120,7 +2120,7 @@ pub trait types {
     /// HasNoCode (Exact index) = Unit {0}
     /// ```
     type HasNoCode;
-    /// The formats after 63 and 64 where every reference type has one encoding.
+    /// The formats after the bytes 0x63 and 0x64 if every reference type has one encoding.
     ///
     /// ```text
     /// abbrev pub tight_tags : List (ℕ × Format RefType)
@@ -2130,7 +2130,7 @@ pub trait types {
     ///
     /// Definitions: [`Format`](formats::Format), [`mapped`](formats::mapped), [`nullable_to`](types::nullable_to), [`such`](formats::such), [`HasNoCode`](types::HasNoCode), [`heap_type`](types::heap_type), [`to`](types::to).
     type tight_tags;
-    /// The formats after 63 and 64 that the standard admits.
+    /// The formats after the bytes 0x63 and 0x64 that the standard admits.
     ///
     /// ```text
     /// abbrev pub admitted_tags : List (ℕ × Format RefType)
@@ -2159,7 +2159,7 @@ pub trait types {
     ///
     /// Definitions: [`Format`](formats::Format), [`one_of`](formats::one_of), [`mapped`](formats::mapped), [`nullable_abstract`](types::nullable_abstract), [`abstract_type`](types::abstract_type), [`tagged`](formats::tagged), [`byte`](formats::byte), [`choice`](formats::choice), [`admitted_tags`](types::admitted_tags), [`impossible`](formats::impossible).
     type admitted_ref;
-    /// The byte 63 may precede the heap type of a nullable reference type.
+    /// In this grammar, the byte 0x63 may precede the heap type of a nullable reference type.
     ///
     /// ```text
     /// abbrev pub HasLongForm : Grammar → HeapType → Type 0
@@ -2169,7 +2169,7 @@ pub trait types {
     ///
     /// Definitions: [`Grammar`](numbers::Grammar), [`builders`](numbers::Grammar), [`HasNoByte`](types::HasNoByte), [`admitted`](numbers::Grammar).
     type HasLongForm;
-    /// A reference type.
+    /// A reference type: as builders write it, or in the standard's grammar minimal or as admitted. Core specification, Binary Format, Types, Reference Types.
     ///
     /// ```text
     /// abbrev pub ref_type : Format RefType

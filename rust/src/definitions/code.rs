@@ -106,7 +106,7 @@ pub trait bodies {
     ///
     /// Definitions: [`Run`](bodies::Run), [`IsRuns`](bodies::IsRuns), [`expand`](bodies::expand).
     type MoreRuns;
-    /// The last run has this type, and its count cannot grow beyond 2^32 - 1.
+    /// The last run has this type, and its count is at least 2^32 - 1.
     ///
     /// ```text
     /// pub record IsFull (type : ValType) (runs : List Run) : Type 0 where
@@ -220,7 +220,7 @@ pub trait bodies {
     ///
     /// Definitions: [`Run`](bodies::Run), [`locals_encoding`](bodies::locals_encoding), [`longest`](super::base::encodings::longest), [`IsRun`](bodies::IsRun), [`IsWellFormedBody`](bodies::IsWellFormedBody).
     type HasLocals;
-    /// The new function has the runs that the iterator yields. More than 2^32 - 1 runs give `TooLong`.
+    /// The new function has the runs that the iterator yields. If the iterator reports more than 2^32 - 1 runs, the call returns `TooLong`.
     ///
     /// ```text
     /// pub record BeginsWithRuns {U S : Type 0} (becomes : U → S → Type 0)
@@ -345,7 +345,7 @@ pub trait code {
     ///
     /// Definitions: [`Body`](bodies::Body), [`EncodesBodiesIn`](code::EncodesBodiesIn), [`padded`](super::base::numbers::Mode).
     type EncodesBodiesPadded;
-    /// The headline: the bytes decode to the raw bodies alone, and if these encode bodies, possibly padded, to these alone.
+    /// The headline: the bytes decode to the raw bodies alone. If the raw bodies encode some bodies, minimally or padded, the bytes decode to those bodies alone.
     ///
     /// ```text
     /// pub record DecodesCode (entries : List (List ℕ)) (encoding : List ℕ) : Type 0 where
@@ -407,7 +407,7 @@ pub trait expressions {
     ///
     /// Definitions: [`Plain`](super::insn::plain::Plain), [`same_op`](super::insn::plain::same_op).
     type IsNoEnd;
-    /// An expression: instructions other than `end`, then `end`. An expression with a nested block does not decode.
+    /// An expression: instructions other than `end`, then `end`. The first `end` ends it, even that of a nested block.
     ///
     /// ```text
     /// abbrev pub expression : Format (List Plain)

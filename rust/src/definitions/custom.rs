@@ -410,7 +410,7 @@ pub trait core_dumps {
 ///
 /// [How to read definitions](super). The file is [`CoreStacks.antt`](https://github.com/dolzhytik/dolzhytik/blob/main/crates/wasm_custom/specs/CoreStacks.antt).
 pub trait core_stacks {
-    /// A stack frame: its code location, its locals, and its part of the stack.
+    /// A stack frame: its code location, its locals, and its operand stack.
     ///
     /// ```text
     /// pub record StackFrame : Type 0 where
@@ -421,7 +421,7 @@ pub trait core_stacks {
     ///   pub stack : List CoreDumpValue
     /// ```
     type StackFrame;
-    /// The encoding of a stack frame: the byte 00, its code location, and the vectors of its locals and of its part of the stack.
+    /// The encoding of a stack frame: the byte 00, its code location, and the vectors of its locals and its operand stack.
     ///
     /// ```text
     /// abbrev pub frame_entry : StackFrame → List ℕ
@@ -452,7 +452,7 @@ pub trait core_stacks {
     /// CodeLocation = ℕ × (ℕ × ℕ)
     /// ```
     type CodeLocation;
-    /// The stack frame at this location, with these locals and this part of the stack.
+    /// The stack frame at this location, with these locals and this operand stack.
     ///
     /// ```text
     /// abbrev pub stack_frame_of
@@ -464,7 +464,7 @@ pub trait core_stacks {
     ///
     /// Definitions: [`CodeLocation`](core_stacks::CodeLocation), [`StackFrame`](core_stacks::StackFrame).
     type stack_frame_of;
-    /// A stack frame: the byte 00, its code location, and the vectors of its locals and of its part of the stack.
+    /// A stack frame: the byte 00, its code location, and the vectors of its locals and its operand stack.
     ///
     /// ```text
     /// abbrev pub stack_frame : Format StackFrame
@@ -546,7 +546,7 @@ pub trait core_stacks {
 ///
 /// [How to read definitions](super). The file is [`CoreValues.antt`](https://github.com/dolzhytik/dolzhytik/blob/main/crates/wasm_custom/specs/CoreValues.antt).
 pub trait core_values {
-    /// The encoding of a value: 01 if it is missing, else the byte of its type and its number. Floats have a fixed width.
+    /// The encoding of a value: 01 if it is missing, else the byte of its type and its number. Floats have a fixed length.
     ///
     /// ```text
     /// abbrev pub value_encoding : CoreDumpValue → List ℕ
@@ -586,7 +586,7 @@ pub trait core_values {
     /// f64_of bits = F64 (record { bits = bits })
     /// ```
     type f64_of;
-    /// The formats of a value by its first byte: nothing after 01, a number after the byte of a type.
+    /// The formats of a value by its first byte: no bytes after 01, a number after the byte of a type.
     ///
     /// ```text
     /// abbrev pub value_tags : List (ℕ × Format CoreDumpValue)
@@ -674,11 +674,11 @@ pub trait customs {
     ///
     /// ```text
     /// abbrev pub same_section : {A : Type 0} → CustomSection A → CustomSection A → Bool
-    /// same_section s t = bytes_eq (encoding_of s.name) (encoding_of t.name) && bytes_eq
+    /// same_section s t = bytes_eq (utf8_of s.name) (utf8_of t.name) && bytes_eq
     ///     (items_of s.bytes) (items_of t.bytes)
     /// ```
     ///
-    /// Definitions: [`encoding_of`](super::base::cow::encoding_of), [`items_of`](super::base::cow::items_of).
+    /// Definitions: [`utf8_of`](super::base::cow::utf8_of), [`items_of`](super::base::cow::items_of).
     type same_section;
     /// The encoding of a subsection: an id, then the size-prefixed content.
     ///
@@ -689,6 +689,13 @@ pub trait customs {
     ///
     /// Definitions: [`size_prefixed_encoding`](super::base::encodings::size_prefixed_encoding).
     type subsection_encoding;
+    /// Whether the name begins with these bytes.
+    ///
+    /// ```text
+    /// abbrev pub begins_with : List ℕ → List ℕ → Bool
+    /// begins_with front n = starts_with nat_eq n front
+    /// ```
+    type begins_with;
     /// The custom section whose payload decodes to `x`.
     ///
     /// ```text
@@ -788,7 +795,7 @@ pub trait debug_files {
     ///
     /// Definitions: [`Format`](super::base::formats::Format), [`named_section`](customs::named_section), [`build_id_name`](debug_files::build_id_name), [`size_prefixed`](super::base::formats::size_prefixed), [`any_bytes`](super::base::formats::any_bytes).
     type build_id_section;
-    /// The section holds this text, which is UTF-8.
+    /// The string in the section is the given one, and is UTF-8.
     ///
     /// ```text
     /// abbrev pub SaysText : List ℕ → List ℕ → Type 0
@@ -836,7 +843,7 @@ pub trait debug_files {
 ///
 /// [How to read definitions](super). The file is [`Dylink.antt`](https://github.com/dolzhytik/dolzhytik/blob/main/crates/wasm_custom/specs/Dylink.antt).
 pub trait dylink {
-    /// The encoding of what a library needs: the size and the alignment of its memory, then of its table.
+    /// The encoding of a library's requirements: the size of its memory and the exponent of the memory's alignment, then those of its table.
     ///
     /// ```text
     /// abbrev pub needs_encoding : DylinkMemory → List ℕ
@@ -994,7 +1001,7 @@ pub trait dylink {
     ///
     /// Definitions: [`DylinkImport`](dylink::DylinkImport), [`IsListOf`](lists::IsListOf), [`import_flags_encoding`](dylink::import_flags_encoding), [`IsDylinkImport`](dylink::IsDylinkImport).
     type AreDylinkImports;
-    /// A subsection: the memory and the table, the libraries that are needed, flags of exports and of imports, or the folders in which libraries are looked for.
+    /// A subsection: the memory and the table, the libraries that are needed, flags of exports and of imports, or the folders in which the loader searches for libraries.
     ///
     /// ```text
     /// pub data DylinkItem : Type 0 where
@@ -1142,11 +1149,11 @@ pub trait dylink {
     type dylink_view;
 }
 
-/// Custom sections that are a list of entries.
+/// Custom sections whose data are a front and a list of entries.
 ///
 /// [How to read definitions](super). The file is [`Entries.antt`](https://github.com/dolzhytik/dolzhytik/blob/main/crates/wasm_custom/specs/Entries.antt).
 pub trait entries {
-    /// The count, if the entries are counted.
+    /// The encoding of the count, or no bytes if the entries are not counted.
     ///
     /// ```text
     /// abbrev pub count_encoding : Bool → ℕ → List ℕ
@@ -1165,7 +1172,7 @@ pub trait entries {
     ///
     /// Definitions: [`count_encoding`](entries::count_encoding), [`joined`](super::base::pieces::joined).
     type entries_encoding;
-    /// The items: a vector if they are counted, or one after another up to the last byte.
+    /// A list of items: a vector if they are counted, or one after another up to the last byte.
     ///
     /// ```text
     /// abbrev pub listing : {Item : Type 0} → Bool → Format Item → Format (List Item)
@@ -1603,11 +1610,11 @@ pub trait linking {
     type link_view;
 }
 
-/// Lists that are one argument of a call, as name maps and symbol tables are.
+/// Lists that a caller passes as one argument: name maps and symbol tables, say.
 ///
 /// [How to read definitions](super). The file is [`Lists.antt`](https://github.com/dolzhytik/dolzhytik/blob/main/crates/wasm_custom/specs/Lists.antt).
 pub trait lists {
-    /// The encoding of a list's entries: their count and the entries.
+    /// The encoding of a list's entries as a vector: their count, then the entries.
     ///
     /// ```text
     /// unfoldable pub list_encoding : List (List ℕ) → List ℕ
@@ -1692,7 +1699,7 @@ pub trait lists {
     ///
     /// Definitions: [`IsListOf`](lists::IsListOf), [`longest`](super::base::encodings::longest).
     type ListMore;
-    /// The bytes of an optional name.
+    /// The bytes of an optional name that is borrowed.
     ///
     /// ```text
     /// abbrev pub given_name : Option (Bor (List ℕ)) → Option (List ℕ)
@@ -1718,7 +1725,7 @@ pub trait names {
     /// Naming = ℕ × List ℕ
     /// ```
     type Naming;
-    /// An indirect name association: an index, and the names of what is inside it.
+    /// An indirect name association: an index, and the name associations of the items in it.
     ///
     /// ```text
     /// abbrev pub Inside : Type 0
@@ -2175,6 +2182,235 @@ pub trait producers {
     ///
     /// Definitions: [`Field`](producers::Field).
     type field_view;
+}
+
+/// Relocations, their encoding and their format. Tool conventions, Linking, Relocation Sections.
+///
+/// - Kinds: [`plain_code`](relocations::plain_code), [`addend32_code`](relocations::addend32_code), [`addend64_code`](relocations::addend64_code), [`relocation_code`](relocations::relocation_code), [`kind_of_relocation`](relocations::kind_of_relocation).
+/// - Relocations: [`relocation_encoding`](relocations::relocation_encoding), [`IsRelocation`](relocations::IsRelocation), [`plain_of`](relocations::plain_of), [`addend32_of`](relocations::addend32_of), [`addend64_of`](relocations::addend64_of), [`after_kind`](relocations::after_kind), [`relocation`](relocations::relocation), [`relocation_items`](relocations::relocation_items).
+/// - The section: [`relocations_prefix`](relocations::relocations_prefix), [`relocations_name`](relocations::relocations_name), [`IsRelocationsName`](relocations::IsRelocationsName), [`Relocations`](relocations::Relocations), [`relocations_payload`](relocations::relocations_payload), [`relocations_decoding`](relocations::relocations_decoding), [`ContainsRelocations`](relocations::ContainsRelocations), [`SaysRelocations`](relocations::SaysRelocations).
+///
+/// [How to read definitions](super). The file is [`Relocations.antt`](https://github.com/dolzhytik/dolzhytik/blob/main/crates/wasm_custom/specs/Relocations.antt).
+pub trait relocations {
+    /// The byte of a kind without an addend.
+    ///
+    /// ```text
+    /// abbrev pub plain_code : PlainRelocation → ℕ
+    /// plain_code FunctionIndexLeb = 0
+    /// plain_code TableIndexSleb = 1
+    /// plain_code TableIndexI32 = 2
+    /// plain_code TypeIndexLeb = 6
+    /// plain_code GlobalIndexLeb = 7
+    /// plain_code TagIndexLeb = 10
+    /// plain_code TableIndexRelSleb = 12
+    /// plain_code GlobalIndexI32 = 13
+    /// plain_code TableIndexSleb64 = 18
+    /// plain_code TableIndexI64 = 19
+    /// plain_code TableNumberLeb = 20
+    /// plain_code TableIndexRelSleb64 = 24
+    /// plain_code FunctionIndexI32 = 26
+    /// ```
+    type plain_code;
+    /// The byte of a kind with an addend of 32 bits.
+    ///
+    /// ```text
+    /// abbrev pub addend32_code : Addend32Relocation → ℕ
+    /// addend32_code MemoryAddrLeb = 3
+    /// addend32_code MemoryAddrSleb = 4
+    /// addend32_code MemoryAddrI32 = 5
+    /// addend32_code FunctionOffsetI32 = 8
+    /// addend32_code SectionOffsetI32 = 9
+    /// addend32_code MemoryAddrRelSleb = 11
+    /// addend32_code MemoryAddrTlsSleb = 21
+    /// addend32_code MemoryAddrLocrelI32 = 23
+    /// ```
+    type addend32_code;
+    /// The byte of a kind with an addend of 64 bits.
+    ///
+    /// ```text
+    /// abbrev pub addend64_code : Addend64Relocation → ℕ
+    /// addend64_code MemoryAddrLeb64 = 14
+    /// addend64_code MemoryAddrSleb64 = 15
+    /// addend64_code MemoryAddrI64 = 16
+    /// addend64_code MemoryAddrRelSleb64 = 17
+    /// addend64_code FunctionOffsetI64 = 22
+    /// addend64_code MemoryAddrTlsSleb64 = 25
+    /// ```
+    type addend64_code;
+    /// The byte of a kind.
+    ///
+    /// ```text
+    /// abbrev pub relocation_code : RelocationKind → ℕ
+    /// relocation_code (kinds.Plain k) = plain_code k
+    /// relocation_code (kinds.Addend32 k) = addend32_code k
+    /// relocation_code (kinds.Addend64 k) = addend64_code k
+    /// ```
+    ///
+    /// Definitions: [`plain_code`](relocations::plain_code), [`addend32_code`](relocations::addend32_code), [`addend64_code`](relocations::addend64_code).
+    type relocation_code;
+    /// The kind of a relocation.
+    ///
+    /// ```text
+    /// abbrev pub kind_of_relocation : Relocation → RelocationKind
+    /// kind_of_relocation (Plain k offset index) = kinds.Plain k
+    /// kind_of_relocation (Addend32 k offset index addend) = kinds.Addend32 k
+    /// kind_of_relocation (Addend64 k offset index addend) = kinds.Addend64 k
+    /// ```
+    type kind_of_relocation;
+    /// The encoding of a relocation: the byte of its kind, its offset, its index, and its addend if the kind has one.
+    ///
+    /// ```text
+    /// abbrev pub relocation_encoding : Relocation → List ℕ
+    /// relocation_encoding (Plain k offset index) = plain_code k
+    ///     ∷ (unsigned_encoding offset ++ unsigned_encoding index)
+    /// relocation_encoding (Addend32 k offset index addend) = addend32_code k
+    ///     ∷ ((unsigned_encoding offset ++ unsigned_encoding index) ++ signed_encoding addend)
+    /// relocation_encoding (Addend64 k offset index addend) = addend64_code k
+    ///     ∷ ((unsigned_encoding offset ++ unsigned_encoding index) ++ signed_encoding addend)
+    /// ```
+    ///
+    /// Definitions: [`plain_code`](relocations::plain_code), [`unsigned_encoding`](super::base::numbers::unsigned_encoding), [`addend32_code`](relocations::addend32_code), [`signed_encoding`](super::base::numbers::signed_encoding), [`addend64_code`](relocations::addend64_code).
+    type relocation_encoding;
+    /// The relocation is well-formed: its numbers are in range.
+    ///
+    /// ```text
+    /// abbrev pub IsRelocation : Relocation → Type 0
+    /// IsRelocation (Plain k offset index) = (offset < 2 ^ 32) × (index < 2 ^ 32)
+    /// IsRelocation (Addend32 k offset index addend) = (offset < 2 ^ 32) × (index < 2 ^ 32)
+    ///     × IsSigned32InRange addend
+    /// IsRelocation (Addend64 k offset index addend) = (offset < 2 ^ 32) × (index < 2 ^ 32)
+    ///     × IsSigned64InRange addend
+    /// ```
+    ///
+    /// Definitions: [`IsSigned32InRange`](super::base::laws::IsSigned32InRange), [`IsSigned64InRange`](super::base::laws::IsSigned64InRange).
+    type IsRelocation;
+    /// The relocation of this kind, with this offset and index.
+    ///
+    /// ```text
+    /// abbrev pub plain_of : PlainRelocation → ℕ × ℕ → Relocation
+    /// plain_of k p = Plain k p.0 p.1
+    /// ```
+    type plain_of;
+    /// The relocation of this kind, with this offset, index and addend of 32 bits.
+    ///
+    /// ```text
+    /// abbrev pub addend32_of : Addend32Relocation → (ℕ × ℕ) × ℤ → Relocation
+    /// addend32_of k p = Addend32 k p.0.0 p.0.1 p.1
+    /// ```
+    type addend32_of;
+    /// The relocation of this kind, with this offset, index and addend of 64 bits.
+    ///
+    /// ```text
+    /// abbrev pub addend64_of : Addend64Relocation → (ℕ × ℕ) × ℤ → Relocation
+    /// addend64_of k p = Addend64 k p.0.0 p.0.1 p.1
+    /// ```
+    type addend64_of;
+    /// The format of a relocation after the byte of its kind: an offset, an index, and an addend if the kind has one.
+    ///
+    /// ```text
+    /// abbrev pub after_kind : RelocationKind → Format Relocation
+    /// after_kind (kinds.Plain k) = mapped (plain_of k) (pair u32 u32)
+    /// after_kind (kinds.Addend32 k) = mapped (addend32_of k) (pair (pair u32 u32) s32)
+    /// after_kind (kinds.Addend64 k) = mapped (addend64_of k) (pair (pair u32 u32) s64)
+    /// ```
+    ///
+    /// Definitions: [`Format`](super::base::formats::Format), [`mapped`](super::base::formats::mapped), [`plain_of`](relocations::plain_of), [`pair`](super::base::formats::pair), [`u32`](super::base::formats::u32), [`addend32_of`](relocations::addend32_of), [`s32`](super::base::formats::s32), [`addend64_of`](relocations::addend64_of), [`s64`](super::base::formats::s64).
+    type after_kind;
+    /// A relocation: the byte of its kind, then its fields.
+    ///
+    /// ```text
+    /// abbrev pub relocation : Format Relocation
+    /// relocation = tagged (coded relocation_code) after_kind
+    /// ```
+    ///
+    /// Definitions: [`Format`](super::base::formats::Format), [`tagged`](super::base::formats::tagged), [`coded`](super::base::formats::coded), [`relocation_code`](relocations::relocation_code), [`after_kind`](relocations::after_kind).
+    type relocation;
+    /// The kind of relocations.
+    ///
+    /// ```text
+    /// abbrev pub relocation_items : Kind Relocation Relocation
+    /// relocation_items = record
+    ///     { encoding = relocation_encoding; IsWellFormed = IsRelocation;
+    ///     IsWellFormedPadded = IsRelocation; normal_form = λ relocation. relocation;
+    ///     format = relocation }
+    /// ```
+    ///
+    /// Definitions: [`Kind`](super::base::entries::Kind), [`relocation_encoding`](relocations::relocation_encoding), [`IsRelocation`](relocations::IsRelocation).
+    type relocation_items;
+    /// The bytes that each name of a relocation section begins with.
+    ///
+    /// ```text
+    /// abbrev pub relocations_prefix : List ℕ
+    /// relocations_prefix = codes "reloc."
+    /// ```
+    type relocations_prefix;
+    /// The name of the relocation section for a section of this name.
+    ///
+    /// ```text
+    /// abbrev pub relocations_name : List ℕ → List ℕ
+    /// relocations_name section_name = relocations_prefix ++ section_name
+    /// ```
+    ///
+    /// Definitions: [`relocations_prefix`](relocations::relocations_prefix).
+    type relocations_name;
+    /// The name begins with `reloc.`.
+    ///
+    /// ```text
+    /// abbrev pub IsRelocationsName : List ℕ → Type 0
+    /// IsRelocationsName n = begins_with relocations_prefix n ≡ true
+    /// ```
+    ///
+    /// Definitions: [`begins_with`](customs::begins_with), [`relocations_prefix`](relocations::relocations_prefix).
+    type IsRelocationsName;
+    /// The name of the section, the index of the section that is relocated, and the relocations.
+    ///
+    /// ```text
+    /// abbrev pub Relocations : Type 0
+    /// Relocations = List ℕ × (ℕ × List Relocation)
+    /// ```
+    type Relocations;
+    /// The payload of a relocation section: a name that begins with `reloc.`, the index of the section that is relocated, and a vector of relocations.
+    ///
+    /// ```text
+    /// abbrev pub relocations_payload : Format Relocations
+    /// relocations_payload = pair (such IsRelocationsName name) (pair u32 (vec relocation))
+    /// ```
+    ///
+    /// Definitions: [`Format`](super::base::formats::Format), [`Relocations`](relocations::Relocations), [`pair`](super::base::formats::pair), [`such`](super::base::formats::such), [`IsRelocationsName`](relocations::IsRelocationsName), [`name`](super::base::formats::name), [`u32`](super::base::formats::u32), [`vec`](super::base::formats::vec), [`relocation`](relocations::relocation).
+    type relocations_payload;
+    /// The section that decodes to these relocations.
+    ///
+    /// ```text
+    /// abbrev pub relocations_decoding : Relocations → SectionDecoding
+    /// relocations_decoding said = decoding_as relocations_payload said
+    /// ```
+    ///
+    /// Definitions: [`Relocations`](relocations::Relocations), [`SectionDecoding`](super::base::modules::SectionDecoding), [`decoding_as`](customs::decoding_as), [`relocations_payload`](relocations::relocations_payload).
+    type relocations_decoding;
+    /// The pieces encode these relocations.
+    ///
+    /// ```text
+    /// abbrev pub ContainsRelocations : List (List ℕ) → List Relocation → Type 0
+    /// ContainsRelocations = ContainsItems relocation_items
+    /// ```
+    ///
+    /// Definitions: [`ContainsItems`](super::base::entries::ContainsItems), [`relocation_items`](relocations::relocation_items).
+    type ContainsRelocations;
+    /// The name is that of the section, which is UTF-8 and begins with `reloc.`; the front is the encoding of the section index, which is below 2^32; and the pieces encode the relocations.
+    ///
+    /// ```text
+    /// pub record SaysRelocations (n front : List ℕ) (pieces : List (List ℕ))
+    ///     (said : Relocations) : Type 0 where
+    ///   pub named : n ≡ said.0
+    ///   pub utf8 : IsUtf8 said.0
+    ///   pub begins : IsRelocationsName said.0
+    ///   pub section : front ≡ unsigned_encoding said.1.0
+    ///   pub range : said.1.0 < 2 ^ 32
+    ///   pub contains : ContainsRelocations pieces said.1.1
+    /// ```
+    ///
+    /// Definitions: [`Relocations`](relocations::Relocations), [`IsRelocationsName`](relocations::IsRelocationsName), [`unsigned_encoding`](super::base::numbers::unsigned_encoding), [`ContainsRelocations`](relocations::ContainsRelocations).
+    type SaysRelocations;
 }
 
 /// The segment information of a linking section, its encoding and its format. Tool conventions, Linking, Linking Metadata Section, `WASM_SEGMENT_INFO`.

@@ -12,7 +12,7 @@
 ///
 /// [How to read definitions](super). The file is [`ImmediateFormats.antt`](https://github.com/dolzhytik/dolzhytik/blob/main/crates/wasm_immediates/specs/ImmediateFormats.antt).
 pub trait immediate_formats {
-    /// The normal form of an ordering: `SeqCst` becomes that of an operation, since both have the byte 00.
+    /// The normal form of an ordering: `SeqCst` becomes that of an operation, since both have the byte 0x00.
     ///
     /// ```text
     /// abbrev pub normal_ordering : MemArgOrdering → MemArgOrdering
@@ -109,7 +109,7 @@ pub trait immediate_formats {
     ///
     /// Definitions: [`ordering_code`](immediates::ordering_code).
     type ordering_encoding;
-    /// A block type: 40, a value type, or an index, whose first byte is neither 40 nor that of a value type. Core specification, Binary Format, Instructions, Control Instructions.
+    /// A block type: 0x40, a value type, or an index, whose first byte is neither 0x40 nor that of a value type. Core specification, Binary Format, Instructions, Control Instructions.
     ///
     /// ```text
     /// abbrev pub block_type : Format BlockType
@@ -128,7 +128,7 @@ pub trait immediate_formats {
     ///
     /// Definitions: [`Format`](super::base::formats::Format), [`coded`](super::base::formats::coded), [`ordering_code`](immediates::ordering_code).
     type ordering_format;
-    /// The formats of orderings in normal form by their bytes: 00 is that of an operation.
+    /// The formats of orderings in normal form by their bytes: 0x00 is that of an operation.
     ///
     /// ```text
     /// abbrev pub mem_orderings : List (ℕ × Format MemArgOrdering)
@@ -151,7 +151,7 @@ pub trait immediate_formats {
     ///
     /// ```text
     /// abbrev pub bit : ℕ → ℕ → Bool
-    /// bit place flags = flags / 2 ^ place % 2 == 1
+    /// bit index flags = flags / 2 ^ index % 2 == 1
     /// ```
     type bit;
     /// The memories whose index is encoded. Builders encode none for memory 0; the standard admits it.
@@ -164,7 +164,7 @@ pub trait immediate_formats {
     ///
     /// Definitions: [`Grammar`](super::base::numbers::Grammar), [`builders`](super::base::numbers::Grammar), [`admitted`](super::base::numbers::Grammar).
     type HasIndex;
-    /// The target of a memory argument, by bits 5 and 6 of its flags. Without an index it is memory 0, and both bits together do not decode.
+    /// The target of a memory argument, by bits 5 and 6 of its flags. With neither bit it is memory 0, and with both nothing decodes.
     ///
     /// ```text
     /// abbrev pub target_of : Grammar → (array other_memory : Bool) → Format MemArgTarget
@@ -195,7 +195,7 @@ pub trait immediate_formats {
     ///
     /// Definitions: [`Grammar`](super::base::numbers::Grammar), [`Format`](super::base::formats::Format), [`mapped`](super::base::formats::mapped), [`mem_arg_of`](immediate_formats::mem_arg_of), [`pair`](super::base::formats::pair), [`target_of`](immediate_formats::target_of), [`optional`](super::base::formats::optional), [`mem_ordering`](immediate_formats::mem_ordering), [`u64`](super::base::formats::u64).
     type mem_arg_with;
-    /// The bytes after flags below 128: bits 0 to 3 are the alignment, and bits 4, 5 and 6 say which immediates are encoded. Higher flags do not decode.
+    /// The bytes after flags below 128: bits 0 to 3 are the alignment, and bits 4, 5 and 6 select the fields that follow. Higher flags do not decode.
     ///
     /// ```text
     /// abbrev pub after_flags : Grammar → ℕ → Format MemArg
@@ -205,7 +205,7 @@ pub trait immediate_formats {
     ///
     /// Definitions: [`Grammar`](super::base::numbers::Grammar), [`Format`](super::base::formats::Format), [`when`](super::base::formats::when), [`mem_arg_with`](immediate_formats::mem_arg_with), [`bit`](immediate_formats::bit), [`impossible`](super::base::formats::impossible).
     type after_flags;
-    /// A memory argument of a grammar: flags, an index and an ordering if the flags say so, and the offset.
+    /// A memory argument of a grammar: flags, the index and the ordering that the flags select, and the offset.
     ///
     /// ```text
     /// abbrev pub mem_arg_in : Grammar → Format MemArg
@@ -257,7 +257,7 @@ pub trait immediate_formats {
     ///
     /// Definitions: [`Format`](super::base::formats::Format), [`mapped`](super::base::formats::mapped), [`one_of_pair`](immediate_formats::one_of_pair), [`pair`](super::base::formats::pair), [`u32`](super::base::formats::u32), [`one_ref_of_pair`](immediate_formats::one_ref_of_pair).
     type catch_tags;
-    /// A catch clause: a byte for its kind, a tag for 00 and 01, and a label.
+    /// A catch clause: a byte for its kind, a tag for 00 and 01, and a label. Core specification, Binary Format, Instructions, Control Instructions.
     ///
     /// ```text
     /// abbrev pub catch : Format Catch
@@ -266,7 +266,7 @@ pub trait immediate_formats {
     ///
     /// Definitions: [`Format`](super::base::formats::Format), [`tagged`](super::base::formats::tagged), [`byte`](super::base::formats::byte), [`choice`](super::base::formats::choice), [`catch_tags`](immediate_formats::catch_tags), [`impossible`](super::base::formats::impossible).
     type catch;
-    /// The clause `on` of this tag and label.
+    /// The clause `on` that branches to this label for this tag.
     ///
     /// ```text
     /// abbrev pub on_label_of_pair : ℕ × ℕ → Handle
@@ -320,7 +320,7 @@ pub trait immediates {
     /// ordering_code AcqRel = 0x01
     /// ```
     type ordering_code;
-    /// The byte of a memory argument's ordering. `SeqCst` has the byte 00 for an operation and for a read-modify-write operation.
+    /// The byte of a memory argument's ordering. `SeqCst` has the byte 0x00 for an operation and for a read-modify-write operation.
     ///
     /// ```text
     /// abbrev pub mem_ordering_code : MemArgOrdering → ℕ
@@ -382,7 +382,7 @@ pub trait immediates {
     ///
     /// Definitions: [`where_set`](immediates::where_set), [`has_ordering`](immediates::has_ordering), [`is_array`](immediates::is_array), [`has_memory`](immediates::has_memory).
     type mem_flags;
-    /// The encoding of a memory argument: flags, the index if it is encoded, the byte of the ordering if it is explicit, and the offset.
+    /// The encoding of a memory argument: flags, the index if it is encoded, the byte of the ordering if it is explicit, and the offset. Core specification, Binary Format, Instructions, Memory Instructions.
     ///
     /// ```text
     /// abbrev pub mem_arg_encoding : MemArg → List ℕ
@@ -395,7 +395,7 @@ pub trait immediates {
     ///
     /// Definitions: [`unsigned_encoding`](super::base::numbers::unsigned_encoding), [`mem_flags`](immediates::mem_flags), [`optional_encoding`](super::base::encodings::optional_encoding), [`index_of`](immediates::index_of), [`mem_ordering_code`](immediates::mem_ordering_code).
     type mem_arg_encoding;
-    /// The encoding of a block type: 40 without a result, a value type, or a type index as a signed number. Core specification, Binary Format, Instructions, Control Instructions.
+    /// The encoding of a block type: 0x40 without a result, a value type, or a type index as a signed number. Core specification, Binary Format, Instructions, Control Instructions.
     ///
     /// ```text
     /// abbrev pub block_encoding : BlockType → List ℕ
@@ -406,7 +406,7 @@ pub trait immediates {
     ///
     /// Definitions: [`val_encoding`](super::base::types::val_encoding), [`signed_encoding`](super::base::numbers::signed_encoding).
     type block_encoding;
-    /// The encoding of a catch clause: a byte for its kind, its tag if it has one, and its label.
+    /// The encoding of a catch clause: a byte for its kind, its tag if it has one, and its label. Core specification, Binary Format, Instructions, Control Instructions.
     ///
     /// ```text
     /// abbrev pub catch_encoding : Catch → List ℕ
@@ -431,7 +431,7 @@ pub trait immediates {
     ///
     /// Definitions: [`unsigned_encoding`](super::base::numbers::unsigned_encoding).
     type handle_encoding;
-    /// The encoding of a vector: 16 little-endian bytes in two's complement.
+    /// The encoding of a vector: 16 little-endian bytes in two's complement. Core specification, Binary Format, Instructions, Vector Instructions.
     ///
     /// ```text
     /// unfoldable pub vector_encoding : ℤ → List ℕ

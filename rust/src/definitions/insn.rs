@@ -3,11 +3,11 @@
 //!
 //! The contracts of [`wasm_insn`](https://github.com/dolzhytik/dolzhytik/blob/main/crates/wasm_insn/README.md) name these definitions.
 
-/// The numbers of the instructions of `Aggregate`.
+/// The opcodes of the instructions of `Aggregate`.
 ///
 /// [How to read definitions](super). The file is [`Aggregate.antt`](https://github.com/dolzhytik/dolzhytik/blob/main/crates/wasm_insn/specs/Aggregate.antt).
 pub trait aggregate {
-    /// The number of a case after the prefix.
+    /// The number of each instruction after the prefix FB.
     ///
     /// ```text
     /// abbrev pub aggregate_number : Aggregate → ℕ
@@ -25,7 +25,7 @@ pub trait aggregate {
 ///
 /// [How to read definitions](super). The file is [`Arguments.antt`](https://github.com/dolzhytik/dolzhytik/blob/main/crates/wasm_insn/specs/Arguments.antt).
 pub trait arguments {
-    /// An immediate of an instruction, or a list of immediates.
+    /// An immediate of an instruction. A vector of labels, clauses or types is one immediate.
     ///
     /// ```text
     /// pub data Argument : Type 0 where
@@ -108,7 +108,7 @@ pub trait arguments {
     ///
     /// Definitions: [`Argument`](arguments::Argument), [`argument_encoding`](arguments::argument_encoding).
     type arguments_encoding;
-    /// A list among the immediates has at most 2^32 - 1 members.
+    /// If the immediate is a list, it has at most 2^32 - 1 members.
     ///
     /// ```text
     /// abbrev pub argument_encodable : Argument → Type 0
@@ -133,11 +133,11 @@ pub trait arguments {
     type arguments_encodable;
 }
 
-/// The rows of the instructions of `Atomic`.
+/// The opcodes and immediates of the instructions of `Atomic`.
 ///
 /// [How to read definitions](super). The file is [`Atomic.antt`](https://github.com/dolzhytik/dolzhytik/blob/main/crates/wasm_insn/specs/Atomic.antt).
 pub trait atomic {
-    /// The op and the arguments of a case.
+    /// The opcode and the immediates of each instruction.
     ///
     /// ```text
     /// abbrev pub atomic_row : Atomic → Plain
@@ -1047,7 +1047,7 @@ pub trait cases {
     /// ```text
     /// pub record IsCase {A : Type 0} (i : Instruction A) : Type 0 where
     ///   pub fields : Given A
-    ///   pub stands : Contains (all_cases fields) i
+    ///   pub contained : Contains (all_cases fields) i
     /// ```
     ///
     /// Definitions: [`Given`](cases::Given), [`all_cases`](cases::all_cases).
@@ -1066,7 +1066,7 @@ pub trait instructions {
     /// bit_of false = 0
     /// ```
     type bit_of;
-    /// The flags of a cast: bit 0 says that the first type is nullable, bit 1 that the second is.
+    /// The flags of a cast: bit 0 is set if the first type is nullable, and bit 1 if the second is.
     ///
     /// ```text
     /// abbrev pub cast_flag_of : RefType → RefType → ℕ
@@ -1292,7 +1292,7 @@ pub trait instructions {
     ///
     /// Definitions: [`arguments_encodable`](arguments::arguments_encodable), [`row_of`](instructions::row_of).
     type IsEncodableInstruction;
-    /// The instruction is well-formed: alignments are below 16, lists fit, and numbers are in range. Lists and numbers of every instruction that code builds are so.
+    /// The instruction is well-formed: alignments are below 16, lists fit, and numbers are in range. The types of its fields ensure the ranges.
     ///
     /// ```text
     /// abbrev pub IsWellFormedInstruction : {A : Type 0} → Instruction A → Type 0
@@ -1343,11 +1343,11 @@ pub trait instructions {
     type HaveOneEncoding;
 }
 
-/// The numbers of the instructions of `Numeric`.
+/// The opcodes of the instructions of `Numeric`.
 ///
 /// [How to read definitions](super). The file is [`Numeric.antt`](https://github.com/dolzhytik/dolzhytik/blob/main/crates/wasm_insn/specs/Numeric.antt).
 pub trait numeric {
-    /// The op of a case.
+    /// The opcode of each instruction, a byte.
     ///
     /// ```text
     /// abbrev pub numeric_number : Numeric → ℕ
@@ -1487,7 +1487,7 @@ pub trait numeric {
 ///
 /// [How to read definitions](super). The file is [`Opcodes.antt`](https://github.com/dolzhytik/dolzhytik/blob/main/crates/wasm_insn/specs/Opcodes.antt).
 pub trait opcodes {
-    /// The byte, or the prefix and a number.
+    /// The encoding of an opcode: its byte, or its prefix and an unsigned number. Core specification, Binary Format, Instructions.
     ///
     /// ```text
     /// abbrev pub op_encoding : Op → List ℕ
@@ -1810,11 +1810,11 @@ pub trait plain {
     type plain_encoding;
 }
 
-/// The numbers of the instructions of `PrefixedNumeric`.
+/// The opcodes of the instructions of `PrefixedNumeric`.
 ///
 /// [How to read definitions](super). The file is [`PrefixedNumeric.antt`](https://github.com/dolzhytik/dolzhytik/blob/main/crates/wasm_insn/specs/PrefixedNumeric.antt).
 pub trait prefixed_numeric {
-    /// The number of a case after the prefix.
+    /// The number of each instruction after the prefix FC.
     ///
     /// ```text
     /// abbrev pub prefixed_numeric_number : PrefixedNumeric → ℕ
@@ -1872,7 +1872,7 @@ pub trait sink {
     ///
     /// Definitions: [`Writes`](sink::Writes), [`instruction_encoding`](instructions::instruction_encoding), [`IsEncodableInstruction`](instructions::IsEncodableInstruction).
     type WritesInstruction;
-    /// The sink gains `before`, the vector of the items that the iterator yields, and `after`; or the call returns an error and changes nothing. More than 2^32 - 1 items give `TooLong`.
+    /// The sink gains `before`, the vector of the items that the iterator yields, and `after`; or the call returns an error and changes nothing. If the iterator reports more than 2^32 - 1 items, the error is `TooLong`.
     ///
     /// ```text
     /// pub record WritesVec {E I T : Type 0} (becomes : E → I → Type 0)
@@ -1905,7 +1905,7 @@ pub trait sink {
     ///
     /// Definitions: [`plain_encoding`](plain::plain_encoding), [`labels`](arguments::Argument), [`unsigned`](arguments::Argument).
     type br_table_encoding;
-    /// The sink gains `br_table` with the labels that the iterator yields, or the call returns an error and changes nothing. More than 2^32 - 1 labels give `TooLong`.
+    /// The sink gains `br_table` with the labels that the iterator yields, or the call returns an error and changes nothing. If the iterator reports more than 2^32 - 1 labels, the error is `TooLong`.
     ///
     /// ```text
     /// pub record WritesLabels {E I : Type 0} (becomes : E → I → Type 0)
@@ -2190,7 +2190,7 @@ pub trait table {
     ///
     /// Definitions: [`Table`](plain::Table), [`same_op`](plain::same_op).
     type ops_of;
-    /// The table has 628 rows on 627 ops, in ascending order; two neighbours share an op, 1C, and no others do.
+    /// The table has 628 rows on 627 opcodes, in ascending order. Two neighbours share the opcode 1C, and no others share one.
     ///
     /// ```text
     /// pub record IsOpcodeTable (rows : Table) : Type 0 where
@@ -2227,11 +2227,11 @@ pub trait table {
     type IsRow;
 }
 
-/// The numbers of the instructions of `Vector`.
+/// The opcodes of the instructions of `Vector`.
 ///
 /// [How to read definitions](super). The file is [`Vector.antt`](https://github.com/dolzhytik/dolzhytik/blob/main/crates/wasm_insn/specs/Vector.antt).
 pub trait vector {
-    /// The number of a case after the prefix.
+    /// The number of each instruction after the prefix FD.
     ///
     /// ```text
     /// abbrev pub vector_number : Vector → ℕ
@@ -2457,11 +2457,11 @@ pub trait vector {
     type vector_number;
 }
 
-/// The rows of the instructions of `VectorImmediate`.
+/// The opcodes and immediates of the instructions of `VectorImmediate`.
 ///
 /// [How to read definitions](super). The file is [`VectorImmediate.antt`](https://github.com/dolzhytik/dolzhytik/blob/main/crates/wasm_insn/specs/VectorImmediate.antt).
 pub trait vector_immediate {
-    /// The op and the arguments of a case.
+    /// The opcode and the immediates of each instruction.
     ///
     /// ```text
     /// abbrev pub vector_immediate_row : VectorImmediate → Plain

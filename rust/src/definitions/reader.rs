@@ -65,7 +65,7 @@ pub trait iterating {
     ///
     /// Definitions: [`Located`](iterating::Located), [`end_of`](iterating::end_of).
     type IsInPayload;
-    /// The iterator gave this section: the next bytes are the section's, and its offset moves to their end.
+    /// The iterator returned this section: the next bytes are the section's, and the iterator's offset moves to their end.
     ///
     /// ```text
     /// pub record GivesSection (old : Iterating) (s : Located) (new : Iterating) : Type 0 where
@@ -78,7 +78,7 @@ pub trait iterating {
     ///
     /// Definitions: [`Iterating`](iterating::Iterating), [`Located`](iterating::Located), [`IsSection`](outlines::IsSection), [`ahead`](iterating::ahead), [`bytes_of`](outlines::bytes_of), [`end_of`](iterating::end_of).
     type GivesSection;
-    /// The iterator gave this error, and nothing more comes: no section is next, for any cause but `Memory`.
+    /// The iterator returned this error, and has ended. For any cause but `Memory`, no section decodes from the next bytes.
     ///
     /// ```text
     /// pub record GivesError (old : Iterating) (e : ReadError) (new : Iterating) : Type 0 where
@@ -92,7 +92,7 @@ pub trait iterating {
     ///
     /// Definitions: [`Iterating`](iterating::Iterating), [`Rejects`](super::base::decoding::Rejects), [`any_section`](super::base::formats::any_section), [`padded`](super::base::numbers::Mode), [`ahead`](iterating::ahead).
     type GivesError;
-    /// A call of `next`.
+    /// The result of `next`: `None` at the end of the module, a section, or an error.
     ///
     /// ```text
     /// abbrev pub NextSection : Iterating → Option (Result Located ReadError) → Iterating
@@ -121,7 +121,7 @@ pub trait iterating {
     ///   pub bytes : List ℕ
     /// ```
     type LocatedBody;
-    /// The iterator gave this body.
+    /// The iterator returned this body, which was the next size-prefixed one.
     ///
     /// ```text
     /// pub record GivesBody (old : Visiting) (b : LocatedBody) (new : Visiting) : Type 0 where
@@ -133,7 +133,7 @@ pub trait iterating {
     ///
     /// Definitions: [`Visiting`](iterating::Visiting), [`LocatedBody`](iterating::LocatedBody), [`Decodes`](super::base::decoding::Decodes), [`size_prefixed`](super::base::formats::size_prefixed), [`any_bytes`](super::base::formats::any_bytes), [`padded`](super::base::numbers::Mode).
     type GivesBody;
-    /// The iterator gave this error, and nothing more comes. If bodies are left, no size-prefixed body is next, for any cause but `Memory`. If none is left, bytes remain.
+    /// The iterator returned this error, and has ended. If bodies are left, no size-prefixed body decodes from the next bytes, for any cause but `Memory`. If none is left, bytes remain.
     ///
     /// ```text
     /// pub record EndsBodies (old : Visiting) (e : ReadError) (new : Visiting) : Type 0 where
@@ -147,7 +147,7 @@ pub trait iterating {
     ///
     /// Definitions: [`Visiting`](iterating::Visiting), [`Rejects`](super::base::decoding::Rejects), [`size_prefixed`](super::base::formats::size_prefixed), [`any_bytes`](super::base::formats::any_bytes), [`padded`](super::base::numbers::Mode).
     type EndsBodies;
-    /// A call of `next`.
+    /// The result of `next`: `None` at the end of the section, a body, or an error.
     ///
     /// ```text
     /// abbrev pub NextBody : Visiting → Option (Result LocatedBody ReadError) → Visiting
@@ -197,9 +197,10 @@ pub trait kinds {
     ///   ExternalDebugInfo : List ℕ → Contents
     ///   BuildId : List ℕ → Contents
     ///   Dylink : List DylinkItem → Contents
+    ///   Relocations : RelocationsModel → Contents
     /// ```
     ///
-    /// Definitions: [`Body`](super::code::bodies::Body), [`DataItem`](super::sections::data_segments::DataItem), [`ElementItem`](super::sections::elements::ElementItem), [`Plain`](super::insn::plain::Plain), [`ExportItem`](super::sections::exports::ExportItem), [`GlobalItem`](super::sections::globals::GlobalItem), [`ImportItem`](super::sections::imports::ImportItem), [`TableItem`](super::sections::tables::TableItem), [`NameItem`](super::custom::names::NameItem), [`LinkItem`](super::custom::linking::LinkItem), [`Field`](super::custom::producers::Field), [`FunctionHints`](super::custom::hints::Hints), [`Instance`](super::custom::core_dumps::Instance), [`StackFrame`](super::custom::core_stacks::StackFrame), [`TypeItem`](super::types::rec_types::TypeItem), [`Feature`](super::custom::target_features::Feature), [`DylinkItem`](super::custom::dylink::DylinkItem).
+    /// Definitions: [`Body`](super::code::bodies::Body), [`DataItem`](super::sections::data_segments::DataItem), [`ElementItem`](super::sections::elements::ElementItem), [`Plain`](super::insn::plain::Plain), [`ExportItem`](super::sections::exports::ExportItem), [`GlobalItem`](super::sections::globals::GlobalItem), [`ImportItem`](super::sections::imports::ImportItem), [`TableItem`](super::sections::tables::TableItem), [`NameItem`](super::custom::names::NameItem), [`LinkItem`](super::custom::linking::LinkItem), [`Field`](super::custom::producers::Field), [`FunctionHints`](super::custom::hints::Hints), [`Instance`](super::custom::core_dumps::Instance), [`StackFrame`](super::custom::core_stacks::StackFrame), [`TypeItem`](super::types::rec_types::TypeItem), [`Feature`](super::custom::target_features::Feature), [`DylinkItem`](super::custom::dylink::DylinkItem), [`RelocationsModel`](super::custom::relocations::Relocations).
     type Contents;
     /// The format of the payload of a section of this kind.
     ///
@@ -233,9 +234,10 @@ pub trait kinds {
     /// content kinds.ExternalDebugInfo = mapped ExternalDebugInfo debug_file_payload
     /// content kinds.BuildId = mapped BuildId build_id_payload
     /// content kinds.Dylink = mapped Dylink dylink_payload
+    /// content kinds.Relocations = mapped Relocations relocations_payload
     /// ```
     ///
-    /// Definitions: [`Format`](super::base::formats::Format), [`Contents`](kinds::Contents), [`mapped`](super::base::formats::mapped), [`Bodies`](kinds::Contents), [`vec`](super::base::formats::vec), [`size_prefixed`](super::base::formats::size_prefixed), [`body`](super::code::bodies::body), [`Segments`](kinds::Contents), [`data_item`](super::sections::data_segments::data_item), [`DataCount`](kinds::Contents), [`u32`](super::base::formats::u32), [`Elements`](kinds::Contents), [`element`](super::sections::elements::element), [`Exports`](kinds::Contents), [`export`](super::sections::exports::export), [`Functions`](kinds::Contents), [`Globals`](kinds::Contents), [`global_item`](super::sections::globals::global_item), [`Imports`](kinds::Contents), [`import_format`](super::sections::imports::import_format), [`Memories`](kinds::Contents), [`memory_type`](super::sections::memories::memory_type), [`Start`](kinds::Contents), [`Tables`](kinds::Contents), [`table_item`](super::sections::tables::table_item), [`Tags`](kinds::Contents), [`tag_type`](super::sections::tags::tag_type), [`Names`](kinds::Contents), [`name_payload`](super::custom::names::name_payload), [`Linking`](kinds::Contents), [`linking_payload`](super::custom::linking::linking_payload), [`Producers`](kinds::Contents), [`producers_payload`](super::custom::producers::producers_payload), [`Hints`](kinds::Contents), [`hints_payload`](super::custom::hints::hints_payload), [`Core`](kinds::Contents), [`core_payload`](super::custom::core_dumps::core_payload), [`CoreModules`](kinds::Contents), [`modules_payload`](super::custom::core_dumps::modules_payload), [`CoreInstances`](kinds::Contents), [`instances_payload`](super::custom::core_dumps::instances_payload), [`CoreStack`](kinds::Contents), [`stack_payload`](super::custom::core_stacks::stack_payload), [`Custom`](kinds::Contents), [`pair`](super::base::formats::pair), [`name`](super::base::formats::name), [`any_bytes`](super::base::formats::any_bytes), [`Raw`](kinds::Contents), [`Types`](kinds::Contents), [`type_item`](super::types::rec_types::type_item), [`TargetFeatures`](kinds::Contents), [`features_payload`](super::custom::target_features::features_payload), [`SourceMappingUrl`](kinds::Contents), [`source_map_payload`](super::custom::debug_files::source_map_payload), [`ExternalDebugInfo`](kinds::Contents), [`debug_file_payload`](super::custom::debug_files::debug_file_payload), [`BuildId`](kinds::Contents), [`build_id_payload`](super::custom::debug_files::build_id_payload), [`Dylink`](kinds::Contents), [`dylink_payload`](super::custom::dylink::dylink_payload).
+    /// Definitions: [`Format`](super::base::formats::Format), [`Contents`](kinds::Contents), [`mapped`](super::base::formats::mapped), [`Bodies`](kinds::Contents), [`vec`](super::base::formats::vec), [`size_prefixed`](super::base::formats::size_prefixed), [`body`](super::code::bodies::body), [`Segments`](kinds::Contents), [`data_item`](super::sections::data_segments::data_item), [`DataCount`](kinds::Contents), [`u32`](super::base::formats::u32), [`Elements`](kinds::Contents), [`element`](super::sections::elements::element), [`Exports`](kinds::Contents), [`export`](super::sections::exports::export), [`Functions`](kinds::Contents), [`Globals`](kinds::Contents), [`global_item`](super::sections::globals::global_item), [`Imports`](kinds::Contents), [`import_format`](super::sections::imports::import_format), [`Memories`](kinds::Contents), [`memory_type`](super::sections::memories::memory_type), [`Start`](kinds::Contents), [`Tables`](kinds::Contents), [`table_item`](super::sections::tables::table_item), [`Tags`](kinds::Contents), [`tag_type`](super::sections::tags::tag_type), [`Names`](kinds::Contents), [`name_payload`](super::custom::names::name_payload), [`Linking`](kinds::Contents), [`linking_payload`](super::custom::linking::linking_payload), [`Producers`](kinds::Contents), [`producers_payload`](super::custom::producers::producers_payload), [`Hints`](kinds::Contents), [`hints_payload`](super::custom::hints::hints_payload), [`Core`](kinds::Contents), [`core_payload`](super::custom::core_dumps::core_payload), [`CoreModules`](kinds::Contents), [`modules_payload`](super::custom::core_dumps::modules_payload), [`CoreInstances`](kinds::Contents), [`instances_payload`](super::custom::core_dumps::instances_payload), [`CoreStack`](kinds::Contents), [`stack_payload`](super::custom::core_stacks::stack_payload), [`Custom`](kinds::Contents), [`pair`](super::base::formats::pair), [`name`](super::base::formats::name), [`any_bytes`](super::base::formats::any_bytes), [`Raw`](kinds::Contents), [`Types`](kinds::Contents), [`type_item`](super::types::rec_types::type_item), [`TargetFeatures`](kinds::Contents), [`features_payload`](super::custom::target_features::features_payload), [`SourceMappingUrl`](kinds::Contents), [`source_map_payload`](super::custom::debug_files::source_map_payload), [`ExternalDebugInfo`](kinds::Contents), [`debug_file_payload`](super::custom::debug_files::debug_file_payload), [`BuildId`](kinds::Contents), [`build_id_payload`](super::custom::debug_files::build_id_payload), [`Dylink`](kinds::Contents), [`dylink_payload`](super::custom::dylink::dylink_payload), [`Relocations`](kinds::Contents), [`relocations_payload`](super::custom::relocations::relocations_payload).
     type content;
     /// The kind of section that has this content.
     ///
@@ -269,9 +271,10 @@ pub trait kinds {
     /// kind_in (ExternalDebugInfo x) = kinds.ExternalDebugInfo
     /// kind_in (BuildId x) = kinds.BuildId
     /// kind_in (Dylink x) = kinds.Dylink
+    /// kind_in (Relocations x) = kinds.Relocations
     /// ```
     ///
-    /// Definitions: [`Contents`](kinds::Contents), [`Bodies`](kinds::Contents), [`Segments`](kinds::Contents), [`DataCount`](kinds::Contents), [`Elements`](kinds::Contents), [`Exports`](kinds::Contents), [`Functions`](kinds::Contents), [`Globals`](kinds::Contents), [`Imports`](kinds::Contents), [`Memories`](kinds::Contents), [`Start`](kinds::Contents), [`Tables`](kinds::Contents), [`Tags`](kinds::Contents), [`Names`](kinds::Contents), [`Linking`](kinds::Contents), [`Producers`](kinds::Contents), [`Hints`](kinds::Contents), [`Core`](kinds::Contents), [`CoreModules`](kinds::Contents), [`CoreInstances`](kinds::Contents), [`CoreStack`](kinds::Contents), [`Custom`](kinds::Contents), [`Raw`](kinds::Contents), [`Types`](kinds::Contents), [`TargetFeatures`](kinds::Contents), [`SourceMappingUrl`](kinds::Contents), [`ExternalDebugInfo`](kinds::Contents), [`BuildId`](kinds::Contents), [`Dylink`](kinds::Contents).
+    /// Definitions: [`Contents`](kinds::Contents), [`Bodies`](kinds::Contents), [`Segments`](kinds::Contents), [`DataCount`](kinds::Contents), [`Elements`](kinds::Contents), [`Exports`](kinds::Contents), [`Functions`](kinds::Contents), [`Globals`](kinds::Contents), [`Imports`](kinds::Contents), [`Memories`](kinds::Contents), [`Start`](kinds::Contents), [`Tables`](kinds::Contents), [`Tags`](kinds::Contents), [`Names`](kinds::Contents), [`Linking`](kinds::Contents), [`Producers`](kinds::Contents), [`Hints`](kinds::Contents), [`Core`](kinds::Contents), [`CoreModules`](kinds::Contents), [`CoreInstances`](kinds::Contents), [`CoreStack`](kinds::Contents), [`Custom`](kinds::Contents), [`Raw`](kinds::Contents), [`Types`](kinds::Contents), [`TargetFeatures`](kinds::Contents), [`SourceMappingUrl`](kinds::Contents), [`ExternalDebugInfo`](kinds::Contents), [`BuildId`](kinds::Contents), [`Dylink`](kinds::Contents), [`Relocations`](kinds::Contents).
     type kind_in;
     /// The view of decoded items.
     ///
@@ -305,9 +308,10 @@ pub trait kinds {
     /// contents_of (items.ExternalDebugInfo x) = ExternalDebugInfo x.now
     /// contents_of (items.BuildId x) = BuildId x.now
     /// contents_of (items.Dylink v) = Dylink (map dylink_view v.items)
+    /// contents_of (items.Relocations n section v) = Relocations (n.now, (section, v.items))
     /// ```
     ///
-    /// Definitions: [`Contents`](kinds::Contents), [`Bodies`](kinds::Contents), [`body_view`](super::code::body_views::body_view), [`Segments`](kinds::Contents), [`segment_view`](super::sections::data_segments::segment_view), [`DataCount`](kinds::Contents), [`Elements`](kinds::Contents), [`element_view`](super::sections::elements::element_view), [`Exports`](kinds::Contents), [`item_of`](super::sections::exports::item_of), [`Functions`](kinds::Contents), [`Globals`](kinds::Contents), [`global_view`](super::sections::globals::global_view), [`Imports`](kinds::Contents), [`imports_item`](super::sections::imports::imports_item), [`Memories`](kinds::Contents), [`Start`](kinds::Contents), [`Tables`](kinds::Contents), [`table_view`](super::sections::tables::table_view), [`Tags`](kinds::Contents), [`Names`](kinds::Contents), [`name_item_view`](super::custom::names::name_item_view), [`Linking`](kinds::Contents), [`link_view`](super::custom::linking::link_view), [`Producers`](kinds::Contents), [`field_view`](super::custom::producers::field_view), [`Hints`](kinds::Contents), [`hints_view`](super::custom::hints::hints_view), [`Core`](kinds::Contents), [`CoreModules`](kinds::Contents), [`CoreInstances`](kinds::Contents), [`instance_view`](super::custom::core_dumps::instance_view), [`CoreStack`](kinds::Contents), [`stack_frame_view`](super::custom::core_stacks::stack_frame_view), [`Custom`](kinds::Contents), [`Raw`](kinds::Contents), [`Types`](kinds::Contents), [`entry_view`](super::types::items::entry_view), [`TargetFeatures`](kinds::Contents), [`feature_view`](super::custom::target_features::feature_view), [`SourceMappingUrl`](kinds::Contents), [`ExternalDebugInfo`](kinds::Contents), [`BuildId`](kinds::Contents), [`Dylink`](kinds::Contents), [`dylink_view`](super::custom::dylink::dylink_view).
+    /// Definitions: [`Contents`](kinds::Contents), [`Bodies`](kinds::Contents), [`body_view`](super::code::body_views::body_view), [`Segments`](kinds::Contents), [`segment_view`](super::sections::data_segments::segment_view), [`DataCount`](kinds::Contents), [`Elements`](kinds::Contents), [`element_view`](super::sections::elements::element_view), [`Exports`](kinds::Contents), [`item_of`](super::sections::exports::item_of), [`Functions`](kinds::Contents), [`Globals`](kinds::Contents), [`global_view`](super::sections::globals::global_view), [`Imports`](kinds::Contents), [`imports_item`](super::sections::imports::imports_item), [`Memories`](kinds::Contents), [`Start`](kinds::Contents), [`Tables`](kinds::Contents), [`table_view`](super::sections::tables::table_view), [`Tags`](kinds::Contents), [`Names`](kinds::Contents), [`name_item_view`](super::custom::names::name_item_view), [`Linking`](kinds::Contents), [`link_view`](super::custom::linking::link_view), [`Producers`](kinds::Contents), [`field_view`](super::custom::producers::field_view), [`Hints`](kinds::Contents), [`hints_view`](super::custom::hints::hints_view), [`Core`](kinds::Contents), [`CoreModules`](kinds::Contents), [`CoreInstances`](kinds::Contents), [`instance_view`](super::custom::core_dumps::instance_view), [`CoreStack`](kinds::Contents), [`stack_frame_view`](super::custom::core_stacks::stack_frame_view), [`Custom`](kinds::Contents), [`Raw`](kinds::Contents), [`Types`](kinds::Contents), [`entry_view`](super::types::items::entry_view), [`TargetFeatures`](kinds::Contents), [`feature_view`](super::custom::target_features::feature_view), [`SourceMappingUrl`](kinds::Contents), [`ExternalDebugInfo`](kinds::Contents), [`BuildId`](kinds::Contents), [`Dylink`](kinds::Contents), [`dylink_view`](super::custom::dylink::dylink_view), [`Relocations`](kinds::Contents).
     type contents_of;
     /// The kinds, in the order of their numbers.
     ///
@@ -320,7 +324,8 @@ pub trait kinds {
     ///     ∷ kinds.Names ∷ kinds.Linking ∷ kinds.Producers ∷ kinds.Hints ∷ kinds.Core
     ///         ∷ kinds.CoreModules ∷ kinds.CoreInstances ∷ kinds.CoreStack ∷ kinds.Custom
     ///         ∷ kinds.Raw ∷ kinds.Types ∷ kinds.TargetFeatures ∷ kinds.SourceMappingUrl
-    ///         ∷ kinds.ExternalDebugInfo ∷ kinds.BuildId ∷ kinds.Dylink ∷ []
+    ///         ∷ kinds.ExternalDebugInfo ∷ kinds.BuildId ∷ kinds.Dylink ∷ kinds.Relocations
+    ///         ∷ []
     /// ```
     type kinds_in_order;
     /// The kind of a number, counted from 0.
@@ -399,14 +404,15 @@ pub trait kinds {
     ///
     /// Definitions: [`name_name`](super::custom::names::name_name), [`linking_name`](super::custom::linking::linking_name), [`producers_name`](super::custom::producers::producers_name), [`features_name`](super::custom::target_features::features_name), [`hints_name`](super::custom::hints::hints_name), [`core_name`](super::custom::core_dumps::core_name), [`modules_name`](super::custom::core_dumps::modules_name), [`instances_name`](super::custom::core_dumps::instances_name), [`stack_name`](super::custom::core_stacks::stack_name), [`source_map_name`](super::custom::debug_files::source_map_name), [`debug_file_name`](super::custom::debug_files::debug_file_name), [`build_id_name`](super::custom::debug_files::build_id_name), [`dylink_name`](super::custom::dylink::dylink_name).
     type known_names;
-    /// The kind of a custom section of this name.
+    /// The kind of a custom section of this name: [`Relocations`](kinds::Contents) if the name begins with `reloc.`, and otherwise that of the list.
     ///
     /// ```text
     /// abbrev pub kind_named : List ℕ → SectionKind
-    /// kind_named n = kind_among_names known_names n
+    /// kind_named n = if begins_with relocations_prefix n then kinds.Relocations else
+    ///     kind_among_names known_names n
     /// ```
     ///
-    /// Definitions: [`kind_among_names`](kinds::kind_among_names), [`known_names`](kinds::known_names).
+    /// Definitions: [`begins_with`](super::custom::customs::begins_with), [`relocations_prefix`](super::custom::relocations::relocations_prefix), [`kind_among_names`](kinds::kind_among_names), [`known_names`](kinds::known_names).
     type kind_named;
     /// The number of items, if they are counted. The items of a type section are its entries, and a recursion group is one entry.
     ///
@@ -531,7 +537,7 @@ pub trait modules {
 
 /// Modules as `outline` visits them: each section with any payload, whether that decodes by its kind or not.
 ///
-/// - Sections with any payload: [`Section`](outlines::Section), [`section_of`](outlines::section_of), [`bytes_of`](outlines::bytes_of), [`IsNameOf`](outlines::IsNameOf), [`IsSection`](outlines::IsSection), [`HasSections`](outlines::HasSections).
+/// - Sections with any payload: [`Section`](outlines::Section), [`section_of`](outlines::section_of), [`bytes_of`](outlines::bytes_of), [`IsNameOf`](outlines::IsNameOf), [`IsDataOf`](outlines::IsDataOf), [`IsSection`](outlines::IsSection), [`HasSections`](outlines::HasSections).
 /// - Kinds: [`kind_at`](outlines::kind_at), [`section_kind_of`](outlines::section_kind_of).
 /// - Outlines: [`IsCount`](outlines::IsCount), [`IsOutline`](outlines::IsOutline), [`AreOutlines`](outlines::AreOutlines), [`HasOutline`](outlines::HasOutline).
 /// - Bytes that are not a module: [`EndsBehind`](outlines::EndsBehind), [`EndsAt`](outlines::EndsAt).
@@ -578,6 +584,16 @@ pub trait outlines {
     ///
     /// Definitions: [`number_of`](super::base::section_id::number_of), [`Decodes`](super::base::decoding::Decodes), [`name`](super::base::formats::name), [`padded`](super::base::numbers::Mode), [`Rejects`](super::base::decoding::Rejects).
     type IsNameOf;
+    /// The data of a section of this name: the bytes of the payload after the name, or all of them if there is no name.
+    ///
+    /// ```text
+    /// abbrev pub IsDataOf : Option (List ℕ) → List ℕ → List ℕ → Type 0
+    /// IsDataOf (Some n) payload content = Decodes name padded payload n content
+    /// IsDataOf None payload content = content ≡ payload
+    /// ```
+    ///
+    /// Definitions: [`Decodes`](super::base::decoding::Decodes), [`name`](super::base::formats::name), [`padded`](super::base::numbers::Mode).
+    type IsDataOf;
     /// The bytes after the id are this payload with its size prefix, and the payload has this name.
     ///
     /// ```text
@@ -747,7 +763,7 @@ pub trait sections {
 
 /// The minimal form of a module, and the custom sections whose offsets it must preserve.
 ///
-/// - Custom sections that hold offsets: [`begins_with`](shortening::begins_with), [`names_code_offsets`](shortening::names_code_offsets), [`target_named`](shortening::target_named), [`target_of`](shortening::target_of), [`contains_offsets`](shortening::contains_offsets), [`IsLedInto`](shortening::IsLedInto), [`IsPlaced`](shortening::IsPlaced).
+/// - Custom sections that hold offsets: [`names_code_offsets`](shortening::names_code_offsets), [`target_named`](shortening::target_named), [`target_of`](shortening::target_of), [`contains_offsets`](shortening::contains_offsets), [`IsLedInto`](shortening::IsLedInto), [`IsPlaced`](shortening::IsPlaced).
 /// - The output for a section: [`Rewrite`](shortening::Rewrite), [`IsEncodingFor`](shortening::IsEncodingFor), [`IsWritten`](shortening::IsWritten), [`IsRewrite`](shortening::IsRewrite), [`written_as`](shortening::written_as), [`written`](shortening::written), [`keeps`](shortening::keeps), [`count_kept`](shortening::count_kept), [`id_written`](shortening::id_written), [`Stays`](shortening::Stays), [`AllStay`](shortening::AllStay), [`KeepsOffsets`](shortening::KeepsOffsets), [`HasLostOffsets`](shortening::HasLostOffsets).
 /// - Modules: [`ShortensModule`](shortening::ShortensModule), [`LosesOffsets`](shortening::LosesOffsets), [`Explains`](shortening::Explains).
 /// - Intermediate steps: [`IsChange`](shortening::IsChange), [`GainsSection`](shortening::GainsSection), [`AreMoved`](shortening::AreMoved), [`size_before`](shortening::size_before), [`size_after`](shortening::size_after), [`IsInto`](shortening::IsInto), [`IsFirst`](shortening::IsFirst), [`HasFound`](shortening::HasFound), [`leaves_out`](shortening::leaves_out), [`first_of`](shortening::first_of), [`earlier`](shortening::earlier), [`lost`](shortening::lost), [`found_of`](shortening::found_of), [`lost_at`](shortening::lost_at), [`HasTally`](shortening::HasTally), [`Rewrites`](shortening::Rewrites), [`StopsAfter`](shortening::StopsAfter).
@@ -755,13 +771,6 @@ pub trait sections {
 ///
 /// [How to read definitions](super). The file is [`Shortening.antt`](https://github.com/dolzhytik/dolzhytik/blob/main/crates/wasm_reader/specs/Shortening.antt).
 pub trait shortening {
-    /// Whether the name begins with these bytes.
-    ///
-    /// ```text
-    /// abbrev pub begins_with : List ℕ → List ℕ → Bool
-    /// begins_with front n = starts_with nat_eq n front
-    /// ```
-    type begins_with;
     /// Whether a custom section of this name holds offsets into code and data. These are symbols, debugging information, a reference to a file with it, the identity that ties such a file to the module, and code metadata.
     ///
     /// ```text
@@ -772,19 +781,19 @@ pub trait shortening {
     ///     || begins_with (codes "metadata.code.") n
     /// ```
     ///
-    /// Definitions: [`linking_name`](super::custom::linking::linking_name), [`begins_with`](shortening::begins_with).
+    /// Definitions: [`linking_name`](super::custom::linking::linking_name), [`begins_with`](super::custom::customs::begins_with).
     type names_code_offsets;
     /// The sections that the offsets in a custom section of this name point into. Relocations name any section, and a source map counts from the first byte of the module.
     ///
     /// ```text
     /// abbrev pub target_named : List ℕ → Option Target
     /// target_named n =
-    ///     if begins_with (codes "reloc.") n then Some Relocated else
+    ///     if begins_with relocations_prefix n then Some Relocated else
     ///     (if bytes_eq n (codes "sourceMappingURL") then Some Module else
     ///     (if names_code_offsets n then Some CodeAndData else None))
     /// ```
     ///
-    /// Definitions: [`begins_with`](shortening::begins_with), [`names_code_offsets`](shortening::names_code_offsets).
+    /// Definitions: [`begins_with`](super::custom::customs::begins_with), [`relocations_prefix`](super::custom::relocations::relocations_prefix), [`names_code_offsets`](shortening::names_code_offsets).
     type target_named;
     /// The sections that the offsets in a section point into, by its name.
     ///
@@ -999,7 +1008,7 @@ pub trait shortening {
     ///
     /// Definitions: [`Rewrite`](shortening::Rewrite), [`HasSections`](outlines::HasSections), [`IsRewrite`](shortening::IsRewrite), [`KeepsOffsets`](shortening::KeepsOffsets), [`HasLostOffsets`](shortening::HasLostOffsets).
     type LosesOffsets;
-    /// The meaning of an error. Either the section of this number is the first that is malformed, whatever its payload, and the bytes are not a module. Or the section of this number loses its offsets. `Memory` means nothing about the bytes.
+    /// The meaning of an error. Either the section of this number is the first that is malformed, whatever its payload, and the bytes are not a module. Or the section of this number loses its offsets. `Memory` implies nothing about the bytes.
     ///
     /// ```text
     /// abbrev pub Explains : Offsets → List ℕ → ModuleFault → Type 0
@@ -1021,7 +1030,7 @@ pub trait shortening {
     ///
     /// Definitions: [`Section`](outlines::Section).
     type IsChange;
-    /// The buffer gains the output for the section.
+    /// The buffer gains the output for the section, encoded in this way.
     ///
     /// ```text
     /// pub record GainsSection (offsets : Offsets) (s : Section) (how : How)
@@ -1191,7 +1200,7 @@ pub trait shortening {
     ///
     /// Definitions: [`Decodes`](super::base::decoding::Decodes), [`members`](super::base::formats::members), [`any_section`](super::base::formats::any_section), [`padded`](super::base::numbers::Mode), [`Rejects`](super::base::decoding::Rejects).
     type StopsAfter;
-    /// The module is rejected because memory was refused.
+    /// The cause of the error is a failed allocation.
     ///
     /// ```text
     /// abbrev pub IsMemory : ModuleFault → Type 0
@@ -1199,7 +1208,7 @@ pub trait shortening {
     /// IsMemory (faults.Offsets number) = ⊥
     /// ```
     type IsMemory;
-    /// A minimized module can be minimized again, unless memory is refused, and becomes the same bytes.
+    /// A minimized module can be minimized again, to the same bytes, unless an allocation fails.
     ///
     /// ```text
     /// pub record IsIdempotent : Type 0 where

@@ -80,7 +80,7 @@ pub trait lines {
     ///
     /// Definitions: [`words_of`](lines::words_of), [`before_comment`](lines::before_comment).
     type counted_words;
-    /// Whether these words of a line are `version 2`. A line without words does not tell.
+    /// Whether these words of a line are `version 2`; `None` if there are no words.
     ///
     /// ```text
     /// abbrev pub is_version_2 : List (List ℕ) → Option Bool
@@ -119,7 +119,7 @@ pub trait lines {
     /// version_with (Some index) = Second
     /// ```
     type version_with;
-    /// The lines of a recipe. The line `version 2` adds nothing: it is as an empty one.
+    /// The lines of a recipe. The line `version 2` adds no item: it is replaced by an empty line.
     ///
     /// ```text
     /// abbrev pub lines_with : Option ℕ → List (List ℕ) → List (List ℕ)
@@ -294,7 +294,7 @@ pub trait program {
     ///
     /// Definitions: [`recipe_module`](recipe::recipe_module), [`entries_of`](recipe::entries_of), [`lines_of`](lines::lines_of).
     type hex_line_of;
-    /// Memory was refused, but not at a line of a recipe.
+    /// An allocation failed, but not at a line of a recipe.
     ///
     /// ```text
     /// abbrev pub IsLateRefusal : Trouble → Type 0

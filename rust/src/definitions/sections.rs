@@ -223,7 +223,7 @@ pub trait data_segments {
     ///
     /// Definitions: [`Kind`](super::base::entries::Kind), [`GivenData`](data_segments::GivenData), [`DataItem`](data_segments::DataItem), [`data_encoding`](data_segments::data_encoding), [`IsGivenData`](data_segments::IsGivenData), [`IsGivenDataPadded`](data_segments::IsGivenDataPadded), [`data_of`](data_segments::data_of), [`data_item`](data_segments::data_item).
     type data_items;
-    /// The section gains one entry with the bytes that the iterator yields, or the call returns an error and changes nothing. More than 2^32 - 1 bytes give `TooLong`.
+    /// The section gains one entry with the bytes that the iterator yields, or the call returns an error and changes nothing. It returns `TooLong` if the section is full or the iterator reports more than 2^32 - 1 remaining bytes, and otherwise not.
     ///
     /// ```text
     /// pub record AddsBytes {U S : Type 0} (becomes : U → S → Type 0)
@@ -905,7 +905,7 @@ pub trait exports {
 ///
 /// [How to read definitions](super). The file is [`Flags.antt`](https://github.com/dolzhytik/dolzhytik/blob/main/crates/wasm_sections/specs/Flags.antt).
 pub trait flags {
-    /// The flags of limits: a maximum is encoded, the table or memory is shared, its indices have 64 bits, a page size is encoded. The second and the fourth are not in the core specification.
+    /// The flags of limits: a maximum is encoded, the table or memory is shared, its indices have 64 bits, a page size is encoded. The core specification lacks the second and the fourth, which are those of the proposals for threads and for custom page sizes.
     ///
     /// ```text
     /// pub record Flags : Type 0 where
@@ -1052,7 +1052,7 @@ pub trait given_elements {
 ///
 /// [How to read definitions](super). The file is [`Globals.antt`](https://github.com/dolzhytik/dolzhytik/blob/main/crates/wasm_sections/specs/Globals.antt).
 pub trait globals {
-    /// The flags of a global type. The second is not in the core specification.
+    /// The flags of a global type: mutable and shared. The core specification lacks the second, which the shared-everything threads proposal adds.
     ///
     /// ```text
     /// pub record GlobalFlags : Type 0 where
@@ -1258,7 +1258,7 @@ pub trait globals {
 ///
 /// [How to read definitions](super). The file is [`Imports.antt`](https://github.com/dolzhytik/dolzhytik/blob/main/crates/wasm_sections/specs/Imports.antt).
 pub trait imports {
-    /// The encoding of an entity: a byte for its kind, and its type. `FunctionExact` is not in the core specification.
+    /// The encoding of an entity: a byte for its kind, and its type. The core specification lacks `FunctionExact`, which the custom descriptors proposal adds.
     ///
     /// ```text
     /// abbrev pub entity_encoding : EntityType → List ℕ
@@ -1309,7 +1309,7 @@ pub trait imports {
     ///
     /// Definitions: [`Format`](super::base::formats::Format), [`tagged`](super::base::formats::tagged), [`byte`](super::base::formats::byte), [`choice`](super::base::formats::choice), [`entity_tags`](imports::entity_tags), [`impossible`](super::base::formats::impossible).
     type entity;
-    /// The imports from a module: one entity, a group of names with an entity each, or a group of names of one entity. Groups are not in the core specification.
+    /// The imports from a module: one entity, a group of names with an entity each, or a group of names of one entity. The core specification lacks groups, which the compact import section proposal adds.
     ///
     /// ```text
     /// pub data Imported : Type 0 where

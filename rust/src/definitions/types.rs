@@ -7,7 +7,7 @@
 ///
 /// [How to read definitions](super). The file is [`Calls.antt`](https://github.com/dolzhytik/dolzhytik/blob/main/crates/wasm_types/specs/Calls.antt).
 pub trait calls {
-    /// The section gains one entry of the items that the iterator yields, or the call returns an error and changes nothing. More than 2^32 - 1 items give `TooLong`.
+    /// The section gains one entry of the items that the iterator yields, or the call returns an error and changes nothing. If the iterator reports more than 2^32 - 1 items, the error is `TooLong`.
     ///
     /// ```text
     /// pub record AddsListed {U S T : Type 0} (becomes : U → S → Type 0)
@@ -30,7 +30,7 @@ pub trait calls {
     ///
     /// Definitions: [`IsEncodableVec`](super::base::encodings::IsEncodableVec), [`longest`](super::base::encodings::longest).
     type AddsListed;
-    /// The section gains one entry of the items that both iterators yield, or the call returns an error and changes nothing. More than 2^32 - 1 items of either give `TooLong`.
+    /// The section gains one entry of the items that both iterators yield, or the call returns an error and changes nothing. If either reports more than 2^32 - 1 items, the error is `TooLong`.
     ///
     /// ```text
     /// pub record AddsTwoListed {U S V W T : Type 0} (becomes : U → S → Type 0)
@@ -91,7 +91,7 @@ pub trait given {
     ///
     /// Definitions: [`Shape`](rec_types::Shape), [`func_in`](given::func_in), [`array`](rec_types::Shape), [`structure`](rec_types::Shape), [`cont`](rec_types::Shape).
     type shape_in;
-    /// The composite type of an argument.
+    /// The composite type that an argument encodes.
     ///
     /// ```text
     /// abbrev pub composite_in : {A : Type 0} → CompositeType A → Composite
@@ -101,7 +101,7 @@ pub trait given {
     ///
     /// Definitions: [`Composite`](rec_types::Composite), [`shape_in`](given::shape_in).
     type composite_in;
-    /// The subtype of an argument.
+    /// The subtype that an argument encodes: it has at most one supertype.
     ///
     /// ```text
     /// abbrev pub sub_in : {A : Type 0} → SubType A → Sub
@@ -135,7 +135,7 @@ pub trait given {
     type group_encoding;
 }
 
-/// The views of decoded types: their values without locations in memory.
+/// The views of decoded types, their values without locations in memory, and the encodings of decoded types.
 ///
 /// [How to read definitions](super). The file is [`Items.antt`](https://github.com/dolzhytik/dolzhytik/blob/main/crates/wasm_types/specs/Items.antt).
 pub trait items {
@@ -190,7 +190,7 @@ pub trait items {
     ///
     /// Definitions: [`IsEncodableVec`](super::base::encodings::IsEncodableVec), [`IsEncodableShape`](given::IsEncodableShape), [`shape_in`](given::shape_in).
     type IsEncodableSubItem;
-    /// The encoding of an entry.
+    /// The encoding of a decoded entry: a subtype, or 0x4E and the vector of its subtypes.
     ///
     /// ```text
     /// abbrev pub entry_encoding : {A : Type 0} → TypeEntry A → List ℕ
@@ -285,7 +285,7 @@ pub trait rec_types {
     /// mutable_code true = 0x01
     /// ```
     type mutable_code;
-    /// The encoding of a field type.
+    /// The encoding of a field type: its storage type, then the byte for its mutability.
     ///
     /// ```text
     /// abbrev pub field_encoding : FieldType → List ℕ
@@ -294,7 +294,7 @@ pub trait rec_types {
     ///
     /// Definitions: [`storage_encoding`](rec_types::storage_encoding), [`mutable_code`](rec_types::mutable_code).
     type field_encoding;
-    /// The encoding of a function type.
+    /// The encoding of a function type: 0x60, then the vectors of its parameters and of its results.
     ///
     /// ```text
     /// abbrev pub func_encoding : List ValType → List ValType → List ℕ
@@ -304,7 +304,7 @@ pub trait rec_types {
     ///
     /// Definitions: [`vec_encoding`](super::base::encodings::vec_encoding), [`val_encoding`](super::base::types::val_encoding).
     type func_encoding;
-    /// The encoding of a structure type.
+    /// The encoding of a structure type: 0x5F, then the vector of its fields.
     ///
     /// ```text
     /// abbrev pub struct_encoding : List FieldType → List ℕ
@@ -313,7 +313,7 @@ pub trait rec_types {
     ///
     /// Definitions: [`vec_encoding`](super::base::encodings::vec_encoding), [`field_encoding`](rec_types::field_encoding).
     type struct_encoding;
-    /// The encoding of a continuation type.
+    /// The encoding of a continuation type: 0x5D, then the index as a signed number.
     ///
     /// ```text
     /// abbrev pub cont_encoding : ℕ → List ℕ
@@ -344,7 +344,7 @@ pub trait rec_types {
     ///
     /// Definitions: [`unsigned_encoding`](super::base::numbers::unsigned_encoding).
     type index_encoding;
-    /// The encoding of sharedness: 65 for a shared type, no bytes otherwise.
+    /// The encoding of sharedness: 0x65 for a shared type, no bytes otherwise.
     ///
     /// ```text
     /// abbrev pub shared_encoding : Bool → List ℕ
@@ -352,7 +352,7 @@ pub trait rec_types {
     /// shared_encoding true = 0x65 ∷ []
     /// ```
     type shared_encoding;
-    /// The encoding of a composite type.
+    /// The encoding of a composite type: its optional prefixes, then its shape.
     ///
     /// ```text
     /// abbrev pub composite_encoding : Composite → List ℕ
@@ -374,7 +374,7 @@ pub trait rec_types {
     ///
     /// Definitions: [`vec_encoding`](super::base::encodings::vec_encoding), [`unsigned_encoding`](super::base::numbers::unsigned_encoding).
     type before_encoding;
-    /// The encoding of a subtype.
+    /// The encoding of a subtype: the bytes before its composite type, then that type.
     ///
     /// ```text
     /// abbrev pub sub_encoding : Sub → List ℕ
@@ -384,7 +384,7 @@ pub trait rec_types {
     ///
     /// Definitions: [`Sub`](rec_types::Sub), [`before_encoding`](rec_types::before_encoding), [`composite_encoding`](rec_types::composite_encoding).
     type sub_encoding;
-    /// The encoding of an entry.
+    /// The encoding of an entry: a subtype, or 0x4E and the vector of the group's subtypes.
     ///
     /// ```text
     /// abbrev pub type_encoding : TypeItem → List ℕ
@@ -413,7 +413,7 @@ pub trait rec_types {
     ///
     /// Definitions: [`IsStorage`](rec_types::IsStorage).
     type IsField;
-    /// Indices in the shape are below 2^32, and so are the numbers of parameters, results and fields.
+    /// Indices in the shape, and the numbers of parameters, results and fields, are below 2^32.
     ///
     /// ```text
     /// abbrev pub IsShape : Shape → Type 0
@@ -435,7 +435,7 @@ pub trait rec_types {
     ///
     /// Definitions: [`IsUnsignedInRange`](super::base::laws::IsUnsignedInRange).
     type IsGivenIndex;
-    /// The composite type is well-formed.
+    /// The composite type is well-formed: its indices are below 2^32, and its shape is well-formed.
     ///
     /// ```text
     /// pub record IsComposite (c : Composite) : Type 0 where
@@ -446,7 +446,7 @@ pub trait rec_types {
     ///
     /// Definitions: [`Composite`](rec_types::Composite), [`IsGivenIndex`](rec_types::IsGivenIndex), [`IsShape`](rec_types::IsShape).
     type IsComposite;
-    /// The subtype is well-formed.
+    /// The subtype is well-formed: its supertypes are indices below 2^32 and fit their count, and its composite type is well-formed.
     ///
     /// ```text
     /// pub record IsSub (s : Sub) : Type 0 where
@@ -456,7 +456,7 @@ pub trait rec_types {
     ///
     /// Definitions: [`Sub`](rec_types::Sub), [`IsEncodableVec`](super::base::encodings::IsEncodableVec), [`IsUnsignedInRange`](super::base::laws::IsUnsignedInRange), [`IsComposite`](rec_types::IsComposite).
     type IsSub;
-    /// The entry is well-formed.
+    /// The entry is well-formed: each of its subtypes is, and they fit their count.
     ///
     /// ```text
     /// abbrev pub IsType : TypeItem → Type 0
@@ -538,14 +538,14 @@ pub trait rec_types {
     ///
     /// Definitions: [`Format`](super::base::formats::Format), [`Shape`](rec_types::Shape), [`choice`](super::base::formats::choice), [`shape_tags`](rec_types::shape_tags), [`impossible`](super::base::formats::impossible).
     type after_shape;
-    /// A value with an index before it.
+    /// A value that an index precedes.
     ///
     /// ```text
     /// abbrev pub given_index : {X : Type 0} → ℕ × X → Option ℕ × X
     /// given_index parts = (Some parts.0, parts.1)
     /// ```
     type given_index;
-    /// A value without an index before it.
+    /// A value that no index precedes.
     ///
     /// ```text
     /// abbrev pub no_index : {X : Type 0} → X → Option ℕ × X
@@ -602,7 +602,7 @@ pub trait rec_types {
     ///
     /// Definitions: [`Format`](super::base::formats::Format), [`Composite`](rec_types::Composite), [`choice`](super::base::formats::choice), [`mapped`](super::base::formats::mapped), [`composite_of`](rec_types::composite_of), [`tagged`](super::base::formats::tagged), [`byte`](super::base::formats::byte), [`after_describes`](rec_types::after_describes).
     type after_composite;
-    /// A composite type: 65 if it is shared, 4C and an index, 4D and an index, each optional, and a shape.
+    /// A composite type: 0x65 if it is shared, 0x4C and an index, 0x4D and an index, each optional, and a shape. Core specification, Binary Format, Types, Composite Types; it has only the shape.
     ///
     /// ```text
     /// abbrev pub composite_type : Format Composite
@@ -639,7 +639,7 @@ pub trait rec_types {
     ///
     /// Definitions: [`Format`](super::base::formats::Format), [`Composite`](rec_types::Composite), [`pair`](super::base::formats::pair), [`vec`](super::base::formats::vec), [`u32`](super::base::formats::u32), [`composite_type`](rec_types::composite_type).
     type supertypes_and;
-    /// The byte 4F may precede this vector of supertypes and this composite type. The builders' grammar has it where there is a supertype, and the standard's also before an empty vector.
+    /// The byte 0x4F may precede this vector of supertypes and this composite type. In the builders' grammar it does if there is a supertype; in the standard's, also before an empty vector.
     ///
     /// ```text
     /// abbrev pub HasFinalPrefix : Grammar → List ℕ × Composite → Type 0
@@ -649,7 +649,7 @@ pub trait rec_types {
     ///
     /// Definitions: [`Grammar`](super::base::numbers::Grammar), [`Composite`](rec_types::Composite), [`builders`](super::base::numbers::Grammar), [`admitted`](super::base::numbers::Grammar).
     type HasFinalPrefix;
-    /// The formats after 50 and 4F. Any other first byte of a subtype begins its composite type.
+    /// The formats after 0x50 and 0x4F. Any other first byte of a subtype begins its composite type.
     ///
     /// ```text
     /// abbrev pub sub_tags : Grammar → List (ℕ × Format Sub)
@@ -668,7 +668,7 @@ pub trait rec_types {
     ///
     /// Definitions: [`Format`](super::base::formats::Format), [`Sub`](rec_types::Sub), [`mapped`](super::base::formats::mapped), [`alone_of`](rec_types::alone_of), [`after_composite`](rec_types::after_composite).
     type after_alone;
-    /// A subtype with the prefixes of this grammar: 50, or 4F if it is final, supertypes and a composite type; or a composite type alone.
+    /// A subtype with the prefixes of this grammar: 0x50, or 0x4F if it is final, supertypes and a composite type; or a composite type alone.
     ///
     /// ```text
     /// abbrev pub prefixed_sub : Grammar → Format Sub
@@ -677,7 +677,7 @@ pub trait rec_types {
     ///
     /// Definitions: [`Grammar`](super::base::numbers::Grammar), [`Format`](super::base::formats::Format), [`Sub`](rec_types::Sub), [`tagged`](super::base::formats::tagged), [`byte`](super::base::formats::byte), [`choice`](super::base::formats::choice), [`sub_tags`](rec_types::sub_tags), [`after_alone`](rec_types::after_alone).
     type prefixed_sub;
-    /// A subtype. The minimal encoding of a final type without supertypes is its composite type alone.
+    /// A subtype. The minimal encoding of a final type without supertypes is its composite type alone. Core specification, Binary Format, Types, Recursive Types.
     ///
     /// ```text
     /// abbrev pub sub_type : Format Sub
@@ -696,7 +696,7 @@ pub trait rec_types {
     ///
     /// Definitions: [`Format`](super::base::formats::Format), [`Sub`](rec_types::Sub), [`after_byte`](super::base::formats::after_byte), [`sub_type`](rec_types::sub_type).
     type after_sub;
-    /// The format after 4E.
+    /// The format after the byte 0x4E of a recursion group.
     ///
     /// ```text
     /// abbrev pub group_tags : List (ℕ × Format TypeItem)
@@ -705,7 +705,7 @@ pub trait rec_types {
     ///
     /// Definitions: [`Format`](super::base::formats::Format), [`TypeItem`](rec_types::TypeItem), [`mapped`](super::base::formats::mapped), [`group`](rec_types::TypeItem), [`vec`](super::base::formats::vec), [`sub_type`](rec_types::sub_type).
     type group_tags;
-    /// A recursion group: 4E, which begins no subtype, and a vector of subtypes.
+    /// A recursion group: 0x4E, which begins no subtype, and a vector of subtypes. Core specification, Binary Format, Types, Recursive Types.
     ///
     /// ```text
     /// abbrev pub group_type : Format TypeItem

@@ -151,7 +151,8 @@ over_proved! {
     /// assert_eq!(bytes, *b"\x0F\x04name\0\x02\x01m\x01\x04\x01\0\x01f");
     /// ```
     NameSection
-    /// The custom section `linking`, version 2: symbols and other data of an object file, for a linker.
+    /// The custom section `linking`, version 2: symbols and other data of an object file, for a
+    /// linker.
     ///
     /// The tool conventions define it in
     /// [Linking](https://github.com/WebAssembly/tool-conventions/blob/main/Linking.md). For segment
@@ -355,7 +356,8 @@ impl NameSection {
     ///
     /// # Panics
     ///
-    /// Panics if the section has 4294967295 entries, or if the length of a name would pass 4294967295.
+    /// Panics if the section has 4294967295 entries, or if the length of a name would pass
+    /// 4294967295.
     pub fn module(&mut self, name: &str) {
         done(self.0.module(name))
     }
@@ -386,7 +388,8 @@ impl NameSection {
     ///
     /// # Panics
     ///
-    /// Panics if the section has 4294967295 subsections, or if the size of one would pass 4294967295.
+    /// Panics if the section has 4294967295 subsections, or if the size of one would pass
+    /// 4294967295.
     pub fn raw(&mut self, id: u8, data: &[u8]) {
         done(self.0.raw(id, data))
     }
@@ -402,7 +405,8 @@ impl LinkingSection {
     ///
     /// # Panics
     ///
-    /// Panics if the section has 4294967295 subsections, or if the size of one would pass 4294967295.
+    /// Panics if the section has 4294967295 subsections, or if the size of one would pass
+    /// 4294967295.
     pub fn symbol_table(&mut self, symbol_table: &SymbolTable) -> &mut Self {
         done(self.0.symbol_table(&symbol_table.0));
         self
@@ -412,7 +416,8 @@ impl LinkingSection {
     ///
     /// # Panics
     ///
-    /// Panics if the section has 4294967295 subsections, or if the size of one would pass 4294967295.
+    /// Panics if the section has 4294967295 subsections, or if the size of one would pass
+    /// 4294967295.
     pub fn target_arch(&mut self, arch: &str) -> &mut Self {
         done(self.0.target_arch(arch));
         self

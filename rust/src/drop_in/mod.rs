@@ -35,8 +35,8 @@ mod sections;
 mod types;
 mod values;
 
-// The documentation of these is that of their definitions, with the texts of tools/rustdoc. Words for
-// search are at the re-exports: rustdoc drops those of definitions.
+// The documentation of these is that of their definitions, with the texts of tools/rustdoc. Words
+// for search are at the re-exports: rustdoc drops those of definitions.
 
 #[doc(alias = "gc")]
 #[doc(alias = "any")]

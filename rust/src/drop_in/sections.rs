@@ -56,8 +56,8 @@ sections! {
     /// Core specification, Modules, Function Section.
     ///
     /// The [`TypeSection`](super::TypeSection) has the types, and the
-    /// [`CodeSection`](super::CodeSection) the bodies. The functions have the indices after those of
-    /// imported functions.
+    /// [`CodeSection`](super::CodeSection) the bodies. The functions have the indices after those
+    /// of imported functions.
     ///
     /// ```
     /// use dolzhytik::{Encode, FunctionSection};

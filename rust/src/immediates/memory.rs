@@ -405,7 +405,7 @@ fn read_target<'a, A: Allocator + Copy, G: Grammar>(
     }
 }
 
-/// Decodes a memory argument with any flags. Out of line.
+/// Decodes a memory argument with any flags. Out of line, since most have memory 0 and no ordering.
 ///
 /// # Proved
 ///

@@ -1,7 +1,6 @@
 // Written by tools/to-rust from crates/wasm_immediates/src/lib.rt: change that.
 //! The immediates of instructions, encoded and decoded: floats, memory arguments, block types, and
-//! the clauses that handle exceptions and suspended stacks. `wasm_insn` exports all of them under
-//! its own name.
+//! the clauses that handle exceptions and suspended stacks. `wasm_insn` re-exports all of them.
 //!
 //! `specs/Immediates.antt` defines the encoding of an immediate, and `specs/ImmediateFormats.antt`
 //! the formats.

@@ -1,10 +1,10 @@
 // Written by tools/to-rust from crates/wasm_insn/src/aggregate.rt: change that.
-// Instructions on aggregates and references without fields: those after the prefix FB.
+// Instructions on aggregates and references without immediates: those after the prefix FB.
 
 use crate::insn::instruction::Instruction;
 use crate::insn::op::Op;
 
-/// Instructions on aggregates and references without fields: those after the prefix FB.
+/// Instructions on aggregates and references without immediates: those after the prefix FB.
 ///
 /// It is a case of [`Instruction`](crate::fallible::Instruction), which has a constant for
 /// each.
@@ -43,7 +43,7 @@ pub enum Aggregate {
 }
 
 impl Aggregate {
-    /// The op of the table.
+    /// Returns the opcode, as in the opcode table.
     ///
     /// # Proved
     ///
@@ -57,7 +57,7 @@ impl Aggregate {
     }
 }
 
-/// Their names as instructions.
+/// The same instructions as constants of `Instruction`.
 impl Instruction<'static> {
     /// `array.len` (opcode 0xFB 15), an aggregate instruction that returns the number of elements
     /// of an array.

@@ -12,6 +12,9 @@ use crate::immediates::{BlockType, Catch, Handle, Ieee32, Ieee64, MemArg, Orderi
 ///
 /// [`Plain`](crate::reader::Plain) and
 /// [`Instructions::args`](crate::reader::Instructions::args) have them.
+/// To match on instructions by name, convert an opcode with its arguments:
+/// `Instruction::try_from((op, args))`
+/// gives a value of [`Instruction`](crate::Instruction).
 ///
 /// # Examples
 ///
@@ -32,9 +35,9 @@ use crate::immediates::{BlockType, Catch, Handle, Ieee32, Ieee64, MemArg, Orderi
 pub enum Arg<A: Allocator = Global> {
     /// A number of 32 bits: an index, a label or a length.
     U32(u32),
-    /// A constant of 32 bits.
+    /// A signed constant of 32 bits.
     S32(i32),
-    /// A constant of 64 bits.
+    /// A signed constant of 64 bits.
     S64(i64),
     /// A float of 32 bits.
     F32(Ieee32),
@@ -694,7 +697,7 @@ fn read_any_into<'a, A: Allocator + Copy, G: Grammar>(
     read_parts::<A, G>(shape.parts(), bytes, alloc, args)
 }
 
-/// Drops the arguments of the list. One without arguments takes no call.
+/// Drops the arguments of the list. For an empty list, no call is needed.
 ///
 /// # Proved
 ///

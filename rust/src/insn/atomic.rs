@@ -913,7 +913,7 @@ impl Atomic {
     }
 }
 
-/// The instructions without fields, by their names on `Instruction`.
+/// The instructions without fields as constants of `Instruction`.
 impl Instruction<'static> {
     /// `pause` (opcode 0xFE 4), an instruction of the shared-everything threads proposal that hints
     /// that the thread waits in a loop.

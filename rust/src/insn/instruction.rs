@@ -480,9 +480,9 @@ pub enum Instruction<'a, A: Allocator = Global> {
     /// `memory.discard` (opcode 0xFC 18), a memory instruction of the memory control proposal that
     /// discards pages of a memory.
     MemoryDiscard(u32),
-    /// Numeric instructions, the ops 45 to C4.
+    /// Numeric instructions: the one-byte opcodes 45 to C4.
     Numeric(Numeric),
-    /// Instructions on aggregates and references without fields: those after the prefix FB.
+    /// Instructions on aggregates and references without immediates: those after the prefix FB.
     Aggregate(Aggregate),
     /// Numeric instructions after the prefix FC: truncations that saturate, and wide arithmetic.
     PrefixedNumeric(PrefixedNumeric),
@@ -989,7 +989,7 @@ impl<'a, A: Allocator + Copy> Instruction<'a, A> {
     ///
     /// # Errors
     ///
-    /// Returns [`Memory`](crate::fallible::Refused::Memory) if an allocation fails.
+    /// Returns [`Refused::Memory`] if an allocation fails, and never [`Refused::TooLong`].
     ///
     /// # Proved
     ///

@@ -19,7 +19,7 @@ use crate::alloc::Allocator;
 ///
 /// - `unique`: A format whose encodings determine their own end is unambiguous in every mode, with encodings as `HasEncodings` states.
 /// - `encodings`: Each value that fits has a minimal encoding, which the last function in the clause returns.
-/// - `table`: The table has 628 rows on 627 ops, in ascending order; two neighbours share an op, 1C, and no others do.
+/// - `table`: The table has 628 rows on 627 opcodes, in ascending order. Two neighbours share the opcode 1C, and no others share one.
 /// - `apart`: The opcodes are prefix-free: if two encodings begin the same bytes, they are of the same opcode.
 ///
 /// ```text
@@ -32,8 +32,8 @@ use crate::alloc::Allocator;
 /// Definitions: [`Unambiguous`](crate::definitions::base::decoding::Unambiguous), [`opcode`](crate::definitions::insn::plain::opcode), [`HasMinimalEncodings`](crate::definitions::base::decoding::HasMinimalEncodings), [`IsOpcode`](crate::definitions::insn::plain::IsOpcode), [`op_encoding`](crate::definitions::insn::opcodes::op_encoding), [`table`](crate::definitions::insn::table::table), [`IsOpcodeTable`](crate::definitions::insn::table::IsOpcodeTable), [`BeginsNoOther`](crate::definitions::insn::table::BeginsNoOther). [How to read clauses](crate::definitions).
 pub fn opcodes() {}
 
-/// Each instruction is a row of the table, with one immediate for each immediate of the row's
-/// shape.
+/// The opcode of each instruction has a row in the table, and the instruction's immediates are of
+/// the types of that row's shape.
 ///
 /// # Proved
 ///
@@ -105,8 +105,8 @@ pub fn padded() {}
 /// Definitions: [`UnambiguousWhole`](crate::definitions::base::decoding::UnambiguousWhole), [`members`](crate::definitions::base::formats::members), [`instruction`](crate::definitions::insn::plain::instruction), [`table`](crate::definitions::insn::table::table). [How to read clauses](crate::definitions).
 pub fn lists() {}
 
-/// An instruction is well-formed if its alignments are below 16 and its lists can be counted. A
-/// call that encodes it has promised the latter.
+/// An instruction is well-formed if its alignments are below 16 and each of its lists has at most
+/// 4294967295 members. A call that has encoded it promises the latter.
 ///
 /// # Proved
 ///

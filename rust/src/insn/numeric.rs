@@ -1,10 +1,10 @@
 // Written by tools/to-rust from crates/wasm_insn/src/numeric.rt: change that.
-// Numeric instructions, the ops 45 to C4.
+// Numeric instructions: the one-byte opcodes 45 to C4.
 
 use crate::insn::instruction::Instruction;
 use crate::insn::op::Op;
 
-/// Numeric instructions, the ops 45 to C4.
+/// Numeric instructions: the one-byte opcodes 45 to C4.
 ///
 /// It is a case of [`Instruction`](crate::fallible::Instruction), which has a constant for
 /// each.
@@ -324,7 +324,7 @@ pub enum Numeric {
 }
 
 impl Numeric {
-    /// The op of the table.
+    /// Returns the opcode, as in the opcode table.
     ///
     /// # Proved
     ///
@@ -338,7 +338,7 @@ impl Numeric {
     }
 }
 
-/// Their names as instructions.
+/// The same instructions as constants of `Instruction`.
 impl Instruction<'static> {
     /// `i32.eqz` (opcode 0x45), a numeric instruction that tests whether an integer is zero.
     pub const I32Eqz: Self = Instruction::Numeric(Numeric::I32Eqz);

@@ -82,17 +82,17 @@ pub enum Shape {
     V,
     /// Sixteen lanes.
     Ls,
-    /// Labels, and one label more.
+    /// Labels, and a default label.
     Bt,
-    /// A block type and clauses that catch.
+    /// A block type and catch clauses.
     Tt,
     /// Value types.
     Ts,
     /// Flags, a label and two heap types.
     K,
-    /// A number and clauses that handle.
+    /// A number and handle clauses.
     Uh,
-    /// Two numbers and clauses that handle.
+    /// Two numbers and handle clauses.
     Uuh,
 }
 

@@ -1,5 +1,5 @@
 // Written by tools/to-rust from crates/wasm_insn/src/part.rt: change that.
-// The immediates of which shapes consist.
+// The types of immediates, and the list of them for each shape.
 
 use crate::insn::op::Shape;
 

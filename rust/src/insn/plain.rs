@@ -57,6 +57,11 @@ impl<'a, A: Allocator + Copy, G: Grammar> Readable<'a, A, G> for Plain<A> {
 /// Decodes the instruction at the front: returns its opcode and the remaining bytes, and replaces
 /// the content of `args` by its arguments.
 ///
+/// # Errors
+///
+/// Any error but `Memory` means that no instruction is at the front. After an error, the content of
+/// `args` is unspecified.
+///
 /// # Proved
 ///
 /// After `Ok`: `found`, the bytes begin with an encoding of the value, and the returned bytes follow it. After an error: `none`, the bytes do not begin with such an encoding, unless the cause is `Memory`.
@@ -85,6 +90,12 @@ pub fn read_instruction_into<'a, A: Allocator + Copy, G: Grammar>(
 }
 
 /// Appends the minimal encoding of the instruction.
+///
+/// # Errors
+///
+/// Returns [`Refused`](crate::base::Refused) if an allocation fails. A decoded instruction never
+/// causes `TooLong`. After an error, the old bytes are unchanged, but part of the encoding may
+/// follow them.
 ///
 /// # Proved
 ///

@@ -62,7 +62,7 @@ pub enum PrefixedNumeric {
 }
 
 impl PrefixedNumeric {
-    /// The op of the table.
+    /// Returns the opcode, as in the opcode table.
     ///
     /// # Proved
     ///
@@ -76,7 +76,7 @@ impl PrefixedNumeric {
     }
 }
 
-/// Their names as instructions.
+/// The same instructions as constants of `Instruction`.
 impl Instruction<'static> {
     /// `i32.trunc_sat_f32_s` (opcode 0xFC 0), a numeric instruction that converts a float to an
     /// integer, and saturates.

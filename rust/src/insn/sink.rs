@@ -36,13 +36,12 @@ use crate::immediates::{BlockType, Ieee32, Ieee64, MemArg};
 ///
 /// [How to read clauses](crate::definitions).
 pub trait Buffer {
-    /// Appends the encoding of the value. On an error, the bytes are unchanged.
+    /// Appends the encoding of the value.
     ///
     /// # Errors
     ///
-    /// Returns [`TooLong`](crate::fallible::Refused::TooLong) if a count or length would pass
-    /// 4294967295, and [`Memory`](crate::fallible::Refused::Memory) if an allocation fails. The
-    /// bytes of the sink are then unchanged.
+    /// Returns [`Refused`], and leaves the bytes unchanged, if the value does not fit or an
+    /// allocation fails.
     ///
     /// # Proved
     ///
@@ -57,15 +56,13 @@ pub trait Buffer {
     /// Definitions: [`Writes`](crate::definitions::insn::sink::Writes). [How to read clauses](crate::definitions).
     fn append<E: Encode>(&mut self, value: &E) -> Result<()>;
 
-    /// Appends a value, the elements as a vector, and another value. On an error, the bytes are
-    /// unchanged. If the length that the elements report exceeds 4294967295, the call returns
-    /// `TooLong`; a `Vec` then requests no element, as tests show.
+    /// Appends a value, the elements as a vector, and another value.
     ///
     /// # Errors
     ///
-    /// Returns [`TooLong`](crate::fallible::Refused::TooLong) if a count or length would pass
-    /// 4294967295, and [`Memory`](crate::fallible::Refused::Memory) if an allocation fails. The
-    /// bytes of the sink are then unchanged.
+    /// Returns [`Refused`], and leaves the bytes unchanged, if a value does not fit or an
+    /// allocation fails. If the length that the elements report exceeds 4294967295, the call
+    /// returns `TooLong`; a `Vec` then requests no element, as tests show.
     ///
     /// # Asks
     ///
@@ -80,7 +77,7 @@ pub trait Buffer {
     ///
     /// # Proved
     ///
-    /// The sink gains `before`, the vector of the items that the iterator yields, and `after`; or the call returns an error and changes nothing. More than 2^32 - 1 items give `TooLong`.
+    /// The sink gains `before`, the vector of the items that the iterator yields, and `after`; or the call returns an error and changes nothing. If the iterator reports more than 2^32 - 1 items, the error is `TooLong`.
     ///
     /// ```text
     /// ensures { WritesVec V.into_iter_gives V.IntoIter.next_gives V.IntoIter.remaining
@@ -187,7 +184,7 @@ impl<'a, B: Buffer> InstructionSink<'a, B> {
         InstructionSink { sink }
     }
 
-    /// Appends one encoded instruction. Each call but `br_table` uses it.
+    /// Appends one encoded instruction. All appending methods but `br_table` call it.
     ///
     /// # Proved
     ///
@@ -471,7 +468,7 @@ impl<'a, B: Buffer> InstructionSink<'a, B> {
     /// # Proved
     ///
     /// - `same_reference`: the sink writes to the buffer that it wrote to.
-    /// - `writes`: The sink gains `br_table` with the labels that the iterator yields, or the call returns an error and changes nothing. More than 2^32 - 1 labels give `TooLong`.
+    /// - `writes`: The sink gains `br_table` with the labels that the iterator yields, or the call returns an error and changes nothing. If the iterator reports more than 2^32 - 1 labels, the error is `TooLong`.
     ///
     /// ```text
     /// ensures same_reference { self.new.sink.ghost_name ≡ self.old.sink.ghost_name }

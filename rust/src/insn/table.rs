@@ -44,7 +44,7 @@ static ONE_BYTE: [Option<Shape>; 256] = [
     None, None, None, None, None, None, None, None,
 ];
 
-/// Ops after the prefix FB.
+/// The opcodes after the prefix FB.
 static AFTER_FB: [Run; 14] = [
     Run(0, 1, Shape::U),
     Run(2, 5, Shape::Uu),
@@ -62,7 +62,7 @@ static AFTER_FB: [Run; 14] = [
     Run(37, 38, Shape::K),
 ];
 
-/// Ops after the prefix FC.
+/// The opcodes after the prefix FC.
 static AFTER_FC: [Run; 10] = [
     Run(0, 7, Shape::Nothing),
     Run(8, 8, Shape::Uu),
@@ -76,7 +76,7 @@ static AFTER_FC: [Run; 10] = [
     Run(19, 22, Shape::Nothing),
 ];
 
-/// Ops after the prefix FD.
+/// The opcodes after the prefix FD.
 static AFTER_FD: [Run; 21] = [
     Run(0, 11, Shape::M),
     Run(12, 12, Shape::V),
@@ -101,7 +101,7 @@ static AFTER_FD: [Run; 21] = [
     Run(239, 275, Shape::Nothing),
 ];
 
-/// Ops after the prefix FE.
+/// The opcodes after the prefix FE.
 static AFTER_FE: [Run; 8] = [
     Run(0x00, 0x02, Shape::M),
     Run(0x03, 0x03, Shape::O),
@@ -113,7 +113,7 @@ static AFTER_FE: [Run; 8] = [
     Run(0x72, 0x72, Shape::Nothing),
 ];
 
-/// Returns the shape of the opcode of this number among the runs.
+/// Returns the shape of the opcode with this number, or `None` if no run contains it.
 ///
 /// # Proved
 ///
@@ -129,7 +129,7 @@ fn find_shape(runs: &[Run], number: u32) -> Option<Shape> {
         .map(|run| run.2)
 }
 
-/// Returns the shape of the one-byte opcode.
+/// Returns the shape of the one-byte opcode, or `None` if there is no such opcode.
 ///
 /// # Proved
 ///

@@ -609,7 +609,7 @@ pub enum Vector {
 }
 
 impl Vector {
-    /// The op of the table.
+    /// Returns the opcode, as in the opcode table.
     ///
     /// # Proved
     ///
@@ -623,7 +623,7 @@ impl Vector {
     }
 }
 
-/// Their names as instructions.
+/// The same instructions as constants of `Instruction`.
 impl Instruction<'static> {
     /// `i8x16.swizzle` (opcode 0xFD 14), a vector instruction that selects lanes of a vector by
     /// those of another.

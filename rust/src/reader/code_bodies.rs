@@ -9,8 +9,8 @@ use core::iter::FusedIterator;
 use crate::base::{DecodeError, Padded, ReadFault, Readable, Standard, ValType};
 use crate::code::Instructions;
 
-/// The bodies of a code section, one after another. It allocates nothing, and does not compare their
-/// number with that of the functions.
+/// The bodies of a code section, one after another. It allocates nothing, and does not compare
+/// their number with that of the functions.
 ///
 /// # Errors
 ///
@@ -180,8 +180,8 @@ impl<'a, A: Allocator + Copy> Iterator for Bodies<'a, A> {
 
 impl<'a, A: Allocator + Copy> FusedIterator for Bodies<'a, A> {}
 
-/// A body of a code section, not yet decoded. Blocks are not matched: a body decodes without its final
-/// `End` too, and with instructions after it.
+/// A body of a code section, not yet decoded. Blocks are not matched: a body also decodes without
+/// its final `End`, and with instructions after it.
 ///
 /// [`Bodies`](crate::reader::Bodies) yields it.
 ///

@@ -6,7 +6,7 @@ use crate::reader::counts::count_skipped;
 use crate::alloc::{Allocator, Global};
 use crate::base::{DecodeError, Dropped, Encode, Grammar, Readable, Result, Shorten, read_whole};
 use crate::code::Body;
-use crate::custom::{BranchHint, CoreFrame, DylinkItem, FeaturePrefix, LinkItem, NameItem, append_build_id, append_debug_file, append_dylink, append_features, append_hints, append_instances, append_links, append_modules, append_names, append_process, append_producers, append_source_map, append_stack, read_build_id, read_debug_file, read_dylink, read_features, read_hints, read_instances, read_links, read_modules, read_names, read_process, read_producers, read_source_map, read_stack};
+use crate::custom::{BranchHint, CoreFrame, DylinkItem, FeaturePrefix, LinkItem, NameItem, Relocation, append_build_id, append_debug_file, append_dylink, append_features, append_hints, append_instances, append_links, append_modules, append_names, append_process, append_producers, append_relocations, append_source_map, append_stack, read_build_id, read_debug_file, read_dylink, read_features, read_hints, read_instances, read_links, read_modules, read_names, read_process, read_producers, read_relocations, read_source_map, read_stack};
 use crate::sections::{ElementItem, Export, GlobalItem, Imports, MemoryType, Segment, TableItem, TagType, append_imports, read_imports, read_segments};
 use crate::types::{TypeEntry, append_types, read_types};
 
@@ -83,8 +83,10 @@ pub enum SectionKind {
     ExternalDebugInfo,
     /// The section of a build's identity.
     BuildId,
-    /// The section of a dynamic library: what it needs at load time.
+    /// The section of a dynamic library: its requirements at load time.
     Dylink,
+    /// A relocation section, whose name begins with `reloc.`.
+    Relocations,
 }
 
 impl SectionKind {
@@ -128,6 +130,7 @@ impl SectionKind {
             25 => Some(SectionKind::ExternalDebugInfo),
             26 => Some(SectionKind::BuildId),
             27 => Some(SectionKind::Dylink),
+            28 => Some(SectionKind::Relocations),
             _ => None,
         }
     }
@@ -227,6 +230,15 @@ pub enum Items<'a, A: Allocator = Global> {
     BuildId(&'a [u8]),
     /// The subsections of a dynamic library's section.
     Dylink(Vec<DylinkItem<'a, A>, A>),
+    /// A relocation section.
+    Relocations {
+        /// The whole name of the custom section, such as `reloc.CODE`.
+        name: &'a str,
+        /// The index of the section that is relocated.
+        section: u32,
+        /// The relocations.
+        relocations: Vec<Relocation, A>,
+    },
 }
 
 /// Returns the kind of a section of this id.
@@ -257,16 +269,16 @@ pub(crate) fn kind_of_id(id: u8) -> SectionKind {
     }
 }
 
-/// Returns the kind of a custom section of this name.
+/// Returns the kind of a custom section of one of these names, and `Custom` for all others.
 ///
 /// # Proved
 ///
 /// ```text
-/// ensures { result ≡ kind_named name.now }
+/// ensures { result ≡ kind_among_names known_names name.now }
 /// ```
 ///
-/// Definitions: [`kind_named`](crate::definitions::reader::kinds::kind_named). [How to read clauses](crate::definitions).
-pub(crate) fn kind_of_name(name: &str) -> SectionKind {
+/// Definitions: [`kind_among_names`](crate::definitions::reader::kinds::kind_among_names), [`known_names`](crate::definitions::reader::kinds::known_names). [How to read clauses](crate::definitions).
+fn kind_of_whole_name(name: &str) -> SectionKind {
     match name {
         "name" => SectionKind::Names,
         "linking" => SectionKind::Linking,
@@ -282,6 +294,23 @@ pub(crate) fn kind_of_name(name: &str) -> SectionKind {
         "build_id" => SectionKind::BuildId,
         "dylink.0" => SectionKind::Dylink,
         _ => SectionKind::Custom,
+    }
+}
+
+/// Returns the kind of a custom section of this name.
+///
+/// # Proved
+///
+/// ```text
+/// ensures { result ≡ kind_named name.now }
+/// ```
+///
+/// Definitions: [`kind_named`](crate::definitions::reader::kinds::kind_named). [How to read clauses](crate::definitions).
+pub(crate) fn kind_of_name(name: &str) -> SectionKind {
+    if name.as_bytes().starts_with(b"reloc.") {
+        SectionKind::Relocations
+    } else {
+        kind_of_whole_name(name)
     }
 }
 
@@ -364,6 +393,14 @@ pub(crate) fn read_content<'a, A: Allocator + Copy + 'a, G: Grammar>(
         )?)),
         SectionKind::BuildId => Ok(Items::BuildId(read_build_id::<A, G>(bytes, alloc)?)),
         SectionKind::Dylink => Ok(Items::Dylink(read_dylink::<A, G>(bytes, alloc)?)),
+        SectionKind::Relocations => {
+            let (name, section, relocations) = read_relocations::<A, G>(bytes, alloc)?;
+            Ok(Items::Relocations {
+                name,
+                section,
+                relocations,
+            })
+        }
     }
 }
 
@@ -441,15 +478,15 @@ fn append_custom<B: Sink>(name: &str, bytes: &[u8], sink: &mut B) -> Result<()> 
     }
 }
 
-/// Appends the encoding of a section's payload that has these items: as builders write it, in its
-/// fewest bytes. On an error, the sink is unchanged.
+/// Appends the minimal encoding of a section's payload with these items, as builders write it. On
+/// an error, the sink is unchanged.
 ///
 /// It is the inverse of [`read_section`](crate::reader::read_section) and
-/// [`Section::items`](crate::reader::Section::items). The payload becomes a section with an id and a size
-/// prefix, as by [`RawSection`](crate::base::RawSection).
+/// [`Section::items`](crate::reader::Section::items). [`RawSection`](crate::base::RawSection) adds the id and
+/// the size prefix that make a section of the payload.
 ///
-/// Items that no bytes encode have no promise: an instruction whose arguments are not those of its
-/// opcode, say.
+/// The call promises nothing for items that no bytes encode: an instruction whose immediates are
+/// not those of its opcode, say.
 ///
 /// The encoding is minimal in the grammar of the builders. It can be longer than the bytes that
 /// [`Section::items`](crate::reader::Section::items) decoded: `anyref` in one byte, 6E, becomes
@@ -523,5 +560,10 @@ pub fn encode_items<A: Allocator, B: Sink>(
         Items::ExternalDebugInfo(path) => append_debug_file(path, sink),
         Items::BuildId(bytes) => append_build_id(bytes, sink),
         Items::Dylink(items) => append_dylink(items, sink),
+        Items::Relocations {
+            name,
+            section,
+            relocations,
+        } => append_relocations(name, *section, relocations, sink),
     }
 }

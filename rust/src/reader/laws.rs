@@ -34,7 +34,7 @@ pub fn modules() {}
 ///
 /// # Proved
 ///
-/// A minimized module can be minimized again, unless memory is refused, and becomes the same bytes.
+/// A minimized module can be minimized again, to the same bytes, unless an allocation fails.
 ///
 /// ```text
 /// ensures { IsIdempotent }

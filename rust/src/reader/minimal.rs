@@ -7,8 +7,8 @@ use crate::alloc::Allocator;
 use crate::base::{DecodeError, Padded, ReadFault, Readable, Shorten, prefix_size_since};
 use crate::code::shorten_body;
 
-/// Appends the minimal encoding of a vector of bodies that occupies all of the bytes. It keeps none
-/// of them. After an error, the old bytes are still the front of the sink.
+/// Appends the minimal encoding of a vector of bodies that occupies all of the bytes. It keeps no
+/// decoded body. After an error, the old bytes are still the front of the sink.
 ///
 /// # Proved
 ///
@@ -80,8 +80,8 @@ fn shorten_content<A: Allocator + Copy, B: Sink>(
     }
 }
 
-/// Appends the minimal encoding of a section of this kind, whose payload these bytes are. After an
-/// error, the old bytes are still the front of the sink.
+/// Appends the minimal encoding of a section of this kind with this payload. After an error, the
+/// old bytes are still the front of the sink.
 ///
 /// # Proved
 ///
@@ -113,8 +113,8 @@ fn shorten_sized<A: Allocator + Copy, B: Sink>(
 
 /// Appends the minimal encoding of the section at the front, and returns the section's length in
 /// the input, in bytes. Both are without the section's id. On an error, the bytes of the sink are
-/// unchanged. Decoded items are allocated with the sink's allocator, and dropped: of code, one
-/// instruction at a time.
+/// unchanged. Decoded items are allocated with the sink's allocator, and then dropped. Code is
+/// decoded one instruction at a time.
 ///
 /// In a code section that becomes shorter, instructions move. Offsets into it that are kept
 /// elsewhere are then wrong: relocations, debugging information, branch hints and source maps.
@@ -160,7 +160,7 @@ pub fn shorten<A: Allocator + Copy>(
     shorten_in(*sink.allocator(), kind, bytes, sink)
 }
 
-/// The same with an allocator for decoded items.
+/// Does what [`shorten`] does, with another allocator for decoded items.
 ///
 /// # Proved
 ///

@@ -90,8 +90,8 @@ fn line_of<A: Allocator + Copy>(section: &Section<'_, A>) -> Result<Listed, Read
     Ok(Listed { id, size, items })
 }
 
-/// Lists the sections of a module. Each section is decoded as the kind of its id; type sections and
-/// those of ids above 13 are taken as raw bytes.
+/// Lists the sections of a module. Each section is decoded as the kind of its id. Type sections and
+/// those of ids above 13 count as raw bytes.
 ///
 /// An error is the pair `(number, cause)`, and `number` counts sections from 1.
 ///
@@ -99,7 +99,7 @@ fn line_of<A: Allocator + Copy>(section: &Section<'_, A>) -> Result<Listed, Read
 ///
 /// Returns the error and a section number, counted from 1. For any error but `Memory`, this is the
 /// section at which the bytes stop being a module. It is 0 if they do not begin with the header.
-/// For `Memory` it is the section that was being decoded, which no contract says.
+/// For `Memory` it is the section that was being decoded, which no contract states.
 ///
 /// # Examples
 ///

@@ -22,23 +22,9 @@ pub struct ReadError {
     pub cause: ReadFault,
     /// The offset of the first byte that cannot be part of an encoding, from the start of the
     /// module, in bytes; the end of a payload that ends too soon; the first byte of a name for
-    /// `NotUtf8`. It means nothing for `Memory`. Contracts say that it is in the section or the
-    /// payload that was decoded, and tests the rest.
+    /// `NotUtf8`. It is unspecified for `Memory`. Contracts promise that it is in the decoded
+    /// section or payload, and tests check which byte it is.
     pub offset: usize,
-}
-
-/// Returns the text of the cause.
-pub(crate) fn text_of(cause: &ReadFault) -> &'static str {
-    match cause {
-        ReadFault::Ended => "unexpected end of input",
-        ReadFault::NotShortest => "padded integer",
-        ReadFault::TooLarge => "integer too large",
-        ReadFault::UnknownTag => "unexpected byte or value",
-        ReadFault::UnknownOpcode => "unknown opcode",
-        ReadFault::NotUtf8 => "invalid UTF-8",
-        ReadFault::SizeMismatch => "bytes remain after the value",
-        ReadFault::Memory => "out of memory",
-    }
 }
 
 impl ReadError {
@@ -77,7 +63,7 @@ impl ReadError {
 impl ::core::fmt::Display for ReadError {
     fn fmt(&self, f: &mut ::core::fmt::Formatter<'_>) -> ::core::fmt::Result {
         let Self { cause, offset } = self;
-        write!(f, "{text} at offset {offset:#x}", text = text_of(cause))
+        write!(f, "{cause} at offset {offset:#x}")
     }
 }
 

@@ -10,7 +10,7 @@ use core::iter::FusedIterator;
 use core::ops::Range;
 use crate::base::{ReadFault, Standard};
 
-/// Returns the number of bytes at the front that are those of the other slice.
+/// Returns the length of the longest common prefix of two slices.
 ///
 /// # Proved
 ///
@@ -29,8 +29,8 @@ fn common_length(bytes: &[u8], other: &[u8]) -> usize {
 
 /// The sections of a module, one after another. It allocates nothing.
 ///
-/// It splits a module, and does not validate it: sections may have any ids, in any order and number.
-/// What is decoded of a section is in memory of the allocator.
+/// The iterator does not validate the module: sections may have any ids, in any order and number.
+/// Decoded items are in memory of the allocator.
 ///
 /// # Errors
 ///
@@ -200,7 +200,7 @@ pub struct Section<'a, A: Allocator = Global> {
 }
 
 impl<'a, A: Allocator + Copy> Section<'a, A> {
-    /// Returns the allocator of what is decoded.
+    /// Returns the allocator of decoded items.
     pub(crate) fn allocator(&self) -> A {
         self.alloc
     }
@@ -231,8 +231,8 @@ impl<'a, A: Allocator + Copy> Section<'a, A> {
         self.standing.id
     }
 
-    /// Returns the kind as which the payload is decoded: by the id, and for a custom section by its
-    /// name. It is `None` if the id is above 13, whose items are `Items::Raw`.
+    /// Returns the kind that the payload is decoded as. The id selects it, and for a custom section
+    /// the name. It is `None` if the id is above 13, and the items are then `Items::Raw`.
     ///
     /// # Proved
     ///
@@ -318,6 +318,35 @@ impl<'a, A: Allocator + Copy> Section<'a, A> {
     /// [How to read clauses](crate::definitions).
     pub fn payload(&self) -> &'a [u8] {
         self.standing.payload
+    }
+
+    /// Returns the data of a custom section: the bytes of the payload after the name. Of other
+    /// sections, and if the payload begins with no name, it returns the payload.
+    ///
+    /// # Examples
+    ///
+    /// ```
+    /// use dolzhytik::fallible::Global;
+    /// use dolzhytik::reader::Sections;
+    ///
+    /// // A custom section: id 0, size 4, a name of one byte, "n", and two bytes of data.
+    /// let module = b"\0asm\x01\0\0\0\0\x04\x01n\x08\x09";
+    /// let section = Sections::new(Global, module)?.next().unwrap()?;
+    /// assert_eq!((section.name(), section.data()), (Some("n"), &[8, 9][..]));
+    /// # Ok::<(), dolzhytik::reader::ReadError>(())
+    /// ```
+    ///
+    /// # Proved
+    ///
+    /// The data of a section of this name: the bytes of the payload after the name, or all of them if there is no name.
+    ///
+    /// ```text
+    /// ensures { IsDataOf self.now.section.name self.now.section.payload result.now }
+    /// ```
+    ///
+    /// Definitions: [`IsDataOf`](crate::definitions::reader::outlines::IsDataOf). [How to read clauses](crate::definitions).
+    pub fn data(&self) -> &'a [u8] {
+        self.standing.data
     }
 
     /// Returns the number of items, or `None` if they are not counted: those of custom sections,

@@ -15,10 +15,12 @@ pub(crate) struct Standing<'a> {
     pub(crate) payload: &'a [u8],
     /// The name of a custom section, if its payload begins with one.
     pub(crate) name: Option<&'a str>,
+    /// The bytes of the payload after the name, or all of them if there is none.
+    pub(crate) data: &'a [u8],
 }
 
 impl Standing<'_> {
-    /// Returns the kind as which its payload is decoded.
+    /// Returns the kind that its payload is decoded as.
     ///
     /// # Proved
     ///
@@ -36,32 +38,35 @@ impl Standing<'_> {
     }
 }
 
-/// Decodes the name of a custom section from its payload.
+/// Decodes the name of a custom section from its payload, and returns it with the data after it.
 ///
 /// # Proved
 ///
 /// - After `Ok`, `found`: The name of a section: that at the front of a custom section's payload. There is none if no name decodes there, or if the id is not 0.
+/// - After `Ok`, `data`: The data of a section of this name: the bytes of the payload after the name, or all of them if there is no name.
 /// - After an error, `memory`: the cause is `Memory`.
 ///
 /// ```text
 /// ensures found { IfOk result
-///     (λ name. IsNameOf id payload.now (option_map (λ n. n.now) name)) }
+///     (λ x. IsNameOf id payload.now (option_map (λ n. n.now) x.0)) }
+/// ensures data { IfOk result
+///     (λ x. IsDataOf (option_map (λ n. n.now) x.0) payload.now x.1.now) }
 /// ensures memory { IfErr result (λ e. e.cause ≡ Memory) }
 /// ```
 ///
-/// Definitions: [`IsNameOf`](crate::definitions::reader::outlines::IsNameOf). [How to read clauses](crate::definitions).
+/// Definitions: [`IsNameOf`](crate::definitions::reader::outlines::IsNameOf), [`IsDataOf`](crate::definitions::reader::outlines::IsDataOf). [How to read clauses](crate::definitions).
 fn read_name<'a, A: Allocator + Copy>(
     id: u8,
     payload: &'a [u8],
     alloc: A,
-) -> Result<Option<&'a str>, DecodeError> {
+) -> Result<(Option<&'a str>, &'a [u8]), DecodeError> {
     if id != 0 {
-        return Ok(None);
+        return Ok((None, payload));
     }
     match <&'a str as Readable<'a, A, Padded>>::read(payload, alloc) {
-        Ok((name, _)) => Ok(Some(name)),
+        Ok((name, data)) => Ok((Some(name), data)),
         Err(error) if error.cause() == ReadFault::Memory => Err(error),
-        Err(_) => Ok(None),
+        Err(_) => Ok((None, payload)),
     }
 }
 
@@ -72,16 +77,19 @@ fn read_name<'a, A: Allocator + Copy>(
 ///
 /// - After `Ok`, `found`: The bytes after the id are this payload with its size prefix, and the payload has this name.
 /// - After `Ok`: `split`.
+/// - After `Ok`, `data`: The data of a section of this name: the bytes of the payload after the name, or all of them if there is no name.
 /// - After an error, `none`: the bytes do not begin with such an encoding, unless the cause is `Memory`.
 ///
 /// ```text
 /// ensures found { IfOk result (λ x. IsSection (section_of x.0)) }
 /// ensures split { IfOk result (λ x. bytes.now ≡ bytes_of (section_of x.0) ++ x.1.now) }
+/// ensures data { IfOk result
+///     (λ x. IsDataOf (section_of x.0).name (section_of x.0).payload x.0.data.now) }
 /// ensures none { IfErr result
 ///     (λ e. e.cause ≢ Memory → Rejects any_section padded bytes.now) }
 /// ```
 ///
-/// Definitions: [`IsSection`](crate::definitions::reader::outlines::IsSection), [`section_of`](crate::definitions::reader::outlines::section_of), [`bytes_of`](crate::definitions::reader::outlines::bytes_of), [`Rejects`](crate::definitions::base::decoding::Rejects), [`any_section`](crate::definitions::base::formats::any_section), [`padded`](crate::definitions::base::numbers::Mode). [How to read clauses](crate::definitions).
+/// Definitions: [`IsSection`](crate::definitions::reader::outlines::IsSection), [`section_of`](crate::definitions::reader::outlines::section_of), [`bytes_of`](crate::definitions::reader::outlines::bytes_of), [`IsDataOf`](crate::definitions::reader::outlines::IsDataOf), [`Rejects`](crate::definitions::base::decoding::Rejects), [`any_section`](crate::definitions::base::formats::any_section), [`padded`](crate::definitions::base::numbers::Mode). [How to read clauses](crate::definitions).
 pub(crate) fn read_standing<'a, A: Allocator + Copy>(
     bytes: &'a [u8],
     alloc: A,
@@ -89,13 +97,14 @@ pub(crate) fn read_standing<'a, A: Allocator + Copy>(
     let (id, rest) = <u8 as Readable<'a, A, Padded>>::read(bytes, alloc)?;
     let (payload, after) = <&'a [u8] as Readable<'a, A, Padded>>::read(rest, alloc)?;
     let sized = &rest[..rest.len() - after.len()];
-    let name = read_name(id, payload, alloc)?;
+    let (name, data) = read_name(id, payload, alloc)?;
     Ok((
         Standing {
             id,
             sized,
             payload,
             name,
+            data,
         },
         after,
     ))

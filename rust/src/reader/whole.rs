@@ -4,7 +4,6 @@
 use crate::vec::Sink;
 use crate::reader::minimal::shorten_in;
 use crate::reader::modules::HEADER;
-use crate::reader::read_error::text_of;
 use crate::reader::sections::Sections;
 use crate::reader::standing::Standing;
 use crate::alloc::{AllocError, Allocator};
@@ -76,11 +75,6 @@ pub enum ModuleFault {
         number: usize },
 }
 
-/// Returns the text of a fault.
-fn words(fault: &ReadFault) -> &'static str {
-    text_of(fault)
-}
-
 /// The sections into which the offsets of a custom section point.
 #[derive(Clone, Copy, PartialEq, Eq, Debug)]
 pub(crate) enum Target {
@@ -99,7 +93,7 @@ pub(crate) enum How {
     Minimal,
     /// Its unchanged bytes, which do not decode as its kind.
     Kept,
-    /// Nothing: it holds offsets.
+    /// No bytes: the section holds offsets.
     LeftOut,
 }
 
@@ -176,9 +170,9 @@ impl Target {
         }
     }
 
-    /// Returns `true` if such offsets into a section of this id become wrong: given whether its
-    /// bytes change, and whether the output before it is as long as the input before it
-    /// (`is_level`).
+    /// Returns `true` if such offsets into a section of this id become wrong. `is_changed` says
+    /// whether its bytes change, and `is_level` whether the output before it is as long as the
+    /// input before it.
     ///
     /// # Proved
     ///
@@ -324,7 +318,7 @@ struct Written {
 ///
 /// # Proved
 ///
-/// - After `Ok`, `ok`: The buffer gains the output for the section.
+/// - After `Ok`, `ok`: The buffer gains the output for the section, encoded in this way.
 /// - After an error, `err`: the bytes of the sink are unchanged.
 /// - After an error, `memory`: the cause is `Memory`.
 ///
@@ -627,7 +621,7 @@ fn append_sections<A: Allocator + Copy, B: Sink>(
     }
 }
 
-/// Appends the header, with spare capacity for `spare` bytes.
+/// Reserves capacity for `spare` bytes, and appends the header as the first of them.
 ///
 /// # Proved
 ///
@@ -650,7 +644,7 @@ fn begin_module<A: Sink>(spare: usize, sink: &mut A) -> Result<(), AllocError> {
 /// # Proved
 ///
 /// - After `Ok`, `ok`: The buffer gains the header and the output for each section: its minimal encoding, or its bytes unchanged if they do not decode by its kind. The result counts the unchanged ones. With `Refuse` every section keeps its offsets, and with `LeaveOut` exactly the sections that hold offsets are left out. The output is a module with the ids of the sections that are not left out, and is no longer than the input.
-/// - After an error, `why`: The meaning of an error. Either the section of this number is the first that is malformed, whatever its payload, and the bytes are not a module. Or the section of this number loses its offsets. `Memory` means nothing about the bytes.
+/// - After an error, `why`: The meaning of an error. Either the section of this number is the first that is malformed, whatever its payload, and the bytes are not a module. Or the section of this number loses its offsets. `Memory` implies nothing about the bytes.
 /// - `front`: The new bytes begin with the old ones.
 ///
 /// ```text
@@ -696,13 +690,14 @@ fn append_module<A: Allocator + Copy, B: Sink>(
 }
 
 /// Appends the module with each section in its minimal encoding, and returns the number of sections
-/// that are kept unchanged. These do not decode as their kinds, which for a custom section its name
-/// selects. On an error, the sink is unchanged.
+/// that are kept unchanged, because they do not decode as their kinds. The name of a custom section
+/// selects its kind. On an error, the sink is unchanged.
 ///
 /// When a section becomes shorter, its items and the sections after it move. `offsets` selects the
 /// treatment of custom sections that hold offsets. Either a module whose offsets might become wrong
-/// is an error ([`Offsets::Refuse`]), or these sections are left out. A minimized module can always
-/// be minimized again, unless an allocation fails. Decoded items are in memory of the allocator.
+/// is an error ([`Offsets::Refuse`]), or these sections are left out ([`Offsets::LeaveOut`]). A
+/// minimized module can always be minimized again, unless an allocation fails. Decoded items are in
+/// memory of the allocator.
 ///
 /// # Errors
 ///
@@ -726,7 +721,7 @@ fn append_module<A: Allocator + Copy, B: Sink>(
 ///
 /// - After `Ok`, `ok`: The buffer gains the header and the output for each section: its minimal encoding, or its bytes unchanged if they do not decode by its kind. The result counts the unchanged ones. With `Refuse` every section keeps its offsets, and with `LeaveOut` exactly the sections that hold offsets are left out. The output is a module with the ids of the sections that are not left out, and is no longer than the input.
 /// - After an error, `err`: the bytes of the sink are unchanged.
-/// - After an error, `why`: The meaning of an error. Either the section of this number is the first that is malformed, whatever its payload, and the bytes are not a module. Or the section of this number loses its offsets. `Memory` means nothing about the bytes.
+/// - After an error, `why`: The meaning of an error. Either the section of this number is the first that is malformed, whatever its payload, and the bytes are not a module. Or the section of this number loses its offsets. `Memory` implies nothing about the bytes.
 ///
 /// ```text
 /// ensures ok { IfOk result
@@ -753,7 +748,7 @@ pub fn shorten_module<A: Allocator + Copy, B: Sink>(
 impl ::core::fmt::Display for ModuleFault {
     fn fmt(&self, f: &mut ::core::fmt::Formatter<'_>) -> ::core::fmt::Result {
         match self {
-            Self::Section { number, fault } => write!(f, "section {number}: {text}", text = words(fault)),
+            Self::Section { number, fault } => write!(f, "section {number}: {fault}"),
             Self::Offsets { number } => write!(f, "section {number}: its offsets would become wrong"),
         }
     }

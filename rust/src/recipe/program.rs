@@ -349,7 +349,7 @@ impl ::core::fmt::Display for Trouble {
             Self::NotText => f.write_str("input: not text"),
             Self::BadHex => f.write_str("input: bad hex"),
             Self::Recipe(inner) => ::core::fmt::Display::fmt(inner, f),
-            Self::Section { number, fault } => write!(f, "section {number}: {fault}"),
+            Self::Section { number, fault } => write!(f, "section {number}: {fault:?}"),
         }
     }
 }

@@ -224,7 +224,7 @@ impl<A: Allocator + Copy> Recipe<A> {
     }
 
     /// Parses the lines of a recipe into sections without items. The line of the index `header`
-    /// adds nothing.
+    /// adds no item.
     ///
     /// # Proved
     ///
@@ -645,7 +645,7 @@ impl<A: Allocator + Copy> Recipe<A> {
     }
 
     /// Returns the module of a recipe, whose lines are parsed into sections without items. The
-    /// line of the index `header` adds nothing.
+    /// line of the index `header` adds no item.
     ///
     /// # Proved
     ///

@@ -182,10 +182,12 @@ impl ItemKind for DataItems {
 }
 
 /// Adding calls. A segment is a flag, the memory if it is not 0, the offset of an active segment,
-/// and the bytes: see "Data Section".
+/// and the bytes. Core specification, Binary Format, Modules, Data Section.
 impl<A: Allocator> DataSection<A> {
-    /// Adds a segment. If there are too many bytes, it returns `TooLong` and requests none, as
-    /// tests show.
+    /// Adds a segment.
+    ///
+    /// If there are more than 4294967295 bytes, the call returns `TooLong` and requests none of
+    /// them, as tests show.
     ///
     /// # Errors
     ///
@@ -207,7 +209,7 @@ impl<A: Allocator> DataSection<A> {
     ///
     /// # Proved
     ///
-    /// The section gains one entry with the bytes that the iterator yields, or the call returns an error and changes nothing. More than 2^32 - 1 bytes give `TooLong`.
+    /// The section gains one entry with the bytes that the iterator yields, or the call returns an error and changes nothing. It returns `TooLong` if the section is full or the iterator reports more than 2^32 - 1 remaining bytes, and otherwise not.
     ///
     /// ```text
     /// ensures { AddsBytes D.into_iter_gives D.IntoIter.next_gives D.IntoIter.remaining
@@ -232,8 +234,9 @@ impl<A: Allocator> DataSection<A> {
         }
     }
 
-    /// Adds a segment whose bytes are copied to this memory when the module is instantiated. If
-    /// there are too many bytes, it returns `TooLong`.
+    /// Adds a segment whose bytes are copied to this memory when the module is instantiated.
+    ///
+    /// If there are more than 4294967295 bytes, the call returns `TooLong`.
     ///
     /// # Errors
     ///
@@ -270,7 +273,7 @@ impl<A: Allocator> DataSection<A> {
     ///
     /// # Proved
     ///
-    /// The section gains one entry with the bytes that the iterator yields, or the call returns an error and changes nothing. More than 2^32 - 1 bytes give `TooLong`.
+    /// The section gains one entry with the bytes that the iterator yields, or the call returns an error and changes nothing. It returns `TooLong` if the section is full or the iterator reports more than 2^32 - 1 remaining bytes, and otherwise not.
     ///
     /// ```text
     /// ensures { AddsBytes D.into_iter_gives D.IntoIter.next_gives D.IntoIter.remaining bytes
@@ -294,8 +297,9 @@ impl<A: Allocator> DataSection<A> {
         }
     }
 
-    /// Adds a segment whose bytes are copied to a memory by an instruction. If there are too many
-    /// bytes, it returns `TooLong`.
+    /// Adds a segment whose bytes are copied to a memory by an instruction.
+    ///
+    /// If there are more than 4294967295 bytes, the call returns `TooLong`.
     ///
     /// # Errors
     ///
@@ -329,7 +333,7 @@ impl<A: Allocator> DataSection<A> {
     ///
     /// # Proved
     ///
-    /// The section gains one entry with the bytes that the iterator yields, or the call returns an error and changes nothing. More than 2^32 - 1 bytes give `TooLong`.
+    /// The section gains one entry with the bytes that the iterator yields, or the call returns an error and changes nothing. It returns `TooLong` if the section is full or the iterator reports more than 2^32 - 1 remaining bytes, and otherwise not.
     ///
     /// ```text
     /// ensures { AddsBytes D.into_iter_gives D.IntoIter.next_gives D.IntoIter.remaining bytes
@@ -365,7 +369,7 @@ impl<A: Allocator> DataSection<A> {
         self.add_piece(segment)
     }
 
-    /// Adds a segment of `front` and the bytes.
+    /// Adds a segment that is encoded as `front` and the size-prefixed bytes.
     ///
     /// # Asks
     ///
@@ -381,7 +385,7 @@ impl<A: Allocator> DataSection<A> {
     ///
     /// # Proved
     ///
-    /// The section gains one entry with the bytes that the iterator yields, or the call returns an error and changes nothing. More than 2^32 - 1 bytes give `TooLong`.
+    /// The section gains one entry with the bytes that the iterator yields, or the call returns an error and changes nothing. It returns `TooLong` if the section is full or the iterator reports more than 2^32 - 1 remaining bytes, and otherwise not.
     ///
     /// ```text
     /// ensures { AddsBytes D.into_iter_gives D.IntoIter.next_gives D.IntoIter.remaining bytes
@@ -402,14 +406,14 @@ impl<A: Allocator> DataSection<A> {
     }
 }
 
-// Flags of a segment.
+// The flags of segments. Core specification, Binary Format, Modules, Data Section.
 pub(crate) const ACTIVE: u8 = 0x00;
 
 pub(crate) const PASSIVE: u8 = 0x01;
 
 pub(crate) const ACTIVE_IN_MEMORY: u8 = 0x02;
 
-/// Bytes after their count.
+/// Size-prefixed bytes, as a vector of bytes.
 #[derive(Clone, Copy, Debug)]
 struct Bytes<'a>(&'a [u8]);
 
@@ -498,8 +502,8 @@ impl<'a, A: Allocator> Layout for Segment<'a, A> {
     fn laws() {}
 }
 
-/// Returns `true` if the memory may be explicit, after flag 2: memory 0 in the standard's grammar
-/// alone.
+/// Returns `true` if the grammar admits this memory after flag 2, where it is explicit. Only the
+/// standard's grammar admits memory 0 there.
 ///
 /// # Proved
 ///
@@ -627,7 +631,7 @@ fn append_placed<A: Allocator, B: Sink>(
     encode_size_prefixed(sink, bytes)
 }
 
-/// Appends an active segment of the memory. Memory 0 has a flag of its own.
+/// Appends an active segment. Memory 0 is implied by flag 0, and others are explicit after flag 2.
 ///
 /// # Proved
 ///

@@ -155,7 +155,7 @@ fn clone_each<A: Allocator + Copy>(
 }
 
 impl<'a, A: Allocator + Copy> Elements<'a, A> {
-    /// Returns the same references, and copies owned ones into memory of their own.
+    /// Returns the same references. Owned ones are copied into memory of their own.
     ///
     /// # Errors
     ///
@@ -216,7 +216,7 @@ impl<'a, A: Allocator> ElementMode<'a, A> {
 }
 
 impl<'a, A: Allocator + Copy> ElementSegment<'a, A> {
-    /// Returns the same segment, and copies owned references into memory of their own.
+    /// Returns the same segment. Owned references are copied into memory of their own.
     ///
     /// # Errors
     ///
@@ -240,7 +240,7 @@ impl<'a, A: Allocator + Copy> ElementSegment<'a, A> {
     }
 }
 
-/// Returns `true` for the type [`RefType::FUNCREF`], which has forms without an explicit type.
+/// Returns `true` for [`RefType::FUNCREF`], the type that encodings without a type imply.
 ///
 /// # Proved
 ///
@@ -311,7 +311,7 @@ impl<A: Allocator> Elements<'_, A> {
     }
 }
 
-// Bits of the flag of a segment.
+// The bits of a segment's flag. `DECLARED` has two of them.
 const PASSIVE: u8 = 0x01;
 
 const WITH_TABLE: u8 = 0x02;
@@ -320,7 +320,7 @@ const DECLARED: u8 = 0x03;
 
 const EXPRESSIONS: u8 = 0x04;
 
-/// The kind byte of functions, in the forms in which expressions have a type.
+/// The kind byte of function indices, encoded where expressions would have their type.
 const FUNCTIONS: u8 = 0x00;
 
 /// References, and whether their type is explicit in the encoding.
@@ -417,7 +417,7 @@ impl ItemKind for ElementItems {
     }
 }
 
-/// Adding calls. The layout is that of "Element Section".
+/// Adding calls. Core specification, Binary Format, Modules, Element Section.
 impl<A: Allocator> ElementSection<A> {
     /// Adds a segment.
     ///

@@ -1,5 +1,5 @@
 // Written by tools/to-rust from crates/wasm_sections/src/flags.rt: change that.
-// Flag bytes.
+// Helpers for bytes of flags.
 
 /// Returns `weight` if the bit is set, and 0 otherwise.
 ///

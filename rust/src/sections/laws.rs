@@ -62,8 +62,8 @@ pub fn sections() {}
 /// Definitions: [`Plain`](crate::definitions::insn::plain::Plain), [`pair`](crate::definitions::base::formats::pair), [`expression`](crate::definitions::code::expressions::expression), [`vec`](crate::definitions::base::formats::vec), [`byte`](crate::definitions::base::formats::byte), [`standard`](crate::definitions::base::numbers::Mode), [`data_item`](crate::definitions::sections::data_segments::data_item), [`active`](crate::definitions::sections::data_segments::DataItem). [How to read clauses](crate::definitions).
 pub fn standard() {}
 
-/// With padded numbers the formats of sections are unambiguous too. A minimal encoding is also an
-/// encoding in this mode.
+/// The formats of sections are also unambiguous if padded LEB128 is admitted. A minimal encoding is
+/// an encoding in that mode too.
 ///
 /// # Proved
 ///
@@ -110,8 +110,8 @@ pub fn padded() {}
 /// Definitions: [`ContainsMore`](crate::definitions::base::laws::ContainsMore), [`function_items`](crate::definitions::sections::functions::function_items), [`table_items`](crate::definitions::sections::tables::table_items), [`memory_items`](crate::definitions::sections::memories::memory_items), [`global_items`](crate::definitions::sections::globals::global_items), [`export_items`](crate::definitions::sections::exports::export_items), [`element_items`](crate::definitions::sections::elements::element_items), [`data_items`](crate::definitions::sections::data_segments::data_items), [`import_items`](crate::definitions::sections::imports::import_items), [`tag_items`](crate::definitions::sections::tags::tag_items). [How to read clauses](crate::definitions).
 pub fn calls() {}
 
-/// The same with padded numbers: a record may be well-formed but for padded numbers in its
-/// expressions, and an entry may be a padded encoding of its item.
+/// The same with padded LEB128: the expressions of a well-formed record may be padded, and an entry
+/// may be a padded encoding of its item.
 ///
 /// # Proved
 ///
@@ -168,7 +168,7 @@ pub fn given_elements<A: Allocator>() {}
 /// Definitions: [`DecodesPayloads`](crate::definitions::base::modules::DecodesPayloads), [`vec`](crate::definitions::base::formats::vec), [`u32_format`](crate::definitions::base::formats::u32), [`table_item`](crate::definitions::sections::tables::table_item), [`memory_type`](crate::definitions::sections::memories::memory_type), [`global_item`](crate::definitions::sections::globals::global_item), [`export`](crate::definitions::sections::exports::export), [`element`](crate::definitions::sections::elements::element), [`data_item`](crate::definitions::sections::data_segments::data_item), [`import_format`](crate::definitions::sections::imports::import_format), [`tag_type`](crate::definitions::sections::tags::tag_type). [How to read clauses](crate::definitions).
 pub fn payloads() {}
 
-/// The same with padded numbers.
+/// The same with padded LEB128.
 ///
 /// # Proved
 ///
@@ -190,9 +190,9 @@ pub fn payloads() {}
 /// Definitions: [`DecodesPayloadsPadded`](crate::definitions::base::modules::DecodesPayloadsPadded), [`vec`](crate::definitions::base::formats::vec), [`u32_format`](crate::definitions::base::formats::u32), [`table_item`](crate::definitions::sections::tables::table_item), [`memory_type`](crate::definitions::sections::memories::memory_type), [`global_item`](crate::definitions::sections::globals::global_item), [`export`](crate::definitions::sections::exports::export), [`element`](crate::definitions::sections::elements::element), [`data_item`](crate::definitions::sections::data_segments::data_item), [`import_format`](crate::definitions::sections::imports::import_format), [`tag_type`](crate::definitions::sections::tags::tag_type). [How to read clauses](crate::definitions).
 pub fn padded_payloads() {}
 
-/// These three byte sequences encode no section, with padded numbers neither. In that of globals,
-/// bytes follow the first `End` of a constant expression. In that of data, a segment with an
-/// explicit memory has memory 0. In that of imports, the byte 00 before a group is padded.
+/// Three byte sequences that encode no section, even if padded LEB128 is admitted. In the globals,
+/// bytes follow the first `End` of a constant expression. In the data, the explicit memory of a
+/// segment is memory 0. In the imports, the byte 00 before a group is padded.
 ///
 /// # Proved
 ///
@@ -244,8 +244,8 @@ pub fn plain_exports(exports: &[Export<'_>]) {
     }
 }
 
-/// Proves that the numbers of a table type are in range. For one behind a reference, as in a list,
-/// no clause shows that; this call does.
+/// Proves that the numbers of a table type are in range. A caller needs this for a type behind a
+/// reference, as in a list, whose range no clause states.
 ///
 /// # Proved
 ///
@@ -258,7 +258,7 @@ pub fn plain_exports(exports: &[Export<'_>]) {
 /// Definitions: [`IsTable`](crate::definitions::sections::tables::IsTable). [How to read clauses](crate::definitions).
 pub fn plain_table(table: TableType) {}
 
-/// Proves the same of a memory type.
+/// Proves that the numbers of a memory type are in range.
 ///
 /// # Proved
 ///
@@ -271,7 +271,7 @@ pub fn plain_table(table: TableType) {}
 /// Definitions: [`IsMemory`](crate::definitions::sections::memories::IsMemory). [How to read clauses](crate::definitions).
 pub fn plain_memory(memory: MemoryType) {}
 
-/// Proves the same of a global type.
+/// Proves that the numbers of a global type are in range.
 ///
 /// # Proved
 ///
@@ -284,7 +284,7 @@ pub fn plain_memory(memory: MemoryType) {}
 /// Definitions: [`IsGlobal`](crate::definitions::sections::globals::IsGlobal). [How to read clauses](crate::definitions).
 pub fn plain_global(global: GlobalType) {}
 
-/// Proves the same of the type of an import, whatever its kind.
+/// Proves that the numbers of an import's type are in range, whatever its kind.
 ///
 /// # Proved
 ///

@@ -16,7 +16,13 @@ use crate::base::{DecodeError, Encode, Grammar, Kind, Layout, Optional, ReadFaul
 ///
 /// let mut module = Module::new(Global)?;
 /// let mut memories = MemorySection::new(Global);
-/// memories.memory(MemoryType { minimum: 1, maximum: None, memory64: false, shared: false, page_size_log2: None })?;
+/// memories.memory(MemoryType {
+///     minimum: 1,
+///     maximum: None,
+///     memory64: false,
+///     shared: false,
+///     page_size_log2: None,
+/// })?;
 /// module.section(&memories)?;
 /// # Ok(())
 /// # }

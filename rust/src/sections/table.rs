@@ -20,7 +20,13 @@ use crate::code::{ConstExpr, Expression};
 ///
 /// let mut module = Module::new(Global)?;
 /// let mut tables = TableSection::new(Global);
-/// let table_type = TableType { element_type: RefType::FUNCREF, table64: false, minimum: 128, maximum: None, shared: false };
+/// let table_type = TableType {
+///     element_type: RefType::FUNCREF,
+///     table64: false,
+///     minimum: 128,
+///     maximum: None,
+///     shared: false,
+/// };
 /// tables.table(table_type)?;
 /// tables.table_with_init(table_type, &ConstExpr::ref_null(Global, HeapType::FUNC)?)?;
 /// module.section(&tables)?;

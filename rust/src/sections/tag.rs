@@ -39,7 +39,7 @@ pub type TagSection<A = Global> = CountedSection<TagItems, A>;
 #[derive(Clone, Copy, Debug)]
 pub struct TagItems;
 
-/// The purpose of a tag.
+/// The kind of a tag. The standard has exceptions only.
 ///
 /// It is a field of [`TagType`](crate::fallible::TagType).
 ///

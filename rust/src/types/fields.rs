@@ -1,5 +1,5 @@
 // Written by tools/to-rust from crates/wasm_types/src/fields.rt: change that.
-// Decoding and minimal encoding of storage and field types.
+// Decoding of storage and field types.
 
 use crate::types::types::{FieldType, StorageType};
 use crate::alloc::Allocator;

@@ -106,8 +106,8 @@ pub fn payloads() {}
 /// Definitions: [`DecodesPayloadsPadded`](crate::definitions::base::modules::DecodesPayloadsPadded), [`vec`](crate::definitions::base::formats::vec), [`type_item`](crate::definitions::types::rec_types::type_item). [How to read clauses](crate::definitions).
 pub fn padded_payloads() {}
 
-/// These three byte sequences encode no type section in the builders' grammar, with padded numbers
-/// neither. In the first a structure has a field of mutability 2. In the second the byte of a group
+/// These three byte sequences encode no type section in the builders' grammar, not even with padded
+/// numbers. In the first a structure has a field of mutability 2. In the second the byte of a group
 /// is padded. In the third a final type has an empty list of supertypes, which the standard admits.
 ///
 /// # Proved

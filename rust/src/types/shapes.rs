@@ -1,5 +1,5 @@
 // Written by tools/to-rust from crates/wasm_types/src/shapes.rt: change that.
-// Decoding and minimal encoding of composite types.
+// Decoding of composite types.
 
 use crate::vec::Vec;
 use crate::types::types::{ArrayType, CompositeInnerType, CompositeType, ContType, FieldType, FuncType, StructType};

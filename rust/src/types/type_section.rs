@@ -159,7 +159,7 @@ impl<A: Allocator + Copy> TypeSection<A> {
         }
     }
 
-    /// Returns a section of the same entries, in memory of its own.
+    /// Returns a copy of the section in newly allocated memory.
     ///
     /// # Errors
     ///
@@ -389,8 +389,8 @@ impl<'a, A: Allocator> CoreTypeEncoder<'a, A> {
         section.pieces.add_encoded(ty)
     }
 
-    /// Adds a function type of these parameters and results. If there are too many of either, it
-    /// returns `TooLong` and requests none.
+    /// Adds a function type of these parameters and results. If an iterator reports more than
+    /// 4294967295 items, the call returns `TooLong` and requests none, as tests show.
     ///
     /// # Errors
     ///
@@ -414,7 +414,7 @@ impl<'a, A: Allocator> CoreTypeEncoder<'a, A> {
     ///
     /// # Proved
     ///
-    /// The section gains one entry of the items that both iterators yield, or the call returns an error and changes nothing. More than 2^32 - 1 items of either give `TooLong`.
+    /// The section gains one entry of the items that both iterators yield, or the call returns an error and changes nothing. If either reports more than 2^32 - 1 items, the error is `TooLong`.
     ///
     /// ```text
     /// ensures { AddsTwoListed P.into_iter_gives P.IntoIter.next_gives P.IntoIter.remaining
@@ -438,8 +438,8 @@ impl<'a, A: Allocator> CoreTypeEncoder<'a, A> {
         section.pieces.add_once((FUNC, params?, results?))
     }
 
-    /// Adds a structure type of these fields. If there are too many, it returns `TooLong` and
-    /// requests none.
+    /// Adds a structure type of these fields. If the iterator reports more than 4294967295 fields,
+    /// the call returns `TooLong` and requests none, as tests show.
     ///
     /// # Errors
     ///
@@ -473,7 +473,7 @@ impl<'a, A: Allocator> CoreTypeEncoder<'a, A> {
     ///
     /// # Proved
     ///
-    /// The section gains one entry of the items that the iterator yields, or the call returns an error and changes nothing. More than 2^32 - 1 items give `TooLong`.
+    /// The section gains one entry of the items that the iterator yields, or the call returns an error and changes nothing. If the iterator reports more than 2^32 - 1 items, the error is `TooLong`.
     ///
     /// ```text
     /// ensures { AddsListed F.into_iter_gives F.IntoIter.next_gives F.IntoIter.remaining
@@ -490,8 +490,8 @@ impl<'a, A: Allocator> CoreTypeEncoder<'a, A> {
         section.pieces.add_once((STRUCT, fields))
     }
 
-    /// Adds a recursion group: subtypes that may refer to one another. If there are too many, it
-    /// returns `TooLong` and requests none.
+    /// Adds a recursion group: subtypes that may refer to one another. If the iterator reports more
+    /// than 4294967295 subtypes, the call returns `TooLong` and requests none, as tests show.
     ///
     /// # Errors
     ///
@@ -525,7 +525,7 @@ impl<'a, A: Allocator> CoreTypeEncoder<'a, A> {
     ///
     /// # Proved
     ///
-    /// The section gains one entry of the items that the iterator yields, or the call returns an error and changes nothing. More than 2^32 - 1 items give `TooLong`.
+    /// The section gains one entry of the items that the iterator yields, or the call returns an error and changes nothing. If the iterator reports more than 2^32 - 1 items, the error is `TooLong`.
     ///
     /// ```text
     /// ensures { AddsListed T.into_iter_gives T.IntoIter.next_gives T.IntoIter.remaining
@@ -549,8 +549,8 @@ impl<'a, A: Allocator> CoreTypeEncoder<'a, A> {
 /// The byte before a recursion group.
 pub(crate) const REC: u8 = 0x4E;
 
-/// Decodes the payload of a type section, in the grammar `G`: a count and that many types. They
-/// must occupy all of the bytes.
+/// Decodes the payload of a type section, in the grammar `G`: a count and that many entries, which
+/// occupy all of the bytes.
 ///
 /// # Errors
 ///
@@ -588,14 +588,12 @@ pub fn read_types<'a, A: Allocator + Copy, G: Grammar>(
     read_whole::<'a, Vec<TypeEntry<A>, A>, A, G>(bytes, alloc)
 }
 
-/// Appends the minimal encoding of a type section's payload: the number of types, and the types. On
-/// an error, the sink is unchanged.
+/// Appends the minimal encoding of a type section's payload: the number of types, and the types.
 ///
 /// # Errors
 ///
-/// Returns [`TooLong`](crate::fallible::Refused::TooLong) if a count or length would pass
-/// 4294967295, and [`Memory`](crate::fallible::Refused::Memory) if an allocation fails. The
-/// bytes of the sink are then unchanged.
+/// Returns [`Refused`](crate::base::Refused), and leaves the bytes of the sink unchanged, if an
+/// allocation fails. Decoded types never cause `TooLong`.
 ///
 /// # Examples
 ///

@@ -240,11 +240,11 @@ pub struct SubType<A: Allocator = Global> {
 }
 
 impl<A: Allocator + Copy> FuncType<A> {
-    /// Returns a function type of these parameters and results, from iterators.
+    /// Returns a function type of the parameters and results that these iterators yield.
     ///
     /// # Errors
     ///
-    /// Returns [`Memory`](crate::fallible::Refused::Memory) if an allocation fails.
+    /// Returns [`Memory`](crate::base::Refused::Memory) if an allocation fails.
     ///
     /// # Asks
     ///
@@ -365,7 +365,7 @@ impl<A: Allocator> FuncType<A> {
     }
 }
 
-/// Returns the same items, in memory of their own.
+/// Returns a copy of the items in newly allocated memory.
 ///
 /// # Proved
 ///
@@ -382,11 +382,11 @@ fn copied<T: Copy, A: Allocator + Copy>(items: &Vec<T, A>) -> Result<Vec<T, A>> 
 }
 
 impl<A: Allocator + Copy> FuncType<A> {
-    /// Returns the same type, in memory of its own.
+    /// Returns a copy of the type in newly allocated memory.
     ///
     /// # Errors
     ///
-    /// Returns [`Memory`](crate::fallible::Refused::Memory) if an allocation fails.
+    /// Returns [`Memory`](crate::base::Refused::Memory) if an allocation fails.
     ///
     /// # Proved
     ///
@@ -407,11 +407,11 @@ impl<A: Allocator + Copy> FuncType<A> {
 }
 
 impl<A: Allocator + Copy> StructType<A> {
-    /// Returns the same type, in memory of its own.
+    /// Returns a copy of the type in newly allocated memory.
     ///
     /// # Errors
     ///
-    /// Returns [`Memory`](crate::fallible::Refused::Memory) if an allocation fails.
+    /// Returns [`Memory`](crate::base::Refused::Memory) if an allocation fails.
     ///
     /// # Proved
     ///
@@ -431,11 +431,11 @@ impl<A: Allocator + Copy> StructType<A> {
 }
 
 impl<A: Allocator + Copy> CompositeInnerType<A> {
-    /// Returns the same type, in memory of its own.
+    /// Returns a copy of the type in newly allocated memory.
     ///
     /// # Errors
     ///
-    /// Returns [`Memory`](crate::fallible::Refused::Memory) if an allocation fails.
+    /// Returns [`Memory`](crate::base::Refused::Memory) if an allocation fails.
     ///
     /// # Proved
     ///
@@ -458,11 +458,11 @@ impl<A: Allocator + Copy> CompositeInnerType<A> {
 }
 
 impl<A: Allocator + Copy> CompositeType<A> {
-    /// Returns the same type, in memory of its own.
+    /// Returns a copy of the type in newly allocated memory.
     ///
     /// # Errors
     ///
-    /// Returns [`Memory`](crate::fallible::Refused::Memory) if an allocation fails.
+    /// Returns [`Memory`](crate::base::Refused::Memory) if an allocation fails.
     ///
     /// # Proved
     ///
@@ -485,11 +485,11 @@ impl<A: Allocator + Copy> CompositeType<A> {
 }
 
 impl<A: Allocator + Copy> SubType<A> {
-    /// Returns the same type, in memory of its own.
+    /// Returns a copy of the type in newly allocated memory.
     ///
     /// # Errors
     ///
-    /// Returns [`Memory`](crate::fallible::Refused::Memory) if an allocation fails.
+    /// Returns [`Memory`](crate::base::Refused::Memory) if an allocation fails.
     ///
     /// # Proved
     ///
@@ -733,7 +733,7 @@ struct Before {
     supertype_idx: Option<u32>,
 }
 
-/// Encodes nothing for a final type without supertypes, and otherwise a byte and the vector of its
+/// Encodes nothing for a final type without a supertype, and otherwise a byte and the vector of its
 /// supertypes.
 ///
 /// # Defined
@@ -758,7 +758,7 @@ impl Encode for Before {
     }
 }
 
-/// Encodes the subtype's prefix, if it needs one, and the composite type.
+/// Encodes the subtype's prefix, unless it is final without a supertype, and the composite type.
 ///
 /// # Defined
 ///

@@ -1,4 +1,5 @@
-//! Modules of the worked callers in node, where there is one: the compiled functions are called, and the module for a linker is valid.
+//! Modules of the worked callers in node, if it is installed: calls the compiled functions, and
+//! compiles the module for a linker.
 #[allow(dead_code, unused_imports, clippy::all)]
 #[path = "../examples/mod.rs"]
 #[rustfmt::skip]
@@ -10,14 +11,15 @@ use dolzhytik::{CodeSection, Encode, Instruction, Module};
 use examples::{compiled_module, object_module, without_custom};
 use std::process::Command;
 
-/// Makes an instance of the module, and prints what its functions answer.
+/// Makes an instance of the module, and prints the results of its functions.
 const CALLS: &str = "
 const { factorial, squares } = new WebAssembly.Instance(module).exports;
 console.log(factorial(0), factorial(1), factorial(5), factorial(12));
 console.log(squares(0), squares(1), squares(5), squares(100));
 ";
 
-/// 5! is 120 and 12! is 479001600; the squares up to 25 come to 55, and those up to 10000 to 338350.
+/// 5! is 120 and 12! is 479001600; the squares up to 25 come to 55, and those up to 10000 to
+/// 338350.
 const ANSWERS: &str = "1 1 120 479001600\n0 1 55 338350\n";
 
 /// Prints how many custom sections there are of each name.
@@ -58,7 +60,8 @@ fn the_module_for_a_linker_is_valid() {
     }
 }
 
-/// Returns the module with this instruction at the start of each function, as the page of `reader` edits one.
+/// Returns the module with this instruction at the start of each function, like the example of
+/// `reader`.
 fn with_first(instruction: &Instruction<'_>, module: &[u8]) -> Result<Vec<u8>, ReadError> {
     let mut edited = Module::new();
     for section in Sections::new(Global, module)? {

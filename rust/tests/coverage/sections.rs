@@ -196,8 +196,8 @@ fn bytes_that_do_not_decode() {
     check_error(cut, "unexpected end of input at offset 0xa5");
     // An export section of one export that ends within its name.
     let exports = [header, &[7, 2, 1, 1][..]].concat();
-    check_error(&exports, "Export section: Ended");
+    check_error(&exports, "Export section: unexpected end of input");
     // A code section of one body that ends within its locals.
     let code = [header, &[10, 4, 1, 2, 1, 1][..]].concat();
-    check_error(&code, "Code section: Ended");
+    check_error(&code, "Code section: unexpected end of input");
 }

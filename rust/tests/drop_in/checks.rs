@@ -1,6 +1,7 @@
 //! What the tests of this folder compare.
 use crate::cases::first_byte;
 use dolzhytik::fallible::{self, Global, hex};
+use dolzhytik::reader::Instructions;
 use dolzhytik::{Encode, Function, Instruction, InstructionSink, Module, Section};
 
 /// The bytes of a value.
@@ -27,7 +28,18 @@ pub fn section(section: &impl Section, id: u8, expected: &[u8]) {
     assert_eq!(module.finish()[9..], *expected);
 }
 
-/// Checks that an instruction has these bytes: as a value, by its named call, and by the proved `encode` of its proved value, which is that of its conversion too.
+/// Checks that the bytes decode to the instruction alone, converted from what a reader decodes.
+fn check_decoded(bytes: &[u8], value: &Instruction<'_>) {
+    let mut decoded = Instructions::standard(bytes, Global);
+    let step = decoded.next().unwrap().expect("an instruction");
+    let converted = Instruction::try_from((step.op, decoded.args())).unwrap();
+    assert_eq!(format!("{converted:?}"), format!("{value:?}"));
+    assert_eq!(encoded(&converted), bytes, "{value:?}");
+    assert!(decoded.next().unwrap().is_none(), "{value:?}");
+}
+
+/// Checks that an instruction has these bytes: as a value, by its named call, and by `encode` of
+/// its proved value, which equals its conversion. Its bytes decode to it.
 pub fn check(
     text: &str,
     value: Instruction<'_>,
@@ -52,4 +64,5 @@ pub fn check(
         assert_eq!(bytes, expected, "{value:?}");
     }
     assert_eq!(encoded(&value.clone()), expected, "{value:?}");
+    check_decoded(&expected, &value);
 }

@@ -1,9 +1,10 @@
-//! Each public function and impl of the Rust crate's section layer, called or asked for once, but the named calls of the sink, which stand in `cases`.
+//! Each public function and impl of the Rust crate's section layer, called or named once. The named
+//! calls of the sink are in `cases`.
 //!
-//! Left out, since nothing of the package does this:
+//! Left out, since the package does not have it:
 //!
-//! - `Reencode` and what belongs to it: it reads with `wasmparser`. `reader::shorten` writes a section again.
-//! - Conversions from the types of `wasmparser`: `reader::read_section` answers this package's types.
+//! - `Reencode` and its items, which read with `wasmparser`: `reader::shorten` minimizes a section.
+//! - Conversions from the types of `wasmparser`: `reader::read_section` returns the package's own.
 //! - Components, and the sections and types of them.
 use crate::checks::encoded;
 use dolzhytik::*;
@@ -478,7 +479,7 @@ fn all_section_ids() {
     assert_eq!(order(SectionId::Tag), "second");
 }
 
-/// What a program may write beside the package: a value and a section of its own, and lists of them by their traits.
+/// A value and a section that a program defines, and lists of them by their traits.
 struct Marker(u32);
 
 impl Encode for Marker {

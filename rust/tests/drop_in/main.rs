@@ -17,6 +17,7 @@ extern crate core as vec;
 #[rustfmt::skip]
 mod cases;
 mod checks;
+mod decoded;
 mod every_call;
 mod lengths;
 mod moved;

@@ -101,7 +101,7 @@ fn the_program_makes_its_module() {
     assert!(note(b"text").unwrap().ends_with(b"\x00\x09\x04notetext"));
 }
 
-/// The page stands beside the package in the repository, and not in what is published.
+/// The page is in the repository, and not in the published package.
 #[test]
 fn the_page_shows_this_program() {
     let page = concat!(env!("CARGO_MANIFEST_DIR"), "/../docs/MOVING.md");

@@ -1,5 +1,5 @@
-//! Programs as they are written for the crate: each compiles here too, and does what it does there. The expectations are from the crate's signatures and the WebAssembly core
-//! specification.
+//! Programs that are written for the crate: each compiles here too, and has the same results. The
+//! expectations are from the crate's signatures and the WebAssembly core specification.
 
 /// A program that imports one case by name, and makes constants of casts.
 mod one_case {
@@ -28,7 +28,7 @@ mod one_case {
 mod all_cases {
     use dolzhytik::SectionId::{self, *};
 
-    /// The order of sections in a module: WebAssembly core specification, "Modules" of the binary format.
+    /// The order of sections in a module: WebAssembly core specification, Binary Format, Modules.
     const ORDER: [SectionId; 13] = [
         Type, Import, Function, Table, Memory, Tag, Global, Export, Start, Element, DataCount,
         Code, Data,
@@ -269,7 +269,8 @@ mod beside_proved_values {
     }
 }
 
-/// A program that prints builders and values: each as a struct of its own name, whose bytes are those of its entries.
+/// A program that prints builders and values: each as a struct of its own name, with the bytes of
+/// its entries.
 mod printed {
     use dolzhytik::*;
 

@@ -1,9 +1,10 @@
-//! Refusals: a length that can't be spelled is a panic before an item is asked for, and memory that is refused ends the program.
+//! Failing calls at the root: a length that cannot be encoded is a panic before an item is
+//! requested, and a failed allocation ends the program.
 use crate::checks::encoded;
 use dolzhytik::*;
 use std::cell::Cell;
 
-/// Gives as many items as it tells, each the same, and counts them.
+/// Yields as many items as it reports, all equal, and counts the requests.
 struct Items<'a, T> {
     left: usize,
     item: T,
@@ -26,10 +27,11 @@ impl<T: Clone> Iterator for Items<'_, T> {
 
 impl<T: Clone> ExactSizeIterator for Items<'_, T> {}
 
-/// The shortest length that a count of 32 bits can't tell.
+/// The least length that 32 bits cannot represent.
 const TOO_LONG: usize = 1 << 32;
 
-/// Checks that the call panics since the length is too long, and asks for no item. It is given a function that makes such an iterator.
+/// Checks that the call panics because the length is too long, and requests no item. The call
+/// receives a function that makes such an iterator.
 fn panics<T: Clone, R>(item: T, call: impl FnOnce(&dyn Fn() -> Items<'static, T>) -> R) {
     use std::panic::{AssertUnwindSafe, catch_unwind};
 

@@ -874,7 +874,7 @@ fn memory_arguments() {
     ]);
 }
 
-/// The parameters of these calls stand in another order than the fields of their cases, or than the bytes.
+/// The order of these calls' parameters differs from that of the cases' fields, or of the bytes.
 #[test]
 fn calls_whose_parameters_have_an_order_of_their_own() {
     let mut bytes = Vec::new();

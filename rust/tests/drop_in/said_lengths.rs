@@ -1,10 +1,11 @@
-//! Iterators that give another number of items than their length says: the length is written as it was said, and all items after it.
+//! Iterators that yield another number of items than they report: the reported length is written,
+//! and then all items.
 use crate::checks::section;
 use dolzhytik::fallible::{self, AllocError, Allocator, Encode, Refused};
 use dolzhytik::*;
 use std::cell::Cell;
 
-/// Says `said` items, and gives the bytes `next..end`, each modulo 256.
+/// Reports `said` items, and yields the bytes `next..end`, each modulo 256.
 struct Said {
     said: usize,
     next: usize,
@@ -35,7 +36,8 @@ impl Iterator for Said {
 
 impl ExactSizeIterator for Said {}
 
-/// The section, after its id, of one segment: its first bytes, the length as it was said, and the bytes that were given.
+/// The section, after its id, of one segment: its first bytes, the reported length, and the yielded
+/// bytes.
 fn expected(front: &[u8], said: &[u8], given: usize) -> std::vec::Vec<u8> {
     let payload = 1 + front.len() + said.len() + given;
     let mut bytes = match payload {
@@ -120,7 +122,7 @@ impl Allocator for Grants {
     }
 }
 
-/// Each request for memory is refused in turn, those for items past the length that was said among them.
+/// Each allocation fails in turn, also those for items past the reported length.
 #[test]
 fn memory_that_is_refused() {
     let granted = (0..100)

@@ -25,8 +25,8 @@ pub fn encode_padded_body<A: Allocator + Copy>(sink: &mut Vec<u8, A>, index: u32
     code.encode(sink)
 }
 
-/// Appends a global section of an expression with a padded number, and of an encoded global with
-/// one.
+/// Appends a global section of two globals: the constant of an expression is padded, and so is that
+/// of an encoded global.
 ///
 /// # Proved
 ///

@@ -1,6 +1,6 @@
 // Written by tools/to-rust from crates/examples/src/read_back.rt: change that.
 //! Callers of the reader, which prove its result: for each kind of section that a builder writes,
-//! for sections of padded LEB128, and for sections of arguments.
+//! for sections with padded LEB128, and for sections that are built from arguments.
 
 use dolzhytik::fallible::{Sink, Vec};
 pub mod custom;
@@ -10,6 +10,7 @@ pub mod dumps;
 pub mod dylink;
 pub mod handed;
 pub mod padded;
+pub mod relocations;
 pub mod stored;
 
 use dolzhytik::fallible::Allocator;

@@ -12,7 +12,8 @@ use dolzhytik::reader::{ReadError, Section, Sections};
 ///
 /// # Errors
 ///
-/// An error but `Memory` means that the bytes are no module, whatever the payloads of its sections.
+/// An error but `Memory` means that the bytes are no module: the header, then sections of any
+/// payload.
 ///
 /// # Proved
 ///
@@ -55,7 +56,7 @@ fn refused_at(offset: usize) -> ReadError {
     }
 }
 
-/// Appends a section to the module as it is.
+/// Appends a section to the module, with the same payload.
 ///
 /// # Proved
 ///

@@ -1,4 +1,5 @@
-//! A module whose sizes, counts and indices are the largest number in turn: on targets of 32 bits a sum with it would pass `usize`.
+//! A module whose sizes, counts and indices are the largest number in turn. On 32-bit targets a sum
+//! with it would exceed `usize`.
 use dolzhytik::fallible::{Global, Vec};
 use dolzhytik::reader::{ModuleFault, Offsets, ReadFault, list_module, outline, shorten_module};
 use dolzhytik::*;
@@ -72,7 +73,8 @@ fn module() -> Module {
     module
 }
 
-/// Reads bytes in each way: a section that is listed or outlined is within them, and no memory is refused.
+/// Reads bytes in each way: a section that is listed or outlined is in the bytes, and no allocation
+/// fails.
 fn check(bytes: &[u8]) {
     match outline(Global, bytes) {
         Ok(lines) => {

@@ -1,4 +1,4 @@
-//! Each request for memory refused in turn.
+//! Calls of which each allocation fails in turn.
 use crate::samples::{PADDED, PADDED_NAME, SHORT, SHORT_NAME, UNREAD, bytes_of, module};
 use crate::sections::first_section;
 use dolzhytik::fallible::{AllocError, Allocator, Refused, Vec};
@@ -19,7 +19,8 @@ impl Allocator for Grants {
     }
 }
 
-/// The first answer that is not refused, and how many requests were granted for it.
+/// The first result without a failed allocation, and the number of requests that were granted for
+/// it.
 fn first_granted<T>(mut call: impl FnMut(&Grants) -> Option<T>) -> (usize, T) {
     (0..1000)
         .find_map(|granted| call(&Grants(Cell::new(granted))).map(|answer| (granted, answer)))
@@ -74,7 +75,7 @@ fn of_modules() {
     assert_eq!(kept, 1);
 }
 
-/// What a call gives, or nothing where its error is that of memory.
+/// The value of a call, or `None` if an allocation failed.
 fn unless_refused<T>(given: Result<T, ReadError>) -> Option<T> {
     match given {
         Ok(value) => Some(value),

@@ -19,7 +19,8 @@ pub fn custom(name: &str, data: &str) -> String {
     format!("00 {size:02x} {:02x} {digits} {data}", name.len())
 }
 
-/// The types, functions, exports and code of a function `f` that adds its parameters. Sizes, a count and an index are padded, as linkers leave them.
+/// The types, functions, exports and code of a function `f` that adds its parameters. Size
+/// prefixes, a count and an index are padded, as linkers leave them.
 pub const PADDED: [&str; 4] = [
     "01 8780808000 01 60 02 7f7f 01 7f",
     "03 838000 8100 00",
@@ -27,7 +28,7 @@ pub const PADDED: [&str; 4] = [
     "0a 8b80808000 01 8800 00 2000 208100 6a 0b",
 ];
 
-/// The same in the fewest bytes.
+/// The minimal encodings of the same sections.
 pub const SHORT: [&str; 4] = [
     "01 07 01 60 02 7f7f 01 7f",
     "03 02 01 00",
@@ -35,7 +36,7 @@ pub const SHORT: [&str; 4] = [
     "0a 09 01 07 00 2000 2001 6a 0b",
 ];
 
-/// A name section that gives the module the name `m`, and the same in its fewest bytes.
+/// A padded name section with the module name `m`, and its minimal encoding.
 pub const PADDED_NAME: &str = "00 8c00 8400 6e616d65 00 8300 8100 6d";
 pub const SHORT_NAME: &str = "00 09 04 6e616d65 00 02 01 6d";
 

@@ -7,7 +7,7 @@ fn error(cause: ReadFault, offset: usize) -> ReadError {
     ReadError { cause, offset }
 }
 
-/// What a section tells of itself: its id, its kind, the offset of its id and the range of its payload.
+/// A section's id, its kind, the offset of its id, and the range of its payload.
 type Told = (u8, Option<SectionKind>, usize, std::ops::Range<usize>);
 
 #[track_caller]
@@ -76,6 +76,26 @@ fn kinds_by_ids_and_names() {
         names,
         [None, Some("name"), Some("a b"), None, None, None, None]
     );
+}
+
+#[test]
+fn data_after_the_name() {
+    let padded_name = "00 07 83 00 61 20 62 05 06";
+    let no_name = "00 02 05 61";
+    let not_utf8 = "00 02 01 ff";
+    for (section, data) in [
+        (custom("a b", "ff"), "ff"),
+        (custom("", ""), ""),
+        (padded_name.into(), "05 06"),
+        (no_name.into(), "05 61"),
+        (not_utf8.into(), "01 ff"),
+        ("03 02 01 05".into(), "01 05"),
+    ] {
+        let bytes = module(&[&section]);
+        let mut sections = Sections::new(Global, &bytes).unwrap();
+        let found = sections.next().unwrap().unwrap();
+        assert_eq!(found.data(), bytes_of(data), "{section}");
+    }
 }
 
 /// The error is the last item, at its offset.

@@ -6,7 +6,8 @@ use dolzhytik::reader::{ModuleFault, Offsets, ReadFault, shorten_module};
 /// What a sink has before, which is none of the module's.
 const BEFORE: [u8; 2] = [0xAA, 0x03];
 
-/// What is appended to a sink, and how many sections are kept. Where the call is refused, the sink is as it was.
+/// Returns the bytes that are appended to a sink, and the number of kept sections. Checks that the
+/// sink is unchanged after an error.
 fn appended(bytes: &[u8], offsets: Offsets) -> Result<(std::vec::Vec<u8>, usize), ModuleFault> {
     let mut sink = Vec::from_slice(Global, &BEFORE).unwrap();
     let answer = shorten_module(Global, bytes, offsets, &mut sink);
@@ -95,7 +96,8 @@ fn ids_that_no_kind_has_are_frames_of_bytes() {
 #[test]
 fn what_is_not_read_as_its_kind_is_kept_as_it_stands() {
     check_both(&[UNREAD], 1, &[UNREAD]);
-    // Names that are no UTF-8; a name section with a subsection that is cut off; a start section with a byte too many.
+    // Names that are not UTF-8; a name section with a truncated subsection; a start section with an
+    // extra byte.
     let kept = [
         "00 8300 02 ff ff",
         "00 8800 8400 6e616d65 00 02",
@@ -112,7 +114,7 @@ fn what_is_not_read_as_its_kind_is_kept_as_it_stands() {
     );
 }
 
-/// Custom sections that hold offsets, the first two of which are read as what their names stand for.
+/// Custom sections that hold offsets. The first two decode as the kinds of their names.
 fn holders() -> [String; 9] {
     [
         custom("linking", "02"),
@@ -164,7 +166,7 @@ fn offsets_into_code_that_stays() {
             [types, functions, exports, code, holder],
             [short_types, short_functions, short_exports, code, holder],
         );
-        // The sixth is a source map, whose columns count what stands before the code.
+        // The sixth is a source map, whose columns count the bytes before the code too.
         if place == 5 {
             check_refused(&given, 5);
             check(Offsets::LeaveOut, &given, 0, &short[..4]);
@@ -225,11 +227,12 @@ fn a_source_map_counts_from_the_first_byte_of_the_module() {
     let moving = [TYPES[0], functions, code, &map];
     check_refused(&moving, 4);
     check(Offsets::LeaveOut, &moving, 0, &[TYPES[1], functions, code]);
-    // What is behind the code may get shorter, and so may any section where there is no code.
+    // Sections after the code may become shorter, and so may any section if there is no code.
     let behind = |any| [TYPES[1], functions, code, &map, any];
     check(Offsets::Refuse, &behind(ANY[0]), 0, &behind(ANY[1]));
     check(Offsets::Refuse, &[TYPES[0], &map], 0, &[TYPES[1], &map]);
-    // The map itself stands before the code, and its size is padded; of two code sections the second moves.
+    // The map itself is before the code, and its size prefix is padded. Of two code sections the
+    // second moves.
     let padded = "00 9300 10 736f757263654d617070696e6755524c 01 75";
     check_refused(&[padded, functions, code], 1);
     check_refused(&[code, &map, ANY[0], code], 2);
@@ -244,7 +247,8 @@ fn relocations_lead_into_custom_sections() {
     let relocations = custom("reloc..debug_info", "00 00");
     check_refused(&[padded, &relocations], 2);
     check(Offsets::LeaveOut, &[padded, &relocations], 0, &[]);
-    // Which section they are of is not decoded, and so each custom section is to stay; other sections may get shorter.
+    // The target of relocations is not decoded, so that each custom section must stay. Other
+    // sections may become shorter.
     check_refused(&[&debug, &relocations, ANY[0]], 2);
     let others = |types| [types, functions, code, &debug, &relocations, ANY[1]];
     check(Offsets::Refuse, &others(TYPES[0]), 0, &others(TYPES[1]));

@@ -7,10 +7,10 @@ mod example;
 mod tools;
 
 use dolzhytik::encoding_size;
-use dolzhytik::fallible::{Global, Op};
+use dolzhytik::fallible::{self, Addend32Relocation, Global, Op, PlainRelocation, Relocation};
 use dolzhytik::reader::{
-    Arg, Instructions, Items, LinkItem, Outlined, Padded, Readable, SectionKind, outline,
-    read_section,
+    Arg, Instructions, Items, LinkItem, Outlined, Padded, Readable, SectionKind, Sections,
+    encode_items, outline, read_section,
 };
 use std::fs;
 
@@ -41,8 +41,8 @@ fn all_sections_decode() {
     assert_eq!(symbols.len(), 5);
     let code = decode(&object, &sections[3], SectionKind::Bodies);
     assert!(matches!(code, Items::Bodies(bodies) if bodies.len() == 2));
-    let relocations = decode(&object, &sections[5], SectionKind::Custom);
-    assert!(matches!(relocations, Items::Custom { name, .. } if name == "reloc.CODE"));
+    let relocations = decode(&object, &sections[5], SectionKind::Relocations);
+    assert!(matches!(relocations, Items::Relocations { name, .. } if name == "reloc.CODE"));
 }
 
 /// An instruction whose last operand has five bytes: the operand's offset in the payload of the
@@ -73,60 +73,96 @@ fn padded_operands(payload: &[u8]) -> Vec<Operand> {
     operands
 }
 
-/// A relocation: type, offset, symbol and addend.
-type Relocation = (u32, usize, u32, Option<u32>);
-
-/// Decodes the data of the section `reloc.CODE`: the index of the section that the relocations are
-/// for, and these.
-fn relocations(data: &[u8]) -> (u32, Vec<Relocation>) {
-    let mut rest = data;
-    let mut next = || {
-        let (number, after) = <u32 as Readable<Global, Padded>>::read(rest, Global).unwrap();
-        rest = after;
-        number
-    };
-    let (section, count) = (next(), next());
-    let relocations = (0..count).map(|_| {
-        let (kind, offset, symbol) = (next(), next() as usize, next());
-        let addend = (kind == 3).then(&mut next);
-        (kind, offset, symbol, addend)
-    });
-    let relocations = relocations.collect();
-    assert!(rest.is_empty());
-    (section, relocations)
-}
-
 #[test]
 fn relocations_are_at_padded_operands() {
     let object = example::object();
     let sections = outline(Global, &object).expect("a module");
-    let items = decode(&object, &sections[5], SectionKind::Custom);
-    let Items::Custom { bytes, .. } = items else {
+    let items = decode(&object, &sections[5], SectionKind::Relocations);
+    let Items::Relocations {
+        section,
+        relocations,
+        ..
+    } = items
+    else {
         panic!("{items:?}")
     };
-    let (section, relocations) = relocations(bytes);
     let code = &sections[section as usize];
     assert_eq!(code.id, 10);
     let payload = &object[code.offset..code.offset + code.size as usize];
+    let plain = |kind, index| {
+        move |offset| Relocation::Plain {
+            kind,
+            offset,
+            index,
+        }
+    };
+    let global = plain(PlainRelocation::GlobalIndexLeb, 3);
+    let function = plain(PlainRelocation::FunctionIndexLeb, 0);
+    let address = |offset| Relocation::Addend32 {
+        kind: Addend32Relocation::MemoryAddrLeb,
+        offset,
+        index: 4,
+        addend: 0,
+    };
     // `global.get`, `global.set`, `call` and `global.set`; then `i32.load` and `i32.store`.
-    let expected = [
-        (0x23, 7, 3, None),
-        (0x24, 7, 3, None),
-        (0x10, 0, 0, None),
-        (0x24, 7, 3, None),
-        (0x28, 3, 4, Some(0)),
-        (0x36, 3, 4, Some(0)),
+    let expected: [(u8, &dyn Fn(u32) -> Relocation); 6] = [
+        (0x23, &global),
+        (0x24, &global),
+        (0x10, &function),
+        (0x24, &global),
+        (0x28, &address),
+        (0x36, &address),
     ];
     let operands = padded_operands(payload);
     assert_eq!((operands.len(), relocations.len()), (6, 6));
-    for ((operand, relocation), (byte, kind, symbol, addend)) in
-        operands.into_iter().zip(relocations).zip(expected)
+    for ((operand, relocation), (byte, expected)) in
+        operands.into_iter().zip(&relocations[..]).zip(expected)
     {
         let (offset, op, value) = operand;
         assert_eq!((op, value), (Op::Byte(byte), 0));
         assert_eq!(payload[offset..offset + 5], [0x80, 0x80, 0x80, 0x80, 0x00]);
-        assert_eq!(relocation, (kind, offset, symbol, addend));
+        assert_eq!(*relocation, expected(offset as u32));
     }
+}
+
+/// Returns the relocations of a section as text, if it is a relocation section.
+fn relocations_of(items: &Items<'_>) -> Option<String> {
+    match items {
+        Items::Relocations { name, .. } => Some(format!("{name} {items:?}")),
+        _ => None,
+    }
+}
+
+/// Every relocation section of an object of clang decodes, and its minimal encoding decodes to the
+/// same relocations.
+#[test]
+fn relocations_of_clang_decode() {
+    let options = ["-O1", "-g"];
+    let squares = tools::compile("object/squares.c", &options, "squares_with_debug.o");
+    let Some(squares) = squares else { return };
+    let object = fs::read(squares).expect("an object");
+    let mut names = Vec::new();
+    for section in Sections::new(Global, &object).expect("a module") {
+        let section = section.expect("a section");
+        let Some(name) = section.name().filter(|name| name.starts_with("reloc.")) else {
+            continue;
+        };
+        names.push(name.to_string());
+        let items = section.items().expect("relocations");
+        let told = relocations_of(&items).expect("relocations");
+        let mut payload = fallible::Vec::new(Global);
+        encode_items(&items, &mut payload).expect("an encoding");
+        assert!(payload.len() <= section.payload().len());
+        let mut again = Vec::new();
+        dolzhytik::Encode::encode(&payload[..], &mut again);
+        let (items, _) = read_section(Global, SectionKind::Relocations, &again).expect("a section");
+        assert_eq!(relocations_of(&items), Some(told));
+    }
+    assert!(names.iter().any(|name| name == "reloc.CODE"), "{names:?}");
+    assert!(
+        names.iter().any(|name| name == "reloc..debug_info"),
+        "{names:?}"
+    );
 }
 
 /// Calls the linked functions. The stack pointer must be the same afterwards.

@@ -1,6 +1,7 @@
 // The C side of examples/object.rs.
 
-// In the object: returns the sum of the squares, by `add_squares`, which gets an array of its frame.
+// In the object: returns the sum of the squares, by `add_squares`, which gets an array of its
+// frame.
 int sum_of_squares(int a, int b);
 // In the object: increments `calls`.
 void count(void);

@@ -577,6 +577,17 @@ fn dylink() {
 }
 
 #[test]
+fn relocations() {
+    let lines = "         section 3
+         relocation FunctionIndexLeb offset 0x4 index 0
+         relocation MemoryAddrLeb offset 0x12c index 1 addend -1
+         relocation MemoryAddrI64 offset 0x8 index 2 addend -8
+";
+    let data = "03 03 00 04 00 03 ac02 01 7f 10 08 02 78";
+    check_custom("reloc.CODE", data, lines);
+}
+
+#[test]
 fn debug_files() {
     let line = "         source map \"a.map\"\n";
     check_custom("sourceMappingURL", "05 612e6d6170", line);

@@ -2,7 +2,8 @@
 use dolzhytik::fallible::{AllocError, Allocator};
 use std::cell::Cell;
 
-/// An allocator over another one, which refuses the requests that a test names and counts them all. A test lends it: a `&Refusing<B>` is an allocator too, and is `Copy`.
+/// An allocator that counts requests, refuses those that a test selects, and passes the others to
+/// an inner allocator. A test lends it: a `&Refusing<B>` is an allocator too, and is `Copy`.
 pub struct Refusing<B: Allocator> {
     inner: B,
     requests: Cell<u64>,
@@ -21,29 +22,30 @@ impl<B: Allocator> Refusing<B> {
         }
     }
 
-    /// From now on it refuses these requests, counted from 1.
+    /// Refuses the requests of these numbers from this call on, counted from 1.
     fn restart(&self, first: u64, last: u64) {
         self.requests.set(0);
         self.first.set(first);
         self.last.set(last);
     }
 
-    /// Of the requests from now on, just the one numbered `nth` is refused, counted from 1. At 0 none is refused.
+    /// Refuses only the request of number `nth` from this call on, counted from 1. At 0 it refuses
+    /// none.
     pub fn refuse(&self, nth: u64) {
         self.restart(nth, nth);
     }
 
-    /// Every request from now on is refused.
+    /// Refuses every request from this call on.
     pub fn refuse_all(&self) {
         self.restart(1, u64::MAX);
     }
 
-    /// No request that is to be refused has come yet, and one is still to be refused.
+    /// Returns whether the first request to refuse is still to come.
     pub fn is_waiting(&self) -> bool {
         self.requests.get() < self.first.get()
     }
 
-    /// How many requests there were since `new`, `refuse` or `refuse_all`, those that were refused included.
+    /// Returns the number of requests since `new`, `refuse` or `refuse_all`, refused ones included.
     pub fn requests(&self) -> u64 {
         self.requests.get()
     }

@@ -36,6 +36,9 @@ mod places;
 mod refusals;
 #[cfg(test)]
 #[rustfmt::skip]
+mod relocations;
+#[cfg(test)]
+#[rustfmt::skip]
 mod sections;
 #[cfg(test)]
 #[rustfmt::skip]

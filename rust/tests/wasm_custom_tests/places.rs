@@ -4,7 +4,7 @@
 use dolzhytik::fallible::Global;
 use crate::host::Abort;
 use dolzhytik::reader::{DecodeError, Grammar, Padded, ReadFault, Standard};
-use dolzhytik::fallible::{read_build_id, read_debug_file, read_dylink, read_features, read_hints, read_instances, read_links, read_modules, read_names, read_process, read_producers, read_source_map, read_stack};
+use dolzhytik::fallible::{read_build_id, read_debug_file, read_dylink, read_features, read_hints, read_instances, read_links, read_modules, read_names, read_process, read_producers, read_relocations, read_source_map, read_stack};
 
 /// Returns the cause and the place of an error.
 fn place<T>(read: Result<T, DecodeError>) -> (Option<ReadFault>, u32) {
@@ -162,6 +162,15 @@ fn others<G: Grammar>(rt: &impl Abort, alloc: Global) {
     assert_eq!(rt;
         place(read_dylink::<Global, G>(b"\x08dylink.0\x02\x03\x01\x01\xFF\x02\x01\x00", alloc)),
         (Some(ReadFault::NotUtf8), 4)
+    );
+    // A name that does not begin with `reloc.`: its first byte
+    assert_eq!(rt;
+        place(read_relocations::<Global, G>(b"\x05reloc\x03\x00", alloc)),
+        (Some(ReadFault::UnknownTag), 7)
+    );
+    assert_eq!(rt;
+        place(read_relocations::<Global, G>(b"\x0Areloc.CODE\x03\x01\x1B\x00\x00", alloc)),
+        (Some(ReadFault::UnknownTag), 3)
     );
     assert_eq!(rt;
         place(read_source_map::<Global, G>(b"\x10sourceMappingURL\x01\xFF", alloc)),

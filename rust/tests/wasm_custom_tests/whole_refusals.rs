@@ -12,7 +12,7 @@ use dolzhytik::fallible::{CowSlice, CowStr, Encode, Result};
 use dolzhytik::fallible::{BranchHint, BuildId, CoreDumpInstancesSection, CoreDumpModulesSection, CoreDumpSection, CoreDumpStackSection, CoreDumpValue, CustomSection, DataSymbolDefinition, ExternalDebugInfo, RawCustomSection, SourceMappingUrl};
 
 /// Checks that the call returns an item of these bytes, or fails.
-fn check_made<'h, T: Encode, F: Fn() -> Result<T>>(
+pub(crate) fn check_made<'h, T: Encode, F: Fn() -> Result<T>>(
     rt: &impl Abort,
     heap: Heap<'h>,
     expected: &[u8],
@@ -172,7 +172,7 @@ fn check_sink(rt: &impl Abort, granted: bool, sink: &[u8], expected: &[u8]) {
 }
 
 /// Checks that these bytes are appended. If a request fails, the sink is unchanged.
-fn check_part<T: Encode>(rt: &impl Abort, heap: Heap<'_>, part: &T, expected: &[u8]) {
+pub(crate) fn check_part<T: Encode>(rt: &impl Abort, heap: Heap<'_>, part: &T, expected: &[u8]) {
     for nth in 1..MOST {
         heap.refuse(0);
         let mut sink = Vec::from_slice(heap, &[7]).expect("accepted");

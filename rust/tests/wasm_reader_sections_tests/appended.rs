@@ -9,7 +9,7 @@ use crate::test_support::{MOST, Refusing};
 use dolzhytik::reader::{Padded, ReadFault, Shorten, SizePrefixed, append_all};
 use dolzhytik::fallible::{Refused, Result};
 use dolzhytik::reader::shorten_body;
-use dolzhytik::fallible::{append_build_id, append_debug_file, append_dylink, append_features, append_hints, append_instances, append_links, append_modules, append_names, append_process, append_producers, append_source_map, append_stack, read_dylink, read_features, read_hints, read_instances, read_links, read_modules, read_names, read_process, read_producers, read_stack};
+use dolzhytik::fallible::{append_build_id, append_debug_file, append_dylink, append_features, append_hints, append_instances, append_links, append_modules, append_names, append_process, append_producers, append_relocations, append_source_map, append_stack, read_dylink, read_features, read_hints, read_instances, read_links, read_modules, read_names, read_process, read_producers, read_relocations, read_stack};
 use dolzhytik::fallible::{append_imports, read_imports};
 use dolzhytik::fallible::{append_types, read_types};
 
@@ -117,6 +117,20 @@ fn dylink() {
     let items = read_dylink::<&Refusing<Global>, Padded>(bytes, &heap).expect("read");
     check(&rt, &heap, bytes, |sink: &mut Vec<u8, _>| {
         append_dylink(&items, sink)
+    });
+}
+
+#[test]
+fn relocations() {
+    let rt = crate::host::HostRuntime;
+    let heap = Refusing::new(rt.alloc());
+    let bytes = b"\x0Areloc.CODE\x03\x0A\0\x04\0\0\x0A\0\0\x10\0\0\x16\0\0\x1C\0\
+        \x03\x23\x01\x08\x03\x29\x01\x08\x03\x2F\x01\x08\x03\x35\x01\x08\x03\x3B\x01\x08";
+    let (name, section, relocations) = read_relocations::<&Refusing<Global>, Padded>(
+        bytes, &heap,
+    ).expect("read");
+    check(&rt, &heap, bytes, |sink: &mut Vec<u8, _>| {
+        append_relocations(name, section, &relocations, sink)
     });
 }
 

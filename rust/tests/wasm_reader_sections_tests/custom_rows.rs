@@ -4,14 +4,14 @@
 use crate::custom_seen::{Told, Value, read};
 use dolzhytik::fallible::Global;
 use crate::host::Abort;
-use dolzhytik::fallible::FeaturePrefix;
+use dolzhytik::fallible::{Addend32Relocation, Addend64Relocation, FeaturePrefix, PlainRelocation, Relocation};
 use dolzhytik::reader::SectionKind;
 
 /// A kind, a section of it, and the decoded items.
 pub(crate) type Row = (SectionKind, &'static [u8], Told<'static>);
 
 /// Sections of minimal numbers.
-pub(crate) static ROWS: [Row; 37] = [
+pub(crate) static ROWS: [Row; 40] = [
     (
         SectionKind::Names,
         b"\x09\x04name\x00\x02\x01m",
@@ -189,6 +189,49 @@ pub(crate) static ROWS: [Row; 37] = [
         Told::Folder("/l"),
     ),
     (SectionKind::Dylink, b"\x09\x08dylink.0", Told::Nothing),
+    (
+        SectionKind::Relocations,
+        b"\x15\x0Areloc.CODE\x03\x02\x00\x04\x00\x03\xAC\x02\x01\x7F",
+        Told::Relocated(
+            "reloc.CODE",
+            3,
+            Relocation::Plain {
+                kind: PlainRelocation::FunctionIndexLeb,
+                offset: 4,
+                index: 0,
+            },
+            Relocation::Addend32 {
+                kind: Addend32Relocation::MemoryAddrLeb,
+                offset: 300,
+                index: 1,
+                addend: -1,
+            },
+        ),
+    ),
+    (
+        SectionKind::Relocations,
+        b"\x14\x0Areloc.DATA\x0B\x02\x10\x08\x02\x78\x1A\x10\x03",
+        Told::Relocated(
+            "reloc.DATA",
+            11,
+            Relocation::Addend64 {
+                kind: Addend64Relocation::MemoryAddrI64,
+                offset: 8,
+                index: 2,
+                addend: -8,
+            },
+            Relocation::Plain {
+                kind: PlainRelocation::FunctionIndexI32,
+                offset: 16,
+                index: 3,
+            },
+        ),
+    ),
+    (
+        SectionKind::Relocations,
+        b"\x09\x06reloc.\x00\x00",
+        Told::Nothing,
+    ),
 ];
 
 /// Sections of padded numbers.

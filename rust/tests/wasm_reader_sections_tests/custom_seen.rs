@@ -2,7 +2,7 @@
 // Items of custom sections as plain data.
 
 use dolzhytik::fallible::Global;
-use dolzhytik::fallible::{CoreDumpValue, DataSymbolDefinition, FeaturePrefix};
+use dolzhytik::fallible::{CoreDumpValue, DataSymbolDefinition, FeaturePrefix, Relocation};
 use dolzhytik::reader::{CoreFrame, DylinkItem, LinkItem, NameItem, Symbol};
 use dolzhytik::reader::{Items, SectionKind, read_section};
 
@@ -59,6 +59,8 @@ pub(crate) enum Told<'a> {
     /// Module, name and flags.
     Import(&'a str, &'a str, u32),
     Folder(&'a str),
+    /// The name, the index of a section, and two relocations.
+    Relocated(&'a str, u32, Relocation, Relocation),
     Others,
 }
 
@@ -162,7 +164,8 @@ fn frame_told<'a>(thread: &'a str, frame: &CoreFrame) -> Told<'a> {
     }
 }
 
-/// Returns the items of a section of names, links, producers, target features or debug files.
+/// Returns the items of a section of names, links, producers, target features, debug files or
+/// relocations.
 fn items_told<'a>(items: &Items<'a>) -> Told<'a> {
     match items {
         Items::Names(names) => match names.as_slice() {
@@ -194,6 +197,15 @@ fn items_told<'a>(items: &Items<'a>) -> Told<'a> {
         Items::Dylink(items) => match items.as_slice() {
             [] => Told::Nothing,
             [item] => library_told(item),
+            _ => Told::Others,
+        },
+        Items::Relocations {
+            name,
+            section,
+            relocations,
+        } => match relocations.as_slice() {
+            [] => Told::Nothing,
+            [first, second] => Told::Relocated(name, *section, *first, *second),
             _ => Told::Others,
         },
         _ => dump_told(items),

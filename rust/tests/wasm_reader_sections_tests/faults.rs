@@ -18,7 +18,7 @@ fn check(rt: &impl Abort, alloc: Global, kind: SectionKind, bytes: &[u8], expect
 /// A kind, bytes that are not a section of it, and the error.
 pub(crate) type Row = (SectionKind, &'static [u8], ReadFault);
 
-pub(crate) static ROWS: [Row; 51] = [
+pub(crate) static ROWS: [Row; 55] = [
     (
         SectionKind::Types,
         &[5, 1, 0x4F, 0, 0x5F, 0],
@@ -233,6 +233,26 @@ pub(crate) static ROWS: [Row; 51] = [
         SectionKind::Dylink,
         b"\x0D\x08dylink.0\x02\x02\x02\x00",
         ReadFault::Ended,
+    ),
+    (
+        SectionKind::Relocations,
+        b"\x08\x05reloc\x03\x00",
+        ReadFault::UnknownTag,
+    ),
+    (
+        SectionKind::Relocations,
+        b"\x10\x0Areloc.CODE\x03\x01\x1B\x00\x00",
+        ReadFault::UnknownTag,
+    ),
+    (
+        SectionKind::Relocations,
+        b"\x15\x0Areloc.CODE\x03\x01\x03\x00\x00\x80\x80\x80\x80\x08",
+        ReadFault::TooLarge,
+    ),
+    (
+        SectionKind::Relocations,
+        b"\x0E\x0Areloc.CODE\x03\x00\x00",
+        ReadFault::SizeMismatch,
     ),
 ];
 

@@ -19,7 +19,7 @@ const BEFORE: u8 = 0xAA;
 /// A section with padded numbers, and its minimal encoding.
 type Row = (SectionKind, &'static [u8], &'static [u8]);
 
-static PADDED: [Row; 43] = [
+static PADDED: [Row; 44] = [
     (
         SectionKind::Producers,
         &[
@@ -234,6 +234,11 @@ static PADDED: [Row; 43] = [
         SectionKind::Dylink,
         b"\x15\x08dylink.0\x04\x0A\x81\x00\x03env\x81\x00g\x10",
         b"\x13\x08dylink.0\x04\x08\x01\x03env\x01g\x10",
+    ),
+    (
+        SectionKind::Relocations,
+        b"\x17\x0Areloc.CODE\x83\x00\x81\x00\x03\xAC\x82\x00\x81\x00\xFF\x7F",
+        b"\x12\x0Areloc.CODE\x03\x01\x03\xAC\x02\x01\x7F",
     ),
     (SectionKind::Raw, &[0x82, 0, 1, 2], &[2, 1, 2]),
     (

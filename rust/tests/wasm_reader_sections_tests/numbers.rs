@@ -26,6 +26,7 @@ fn numbered() {
     );
     assert_eq!(rt; SectionKind::numbered(26), Some(SectionKind::BuildId));
     assert_eq!(rt; SectionKind::numbered(27), Some(SectionKind::Dylink));
-    assert_eq!(rt; SectionKind::numbered(28), None);
+    assert_eq!(rt; SectionKind::numbered(28), Some(SectionKind::Relocations));
+    assert_eq!(rt; SectionKind::numbered(29), None);
     assert_eq!(rt; SectionKind::numbered(u32::MAX), None)
 }

@@ -57,7 +57,7 @@ fn check(
 /// A call, the bytes, and the number of requests.
 type Row = (Question, &'static [u8], u64);
 
-static ROWS: [Row; 40] = [
+static ROWS: [Row; 41] = [
     (Question::Section(SectionKind::Functions), &[2, 1, 5], 1),
     (
         Question::Section(SectionKind::Bodies),
@@ -186,6 +186,11 @@ static ROWS: [Row; 40] = [
         Question::Section(SectionKind::Dylink),
         b"\x13\x08dylink.0\x04\x08\x01\x03env\x01g\x10",
         2,
+    ),
+    (
+        Question::Section(SectionKind::Relocations),
+        b"\x15\x0Areloc.CODE\x03\x02\x00\x04\x00\x03\xAC\x02\x01\x7F",
+        1,
     ),
     (Question::Section(SectionKind::Custom), &[1, 0], 0),
     (Question::Section(SectionKind::Raw), &[1, 0], 0),

@@ -11,6 +11,7 @@ use crate::examples::read_back::dumps::{core_dump, read_instances, read_modules,
 use crate::examples::read_back::dylink::read_dylink;
 use crate::examples::read_back::handed::handed_module;
 use crate::examples::read_back::padded::{padded_entries, read_padded_segment, write_padded_bodies};
+use crate::examples::read_back::relocations::read_relocations;
 use crate::examples::read_back::stored::{read_bodies, read_data_count, read_elements, read_globals, read_segments, read_start};
 use dolzhytik::fallible::Global;
 use crate::host::Abort;
@@ -338,6 +339,24 @@ fn dylink() {
         let is_kind = matches!(
             read_dylink(&mut text, "a.so", 4, &mut sink)?,
             Items::Dylink(_)
+        );
+        Ok((is_kind, sink))
+    })
+}
+
+#[test]
+fn relocations() {
+    let rt = crate::host::HostRuntime;
+    let heap = Refusing::new(rt.alloc());
+    let expected = b"\x1A\x0Areloc.CODE\x03\x03\
+        \x00\x04\x05\
+        \x03\xAC\x02\x05\x7C\
+        \x10\xB6\x02\x01\x78";
+    check_read(&rt, &heap, expected, |heap| {
+        let (mut text, mut sink) = (Vec::new(heap), Vec::new(heap));
+        let is_kind = matches!(
+            read_relocations(&mut text, 5, &mut sink)?,
+            Items::Relocations { .. }
         );
         Ok((is_kind, sink))
     })

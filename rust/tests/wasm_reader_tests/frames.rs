@@ -105,12 +105,12 @@ fn check_same(rt: &impl Abort, given: &str, expected: &str) {
 fn texts_of_faults() {
     let rt = crate::host::HostRuntime;
     let alloc = rt.alloc();
-    check_said(&rt, alloc, ReadFault::Ended, "Ended");
-    check_said(&rt, alloc, ReadFault::NotShortest, "NotShortest");
-    check_said(&rt, alloc, ReadFault::TooLarge, "TooLarge");
-    check_said(&rt, alloc, ReadFault::UnknownTag, "UnknownTag");
-    check_said(&rt, alloc, ReadFault::UnknownOpcode, "UnknownOpcode");
-    check_said(&rt, alloc, ReadFault::NotUtf8, "NotUtf8");
-    check_said(&rt, alloc, ReadFault::SizeMismatch, "SizeMismatch");
-    check_said(&rt, alloc, ReadFault::Memory, "Memory")
+    check_said(&rt, alloc, ReadFault::Ended, "unexpected end of input");
+    check_said(&rt, alloc, ReadFault::NotShortest, "padded integer");
+    check_said(&rt, alloc, ReadFault::TooLarge, "integer too large");
+    check_said(&rt, alloc, ReadFault::UnknownTag, "unexpected byte or value");
+    check_said(&rt, alloc, ReadFault::UnknownOpcode, "unknown opcode");
+    check_said(&rt, alloc, ReadFault::NotUtf8, "invalid UTF-8");
+    check_said(&rt, alloc, ReadFault::SizeMismatch, "bytes remain after the value");
+    check_said(&rt, alloc, ReadFault::Memory, "out of memory")
 }

@@ -37,8 +37,8 @@ fn check_both<'a, T: Readable<'a, Global, Padded> + Readable<'a, Global, Standar
     check_place(rt, place_of::<T, Standard>(alloc, bytes), cause, left);
 }
 
-/// Checks the decoded `T` and the number of remaining bytes in the standard's grammar, and the place
-/// of the error in the builders'.
+/// Checks the decoded `T` and the number of remaining bytes in the standard's grammar, and the
+/// place of the error in the builders'.
 fn check_standard<
     'a,
     T: Readable<'a, Global, Padded> + Readable<'a, Global, Standard> + Copy + PartialEq,

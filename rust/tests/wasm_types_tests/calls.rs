@@ -37,8 +37,8 @@ fn functions() {
     check_piece(&rt, section.piece(2), None);
 }
 
-/// Entries that are already encoded, and decoded ones: a function type, and a group of an array type
-/// whose count is padded.
+/// Entries that are already encoded, and decoded ones: a function type, and a group of an array
+/// type whose count is padded.
 #[test]
 fn raw_and_decoded() {
     let rt = crate::host::HostRuntime;

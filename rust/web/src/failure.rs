@@ -2,7 +2,6 @@
 #![forbid(unsafe_code)]
 
 use crate::block::Block;
-use crate::cause::Text;
 use crate::found::Found;
 use core::fmt;
 use dolzhytik::fallible::recipe::{RecipeCause, RecipeFault};
@@ -41,8 +40,8 @@ impl fmt::Display for Cause<'_> {
         match self {
             Cause::Memory => AllocError.fmt(f),
             Cause::NoHeader(found) => found.fmt(f),
-            Cause::NoSection(error) => Text(error.cause).fmt(f),
-            Cause::NoItems(fault) => Text(*fault).fmt(f),
+            Cause::NoSection(error) => error.cause.fmt(f),
+            Cause::NoItems(fault) => fault.fmt(f),
             Cause::Offsets(_) => f.write_str(
                 "holds offsets that would become wrong; dropOffsets drops such sections",
             ),

@@ -2,8 +2,8 @@
 //!
 //! A block begins with a head of 8 bytes: its size with the head, whose lowest bit is set where the
 //! block is used, and the size of the block before it, or 0. Two more words of a free block link it
-//! to the others of its bin: bin `n` has the free blocks of at least 2^n bytes and less than 2^(n+1).
-//! A used block of a head alone ends each run of pages.
+//! to the others of its bin: bin `n` has the free blocks of at least 2^n bytes and less than
+//! 2^(n+1). A used block of a head alone ends each run of pages.
 #![forbid(unsafe_code)]
 
 /// The memory of a heap: words of 32 bits, at addresses that are multiples of 4.
@@ -12,8 +12,8 @@ pub trait Memory {
 
     fn store(&mut self, address: u32, word: u32);
 
-    /// Adds at least this many bytes. Returns their first address and the address behind them, which
-    /// are multiples of [`ALIGNMENT`].
+    /// Adds at least this many bytes. Returns their first address and the address behind them,
+    /// which are multiples of [`ALIGNMENT`].
     fn grow(&mut self, bytes: u32) -> Option<(u32, u32)>;
 }
 

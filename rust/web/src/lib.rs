@@ -5,8 +5,6 @@
 
 mod answers;
 mod block;
-#[path = "../../src/bin/dolzhytik/cause.rs"]
-mod cause;
 mod failure;
 #[path = "../../src/bin/dolzhytik/found.rs"]
 mod found;

@@ -87,7 +87,7 @@ def settle(answer: Answer, is_check: bool, counts: Counts, say: Say) -> None:
         if old != answer.text:
             say("%s: %s is not what is written" % (answer.where, answer.path.relative_to(answer.function.source.crate.folder)))
     elif old == answer.text:
-        say("%s: stands" % answer.where)
+        say("%s: unchanged" % answer.where)
     else:
         answer.path.parent.mkdir(parents=True, exist_ok=True)
         answer.path.write_text(answer.text, encoding="utf-8")

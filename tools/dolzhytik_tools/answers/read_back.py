@@ -16,12 +16,12 @@ READ_BACK = """
 use Rattle.std.proofs.Common.{◌++◌, ap, ◌∙◌}
 use Rattle.wasm_reader.proofs.Causes.{cause_stays}
 use Rattle.wasm_reader.specs.Kinds.{KIND}
-use Rattle.wasm_reader.proofs.Calls.{written, decodes_written, written_stands, shortens_written}
+use Rattle.wasm_reader.proofs.Calls.{written, decodes_written, written_not_rejected, shortens_written}
 use Rattle.wasm_reader.specs.declared.kinds.SectionKind.TheVariants as kinds
 use MODULE.Goals as goal
 
 pub returns-in_err-items-clause-memory : goal.returns-in_err-items-clause-memory
-returns-in_err-items-clause-memory g c = cause_stays c.from_residual-in_err-items.result _ c.from_residual-in_err-items.ensures.1 λ n. written_stands kinds.KIND (c.in_err-items.ensures.none n) (written KIND c.requires WRITTEN)
+returns-in_err-items-clause-memory g c = cause_stays c.from_residual-in_err-items.result _ c.from_residual-in_err-items.ensures.1 λ n. written_not_rejected kinds.KIND (c.in_err-items.ensures.none n) (written KIND c.requires WRITTEN)
 
 pub returns-clause-read : goal.returns-clause-read
 returns-clause-read g c = decodes_written c.in_ok-items.ensures.found.1 (written KIND c.requires WRITTEN)

@@ -85,6 +85,7 @@ PAYLOADS = {
     "instances_payload": "CoreDumps",
     "stack_payload": "CoreStacks",
     "dylink_payload": "Dylink",
+    "relocations_payload": "Relocations",
     "source_map_payload": "DebugFiles",
     "debug_file_payload": "DebugFiles",
     "build_id_payload": "DebugFiles",

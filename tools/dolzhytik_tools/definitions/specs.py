@@ -118,7 +118,8 @@ def read(crate: str, name: str, text: str) -> Specs:
     return specs
 
 
-# Definitions whose sentence begins `The same for`, and which it means, if that is not the one before.
+# Definitions whose sentence begins `The same for`, and which it means, if that is not the one
+# before.
 SAME = {'IsGivenSymbol': 'IsFullSymbol'}
 
 

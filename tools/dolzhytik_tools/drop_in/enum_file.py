@@ -1,6 +1,7 @@
 """The file of the enum: its cases, their conversion to proved values, and their encoding."""
 from __future__ import annotations
 
+from ..errors import Stop
 from .cases import HEAD, Case, item_of
 from .standard import alias, field, said
 
@@ -32,6 +33,37 @@ def conversion(case: Case) -> str:
 def op_arm(case: Case) -> str:
     """Returns the arm of a case's opcode."""
     return "            Instruction::%s => %s,\n" % (case.pattern(), case.op())
+
+
+# The arguments of a decoded instruction of each layout, as patterns.
+DECODED = {
+    "-": [],
+    "u": ["U32"], "uu": ["U32", "U32"],
+    "m": ["Mem"], "ml": ["Mem", "Lane"], "l": ["Lane"], "ls": ["Lanes"],
+    "b": ["Block"], "h": ["Heap"],
+    "o": ["Order"], "ou": ["Order", "U32"], "ouu": ["Order", "U32", "U32"],
+    "c32": ["S32"], "c64": ["S64"], "f32": ["F32"], "f64": ["F64"], "v": ["V128"],
+    "bt": ["Labels", "U32"], "tt": ["Block", "Catches"], "ts": ["Types"],
+    "uH": ["U32", "Handles"], "uuH": ["U32", "U32", "Handles"],
+}
+# The flags of a cast are an argument of their own, and say whether its types are nullable.
+CAST = ("Arg::Flag(flags), Arg::U32(a), Arg::Heap(b), Arg::Heap(c)", ["*a", "cast_type(flags & 1 != 0, *b)", "cast_type(flags & 2 != 0, *c)"])
+
+
+def decoded_arm(case: Case) -> str:
+    """Returns the arm that converts a decoded instruction to a case. Of the cases with one opcode
+    the one of a single type is first."""
+    if case.shape == "k":
+        pattern, parts = CAST
+    elif case.shape not in DECODED:
+        raise Stop("no decoded arguments are known for the layout %s" % case.shape)
+    else:
+        pattern = ", ".join("Arg::%s(%s)" % it for it in zip(DECODED[case.shape], "abc"))
+        parts = ["Cow::Borrowed(%s.as_slice())" % it if item_of(ty) else "*" + it for it, ty in zip(case.letters(), case.types)]
+    guard = ""
+    if case.is_one:
+        guard, parts = " if a.len() == 1", ["a[0]"]
+    return "            (%s, [%s])%s => Instruction::%s,\n" % (case.op(), pattern, guard, case.of(parts))
 
 
 # Types whose values are arguments of the functions that encode them; others are borrowed.
@@ -71,7 +103,9 @@ TEMPLATE = """//! The instructions, as cases of one enum.
 use super::Encode;
 use super::entries::append;
 use crate::base::{self, CowSlice, HeapType, Lent, RefType, Result, ValType};
+use crate::alloc::Allocator;
 use crate::insn::{self, BlockType, Catch, Handle, Ieee32, Ieee64, Lane, MemArg, Op, Ordering};
+use crate::reader::{Arg, Plain, ReadFault};
 use crate::vec::Sink;
 use alloc_crate::borrow::Cow;
 use alloc_crate::vec::Vec;
@@ -84,13 +118,14 @@ use core::slice;
 /// `encode` of [`Encode`] appends its bytes to a list. Each case also has a named call of
 /// [`InstructionSink`](super::InstructionSink), which takes its immediates as arguments.
 ///
-/// The line of a case has the instruction's name in the text format, its opcode, its class, and what
-/// it does. An opcode is one byte, such as 0x6A, or a prefix and a number as unsigned LEB128, such as
-/// 0xFC 10. Instructions whose line names no proposal are defined in the core specification, Binary
-/// Format, [Instructions].
+/// The line of a case has the instruction's name in the text format, its opcode, its class, and
+/// what it does. An opcode is one byte, such as 0x6A, or a prefix and a number as unsigned LEB128,
+/// such as 0xFC 10. Instructions whose line names no proposal are defined in the core
+/// specification, Binary Format, [Instructions].
 ///
 /// The enum is `non_exhaustive`: a `match` outside this package needs a wildcard. To decode
-/// instructions, see [`reader::CodeBody::instructions`](crate::reader::CodeBody::instructions).
+/// instructions, see [`reader::CodeBody::instructions`](crate::reader::CodeBody::instructions);
+/// `Instruction::try_from((step.op, instructions.args()))` converts a decoded one.
 ///
 /// ```
 /// use dolzhytik::{BlockType, Encode, Instruction};
@@ -125,6 +160,69 @@ impl<'a> From<&'a Instruction<'_>> for insn::Instruction<'a> {
     }
 }
 
+/// Returns the type of an operand or a result of a cast.
+fn cast_type(nullable: bool, heap_type: HeapType) -> RefType {
+    RefType { nullable, heap_type }
+}
+
+/// Converts a decoded instruction: its opcode and its arguments. Lists are borrowed.
+///
+/// A `select` with one type is [`TypedSelect`](Instruction::TypedSelect).
+///
+/// # Errors
+///
+/// Returns [`ReadFault::UnknownOpcode`] if no instruction has this opcode and these arguments. An
+/// instruction that was decoded has a case, as a test of each case shows.
+///
+/// ```
+/// use dolzhytik::Instruction;
+/// use dolzhytik::fallible::Global;
+/// use dolzhytik::reader::{ReadFault, Instructions};
+///
+/// // local.get 1; i32.const 5; i32.add.
+/// let mut decoded = Instructions::standard(&[0x20, 1, 0x41, 5, 0x6A], Global);
+/// let mut constants = vec![];
+/// while let Some(step) = decoded.next().map_err(|error| error.cause())? {
+///     if let Instruction::I32Const(n) = Instruction::try_from((step.op, decoded.args()))? {
+///         constants.push(n);
+///     }
+/// }
+/// assert_eq!(constants, [5]);
+/// # Ok::<(), ReadFault>(())
+/// ```
+impl<'a, A: Allocator> TryFrom<(Op, &'a [Arg<A>])> for Instruction<'a> {
+    type Error = ReadFault;
+
+    fn try_from((op, args): (Op, &'a [Arg<A>])) -> core::result::Result<Self, ReadFault> {
+        Ok(match (number_of(op), args) {
+%s            _ => return Err(ReadFault::UnknownOpcode),
+        })
+    }
+}
+
+/// Converts a decoded instruction. Lists are borrowed.
+///
+/// # Errors
+///
+/// Returns [`ReadFault::UnknownOpcode`] if no instruction has this opcode and these arguments.
+///
+/// ```
+/// use dolzhytik::Instruction;
+/// use dolzhytik::fallible::{Global, Op};
+/// use dolzhytik::reader::{Plain, ReadFault};
+///
+/// let plain: Plain = Plain { op: Op::Byte(0x6A), args: dolzhytik::fallible::Vec::new(Global) };
+/// assert!(matches!(Instruction::try_from(&plain)?, Instruction::I32Add));
+/// # Ok::<(), ReadFault>(())
+/// ```
+impl<'a, A: Allocator> TryFrom<&'a Plain<A>> for Instruction<'a> {
+    type Error = ReadFault;
+
+    fn try_from(plain: &'a Plain<A>) -> core::result::Result<Self, ReadFault> {
+        Instruction::try_from((plain.op, plain.args.as_slice()))
+    }
+}
+
 impl Instruction<'_> {
     /// Returns the opcode as one number, which `op_of` takes.
     #[inline(always)]
@@ -152,6 +250,15 @@ fn op_of(op: u32) -> Op {
         return Op::Byte(number[2]);
     }
     Op::Prefixed(prefix, op & 0x00FF_FFFF)
+}
+
+/// Returns an opcode as one number, or one that no instruction has.
+fn number_of(op: Op) -> u32 {
+    match op {
+        Op::Byte(byte) => u32::from(byte),
+        Op::Prefixed(prefix @ 1.., number @ ..0x0100_0000) => u32::from(prefix) << 24 | number,
+        Op::Prefixed(..) => u32::MAX,
+    }
 }
 
 // Each arm of `encode` ends in a jump to one of these functions, and passes its arguments in
@@ -212,6 +319,7 @@ def instruction_file(cases: list[Case]) -> str:
     return HEAD + TEMPLATE % (
         "".join(map(declaration, cases)),
         "".join(map(conversion, cases)),
+        "".join(map(decoded_arm, cases)),
         "".join(map(op_arm, cases)),
         "".join(conversion(case)[4:] for case in cases if case.shape == "k"),
         encode_arms(cases),

@@ -54,7 +54,8 @@ const MEMARG: MemArg = MemArg {
     ordering: None,
 };
 
-/// Returns the first byte of an instruction. All cases have an arm, and the wildcard is not unreachable: the enum may grow.
+/// Returns the first byte of an instruction. All cases have an arm, and the wildcard is not
+/// unreachable: the enum may grow.
 #[deny(unreachable_patterns)]
 pub fn first_byte(instruction: &Instruction<'_>) -> Option<u8> {
     Some(match instruction {

@@ -13,8 +13,8 @@ def variants_used(enum: Enum) -> str:
 def bare_definition(enum: Enum, cases: list[Case]) -> str:
     """Returns the definition of the numbers of an enum without fields."""
     number = f"{enum.module}_number"
-    says = "the op of a case" if enum.prefix is None else "the number of a case after the prefix"
-    return f"""-- The numbers of the instructions of `{enum.name}`.
+    says = "The opcode of each instruction, a byte." if enum.prefix is None else f"The number of each instruction after the prefix {enum.prefix:02X}."
+    return f"""-- This file defines the opcodes of the instructions of `{enum.name}`.
 use Rattle.std.specs.Prelude.{{ℕ}}
 use Rattle.wasm_insn.specs.declared.{enum.module}.{enum.name}.{{{enum.name}}}
 {variants_used(enum)}
@@ -51,14 +51,14 @@ def nested_rows(enum: Enum) -> str:
 def row_definition(enum: Enum, cases: list[Case]) -> str:
     """Returns the definition of the rows of an enum with fields."""
     words = {word for case in cases for word in case.given.words}
-    return f"""-- The rows of the instructions of `{enum.name}`.
+    return f"""-- This file defines the opcodes and immediates of the instructions of `{enum.name}`.
 use Rattle.std.specs.Prelude.{{[], ◌∷◌}}
 use Rattle.wasm_insn.specs.declared.{enum.module}.{enum.name}.{{{enum.name}}}
 {variants_used(enum)}use Rattle.wasm_insn.specs.declared.op.Op.TheVariants.{{Prefixed}}
 use Rattle.wasm_insn.specs.Arguments.{{{', '.join(it for it in ARGUMENTS if it in words)}}}
 use Rattle.wasm_insn.specs.Plain.{{Plain}}
 
--- the op and the arguments of a case
+-- The opcode and the immediates of each instruction.
 abbrev pub {enum.module}_row : {enum.name} → Plain
 """ + rows(f"{enum.module}_row", cases)
 

@@ -56,7 +56,7 @@ def with_arms(enum: Enum, cases: list[Case]) -> list[Region]:
 def source_regions(cases: list[Case]) -> dict[str, list[Region]]:
     """Returns the regions of files of src/."""
     own, atomic, vector = of_enum(cases, INSTRUCTION), of_enum(cases, ATOMIC), of_enum(cases, VECTOR_IMMEDIATE)
-    shapes = [Region((f"/// Ops after the prefix {it:02X}.",), runs_made(cases, it)) for it in PREFIXES]
+    shapes = [Region((f"/// The opcodes after the prefix {it:02X}.",), runs_made(cases, it)) for it in PREFIXES]
     return {
         "src/instruction.rt": with_arms(INSTRUCTION, own) + copies(own),
         "src/vector_immediate.rt": with_arms(VECTOR_IMMEDIATE, vector),

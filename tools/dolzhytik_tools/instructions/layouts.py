@@ -67,8 +67,8 @@ LAYOUTS = {
     "f64": Layout("F64", "A float of 64 bits.", (Part("Ieee64", "float64 {}", "float64"),)),
     "v": Layout("V", "A vector of 128 bits.", (Part("i128", "vector {}", "signed"),)),
     "ls": Layout("Ls", "Sixteen lanes.", (Part("[Lane; 16]", "lanes {}", "lanes"),)),
-    "bt": Layout("Bt", "Labels, and one label more.", (LABELS, NUMBER), appends="encode_labels"),
-    "tt": Layout("Tt", "A block type and clauses that catch.", (BLOCK, CATCHES), appends="encode_try_table"),
+    "bt": Layout("Bt", "Labels, and a default label.", (LABELS, NUMBER), appends="encode_labels"),
+    "tt": Layout("Tt", "A block type and catch clauses.", (BLOCK, CATCHES), appends="encode_try_table"),
     "ts": Layout("Ts", "Value types.", (TYPES,)),
     "k": Layout(
         "K",
@@ -78,8 +78,8 @@ LAYOUTS = {
         looks="cast_ranged",
         arguments=("flag (cast_flag_of {1} {2})", "unsigned {0}", "heap {1}.heap_type", "heap {2}.heap_type"),
     ),
-    "uH": Layout("Uh", "A number and clauses that handle.", (NUMBER, HANDLES), appends="encode_resume"),
-    "uuH": Layout("Uuh", "Two numbers and clauses that handle.", (NUMBER, NUMBER, HANDLES), appends="encode_resume_throw"),
+    "uH": Layout("Uh", "A number and handle clauses.", (NUMBER, HANDLES), appends="encode_resume"),
+    "uuH": Layout("Uuh", "Two numbers and handle clauses.", (NUMBER, NUMBER, HANDLES), appends="encode_resume_throw"),
 }
 # A list of one item, which the case has as its field.
 ONE = Layout("Ts", LAYOUTS["ts"].says, (Part("ValType", "types ({} ∷ [])", "value"),))

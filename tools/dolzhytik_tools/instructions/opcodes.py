@@ -44,7 +44,8 @@ def byte_shapes(cases: list[Case]) -> str:
 def counts(cases: list[Case]) -> str:
     """Returns the record of how many rows and opcodes the table has."""
     ops = len({it.rank for it in cases})
-    return f"""-- The table has {len(cases)} rows on {ops} ops, in ascending order; two neighbours share an op, 1C, and no others do.
+    return f"""-- The table has {len(cases)} rows on {ops} opcodes, in ascending order. Two neighbours share the opcode 1C,
+-- and no others share one.
 pub record IsOpcodeTable (rows : Table) : Type 0 where
   pub row_count : length rows ≡ {len(cases)}
   pub op_count : length (ops_of rows) ≡ {ops}

@@ -132,7 +132,7 @@ pub enum {enum.name} {{
 {variants(enum, cases)}}}
 
 impl {enum.name} {{
-    /// The op of the table.
+    /// Returns the opcode, as in the opcode table.
     pub fn op(self) -> Op
         ensures {{ result ≡ {op} }}
     {{
@@ -140,7 +140,7 @@ impl {enum.name} {{
     }}
 }}
 
-/// Their names as instructions.
+/// The same instructions as constants of `Instruction`.
 impl Instruction<'static> {{
 {constants(enum, cases)}}}
 """

@@ -30,8 +30,8 @@ class Enum:
 INSTRUCTION = Enum("Instruction", None, False, "An instruction.")
 # Each is a case of `Instruction`, in the order of its cases.
 NESTED = (
-    Enum("Numeric", None, True, "Numeric instructions, the ops 45 to C4."),
-    Enum("Aggregate", 0xFB, True, "Instructions on aggregates and references without fields: those after the prefix FB."),
+    Enum("Numeric", None, True, "Numeric instructions: the one-byte opcodes 45 to C4."),
+    Enum("Aggregate", 0xFB, True, "Instructions on aggregates and references without immediates: those after the prefix FB."),
     Enum("PrefixedNumeric", 0xFC, True, "Numeric instructions after the prefix FC: truncations that saturate, and wide arithmetic."),
     Enum("Vector", 0xFD, True, "Vector instructions without immediates: those after the prefix FD."),
     Enum("VectorImmediate", 0xFD, False, "Vector instructions with immediates: those after the prefix FD."),
@@ -140,12 +140,12 @@ def read(text: str) -> list[Case]:
     cases = [case_of(i, line) for i, line in enumerate(lines, 2)]
     for before, case in zip(cases, cases[1:]):
         if case.rank < before.rank or case.rank == before.rank and not (before.form == "one" and case.layout == before.layout):
-            raise Stop(f"{TABLE}:{case.line}: an op that stands already, or before the one above: {case.name}")
+            raise Stop(f"{TABLE}:{case.line}: an op that an earlier line has, or that is before the one above: {case.name}")
     for what in ("name", "call"):
         seen: dict[str, int] = {}
         for case in cases:
             if seen.setdefault(getattr(case, what), case.line) != case.line:
-                raise Stop(f"{TABLE}:{case.line}: the {what} {getattr(case, what)} stands in line {seen[getattr(case, what)]} already")
+                raise Stop(f"{TABLE}:{case.line}: the {what} {getattr(case, what)} is in line {seen[getattr(case, what)]} already")
     for enum in ENUMS.values():
         room = ROOM - len(NESTED) if enum == INSTRUCTION else ROOM_OF_COPIES
         for case in of_enum(cases, enum)[room:]:

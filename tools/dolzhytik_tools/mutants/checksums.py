@@ -1,15 +1,16 @@
 """The checksum of a mutant: of all that its verdict depends on.
 
 A function is proved from its own body and proof files, from the contracts of its callees, and from
-definitions and lemmas. So the checksum covers exactly
+definitions and lemmas. Each lemma is proved too, so none makes a wrong body pass: lemmas are left
+out. So the checksum covers exactly
 - the mutant, and the mutated function with its proof files, and those of its cycle;
-- its crate's line of crates.txt, its definitions and lemmas, and its sources without `#[inline]` and
-  the bodies of other functions, all without comments and blank lines;
+- its crate's line of crates.txt, its definitions, and its sources without `#[inline]` and the bodies
+  of other functions, all without comments and blank lines;
 - the same of each crate below;
 - the kit's logic, and the code that reads what a check prints (judging.py).
 If a mutant changes a constant, a table, a definition or several places, the checksum covers all bodies
-and proof files of its crate. It has no machine, time or absolute path, so a committed verdict holds
-wherever these contents are the same.
+and the proof files of all functions of its crate. It has no machine, time or absolute path, so a
+committed verdict holds wherever these contents are the same.
 """
 from __future__ import annotations
 
@@ -81,15 +82,19 @@ def sum_of_interface(top: str) -> str:
     found = []
     for path in files_below(f"{top}/src"):
         found.append((path, interface(path.removeprefix(f"{top}/"), text_of(path))))
-    for path in [*files_below(f"{top}/specs"), *files_below(f"{top}/proofs")]:
-        if os.path.basename(path) not in OF_FUNCTION:
-            found.append((path, proof_text(path)))
+    for path in files_below(f"{top}/specs"):
+        found.append((path, proof_text(path)))
     return checksum([(path.removeprefix(top), text) for path, text in found])
+
+
+def proof_files(top: str) -> list[str]:
+    """Returns the proof files of the functions of a crate, without those of lemmas."""
+    return [it for it in files_below(f"{top}/proofs") if os.path.basename(it) in OF_FUNCTION]
 
 
 def whole(top: str) -> list[str]:
     """Returns the sources and proof files of a crate, for a mutant of no single function."""
-    return [bare(text_of(it)) for it in files_below(f"{top}/src")] + [proof_text(it) for it in files_below(f"{top}/proofs")]
+    return [bare(text_of(it)) for it in files_below(f"{top}/src")] + [proof_text(it) for it in proof_files(top)]
 
 
 @functools.lru_cache(maxsize=None)

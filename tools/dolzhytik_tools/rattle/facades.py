@@ -1,9 +1,9 @@
-"""Imports of proof files through what the crates below pass on.
+"""Imports of proof files through re-exports.
 
-`proofs/Words.antt` of a crate passes on the names that proofs of the crates above use: lemmas,
-definitions, and in wasm_base names of std. `specs/Lib.antt` passes on all definitions of the crate,
-to its own proofs. So a proof file has one import for each crate, in lines of at most 200 characters.
-The crate `dolzhytik` passes on the definitions and lemmas of all libraries, to crates that use it.
+`proofs/Words.antt` of a crate re-exports the names that proofs of dependent crates use: lemmas,
+definitions, and in wasm_base names of std. `specs/Lib.antt` re-exports definitions of the crate for
+its own proofs. So a proof file has one import for each crate, in lines of at most 200 characters.
+The crate `dolzhytik` re-exports the definitions and lemmas of all libraries for crates that use it.
 """
 from __future__ import annotations
 
@@ -16,9 +16,9 @@ IMPORT = re.compile(r"use Rattle\.([\w.+-]+)\.\{([^}]*)\}")
 GLOB = re.compile(r"(?:unfoldable )?pub use Rattle\.([\w.]+)\.\*")
 PASSED = re.compile(r"(?:unfoldable )?pub use Rattle\.([\w.]+)\.\{([^}]*)\}")
 ALIAS = re.compile(r"pub use Rattle\.(\w+\.\w+) as (\w+)")
-# The file of wasm_base that passes on names of std to its own proofs.
+# The file of wasm_base that re-exports names of std for its own proofs.
 STD = "wasm_base.proofs.Std"
-# The crate that passes on all libraries.
+# The crate that re-exports all libraries.
 WHOLE = "dolzhytik"
 
 
@@ -27,7 +27,7 @@ def split(names: str) -> list[str]:
 
 
 class Facades:
-    """What the crates of a repository pass on."""
+    """The re-exports of the crates of a repository."""
 
     def __init__(self, top: pathlib.Path):
         self.top = top
@@ -41,12 +41,12 @@ class Facades:
 
     @cache
     def globs(self, facade: str) -> frozenset[str]:
-        """Returns the modules of which a facade passes on all names."""
+        """Returns the modules of which a facade re-exports all names."""
         return frozenset(it[1] for line in self.lines(facade + ".Lib") if (it := GLOB.fullmatch(line)))
 
     @cache
     def passed(self, module: str) -> dict[tuple[str, str], None]:
-        """Returns the names that a file passes on one by one, each with its module."""
+        """Returns the names that a file re-exports one by one, each with its module."""
         found = (it for line in self.lines(module) if (it := PASSED.fullmatch(line)))
         return {(it[1], name): None for it in found for name in split(it[2])}
 
@@ -59,13 +59,16 @@ class Facades:
 
     @cache
     def aliases(self) -> dict[str, str]:
-        """Returns by which names the whole passes on the definitions and lemmas of libraries."""
+        """Returns the names by which the whole re-exports the libraries."""
         lines = [(kind, line) for kind in ("specs", "proofs") for line in self.lines(f"{WHOLE}.{kind}.Lib")]
         return {found[1]: f"{WHOLE}.{kind}.{found[2]}" for kind, line in lines if (found := ALIAS.fullmatch(line))}
 
     def of(self, crate: str, module: str, name: str) -> str:
         """Returns the module through which proofs of a crate import a name of a module."""
         found = self.in_library(crate, module, name)
+        own = crate + ".proofs.Common"
+        if (found, name) in self.passed(own):
+            return own
         library = ".".join(found.split(".")[:2])
         if self.uses_whole(crate) and library in self.aliases():
             return self.aliases()[library] + found.removeprefix(library)

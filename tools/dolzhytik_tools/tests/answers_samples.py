@@ -262,12 +262,12 @@ frame-requires-clause-stack g c = record { can = λ it b. tt; reported = λ it x
 use Rattle.std.proofs.Common.{◌++◌, ap, ◌∙◌}
 use Rattle.wasm_reader.proofs.Causes.{cause_stays}
 use Rattle.wasm_reader.specs.Kinds.{Linking}
-use Rattle.wasm_reader.proofs.Calls.{written, decodes_written, written_stands, shortens_written}
+use Rattle.wasm_reader.proofs.Calls.{written, decodes_written, written_not_rejected, shortens_written}
 use Rattle.wasm_reader.specs.declared.kinds.SectionKind.TheVariants as kinds
 use Rattle.mine.proofs.adding.read.Goals as goal
 
 pub returns-in_err-items-clause-memory : goal.returns-in_err-items-clause-memory
-returns-in_err-items-clause-memory g c = cause_stays c.from_residual-in_err-items.result _ c.from_residual-in_err-items.ensures.1 λ n. written_stands kinds.Linking (c.in_err-items.ensures.none n) (written Linking c.requires c.in_ok-linking.ensures)
+returns-in_err-items-clause-memory g c = cause_stays c.from_residual-in_err-items.result _ c.from_residual-in_err-items.ensures.1 λ n. written_not_rejected kinds.Linking (c.in_err-items.ensures.none n) (written Linking c.requires c.in_ok-linking.ensures)
 
 pub returns-clause-read : goal.returns-clause-read
 returns-clause-read g c = decodes_written c.in_ok-items.ensures.found.1 (written Linking c.requires c.in_ok-linking.ensures)

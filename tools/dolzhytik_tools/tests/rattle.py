@@ -180,7 +180,7 @@ f = refl
 
 
 def imports() -> None:
-    """A proof imports a name through what its module's crate passes on, each name once."""
+    """A proof imports a name through what its module's crate re-exports, each name once."""
     with tempfile.TemporaryDirectory() as folder:
         for path, lines in PASSED_ON.items():
             file = pathlib.Path(folder, "crates", path)
@@ -198,6 +198,21 @@ def imports() -> None:
         assert known.of("wasm_base", "std.proofs.Common", "refl") == facades.STD
         assert known.of("wasm_base", "std.proofs.Common", "sym") == "std.proofs.Common"
         assert known.of("wasm_base", "wasm_base.specs.Numbers", "minimal") == "wasm_base.specs"
+
+
+def imports_of_one_file() -> None:
+    """The proof of a function imports what its crate's `Common` has through that file."""
+    with tempfile.TemporaryDirectory() as folder:
+        own = {"mine/proofs/Common.antt": "pub use Rattle.wasm_base.proofs.Words.{◌≡◌, padded}\n"}
+        for path, lines in {**PASSED_ON, **own}.items():
+            file = pathlib.Path(folder, "crates", path)
+            file.parent.mkdir(parents=True, exist_ok=True)
+            file.write_text(lines, encoding="utf8")
+        known = facades.Facades(pathlib.Path(folder))
+        assert known.of("mine", "std.proofs.Common", "◌≡◌") == "mine.proofs.Common"
+        assert known.of("mine", "wasm_base.specs.Numbers", "padded") == "mine.proofs.Common"
+        assert known.of("mine", "std.proofs.Common", "refl") == "wasm_base.proofs.Words"
+        assert known.of("other", "std.proofs.Common", "◌≡◌") == "wasm_base.proofs.Words"
 
 
 WHOLE_IMPORTS = """-- A proof.
@@ -250,4 +265,4 @@ def widths() -> None:
 
 def main() -> int:
     """Runs the tests."""
-    return run_all("rattle-test", [tokens, kinds, all_sources, lists, forms, declarations, functions, blocks, imports, imports_of_the_whole, whole, widths])
+    return run_all("rattle-test", [tokens, kinds, all_sources, lists, forms, declarations, functions, blocks, imports, imports_of_one_file, imports_of_the_whole, whole, widths])

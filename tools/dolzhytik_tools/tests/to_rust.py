@@ -168,7 +168,7 @@ def feature_trouble() -> str | None:
     try:
         Written(crate, 'lib.rt', text.replace('mod listing;\n', ''))
     except Stop as stop:
-        return None if 'mod listing; stands there 0 times' in str(stop) else f'it said {stop}'
+        return None if 'mod listing; is there 0 times' in str(stop) else f'it said {stop}'
     return 'a listed item that is gone did not stop the tool'
 
 

@@ -15,7 +15,7 @@ def the_place(source: Source, text: str) -> int:
     wanted = solid_words(text)
     found = [at for at in source.solid_places() if source.after(at, *wanted) is not None]
     if len(found) != 1:
-        raise Stop(f'{source.path}:1: {text} stands there {len(found)} times')
+        raise Stop(f'{source.path}:1: {text} is there {len(found)} times')
     return found[0]
 
 

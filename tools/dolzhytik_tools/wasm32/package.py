@@ -111,7 +111,8 @@ dolzhytik = {{ path = "{TOP}/rust", default-features = false, features = ["recip
 
 [workspace]
 
-# Tests find a sum of `usize` that overflows. They are compiled in a quarter of the time without optimizations.
+# Tests find a sum of `usize` that overflows. They are compiled in a quarter of the time without
+# optimizations.
 [profile.release]
 panic = "abort"
 opt-level = 0

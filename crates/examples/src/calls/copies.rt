@@ -1,6 +1,6 @@
 //! Copies of builders and values: each has the same content as the original.
 ghost use Rattle.std.specs.Prelude.{◌≡◌, IfOk, map};
-ghost use Rattle.wasm_base.specs.Cow.{items_of, encoding_of};
+ghost use Rattle.wasm_base.specs.Cow.{items_of, utf8_of};
 ghost use Rattle.wasm_insn.specs.Instructions.{row_of};
 ghost use Rattle.wasm_types.specs.Given.{composite_in, func_in, shape_in, sub_in};
 ghost use Rattle.wasm_types.specs.Items.{entry_encoding};
@@ -8,7 +8,9 @@ ghost use Rattle.wasm_types.specs.Items.{entry_encoding};
 use std::alloc::Allocator;
 use wasm_base::{Module, Result, add_all};
 use wasm_code::{CodeSection, Function};
-use wasm_custom::{CoreDumpSection, CoreDumpStackSection, CustomSection, NameMap, NameSection};
+use wasm_custom::{
+    CoreDumpSection, CoreDumpStackSection, CustomSection, NameMap, NameSection, RelocationSection,
+};
 use wasm_insn::Instruction;
 use wasm_types::{
     CompositeInnerType, CompositeType, FuncType, StructType, SubType, TypeEntry, TypeSection,
@@ -98,7 +100,7 @@ pub fn copied_subtype<A: Allocator + Copy>(subtype: &SubType<A>) -> Result<SubTy
 pub fn copied_custom<'a, A: Allocator + Copy>(
     custom: &CustomSection<'a, A>,
 ) -> Result<CustomSection<'a, A>>
-    ensures { IfOk result (λ copy. (encoding_of copy.name ≡ encoding_of custom.now.name) × (items_of copy.bytes ≡ items_of custom.now.bytes)) }
+    ensures { IfOk result (λ copy. (utf8_of copy.name ≡ utf8_of custom.now.name) × (items_of copy.bytes ≡ items_of custom.now.bytes)) }
 {
     custom.clone()
 }
@@ -135,6 +137,15 @@ pub fn copied_stack<A: Allocator + Copy>(
     ensures { IfOk result (λ copy. copy ≡ stack.now) }
 {
     stack.clone()
+}
+
+/// Returns a relocation section of the same name, section index and relocations.
+pub fn copied_relocations<A: Allocator + Copy>(
+    relocations: &RelocationSection<A>,
+) -> Result<RelocationSection<A>>
+    ensures { IfOk result (λ copy. copy ≡ relocations.now) }
+{
+    relocations.clone()
 }
 
 /// Returns a type section of decoded entries: the encoding of each, in order.

@@ -1,6 +1,6 @@
-//! Values that are made from their fields, and data as custom sections.
+//! Values that are made from their fields, and sections of core dumps as custom sections.
 ghost use Rattle.std.specs.Prelude.{◌≡◌, [], IfOk, true};
-ghost use Rattle.wasm_base.specs.Cow.{items_of, encoding_of};
+ghost use Rattle.wasm_base.specs.Cow.{items_of, utf8_of};
 ghost use Rattle.wasm_code.specs.Expressions.{Stores};
 ghost use Rattle.wasm_custom.specs.CoreDumps.{instances_name, modules_name};
 ghost use Rattle.wasm_custom.specs.CoreStacks.{stack_name};
@@ -11,6 +11,7 @@ use wasm_base::{Result, ValType};
 use wasm_code::ConstExpr;
 use wasm_custom::{
     CoreDumpInstancesSection, CoreDumpModulesSection, CoreDumpStackSection, CustomSection,
+    RelocationSection,
 };
 use wasm_immediates::{Ieee32, Ieee64};
 use wasm_insn::{Instruction, VectorImmediate};
@@ -50,7 +51,7 @@ pub fn custom_modules<'a, A: Allocator, B: Allocator>(
     modules: &'a CoreDumpModulesSection<A>,
     alloc: B,
 ) -> Result<CustomSection<'a, B>>
-    ensures { IfOk result (λ s. (encoding_of s.name ≡ modules_name) × (items_of s.bytes ≡ entries_encoding [] true modules.now)) }
+    ensures { IfOk result (λ s. (utf8_of s.name ≡ modules_name) × (items_of s.bytes ≡ entries_encoding [] true modules.now)) }
 {
     modules.as_custom(alloc)
 }
@@ -60,7 +61,7 @@ pub fn custom_instances<'a, A: Allocator, B: Allocator>(
     instances: &'a CoreDumpInstancesSection<A>,
     alloc: B,
 ) -> Result<CustomSection<'a, B>>
-    ensures { IfOk result (λ s. (encoding_of s.name ≡ instances_name) × (items_of s.bytes ≡ entries_encoding [] true instances.now)) }
+    ensures { IfOk result (λ s. (utf8_of s.name ≡ instances_name) × (items_of s.bytes ≡ entries_encoding [] true instances.now)) }
 {
     instances.as_custom(alloc)
 }
@@ -70,7 +71,17 @@ pub fn custom_stack<'a, A: Allocator, B: Allocator>(
     stack: &'a CoreDumpStackSection<A>,
     alloc: B,
 ) -> Result<CustomSection<'a, B>>
-    ensures { IfOk result (λ s. (encoding_of s.name ≡ stack_name) × (items_of s.bytes ≡ entries_encoding stack.now.0 true stack.now.1)) }
+    ensures { IfOk result (λ s. (utf8_of s.name ≡ stack_name) × (items_of s.bytes ≡ entries_encoding stack.now.0 true stack.now.1)) }
 {
     stack.as_custom(alloc)
+}
+
+/// Returns relocations as a custom section.
+pub fn custom_relocations<'a, A: Allocator, B: Allocator>(
+    relocations: &'a RelocationSection<A>,
+    alloc: B,
+) -> Result<CustomSection<'a, B>>
+    ensures { IfOk result (λ s. (utf8_of s.name ≡ relocations.now.0.0) × (items_of s.bytes ≡ entries_encoding relocations.now.0.1 true relocations.now.1)) }
+{
+    relocations.as_custom(alloc)
 }

@@ -1,10 +1,14 @@
-//! Queries of builders: counts and entries.
+//! Queries of builders and sections: counts, entries, and data.
 ghost use Rattle.std.specs.Option.{option_copied};
-ghost use Rattle.std.specs.Prelude.{◌≡◌, ◌↔◌, IsTrue, length, slice_get};
+ghost use Rattle.std.specs.Prelude.{◌≡◌, ◌↔◌, IfSome, IsTrue, length, slice_get};
+ghost use Rattle.wasm_base.specs.Decoding.{Decodes};
+ghost use Rattle.wasm_base.specs.Formats.{name};
+ghost use Rattle.wasm_base.specs.Numbers.{padded};
 
 use std::alloc::Allocator;
 use wasm_code::CodeSection;
 use wasm_custom::{NameMap, NameSection};
+use wasm_reader::Section;
 use wasm_types::TypeSection;
 
 /// Returns the number of bodies.
@@ -47,4 +51,15 @@ pub fn is_without_names<A: Allocator>(map: &NameMap<A>) -> bool
     ensures { IsTrue result ↔ (length map.now ≡ 0) }
 {
     map.is_empty()
+}
+
+/// Returns the name of a custom section and the data after it, or `None` if the section has no
+/// name.
+pub fn named_data<'a, A: Allocator + Copy>(section: &Section<'a, A>) -> Option<(&'a str, &'a [u8])>
+    ensures { IfSome result (λ x. Decodes name padded section.now.section.payload x.0.now x.1.now) }
+{
+    match section.name() {
+        Some(name) => Some((name, section.data())),
+        None => None,
+    }
 }

@@ -1,5 +1,5 @@
-//! Sections of arguments: a raw body of any bytes, a custom section, built and already encoded, and
-//! functions and exports of a list.
+//! Sections that are built from arguments: a raw body of any bytes, a custom section, built and
+//! already encoded, and functions and exports of a list.
 ghost use Rattle.std.specs.Prelude.{List, IfOk, OnOk, [], ◌∷◌, map};
 ghost use Rattle.std.specs.List.{AllZip};
 ghost use Rattle.wasm_base.specs.Entries.{counted_format};

@@ -118,7 +118,7 @@ pub(crate) fn of_locals<A: Allocator + Copy>(alloc: A, index: u32) -> Result<Fun
     Ok(function)
 }
 
-/// Returns a function that does nothing.
+/// Returns a function whose body is `End` alone.
 pub(crate) fn of_nothing<A: Allocator>(alloc: A) -> Result<Function<A>>
     ensures { IfOk result (λ function. IsWellFormedBody function empty_body) }
 {

@@ -1,4 +1,5 @@
-//! Assembles recipes, lists and outlines what modules hold, and shortens padded sections and modules.
+//! Assembles recipes, lists and outlines what modules hold, and shortens padded sections and
+//! modules.
 
 const NO_ANSWER: u64 = u64::MAX;
 
@@ -43,7 +44,7 @@ unsafe extern "C" {
         module_len: usize,
         out: *mut Section,
         out_len: usize,
-        place: *mut u64,
+        number: *mut u64,
         cause: *mut u32,
     ) -> u64;
     fn dz_shorten(
@@ -60,7 +61,7 @@ unsafe extern "C" {
         module_len: usize,
         out: *mut Outlined,
         out_len: usize,
-        place: *mut u64,
+        number: *mut u64,
         cause: *mut u32,
     ) -> u64;
     fn dz_shorten_module(
@@ -70,7 +71,7 @@ unsafe extern "C" {
         out: *mut u8,
         out_len: usize,
         kept: *mut u64,
-        place: *mut u64,
+        number: *mut u64,
         cause: *mut u32,
     ) -> u64;
     fn dz_cause(cause: u32, out: *mut u8, out_len: usize) -> u64;
@@ -83,7 +84,7 @@ const GLOBALS: u32 = 6;
 const TAGS: u32 = 11;
 const NAMES: u32 = 12;
 
-/// The text of a cause, by a call that gives it.
+/// Returns the text of a cause, by a call that writes it.
 fn text(text_of: unsafe extern "C" fn(u32, *mut u8, usize) -> u64, cause: u32) -> String {
     let mut out = vec![0; 32];
     // SAFETY: slices are valid for their lengths, and none overlaps another.
@@ -97,7 +98,8 @@ fn text(text_of: unsafe extern "C" fn(u32, *mut u8, usize) -> u64, cause: u32) -
     }
 }
 
-/// The module of a recipe in so much room, or how many bytes it has, or the line and the cause of its first fault.
+/// The result of a call: the module of a recipe, or its length if the buffer is too small, or the
+/// line and the cause of the first error.
 enum Answer {
     Module(Vec<u8>),
     Size(u64),
@@ -130,9 +132,9 @@ fn assembled(call: Assembler, recipe: &[u8], room: usize) -> Answer {
     }
 }
 
-/// The sections of a module, or the place and the cause.
+/// Returns the sections of a module, or the number of the section and the cause.
 fn listed(module: &[u8]) -> Result<Vec<Section>, (u64, u32)> {
-    let (mut out, mut place, mut cause) = (Vec::new(), 0, 0);
+    let (mut out, mut number, mut cause) = (Vec::new(), 0, 0);
     loop {
         // SAFETY: as above.
         let count = unsafe {
@@ -141,12 +143,12 @@ fn listed(module: &[u8]) -> Result<Vec<Section>, (u64, u32)> {
                 module.len(),
                 out.as_mut_ptr(),
                 out.len(),
-                &mut place,
+                &mut number,
                 &mut cause,
             )
         };
         if count == NO_ANSWER {
-            return Err((place, cause));
+            return Err((number, cause));
         }
         if count as usize <= out.len() {
             return Ok(out);
@@ -166,7 +168,7 @@ fn list(module: &[u8]) {
                 println!("{} {} {items}", section.id, section.size);
             }
         }
-        Err((place, cause)) => println!("section {place}: {}", text(dz_cause, cause)),
+        Err((number, cause)) => println!("section {number}: {}", text(dz_cause, cause)),
     }
 }
 
@@ -186,7 +188,8 @@ fn assemble_by(call: Assembler, recipe: &[u8], room: usize) {
     }
 }
 
-/// The shortest text of the section of a kind, and how many bytes that takes; or the cause. The text is no longer than the bytes.
+/// Returns the minimal encoding of the section of a kind, and the length of the section in the
+/// input; or the cause of the error. The encoding is no longer than the input.
 fn shortened(kind: u32, bytes: &[u8]) -> Result<(Vec<u8>, u64), u32> {
     let (mut out, mut taken, mut cause) = (vec![0; bytes.len()], 0, 0);
     // SAFETY: as above.
@@ -218,9 +221,10 @@ fn shorten(kind: u32, bytes: &[u8]) {
     }
 }
 
-/// The outline of a module, or the place and the cause. No module has more sections than bytes.
+/// Returns the outline of a module, or the number of the section and the cause. No module has more
+/// sections than bytes.
 fn outlined(module: &[u8]) -> Result<Vec<Outlined>, (u64, u32)> {
-    let (mut out, mut place, mut cause) = (vec![Outlined::default(); module.len()], 0, 0);
+    let (mut out, mut number, mut cause) = (vec![Outlined::default(); module.len()], 0, 0);
     // SAFETY: as above.
     let count = unsafe {
         dz_outline(
@@ -228,12 +232,12 @@ fn outlined(module: &[u8]) -> Result<Vec<Outlined>, (u64, u32)> {
             module.len(),
             out.as_mut_ptr(),
             out.len(),
-            &mut place,
+            &mut number,
             &mut cause,
         )
     };
     if count == NO_ANSWER {
-        return Err((place, cause));
+        return Err((number, cause));
     }
     out.truncate(count as usize);
     Ok(out)
@@ -258,13 +262,14 @@ fn outline(module: &[u8]) {
                 println!();
             }
         }
-        Err((place, cause)) => println!("section {place}: {}", text(dz_cause, cause)),
+        Err((number, cause)) => println!("section {number}: {}", text(dz_cause, cause)),
     }
 }
 
-/// The shortest text of a module, and how many sections are kept; or the place and the cause. The text is no longer than the module.
+/// Returns the minimal encoding of a module, and the number of sections that are kept; or the
+/// number of the section and the cause of the error. The encoding is no longer than the module.
 fn shortened_module(module: &[u8], drop_offsets: u32) -> Result<(Vec<u8>, u64), (u64, u32)> {
-    let (mut out, mut kept, mut place, mut cause) = (vec![0; module.len()], 0, 0, 0);
+    let (mut out, mut kept, mut number, mut cause) = (vec![0; module.len()], 0, 0, 0);
     // SAFETY: as above.
     let size = unsafe {
         dz_shorten_module(
@@ -274,12 +279,12 @@ fn shortened_module(module: &[u8], drop_offsets: u32) -> Result<(Vec<u8>, u64), 
             out.as_mut_ptr(),
             out.len(),
             &mut kept,
-            &mut place,
+            &mut number,
             &mut cause,
         )
     };
     if size == NO_ANSWER {
-        return Err((place, cause));
+        return Err((number, cause));
     }
     out.truncate(size as usize);
     Ok((out, kept))
@@ -291,11 +296,12 @@ fn shorten_module(module: &[u8], drop_offsets: u32) {
             let digits: String = text.iter().map(|byte| format!(" {byte:02x}")).collect();
             println!("{kept} kept:{digits}");
         }
-        Err((place, cause)) => println!("section {place}: {}", text(dz_cause, cause)),
+        Err((number, cause)) => println!("section {number}: {}", text(dz_cause, cause)),
     }
 }
 
-/// A type, a custom section of padded numbers called `name`, one without a name, and seven functions that don't stand there.
+/// A type, a custom section of padded numbers called `name`, one without a name, and a function
+/// section that counts seven functions and ends before them.
 const OUTLINED: &[u8] =
     b"\0asm\x01\0\0\0\x01\x04\x01\x60\0\0\0\x87\0\x84\0name\xFF\0\x01\x05\x03\x01\x07";
 
@@ -320,7 +326,7 @@ fn main() {
     shorten(NAMES, b"\x0C\x84\x00name\x00\x83\x00\x82\x00m");
     shorten(NAMES, b"\x0C\x84\x00name\x00\x83\x00\x81\x00m");
     shorten(TAGS, b"\x03\x01\x01\x00");
-    shorten(28, b"");
+    shorten(29, b"");
     outline(OUTLINED);
     outline(&OUTLINED[..9]);
     shorten_module(OUTLINED, 0);

@@ -48,7 +48,7 @@ fn copied(bytes: &[u8], out: &mut [u8]) -> u64 {
     count as u64
 }
 
-/// A section of entries, whose bytes can be counted.
+/// A section of entries, whose total length a workload returns.
 ///
 /// # Defined
 ///
@@ -108,7 +108,7 @@ impl<K: ItemKind> Entries for CountedSection<K> {
     }
 }
 
-/// The same as for a counted section.
+/// Adds the lengths of the entries, as for a counted section.
 ///
 /// # Defined
 ///

@@ -65,8 +65,8 @@ fn line_section(alloc: Global, operands: &[u32], phase: u32, out: &mut [u8]) -> 
     answer(alloc, &code, phase, out)
 }
 
-/// Builds a code section of one function: eight calls for each four operands, with nothing to
-/// decode.
+/// Builds a code section of one function: eight calls for each four operands. The input is the
+/// operands, which need no decoding.
 ///
 /// # Proved
 ///

@@ -51,7 +51,7 @@ fn recipe_text(cause: u32) -> Option<&'static str> {
 }
 
 /// Writes the message of a cause of [`dz_list`](crate::calls::listing::dz_list),
-/// [`dz_outline`](crate::calls::outlining::dz_outline), [`dz_shorten`](crate::calls::shortest::dz_shorten) or
+/// [`dz_outline`](crate::calls::outlining::dz_outline), [`dz_shorten`](crate::calls::minimal::dz_shorten) or
 /// [`dz_shorten_module`](crate::calls::whole::dz_shorten_module), in ASCII and without a terminating NUL.
 /// Returns its length in bytes, or [`NO_ANSWER`] for any other number.
 ///

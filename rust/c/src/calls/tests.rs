@@ -169,7 +169,7 @@ fn minimal_encodings() {
 
 /// Bytes that end too early, bytes of another kind, a number that no kind has, and no bytes.
 #[test]
-fn no_section_stands() {
+fn no_section_decodes() {
     let rt = crate::host::HostRuntime;
     let alloc = rt.alloc();
     let padded: &[u8] = &[0x86, 0x00, 0x01, 0x85, 0x80, 0x80, 0x80, 0x00, 0x99];
@@ -512,7 +512,7 @@ const CAUSES: [RecipeCause; 9] = [
 fn texts_that_are_printed() {
     let rt = crate::host::HostRuntime;
     for fault in FAULTS {
-        let said = format!(in rt.alloc(); "{fault}").expect("accepted");
+        let said = format!(in rt.alloc(); "{fault:?}").expect("accepted");
         let mut room = [9; 20];
         let answer = dz_cause(fault_number(fault), &mut room);
         check_told(&rt, answer, &room, said.as_bytes());

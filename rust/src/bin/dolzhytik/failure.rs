@@ -1,5 +1,4 @@
 //! Errors of the program, and their messages.
-use crate::cause::Text;
 use crate::files::{Input, Output};
 use crate::found::Found;
 use crate::help::usage;
@@ -105,7 +104,7 @@ impl fmt::Display for BadSection {
         if cause != ReadFault::Memory {
             write!(f, " at offset {offset:#x}")?;
         }
-        write!(f, ": {}", Text(cause))
+        write!(f, ": {cause}")
     }
 }
 
@@ -244,15 +243,6 @@ mod tests {
         check(bad(Some("code"), memory), text);
         let line = recipe(3, RecipeCause::Memory);
         check(line, "a.txt: line 3: out of memory");
-    }
-
-    #[test]
-    fn causes_have_the_texts_of_the_reader() {
-        for cause in [ReadFault::Ended, ReadFault::UnknownTag, ReadFault::Memory] {
-            let error = ReadError { cause, offset: 26 };
-            let text = format!("{} at offset 0x1a", Text(cause));
-            assert_eq!(text, error.to_string());
-        }
     }
 
     #[test]

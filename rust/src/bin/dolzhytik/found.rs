@@ -1,10 +1,11 @@
-//! What files that are no modules begin with. The program and the JavaScript package have this file.
+//! Describes the first bytes of files that are no modules. The program and the JavaScript package
+//! share this file.
 use core::fmt;
 
 /// The header of a module: the magic and the version.
 const HEADER: [u8; 8] = *b"\0asm\x01\0\0\0";
 
-/// What bytes without the header of a module begin with.
+/// The first bytes of input without the header of a module.
 #[derive(Clone, Copy, PartialEq, Eq, Debug)]
 pub enum Found {
     Empty,

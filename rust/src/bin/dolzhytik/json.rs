@@ -1,9 +1,9 @@
 //! Outlines, sizes and savings as JSON.
-use crate::cause::Text;
 use crate::outline::Row;
 use crate::sections::Section;
 use crate::shorten::{Saving, Savings};
 use crate::sizes::{Function, Sizes};
+use dolzhytik::reader::ReadError;
 use std::fmt::Write;
 
 /// A string of JSON, or `null`.
@@ -43,7 +43,7 @@ pub fn optional<T: ToString>(value: Option<T>) -> String {
 /// Why a section does not decode, or `null`.
 fn error(row: &Row<'_>) -> String {
     let error = row.error().map(|error| {
-        let (cause, offset) = (Text(error.cause), error.offset);
+        let ReadError { cause, offset } = error;
         format!("{{\"cause\": \"{cause}\", \"offset\": {offset}}}")
     });
     optional(error)

@@ -1,6 +1,5 @@
 //! Shows the sections of modules, their sizes and their code, removes custom sections, minimizes
 //! modules, and builds them from recipes.
-mod cause;
 mod commands;
 mod context;
 mod cursor;

@@ -4,7 +4,7 @@
 use dolzhytik::fallible::Allocator;
 use dolzhytik::fallible::{Module, Result, add_all};
 use dolzhytik::fallible::{CodeSection, Function};
-use dolzhytik::fallible::{CoreDumpSection, CoreDumpStackSection, CustomSection, NameMap, NameSection};
+use dolzhytik::fallible::{CoreDumpSection, CoreDumpStackSection, CustomSection, NameMap, NameSection, RelocationSection};
 use dolzhytik::fallible::Instruction;
 use dolzhytik::fallible::{CompositeInnerType, CompositeType, FuncType, StructType, SubType, TypeSection};
 use dolzhytik::reader::TypeEntry;
@@ -134,7 +134,7 @@ pub fn copied_subtype<A: Allocator + Copy>(subtype: &SubType<A>) -> Result<SubTy
 /// # Proved
 ///
 /// ```text
-/// ensures { IfOk result (λ copy. (encoding_of copy.name ≡ encoding_of custom.now.name) × (items_of copy.bytes ≡ items_of custom.now.bytes)) }
+/// ensures { IfOk result (λ copy. (utf8_of copy.name ≡ utf8_of custom.now.name) × (items_of copy.bytes ≡ items_of custom.now.bytes)) }
 /// ```
 pub fn copied_custom<'a, A: Allocator + Copy>(
     custom: &CustomSection<'a, A>,
@@ -190,6 +190,19 @@ pub fn copied_stack<A: Allocator + Copy>(
     stack: &CoreDumpStackSection<A>,
 ) -> Result<CoreDumpStackSection<A>> {
     stack.clone()
+}
+
+/// Returns a relocation section of the same name, section index and relocations.
+///
+/// # Proved
+///
+/// ```text
+/// ensures { IfOk result (λ copy. copy ≡ relocations.now) }
+/// ```
+pub fn copied_relocations<A: Allocator + Copy>(
+    relocations: &RelocationSection<A>,
+) -> Result<RelocationSection<A>> {
+    relocations.clone()
 }
 
 /// Returns a type section of decoded entries: the encoding of each, in order.

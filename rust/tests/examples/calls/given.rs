@@ -1,11 +1,11 @@
 // Written by tools/to-rust from crates/examples/src/calls/given.rt: change that.
-//! Values that are made from their fields, and data as custom sections.
+//! Values that are made from their fields, and sections of core dumps as custom sections.
 
 use dolzhytik::fallible::Vec;
 use dolzhytik::fallible::Allocator;
 use dolzhytik::fallible::{Result, ValType};
 use dolzhytik::fallible::ConstExpr;
-use dolzhytik::fallible::{CoreDumpInstancesSection, CoreDumpModulesSection, CoreDumpStackSection, CustomSection};
+use dolzhytik::fallible::{CoreDumpInstancesSection, CoreDumpModulesSection, CoreDumpStackSection, CustomSection, RelocationSection};
 use dolzhytik::fallible::{Ieee32, Ieee64};
 use dolzhytik::fallible::FuncType;
 
@@ -59,7 +59,7 @@ pub fn function_type<A: Allocator>(params: Vec<ValType, A>, results: Vec<ValType
 /// # Proved
 ///
 /// ```text
-/// ensures { IfOk result (λ s. (encoding_of s.name ≡ modules_name) × (items_of s.bytes ≡ entries_encoding [] true modules.now)) }
+/// ensures { IfOk result (λ s. (utf8_of s.name ≡ modules_name) × (items_of s.bytes ≡ entries_encoding [] true modules.now)) }
 /// ```
 pub fn custom_modules<'a, A: Allocator, B: Allocator>(
     modules: &'a CoreDumpModulesSection<A>,
@@ -73,7 +73,7 @@ pub fn custom_modules<'a, A: Allocator, B: Allocator>(
 /// # Proved
 ///
 /// ```text
-/// ensures { IfOk result (λ s. (encoding_of s.name ≡ instances_name) × (items_of s.bytes ≡ entries_encoding [] true instances.now)) }
+/// ensures { IfOk result (λ s. (utf8_of s.name ≡ instances_name) × (items_of s.bytes ≡ entries_encoding [] true instances.now)) }
 /// ```
 pub fn custom_instances<'a, A: Allocator, B: Allocator>(
     instances: &'a CoreDumpInstancesSection<A>,
@@ -87,11 +87,25 @@ pub fn custom_instances<'a, A: Allocator, B: Allocator>(
 /// # Proved
 ///
 /// ```text
-/// ensures { IfOk result (λ s. (encoding_of s.name ≡ stack_name) × (items_of s.bytes ≡ entries_encoding stack.now.0 true stack.now.1)) }
+/// ensures { IfOk result (λ s. (utf8_of s.name ≡ stack_name) × (items_of s.bytes ≡ entries_encoding stack.now.0 true stack.now.1)) }
 /// ```
 pub fn custom_stack<'a, A: Allocator, B: Allocator>(
     stack: &'a CoreDumpStackSection<A>,
     alloc: B,
 ) -> Result<CustomSection<'a, B>> {
     stack.as_custom(alloc)
+}
+
+/// Returns relocations as a custom section.
+///
+/// # Proved
+///
+/// ```text
+/// ensures { IfOk result (λ s. (utf8_of s.name ≡ relocations.now.0.0) × (items_of s.bytes ≡ entries_encoding relocations.now.0.1 true relocations.now.1)) }
+/// ```
+pub fn custom_relocations<'a, A: Allocator, B: Allocator>(
+    relocations: &'a RelocationSection<A>,
+    alloc: B,
+) -> Result<CustomSection<'a, B>> {
+    relocations.as_custom(alloc)
 }

@@ -1,9 +1,10 @@
 // Written by tools/to-rust from crates/examples/src/calls/queries.rt: change that.
-//! Queries of builders: counts and entries.
+//! Queries of builders and sections: counts, entries, and data.
 
 use dolzhytik::fallible::Allocator;
 use dolzhytik::fallible::CodeSection;
 use dolzhytik::fallible::{NameMap, NameSection};
+use dolzhytik::reader::Section;
 use dolzhytik::fallible::TypeSection;
 
 /// Returns the number of bodies.
@@ -70,4 +71,19 @@ pub fn count_of_names<A: Allocator>(map: &NameMap<A>) -> u32 {
 /// ```
 pub fn is_without_names<A: Allocator>(map: &NameMap<A>) -> bool {
     map.is_empty()
+}
+
+/// Returns the name of a custom section and the data after it, or `None` if the section has no
+/// name.
+///
+/// # Proved
+///
+/// ```text
+/// ensures { IfSome result (λ x. Decodes name padded section.now.section.payload x.0.now x.1.now) }
+/// ```
+pub fn named_data<'a, A: Allocator + Copy>(section: &Section<'a, A>) -> Option<(&'a str, &'a [u8])> {
+    match section.name() {
+        Some(name) => Some((name, section.data())),
+        None => None,
+    }
 }

@@ -24,9 +24,8 @@ pub fn count_instructions<A: Allocator + Copy>(bytes: &[u8], alloc: A) -> Result
     Ok(count)
 }
 
-/// Returns the offset after the first `count` instructions of a body: the result of
-/// `Function::byte_len` when these had been added. The bytes are those of the body without its size
-/// prefix.
+/// Returns the offset after the first `count` instructions of a body. `Function::byte_len` returns
+/// the same after these are added. The bytes are those of the body without its size prefix.
 ///
 /// # Proved
 ///

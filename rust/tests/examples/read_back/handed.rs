@@ -1,6 +1,6 @@
 // Written by tools/to-rust from crates/examples/src/read_back/handed.rt: change that.
-//! Sections of arguments: a raw body of any bytes, a custom section, built and already encoded, and
-//! functions and exports of a list.
+//! Sections that are built from arguments: a raw body of any bytes, a custom section, built and
+//! already encoded, and functions and exports of a list.
 
 use dolzhytik::fallible::Vec;
 use crate::examples::read_back::declared::tags;

@@ -143,7 +143,7 @@ pub(crate) fn of_locals<A: Allocator + Copy>(alloc: A, index: u32) -> Result<Fun
     Ok(function)
 }
 
-/// Returns a function that does nothing.
+/// Returns a function whose body is `End` alone.
 ///
 /// # Proved
 ///

@@ -10,5 +10,5 @@ if TYPE_CHECKING:
     from ..caller import Caller
 
 Adder = Callable[["Caller", Builder, Call], str]
-# By the builder and the call; None stands for every other call.
+# By the builder and the call; None means every other call.
 Adders = dict[tuple[str, Optional[str]], Adder]

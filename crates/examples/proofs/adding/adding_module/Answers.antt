@@ -1,8 +1,5 @@
 -- Written by tools/answers.
-use Rattle.wasm_base.proofs.Words.{new_module, finished}
-use Rattle.wasm_code.proofs.Words.{gains_code}
-use Rattle.wasm_sections.proofs.Words.{gains_functions, gains_exports}
-use Rattle.wasm_types.proofs.Words.{gains_types}
+use Rattle.examples.proofs.Common.{new_module, finished, gains_code, gains_functions, gains_exports, gains_types}
 use Rattle.examples.proofs.adding.adding_module.Goals as goal
 
 pub returns : goal.returns

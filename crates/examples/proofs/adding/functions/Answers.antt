@@ -1,6 +1,5 @@
 -- Written by tools/answers.
-use Rattle.wasm_base.proofs.Words.{arith, adds_item}
-use Rattle.wasm_sections.proofs.Words.{new_functions}
+use Rattle.examples.proofs.Common.{arith, adds_item, new_functions}
 use Rattle.examples.proofs.adding.functions.Goals as goal
 
 pub returns : goal.returns

@@ -1,8 +1,5 @@
 -- Written by tools/answers.
-use Rattle.wasm_base.proofs.Words.{arith, rules, drained_array}
-use Rattle.wasm_code.proofs.Words.{new_function, lent, writes_instruction}
-use Rattle.wasm_insn.specs.declared.instruction.Instruction.TheVariants.{LocalGet, Numeric, End}
-use Rattle.wasm_insn.specs.declared.numeric.Numeric.TheVariants.{I32Add}
+use Rattle.examples.proofs.Common.{arith, rules, drained_array, new_function, lent, writes_instruction, LocalGet, Numeric, End, I32Add}
 use Rattle.examples.proofs.adding.sum.Goals as goal
 
 pub returns : goal.returns

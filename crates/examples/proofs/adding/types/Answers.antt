@@ -1,7 +1,5 @@
 -- Written by tools/answers.
-use Rattle.wasm_base.proofs.Words.{[], ◌∷◌, arith, rules, drained_array, IsVal}
-use Rattle.wasm_base.specs.declared.types.ValType.TheVariants.{I32}
-use Rattle.wasm_types.proofs.Words.{new_types, same_types, counted, listed_arrays, adds_shape, func}
+use Rattle.examples.proofs.Common.{[], ◌∷◌, arith, rules, drained_array, IsVal, I32, new_types, same_types, counted, listed_arrays, adds_shape, func}
 use Rattle.examples.proofs.adding.types.Goals as goal
 
 pub returns : goal.returns

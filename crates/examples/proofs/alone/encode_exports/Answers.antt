@@ -1,6 +1,5 @@
 -- Written by tools/answers.
-use Rattle.wasm_base.proofs.Words.{each, adds_items, encodes_items}
-use Rattle.wasm_sections.proofs.Words.{new_exports, IsExport}
+use Rattle.examples.proofs.Common.{each, adds_items, encodes_items, new_exports, IsExport}
 use Rattle.examples.proofs.alone.encode_exports.Goals as goal
 
 pub returns-in-Ok : goal.returns-in-Ok

@@ -1,7 +1,5 @@
 -- Written by tools/answers.
-use Rattle.wasm_base.proofs.Words.{arith, encodes_items}
-use Rattle.wasm_sections.proofs.Words.{new_imports, adds_alike}
-use Rattle.wasm_sections.specs.declared.import.EntityType.TheVariants.{Function}
+use Rattle.examples.proofs.Common.{arith, encodes_items, new_imports, adds_alike, Function}
 use Rattle.examples.proofs.alone.encode_group.Goals as goal
 
 pub returns : goal.returns

@@ -1,7 +1,5 @@
 -- Written by tools/answers.
-use Rattle.wasm_base.proofs.Words.{arith, adds_item, encodes_items}
-use Rattle.wasm_sections.proofs.Words.{new_imports}
-use Rattle.examples.specs.Whole.{import_of_function}
+use Rattle.examples.proofs.Common.{arith, adds_item, encodes_items, new_imports, import_of_function}
 use Rattle.examples.proofs.alone.encode_import.Goals as goal
 
 pub returns : goal.returns

@@ -1,5 +1,5 @@
 -- Written by tools/answers.
-use Rattle.wasm_code.proofs.Words.{new_code, adds_body, encodes_code}
+use Rattle.examples.proofs.Common.{new_code, adds_body, encodes_code}
 use Rattle.examples.proofs.alone.encode_local.Goals as goal
 
 pub returns : goal.returns

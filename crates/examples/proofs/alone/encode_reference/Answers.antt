@@ -1,9 +1,5 @@
 -- Written by tools/answers.
-use Rattle.wasm_base.proofs.Words.{arith, [], ◌∷◌, encodes_items, FUNCREF}
-use Rattle.std.specs.declared.alloc.Global.{Global}
-use Rattle.wasm_code.proofs.Words.{one_constant, normal_row}
-use Rattle.wasm_insn.specs.declared.instruction.Instruction.TheVariants.{RefFunc}
-use Rattle.wasm_sections.proofs.Words.{new_elements, adds_expressions, passive}
+use Rattle.examples.proofs.Common.{arith, [], ◌∷◌, Global, encodes_items, FUNCREF, one_constant, normal_row, RefFunc, new_elements, adds_expressions, passive}
 use Rattle.examples.proofs.alone.encode_reference.Goals as goal
 
 pub returns : goal.returns

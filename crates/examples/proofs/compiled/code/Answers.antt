@@ -1,5 +1,5 @@
 -- Written by tools/answers.
-use Rattle.wasm_code.proofs.Words.{new_code, adds_body}
+use Rattle.examples.proofs.Common.{new_code, adds_body}
 use Rattle.examples.proofs.compiled.code.Goals as goal
 
 pub returns : goal.returns

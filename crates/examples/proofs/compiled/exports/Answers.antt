@@ -1,7 +1,5 @@
 -- Written by tools/answers.
-use Rattle.wasm_base.proofs.Words.{refl, arith, ascii}
-use Rattle.wasm_sections.proofs.Words.{new_exports, adds_export}
-use Rattle.examples.specs.Compiled.{factorial_of, squares_of}
+use Rattle.examples.proofs.Common.{refl, arith, ascii, new_exports, adds_export, factorial_of, squares_of}
 use Rattle.examples.proofs.compiled.exports.Goals as goal
 
 pub returns : goal.returns

@@ -1,6 +1,4 @@
-use Rattle.wasm_base.proofs.Words.{refl}
-use Rattle.examples.specs.Coverage.{covered_bodies}
-use Rattle.examples.proofs.CoverageLaws.{code_payload, gains_one}
+use Rattle.examples.proofs.Common.{refl, covered_bodies, code_payload, gains_one}
 use Rattle.examples.proofs.coverage.add_code.Goals as goal
 
 pub returns-in-Ok-clause-found : goal.returns-in-Ok-clause-found

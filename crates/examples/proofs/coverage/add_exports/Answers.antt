@@ -1,6 +1,4 @@
-use Rattle.wasm_sections.proofs.Words.{export, exports_section}
-use Rattle.examples.specs.Coverage.{counter_exports}
-use Rattle.examples.proofs.CoverageLaws.{add_found, error_stays, exports_long, gains_extended, no_count, no_exports}
+use Rattle.examples.proofs.Common.{export, exports_section, counter_exports, add_found, error_stays, exports_long, gains_extended, no_count, no_exports}
 use Rattle.examples.proofs.coverage.add_exports.Goals as goal
 
 pub returns-clause-found : goal.returns-clause-found

@@ -1,7 +1,4 @@
-use Rattle.wasm_base.proofs.Words.{on_ok, replicate, subst, members, standard}
-use Rattle.wasm_sections.proofs.Words.{global_item, globals_section}
-use Rattle.examples.specs.Coverage.{counter}
-use Rattle.examples.proofs.CoverageLaws.{gains_extended, replicate_long}
+use Rattle.examples.proofs.Common.{on_ok, replicate, subst, members, standard, global_item, globals_section, counter, gains_extended, replicate_long}
 use Rattle.examples.proofs.coverage.add_globals.Goals as goal
 
 pub returns-clause-found : goal.returns-clause-found

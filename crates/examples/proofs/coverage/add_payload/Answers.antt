@@ -1,5 +1,4 @@
-use Rattle.wasm_base.proofs.Words.{refl}
-use Rattle.examples.proofs.CoverageLaws.{gains_one}
+use Rattle.examples.proofs.Common.{refl, gains_one}
 use Rattle.examples.proofs.coverage.add_payload.Goals as goal
 
 pub returns-in-Ok-clause-found : goal.returns-in-Ok-clause-found

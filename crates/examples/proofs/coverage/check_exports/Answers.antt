@@ -1,8 +1,5 @@
-use Rattle.wasm_base.proofs.Words.{map, ap, sym, ◌∙◌}
+use Rattle.examples.proofs.Common.{map, ap, sym, ◌∙◌, item_of, has_counter, exports_are, exports_else}
 use Rattle.wasm_reader.specs.Kinds.{contents_of}
-use Rattle.wasm_sections.specs.Words.{item_of}
-use Rattle.examples.specs.Coverage.{has_counter}
-use Rattle.examples.proofs.CoverageLaws.{exports_are, exports_else}
 use Rattle.examples.proofs.coverage.check_exports.Goals as goal
 
 pub returns-in_default-clause-unfit : goal.returns-in_default-clause-unfit

@@ -1,7 +1,4 @@
-use Rattle.wasm_base.proofs.Words.{sym, subst}
-use Rattle.wasm_reader.specs.Words.{IsSection}
-use Rattle.examples.specs.Coverage.{IsKept, KeepsSections, row}
-use Rattle.examples.proofs.CoverageLaws.{each_at, keeps_more, of_images, rows_more, unfit_stays}
+use Rattle.examples.proofs.Common.{sym, subst, IsSection, IsKept, KeepsSections, row, each_at, keeps_more, of_images, rows_more, unfit_stays}
 use Rattle.examples.proofs.coverage.copy_all.Goals as goal
 
 pub loop-section-preserved : goal.loop-section-preserved

@@ -1,6 +1,4 @@
-use Rattle.wasm_base.proofs.Words.{map, take, AllByRecursion}
-use Rattle.wasm_reader.specs.Words.{IsSection}
-use Rattle.examples.specs.Coverage.{KeepsSections, row}
+use Rattle.examples.proofs.Common.{map, take, AllByRecursion, IsSection, KeepsSections, row}
 use Rattle.examples.proofs.coverage.copy_all.Given as goal
 
 abbrev pub invariant-loop-section : goal.invariant-loop-section

@@ -1,8 +1,5 @@
-use Rattle.std.proofs.Common.{nat_eq, codes}
-use Rattle.std.specs.List.{starts_with}
-use Rattle.wasm_base.proofs.Words.{ap, sym, ◌∙◌}
-use Rattle.wasm_sections.specs.Words.{item_of}
-use Rattle.examples.proofs.CoverageLaws.{none_more, some_at}
+use Rattle.examples.proofs.Common.{nat_eq, starts_with, ap, sym, ◌∙◌, item_of, none_more, some_at}
+use Rattle.std.proofs.Common.{codes}
 use Rattle.examples.proofs.coverage.has_counter.Goals as goal
 
 pub returns-then-starts_with : goal.returns-then-starts_with

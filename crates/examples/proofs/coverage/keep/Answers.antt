@@ -1,5 +1,4 @@
-use Rattle.wasm_base.proofs.Words.{sym, refl, ◌∙◌}
-use Rattle.examples.proofs.CoverageLaws.{gains_one, is_kept, not_kept}
+use Rattle.examples.proofs.Common.{sym, refl, ◌∙◌, gains_one, is_kept, not_kept}
 use Rattle.examples.proofs.coverage.keep.Goals as goal
 
 pub returns-clause-found : goal.returns-clause-found

@@ -1,7 +1,7 @@
-use Rattle.wasm_base.proofs.Words.{◌+◌, length, ap, ap₂, sym, ◌∙◌}
-use Rattle.examples.specs.Coverage.{imported}
+use Rattle.examples.proofs.Common.{length, ap, ap₂, sym, ◌∙◌, imported, globals_number, bodies_number, imports_same, error_stays, no_globals, no_bodies}
+use Rattle.examples.proofs.CoverageLaws.{unfit_stays, bodies_have_number}
+use Rattle.wasm_base.proofs.Words.{◌+◌}
 use Rattle.examples.specs.declared.coverage.imports.Space.TheVariants as spaces
-use Rattle.examples.proofs.CoverageLaws.{globals_number, bodies_number, imports_same, error_stays, no_globals, no_bodies}
 use Rattle.examples.proofs.coverage.numbers_of.Goals as goal
 
 pub returns-clause-found : goal.returns-clause-found
@@ -29,3 +29,7 @@ returns-in_err-number_of-clause-none g c = λ each is code_is. error_stays c.fro
 
 pub returns-in_err-bodies-clause-none : goal.returns-in_err-bodies-clause-none
 returns-in_err-bodies-clause-none g c = λ each is code_is. error_stays c.from_residual-in_err-bodies.result _ c.from_residual-in_err-bodies.ensures.1 (λ n all id has code_id code_has. no_bodies c.args.code.now.section code_is (c.in_err-bodies.ensures.none n) code_id code_has)
+
+pub returns-in_err-bodies-clause-unfit : goal.returns-in_err-bodies-clause-unfit
+returns-in_err-bodies-clause-unfit g c = λ each globals global_id code code_id.
+    unfit_stays c.from_residual-in_err-bodies.result _ c.from_residual-in_err-bodies.ensures.1 (λ u. let x = c.in_err-bodies.ensures.unfit u in bodies_have_number _ code x.0 x.1 x.2 code_id)

@@ -1,8 +1,4 @@
-use Rattle.wasm_base.proofs.Words.{map}
-use Rattle.wasm_reader.proofs.DecodeOutlines.{no_header, no_module}
-use Rattle.wasm_reader.proofs.IteratingLaws.{next_error, next_section, section_shrinks}
-use Rattle.examples.specs.Coverage.{row}
-use Rattle.examples.proofs.CoverageLaws.{found_none, found_more, found_all, read_stays}
+use Rattle.examples.proofs.Common.{map, no_header, no_module, next_error, next_section, section_shrinks, row, found_none, found_more, found_all, read_stays}
 use Rattle.examples.proofs.coverage.sections_of.Goals as goal
 
 pub loop-found-init : goal.loop-found-init

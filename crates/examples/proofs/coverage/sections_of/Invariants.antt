@@ -1,6 +1,5 @@
-use Rattle.wasm_base.proofs.Words.{length}
+use Rattle.examples.proofs.Common.{length, HasFound}
 use Rattle.wasm_reader.specs.Words.{ahead}
-use Rattle.examples.proofs.CoverageLaws.{HasFound}
 use Rattle.examples.proofs.coverage.sections_of.Given as goal
 
 abbrev pub invariant-loop-found : goal.invariant-loop-found

@@ -1,6 +1,4 @@
-use Rattle.wasm_base.proofs.Words.{subst, take_all, ◌∙◌}
-use Rattle.examples.specs.Coverage.{HasNone}
-use Rattle.examples.proofs.CoverageLaws.{none_more_of}
+use Rattle.examples.proofs.Common.{subst, take_all, ◌∙◌, HasNone, none_more_of}
 use Rattle.examples.proofs.coverage.split.Goals as goal
 
 pub loop-at-preserved : goal.loop-at-preserved

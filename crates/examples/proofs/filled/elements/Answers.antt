@@ -1,9 +1,5 @@
 -- Written by tools/answers.
-use Rattle.wasm_base.proofs.Words.{arith, pos, None, [], ◌∷◌, ints}
-use Rattle.std.specs.declared.alloc.Global.{Global}
-use Rattle.wasm_code.proofs.Words.{one_constant, normal_row}
-use Rattle.wasm_insn.specs.declared.instruction.Instruction.TheVariants.{I32Const}
-use Rattle.wasm_sections.proofs.Words.{new_elements, adds_functions, active}
+use Rattle.examples.proofs.Common.{arith, pos, None, [], ◌∷◌, ints, Global, one_constant, normal_row, I32Const, new_elements, adds_functions, active}
 use Rattle.examples.proofs.filled.elements.Goals as goal
 
 pub returns : goal.returns

@@ -1,6 +1,5 @@
 -- Written by tools/answers.
-use Rattle.wasm_base.proofs.Words.{new_module, finished}
-use Rattle.wasm_sections.proofs.Words.{gains_elements, gains_number, gains_segments}
+use Rattle.examples.proofs.Common.{new_module, finished, gains_elements, gains_number, gains_segments}
 use Rattle.examples.proofs.filled.filled_module.Goals as goal
 
 pub returns : goal.returns

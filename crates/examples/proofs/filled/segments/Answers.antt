@@ -1,9 +1,6 @@
 -- Written by tools/answers.
-use Rattle.wasm_base.proofs.Words.{arith, pos, ap, ◌∙◌, [], ◌∷◌, ints, copied_source, iter_rest, drained_array}
-use Rattle.std.specs.declared.alloc.Global.{Global}
-use Rattle.wasm_code.proofs.Words.{one_constant, normal_row}
-use Rattle.wasm_insn.specs.declared.instruction.Instruction.TheVariants.{I32Const}
-use Rattle.wasm_sections.proofs.Words.{new_segments, copied_added, adds_active, adds_passive, array_added}
+use Rattle.examples.proofs.Common.{arith, pos, ap, ◌∙◌, [], ◌∷◌, ints, copied_source, iter_rest, Global, drained_array, one_constant, normal_row, I32Const, new_segments, copied_added, adds_active}
+use Rattle.examples.proofs.Common.{adds_passive, array_added}
 use Rattle.examples.proofs.filled.segments.Goals as goal
 
 pub returns : goal.returns

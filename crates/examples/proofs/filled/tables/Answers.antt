@@ -1,7 +1,5 @@
 -- Written by tools/answers.
-use Rattle.wasm_base.proofs.Words.{arith}
-use Rattle.wasm_sections.proofs.Words.{new_tables, adds_table}
-use Rattle.examples.specs.Filled.{three_places}
+use Rattle.examples.proofs.Common.{arith, new_tables, adds_table, three_places}
 use Rattle.examples.proofs.filled.tables.Goals as goal
 
 pub returns : goal.returns

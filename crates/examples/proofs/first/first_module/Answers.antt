@@ -1,6 +1,5 @@
 -- Written by tools/answers.
-use Rattle.wasm_base.proofs.Words.{arith, new_module, finished, drained_array}
-use Rattle.wasm_code.proofs.Words.{new_code, new_function, adds_instruction, adds_body, gains_code}
+use Rattle.examples.proofs.Common.{arith, new_module, finished, drained_array, new_code, new_function, adds_instruction, adds_body, gains_code}
 use Rattle.examples.proofs.first.first_module.Goals as goal
 
 pub returns : goal.returns

@@ -1,5 +1,4 @@
-use Rattle.wasm_base.proofs.Words.{adds_item, encodes_items}
-use Rattle.wasm_sections.proofs.Words.{new_imports, import_item}
+use Rattle.examples.proofs.Common.{adds_item, encodes_items, new_imports, import_item}
 use Rattle.examples.proofs.grown.encode_given_import.Goals as goal
 
 pub returns : goal.returns

@@ -1,5 +1,4 @@
-use Rattle.wasm_base.proofs.Words.{subst, map-id, each, adds_items, encodes_items}
-use Rattle.wasm_sections.proofs.Words.{new_memories, IsMemory, ContainsMemories}
+use Rattle.examples.proofs.Common.{subst, map-id, each, adds_items, encodes_items, new_memories, IsMemory, ContainsMemories}
 use Rattle.examples.proofs.grown.encode_memories.Goals as goal
 
 pub returns-in-Ok : goal.returns-in-Ok

@@ -1,8 +1,5 @@
-use Rattle.wasm_base.proofs.Words.{List, ℕ, [], ◌∷◌, Result, Ok, Err, OnOk}
-use Rattle.wasm_base.specs.declared.refused.Refused.{Refused}
-use Rattle.wasm_code.proofs.Words.{Body, IsWellFormedBody, AddsInstruction, and_then, normal_row, adds_instruction}
-use Rattle.wasm_insn.proofs.Words.{HasSmallAlignments, IsWellFormedWhereAligned}
-use Rattle.wasm_insn.specs.declared.instruction.Instruction.{Instruction}
+use Rattle.examples.proofs.Common.{List, ℕ, [], ◌∷◌, Result, Ok, Err, OnOk, Refused, Body, IsWellFormedBody, AddsInstruction, and_then, normal_row, adds_instruction, HasSmallAlignments}
+use Rattle.examples.proofs.Common.{IsWellFormedWhereAligned, Instruction}
 use Rattle.examples.proofs.grown.grow.Goals as goal
 
 grown : {A : Type 0} {i : Instruction A} {old new : List ℕ} {result : Result (Unit {0}) Refused} → IsWellFormedWhereAligned i → AddsInstruction i old new result

@@ -1,7 +1,5 @@
+use Rattle.examples.proofs.Common.{map, take, Body, IsWellFormedBody, and_then, normal_row, HasSmallAlignments}
 use Rattle.std.proofs.Common.{All}
-use Rattle.wasm_base.proofs.Words.{map, take}
-use Rattle.wasm_code.proofs.Words.{Body, IsWellFormedBody, and_then, normal_row}
-use Rattle.wasm_insn.proofs.Words.{HasSmallAlignments}
 use Rattle.examples.proofs.grown.grow_by_each.Given as goal
 
 abbrev pub invariant-loop-instruction : goal.invariant-loop-instruction

@@ -1,5 +1,4 @@
-use Rattle.wasm_base.proofs.Words.{subst, take_all, All-more, All}
-use Rattle.wasm_sections.proofs.Words.{IsMemory}
+use Rattle.examples.proofs.Common.{subst, take_all, All-more, All, IsMemory}
 use Rattle.examples.proofs.grown.plain_memories.Goals as goal
 
 pub loop-memory-preserved : goal.loop-memory-preserved

@@ -1,5 +1,4 @@
-use Rattle.wasm_base.proofs.Words.{take, All}
-use Rattle.wasm_sections.proofs.Words.{IsMemory}
+use Rattle.examples.proofs.Common.{take, All, IsMemory}
 use Rattle.examples.proofs.grown.plain_memories.Given as goal
 
 abbrev pub invariant-loop-memory : goal.invariant-loop-memory

@@ -1,8 +1,5 @@
 -- Written by tools/answers.
-use Rattle.wasm_base.proofs.Words.{arith, ints}
-use Rattle.wasm_code.proofs.Words.{one_constant}
-use Rattle.wasm_sections.proofs.Words.{new_globals, adds_global}
-use Rattle.examples.specs.Large.{large_constant}
+use Rattle.examples.proofs.Common.{arith, ints, one_constant, new_globals, adds_global, large_constant}
 use Rattle.examples.proofs.large.globals.Goals as goal
 
 pub returns : goal.returns

@@ -1,7 +1,5 @@
 -- Written by tools/answers.
-use Rattle.wasm_base.proofs.Words.{arith, adds_item}
-use Rattle.wasm_sections.proofs.Words.{new_memories}
-use Rattle.examples.specs.Large.{large_memory}
+use Rattle.examples.proofs.Common.{arith, adds_item, new_memories, large_memory}
 use Rattle.examples.proofs.large.memories.Goals as goal
 
 pub returns : goal.returns

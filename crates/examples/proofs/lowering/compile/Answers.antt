@@ -1,5 +1,4 @@
-use Rattle.wasm_base.proofs.Words.{arith}
-use Rattle.wasm_code.proofs.Words.{new_function}
+use Rattle.examples.proofs.Common.{arith, new_function}
 use Rattle.examples.proofs.lowering.compile.Goals as goal
 
 pub returns : goal.returns

@@ -1,6 +1,4 @@
-use Rattle.wasm_base.proofs.Words.{arith, subst, sym, take_all, take_more}
-use Rattle.examples.proofs.Gains.{gains_none, gains_more}
-use Rattle.examples.specs.Lowering.{GainsOperations}
+use Rattle.examples.proofs.Common.{arith, subst, sym, take_all, take_more, gains_none, gains_more, GainsOperations}
 use Rattle.examples.proofs.lowering.emit_all.Goals as goal
 
 pub loop-operation-init : goal.loop-operation-init

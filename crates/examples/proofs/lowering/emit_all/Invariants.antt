@@ -1,5 +1,4 @@
-use Rattle.wasm_base.proofs.Words.{take}
-use Rattle.examples.specs.Lowering.{GainsOperations}
+use Rattle.examples.proofs.Common.{take, GainsOperations}
 use Rattle.examples.proofs.lowering.emit_all.Given as goal
 
 abbrev pub invariant-loop-operation : goal.invariant-loop-operation

@@ -1,6 +1,5 @@
 -- Written by tools/answers.
-use Rattle.wasm_base.proofs.Words.{arith}
-use Rattle.wasm_custom.proofs.Words.{new_map, adds_name}
+use Rattle.examples.proofs.Common.{arith, new_map, adds_name}
 use Rattle.examples.proofs.names.functions.Goals as goal
 
 pub returns : goal.returns

@@ -1,6 +1,5 @@
 -- Written by tools/answers.
-use Rattle.wasm_base.proofs.Words.{arith, refl, codes, ascii}
-use Rattle.wasm_custom.proofs.Words.{new_map, adds_name, new_indirect_map, adds_inside}
+use Rattle.examples.proofs.Common.{arith, refl, codes, ascii, new_map, adds_name, new_indirect_map, adds_inside}
 use Rattle.examples.proofs.names.locals.Goals as goal
 
 pub returns : goal.returns

@@ -1,6 +1,5 @@
 -- Written by tools/answers.
-use Rattle.wasm_base.proofs.Words.{refl, codes, ascii}
-use Rattle.wasm_custom.proofs.Words.{new_names, adds_module_name, adds_names, adds_names_inside}
+use Rattle.examples.proofs.Common.{refl, codes, ascii, new_names, adds_module_name, adds_names, adds_names_inside}
 use Rattle.examples.proofs.names.names.Goals as goal
 
 pub returns : goal.returns

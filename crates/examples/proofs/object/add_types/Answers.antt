@@ -1,6 +1,5 @@
 -- Written by tools/answers.
-use Rattle.wasm_sections.proofs.Words.{gains_functions, gains_memories}
-use Rattle.wasm_types.proofs.Words.{gains_types}
+use Rattle.examples.proofs.Common.{gains_functions, gains_memories, gains_types}
 use Rattle.examples.proofs.object.add_types.Goals as goal
 
 pub returns : goal.returns

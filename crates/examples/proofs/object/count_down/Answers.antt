@@ -1,10 +1,6 @@
 -- Written by tools/answers.
-use Rattle.wasm_base.proofs.Words.{arith, None, pos, rules, ints, drained_array}
-use Rattle.wasm_code.proofs.Words.{new_function, lent, writes_instruction}
-use Rattle.wasm_immediates.specs.declared.block_type.BlockType.TheVariants.{Empty}
-use Rattle.wasm_immediates.specs.declared.memory.MemArgTarget.TheVariants.{Memory}
-use Rattle.wasm_insn.specs.declared.instruction.Instruction.TheVariants.{Block, LocalGet, I32Load, Numeric, BrIf, I32Const, I32Store, End}
-use Rattle.wasm_insn.specs.declared.numeric.Numeric.TheVariants.{I32Eqz, I32Sub}
+use Rattle.examples.proofs.Common.{arith, None, pos, rules, ints, drained_array, new_function, lent, writes_instruction, Empty, Memory, Block, LocalGet, I32Load, Numeric, BrIf, I32Const, I32Store}
+use Rattle.examples.proofs.Common.{End, I32Eqz, I32Sub}
 use Rattle.examples.proofs.object.count_down.Goals as goal
 
 pub returns : goal.returns

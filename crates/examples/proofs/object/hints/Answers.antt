@@ -1,6 +1,5 @@
 -- Written by tools/answers.
-use Rattle.wasm_base.proofs.Words.{arith, drained_array}
-use Rattle.wasm_custom.proofs.Words.{new_hints, adds_hints}
+use Rattle.examples.proofs.Common.{arith, drained_array, new_hints, adds_hints}
 use Rattle.examples.proofs.object.hints.Goals as goal
 
 pub returns : goal.returns

@@ -1,6 +1,5 @@
 -- Written by tools/answers.
-use Rattle.wasm_base.proofs.Words.{refl}
-use Rattle.wasm_custom.proofs.Words.{new_linking, adds_symbols}
+use Rattle.examples.proofs.Common.{refl, new_linking, adds_symbols}
 use Rattle.examples.proofs.object.linking.Goals as goal
 
 pub returns : goal.returns

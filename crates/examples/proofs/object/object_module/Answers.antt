@@ -1,7 +1,5 @@
 -- Written by tools/answers.
-use Rattle.wasm_base.proofs.Words.{new_module, finished}
-use Rattle.wasm_code.proofs.Words.{gains_code}
-use Rattle.wasm_custom.proofs.Words.{gains_hints, gains_linking, gains_producers}
+use Rattle.examples.proofs.Common.{new_module, finished, gains_code, gains_hints, gains_linking, gains_producers}
 use Rattle.examples.proofs.object.object_module.Goals as goal
 
 pub returns : goal.returns

@@ -1,6 +1,5 @@
 -- Written by tools/answers.
-use Rattle.wasm_base.proofs.Words.{refl, codes, ascii}
-use Rattle.wasm_custom.proofs.Words.{new_field, adds_value, new_producers, adds_field}
+use Rattle.examples.proofs.Common.{refl, codes, ascii, new_field, adds_value, new_producers, adds_field}
 use Rattle.examples.proofs.object.producers.Goals as goal
 
 pub returns : goal.returns

@@ -1,7 +1,5 @@
 -- Written by tools/answers.
-use Rattle.wasm_base.proofs.Words.{arith, refl, ascii}
-use Rattle.wasm_custom.proofs.Words.{new_symbols, adds_symbol}
-use Rattle.examples.specs.Object.{count_down_symbol}
+use Rattle.examples.proofs.Common.{arith, refl, ascii, new_symbols, adds_symbol, count_down_symbol}
 use Rattle.examples.proofs.object.symbols.Goals as goal
 
 pub returns : goal.returns

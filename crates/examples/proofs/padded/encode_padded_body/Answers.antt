@@ -1,8 +1,6 @@
 -- Written by tools/answers.
-use Rattle.wasm_base.proofs.Words.{[], ◌∷◌, arith, refl, u32, padded}
-use Rattle.std.specs.declared.alloc.Global.{Global}
-use Rattle.wasm_code.proofs.Words.{new_code, encodes_padded, without_runs, adds_instruction_padded, adds_body_padded, included_body, encodes_code_padded}
-use Rattle.wasm_insn.specs.declared.instruction.Instruction.TheVariants.{End}
+use Rattle.examples.proofs.Common.{[], ◌∷◌, arith, refl, Global, u32, padded, new_code, encodes_padded, without_runs, adds_instruction_padded, adds_body_padded, included_body, encodes_code_padded}
+use Rattle.examples.proofs.Common.{End}
 use Rattle.examples.proofs.padded.encode_padded_body.Goals as goal
 
 pub returns : goal.returns

@@ -1,10 +1,6 @@
 -- Written by tools/answers.
-use Rattle.wasm_base.proofs.Words.{[], ◌∷◌, arith, refl, pos, neg_ℤ, ints, contains_padded, encodes_items_padded, s32, padded}
-use Rattle.std.specs.declared.alloc.Global.{Global}
-use Rattle.wasm_code.proofs.Words.{padded_i32_const, raw_constant, normal_row}
-use Rattle.wasm_insn.specs.declared.instruction.Instruction.TheVariants.{I32Const}
-use Rattle.wasm_sections.proofs.Words.{new_globals, adds_global_padded, globals_section}
-use Rattle.examples.specs.Padded.{number}
+use Rattle.examples.proofs.Common.{[], ◌∷◌, arith, refl, pos, neg_ℤ, ints, Global, contains_padded, encodes_items_padded, s32, padded, padded_i32_const, raw_constant, normal_row, I32Const}
+use Rattle.examples.proofs.Common.{new_globals, adds_global_padded, globals_section, number}
 use Rattle.examples.proofs.padded.encode_padded_globals.Goals as goal
 
 pub returns : goal.returns

@@ -1,5 +1,4 @@
-use Rattle.wasm_base.proofs.Words.{Rejects, padded, subst}
-use Rattle.wasm_reader.proofs.Words.{cause_stays, section}
+use Rattle.examples.proofs.Common.{Rejects, padded, subst, cause_stays, section}
 use Rattle.examples.proofs.read_back.read_and_shorten.Goals as goal
 
 pub returns-in_err-shorten-clause-none : goal.returns-in_err-shorten-clause-none

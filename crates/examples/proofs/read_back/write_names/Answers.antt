@@ -1,6 +1,5 @@
 -- Written by tools/answers.
-use Rattle.wasm_base.proofs.Words.{arith, refl, size_prefixed}
-use Rattle.wasm_custom.proofs.Words.{new_map, adds_name, new_names, adds_module_name, adds_names, encodes_entries, name_payload}
+use Rattle.examples.proofs.Common.{arith, refl, size_prefixed, new_map, adds_name, new_names, adds_module_name, adds_names, encodes_entries, name_payload}
 use Rattle.examples.proofs.read_back.write_names.Goals as goal
 
 pub returns : goal.returns

@@ -1,8 +1,5 @@
 -- Written by tools/answers.
-use Rattle.wasm_base.proofs.Words.{arith, rules, drained_array}
-use Rattle.wasm_code.proofs.Words.{new_function, lent, writes_instruction, writes_labels}
-use Rattle.wasm_immediates.specs.declared.block_type.BlockType.TheVariants.{Empty}
-use Rattle.wasm_insn.specs.declared.instruction.Instruction.TheVariants.{Block, LocalGet, End}
+use Rattle.examples.proofs.Common.{arith, rules, drained_array, new_function, lent, writes_instruction, writes_labels, Empty, Block, LocalGet, End}
 use Rattle.examples.proofs.recursion.choice.Goals as goal
 
 pub returns : goal.returns

@@ -1,9 +1,6 @@
 -- Written by tools/answers.
-use Rattle.wasm_base.proofs.Words.{arith, pos, rules, ints, drained_array}
-use Rattle.wasm_code.proofs.Words.{new_function, lent, writes_instruction}
-use Rattle.wasm_immediates.specs.declared.block_type.BlockType.TheVariants.{Empty}
-use Rattle.wasm_insn.specs.declared.instruction.Instruction.TheVariants.{Block, LocalGet, Numeric, BrIf, I32Const, Call, Return, End}
-use Rattle.wasm_insn.specs.declared.numeric.Numeric.TheVariants.{I32Eqz, I32Sub, I32Mul}
+use Rattle.examples.proofs.Common.{arith, pos, rules, ints, drained_array, new_function, lent, writes_instruction, Empty, Block, LocalGet, Numeric, BrIf, I32Const, Call, Return, End, I32Eqz, I32Sub}
+use Rattle.examples.proofs.Common.{I32Mul}
 use Rattle.examples.proofs.recursion.factorial.Goals as goal
 
 pub returns : goal.returns

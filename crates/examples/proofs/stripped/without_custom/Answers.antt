@@ -1,9 +1,5 @@
-use Rattle.wasm_base.proofs.Words.{sym, subst, ◌∙◌}
-use Rattle.wasm_reader.proofs.DecodeOutlines.{no_header, no_module}
-use Rattle.wasm_reader.proofs.IteratingLaws.{next_error, next_section, section_ahead}
-use Rattle.examples.specs.Stripped.{IsStripped}
+use Rattle.examples.proofs.Common.{sym, subst, ◌∙◌, no_header, no_module, next_error, next_section, section_ahead, IsStripped, stripped_custom, stripped_done, stripped_kept}
 use Rattle.examples.proofs.IteratedLaws.{error_stays}
-use Rattle.examples.proofs.StrippedLaws.{stripped_custom, stripped_done, stripped_kept}
 use Rattle.examples.proofs.stripped.without_custom.Goals as goal
 
 pub returns-in_err-sections-clause-none : goal.returns-in_err-sections-clause-none

@@ -1,6 +1,5 @@
-use Rattle.wasm_base.proofs.Words.{length}
+use Rattle.examples.proofs.Common.{length, HasStripped}
 use Rattle.wasm_reader.specs.Words.{ahead}
-use Rattle.examples.proofs.StrippedLaws.{HasStripped}
 use Rattle.examples.proofs.stripped.without_custom.Given as goal
 
 abbrev pub invariant-loop-kept : goal.invariant-loop-kept

@@ -1,7 +1,5 @@
 -- Written by tools/answers.
-use Rattle.wasm_base.proofs.Words.{encodes_items}
-use Rattle.wasm_sections.proofs.Words.{new_globals, adds_global}
-use Rattle.examples.specs.Sums.{sum_global}
+use Rattle.examples.proofs.Common.{encodes_items, new_globals, adds_global, sum_global}
 use Rattle.examples.proofs.sums.encode_sum.Goals as goal
 
 pub returns : goal.returns

@@ -1,9 +1,6 @@
 -- Written by tools/answers.
-use Rattle.wasm_base.proofs.Words.{[], ◌∷◌, arith, refl, pos, ints, contains_padded, encodes_items_padded, s32, padded}
-use Rattle.wasm_code.proofs.Words.{included_constant, padded_i32_const}
-use Rattle.wasm_sections.proofs.Words.{new_globals, adds_global_padded, globals_section}
-use Rattle.examples.specs.Padded.{number}
-use Rattle.examples.specs.Sums.{sum_global}
+use Rattle.examples.proofs.Common.{[], ◌∷◌, arith, refl, pos, ints, contains_padded, encodes_items_padded, s32, padded, included_constant, padded_i32_const, new_globals, adds_global_padded}
+use Rattle.examples.proofs.Common.{globals_section, number, sum_global}
 use Rattle.examples.proofs.sums.encode_sum_and_padded.Goals as goal
 
 pub returns : goal.returns

@@ -1,8 +1,5 @@
 -- Written by tools/answers.
-use Rattle.wasm_base.proofs.Words.{arith, pos, [], ◌∷◌, ints}
-use Rattle.std.specs.declared.alloc.Global.{Global}
-use Rattle.wasm_code.proofs.Words.{one_constant, adds_constant, normal_row}
-use Rattle.wasm_insn.specs.declared.instruction.Instruction.TheVariants.{GlobalGet, I32Const}
+use Rattle.examples.proofs.Common.{arith, pos, [], ◌∷◌, ints, Global, one_constant, adds_constant, normal_row, GlobalGet, I32Const}
 use Rattle.examples.proofs.sums.sum_of.Goals as goal
 
 pub returns : goal.returns

@@ -1,7 +1,4 @@
-use Rattle.wasm_base.proofs.Words.{sym}
-use Rattle.examples.proofs.Gains.{gains_member, gains_last}
-use Rattle.examples.proofs.Rows.{call_listed}
-use Rattle.examples.specs.Trees.{expr_operations}
+use Rattle.examples.proofs.Common.{sym, gains_member, gains_last, call_listed, expr_operations}
 use Rattle.examples.proofs.trees.+expression.Goals as goal
 
 pub emit_expr-returns-in_ok-emit_expr-in-Binary-2 : goal.emit_expr-returns-in_ok-emit_expr-in-Binary-2

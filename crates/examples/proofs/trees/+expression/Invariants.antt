@@ -1,6 +1,4 @@
-use Rattle.wasm_base.proofs.Words.{take, flat_map}
-use Rattle.examples.specs.Lowering.{GainsOperations}
-use Rattle.examples.specs.Trees.{expr_operations}
+use Rattle.examples.proofs.Common.{take, flat_map, GainsOperations, expr_operations}
 use Rattle.examples.proofs.trees.+expression.Given as goal
 
 abbrev pub invariant-emit_arguments-loop-argument : goal.invariant-emit_arguments-loop-argument

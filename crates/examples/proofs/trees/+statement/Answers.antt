@@ -1,7 +1,4 @@
-use Rattle.wasm_base.proofs.Words.{sym}
-use Rattle.examples.proofs.Gains.{gains_more, gains_member, gains_last}
-use Rattle.examples.proofs.Rows.{while_listed}
-use Rattle.examples.specs.Trees.{statement_operations}
+use Rattle.examples.proofs.Common.{sym, gains_more, gains_member, gains_last, while_listed, statement_operations}
 use Rattle.examples.proofs.trees.+statement.Goals as goal
 
 pub emit_statement-returns-in_ok-emit_expr-in-Set : goal.emit_statement-returns-in_ok-emit_expr-in-Set

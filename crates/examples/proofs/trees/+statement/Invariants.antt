@@ -1,6 +1,4 @@
-use Rattle.wasm_base.proofs.Words.{take, flat_map}
-use Rattle.examples.specs.Lowering.{GainsOperations}
-use Rattle.examples.specs.Trees.{statement_operations}
+use Rattle.examples.proofs.Common.{take, flat_map, GainsOperations, statement_operations}
 use Rattle.examples.proofs.trees.+statement.Given as goal
 
 abbrev pub invariant-emit_statements-loop-statement : goal.invariant-emit_statements-loop-statement

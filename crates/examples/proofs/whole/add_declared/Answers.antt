@@ -1,6 +1,5 @@
 -- Written by tools/answers.
-use Rattle.wasm_base.proofs.Words.{gains_raw}
-use Rattle.wasm_sections.proofs.Words.{gains_imports, gains_functions}
+use Rattle.examples.proofs.Common.{gains_raw, gains_imports, gains_functions}
 use Rattle.examples.proofs.whole.add_declared.Goals as goal
 
 pub returns : goal.returns

@@ -1,5 +1,5 @@
 -- Written by tools/answers.
-use Rattle.wasm_sections.proofs.Words.{gains_memories, gains_globals, gains_exports}
+use Rattle.examples.proofs.Common.{gains_memories, gains_globals, gains_exports}
 use Rattle.examples.proofs.whole.add_stored.Goals as goal
 
 pub returns : goal.returns

@@ -1,7 +1,5 @@
 -- Written by tools/answers.
-use Rattle.wasm_base.proofs.Words.{refl, arith, ascii, adds_item}
-use Rattle.wasm_sections.proofs.Words.{new_imports}
-use Rattle.examples.specs.Whole.{ready}
+use Rattle.examples.proofs.Common.{refl, arith, ascii, adds_item, new_imports, ready}
 use Rattle.examples.proofs.whole.imports.Goals as goal
 
 pub returns : goal.returns

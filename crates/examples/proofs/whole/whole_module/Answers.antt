@@ -1,7 +1,5 @@
 -- Written by tools/answers.
-use Rattle.wasm_base.proofs.Words.{new_module, finished}
-use Rattle.wasm_code.proofs.Words.{gains_code}
-use Rattle.wasm_sections.proofs.Words.{gains_number}
+use Rattle.examples.proofs.Common.{new_module, finished, gains_code, gains_number}
 use Rattle.examples.proofs.whole.whole_module.Goals as goal
 
 pub returns : goal.returns

@@ -1,5 +1,4 @@
-use Rattle.wasm_base.proofs.Words.{refl, member_encoded, stays_short, next_appended, all_appended, front_then, front_appended}
-use Rattle.wasm_insn.proofs.Words.{instruction, table, plain_view}
+use Rattle.wasm_code.proofs.Common.{refl, member_encoded, stays_short, next_appended, all_appended, front_then, front_appended, instruction, table, plain_view}
 use Rattle.wasm_code.proofs.body.append_code.Goals as goal
 
 pub loop-instruction-preserved : goal.loop-instruction-preserved

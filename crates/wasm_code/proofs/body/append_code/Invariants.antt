@@ -1,5 +1,4 @@
-use Rattle.wasm_base.proofs.Words.{map, take, members, AppendsMinimal}
-use Rattle.wasm_insn.proofs.Words.{instruction, table, plain_view}
+use Rattle.wasm_code.proofs.Common.{map, take, members, AppendsMinimal, instruction, table, plain_view}
 use Rattle.wasm_code.proofs.body.append_code.Given as goal
 
 abbrev pub invariant-loop-instruction : goal.invariant-loop-instruction

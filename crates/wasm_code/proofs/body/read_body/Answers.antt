@@ -1,5 +1,4 @@
-use Rattle.wasm_base.proofs.Words.{fault_stays}
-use Rattle.wasm_code.proofs.DecodeLists.{body_fills_viewed, body_no_runs, body_no_code}
+use Rattle.wasm_code.proofs.Common.{fault_stays, body_fills_viewed, body_no_runs, body_no_code}
 use Rattle.wasm_code.proofs.body.read_body.Goals as goal
 
 pub returns-clause-found : goal.returns-clause-found

@@ -1,5 +1,4 @@
-use Rattle.wasm_base.proofs.Words.{padded_of, length, HasMembers}
-use Rattle.wasm_insn.proofs.Words.{instruction, table, plain_view}
+use Rattle.wasm_code.proofs.Common.{padded_of, length, HasMembers, instruction, table, plain_view}
 use Rattle.wasm_code.proofs.body.read_code.Given as goal
 
 abbrev pub invariant-loop-rest : goal.invariant-loop-rest

@@ -1,5 +1,4 @@
-use Rattle.wasm_base.proofs.Words.{fault_stays}
-use Rattle.wasm_code.proofs.DecodeLists.{body_fills, body_no_runs, body_no_code}
+use Rattle.wasm_code.proofs.Common.{fault_stays, body_fills, body_no_runs, body_no_code}
 use Rattle.wasm_code.proofs.body.skip_body.Goals as goal
 
 pub returns-in_err-_count-clause-none : goal.returns-in_err-_count-clause-none

@@ -1,6 +1,4 @@
-use Rattle.wasm_base.proofs.Words.{◌∷◌, ◌++◌, [], ◌∙◌, sym, eqb-true, eqb-false, fault_stays, none_left, empty_not, member_shorter}
-use Rattle.wasm_insn.proofs.Words.{instruction, table, any_begins}
-use Rattle.wasm_code.proofs.WalkCalls.{begun, continues, ended, stopped}
+use Rattle.wasm_code.proofs.Common.{◌∷◌, ◌++◌, [], ◌∙◌, sym, eqb-true, eqb-false, fault_stays, none_left, empty_not, member_shorter, instruction, table, any_begins, begun, continues, ended, stopped}
 use Rattle.wasm_code.proofs.body.skip_code.Goals as goal
 
 pub loop-rest-init : goal.loop-rest-init

@@ -1,6 +1,4 @@
-use Rattle.wasm_base.proofs.Words.{padded_of, List, length}
-use Rattle.wasm_insn.proofs.Words.{Plain}
-use Rattle.wasm_code.proofs.WalkCalls.{HasWalked}
+use Rattle.wasm_code.proofs.Common.{padded_of, List, length, Plain, HasWalked}
 use Rattle.wasm_code.proofs.body.skip_code.Given as goal
 
 abbrev pub invariant-loop-rest : goal.invariant-loop-rest

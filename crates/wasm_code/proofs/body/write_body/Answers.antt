@@ -1,10 +1,6 @@
-use Rattle.wasm_base.proofs.Words.{◌≡◌, ◌∷◌, ◌++◌, [], ◌<◌, ◌≤◌, length, rules, subst, ◌∙◌, drop, size_prefixed_encoding, padded, Decodes, AppendsMinimal, fault_stays, memory_stays}
-use Rattle.wasm_base.proofs.Words.{size_prefixed_appended, no_members_appended, members_more, front_then, front_appended}
-use Rattle.wasm_code.specs.{Body, body, ahead}
-use Rattle.wasm_insn.proofs.Words.{Plain, instruction, table}
-use Rattle.wasm_code.proofs.WalkCalls.{begun, continues, ended, of_some, stopped}
-use Rattle.wasm_code.proofs.DecodeLists.{body_fills, body_no_code}
-use Rattle.wasm_code.proofs.MinimalLists.{body_appended, front_sized}
+use Rattle.wasm_code.proofs.Common.{◌≡◌, ◌∷◌, ◌++◌, [], ◌<◌, ◌≤◌, length, rules, subst, ◌∙◌, drop, size_prefixed_encoding, padded, Decodes, AppendsMinimal, fault_stays, memory_stays}
+use Rattle.wasm_code.proofs.Common.{size_prefixed_appended, no_members_appended, members_more, front_then, front_appended, Body, body, ahead, Plain, instruction, table, begun, continues, ended}
+use Rattle.wasm_code.proofs.Common.{of_some, stopped, body_fills, body_no_code, body_appended, front_sized}
 use Rattle.wasm_code.proofs.body.write_body.Goals as goal
 
 pub returns-in_err-step-clause-none : goal.returns-in_err-step-clause-none

@@ -1,7 +1,4 @@
-use Rattle.wasm_base.proofs.Words.{padded, ◌≡◌, ◌≤◌, ◌-◌, List, length, members, AppendsMinimal}
-use Rattle.wasm_insn.proofs.Words.{Plain, instruction, table}
-use Rattle.wasm_code.specs.{ahead}
-use Rattle.wasm_code.proofs.WalkCalls.{HasWalked}
+use Rattle.wasm_code.proofs.Common.{padded, ◌≡◌, ◌≤◌, ◌-◌, List, length, members, AppendsMinimal, Plain, instruction, table, ahead, HasWalked}
 use Rattle.wasm_code.proofs.body.write_body.Given as goal
 
 -- The visited instructions, and the encoding that is written for them.

@@ -1,5 +1,4 @@
-use Rattle.wasm_base.proofs.Words.{rules, ◌≡◌, ◌≢◌, ◌+◌, [], ◌∷◌, ◌++◌, ap, ◌∙◌}
-use Rattle.wasm_code.proofs.RunLaws.{longer_run, next_run}
+use Rattle.wasm_code.proofs.Common.{rules, ◌≡◌, ◌≢◌, ◌+◌, [], ◌∷◌, ◌++◌, ap, ◌∙◌, longer_run, next_run}
 use Rattle.wasm_code.proofs.locals.add_local.Goals as goal
 
 pub returns-then-continues-clause-more : goal.returns-then-continues-clause-more

@@ -1,5 +1,4 @@
-use Rattle.wasm_base.proofs.Words.{rules}
-use Rattle.wasm_code.proofs.SameTypes.{same_val}
+use Rattle.wasm_code.proofs.Common.{rules, same_val}
 use Rattle.wasm_code.proofs.locals.continues.Goals as goal
 
 pub returns : goal.returns

@@ -1,5 +1,4 @@
-use Rattle.wasm_base.proofs.Words.{rules, subst, Yields-push}
-use Rattle.wasm_code.proofs.RunLaws.{are_runs_of, not_full}
+use Rattle.wasm_code.proofs.Common.{rules, subst, Yields-push, are_runs_of, not_full}
 use Rattle.wasm_code.proofs.locals.runs_of.Goals as goal
 
 pub returns-in_err-add_local : goal.returns-in_err-add_local

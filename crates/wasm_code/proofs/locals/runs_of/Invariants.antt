@@ -1,5 +1,4 @@
-use Rattle.wasm_base.proofs.Words.{◌≡◌, All}
-use Rattle.wasm_code.specs.{expand, IsRuns, IsCounted}
+use Rattle.wasm_code.proofs.Common.{◌≡◌, All, expand, IsRuns, IsCounted}
 use Rattle.wasm_code.proofs.locals.runs_of.Given as goal
 
 abbrev pub invariant-loop-ty : goal.invariant-loop-ty

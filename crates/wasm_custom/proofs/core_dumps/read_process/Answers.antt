@@ -1,5 +1,4 @@
-use Rattle.wasm_base.proofs.Words.{fault_stays}
-use Rattle.wasm_custom.proofs.CoreDumpLaws.{process_none, process_fills, process_rejects}
+use Rattle.wasm_custom.proofs.Common.{fault_stays, process_none, process_fills, process_rejects}
 use Rattle.wasm_custom.proofs.core_dumps.read_process.Goals as goal
 
 pub returns-in_err-rest-clause-none : goal.returns-in_err-rest-clause-none

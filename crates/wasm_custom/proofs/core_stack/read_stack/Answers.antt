@@ -1,5 +1,4 @@
-use Rattle.wasm_base.proofs.Words.{fault_stays}
-use Rattle.wasm_custom.proofs.CoreStackLaws.{stack_fills, stack_none, stack_no_frames}
+use Rattle.wasm_custom.proofs.Common.{fault_stays, stack_fills, stack_none, stack_no_frames}
 use Rattle.wasm_custom.proofs.core_stack.read_stack.Goals as goal
 
 pub returns-in_err-rest-clause-none : goal.returns-in_err-rest-clause-none

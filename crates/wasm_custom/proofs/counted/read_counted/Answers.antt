@@ -1,5 +1,4 @@
-use Rattle.wasm_base.proofs.Words.{sym, ◌∙◌, eqb-false, eqb-true, fault_stays}
-use Rattle.wasm_custom.proofs.DecodeNamed.{counted_none, counted_decodes, counted_rejects, counted_more}
+use Rattle.wasm_custom.proofs.Common.{sym, ◌∙◌, eqb-false, eqb-true, fault_stays, counted_none, counted_decodes, counted_rejects, counted_more}
 use Rattle.wasm_custom.proofs.counted.read_counted.Goals as goal
 
 pub returns-in_err-rest-clause-none : goal.returns-in_err-rest-clause-none

@@ -1,5 +1,4 @@
-use Rattle.wasm_base.proofs.Words.{on_ok}
-use Rattle.wasm_custom.proofs.EntriesLaws.{counted_appended}
+use Rattle.wasm_custom.proofs.Common.{on_ok, counted_appended}
 use Rattle.wasm_custom.proofs.counted.write_counted.Goals as goal
 
 pub returns-clause-ok : goal.returns-clause-ok

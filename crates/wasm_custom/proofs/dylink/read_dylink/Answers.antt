@@ -1,5 +1,4 @@
-use Rattle.wasm_base.proofs.Words.{refl, tagged_begins, fault_stays}
-use Rattle.wasm_custom.proofs.DylinkLaws.{section_none, section_fills, section_rejects}
+use Rattle.wasm_custom.proofs.Common.{refl, tagged_begins, fault_stays, section_none, section_fills, section_rejects}
 use Rattle.wasm_custom.proofs.dylink.read_dylink.Goals as goal
 
 pub returns-in_err-rest-clause-none : goal.returns-in_err-rest-clause-none

@@ -1,5 +1,4 @@
-use Rattle.wasm_base.proofs.Words.{contains_more}
-use Rattle.wasm_custom.proofs.ListLaws.{list_more, is_vector}
+use Rattle.wasm_custom.proofs.Common.{contains_more, list_more, is_vector}
 use Rattle.wasm_custom.proofs.laws.calls.Goals as goal
 
 pub returns : goal.returns

@@ -1,5 +1,4 @@
-use Rattle.wasm_base.proofs.Words.{fault_stays}
-use Rattle.wasm_custom.proofs.LinkLaws.{version_none}
+use Rattle.wasm_custom.proofs.Common.{fault_stays, version_none}
 use Rattle.wasm_custom.proofs.linking.after_version.Goals as goal
 
 pub returns-in_err-known-clause-none : goal.returns-in_err-known-clause-none

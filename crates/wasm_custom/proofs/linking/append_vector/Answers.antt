@@ -1,5 +1,4 @@
-use Rattle.wasm_base.proofs.Words.{map, rules, on_ok_both}
-use Rattle.wasm_custom.proofs.LinkLaws.{vector_appended, vector_encodable}
+use Rattle.wasm_custom.proofs.Common.{map, rules, on_ok_both, vector_appended, vector_encodable}
 use Rattle.wasm_custom.proofs.linking.append_vector.Goals as goal
 
 pub returns-clause-ok : goal.returns-clause-ok

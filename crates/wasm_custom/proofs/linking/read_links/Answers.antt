@@ -1,5 +1,4 @@
-use Rattle.wasm_base.proofs.Words.{refl, fault_stays}
-use Rattle.wasm_custom.proofs.LinkLaws.{link_begins, links_none, links_fill, links_no_version, no_links}
+use Rattle.wasm_custom.proofs.Common.{refl, fault_stays, link_begins, links_none, links_fill, links_no_version, no_links}
 use Rattle.wasm_custom.proofs.linking.read_links.Goals as goal
 
 pub returns-in_err-rest-clause-none : goal.returns-in_err-rest-clause-none

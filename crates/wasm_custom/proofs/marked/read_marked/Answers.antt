@@ -1,5 +1,4 @@
-use Rattle.wasm_base.proofs.Words.{fault_stays}
-use Rattle.wasm_custom.proofs.DecodeMarked.{marked_none}
+use Rattle.wasm_custom.proofs.Common.{fault_stays, marked_none}
 use Rattle.wasm_custom.proofs.marked.read_marked.Goals as goal
 
 pub returns-in_err-first-clause-none : goal.returns-in_err-first-clause-none

@@ -1,5 +1,4 @@
-use Rattle.wasm_base.proofs.Words.{sym, ◌∙◌, not_from_Decides, bytes_eq-Decides, fault_stays}
-use Rattle.wasm_custom.proofs.DecodeNamed.{name_none, name_other}
+use Rattle.wasm_custom.proofs.Common.{sym, ◌∙◌, not_from_Decides, bytes_eq-Decides, fault_stays, name_none, name_other}
 use Rattle.wasm_custom.proofs.named.after_name.Goals as goal
 
 pub returns-else-eq-clause-none : goal.returns-else-eq-clause-none

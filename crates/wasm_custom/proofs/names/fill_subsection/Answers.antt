@@ -1,6 +1,4 @@
-use Rattle.wasm_base.proofs.Words.{fault_stays, sym, subst, padded_of, RejectsWhole}
-use Rattle.wasm_custom.specs.{kind_as, inside}
-use Rattle.wasm_custom.proofs.NameLaws.{no_module}
+use Rattle.wasm_custom.proofs.Common.{fault_stays, sym, subst, padded_of, RejectsWhole, kind_as, inside, no_module}
 use Rattle.wasm_custom.proofs.names.fill_subsection.Goals as goal
 
 pub returns-in_err-name-in-Module-clause-none : goal.returns-in_err-name-in-Module-clause-none

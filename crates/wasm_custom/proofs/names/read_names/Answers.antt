@@ -1,5 +1,4 @@
-use Rattle.wasm_base.proofs.Words.{refl, tagged_begins, fault_stays}
-use Rattle.wasm_custom.proofs.NameLaws.{names_none, names_fill, no_names}
+use Rattle.wasm_custom.proofs.Common.{refl, tagged_begins, fault_stays, names_none, names_fill, no_names}
 use Rattle.wasm_custom.proofs.names.read_names.Goals as goal
 
 pub returns-in_err-rest-clause-none : goal.returns-in_err-rest-clause-none

@@ -1,5 +1,4 @@
-use Rattle.wasm_base.proofs.Words.{fault_stays}
-use Rattle.wasm_custom.proofs.SingleLaws.{single_none, single_rejects, single_fills}
+use Rattle.wasm_custom.proofs.Common.{fault_stays, single_none, single_rejects, single_fills}
 use Rattle.wasm_custom.proofs.single.read_single.Goals as goal
 
 pub returns-in_err-rest-clause-none : goal.returns-in_err-rest-clause-none

@@ -1,5 +1,4 @@
-use Rattle.wasm_base.proofs.Words.{refl, arith, stays_short}
-use Rattle.wasm_custom.proofs.SymbolLaws.{number_encoded}
+use Rattle.wasm_custom.proofs.Common.{refl, arith, stays_short, number_encoded}
 use Rattle.wasm_custom.proofs.symbols.append_section.Goals as goal
 
 pub returns-in_err-write_minimal-clause-too_long : goal.returns-in_err-write_minimal-clause-too_long

@@ -1,5 +1,4 @@
-use Rattle.wasm_base.proofs.Words.{fault_stays}
-use Rattle.wasm_custom.proofs.SymbolLaws.{data_none, data_no_name}
+use Rattle.wasm_custom.proofs.Common.{fault_stays, data_none, data_no_name}
 use Rattle.wasm_custom.proofs.symbols.read_data.Goals as goal
 
 pub returns-in_err-flags-clause-none : goal.returns-in_err-flags-clause-none

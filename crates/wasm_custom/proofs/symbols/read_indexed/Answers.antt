@@ -1,5 +1,4 @@
-use Rattle.wasm_base.proofs.Words.{subst, name, optional, padded_of, Rejects, fault_stays}
-use Rattle.wasm_custom.proofs.SymbolLaws.{indexed_none, indexed_no_index, indexed_no_name}
+use Rattle.wasm_custom.proofs.Common.{subst, name, optional, padded_of, Rejects, fault_stays, indexed_none, indexed_no_index, indexed_no_name}
 use Rattle.wasm_custom.proofs.symbols.read_indexed.Goals as goal
 
 pub returns-in_err-flags-clause-none : goal.returns-in_err-flags-clause-none

@@ -1,5 +1,4 @@
-use Rattle.wasm_base.proofs.Words.{inl, inr, arith, fault_stays}
-use Rattle.wasm_immediates.proofs.DecodeImmediates.{block_result_decodes, block_index, block_none, block_no_result, block_empty, block_no_index}
+use Rattle.wasm_immediates.proofs.Common.{inl, inr, arith, fault_stays, block_result_decodes, block_index, block_none, block_no_result, block_empty, block_no_index}
 use Rattle.wasm_immediates.proofs.block_type.read_any_block.Goals.{in_default-via-then-tag-lt64, in_default-via-else-tag-lt64+else-tag-lt128}
 use Rattle.wasm_immediates.proofs.block_type.read_any_block.Goals as goal
 

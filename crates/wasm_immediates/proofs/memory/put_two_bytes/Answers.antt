@@ -1,5 +1,4 @@
-use Rattle.wasm_base.proofs.Words.{arith, common_steps}
-use Rattle.wasm_immediates.proofs.ImmediateEncodings.{one_byte}
+use Rattle.wasm_immediates.proofs.Common.{arith, common_steps, one_byte}
 use Rattle.wasm_immediates.proofs.memory.put_two_bytes.Goals as goal
 
 pub returns-clause-items : goal.returns-clause-items

@@ -1,5 +1,4 @@
-use Rattle.wasm_base.proofs.Words.{fault_stays, arith}
-use Rattle.wasm_immediates.proofs.DecodeImmediates.{memory_none, memory_decodes, memory_unknown, memory_no_target, memory_no_ordering, memory_no_offset}
+use Rattle.wasm_immediates.proofs.Common.{fault_stays, arith, memory_none, memory_decodes, memory_unknown, memory_no_target, memory_no_ordering, memory_no_offset}
 use Rattle.wasm_immediates.proofs.memory.read_any_memory.Goals as goal
 
 pub returns-in_err-flags-clause-none : goal.returns-in_err-flags-clause-none

@@ -1,5 +1,4 @@
-use Rattle.wasm_base.proofs.Words.{refl, stays_short}
-use Rattle.wasm_insn.proofs.DecodePlain.{plain_at}
+use Rattle.wasm_insn.proofs.Common.{refl, stays_short, plain_at}
 use Rattle.wasm_insn.proofs.arguments.append_arguments.Goals as goal
 
 pub returns-in_err-append_argument-clause-too_long : goal.returns-in_err-append_argument-clause-too_long

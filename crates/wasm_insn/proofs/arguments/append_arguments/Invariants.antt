@@ -1,5 +1,4 @@
-use Rattle.wasm_base.proofs.Words.{◌≡◌, ◌++◌, take, flat_map}
-use Rattle.wasm_insn.specs.{argument_encoding, argument_view}
+use Rattle.wasm_insn.proofs.Common.{◌≡◌, ◌++◌, take, flat_map, argument_encoding, argument_view}
 use Rattle.wasm_insn.proofs.arguments.append_arguments.Given as goal
 
 abbrev pub invariant-loop-arg : goal.invariant-loop-arg

@@ -1,5 +1,4 @@
-use Rattle.wasm_base.proofs.Words.{fault_stays}
-use Rattle.wasm_insn.proofs.DecodeArguments.{shape_rejects}
+use Rattle.wasm_insn.proofs.Common.{fault_stays, shape_rejects}
 use Rattle.wasm_insn.proofs.arguments.read_any.Goals as goal
 
 pub returns-in_err-rest-clause-none : goal.returns-in_err-rest-clause-none

@@ -1,6 +1,4 @@
-use Rattle.wasm_base.proofs.Words.{ap, fault_stays, if_ok_more}
-use Rattle.wasm_insn.specs.{parts_of}
-use Rattle.wasm_insn.proofs.DecodeArguments.{one_read, one_rejects}
+use Rattle.wasm_insn.proofs.Common.{ap, fault_stays, if_ok_more, parts_of, one_read, one_rejects}
 use Rattle.wasm_insn.specs.declared.part.Part.TheVariants as parts
 use Rattle.wasm_insn.proofs.arguments.read_arguments_into.Goals as goal
 

@@ -1,5 +1,4 @@
-use Rattle.wasm_base.proofs.Words.{fault_stays}
-use Rattle.wasm_insn.proofs.DecodeArguments.{block_none}
+use Rattle.wasm_insn.proofs.Common.{fault_stays, block_none}
 use Rattle.wasm_insn.proofs.arguments.read_block.Goals as goal
 
 pub returns-in_err-value-clause-none : goal.returns-in_err-value-clause-none

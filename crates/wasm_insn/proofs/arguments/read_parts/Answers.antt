@@ -1,6 +1,5 @@
-use Rattle.wasm_base.proofs.Words.{padded_of, ◌+◌, ◌∷◌, [], ◌∙◌, ap, map, sym, subst, map-append, fault_stays, memory_stays}
-use Rattle.wasm_insn.specs.{argument_view}
-use Rattle.wasm_insn.proofs.DecodeArguments.{HasArguments, arguments_start, arguments_step, arguments_fail, arguments_done}
+use Rattle.wasm_insn.proofs.Common.{padded_of, ◌+◌, ◌∷◌, [], ◌∙◌, ap, map, sym, subst, map-append, fault_stays, memory_stays, argument_view, HasArguments, arguments_start, arguments_step}
+use Rattle.wasm_insn.proofs.Common.{arguments_fail, arguments_done}
 use Rattle.wasm_insn.proofs.arguments.read_parts.Goals as goal
 
 pub returns-in_err-arg-clause-none : goal.returns-in_err-arg-clause-none

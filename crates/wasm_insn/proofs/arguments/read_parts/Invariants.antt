@@ -1,6 +1,4 @@
-use Rattle.wasm_base.proofs.Words.{padded_of, map}
-use Rattle.wasm_insn.specs.{argument_view}
-use Rattle.wasm_insn.proofs.DecodeArguments.{HasArguments}
+use Rattle.wasm_insn.proofs.Common.{padded_of, map, argument_view, HasArguments}
 use Rattle.wasm_insn.proofs.arguments.read_parts.Given as goal
 
 abbrev pub invariant-loop-part : goal.invariant-loop-part

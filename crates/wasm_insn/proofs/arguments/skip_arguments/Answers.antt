@@ -1,6 +1,4 @@
-use Rattle.wasm_base.proofs.Words.{ap, fault_stays}
-use Rattle.wasm_insn.specs.{parts_of}
-use Rattle.wasm_insn.proofs.DecodeArguments.{one_skipped, one_rejects}
+use Rattle.wasm_insn.proofs.Common.{ap, fault_stays, parts_of, one_skipped, one_rejects}
 use Rattle.wasm_insn.specs.declared.part.Part.TheVariants as parts
 use Rattle.wasm_insn.proofs.arguments.skip_arguments.Goals as goal
 

@@ -1,6 +1,4 @@
-use Rattle.wasm_base.proofs.Words.{mapped_decodes, mapped_rejects, fault_stays}
-use Rattle.wasm_insn.specs.{labels, catches, types, handles}
-use Rattle.wasm_insn.proofs.DecodeArguments.{part_skipped, part_none}
+use Rattle.wasm_insn.proofs.Common.{mapped_decodes, mapped_rejects, fault_stays, labels, catches, types, handles, part_skipped, part_none}
 use Rattle.wasm_insn.specs.declared.part.Part.TheVariants as parts
 use Rattle.wasm_insn.proofs.arguments.skip_part.Goals as goal
 

@@ -1,5 +1,4 @@
-use Rattle.wasm_base.proofs.Words.{◌++◌, ◌∷◌, [], refl, fault_stays}
-use Rattle.wasm_insn.proofs.DecodeArguments.{arguments_start, arguments_step, arguments_fail, arguments_done}
+use Rattle.wasm_insn.proofs.Common.{◌++◌, ◌∷◌, [], refl, fault_stays, arguments_start, arguments_step, arguments_fail, arguments_done}
 use Rattle.wasm_insn.proofs.arguments.skip_parts.Goals as goal
 
 pub loop-part-init : goal.loop-part-init

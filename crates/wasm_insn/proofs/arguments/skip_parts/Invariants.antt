@@ -1,6 +1,4 @@
-use Rattle.wasm_base.proofs.Words.{padded_of, List}
-use Rattle.wasm_insn.specs.{Argument}
-use Rattle.wasm_insn.proofs.DecodeArguments.{HasArguments}
+use Rattle.wasm_insn.proofs.Common.{padded_of, List, Argument, HasArguments}
 use Rattle.wasm_insn.proofs.arguments.skip_parts.Given as goal
 
 abbrev pub invariant-loop-part : goal.invariant-loop-part

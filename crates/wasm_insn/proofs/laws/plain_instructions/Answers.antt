@@ -1,5 +1,4 @@
-use Rattle.wasm_base.proofs.Words.{subst, take_all, All-more, All}
-use Rattle.wasm_insn.specs.{IsWellFormedWhereAligned}
+use Rattle.wasm_insn.proofs.Common.{subst, take_all, All-more, All, IsWellFormedWhereAligned}
 use Rattle.wasm_insn.proofs.laws.plain_instructions.Goals as goal
 
 pub loop-instruction-preserved : goal.loop-instruction-preserved

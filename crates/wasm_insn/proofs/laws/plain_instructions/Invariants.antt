@@ -1,5 +1,4 @@
-use Rattle.wasm_base.proofs.Words.{take, All}
-use Rattle.wasm_insn.specs.{IsWellFormedWhereAligned}
+use Rattle.wasm_insn.proofs.Common.{take, All, IsWellFormedWhereAligned}
 use Rattle.wasm_insn.proofs.laws.plain_instructions.Given as goal
 
 abbrev pub invariant-loop-instruction : goal.invariant-loop-instruction

@@ -1,5 +1,4 @@
-use Rattle.wasm_base.proofs.Words.{fault_stays}
-use Rattle.wasm_insn.proofs.DecodeInstructions.{op_none}
+use Rattle.wasm_insn.proofs.Common.{fault_stays, op_none}
 use Rattle.wasm_insn.proofs.op.read_op.Goals as goal
 
 pub returns-in_err-byte-clause-none : goal.returns-in_err-byte-clause-none

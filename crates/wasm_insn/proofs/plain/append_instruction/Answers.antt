@@ -1,6 +1,4 @@
-use Rattle.wasm_base.proofs.Words.{map, on_ok}
-use Rattle.wasm_insn.specs.{argument_view}
-use Rattle.wasm_insn.proofs.DecodePlain.{instruction_appended, arguments_plain}
+use Rattle.wasm_insn.proofs.Common.{map, on_ok, argument_view, instruction_appended, arguments_plain}
 use Rattle.wasm_insn.proofs.plain.append_instruction.Goals as goal
 
 pub returns-clause-ok : goal.returns-clause-ok

@@ -1,5 +1,4 @@
-use Rattle.wasm_base.proofs.Words.{arith}
-use Rattle.wasm_insn.proofs.ByteShapes.{byte_place}
+use Rattle.wasm_insn.proofs.Common.{arith, byte_place}
 use Rattle.wasm_insn.proofs.table.byte_shape.Goals as goal
 
 pub returns : goal.returns

@@ -1,8 +1,5 @@
-use Rattle.wasm_base.proofs.Words.{◌≡◌, ℕ, List, map, sym, ap, subst, ◌∙◌, on_ok, AppendsMinimal}
-use Rattle.wasm_custom.proofs.Words.{instance_view, hints_view}
-use Rattle.wasm_custom.specs.Words.{dylink_view, feature_view}
-use Rattle.wasm_reader.specs.{Contents, Hints, CoreInstances, TargetFeatures, Dylink, content, contents_of, kind_in}
-use Rattle.wasm_reader.proofs.KindLaws.{AppendsItems, items_appended}
+use Rattle.wasm_reader.proofs.Common.{◌≡◌, ℕ, List, map, sym, ap, subst, ◌∙◌, on_ok, AppendsMinimal, instance_view, hints_view, dylink_view, feature_view, Contents, Hints, CoreInstances}
+use Rattle.wasm_reader.proofs.Common.{TargetFeatures, Dylink, content, contents_of, kind_in, AppendsItems, items_appended}
 use Rattle.wasm_reader.proofs.kinds.encode_items.Goals as goal
 
 -- The items are those of a case of a match.

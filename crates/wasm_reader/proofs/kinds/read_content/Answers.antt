@@ -1,6 +1,5 @@
-use Rattle.wasm_base.proofs.Words.{fault_stays}
-use Rattle.wasm_reader.proofs.KindLaws.{functions_read, names_read, linking_read, producers_read, hints_read, core_modules_read, core_instances_read, core_stack_read, target_features_read, source_map_read, debug_file_read, build_id_read}
-use Rattle.wasm_reader.proofs.KindLaws.{dylink_read}
+use Rattle.wasm_reader.proofs.Common.{fault_stays, functions_read, names_read, linking_read, producers_read, hints_read, core_modules_read, core_instances_read, core_stack_read, target_features_read}
+use Rattle.wasm_reader.proofs.Common.{source_map_read, debug_file_read, build_id_read, dylink_read, relocations_read}
 use Rattle.wasm_reader.proofs.kinds.read_content.Goals as goal
 
 pub returns-in_err-read_whole-in-Functions-clause-none : goal.returns-in_err-read_whole-in-Functions-clause-none
@@ -41,3 +40,6 @@ returns-in_err-read_build_id-in-BuildId-clause-none g c = fault_stays c.from_res
 
 pub returns-in_err-read_dylink-in-Dylink-clause-none : goal.returns-in_err-read_dylink-in-Dylink-clause-none
 returns-in_err-read_dylink-in-Dylink-clause-none g c = fault_stays c.from_residual-in_err-read_dylink-in-Dylink.result _ c.from_residual-in_err-read_dylink-in-Dylink.ensures.1 λ n. (dylink_read _ c.args.kind c.args.bytes.now c.in-Dylink.is).0 (c.in_err-read_dylink-in-Dylink.ensures.none n)
+
+pub returns-in_err-name-in-Relocations-clause-none : goal.returns-in_err-name-in-Relocations-clause-none
+returns-in_err-name-in-Relocations-clause-none g c = fault_stays c.from_residual-in_err-name-in-Relocations.result _ c.from_residual-in_err-name-in-Relocations.ensures.1 λ n. (relocations_read _ c.args.kind c.args.bytes.now c.in-Relocations.is).0 (c.in_err-name-in-Relocations.ensures.none n)

@@ -1,5 +1,4 @@
-use Rattle.wasm_base.proofs.Words.{if_err_more}
-use Rattle.wasm_reader.proofs.KindLaws.{functions_read, uncounted}
+use Rattle.wasm_reader.proofs.Common.{if_err_more, functions_read, uncounted}
 use Rattle.wasm_reader.proofs.kinds.read_number.Goals as goal
 
 pub returns-in-Functions-clause-none : goal.returns-in-Functions-clause-none

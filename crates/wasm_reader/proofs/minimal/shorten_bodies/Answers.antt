@@ -1,7 +1,5 @@
-use Rattle.wasm_base.proofs.Words.{padded, ◌≡◌, sym, subst, ◌∙◌, arith, eqb-true, eqb-false, size_prefixed, fault_stays, memory_stays, filled_decodes, filled_none, filled_rejects, HasSkipped}
-use Rattle.wasm_code.proofs.Words.{body, size_prefixed_body_unambiguous}
-use Rattle.wasm_reader.proofs.Counting.{no_count, skipped_none, skipped_more}
-use Rattle.wasm_reader.proofs.MinimalBodies.{skip, shortened_start, shortened_step, shortened_all}
+use Rattle.wasm_reader.proofs.Common.{padded, ◌≡◌, sym, subst, ◌∙◌, arith, eqb-true, eqb-false, size_prefixed, fault_stays, memory_stays, filled_decodes, filled_none, filled_rejects, HasSkipped, body}
+use Rattle.wasm_reader.proofs.Common.{size_prefixed_body_unambiguous, no_count, skipped_none, skipped_more, skip, shortened_start, shortened_step, shortened_all}
 use Rattle.wasm_reader.proofs.minimal.shorten_bodies.Goals as goal
 
 pub returns-in_err-count-clause-none : goal.returns-in_err-count-clause-none

@@ -1,6 +1,4 @@
-use Rattle.wasm_base.proofs.Words.{size_prefixed}
-use Rattle.wasm_code.proofs.Words.{body}
-use Rattle.wasm_reader.proofs.MinimalBodies.{HasShortened}
+use Rattle.wasm_reader.proofs.Common.{size_prefixed, body, HasShortened}
 use Rattle.wasm_reader.proofs.minimal.shorten_bodies.Given as goal
 
 abbrev pub invariant-loop-taken : goal.invariant-loop-taken

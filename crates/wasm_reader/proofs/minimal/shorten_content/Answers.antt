@@ -1,7 +1,4 @@
-use Rattle.wasm_base.proofs.Words.{on_ok, if_err_more, memory_stays}
-use Rattle.wasm_reader.specs.{contents_of}
-use Rattle.wasm_reader.proofs.KindLaws.{bodies_read}
-use Rattle.wasm_reader.proofs.MinimalSections.{bodies_shortened, items_shortened}
+use Rattle.wasm_reader.proofs.Common.{on_ok, if_err_more, memory_stays, contents_of, bodies_read, bodies_shortened, items_shortened}
 use Rattle.wasm_reader.proofs.minimal.shorten_content.Goals as goal
 
 pub returns-in-Bodies-clause-found : goal.returns-in-Bodies-clause-found

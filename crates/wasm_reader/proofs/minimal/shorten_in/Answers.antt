@@ -1,7 +1,4 @@
-use Rattle.wasm_base.proofs.Words.{arith, ◌∙◌}
-use Rattle.wasm_reader.proofs.Causes.{cause_stays}
-use Rattle.wasm_reader.proofs.DecodeSections.{section_none, section_rejects, shorter}
-use Rattle.wasm_reader.proofs.MinimalSections.{shortened}
+use Rattle.wasm_reader.proofs.Common.{arith, ◌∙◌, cause_stays, section_none, section_rejects, shorter, shortened}
 use Rattle.wasm_reader.proofs.minimal.shorten_in.Goals as goal
 
 pub returns-in_err-sized-clause-none : goal.returns-in_err-sized-clause-none

@@ -1,5 +1,4 @@
-use Rattle.wasm_base.proofs.Words.{arith}
-use Rattle.wasm_reader.proofs.MinimalSections.{sized}
+use Rattle.wasm_reader.proofs.Common.{arith, sized}
 use Rattle.wasm_reader.proofs.minimal.shorten_sized.Goals as goal
 
 pub returns-clause-found : goal.returns-clause-found

@@ -1,7 +1,5 @@
-use Rattle.wasm_base.proofs.Words.{◌≡◌, ◌+◌, suc, length, ap, sym, subst, arith}
-use Rattle.wasm_reader.specs.{StopsAt, ahead}
-use Rattle.wasm_reader.proofs.DecodeModules.{HasListed, line_decodes, line_rejects, listed_done, listed_step, listed_stops, sized_rejects}
-use Rattle.wasm_reader.proofs.IteratingLaws.{id_ahead, more_ahead, next_error, next_section, payload_ahead}
+use Rattle.wasm_reader.proofs.Common.{◌≡◌, ◌+◌, suc, length, ap, sym, subst, arith, StopsAt, ahead, HasListed, line_decodes, line_rejects, listed_done, listed_step, listed_stops, sized_rejects}
+use Rattle.wasm_reader.proofs.Common.{id_ahead, more_ahead, next_error, next_section, payload_ahead}
 use Rattle.wasm_reader.proofs.modules.list_module.Goals as goal
 
 pub returns-in-Err-clause-header : goal.returns-in-Err-clause-header

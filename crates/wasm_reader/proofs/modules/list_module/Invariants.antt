@@ -1,6 +1,4 @@
-use Rattle.wasm_base.proofs.Words.{length}
-use Rattle.wasm_reader.specs.{ahead}
-use Rattle.wasm_reader.proofs.DecodeModules.{HasListed}
+use Rattle.wasm_reader.proofs.Common.{length, ahead, HasListed}
 use Rattle.wasm_reader.proofs.modules.list_module.Given as goal
 
 abbrev pub invariant-loop-lines : goal.invariant-loop-lines

@@ -1,7 +1,5 @@
-use Rattle.wasm_base.proofs.Words.{◌≡◌, ◌+◌, suc, length, sym, subst, ◌∙◌, ap, arith, header}
-use Rattle.wasm_reader.specs.{EndsAt, ahead}
-use Rattle.wasm_reader.proofs.DecodeOutlines.{HasOutlined, no_header, outlined_ends, outlined_none, outlined_step}
-use Rattle.wasm_reader.proofs.IteratingLaws.{end_stays, next_error, next_section}
+use Rattle.wasm_reader.proofs.Common.{◌≡◌, ◌+◌, suc, length, sym, subst, ◌∙◌, ap, arith, header, EndsAt, ahead, HasOutlined, no_header, outlined_ends, outlined_none, outlined_step, end_stays}
+use Rattle.wasm_reader.proofs.Common.{next_error, next_section}
 use Rattle.wasm_reader.proofs.outlines.outline.Goals as goal
 
 pub returns-in-Err-clause-no_module : goal.returns-in-Err-clause-no_module

@@ -1,6 +1,4 @@
-use Rattle.wasm_base.proofs.Words.{◌≡◌, ◌+◌, length, header}
-use Rattle.wasm_reader.specs.{ahead}
-use Rattle.wasm_reader.proofs.DecodeOutlines.{HasOutlined}
+use Rattle.wasm_reader.proofs.Common.{◌≡◌, ◌+◌, length, header, ahead, HasOutlined}
 use Rattle.wasm_reader.proofs.outlines.outline.Given as goal
 
 abbrev pub invariant-loop-lines : goal.invariant-loop-lines

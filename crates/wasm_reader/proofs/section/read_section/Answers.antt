@@ -1,5 +1,4 @@
-use Rattle.wasm_reader.proofs.Causes.{cause_stays}
-use Rattle.wasm_reader.proofs.DecodeSections.{section_none, section_rejects, shorter}
+use Rattle.wasm_reader.proofs.Common.{cause_stays, section_none, section_rejects, shorter}
 use Rattle.wasm_reader.proofs.section.read_section.Goals as goal
 
 pub returns-in_err-sized-clause-none : goal.returns-in_err-sized-clause-none

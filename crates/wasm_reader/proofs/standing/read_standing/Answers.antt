@@ -1,5 +1,4 @@
-use Rattle.wasm_base.proofs.Words.{fault_stays}
-use Rattle.wasm_reader.proofs.DecodeOutlines.{no_id, not_size_prefixed}
+use Rattle.wasm_reader.proofs.Common.{fault_stays, no_id, not_size_prefixed}
 use Rattle.wasm_reader.proofs.standing.read_standing.Goals as goal
 
 pub returns-in_err-id-clause-none : goal.returns-in_err-id-clause-none

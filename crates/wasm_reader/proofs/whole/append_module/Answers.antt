@@ -1,7 +1,4 @@
-use Rattle.wasm_base.proofs.Words.{sym, ◌∙◌}
-use Rattle.wasm_reader.specs.{ahead}
-use Rattle.wasm_reader.proofs.DecodeOutlines.{no_header}
-use Rattle.wasm_reader.proofs.MinimalModules.{stops_at, keeps_offsets, loses_at}
+use Rattle.wasm_reader.proofs.Common.{sym, ◌∙◌, ahead, no_header, stops_at, keeps_offsets, loses_at}
 use Rattle.wasm_reader.proofs.whole.append_module.Goals as goal
 
 pub returns-in-Err-clause-why : goal.returns-in-Err-clause-why

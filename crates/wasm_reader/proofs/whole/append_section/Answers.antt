@@ -1,6 +1,4 @@
-use Rattle.wasm_base.proofs.Words.{sym, ap, ◌++◌, ◌∙◌}
-use Rattle.wasm_reader.specs.{section_of, contains_offsets}
-use Rattle.wasm_reader.proofs.MinimalModules.{gains, stays_in, is_change_encoding, after_id}
+use Rattle.wasm_reader.proofs.Common.{sym, ap, ◌++◌, ◌∙◌, section_of, contains_offsets, gains, stays_in, is_change_encoding, after_id}
 use Rattle.wasm_reader.proofs.whole.append_section.Goals as goal
 
 pub returns-in-Ok-clause-ok : goal.returns-in-Ok-clause-ok

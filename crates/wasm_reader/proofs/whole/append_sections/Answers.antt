@@ -1,7 +1,5 @@
-use Rattle.wasm_base.proofs.Words.{◌≡◌, length, refl, ◌∙◌, arith, none_left}
-use Rattle.wasm_reader.specs.{ahead}
-use Rattle.wasm_reader.proofs.IteratingLaws.{end_stays, more_ahead, next_error, next_section}
-use Rattle.wasm_reader.proofs.MinimalModules.{gains_same, rewrites_below, rewrites_longer, rewrites_rest, rewrites_start, rewrites_stop, rewrites_step}
+use Rattle.wasm_reader.proofs.Common.{◌≡◌, length, refl, ◌∙◌, arith, none_left, ahead, end_stays, more_ahead, next_error, next_section, gains_same, rewrites_below, rewrites_longer, rewrites_rest}
+use Rattle.wasm_reader.proofs.Common.{rewrites_start, rewrites_stop, rewrites_step}
 use Rattle.wasm_reader.proofs.whole.append_sections.Goals as goal
 
 pub loop-section-init : goal.loop-section-init

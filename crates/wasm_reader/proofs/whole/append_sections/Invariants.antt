@@ -1,5 +1,4 @@
-use Rattle.wasm_base.proofs.Words.{◌≡◌, ◌≤◌, ◌+◌, length}
-use Rattle.wasm_reader.specs.{Rewrites, ahead}
+use Rattle.wasm_reader.proofs.Common.{◌≡◌, ◌≤◌, ◌+◌, length, Rewrites, ahead}
 use Rattle.wasm_reader.proofs.whole.append_sections.Given as goal
 
 abbrev pub invariant-loop-section : goal.invariant-loop-section

@@ -1,6 +1,4 @@
-use Rattle.wasm_base.proofs.Words.{subst}
-use Rattle.wasm_reader.specs.{section_of, Shortens}
-use Rattle.wasm_reader.proofs.MinimalModules.{whole_size_prefixed}
+use Rattle.wasm_reader.proofs.Common.{subst, section_of, Shortens, whole_size_prefixed}
 use Rattle.wasm_reader.proofs.whole.append_size_prefixed.Goals as goal
 
 pub returns-in-Ok-clause-ok : goal.returns-in-Ok-clause-ok

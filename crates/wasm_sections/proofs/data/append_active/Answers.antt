@@ -1,5 +1,4 @@
-use Rattle.wasm_sections.specs.{instructions_view}
-use Rattle.wasm_sections.proofs.DataLaws.{placed_encoded}
+use Rattle.wasm_sections.proofs.Common.{instructions_view, placed_encoded}
 use Rattle.wasm_sections.proofs.data.append_active.Goals as goal
 
 pub returns-then-memory-eq0-clause-too_long : goal.returns-then-memory-eq0-clause-too_long

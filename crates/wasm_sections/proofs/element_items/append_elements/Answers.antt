@@ -1,5 +1,4 @@
-use Rattle.wasm_base.proofs.Words.{subst, sym, on_ok, AppendsMinimal, HasEncoding}
-use Rattle.wasm_sections.specs.{are_expressions, elements_as, list_view}
+use Rattle.wasm_sections.proofs.Common.{subst, sym, on_ok, AppendsMinimal, HasEncoding, are_expressions, elements_as, list_view}
 use Rattle.wasm_sections.proofs.element_items.append_elements.Goals as goal
 
 pub returns-in-Functions-clause-ok : goal.returns-in-Functions-clause-ok

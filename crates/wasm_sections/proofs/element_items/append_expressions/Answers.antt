@@ -1,6 +1,4 @@
-use Rattle.wasm_base.proofs.Words.{map, on_ok}
-use Rattle.wasm_sections.specs.{instructions_view}
-use Rattle.wasm_sections.proofs.ElementLaws.{expressions_explicit_appended, expressions_implicit_appended}
+use Rattle.wasm_sections.proofs.Common.{map, on_ok, instructions_view, expressions_explicit_appended, expressions_implicit_appended}
 use Rattle.wasm_sections.proofs.element_items.append_expressions.Goals as goal
 
 pub returns-then-explicit-clause-ok : goal.returns-then-explicit-clause-ok

@@ -1,5 +1,4 @@
-use Rattle.wasm_base.proofs.Words.{on_ok}
-use Rattle.wasm_sections.proofs.ElementLaws.{functions_explicit_appended, functions_implicit_appended}
+use Rattle.wasm_sections.proofs.Common.{on_ok, functions_explicit_appended, functions_implicit_appended}
 use Rattle.wasm_sections.proofs.element_items.append_functions.Goals as goal
 
 pub returns-then-explicit-clause-ok : goal.returns-then-explicit-clause-ok

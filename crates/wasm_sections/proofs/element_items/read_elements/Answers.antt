@@ -1,7 +1,4 @@
-use Rattle.wasm_base.proofs.Words.{◌≢◌, sym, subst, IfOk, Decodes, Rejects, padded_of}
-use Rattle.wasm_base.specs.declared.fault.ReadFault.TheVariants.{Memory}
-use Rattle.std.specs.Prelude.{IfErr}
-use Rattle.wasm_sections.specs.{elements_as, list_view}
+use Rattle.wasm_sections.proofs.Common.{◌≢◌, sym, subst, IfOk, Decodes, Rejects, padded_of, Memory, IfErr, elements_as, list_view}
 use Rattle.wasm_sections.proofs.element_items.read_elements.Goals as goal
 
 pub returns-then-of_expressions-clause-found : goal.returns-then-of_expressions-clause-found

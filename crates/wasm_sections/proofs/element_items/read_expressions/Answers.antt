@@ -1,5 +1,4 @@
-use Rattle.wasm_base.proofs.Words.{fault_stays}
-use Rattle.wasm_sections.proofs.ElementLaws.{expressions_none, expressions_none_implicit, expressions_implicit}
+use Rattle.wasm_sections.proofs.Common.{fault_stays, expressions_none, expressions_none_implicit, expressions_implicit}
 use Rattle.wasm_sections.proofs.element_items.read_expressions.Goals as goal
 
 pub returns-in_err-ty-clause-none : goal.returns-in_err-ty-clause-none

@@ -1,6 +1,4 @@
-use Rattle.wasm_base.proofs.Words.{fault_stays}
-use Rattle.wasm_sections.specs.{element_flag_view}
-use Rattle.wasm_sections.proofs.ElementLaws.{segment_mode_no_table, segment_mode_no_offset}
+use Rattle.wasm_sections.proofs.Common.{fault_stays, element_flag_view, segment_mode_no_table, segment_mode_no_offset}
 use Rattle.wasm_sections.proofs.element_items.read_mode.Goals as goal
 
 pub returns-in_err-table-in-false-true-clause-none : goal.returns-in_err-table-in-false-true-clause-none

@@ -1,7 +1,4 @@
-use Rattle.wasm_base.proofs.Words.{◌≢◌, List, sym, subst, IfOk, Decodes, Rejects, padded_of}
-use Rattle.wasm_base.specs.declared.fault.ReadFault.TheVariants.{Memory}
-use Rattle.std.specs.Prelude.{IfErr}
-use Rattle.wasm_insn.proofs.Words.{Plain}
+use Rattle.wasm_sections.proofs.Common.{◌≢◌, List, sym, subst, IfOk, Decodes, Rejects, padded_of, Memory, IfErr, Plain}
 use Rattle.wasm_sections.specs.{elements_as, ElementList as ListModel}
 use Rattle.wasm_sections.proofs.element_items.skip_elements.Goals as goal
 

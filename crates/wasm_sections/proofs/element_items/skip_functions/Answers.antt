@@ -1,5 +1,4 @@
-use Rattle.wasm_base.proofs.Words.{fault_stays}
-use Rattle.wasm_sections.proofs.ElementLaws.{functions_behind, functions_no_kind, functions_other, functions_none, functions_unique, functions_none_implicit}
+use Rattle.wasm_sections.proofs.Common.{fault_stays, functions_behind, functions_no_kind, functions_other, functions_none, functions_unique, functions_none_implicit}
 use Rattle.wasm_sections.proofs.element_items.skip_functions.Goals as goal
 
 pub returns-in_err-kind-clause-none : goal.returns-in_err-kind-clause-none

@@ -1,6 +1,5 @@
-use Rattle.wasm_base.proofs.Words.{fault_stays}
-use Rattle.wasm_sections.specs.{element_flag_view}
-use Rattle.wasm_sections.proofs.ElementLaws.{segment_mode_declared, segment_mode_passive, segment_mode_in_table, segment_mode_no_table, segment_mode_implicit, segment_mode_no_offset}
+use Rattle.wasm_sections.proofs.Common.{fault_stays, element_flag_view, segment_mode_declared, segment_mode_passive, segment_mode_in_table, segment_mode_no_table, segment_mode_implicit}
+use Rattle.wasm_sections.proofs.Common.{segment_mode_no_offset}
 use Rattle.wasm_sections.proofs.element_items.skip_segment_mode.Goals as goal
 
 pub returns-in-true-true-clause-found : goal.returns-in-true-true-clause-found

@@ -1,6 +1,5 @@
-use Rattle.wasm_base.proofs.Words.{refl, map, member_encoded, members_encoded, stays_short, next_appended, all_appended, vec_appended, front_then, front_encoded, front_appended}
-use Rattle.wasm_sections.specs.{imports_item, import_format}
-use Rattle.wasm_sections.proofs.ImportLaws.{import_appended, import_encodable}
+use Rattle.wasm_sections.proofs.Common.{refl, map, member_encoded, members_encoded, stays_short, next_appended, all_appended, vec_appended, front_then, front_encoded, front_appended, imports_item}
+use Rattle.wasm_sections.proofs.Common.{import_format, import_appended, import_encodable}
 use Rattle.wasm_sections.proofs.import.write_imports.Goals as goal
 
 pub loop-import-preserved : goal.loop-import-preserved

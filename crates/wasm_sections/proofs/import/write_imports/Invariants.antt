@@ -1,5 +1,4 @@
-use Rattle.wasm_base.proofs.Words.{map, take, members, AppendsMinimal}
-use Rattle.wasm_sections.specs.{import_format, imports_item}
+use Rattle.wasm_sections.proofs.Common.{map, take, members, AppendsMinimal, import_format, imports_item}
 use Rattle.wasm_sections.proofs.import.write_imports.Given as goal
 
 abbrev pub invariant-loop-import : goal.invariant-loop-import

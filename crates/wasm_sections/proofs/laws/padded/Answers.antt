@@ -1,6 +1,4 @@
-use Rattle.wasm_base.proofs.Words.{unambiguous_padded}
-use Rattle.wasm_base.proofs.SectionLaws.{padded_unambiguous}
-use Rattle.wasm_sections.proofs.Calls.{sections, parts}
+use Rattle.wasm_sections.proofs.Common.{unambiguous_padded, padded_unambiguous, sections, parts}
 use Rattle.wasm_sections.proofs.laws.padded.Goals as goal
 
 pub returns : goal.returns

@@ -1,6 +1,4 @@
-use Rattle.wasm_base.proofs.SectionLaws.{payloads}
-use Rattle.wasm_base.proofs.Words.{u32-payload}
-use Rattle.wasm_sections.proofs.Calls.{sections}
+use Rattle.wasm_sections.proofs.Common.{payloads, u32-payload, sections}
 use Rattle.wasm_sections.proofs.laws.payloads.Goals as goal
 
 pub returns : goal.returns

@@ -1,5 +1,4 @@
-use Rattle.wasm_base.proofs.Words.{arith, subst, take_all, All}
-use Rattle.wasm_sections.specs.{IsExport}
+use Rattle.wasm_sections.proofs.Common.{arith, subst, take_all, All, IsExport}
 use Rattle.wasm_sections.proofs.laws.plain_exports.Goals as goal
 
 pub returns : goal.returns

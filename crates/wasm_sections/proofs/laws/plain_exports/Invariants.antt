@@ -1,5 +1,4 @@
-use Rattle.wasm_base.proofs.Words.{take, All}
-use Rattle.wasm_sections.specs.{IsExport}
+use Rattle.wasm_sections.proofs.Common.{take, All, IsExport}
 use Rattle.wasm_sections.proofs.laws.plain_exports.Given as goal
 
 abbrev pub invariant-loop-export : goal.invariant-loop-export

@@ -1,5 +1,4 @@
-use Rattle.wasm_base.proofs.SectionLaws.{unambiguous, items}
-use Rattle.wasm_sections.proofs.Calls.{sections, parts}
+use Rattle.wasm_sections.proofs.Common.{unambiguous, items, sections, parts}
 use Rattle.wasm_sections.proofs.laws.sections.Goals as goal
 
 pub returns : goal.returns

@@ -1,5 +1,4 @@
-use Rattle.wasm_base.proofs.Words.{◌≤◌, arith, subst, longest}
-use Rattle.wasm_sections.proofs.NumberLaws.{number_unique}
+use Rattle.wasm_sections.proofs.Common.{◌≤◌, arith, subst, longest, number_unique}
 use Rattle.wasm_sections.proofs.start.encode_number.Goals as goal
 
 pub returns-clause-read : goal.returns-clause-read

@@ -1,5 +1,4 @@
-use Rattle.wasm_base.proofs.Words.{◌≡◌, take, string_bytes}
-use Rattle.wasm_tool.specs.{listing_of}
+use Rattle.wasm_tool.proofs.Common.{◌≡◌, take, string_bytes, listing_of}
 use Rattle.wasm_tool.proofs.listing.lines.Given as goal
 
 -- The text is the lines of the sections so far.

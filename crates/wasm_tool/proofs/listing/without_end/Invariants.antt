@@ -1,6 +1,5 @@
-use Rattle.wasm_base.proofs.Words.{◌≡◌, ℕ, List, ◌++◌, length}
+use Rattle.wasm_tool.proofs.Common.{◌≡◌, ℕ, List, ◌++◌, length, IsBlank}
 use Rattle.std.proofs.Common.{All}
-use Rattle.wasm_tool.specs.{IsBlank}
 use Rattle.wasm_tool.proofs.listing.without_end.Given as goal
 
 -- Only blanks are cut from the end of the text.

@@ -1,5 +1,4 @@
-use Rattle.wasm_base.proofs.Words.{◌≡◌, ◌∷◌, ◌++◌, option_map}
-use Rattle.wasm_tool.specs.{counted_words, indices_of}
+use Rattle.wasm_tool.proofs.Common.{◌≡◌, ◌∷◌, ◌++◌, option_map, counted_words, indices_of}
 use Rattle.wasm_tool.proofs.numbers.indices.Given as goal
 
 -- The numbers so far are those of the words before the iterator's.

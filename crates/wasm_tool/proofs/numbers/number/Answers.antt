@@ -1,5 +1,4 @@
-use Rattle.wasm_base.proofs.Words.{Ok, Err, refl, subst, ParsesUnsigned}
-use Rattle.wasm_tool.proofs.NumberLemmas.{decimal_of-parse}
+use Rattle.wasm_tool.proofs.Common.{Ok, Err, refl, subst, ParsesUnsigned, decimal_of-parse}
 use Rattle.wasm_tool.proofs.numbers.number.Goals as goal
 
 pub returns-in_default : goal.returns-in_default

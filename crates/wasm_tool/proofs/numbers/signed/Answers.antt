@@ -1,6 +1,4 @@
-use Rattle.wasm_base.proofs.Words.{Ok, Err, refl, subst, arith, ParsesSigned}
-use Rattle.std.proofs.lemmas.Int.{to_z-of_z}
-use Rattle.wasm_tool.proofs.NumberLemmas.{signed_of-parse}
+use Rattle.wasm_tool.proofs.Common.{Ok, Err, refl, subst, arith, ParsesSigned, to_z-of_z, signed_of-parse}
 use mir.Syntax.{w32}
 use Rattle.wasm_tool.proofs.numbers.signed.Goals as goal
 

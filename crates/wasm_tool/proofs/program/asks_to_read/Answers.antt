@@ -1,5 +1,4 @@
-use Rattle.wasm_base.proofs.Words.{◌∙◌, sym, ap, get_or, string_bytes, slice_eq-Decides, unsigned_Decides}
-use Rattle.wasm_tool.proofs.Listings.{one_member}
+use Rattle.wasm_tool.proofs.Common.{◌∙◌, sym, ap, get_or, string_bytes, slice_eq-Decides, unsigned_Decides, one_member}
 use Rattle.wasm_tool.proofs.program.asks_to_read.Goals as goal
 
 pub returns : goal.returns

@@ -1,6 +1,4 @@
-use Rattle.wasm_base.proofs.Words.{string_bytes}
-use Rattle.wasm_tool.specs.{Lists}
-use Rattle.wasm_tool.proofs.Answered.{not_none}
+use Rattle.wasm_tool.proofs.Common.{string_bytes, Lists, not_none}
 use Rattle.wasm_tool.proofs.program.run.Goals as goal
 
 pub returns-in-Ok-clause-unlisted : goal.returns-in-Ok-clause-unlisted

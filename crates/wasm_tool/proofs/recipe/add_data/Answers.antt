@@ -1,6 +1,4 @@
-use Rattle.wasm_base.proofs.Words.{◌∙◌}
-use Rattle.wasm_code.proofs.Words.{drained_vec}
-use Rattle.wasm_sections.proofs.Words.{adds_these}
+use Rattle.wasm_tool.proofs.Common.{◌∙◌, drained_vec, adds_these}
 use Rattle.wasm_base.proofs.KnownLengths as lengths
 use Rattle.wasm_tool.proofs.recipe.add_data.Goals as goal
 

@@ -1,8 +1,5 @@
-use Rattle.wasm_base.proofs.Words.{◌≡◌, ◌∙◌, wasm_module, DecodesWhole}
-use Rattle.std.specs.Prelude.{All}
-use Rattle.wasm_tool.specs.{lines_of, IsGood, IsEncodableRecipe, entries_of, recipe_module, sections_of}
-use Rattle.wasm_tool.specs.declared.version.Version.TheVariants.{First}
-use Rattle.wasm_tool.proofs.RecipeLemmas.{module_decodes, module_encoding-contains, on_module, recipe_encodable}
+use Rattle.wasm_tool.proofs.Common.{◌≡◌, ◌∙◌, wasm_module, DecodesWhole, All, lines_of, IsGood, IsEncodableRecipe, entries_of, recipe_module, sections_of, First, module_decodes}
+use Rattle.wasm_tool.proofs.Common.{module_encoding-contains, on_module, recipe_encodable}
 use Rattle.wasm_tool.proofs.recipe.assemble.Goals as goal
 
 pub returns-clause-good : goal.returns-clause-good

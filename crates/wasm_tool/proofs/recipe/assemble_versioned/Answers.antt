@@ -1,7 +1,5 @@
-use Rattle.wasm_base.proofs.Words.{◌≡◌, [], sym, ◌∙◌, wasm_module, DecodesWhole}
-use Rattle.std.specs.Prelude.{All}
-use Rattle.wasm_tool.specs.{version_of, versioned_lines, IsGood, IsEncodableRecipe, entries_of, left_locals, recipe_module, sections_of}
-use Rattle.wasm_tool.proofs.RecipeLemmas.{module_decodes, module_encoding-contains, of_header, on_module, recipe_encodable}
+use Rattle.wasm_tool.proofs.Common.{◌≡◌, [], sym, ◌∙◌, wasm_module, DecodesWhole, All, version_of, versioned_lines, IsGood, IsEncodableRecipe, entries_of, left_locals, recipe_module, sections_of}
+use Rattle.wasm_tool.proofs.Common.{module_decodes, module_encoding-contains, of_header, on_module, recipe_encodable}
 use Rattle.wasm_tool.proofs.recipe.assemble_versioned.Goals as goal
 
 pub returns-clause-good : goal.returns-clause-good

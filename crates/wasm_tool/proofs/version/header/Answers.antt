@@ -1,7 +1,5 @@
-use Rattle.wasm_base.proofs.Words.{Some, true, false, refl, arith, common_steps, lit<, ap, sym, ◌∙◌, YieldsList-at, YieldsList-end, YieldsList-turn, YieldsList-from_str_split}
-use Rattle.wasm_tool.specs.{lines_of}
-use Rattle.wasm_tool.proofs.LineLemmas.{line_is, lines_of-length, part_at, within}
-use Rattle.wasm_tool.proofs.VersionLemmas.{header_later, header_none, header_start, header_told}
+use Rattle.wasm_tool.proofs.Common.{Some, true, false, refl, arith, common_steps, lit<, ap, sym, ◌∙◌, YieldsList-at, YieldsList-end, YieldsList-turn, YieldsList-from_str_split, lines_of, line_is}
+use Rattle.wasm_tool.proofs.Common.{lines_of-length, part_at, within, header_later, header_none, header_start, header_told}
 use Rattle.wasm_tool.proofs.version.header.Goals as goal
 
 pub loop-line-init : goal.loop-line-init

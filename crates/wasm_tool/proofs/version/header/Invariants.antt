@@ -1,6 +1,4 @@
-use Rattle.wasm_base.proofs.Words.{◌≡◌, length}
-use Rattle.wasm_tool.specs.{lines_of}
-use Rattle.wasm_tool.proofs.VersionLemmas.{IsHeaderAfter}
+use Rattle.wasm_tool.proofs.Common.{◌≡◌, length, lines_of, IsHeaderAfter}
 use Rattle.wasm_tool.proofs.version.header.Given as goal
 
 abbrev pub invariant-loop-line : goal.invariant-loop-line

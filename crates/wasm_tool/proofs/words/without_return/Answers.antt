@@ -1,5 +1,4 @@
-use Rattle.wasm_base.proofs.Words.{ap, ◌∙◌, refl, lit<, strip_suffix_char}
-use Rattle.wasm_tool.proofs.LineLemmas.{stripped}
+use Rattle.wasm_tool.proofs.Common.{ap, ◌∙◌, refl, lit<, strip_suffix_char, stripped}
 use Rattle.wasm_tool.proofs.words.without_return.Goals as goal
 
 pub returns : goal.returns

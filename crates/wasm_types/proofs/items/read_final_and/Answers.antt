@@ -1,5 +1,5 @@
-use Rattle.wasm_base.proofs.Words.{arith, sym, vec_len, ◌∙◌, eqb-true, eqb-false, fault_stays}
-use Rattle.wasm_types.proofs.DecodeItems.{prefix_listed, prefix_standard, final_list_decodes, final_list_empty, final_list_none, final_list_none_after}
+use Rattle.wasm_types.proofs.Common.{arith, sym, vec_len, ◌∙◌, eqb-true, eqb-false, fault_stays, prefix_listed, prefix_standard, final_list_decodes, final_list_empty, final_list_none}
+use Rattle.wasm_types.proofs.Common.{final_list_none_after}
 use Rattle.wasm_types.proofs.items.read_final_and.Goals.{else-is_empty-via-then-is_empty+else-not-is_standard, else-is_empty-via-else-is_empty}
 use Rattle.wasm_types.proofs.items.read_final_and.Goals as goal
 

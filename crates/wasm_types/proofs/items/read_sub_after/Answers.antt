@@ -1,5 +1,4 @@
-use Rattle.wasm_base.proofs.Words.{arith, fault_stays}
-use Rattle.wasm_types.proofs.DecodeItems.{open_none, final_none, alone_none}
+use Rattle.wasm_types.proofs.Common.{arith, fault_stays, open_none, final_none, alone_none}
 use Rattle.wasm_types.proofs.items.read_sub_after.Goals as goal
 
 pub returns-in_err-supertypes-in-80-clause-none : goal.returns-in_err-supertypes-in-80-clause-none

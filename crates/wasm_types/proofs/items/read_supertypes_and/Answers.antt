@@ -1,5 +1,4 @@
-use Rattle.wasm_base.proofs.Words.{fault_stays}
-use Rattle.wasm_types.proofs.DecodeItems.{supertypes_none, supertypes_none_after, supertypes_decodes}
+use Rattle.wasm_types.proofs.Common.{fault_stays, supertypes_none, supertypes_none_after, supertypes_decodes}
 use Rattle.wasm_types.proofs.items.read_supertypes_and.Goals as goal
 
 pub returns-in_err-supertypes-clause-none : goal.returns-in_err-supertypes-clause-none

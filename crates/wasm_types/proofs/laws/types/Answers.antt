@@ -1,5 +1,4 @@
-use Rattle.wasm_base.proofs.SectionLaws.{unambiguous, items}
-use Rattle.wasm_types.proofs.TypeLaws.{sections, parts}
+use Rattle.wasm_types.proofs.Common.{unambiguous, items, sections, parts}
 use Rattle.wasm_types.proofs.laws.types.Goals as goal
 
 pub returns : goal.returns

@@ -1,5 +1,4 @@
-use Rattle.wasm_base.proofs.Words.{fault_stays}
-use Rattle.wasm_types.proofs.DecodeShapes.{shared_none, shared_none_after, unshared_none, shared_decodes, unshared_decodes}
+use Rattle.wasm_types.proofs.Common.{fault_stays, shared_none, shared_none_after, unshared_none, shared_decodes, unshared_decodes}
 use Rattle.wasm_types.proofs.shapes.read_composite_after.Goals as goal
 
 pub returns-in_err-tag-clause-none : goal.returns-in_err-tag-clause-none

@@ -1,6 +1,4 @@
-use Rattle.wasm_base.proofs.Words.{refl, fault_stays}
-use Rattle.wasm_types.proofs.DecodeShapes.{index_none, index_none_after, no_index_none, index_decodes}
-use Rattle.wasm_types.specs.{after_shape}
+use Rattle.wasm_types.proofs.Common.{refl, fault_stays, index_none, index_none_after, no_index_none, index_decodes, after_shape}
 use Rattle.wasm_types.proofs.shapes.read_descriptor_after.Goals as goal
 
 pub returns-in_err-index-clause-none : goal.returns-in_err-index-clause-none

@@ -1,5 +1,4 @@
-use Rattle.wasm_base.proofs.Words.{fault_stays}
-use Rattle.wasm_types.proofs.DecodeShapes.{func_none, array_none, structure_none, cont_none}
+use Rattle.wasm_types.proofs.Common.{fault_stays, func_none, array_none, structure_none, cont_none}
 use Rattle.wasm_types.proofs.shapes.read_shape_after.Goals as goal
 
 pub returns-in_err-params-in-96-clause-none : goal.returns-in_err-params-in-96-clause-none

@@ -2,13 +2,15 @@
 use crate::context::Space;
 use crate::dump::listing::{Item, Listing};
 use crate::dump::operands::Float;
-use dolzhytik::fallible::{self, BranchHint, Comdat, CoreDumpValue, FeaturePrefix, SegmentInfo};
+use dolzhytik::fallible::{
+    self, BranchHint, Comdat, CoreDumpValue, FeaturePrefix, Relocation, SegmentInfo,
+};
 use dolzhytik::reader::{CoreFrame, DylinkItem, Items, LinkItem, NameItem, Symbol};
 use std::fmt::Display;
 use std::io::{self, Write};
 
-/// Lists the items of a custom section, and returns whether its name selects a kind. If not, nothing
-/// is listed.
+/// Lists the items of a custom section, and returns whether its name selects a kind. If not,
+/// nothing is listed.
 pub fn list_items(items: &Items<'_>, listing: &mut Listing<impl Write>) -> io::Result<bool> {
     let mut lines = Lines(listing);
     match items {
@@ -34,6 +36,15 @@ pub fn list_items(items: &Items<'_>, listing: &mut Listing<impl Write>) -> io::R
                 .try_for_each(|hint| lines.hint(*function, hint))
         }),
         Items::Dylink(items) => items.iter().try_for_each(|item| lines.dylink(item)),
+        Items::Relocations {
+            section,
+            relocations,
+            ..
+        } => {
+            lines.entry("section", *section, None, "")?;
+            let mut relocations = relocations.iter();
+            relocations.try_for_each(|relocation| lines.relocation(relocation))
+        }
         Items::SourceMappingUrl(url) => lines.named("source map", url, ""),
         Items::ExternalDebugInfo(path) => lines.named("debug file", path, ""),
         Items::BuildId(bytes) => {
@@ -183,6 +194,31 @@ impl<W: Write> Lines<'_, W> {
                 paths.try_for_each(|path| self.named("runtime path", path, ""))
             }
         }
+    }
+
+    fn relocation(&mut self, relocation: &Relocation) -> io::Result<()> {
+        let (kind, offset, index, addend) = match *relocation {
+            Relocation::Plain {
+                kind,
+                offset,
+                index,
+            } => (format!("{kind:?}"), offset, index, None),
+            Relocation::Addend32 {
+                kind,
+                offset,
+                index,
+                addend,
+            } => (format!("{kind:?}"), offset, index, Some(addend.into())),
+            Relocation::Addend64 {
+                kind,
+                offset,
+                index,
+                addend,
+            } => (format!("{kind:?}"), offset, index, Some(addend)),
+        };
+        let addend = addend.map_or(String::new(), |addend: i64| format!(" addend {addend}"));
+        let text = format!("{kind} offset {offset:#x} index {index}{addend}");
+        self.kind("relocation", text)
     }
 
     /// Prints an item that has neither an index nor a name.

@@ -1,5 +1,4 @@
-use Rattle.wasm_base.proofs.Words.{arith, common_steps}
-use Rattle.examples.proofs.Branch.{after_constant, with_block, length_after}
+use Rattle.examples.proofs.Common.{arith, common_steps, after_constant, with_block, length_after}
 use Rattle.examples.proofs.calls.bodies.branch_on_one.Goals as goal
 
 pub returns-clause-body : goal.returns-clause-body

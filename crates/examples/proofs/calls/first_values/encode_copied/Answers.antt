@@ -1,8 +1,5 @@
 -- Written by tools/answers.
-use Rattle.wasm_base.proofs.Words.{arith, encodes_items}
-use Rattle.wasm_code.proofs.Words.{one_constant}
-use Rattle.wasm_sections.proofs.Words.{new_globals, adds_global}
-use Rattle.examples.specs.FirstValues.{copied}
+use Rattle.examples.proofs.Common.{arith, encodes_items, one_constant, new_globals, adds_global, copied}
 use Rattle.examples.proofs.calls.first_values.encode_copied.Goals as goal
 
 pub returns : goal.returns

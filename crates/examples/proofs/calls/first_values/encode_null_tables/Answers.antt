@@ -1,11 +1,5 @@
 -- Written by tools/answers.
-use Rattle.wasm_base.proofs.Words.{arith, [], ◌∷◌, encodes_items, unshared}
-use Rattle.std.specs.declared.alloc.Global.{Global}
-use Rattle.wasm_base.specs.declared.types.AbstractHeapType.TheVariants.{Func}
-use Rattle.wasm_code.proofs.Words.{one_constant, normal_row}
-use Rattle.wasm_insn.specs.declared.instruction.Instruction.TheVariants.{RefNull}
-use Rattle.wasm_sections.proofs.Words.{new_tables, adds_table, adds_table_with_init}
-use Rattle.examples.specs.FirstValues.{null_table, nulled_table}
+use Rattle.examples.proofs.Common.{arith, [], ◌∷◌, Global, encodes_items, unshared, Func, one_constant, normal_row, RefNull, new_tables, adds_table, adds_table_with_init, null_table, nulled_table}
 use Rattle.examples.proofs.calls.first_values.encode_null_tables.Goals as goal
 
 pub returns : goal.returns

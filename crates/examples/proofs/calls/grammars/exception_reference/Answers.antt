@@ -1,5 +1,4 @@
-use Rattle.wasm_base.proofs.Words.{[], ◌∷◌, sym, standard, standard_minimal}
-use Rattle.wasm_base.specs.declared.types.AbstractHeapType.TheVariants.{Exn}
+use Rattle.examples.proofs.Common.{[], ◌∷◌, sym, standard, standard_minimal, Exn}
 use Rattle.examples.proofs.calls.grammars.exception_reference.Goals as goal
 
 pub returns : goal.returns

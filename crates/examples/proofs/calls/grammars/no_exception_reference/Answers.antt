@@ -1,5 +1,4 @@
-use Rattle.wasm_base.proofs.Words.{[]}
-use Rattle.wasm_base.specs.declared.types.AbstractHeapType.TheVariants.{Exn}
+use Rattle.examples.proofs.Common.{[], Exn}
 use Rattle.examples.proofs.calls.grammars.no_exception_reference.Goals as goal
 
 pub returns : goal.returns

@@ -1,5 +1,4 @@
-use Rattle.wasm_base.proofs.Words.{arith, common_steps}
-use Rattle.examples.proofs.OneByte.{one_byte}
+use Rattle.examples.proofs.Common.{arith, common_steps, one_byte}
 use Rattle.examples.proofs.calls.instructions.sum.Goals as goal
 
 pub returns-clause-bytes : goal.returns-clause-bytes

@@ -1,7 +1,5 @@
-use Rattle.wasm_base.proofs.Words.{[], ◌∷◌, ◌++◌, ◌<◌, ◌≤◌, length, ◌∙◌, arith, standard, Decodes}
-use Rattle.std.proofs.lemmas.List.{length-append}
-use Rattle.wasm_code.proofs.Words.{ahead, continues, ended, stopped, of_some, body_fills, body_no_code}
-use Rattle.wasm_insn.proofs.Words.{Plain, instruction, table}
+use Rattle.examples.proofs.Common.{[], ◌∷◌, ◌++◌, ◌<◌, ◌≤◌, length, ◌∙◌, arith, standard, Decodes, length-append, ahead, continues, ended, stopped, of_some, body_fills, body_no_code, Plain}
+use Rattle.examples.proofs.Common.{instruction, table}
 use Rattle.examples.proofs.calls.sections.count_in_body.Goals as goal
 
 pub returns-in-Ok-None-clause-found : goal.returns-in-Ok-None-clause-found

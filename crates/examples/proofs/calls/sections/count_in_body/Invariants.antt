@@ -1,6 +1,4 @@
-use Rattle.wasm_base.proofs.Words.{standard, ◌≡◌, ◌≤◌, ◌-◌, List, length}
-use Rattle.wasm_insn.proofs.Words.{Plain}
-use Rattle.wasm_code.proofs.Words.{ahead, HasWalked}
+use Rattle.examples.proofs.Common.{standard, ◌≡◌, ◌≤◌, ◌-◌, List, length, Plain, ahead, HasWalked}
 use Rattle.examples.proofs.calls.sections.count_in_body.Given as goal
 
 abbrev pub invariant-loop-instructions : goal.invariant-loop-instructions

@@ -1,7 +1,5 @@
-use Rattle.wasm_base.proofs.Words.{ap, ap₂, sym, drop, ◌++◌, ◌∙◌, header}
+use Rattle.examples.proofs.Common.{ap, ap₂, sym, drop, ◌++◌, ◌∙◌, header, next_section, payload_sliced}
 use Rattle.wasm_reader.specs.Words.{ahead}
-use Rattle.wasm_reader.proofs.IteratingLaws.{next_section}
-use Rattle.examples.proofs.IteratedLaws.{payload_sliced}
 use Rattle.examples.proofs.calls.sections.first_payload.Goals as goal
 
 pub returns-in_ok-section-in-Some : goal.returns-in_ok-section-in-Some

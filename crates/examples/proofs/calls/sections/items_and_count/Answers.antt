@@ -1,6 +1,4 @@
-use Rattle.wasm_base.proofs.Words.{standard, ap, ◌∙◌}
-use Rattle.wasm_reader.specs.Words.{contents_of, number_in}
-use Rattle.wasm_reader.proofs.KindLaws.{content_whole}
+use Rattle.examples.proofs.Common.{standard, ap, ◌∙◌, contents_of, number_in, content_whole}
 use Rattle.examples.proofs.calls.sections.items_and_count.Goals as goal
 
 pub returns : goal.returns

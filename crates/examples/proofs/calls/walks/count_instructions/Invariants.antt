@@ -1,6 +1,4 @@
-use Rattle.wasm_base.proofs.Words.{padded, ◌≡◌, ◌≤◌, ◌-◌, List, length}
-use Rattle.wasm_insn.proofs.Words.{Plain}
-use Rattle.wasm_code.proofs.Words.{ahead, HasWalked}
+use Rattle.examples.proofs.Common.{padded, ◌≡◌, ◌≤◌, ◌-◌, List, length, Plain, ahead, HasWalked}
 use Rattle.examples.proofs.calls.walks.count_instructions.Given as goal
 
 abbrev pub invariant-loop-instructions : goal.invariant-loop-instructions

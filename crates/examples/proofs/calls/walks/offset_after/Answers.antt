@@ -1,7 +1,5 @@
-use Rattle.wasm_base.proofs.Words.{◌≡◌, ◌<◌, ◌≤◌, [], ◌∷◌, length, drop, refl, subst, ◌∙◌, arith, padded, u32, pair, vec, Decodes, val_type}
-use Rattle.std.proofs.lemmas.List.{length-append}
-use Rattle.wasm_code.proofs.Words.{and_then, HasVisited, ahead, of_some}
-use Rattle.wasm_insn.proofs.Words.{Plain, instruction, table}
+use Rattle.examples.proofs.Common.{◌≡◌, ◌<◌, ◌≤◌, [], ◌∷◌, length, drop, refl, subst, ◌∙◌, arith, padded, u32, pair, vec, Decodes, val_type, length-append, and_then, HasVisited, ahead, of_some, Plain}
+use Rattle.examples.proofs.Common.{instruction, table}
 use Rattle.examples.proofs.calls.walks.offset_after.Goals as goal
 
 pub loop-taken-init : goal.loop-taken-init

@@ -1,5 +1,4 @@
-use Rattle.wasm_base.proofs.Words.{◌≡◌, ◌≤◌, length}
-use Rattle.wasm_code.proofs.Words.{Body, HasVisited}
+use Rattle.examples.proofs.Common.{◌≡◌, ◌≤◌, length, Body, HasVisited}
 use Rattle.examples.proofs.calls.walks.offset_after.Given as goal
 
 -- The instructions that the reader has visited.

@@ -1,6 +1,4 @@
-use Rattle.wasm_base.proofs.Words.{size_prefixed_in, size_prefixed_encoding, standard, subst, sym}
-use Rattle.wasm_code.proofs.Words.{body}
-use Rattle.examples.specs.Coverage.{covered_body}
+use Rattle.examples.proofs.Common.{size_prefixed_in, size_prefixed_encoding, standard, subst, sym, body, covered_body}
 use Rattle.examples.proofs.coverage.bodies.add_covered.Goals as goal
 
 pub returns-in-Ok-clause-found : goal.returns-in-Ok-clause-found

@@ -1,5 +1,4 @@
-use Rattle.wasm_base.proofs.Words.{ap, rules}
-use Rattle.examples.proofs.CoverageLaws.{counting_gained}
+use Rattle.examples.proofs.Common.{ap, rules, counting_gained}
 use Rattle.examples.proofs.coverage.bodies.append_counting.Goals as goal
 
 pub returns : goal.returns

@@ -1,5 +1,4 @@
-use Rattle.wasm_base.proofs.Words.{take, drop, take-append-drop, ap, ap₂, sym, subst, ◌∙◌, ◌++◌, pair, u32, val_type, vec, standard, Decodes}
-use Rattle.examples.proofs.CoverageLaws.{covered_encodes}
+use Rattle.examples.proofs.Common.{take, drop, take-append-drop, ap, ap₂, sym, subst, ◌∙◌, ◌++◌, pair, u32, val_type, vec, standard, Decodes, covered_encodes}
 use Rattle.examples.proofs.coverage.bodies.covered_body.Goals as goal
 
 pub returns-in-Ok-clause-found : goal.returns-in-Ok-clause-found

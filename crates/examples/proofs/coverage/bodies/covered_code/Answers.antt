@@ -1,5 +1,4 @@
-use Rattle.wasm_base.proofs.Words.{inl, inr}
-use Rattle.examples.proofs.CoverageLaws.{body_shrinks, covered_none, covered_more, covered_all, given_body, given_error, error_stays, read_stays, no_number, no_error, no_body}
+use Rattle.examples.proofs.Common.{inl, inr, body_shrinks, covered_none, covered_more, covered_all, given_body, given_error, error_stays, read_stays, no_number, no_error, no_body}
 use Rattle.examples.proofs.coverage.bodies.covered_code.Goals as goal
 
 pub loop-code-init : goal.loop-code-init

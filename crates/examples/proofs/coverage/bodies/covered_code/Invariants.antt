@@ -1,6 +1,4 @@
-use Rattle.wasm_base.proofs.Words.{List, length, size_prefixed, standard, vec}
-use Rattle.wasm_code.proofs.Words.{Body, body}
-use Rattle.examples.proofs.CoverageLaws.{HasCovered}
+use Rattle.examples.proofs.Common.{List, length, size_prefixed, standard, vec, Body, body, HasCovered}
 use Rattle.examples.proofs.coverage.bodies.covered_code.Given as goal
 
 abbrev pub invariant-loop-code : goal.invariant-loop-code

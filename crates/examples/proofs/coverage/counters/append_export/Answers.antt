@@ -1,6 +1,5 @@
-use Rattle.std.proofs.Common.{◌∷◌, ap, ◌++◌, ◌∙◌, decimal}
-use Rattle.wasm_base.proofs.Words.{on_ok, unsigned_encoding}
-use Rattle.examples.proofs.CoverageLaws.{export_gained}
+use Rattle.examples.proofs.Common.{decimal, on_ok, unsigned_encoding, export_gained}
+use Rattle.std.proofs.Common.{◌∷◌, ap, ◌++◌, ◌∙◌}
 use Rattle.examples.proofs.coverage.counters.append_export.Goals as goal
 
 pub returns : goal.returns

@@ -1,8 +1,4 @@
-use Rattle.wasm_base.proofs.Words.{arith, ints, ap, ◌∙◌, ◌++◌, ◌≡◌}
-use Rattle.wasm_code.proofs.Words.{one_constant, expression_encoding}
-use Rattle.wasm_sections.specs.Words.{global_encoding}
-use Rattle.examples.specs.Coverage.{counter}
-use Rattle.examples.proofs.CoverageLaws.{counter_encodes}
+use Rattle.examples.proofs.Common.{arith, ints, ap, ◌∙◌, ◌++◌, ◌≡◌, one_constant, expression_encoding, global_encoding, counter, counter_encodes}
 use Rattle.examples.proofs.coverage.counters.counter.Goals as goal
 
 pub returns : goal.returns

@@ -1,7 +1,4 @@
-use Rattle.wasm_base.proofs.Words.{subst, sym, members, standard}
-use Rattle.wasm_sections.proofs.Words.{global_item}
-use Rattle.examples.specs.Coverage.{counter}
-use Rattle.examples.proofs.CoverageLaws.{members_gain, replicate_push}
+use Rattle.examples.proofs.Common.{subst, sym, members, standard, global_item, counter, members_gain, replicate_push}
 use Rattle.examples.proofs.coverage.counters.counters.Goals as goal
 
 pub loop-done-preserved : goal.loop-done-preserved

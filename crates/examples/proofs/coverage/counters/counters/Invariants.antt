@@ -1,6 +1,4 @@
-use Rattle.wasm_base.proofs.Words.{members, standard, replicate}
-use Rattle.wasm_sections.proofs.Words.{global_item}
-use Rattle.examples.specs.Coverage.{counter}
+use Rattle.examples.proofs.Common.{members, standard, replicate, global_item, counter}
 use Rattle.examples.proofs.coverage.counters.counters.Given as goal
 
 abbrev pub invariant-loop-done : goal.invariant-loop-done

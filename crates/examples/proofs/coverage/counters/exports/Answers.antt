@@ -1,6 +1,4 @@
-use Rattle.wasm_base.proofs.Words.{subst, members, standard}
-use Rattle.wasm_sections.proofs.Words.{export}
-use Rattle.examples.proofs.CoverageLaws.{members_gain, exports_push}
+use Rattle.examples.proofs.Common.{subst, members, standard, export, members_gain, exports_push}
 use Rattle.examples.proofs.coverage.counters.exports.Goals as goal
 
 pub loop-i-preserved : goal.loop-i-preserved

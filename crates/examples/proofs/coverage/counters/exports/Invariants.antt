@@ -1,6 +1,4 @@
-use Rattle.wasm_base.proofs.Words.{members, standard}
-use Rattle.wasm_sections.proofs.Words.{export}
-use Rattle.examples.specs.Coverage.{counter_exports}
+use Rattle.examples.proofs.Common.{members, standard, export, counter_exports}
 use Rattle.examples.proofs.coverage.counters.exports.Given as goal
 
 abbrev pub invariant-loop-i : goal.invariant-loop-i

@@ -1,7 +1,6 @@
-use Rattle.wasm_base.proofs.Words.{[], ◌++◌, ◌+◌, ap₂, refl, sym, subst, ◌∙◌}
-use Rattle.wasm_reader.specs.Words.{IsSection}
-use Rattle.examples.specs.Coverage.{AreImports, HasDecoding, row}
-use Rattle.examples.proofs.CoverageLaws.{each_at, error_stays, imported_join, imports_none, imports_skip, imports_take, no_imports, of_images, rows_more}
+use Rattle.examples.proofs.Common.{[], ◌++◌, ap₂, refl, sym, subst, ◌∙◌, IsSection, AreImports, HasDecoding, row, each_at, error_stays, imported_join, imports_none, imports_skip, imports_take}
+use Rattle.examples.proofs.Common.{no_imports, of_images, rows_more}
+use Rattle.wasm_base.proofs.Words.{◌+◌}
 use Rattle.examples.proofs.coverage.imports.imported.Goals as goal
 
 pub loop-section-init : goal.loop-section-init

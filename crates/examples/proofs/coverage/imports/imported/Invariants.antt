@@ -1,7 +1,4 @@
-use Rattle.wasm_base.proofs.Words.{◌≡◌, List, map, take, AllByRecursion}
-use Rattle.wasm_reader.specs.Words.{IsSection}
-use Rattle.wasm_sections.specs.Words.{ImportItem}
-use Rattle.examples.specs.Coverage.{AreImports, imported, row}
+use Rattle.examples.proofs.Common.{◌≡◌, List, map, take, AllByRecursion, IsSection, ImportItem, AreImports, imported, row}
 use Rattle.examples.proofs.coverage.imports.imported.Given as goal
 
 abbrev pub invariant-loop-section : goal.invariant-loop-section

@@ -1,6 +1,4 @@
-use Rattle.wasm_base.proofs.Words.{◌≡◌, map, take}
-use Rattle.wasm_sections.specs.Words.{imports_item}
-use Rattle.examples.specs.Coverage.{imported}
+use Rattle.examples.proofs.Common.{◌≡◌, map, take, imports_item, imported}
 use Rattle.examples.proofs.coverage.imports.imported_by.Given as goal
 
 abbrev pub invariant-loop-entry : goal.invariant-loop-entry

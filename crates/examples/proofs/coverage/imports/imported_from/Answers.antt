@@ -1,11 +1,7 @@
-use Rattle.std.proofs.Common.{arith, ap, sym, ◌∙◌, ◌+◌, subst, count_by, take}
-use Rattle.wasm_base.proofs.Words.{take_all}
-use Rattle.std.proofs.lemmas.List.Sums.{count_by_more_no, count_by_more_yes}
-use Rattle.wasm_base.specs.Cow.{items_of}
-use Rattle.wasm_sections.specs.Imports.{compact_item, imports_item}
-use Rattle.examples.specs.Coverage.{imported_from, is_in}
-use Rattle.examples.proofs.CoverageLaws.{counted_images}
+use Rattle.examples.proofs.Common.{◌+◌, count_by, take_all, count_by_more_no, count_by_more_yes, items_of, compact_item, imported_from, is_in, counted_images}
 use Rattle.examples.proofs.coverage.imports.imported_from.Goals.{then-contains, else-contains}
+use Rattle.std.proofs.Common.{arith, ap, sym, ◌∙◌, subst, take}
+use Rattle.wasm_sections.specs.Imports.{imports_item}
 use Rattle.examples.proofs.coverage.imports.imported_from.Goals as goal
 
 pub loop-item-preserved : goal.loop-item-preserved

@@ -1,6 +1,4 @@
-use Rattle.std.proofs.Common.{count_by}
-use Rattle.wasm_base.proofs.Words.{◌≡◌, ◌≤◌, take}
-use Rattle.examples.specs.Coverage.{is_in}
+use Rattle.examples.proofs.Common.{count_by, ◌≡◌, ◌≤◌, take, is_in}
 use Rattle.examples.proofs.coverage.imports.imported_from.Given as goal
 
 abbrev pub invariant-loop-item : goal.invariant-loop-item

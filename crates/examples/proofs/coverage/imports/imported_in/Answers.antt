@@ -1,8 +1,4 @@
-use Rattle.wasm_base.proofs.Words.{map, ap, ◌∙◌}
-use Rattle.wasm_reader.specs.Words.{contents_of}
-use Rattle.wasm_sections.specs.Words.{imports_item}
-use Rattle.examples.specs.Coverage.{imported}
-use Rattle.examples.proofs.CoverageLaws.{imports_else, imports_number}
+use Rattle.examples.proofs.Common.{map, ap, ◌∙◌, contents_of, imports_item, imported, imports_else, imports_number}
 use Rattle.examples.proofs.coverage.imports.imported_in.Goals as goal
 
 pub returns-in-Some-clause-found : goal.returns-in-Some-clause-found

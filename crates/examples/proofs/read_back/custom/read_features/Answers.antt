@@ -1,12 +1,10 @@
 -- Written by tools/answers.
-use Rattle.wasm_base.proofs.Words.{◌++◌, ap, ◌∙◌}
-use Rattle.wasm_reader.proofs.Words.{cause_stays, written, decodes_written, written_stands, shortens_written}
-use Rattle.wasm_reader.specs.Kinds.{TargetFeatures}
+use Rattle.examples.proofs.Common.{◌++◌, ap, ◌∙◌, cause_stays, TargetFeatures, written, decodes_written, written_not_rejected, shortens_written}
 use Rattle.wasm_reader.specs.declared.kinds.SectionKind.TheVariants as kinds
 use Rattle.examples.proofs.read_back.custom.read_features.Goals as goal
 
 pub returns-in_err-items-clause-memory : goal.returns-in_err-items-clause-memory
-returns-in_err-items-clause-memory g c = cause_stays c.from_residual-in_err-items.result _ c.from_residual-in_err-items.ensures.1 λ n. written_stands kinds.TargetFeatures (c.in_err-items.ensures.none n) (written TargetFeatures c.requires c.in_ok-write_features.ensures)
+returns-in_err-items-clause-memory g c = cause_stays c.from_residual-in_err-items.result _ c.from_residual-in_err-items.ensures.1 λ n. written_not_rejected kinds.TargetFeatures (c.in_err-items.ensures.none n) (written TargetFeatures c.requires c.in_ok-write_features.ensures)
 
 pub returns-clause-read : goal.returns-clause-read
 returns-clause-read g c = decodes_written c.in_ok-items.ensures.found.1 (written TargetFeatures c.requires c.in_ok-write_features.ensures)

@@ -1,7 +1,5 @@
 -- Written by tools/answers.
-use Rattle.wasm_base.proofs.Words.{arith}
-use Rattle.wasm_custom.proofs.Words.{new_symbols, adds_symbol}
-use Rattle.examples.specs.Customs.{data_symbol}
+use Rattle.examples.proofs.Common.{arith, new_symbols, adds_symbol, data_symbol}
 use Rattle.examples.proofs.read_back.custom.symbols.Goals as goal
 
 pub returns : goal.returns

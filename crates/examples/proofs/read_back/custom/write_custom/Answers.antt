@@ -1,6 +1,5 @@
 -- Written by tools/answers.
-use Rattle.wasm_base.proofs.Words.{refl, custom}
-use Rattle.wasm_custom.proofs.Words.{encodes_custom}
+use Rattle.examples.proofs.Common.{refl, custom, encodes_custom}
 use Rattle.examples.proofs.read_back.custom.write_custom.Goals as goal
 
 pub returns : goal.returns

@@ -1,7 +1,5 @@
 -- Written by tools/answers.
-use Rattle.wasm_base.proofs.Words.{refl, codes, ascii, size_prefixed}
-use Rattle.wasm_custom.proofs.Words.{new_features, adds_feature, encodes_entries, features_payload}
-use Rattle.wasm_custom.specs.declared.target_features.FeaturePrefix.TheVariants.{Used, Disallowed}
+use Rattle.examples.proofs.Common.{refl, codes, ascii, size_prefixed, new_features, adds_feature, encodes_entries, features_payload, Used, Disallowed}
 use Rattle.examples.proofs.read_back.custom.write_features.Goals as goal
 
 pub returns : goal.returns

@@ -1,6 +1,4 @@
-use Rattle.wasm_base.proofs.Words.{[], ◌∷◌, arith, ap, ◌∙◌, copied_source, iter_rest, size_prefixed}
-use Rattle.wasm_custom.proofs.Words.{hints_payload, new_hints, adds_hints, adds_hints_of, copied_gives, encodes_entries}
-use Rattle.examples.specs.Customs.{likely}
+use Rattle.examples.proofs.Common.{[], ◌∷◌, arith, ap, ◌∙◌, copied_source, iter_rest, size_prefixed, hints_payload, new_hints, adds_hints, adds_hints_of, copied_gives, encodes_entries, likely}
 use Rattle.examples.proofs.read_back.custom.write_hints.Goals as goal
 
 pub returns : goal.returns

@@ -1,6 +1,5 @@
 -- Written by tools/answers.
-use Rattle.wasm_base.proofs.Words.{refl, codes, ascii, size_prefixed}
-use Rattle.wasm_custom.proofs.Words.{new_linking, adds_symbols, adds_target, encodes_entries, linking_payload}
+use Rattle.examples.proofs.Common.{refl, codes, ascii, size_prefixed, new_linking, adds_symbols, adds_target, encodes_entries, linking_payload}
 use Rattle.examples.proofs.read_back.custom.write_linking.Goals as goal
 
 pub returns : goal.returns

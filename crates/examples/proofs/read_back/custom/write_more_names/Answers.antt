@@ -1,6 +1,5 @@
 -- Written by tools/answers.
-use Rattle.wasm_base.proofs.Words.{refl, size_prefixed}
-use Rattle.wasm_custom.proofs.Words.{new_names, adds_module_name, adds_other_names, encodes_entries, name_payload}
+use Rattle.examples.proofs.Common.{refl, size_prefixed, new_names, adds_module_name, adds_other_names, encodes_entries, name_payload}
 use Rattle.examples.proofs.read_back.custom.write_more_names.Goals as goal
 
 pub returns : goal.returns

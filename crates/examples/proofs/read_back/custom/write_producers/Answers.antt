@@ -1,6 +1,5 @@
 -- Written by tools/answers.
-use Rattle.wasm_base.proofs.Words.{refl, codes, ascii, size_prefixed}
-use Rattle.wasm_custom.proofs.Words.{new_field, adds_value, new_producers, adds_field, encodes_entries, producers_payload}
+use Rattle.examples.proofs.Common.{refl, codes, ascii, size_prefixed, new_field, adds_value, new_producers, adds_field, encodes_entries, producers_payload}
 use Rattle.examples.proofs.read_back.custom.write_producers.Goals as goal
 
 pub returns : goal.returns

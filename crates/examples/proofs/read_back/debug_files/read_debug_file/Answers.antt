@@ -1,12 +1,10 @@
 -- Written by tools/answers.
-use Rattle.wasm_base.proofs.Words.{◌++◌, ap, ◌∙◌}
-use Rattle.wasm_reader.proofs.Words.{cause_stays, written, decodes_written, written_stands, shortens_written}
-use Rattle.wasm_reader.specs.Kinds.{ExternalDebugInfo}
+use Rattle.examples.proofs.Common.{◌++◌, ap, ◌∙◌, cause_stays, ExternalDebugInfo, written, decodes_written, written_not_rejected, shortens_written}
 use Rattle.wasm_reader.specs.declared.kinds.SectionKind.TheVariants as kinds
 use Rattle.examples.proofs.read_back.debug_files.read_debug_file.Goals as goal
 
 pub returns-in_err-items-clause-memory : goal.returns-in_err-items-clause-memory
-returns-in_err-items-clause-memory g c = cause_stays c.from_residual-in_err-items.result _ c.from_residual-in_err-items.ensures.1 λ n. written_stands kinds.ExternalDebugInfo (c.in_err-items.ensures.none n) (written ExternalDebugInfo c.requires c.in_ok-write_debug_file.ensures)
+returns-in_err-items-clause-memory g c = cause_stays c.from_residual-in_err-items.result _ c.from_residual-in_err-items.ensures.1 λ n. written_not_rejected kinds.ExternalDebugInfo (c.in_err-items.ensures.none n) (written ExternalDebugInfo c.requires c.in_ok-write_debug_file.ensures)
 
 pub returns-clause-read : goal.returns-clause-read
 returns-clause-read g c = decodes_written c.in_ok-items.ensures.found.1 (written ExternalDebugInfo c.requires c.in_ok-write_debug_file.ensures)

@@ -1,5 +1,4 @@
-use Rattle.wasm_base.proofs.Words.{refl, size_prefixed}
-use Rattle.wasm_custom.proofs.Words.{encodes_custom, build_id_payload}
+use Rattle.examples.proofs.Common.{refl, size_prefixed, encodes_custom, build_id_payload}
 use Rattle.examples.proofs.read_back.debug_files.write_build_id.Goals as goal
 
 pub returns : goal.returns

@@ -1,7 +1,5 @@
 -- Written by tools/answers.
-use Rattle.wasm_base.proofs.Words.{arith, adds_item}
-use Rattle.wasm_sections.proofs.Words.{new_tags}
-use Rattle.examples.specs.Declarations.{thrown}
+use Rattle.examples.proofs.Common.{arith, adds_item, new_tags, thrown}
 use Rattle.examples.proofs.read_back.declared.tags.Goals as goal
 
 pub returns : goal.returns

@@ -1,7 +1,5 @@
 -- Written by tools/answers.
-use Rattle.wasm_base.proofs.Words.{arith, encodes_items}
-use Rattle.wasm_sections.proofs.Words.{new_exports, adds_export}
-use Rattle.examples.specs.Declarations.{exported}
+use Rattle.examples.proofs.Common.{arith, encodes_items, new_exports, adds_export, exported}
 use Rattle.examples.proofs.read_back.declared.write_exports.Goals as goal
 
 pub returns : goal.returns

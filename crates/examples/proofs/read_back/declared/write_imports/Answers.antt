@@ -1,7 +1,5 @@
 -- Written by tools/answers.
-use Rattle.wasm_base.proofs.Words.{refl, arith, ascii, adds_item, encodes_items}
-use Rattle.wasm_sections.proofs.Words.{new_imports}
-use Rattle.examples.specs.Declarations.{imported_function}
+use Rattle.examples.proofs.Common.{refl, arith, ascii, adds_item, encodes_items, new_imports, imported_function}
 use Rattle.examples.proofs.read_back.declared.write_imports.Goals as goal
 
 pub returns : goal.returns

@@ -1,7 +1,5 @@
 -- Written by tools/answers.
-use Rattle.wasm_base.proofs.Words.{arith, adds_item, encodes_items}
-use Rattle.wasm_sections.proofs.Words.{new_memories}
-use Rattle.examples.specs.Declarations.{pages, two_pages}
+use Rattle.examples.proofs.Common.{arith, adds_item, encodes_items, new_memories, pages, two_pages}
 use Rattle.examples.proofs.read_back.declared.write_memories.Goals as goal
 
 pub returns : goal.returns

@@ -1,5 +1,5 @@
 -- Written by tools/answers.
-use Rattle.wasm_base.proofs.Words.{encodes_items}
+use Rattle.examples.proofs.Common.{encodes_items}
 use Rattle.examples.proofs.read_back.declared.write_tags.Goals as goal
 
 pub returns : goal.returns

@@ -1,6 +1,5 @@
-use Rattle.wasm_base.proofs.Words.{[], ◌∷◌, arith, rules, All-nil}
-use Rattle.wasm_types.proofs.Words.{new_types, same_types, counted, listed_array, adds_shape, adds_type, encodes_types, IsField, single, array, structure}
-use Rattle.examples.specs.Declarations.{byte_field, open_bytes}
+use Rattle.examples.proofs.Common.{[], ◌∷◌, arith, rules, All-nil, new_types, same_types, counted, listed_array, adds_shape, adds_type, encodes_types, IsField, single, array, structure, byte_field}
+use Rattle.examples.proofs.Common.{open_bytes}
 use Rattle.examples.proofs.read_back.declared.write_types.Goals as goal
 
 pub returns : goal.returns

@@ -1,6 +1,5 @@
 -- Written by tools/answers.
-use Rattle.wasm_base.proofs.Words.{new_module, finished}
-use Rattle.wasm_custom.proofs.Words.{gains_process, gains_modules, gains_instances, gains_stack}
+use Rattle.examples.proofs.Common.{new_module, finished, gains_process, gains_modules, gains_instances, gains_stack}
 use Rattle.examples.proofs.read_back.dumps.core_dump.Goals as goal
 
 pub returns : goal.returns

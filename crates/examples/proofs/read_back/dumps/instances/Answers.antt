@@ -1,6 +1,5 @@
-use Rattle.wasm_base.proofs.Words.{[], ◌∷◌, arith, ap, ◌∙◌, copied_source, iter_rest, drained_vec}
-use Rattle.wasm_custom.proofs.Words.{new_instances, adds_instance, adds_instance_of, vec_gives, copied_gives}
-use Rattle.examples.specs.Dumps.{first_instance, other_instance}
+use Rattle.examples.proofs.Common.{[], ◌∷◌, arith, ap, ◌∙◌, copied_source, iter_rest, drained_vec, new_instances, adds_instance, adds_instance_of, vec_gives, copied_gives, first_instance}
+use Rattle.examples.proofs.Common.{other_instance}
 use Rattle.examples.proofs.read_back.dumps.instances.Goals as goal
 
 pub returns : goal.returns

@@ -1,6 +1,5 @@
 -- Written by tools/answers.
-use Rattle.wasm_base.proofs.Words.{refl, codes, ascii}
-use Rattle.wasm_custom.proofs.Words.{new_modules, adds_core_module}
+use Rattle.examples.proofs.Common.{refl, codes, ascii, new_modules, adds_core_module}
 use Rattle.examples.proofs.read_back.dumps.modules.Goals as goal
 
 pub returns : goal.returns

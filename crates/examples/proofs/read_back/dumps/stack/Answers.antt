@@ -1,7 +1,5 @@
-use Rattle.wasm_base.proofs.Words.{[], ◌∷◌, pos, arith, ap, ◌∙◌, ints, copied_source, iter_rest}
+use Rattle.examples.proofs.Common.{[], ◌∷◌, pos, arith, ap, ◌∙◌, ints, copied_source, iter_rest, new_stack, adds_frame, adds_frame_of, copied_gives, array_gives, first_frame, other_frame}
 use Rattle.wasm_custom.specs.declared.core_values.CoreDumpValue.TheVariants.{I32}
-use Rattle.wasm_custom.proofs.Words.{new_stack, adds_frame, adds_frame_of, copied_gives, array_gives}
-use Rattle.examples.specs.Dumps.{first_frame, other_frame}
 use Rattle.examples.proofs.read_back.dumps.stack.Goals as goal
 
 pub returns : goal.returns

@@ -1,6 +1,5 @@
 -- Written by tools/answers.
-use Rattle.wasm_base.proofs.Words.{size_prefixed}
-use Rattle.wasm_custom.proofs.Words.{encodes_entries, modules_payload}
+use Rattle.examples.proofs.Common.{size_prefixed, encodes_entries, modules_payload}
 use Rattle.examples.proofs.read_back.dumps.write_modules.Goals as goal
 
 pub returns : goal.returns

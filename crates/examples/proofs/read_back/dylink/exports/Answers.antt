@@ -1,6 +1,4 @@
-use Rattle.wasm_base.proofs.Words.{refl, arith, ascii}
-use Rattle.wasm_custom.proofs.Words.{new_dylink_exports, adds_dylink_export}
-use Rattle.examples.specs.Libraries.{flagged_export}
+use Rattle.examples.proofs.Common.{refl, arith, ascii, new_dylink_exports, adds_dylink_export, flagged_export}
 use Rattle.examples.proofs.read_back.dylink.exports.Goals as goal
 
 pub returns : goal.returns

@@ -1,5 +1,4 @@
-use Rattle.wasm_base.proofs.Words.{refl, codes, ascii}
-use Rattle.wasm_custom.proofs.Words.{new_runtime_path, adds_folder}
+use Rattle.examples.proofs.Common.{refl, codes, ascii, new_runtime_path, adds_folder}
 use Rattle.examples.proofs.read_back.dylink.folders.Goals as goal
 
 pub returns : goal.returns

@@ -1,6 +1,4 @@
-use Rattle.wasm_base.proofs.Words.{refl, arith, ascii}
-use Rattle.wasm_custom.proofs.Words.{new_dylink_imports, adds_dylink_import}
-use Rattle.examples.specs.Libraries.{weak_import}
+use Rattle.examples.proofs.Common.{refl, arith, ascii, new_dylink_imports, adds_dylink_import, weak_import}
 use Rattle.examples.proofs.read_back.dylink.imports.Goals as goal
 
 pub returns : goal.returns

@@ -1,5 +1,4 @@
-use Rattle.wasm_base.proofs.Words.{arith, size_prefixed}
-use Rattle.wasm_custom.proofs.Words.{new_dylink, adds_dylink_memory, adds_needed, adds_exports_flags, adds_imports_flags, adds_runtime_path, encodes_entries, dylink_payload}
+use Rattle.examples.proofs.Common.{arith, size_prefixed, new_dylink, adds_dylink_memory, adds_needed, adds_exports_flags, adds_imports_flags, adds_runtime_path, encodes_entries, dylink_payload}
 use Rattle.examples.proofs.read_back.dylink.write_dylink.Goals as goal
 
 pub returns : goal.returns

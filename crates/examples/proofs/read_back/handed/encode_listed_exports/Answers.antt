@@ -1,5 +1,4 @@
-use Rattle.wasm_base.proofs.Words.{each, contains_padded, adds_items_padded, encodes_items_padded}
-use Rattle.wasm_sections.proofs.Words.{new_exports, exports_section, IsExport}
+use Rattle.examples.proofs.Common.{each, contains_padded, adds_items_padded, encodes_items_padded, new_exports, exports_section, IsExport}
 use Rattle.examples.proofs.read_back.handed.encode_listed_exports.Goals as goal
 
 pub returns-in-Ok : goal.returns-in-Ok

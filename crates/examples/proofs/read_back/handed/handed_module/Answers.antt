@@ -1,7 +1,4 @@
-use Rattle.wasm_base.proofs.Words.{[], ◌∷◌, ◌++◌, ◌∙◌, ap, new_module, finished}
-use Rattle.wasm_code.proofs.Words.{gains_raw_code}
-use Rattle.wasm_custom.proofs.Words.{gains_given, gains_given_raw, named_encoding}
-use Rattle.wasm_sections.proofs.Words.{gains_tags}
+use Rattle.examples.proofs.Common.{[], ◌∷◌, ◌++◌, ◌∙◌, ap, new_module, finished, gains_raw_code, gains_given, gains_given_raw, named_encoding, gains_tags}
 use Rattle.examples.proofs.read_back.handed.handed_module.Goals as goal
 
 pub returns : goal.returns

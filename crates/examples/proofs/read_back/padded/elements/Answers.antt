@@ -1,7 +1,4 @@
-use Rattle.wasm_base.proofs.Words.{[], ◌∷◌, None, arith, IsUnsignedInRange, contains_padded}
-use Rattle.wasm_code.proofs.Words.{all_of}
-use Rattle.wasm_sections.proofs.Words.{new_elements, adds_element_padded, elements_section, active, functions}
-use Rattle.examples.specs.ReadPadded.{zero_offset}
+use Rattle.examples.proofs.Common.{[], ◌∷◌, None, arith, IsUnsignedInRange, contains_padded, all_of, new_elements, adds_element_padded, elements_section, active, functions, zero_offset}
 use Rattle.examples.proofs.read_back.padded.elements.Goals as goal
 
 pub returns : goal.returns

@@ -1,5 +1,4 @@
-use Rattle.wasm_base.proofs.Words.{[], ◌∷◌, refl, arith, u32, name, padded, ascii, contains_padded, u32_small}
-use Rattle.wasm_custom.proofs.Words.{new_names, adds_raw_names_inside, names_section, name_map, indirect_map}
+use Rattle.examples.proofs.Common.{[], ◌∷◌, refl, arith, u32, name, padded, ascii, contains_padded, u32_small, new_names, adds_raw_names_inside, names_section, name_map, indirect_map}
 use Rattle.examples.proofs.read_back.padded.names.Goals as goal
 
 pub returns : goal.returns

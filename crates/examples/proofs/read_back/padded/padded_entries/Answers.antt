@@ -1,6 +1,4 @@
-use Rattle.wasm_base.proofs.Words.{new_module, finished, gains_items_padded}
-use Rattle.wasm_custom.proofs.Words.{gains_names_padded}
-use Rattle.wasm_sections.proofs.Words.{tables_section, elements_section, segments_section}
+use Rattle.examples.proofs.Common.{new_module, finished, gains_items_padded, gains_names_padded, tables_section, elements_section, segments_section}
 use Rattle.examples.proofs.read_back.padded.padded_entries.Goals as goal
 
 pub returns : goal.returns

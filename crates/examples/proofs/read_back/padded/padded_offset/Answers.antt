@@ -1,6 +1,4 @@
-use Rattle.wasm_base.proofs.Words.{[], ◌∷◌, pos, refl, arith, ints, s32, padded}
-use Rattle.wasm_code.proofs.Words.{padded_i32_const, raw_constant}
-use Rattle.examples.specs.ReadPadded.{zero_offset}
+use Rattle.examples.proofs.Common.{[], ◌∷◌, pos, refl, arith, ints, s32, padded, padded_i32_const, raw_constant, zero_offset}
 use Rattle.examples.proofs.read_back.padded.padded_offset.Goals as goal
 
 pub returns : goal.returns

@@ -1,6 +1,4 @@
-use Rattle.wasm_base.proofs.Words.{arith, ap, ◌∙◌, copied_source, iter_rest, contains_padded}
-use Rattle.wasm_sections.proofs.Words.{new_segments, copied_added, adds_active_padded, segments_section}
-use Rattle.examples.specs.ReadPadded.{zero_offset}
+use Rattle.examples.proofs.Common.{arith, ap, ◌∙◌, copied_source, iter_rest, contains_padded, new_segments, copied_added, adds_active_padded, segments_section, zero_offset}
 use Rattle.examples.proofs.read_back.padded.segments.Goals as goal
 
 pub returns : goal.returns

@@ -1,11 +1,5 @@
-use Rattle.wasm_base.proofs.Words.{[], ◌∷◌, refl, arith, u32, such, padded, contains_padded}
-use Rattle.std.specs.declared.alloc.Global.{Global}
-use Rattle.wasm_code.proofs.Words.{IsNoEnd, StoresPadded, normal_row, raw_constant, members_one}
-use Rattle.wasm_insn.proofs.Words.{unsigned, Plain, instruction, table, byte_encodes, one_argument, byte_shape}
-use Rattle.wasm_insn.specs.declared.instruction.Instruction.TheVariants.{RefFunc}
-use Rattle.wasm_insn.specs.declared.op.Shape.TheVariants.{U}
-use Rattle.wasm_sections.proofs.Words.{new_tables, adds_table_with_init_padded, tables_section}
-use Rattle.examples.specs.FirstValues.{functions_type}
+use Rattle.examples.proofs.Common.{[], ◌∷◌, refl, arith, u32, such, padded, contains_padded, Global, IsNoEnd, StoresPadded, normal_row, raw_constant, members_one, unsigned, Plain, instruction, table}
+use Rattle.examples.proofs.Common.{byte_encodes, one_argument, byte_shape, RefFunc, U, new_tables, adds_table_with_init_padded, tables_section, functions_type}
 use Rattle.wasm_insn.specs.declared.part.Part.TheVariants as parts
 use Rattle.examples.proofs.read_back.padded.tables.Goals as goal
 

@@ -1,9 +1,6 @@
-use Rattle.wasm_base.proofs.Words.{List, [], ◌∷◌, refl, arith, u32, members, padded, u32_small}
-use Rattle.std.specs.declared.alloc.Global.{Global}
-use Rattle.wasm_code.proofs.Words.{normal_row, new_code, encodes_padded, without_runs, adds_instructions_padded, adds_instruction_padded, adds_body_padded, included_body, encodes_code_padded}
-use Rattle.wasm_insn.proofs.Words.{unsigned, Plain, instruction, table, byte_encodes, one_argument, byte_shape}
-use Rattle.wasm_insn.specs.declared.instruction.Instruction.TheVariants.{LocalGet, End}
-use Rattle.wasm_insn.specs.declared.op.Shape.TheVariants.{U}
+use Rattle.examples.proofs.Common.{List, [], ◌∷◌, refl, arith, u32, members, padded, u32_small, Global, normal_row, new_code, encodes_padded, without_runs, adds_instructions_padded}
+use Rattle.examples.proofs.Common.{adds_instruction_padded, adds_body_padded, included_body, encodes_code_padded, unsigned, Plain, instruction, table, byte_encodes, one_argument, byte_shape, LocalGet}
+use Rattle.examples.proofs.Common.{End, U}
 use Rattle.wasm_insn.specs.declared.part.Part.TheVariants as parts
 use Rattle.examples.proofs.read_back.padded.write_padded_bodies.Goals as goal
 

@@ -1,5 +1,4 @@
-use Rattle.wasm_base.proofs.Words.{encodes_items_padded}
-use Rattle.wasm_sections.proofs.Words.{segments_section}
+use Rattle.examples.proofs.Common.{encodes_items_padded, segments_section}
 use Rattle.examples.proofs.read_back.padded.write_padded_segment.Goals as goal
 
 pub returns : goal.returns

@@ -1,7 +1,4 @@
-use Rattle.wasm_base.proofs.Words.{[], ◌∷◌, arith, refl, rules}
-use Rattle.wasm_base.specs.declared.types.ValType.TheVariants.{I32}
-use Rattle.wasm_code.proofs.Words.{new_function_of_types, lent, writes_instruction}
-use Rattle.wasm_insn.specs.declared.instruction.Instruction.TheVariants.{LocalGet, End}
+use Rattle.examples.proofs.Common.{[], ◌∷◌, arith, refl, rules, I32, new_function_of_types, lent, writes_instruction, LocalGet, End}
 use Rattle.examples.proofs.read_back.stored.of_locals.Goals as goal
 
 pub returns : goal.returns

@@ -1,7 +1,5 @@
 -- Written by tools/answers.
-use Rattle.wasm_base.proofs.Words.{rules, drained_array}
-use Rattle.wasm_code.proofs.Words.{new_function, lent, writes_instruction}
-use Rattle.wasm_insn.specs.declared.instruction.Instruction.TheVariants.{End}
+use Rattle.examples.proofs.Common.{rules, drained_array, new_function, lent, writes_instruction, End}
 use Rattle.examples.proofs.read_back.stored.of_nothing.Goals as goal
 
 pub returns : goal.returns

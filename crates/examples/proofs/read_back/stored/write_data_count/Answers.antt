@@ -1,6 +1,5 @@
 -- Written by tools/answers.
-use Rattle.wasm_base.proofs.Words.{◌≡◌, refl, size_prefixed, u32}
-use Rattle.wasm_custom.proofs.Words.{encodes_custom}
+use Rattle.examples.proofs.Common.{◌≡◌, refl, size_prefixed, u32, encodes_custom}
 use Rattle.examples.proofs.read_back.stored.write_data_count.Goals as goal
 
 pub returns : goal.returns

@@ -1,7 +1,4 @@
-use Rattle.wasm_base.proofs.Words.{[], ◌∷◌, None, arith, ints, IsUnsignedInRange, encodes_items}
-use Rattle.wasm_code.proofs.Words.{all_of, one_constant}
-use Rattle.wasm_sections.proofs.Words.{new_elements, adds_functions, adds_element, active, passive, functions}
-use Rattle.examples.specs.Stored.{eight}
+use Rattle.examples.proofs.Common.{[], ◌∷◌, None, arith, ints, IsUnsignedInRange, encodes_items, all_of, one_constant, new_elements, adds_functions, adds_element, active, passive, functions, eight}
 use Rattle.examples.proofs.read_back.stored.write_elements.Goals as goal
 
 pub returns : goal.returns

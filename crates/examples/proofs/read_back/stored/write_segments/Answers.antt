@@ -1,7 +1,5 @@
-use Rattle.wasm_base.proofs.Words.{[], ◌∷◌, arith, refl, ints, minimal, drained_array, u32_small, adds_raw, encodes_items}
-use Rattle.wasm_code.proofs.Words.{one_constant}
-use Rattle.wasm_sections.proofs.Words.{new_segments, adds_active, array_added, data_item}
-use Rattle.examples.specs.Stored.{eight, byte_later}
+use Rattle.examples.proofs.Common.{[], ◌∷◌, arith, refl, ints, minimal, drained_array, u32_small, adds_raw, encodes_items, one_constant, new_segments, adds_active, array_added, data_item, eight}
+use Rattle.examples.proofs.Common.{byte_later}
 use Rattle.examples.proofs.read_back.stored.write_segments.Goals as goal
 
 pub returns : goal.returns

@@ -1,5 +1,4 @@
-use Rattle.wasm_code.specs.{body}
-use Rattle.wasm_base.proofs.Words.{◌∙◌, fault_stays, filled_decodes, filled_none, filled_rejects}
+use Rattle.wasm_code.proofs.Common.{body, ◌∙◌, fault_stays, filled_decodes, filled_none, filled_rejects}
 use Rattle.wasm_code.proofs.body.BodyReadable.read.Goals as goal
 
 pub returns-in_err-content-clause-none : goal.returns-in_err-content-clause-none

@@ -1,7 +1,5 @@
-use Rattle.wasm_base.proofs.Words.{map, rules, subst, refl, drop, size_prefixed_encoding, stays_short, members, on_ok_both, AppendsMinimal, size_prefixed_appended, front_then}
-use Rattle.wasm_code.specs.{body, body_view}
-use Rattle.wasm_insn.proofs.Words.{instruction, table, plain_view}
-use Rattle.wasm_code.proofs.MinimalLists.{body_appended, runs_encoded, body_encodable, front_sized}
+use Rattle.wasm_code.proofs.Common.{map, rules, subst, refl, drop, size_prefixed_encoding, stays_short, members, on_ok_both, AppendsMinimal, size_prefixed_appended, front_then, body, body_view}
+use Rattle.wasm_code.proofs.Common.{instruction, table, plain_view, body_appended, runs_encoded, body_encodable, front_sized}
 use Rattle.wasm_code.proofs.body.BodyShorten.write_minimal.Goals as goal
 
 pub returns-clause-ok : goal.returns-clause-ok

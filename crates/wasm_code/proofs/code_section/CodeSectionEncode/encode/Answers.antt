@@ -1,5 +1,4 @@
-use Rattle.wasm_base.proofs.Words.{subst, IsEncodableSection, on_ok}
-use Rattle.wasm_code.proofs.CodeLaws.{code_decodes}
+use Rattle.wasm_code.proofs.Common.{subst, IsEncodableSection, on_ok, code_decodes}
 use Rattle.wasm_code.proofs.code_section.CodeSectionEncode.encode.Goals as goal
 
 pub returns-clause-read : goal.returns-clause-read

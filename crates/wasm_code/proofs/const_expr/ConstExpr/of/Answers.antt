@@ -1,6 +1,4 @@
-use Rattle.wasm_base.proofs.Words.{◌++◌, ap, ◌∙◌, append-nil}
-use Rattle.wasm_code.specs.{first_encoding}
-use Rattle.wasm_code.proofs.ExpressionLaws.{stores_first}
+use Rattle.wasm_code.proofs.Common.{◌++◌, ap, ◌∙◌, append-nil, first_encoding, stores_first}
 use Rattle.wasm_code.proofs.const_expr.ConstExpr.of.Goals as goal
 
 pub returns : goal.returns

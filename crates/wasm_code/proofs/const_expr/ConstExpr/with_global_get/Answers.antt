@@ -1,8 +1,4 @@
-use Rattle.wasm_base.proofs.Words.{◌≡◌, ◌++◌, refl, rules}
-use Rattle.std.specs.declared.alloc.Global.{Global}
-use Rattle.wasm_insn.proofs.Words.{instruction_encoding}
-use Rattle.wasm_insn.specs.declared.instruction.Instruction.TheVariants.{GlobalGet}
-use Rattle.wasm_code.proofs.ExpressionLaws.{stores_more}
+use Rattle.wasm_code.proofs.Common.{◌≡◌, ◌++◌, refl, rules, Global, instruction_encoding, GlobalGet, stores_more}
 use Rattle.wasm_code.proofs.const_expr.ConstExpr.with_global_get.Goals as goal
 
 pub returns-clause-stores : goal.returns-clause-stores

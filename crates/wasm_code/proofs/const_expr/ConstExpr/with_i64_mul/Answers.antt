@@ -1,9 +1,4 @@
-use Rattle.wasm_base.proofs.Words.{◌≡◌, ◌++◌, refl, rules}
-use Rattle.std.specs.declared.alloc.Global.{Global}
-use Rattle.wasm_insn.proofs.Words.{instruction_encoding}
-use Rattle.wasm_insn.specs.declared.instruction.Instruction.TheVariants.{Numeric}
-use Rattle.wasm_insn.specs.declared.numeric.Numeric.TheVariants.{I64Mul}
-use Rattle.wasm_code.proofs.ExpressionLaws.{stores_more}
+use Rattle.wasm_code.proofs.Common.{◌≡◌, ◌++◌, refl, rules, Global, instruction_encoding, Numeric, I64Mul, stores_more}
 use Rattle.wasm_code.proofs.const_expr.ConstExpr.with_i64_mul.Goals as goal
 
 pub returns-clause-stores : goal.returns-clause-stores

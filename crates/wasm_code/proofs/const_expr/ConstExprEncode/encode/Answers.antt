@@ -1,6 +1,4 @@
-use Rattle.wasm_base.proofs.Words.{◌≡◌, ◌++◌, ◌∷◌, [], ap, sym, ◌∙◌, append_assoc, rules, optional_encoding}
-use Rattle.wasm_code.specs.{first_encoding}
-use Rattle.wasm_code.proofs.ExpressionLaws.{appends_whole, encodable_always}
+use Rattle.wasm_code.proofs.Common.{◌≡◌, ◌++◌, ◌∷◌, [], ap, sym, ◌∙◌, append_assoc, rules, optional_encoding, first_encoding, appends_whole, encodable_always}
 use Rattle.wasm_code.proofs.const_expr.ConstExprEncode.encode.Goals as goal
 
 pub returns-clause-appends : goal.returns-clause-appends

@@ -1,7 +1,5 @@
-use Rattle.wasm_base.proofs.Words.{padded_of, subst, sym, arith, such, such_unambiguous, begins_such, fault_stays, memory_stays, none_left, such_none, front_and_rest, member_shorter}
-use Rattle.wasm_insn.proofs.Words.{instruction, table, unique, any_begins, plain_view}
-use Rattle.wasm_code.specs.{IsNoEnd}
-use Rattle.wasm_code.proofs.DecodeLists.{HasEnded, ended_step, ended_fail, ended_done, ended_short, front_is, not_end}
+use Rattle.wasm_code.proofs.Common.{padded_of, subst, sym, arith, such, such_unambiguous, begins_such, fault_stays, memory_stays, none_left, such_none, front_and_rest, member_shorter, instruction}
+use Rattle.wasm_code.proofs.Common.{table, unique, any_begins, plain_view, IsNoEnd, HasEnded, ended_step, ended_fail, ended_done, ended_short, front_is, not_end}
 use Rattle.wasm_code.proofs.expression.ExpressionReadable.read.Goals as goal
 
 pub returns-then-first-eq-END-clause-found : goal.returns-then-first-eq-END-clause-found

@@ -1,7 +1,4 @@
-use Rattle.wasm_base.proofs.Words.{padded_of, length, such}
-use Rattle.wasm_insn.proofs.Words.{instruction, table, plain_view}
-use Rattle.wasm_code.specs.{IsNoEnd}
-use Rattle.wasm_code.proofs.DecodeLists.{HasEnded}
+use Rattle.wasm_code.proofs.Common.{padded_of, length, such, instruction, table, plain_view, IsNoEnd, HasEnded}
 use Rattle.wasm_code.proofs.expression.ExpressionReadable.read.Given as goal
 
 abbrev pub invariant-loop-rest : goal.invariant-loop-rest

@@ -1,7 +1,5 @@
-use Rattle.wasm_base.proofs.Words.{◌∷◌, ◌++◌, [], arith, map, such, such_unambiguous, begins_such, front_and_rest, such_none, fault_stays, none_left, member_shorter}
-use Rattle.wasm_insn.proofs.Words.{instruction, table, unique, any_begins}
-use Rattle.wasm_code.specs.{IsNoEnd}
-use Rattle.wasm_code.proofs.DecodeLists.{ended_start, ended_step, ended_fail, ended_done, ended_short, front_is, not_end}
+use Rattle.wasm_code.proofs.Common.{◌∷◌, ◌++◌, [], arith, map, such, such_unambiguous, begins_such, front_and_rest, such_none, fault_stays, none_left, member_shorter, instruction, table, unique}
+use Rattle.wasm_code.proofs.Common.{any_begins, IsNoEnd, ended_start, ended_step, ended_fail, ended_done, ended_short, front_is, not_end}
 use Rattle.wasm_code.proofs.expression.ExpressionSkip.skip.Goals as goal
 
 pub loop-rest-init : goal.loop-rest-init

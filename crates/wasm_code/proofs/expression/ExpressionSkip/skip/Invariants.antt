@@ -1,7 +1,4 @@
-use Rattle.wasm_base.proofs.Words.{padded_of, List, length, such}
-use Rattle.wasm_code.specs.{IsNoEnd}
-use Rattle.wasm_insn.proofs.Words.{Plain, instruction, table}
-use Rattle.wasm_code.proofs.DecodeLists.{HasEnded}
+use Rattle.wasm_code.proofs.Common.{padded_of, List, length, such, IsNoEnd, Plain, instruction, table, HasEnded}
 use Rattle.wasm_code.proofs.expression.ExpressionSkip.skip.Given as goal
 
 abbrev pub invariant-loop-rest : goal.invariant-loop-rest

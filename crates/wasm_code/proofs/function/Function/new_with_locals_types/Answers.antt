@@ -1,6 +1,5 @@
 use Rattle.wasm_base.proofs.Words.{◌≡◌, length, vec_len, rules, ◌∙◌, drained_vec as drained_length}
-use Rattle.wasm_code.proofs.Drained.{drained_vec}
-use Rattle.wasm_code.proofs.RunLaws.{types_given}
+use Rattle.wasm_code.proofs.Common.{drained_vec, types_given}
 use Rattle.wasm_code.proofs.function.Function.new_with_locals_types.Goals as goal
 
 pub new-requires : goal.new-requires

@@ -1,5 +1,4 @@
-use Rattle.wasm_base.proofs.Words.{◌++◌, ap, ◌∙◌, on_ok}
-use Rattle.wasm_code.proofs.BodyLaws.{grows_by}
+use Rattle.wasm_code.proofs.Common.{◌++◌, ap, ◌∙◌, on_ok, grows_by}
 use Rattle.wasm_code.proofs.function.Function.raw.Goals as goal
 
 pub returns-clause-ok : goal.returns-clause-ok

@@ -1,5 +1,4 @@
-use Rattle.wasm_base.proofs.Words.{subst, ◌∙◌, HasEncodableSize, on_ok}
-use Rattle.wasm_code.proofs.BodyLaws.{body_decodes}
+use Rattle.wasm_code.proofs.Common.{subst, ◌∙◌, HasEncodableSize, on_ok, body_decodes}
 use Rattle.wasm_code.proofs.function.FunctionEncode.encode.Goals as goal
 
 pub returns-clause-read : goal.returns-clause-read

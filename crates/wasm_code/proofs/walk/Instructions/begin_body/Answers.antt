@@ -1,6 +1,4 @@
-use Rattle.wasm_base.proofs.Words.{fault_stays}
-use Rattle.wasm_code.proofs.DecodeLists.{body_no_runs}
-use Rattle.wasm_code.proofs.WalkLaws.{runs_read}
+use Rattle.wasm_code.proofs.Common.{fault_stays, body_no_runs, runs_read}
 use Rattle.wasm_code.proofs.walk.Instructions.begin_body.Goals as goal
 
 pub returns-clause-found : goal.returns-clause-found

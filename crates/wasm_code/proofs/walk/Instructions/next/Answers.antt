@@ -1,6 +1,4 @@
-use Rattle.wasm_base.proofs.Words.{◌≢◌, [], subst, if_err_any}
-use Rattle.wasm_code.specs.{ahead}
-use Rattle.wasm_code.proofs.WalkLaws.{some_ahead}
+use Rattle.wasm_code.proofs.Common.{◌≢◌, [], subst, if_err_any, ahead, some_ahead}
 use Rattle.wasm_code.proofs.walk.Instructions.next.Goals as goal
 
 pub returns-in_err-step-clause-left : goal.returns-in_err-step-clause-left

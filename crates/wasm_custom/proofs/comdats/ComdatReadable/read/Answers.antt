@@ -1,5 +1,4 @@
-use Rattle.wasm_base.proofs.Words.{fault_stays}
-use Rattle.wasm_custom.proofs.ComdatLaws.{comdat_none}
+use Rattle.wasm_custom.proofs.Common.{fault_stays, comdat_none}
 use Rattle.wasm_custom.proofs.comdats.ComdatReadable.read.Goals as goal
 
 pub returns-in_err-name-clause-none : goal.returns-in_err-name-clause-none

@@ -1,5 +1,4 @@
-use Rattle.wasm_base.proofs.Words.{arith}
-use Rattle.wasm_custom.proofs.ComdatLaws.{comdat_of_list}
+use Rattle.wasm_custom.proofs.Common.{arith, comdat_of_list}
 use Rattle.wasm_custom.proofs.comdats.Comdats+A.comdat.Goals as goal
 
 pub add_record-requires : goal.add_record-requires

@@ -1,7 +1,4 @@
-use Rattle.wasm_base.proofs.Words.{refl, ◌∙◌}
-use Rattle.wasm_custom.specs.{core_name}
-use Rattle.wasm_custom.proofs.CoreDumpLaws.{process_back}
-use Rattle.wasm_custom.proofs.CustomLaws.{encodable_of}
+use Rattle.wasm_custom.proofs.Common.{refl, ◌∙◌, core_name, process_back, encodable_of}
 use Rattle.wasm_custom.proofs.core_dumps.CoreDumpSectionEncode.encode.Goals as goal
 
 pub returns-clause-read : goal.returns-clause-read

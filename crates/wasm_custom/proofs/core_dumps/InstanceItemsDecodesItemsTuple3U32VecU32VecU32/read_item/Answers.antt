@@ -1,5 +1,4 @@
-use Rattle.wasm_base.proofs.Words.{fault_stays}
-use Rattle.wasm_custom.proofs.CoreDumpLaws.{instance_none, instance_decodes}
+use Rattle.wasm_custom.proofs.Common.{fault_stays, instance_none, instance_decodes}
 use Rattle.wasm_custom.proofs.core_dumps.InstanceItemsDecodesItemsTuple3U32VecU32VecU32.read_item.Goals as goal
 
 pub returns-in_err-module_index-clause-none : goal.returns-in_err-module_index-clause-none

@@ -1,5 +1,4 @@
-use Rattle.wasm_base.proofs.Words.{ap}
-use Rattle.wasm_custom.proofs.AddingLaws.{adds_two, adds_two_from}
+use Rattle.wasm_custom.proofs.Common.{ap, adds_two, adds_two_from}
 use Rattle.wasm_custom.proofs.core_stack.CoreDumpStackSection.frame.Goals as goal
 
 pub returns-clause-adds : goal.returns-clause-adds

@@ -1,5 +1,4 @@
-use Rattle.wasm_base.proofs.Words.{fault_stays}
-use Rattle.wasm_custom.proofs.CoreStackLaws.{frame_decodes, frame_no_location, frame_no_locals, frame_no_stack}
+use Rattle.wasm_custom.proofs.Common.{fault_stays, frame_decodes, frame_no_location, frame_no_locals, frame_no_stack}
 use Rattle.wasm_custom.proofs.core_stack.CoreFrameReadable.read.Goals as goal
 
 pub returns-in_err-instanceidx-clause-none : goal.returns-in_err-instanceidx-clause-none

@@ -1,7 +1,5 @@
-use Rattle.wasm_base.proofs.Words.{rules, sym, subst, to_z-of_z, padded_of, Decodes, fault_stays}
-use Rattle.std.proofs.Common.{w32, w64}
-use Rattle.wasm_custom.specs.{value}
-use Rattle.wasm_custom.proofs.CoreStackLaws.{i32_decodes, i64_decodes, value_none, i32_none, i64_none, f32_decodes, f32_none, f64_decodes, f64_none}
+use Rattle.wasm_custom.proofs.Common.{rules, sym, subst, to_z-of_z, padded_of, Decodes, fault_stays, w32, w64, value, i32_decodes, i64_decodes, value_none, i32_none, i64_none, f32_decodes, f32_none}
+use Rattle.wasm_custom.proofs.Common.{f64_decodes, f64_none}
 use Rattle.wasm_custom.specs.declared.core_values.CoreDumpValue.TheVariants as values
 use Rattle.wasm_custom.proofs.core_values.CoreDumpValueReadable.read.Goals as goal
 

@@ -1,5 +1,4 @@
-use Rattle.wasm_base.proofs.Words.{on_ok}
-use Rattle.wasm_custom.proofs.SingleLaws.{build_id_back}
+use Rattle.wasm_custom.proofs.Common.{on_ok, build_id_back}
 use Rattle.wasm_custom.proofs.debug_files.BuildIdEncode.encode.Goals as goal
 
 pub returns-clause-read : goal.returns-clause-read

@@ -1,6 +1,4 @@
-use Rattle.wasm_base.proofs.Words.{subst, on_ok, size_prefixed_encoding}
-use Rattle.wasm_custom.specs.{IsEncodableNamed, debug_file_name}
-use Rattle.wasm_custom.proofs.SingleLaws.{debug_file_back}
+use Rattle.wasm_custom.proofs.Common.{subst, on_ok, size_prefixed_encoding, IsEncodableNamed, debug_file_name, debug_file_back}
 use Rattle.wasm_custom.proofs.debug_files.ExternalDebugInfoEncode.encode.Goals as goal
 
 pub returns-clause-read : goal.returns-clause-read

@@ -1,6 +1,4 @@
-use Rattle.wasm_base.proofs.Words.{subst, on_ok, size_prefixed_encoding}
-use Rattle.wasm_custom.specs.{IsEncodableNamed, source_map_name}
-use Rattle.wasm_custom.proofs.SingleLaws.{source_map_back}
+use Rattle.wasm_custom.proofs.Common.{subst, on_ok, size_prefixed_encoding, IsEncodableNamed, source_map_name, source_map_back}
 use Rattle.wasm_custom.proofs.debug_files.SourceMappingUrlEncode.encode.Goals as goal
 
 pub returns-clause-read : goal.returns-clause-read

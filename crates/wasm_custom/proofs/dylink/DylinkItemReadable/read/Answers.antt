@@ -1,5 +1,5 @@
-use Rattle.wasm_base.proofs.Words.{fault_stays}
-use Rattle.wasm_custom.proofs.DylinkLaws.{dylink_none, memory_decodes, memory_none, needed_decodes, needed_none, exports_decodes, exports_none, imports_decodes, imports_none, paths_decodes, paths_none}
+use Rattle.wasm_custom.proofs.Common.{fault_stays, dylink_none, memory_decodes, memory_none, needed_decodes, needed_none, exports_decodes, exports_none, imports_decodes, imports_none, paths_decodes}
+use Rattle.wasm_custom.proofs.Common.{paths_none}
 use Rattle.wasm_custom.proofs.dylink.DylinkItemReadable.read.Goals as goal
 
 pub returns-in_err-id-clause-none : goal.returns-in_err-id-clause-none

@@ -1,6 +1,4 @@
-use Rattle.wasm_base.proofs.Words.{map, subst, HasEncoding}
-use Rattle.wasm_custom.specs.{dylink_item, dylink_view}
-use Rattle.wasm_custom.proofs.DylinkLaws.{needed_encoded, paths_encoded}
+use Rattle.wasm_custom.proofs.Common.{map, subst, HasEncoding, dylink_item, dylink_view, needed_encoded, paths_encoded}
 use Rattle.wasm_custom.proofs.dylink.DylinkItemShorten.write_minimal.Goals as goal
 
 pub returns-in-Needed-clause-too_long : goal.returns-in-Needed-clause-too_long

@@ -1,5 +1,4 @@
-use Rattle.wasm_base.proofs.Words.{fault_stays}
-use Rattle.wasm_custom.proofs.DylinkLaws.{import_flags_none}
+use Rattle.wasm_custom.proofs.Common.{fault_stays, import_flags_none}
 use Rattle.wasm_custom.proofs.dylink_symbols.DylinkImportReadable.read.Goals as goal
 
 pub returns-in_err-module_name-clause-none : goal.returns-in_err-module_name-clause-none

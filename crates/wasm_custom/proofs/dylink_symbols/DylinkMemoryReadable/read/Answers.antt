@@ -1,5 +1,4 @@
-use Rattle.wasm_base.proofs.Words.{fault_stays}
-use Rattle.wasm_custom.proofs.DylinkLaws.{needs_none}
+use Rattle.wasm_custom.proofs.Common.{fault_stays, needs_none}
 use Rattle.wasm_custom.proofs.dylink_symbols.DylinkMemoryReadable.read.Goals as goal
 
 pub returns-in_err-memory_size-clause-none : goal.returns-in_err-memory_size-clause-none

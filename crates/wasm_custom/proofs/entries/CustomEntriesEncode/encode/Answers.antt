@@ -1,5 +1,4 @@
-use Rattle.wasm_base.proofs.Words.{◌≤◌, length, subst, longest, on_ok}
-use Rattle.wasm_custom.proofs.EntriesLaws.{entries_back, same_encodable}
+use Rattle.wasm_custom.proofs.Common.{◌≤◌, length, subst, longest, on_ok, entries_back, same_encodable}
 use Rattle.wasm_custom.proofs.entries.CustomEntriesEncode.encode.Goals as goal
 
 pub returns-clause-read : goal.returns-clause-read

@@ -1,5 +1,4 @@
-use Rattle.wasm_base.proofs.Words.{fault_stays}
-use Rattle.wasm_custom.proofs.HintLaws.{hint_none, hint_rejects, hint_decodes}
+use Rattle.wasm_custom.proofs.Common.{fault_stays, hint_none, hint_rejects, hint_decodes}
 use Rattle.wasm_custom.proofs.hints.BranchHintReadable.read.Goals as goal
 
 pub returns-in_err-branch_func_offset-clause-none : goal.returns-in_err-branch_func_offset-clause-none

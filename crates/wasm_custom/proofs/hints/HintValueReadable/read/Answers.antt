@@ -1,5 +1,4 @@
-use Rattle.wasm_base.proofs.Words.{fault_stays}
-use Rattle.wasm_custom.proofs.HintLaws.{hint_value_none}
+use Rattle.wasm_custom.proofs.Common.{fault_stays, hint_value_none}
 use Rattle.wasm_custom.proofs.hints.HintValueReadable.read.Goals as goal
 
 pub returns-in_err-value-clause-none : goal.returns-in_err-value-clause-none

@@ -1,5 +1,4 @@
-use Rattle.wasm_base.proofs.Words.{fault_stays}
-use Rattle.wasm_custom.proofs.LinkLaws.{link_none, segments_decodes, segments_none, inits_decodes, inits_none, comdats_decodes, comdats_none, symbols_decodes, symbols_none}
+use Rattle.wasm_custom.proofs.Common.{fault_stays, link_none, segments_decodes, segments_none, inits_decodes, inits_none, comdats_decodes, comdats_none, symbols_decodes, symbols_none}
 use Rattle.wasm_custom.proofs.linking.LinkItemReadable.read.Goals as goal
 
 pub returns-in_err-id-clause-none : goal.returns-in_err-id-clause-none

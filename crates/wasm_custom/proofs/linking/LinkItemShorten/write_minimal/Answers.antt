@@ -1,6 +1,4 @@
-use Rattle.wasm_base.proofs.Words.{map, subst, HasEncoding}
-use Rattle.wasm_custom.specs.{link, link_view, symbol_view}
-use Rattle.wasm_custom.proofs.LinkLaws.{symbols_encoded}
+use Rattle.wasm_custom.proofs.Common.{map, subst, HasEncoding, link, link_view, symbol_view, symbols_encoded}
 use Rattle.wasm_custom.proofs.linking.LinkItemShorten.write_minimal.Goals as goal
 
 pub returns-in-Symbols-clause-too_long : goal.returns-in-Symbols-clause-too_long

@@ -1,5 +1,4 @@
-use Rattle.wasm_base.proofs.Words.{rules, arith, common_steps}
-use Rattle.wasm_base.proofs.NumberEncodings.{one_group}
+use Rattle.wasm_custom.proofs.Common.{rules, arith, common_steps, one_group}
 use Rattle.wasm_custom.proofs.names.IndexedNameEncode.encode.Goals as goal
 
 pub returns-clause-appends : goal.returns-clause-appends

@@ -1,5 +1,4 @@
-use Rattle.wasm_base.proofs.Words.{arith}
-use Rattle.wasm_custom.proofs.ListLaws.{names_inside}
+use Rattle.wasm_custom.proofs.Common.{arith, names_inside}
 use Rattle.wasm_custom.proofs.names.IndirectNameMap+A.append.Goals as goal
 
 pub add_record-requires : goal.add_record-requires

@@ -1,6 +1,5 @@
-use Rattle.wasm_base.proofs.Words.{sym, subst, map, on_ok, AppendsMinimal, HasEncoding}
-use Rattle.wasm_custom.specs.{inside, id_of, held_by, names_view, inside_view, name_item_view}
-use Rattle.wasm_custom.proofs.NameLaws.{map_appended, indirect_appended, map_encoded, indirect_encoded}
+use Rattle.wasm_custom.proofs.Common.{sym, subst, map, on_ok, AppendsMinimal, HasEncoding, inside, id_of, held_by, names_view, inside_view, name_item_view, map_appended, indirect_appended}
+use Rattle.wasm_custom.proofs.Common.{map_encoded, indirect_encoded}
 use Rattle.wasm_custom.proofs.names.NameItem.append_content.Goals as goal
 
 pub returns-in-Map-clause-ok : goal.returns-in-Map-clause-ok

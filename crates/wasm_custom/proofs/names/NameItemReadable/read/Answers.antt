@@ -1,5 +1,4 @@
-use Rattle.wasm_base.proofs.Words.{fault_stays}
-use Rattle.wasm_custom.proofs.NameLaws.{subsection_none, subsection_not_size_prefixed, subsection_rejects, subsection_decodes}
+use Rattle.wasm_custom.proofs.Common.{fault_stays, subsection_none, subsection_not_size_prefixed, subsection_rejects, subsection_decodes}
 use Rattle.wasm_custom.proofs.names.NameItemReadable.read.Goals as goal
 
 pub returns-in_err-id-clause-none : goal.returns-in_err-id-clause-none

@@ -1,5 +1,4 @@
-use Rattle.wasm_base.proofs.Words.{refl, arith}
-use Rattle.wasm_custom.specs.{of_data}
+use Rattle.wasm_custom.proofs.Common.{refl, arith, of_data}
 use Rattle.wasm_custom.proofs.object_symbols.ObjectSymbols+A.data.Goals as goal
 
 pub add_record-requires : goal.add_record-requires

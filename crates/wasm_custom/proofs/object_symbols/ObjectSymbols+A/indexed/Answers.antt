@@ -1,6 +1,4 @@
-use Rattle.wasm_base.proofs.Words.{◌∷◌, ◌++◌, ap, arith, unsigned_encoding}
-use Rattle.wasm_custom.specs.{given_name, kind_code, indexed}
-use Rattle.wasm_custom.proofs.ListLaws.{named_encoding_of, name_encodable}
+use Rattle.wasm_custom.proofs.Common.{◌∷◌, ◌++◌, ap, arith, unsigned_encoding, given_name, kind_code, indexed, named_encoding_of, name_encodable}
 use Rattle.wasm_custom.proofs.object_symbols.ObjectSymbols+A.indexed.Goals as goal
 
 pub add_record-requires : goal.add_record-requires

@@ -1,5 +1,4 @@
-use Rattle.wasm_base.proofs.Words.{fault_stays}
-use Rattle.wasm_custom.proofs.SegmentLaws.{segment_none}
+use Rattle.wasm_custom.proofs.Common.{fault_stays, segment_none}
 use Rattle.wasm_custom.proofs.segments.SegmentInfoReadable.read.Goals as goal
 
 pub returns-in_err-name-clause-none : goal.returns-in_err-name-clause-none

@@ -1,5 +1,4 @@
-use Rattle.wasm_base.proofs.Words.{fault_stays}
-use Rattle.wasm_custom.proofs.SymbolLaws.{definition_none, definition_decodes}
+use Rattle.wasm_custom.proofs.Common.{fault_stays, definition_none, definition_decodes}
 use Rattle.wasm_custom.proofs.symbols.DataSymbolDefinitionReadable.read.Goals as goal
 
 pub returns-in_err-index-clause-none : goal.returns-in_err-index-clause-none

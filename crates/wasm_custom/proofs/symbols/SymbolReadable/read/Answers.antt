@@ -1,6 +1,5 @@
-use Rattle.wasm_base.proofs.Words.{fault_stays}
-use Rattle.wasm_custom.proofs.SymbolLaws.{symbol_none, function_decodes, function_none, of_data_decodes, of_data_none, global_decodes, global_none, table_decodes, table_none, of_section_decodes}
-use Rattle.wasm_custom.proofs.SymbolLaws.{of_section_none, tag_symbol_decodes, tag_symbol_none}
+use Rattle.wasm_custom.proofs.Common.{fault_stays, symbol_none, function_decodes, function_none, of_data_decodes, of_data_none, global_decodes, global_none, table_decodes, table_none}
+use Rattle.wasm_custom.proofs.Common.{of_section_decodes, of_section_none, tag_symbol_decodes, tag_symbol_none}
 use Rattle.wasm_custom.proofs.symbols.SymbolReadable.read.Goals as goal
 
 pub returns-in_err-kind-clause-none : goal.returns-in_err-kind-clause-none

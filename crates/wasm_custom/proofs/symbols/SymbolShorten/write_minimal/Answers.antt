@@ -1,7 +1,4 @@
-use Rattle.wasm_base.proofs.Words.{subst, HasEncoding}
-use Rattle.wasm_custom.specs.{symbol, symbol_view}
-use Rattle.wasm_custom.proofs.SymbolLaws.{indexed_kind_encoded}
-use Rattle.wasm_custom.specs.declared.symbols.SymbolKind.TheVariants.{Function, Global, Table}
+use Rattle.wasm_custom.proofs.Common.{subst, HasEncoding, symbol, symbol_view, indexed_kind_encoded, Function, Global, Table}
 use Rattle.wasm_custom.proofs.symbols.SymbolShorten.write_minimal.Goals as goal
 
 pub returns-in-Function-clause-too_long : goal.returns-in-Function-clause-too_long

@@ -1,5 +1,4 @@
-use Rattle.wasm_base.proofs.Words.{fault_stays}
-use Rattle.wasm_custom.proofs.FeatureLaws.{prefix_none}
+use Rattle.wasm_custom.proofs.Common.{fault_stays, prefix_none}
 use Rattle.wasm_custom.proofs.target_features.FeaturePrefixReadable.read.Goals as goal
 
 pub returns-in_err-code-clause-none : goal.returns-in_err-code-clause-none

@@ -1,5 +1,4 @@
-use Rattle.wasm_base.proofs.Words.{fault_stays}
-use Rattle.wasm_immediates.proofs.DecodeImmediates.{block_none}
+use Rattle.wasm_immediates.proofs.Common.{fault_stays, block_none}
 use Rattle.wasm_immediates.proofs.block_type.BlockTypeReadable.read.Goals as goal
 
 pub returns-in_err-tag-clause-none : goal.returns-in_err-tag-clause-none

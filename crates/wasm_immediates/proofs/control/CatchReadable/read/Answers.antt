@@ -1,5 +1,4 @@
-use Rattle.wasm_base.proofs.Words.{fault_stays}
-use Rattle.wasm_immediates.proofs.DecodeImmediates.{catch_one, catch_one_ref, catch_all, catch_none, catch_no_one, catch_no_one_ref, catch_no_all, catch_no_all_ref, catch_all_ref}
+use Rattle.wasm_immediates.proofs.Common.{fault_stays, catch_one, catch_one_ref, catch_all, catch_none, catch_no_one, catch_no_one_ref, catch_no_all, catch_no_all_ref, catch_all_ref}
 use Rattle.wasm_immediates.proofs.control.CatchReadable.read.Goals as goal
 
 pub returns-in_err-kind-clause-none : goal.returns-in_err-kind-clause-none

@@ -1,5 +1,4 @@
-use Rattle.wasm_base.proofs.Words.{fault_stays}
-use Rattle.wasm_immediates.proofs.DecodeImmediates.{handle_on_switch, handle_none, handle_no_label, handle_no_switch, handle_on_label}
+use Rattle.wasm_immediates.proofs.Common.{fault_stays, handle_on_switch, handle_none, handle_no_label, handle_no_switch, handle_on_label}
 use Rattle.wasm_immediates.proofs.control.HandleReadable.read.Goals as goal
 
 pub returns-in_err-kind-clause-none : goal.returns-in_err-kind-clause-none

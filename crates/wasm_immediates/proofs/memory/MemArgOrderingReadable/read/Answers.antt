@@ -1,5 +1,4 @@
-use Rattle.wasm_base.proofs.Words.{fault_stays}
-use Rattle.wasm_immediates.proofs.DecodeImmediates.{mem_order_none, mem_seq_cst, mem_acq_rel, mem_rmw}
+use Rattle.wasm_immediates.proofs.Common.{fault_stays, mem_order_none, mem_seq_cst, mem_acq_rel, mem_rmw}
 use Rattle.wasm_immediates.proofs.memory.MemArgOrderingReadable.read.Goals as goal
 
 pub returns-in_err-tag-clause-none : goal.returns-in_err-tag-clause-none

@@ -1,5 +1,4 @@
-use Rattle.wasm_base.proofs.Words.{front_and_rest, fault_stays}
-use Rattle.wasm_immediates.proofs.DecodeImmediates.{memory_plain, memory_plain_none}
+use Rattle.wasm_immediates.proofs.Common.{front_and_rest, fault_stays, memory_plain, memory_plain_none}
 use Rattle.wasm_immediates.proofs.memory.MemArgReadable.read.Goals as goal
 
 pub returns-in_err-offset-clause-none : goal.returns-in_err-offset-clause-none

@@ -1,5 +1,4 @@
-use Rattle.wasm_base.proofs.Words.{fault_stays}
-use Rattle.wasm_immediates.proofs.DecodeImmediates.{ordering_none}
+use Rattle.wasm_immediates.proofs.Common.{fault_stays, ordering_none}
 use Rattle.wasm_immediates.proofs.memory.OrderingReadable.read.Goals as goal
 
 pub returns-in_err-byte-clause-none : goal.returns-in_err-byte-clause-none

@@ -1,5 +1,4 @@
-use Rattle.wasm_base.proofs.Words.{map, subst, sym, on_ok, AppendsMinimal, HasEncoding}
-use Rattle.wasm_insn.specs.{instruction, table, argument_view}
+use Rattle.wasm_insn.proofs.Common.{map, subst, sym, on_ok, AppendsMinimal, HasEncoding, instruction, table, argument_view}
 use Rattle.wasm_insn.proofs.plain.PlainShorten.write_minimal.Goals as goal
 
 pub returns-clause-ok : goal.returns-clause-ok

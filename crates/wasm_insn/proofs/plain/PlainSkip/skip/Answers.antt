@@ -1,5 +1,4 @@
-use Rattle.wasm_base.proofs.Words.{sym, ◌∙◌, fault_stays}
-use Rattle.wasm_insn.proofs.DecodeInstructions.{instruction_decodes, instruction_no_arguments}
+use Rattle.wasm_insn.proofs.Common.{sym, ◌∙◌, fault_stays, instruction_decodes, instruction_no_arguments}
 use Rattle.wasm_insn.proofs.plain.PlainSkip.skip.Goals as goal
 
 pub returns-clause-found : goal.returns-clause-found

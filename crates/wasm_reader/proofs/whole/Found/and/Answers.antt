@@ -1,5 +1,4 @@
-use Rattle.wasm_base.proofs.Words.{◌∙◌}
-use Rattle.wasm_reader.proofs.KeptOffsets.{found_more, or_left, or_right, such_of, moved_of}
+use Rattle.wasm_reader.proofs.Common.{◌∙◌, found_more, or_left, or_right, such_of, moved_of}
 use Rattle.wasm_reader.proofs.whole.Found.and.Goals as goal
 
 pub returns-then-self : goal.returns-then-self

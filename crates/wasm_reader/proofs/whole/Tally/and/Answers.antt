@@ -1,7 +1,4 @@
-use Rattle.wasm_base.proofs.Words.{◌+◌, refl, sym, ap, ◌∙◌}
-use Rattle.wasm_reader.specs.{keeps}
-use Rattle.wasm_reader.specs.declared.whole.Target.TheVariants.{CodeAndData, Relocated, Module}
-use Rattle.wasm_reader.proofs.KeptOffsets.{tally_more}
+use Rattle.wasm_reader.proofs.Common.{◌+◌, refl, sym, ap, ◌∙◌, keeps, CodeAndData, Relocated, Module, tally_more}
 use Rattle.wasm_reader.proofs.whole.Tally.and.Goals as goal
 
 pub returns-clause-tallied : goal.returns-clause-tallied

@@ -1,5 +1,4 @@
-use Rattle.wasm_base.proofs.Words.{fault_stays}
-use Rattle.wasm_sections.proofs.DataLaws.{bytes_none, bytes_read}
+use Rattle.wasm_sections.proofs.Common.{fault_stays, bytes_none, bytes_read}
 use Rattle.wasm_sections.proofs.data.BytesReadable.read.Goals as goal
 
 pub returns-in_err-bytes-clause-none : goal.returns-in_err-bytes-clause-none

@@ -1,6 +1,5 @@
-use Rattle.wasm_base.proofs.Words.{fault_stays, not_from_Decides}
-use Rattle.wasm_sections.specs.{instructions_view}
-use Rattle.wasm_sections.proofs.DataLaws.{segment_none, first_none, passive_none, passive_decodes, other_no_memory, other_none, other_zero, other_decodes, first_decodes}
+use Rattle.wasm_sections.proofs.Common.{fault_stays, not_from_Decides, instructions_view, segment_none, first_none, passive_none, passive_decodes, other_no_memory, other_none, other_zero}
+use Rattle.wasm_sections.proofs.Common.{other_decodes, first_decodes}
 use Rattle.wasm_sections.proofs.data.SegmentReadable.read.Goals as goal
 
 pub returns-in_err-flag-clause-none : goal.returns-in_err-flag-clause-none

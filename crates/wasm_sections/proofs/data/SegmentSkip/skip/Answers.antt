@@ -1,5 +1,4 @@
-use Rattle.wasm_base.proofs.Words.{fault_stays, not_from_Decides}
-use Rattle.wasm_sections.proofs.DataLaws.{segment_none, first_none, first_decodes, passive_none, passive_decodes, other_no_memory, other_none, other_zero, other_decodes}
+use Rattle.wasm_sections.proofs.Common.{fault_stays, not_from_Decides, segment_none, first_none, first_decodes, passive_none, passive_decodes, other_no_memory, other_none, other_zero, other_decodes}
 use Rattle.wasm_sections.proofs.data.SegmentSkip.skip.Goals as goal
 
 pub returns-in_err-flag-clause-none : goal.returns-in_err-flag-clause-none

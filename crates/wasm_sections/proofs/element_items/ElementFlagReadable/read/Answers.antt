@@ -1,5 +1,4 @@
-use Rattle.wasm_base.proofs.Words.{fault_stays}
-use Rattle.wasm_sections.proofs.ElementLaws.{flag_none, flag_unknown}
+use Rattle.wasm_sections.proofs.Common.{fault_stays, flag_none, flag_unknown}
 use Rattle.wasm_sections.proofs.element_items.ElementFlagReadable.read.Goals as goal
 
 pub returns-in_err-number-clause-none : goal.returns-in_err-number-clause-none

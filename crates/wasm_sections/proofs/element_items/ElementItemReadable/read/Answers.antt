@@ -1,6 +1,4 @@
-use Rattle.wasm_base.proofs.Words.{fault_stays}
-use Rattle.wasm_sections.proofs.ElementLaws.{element_none, element_no_segment_mode, element_decodes}
-use Rattle.wasm_sections.specs.{element_flag_view}
+use Rattle.wasm_sections.proofs.Common.{fault_stays, element_none, element_no_segment_mode, element_decodes, element_flag_view}
 use Rattle.wasm_sections.proofs.element_items.ElementItemReadable.read.Goals as goal
 
 pub returns-in_err-flag-clause-none : goal.returns-in_err-flag-clause-none

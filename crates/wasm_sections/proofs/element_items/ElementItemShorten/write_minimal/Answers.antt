@@ -1,6 +1,5 @@
-use Rattle.wasm_base.proofs.Words.{◌++◌, ap, subst, sym, ◌∙◌, unsigned_encoding, on_ok, AppendsMinimal, HasEncoding}
-use Rattle.wasm_sections.specs.{are_expressions, elements_as, flag_code, has_kind, element_view}
-use Rattle.wasm_sections.proofs.ElementLaws.{element_appended, elements_encoded}
+use Rattle.wasm_sections.proofs.Common.{◌++◌, ap, subst, sym, ◌∙◌, unsigned_encoding, on_ok, AppendsMinimal, HasEncoding, are_expressions, elements_as, flag_code, has_kind, element_view}
+use Rattle.wasm_sections.proofs.Common.{element_appended, elements_encoded}
 use Rattle.wasm_sections.proofs.element_items.ElementItemShorten.write_minimal.Goals as goal
 
 pub returns-clause-ok : goal.returns-clause-ok

@@ -1,6 +1,4 @@
-use Rattle.wasm_base.proofs.Words.{fault_stays, subst, padded_of, Rejects}
-use Rattle.wasm_sections.specs.{elements_as, element_flag_view}
-use Rattle.wasm_sections.proofs.ElementLaws.{element_none, element_no_segment_mode, element_no_list, element_decodes}
+use Rattle.wasm_sections.proofs.Common.{fault_stays, subst, padded_of, Rejects, elements_as, element_flag_view, element_none, element_no_segment_mode, element_no_list, element_decodes}
 use Rattle.wasm_sections.proofs.element_items.ElementItemSkip.skip.Goals as goal
 
 pub returns-in_err-flag-clause-none : goal.returns-in_err-flag-clause-none

@@ -1,5 +1,4 @@
-use Rattle.wasm_base.proofs.Words.{fault_stays}
-use Rattle.wasm_sections.proofs.ExportLaws.{export_kind_none}
+use Rattle.wasm_sections.proofs.Common.{fault_stays, export_kind_none}
 use Rattle.wasm_sections.proofs.export.ExportKindReadable.read.Goals as goal
 
 pub returns-in_err-code-clause-none : goal.returns-in_err-code-clause-none

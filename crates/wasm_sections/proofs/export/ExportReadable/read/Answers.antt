@@ -1,5 +1,4 @@
-use Rattle.wasm_base.proofs.Words.{fault_stays}
-use Rattle.wasm_sections.proofs.ExportLaws.{export_none, export_decodes}
+use Rattle.wasm_sections.proofs.Common.{fault_stays, export_none, export_decodes}
 use Rattle.wasm_sections.proofs.export.ExportReadable.read.Goals as goal
 
 pub returns-in_err-name-clause-none : goal.returns-in_err-name-clause-none

@@ -1,5 +1,4 @@
-use Rattle.wasm_base.proofs.Words.{rules, arith, common_steps}
-use Rattle.wasm_sections.proofs.FunctionLaws.{two_bytes}
+use Rattle.wasm_sections.proofs.Common.{rules, arith, common_steps, two_bytes}
 use Rattle.wasm_sections.proofs.function.TypeIndexEncode.encode.Goals as goal
 
 pub returns-then-capacity-len-ge2-clause-appends : goal.returns-then-capacity-len-ge2-clause-appends

@@ -1,5 +1,4 @@
-use Rattle.wasm_base.proofs.Words.{fault_stays}
-use Rattle.wasm_sections.proofs.GlobalLaws.{flags_none, flags_unknown}
+use Rattle.wasm_sections.proofs.Common.{fault_stays, flags_none, flags_unknown}
 use Rattle.wasm_sections.proofs.global.GlobalFlagsReadable.read.Goals as goal
 
 pub returns-in_err-byte-clause-none : goal.returns-in_err-byte-clause-none

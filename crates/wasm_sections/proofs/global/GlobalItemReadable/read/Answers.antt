@@ -1,5 +1,4 @@
-use Rattle.wasm_base.proofs.Words.{fault_stays}
-use Rattle.wasm_sections.proofs.GlobalLaws.{item_none, item_decodes}
+use Rattle.wasm_sections.proofs.Common.{fault_stays, item_none, item_decodes}
 use Rattle.wasm_sections.proofs.global.GlobalItemReadable.read.Goals as goal
 
 pub returns-in_err-global_type-clause-none : goal.returns-in_err-global_type-clause-none

@@ -1,5 +1,4 @@
-use Rattle.wasm_base.proofs.Words.{fault_stays}
-use Rattle.wasm_sections.proofs.GlobalLaws.{item_none, item_decodes}
+use Rattle.wasm_sections.proofs.Common.{fault_stays, item_none, item_decodes}
 use Rattle.wasm_sections.proofs.global.GlobalItemSkip.skip.Goals as goal
 
 pub returns-in_err-rest-clause-none : goal.returns-in_err-rest-clause-none

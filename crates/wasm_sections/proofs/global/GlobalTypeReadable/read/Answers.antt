@@ -1,5 +1,4 @@
-use Rattle.wasm_base.proofs.Words.{fault_stays}
-use Rattle.wasm_sections.proofs.GlobalLaws.{type_none, type_decodes}
+use Rattle.wasm_sections.proofs.Common.{fault_stays, type_none, type_decodes}
 use Rattle.wasm_sections.proofs.global.GlobalTypeReadable.read.Goals as goal
 
 pub returns-in_err-val_type-clause-none : goal.returns-in_err-val_type-clause-none

@@ -1,6 +1,5 @@
-use Rattle.wasm_base.proofs.Words.{fault_stays}
-use Rattle.wasm_sections.proofs.ImportLaws.{entity_none, entity_no_function, entity_no_table, entity_no_memory, entity_no_global, entity_no_tag, entity_no_exact, entity_function, entity_table}
-use Rattle.wasm_sections.proofs.ImportLaws.{entity_global, entity_tag, entity_exact, entity_memory}
+use Rattle.wasm_sections.proofs.Common.{fault_stays, entity_none, entity_no_function, entity_no_table, entity_no_memory, entity_no_global, entity_no_tag, entity_no_exact, entity_function}
+use Rattle.wasm_sections.proofs.Common.{entity_table, entity_global, entity_tag, entity_exact, entity_memory}
 use Rattle.wasm_sections.proofs.import.EntityTypeReadable.read.Goals as goal
 
 pub returns-in_err-kind-clause-none : goal.returns-in_err-kind-clause-none

@@ -1,6 +1,5 @@
-use Rattle.wasm_base.proofs.Words.{◌∷◌, ◌++◌, ap, subst, sym, Appends, size_prefixed_encoding, HasEncodableSize}
-use Rattle.wasm_sections.specs.{entity_encoding, import_encoding, IsEncodableImport, named_encoding, compact_item, imports_item}
-use Rattle.wasm_sections.proofs.ViewedLists.{viewed_encoding, viewed_encodable, encodable_viewed, appends_same}
+use Rattle.wasm_sections.proofs.Common.{◌∷◌, ◌++◌, ap, subst, sym, Appends, size_prefixed_encoding, HasEncodableSize, entity_encoding, import_encoding, IsEncodableImport, named_encoding, compact_item}
+use Rattle.wasm_sections.proofs.Common.{imports_item, viewed_encoding, viewed_encodable, encodable_viewed, appends_same}
 use Rattle.wasm_sections.proofs.import.ImportsEncode.encode.Goals as goal
 
 pub returns-in-Compact1-clause-appends : goal.returns-in-Compact1-clause-appends

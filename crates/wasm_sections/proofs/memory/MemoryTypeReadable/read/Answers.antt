@@ -1,6 +1,4 @@
-use Rattle.wasm_sections.specs.{flags_view}
-use Rattle.wasm_base.proofs.Words.{fault_stays}
-use Rattle.wasm_sections.proofs.DecodeLimits.{memory_none, memory_no_minimum, memory_no_maximum, memory_decodes}
+use Rattle.wasm_sections.proofs.Common.{flags_view, fault_stays, memory_none, memory_no_minimum, memory_no_maximum, memory_decodes}
 use Rattle.wasm_sections.proofs.memory.MemoryTypeReadable.read.Goals as goal
 
 pub returns-in_err-flags-clause-none : goal.returns-in_err-flags-clause-none

@@ -1,6 +1,4 @@
-use Rattle.wasm_sections.specs.{flags_view}
-use Rattle.wasm_base.proofs.Words.{fault_stays}
-use Rattle.wasm_sections.proofs.DecodeLimits.{limits_none, limits_no_minimum, limits_no_maximum, limits_read}
+use Rattle.wasm_sections.proofs.Common.{flags_view, fault_stays, limits_none, limits_no_minimum, limits_no_maximum, limits_read}
 use Rattle.wasm_sections.proofs.table.LimitsReadable.read.Goals as goal
 
 pub returns-in_err-flags-clause-none : goal.returns-in_err-flags-clause-none

@@ -1,5 +1,4 @@
-use Rattle.wasm_base.proofs.Words.{fault_stays}
-use Rattle.wasm_sections.proofs.TableLaws.{table_decodes, table_none, table_no_type, table_with, table_no_second, table_no_with}
+use Rattle.wasm_sections.proofs.Common.{fault_stays, table_decodes, table_none, table_no_type, table_with, table_no_second, table_no_with}
 use Rattle.wasm_sections.proofs.table.TableItemSkip.skip.Goals as goal
 
 pub returns-in_err-first-clause-none : goal.returns-in_err-first-clause-none

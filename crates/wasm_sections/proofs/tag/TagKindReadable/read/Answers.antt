@@ -1,5 +1,4 @@
-use Rattle.wasm_base.proofs.Words.{fault_stays}
-use Rattle.wasm_sections.proofs.TagLaws.{tag_kind_none, tag_kind_unknown}
+use Rattle.wasm_sections.proofs.Common.{fault_stays, tag_kind_none, tag_kind_unknown}
 use Rattle.wasm_sections.proofs.tag.TagKindReadable.read.Goals as goal
 
 pub returns-in_err-code-clause-none : goal.returns-in_err-code-clause-none

@@ -1,5 +1,4 @@
-use Rattle.wasm_base.proofs.Words.{fault_stays}
-use Rattle.wasm_sections.proofs.TagLaws.{tag_none, tag_decodes}
+use Rattle.wasm_sections.proofs.Common.{fault_stays, tag_none, tag_decodes}
 use Rattle.wasm_sections.proofs.tag.TagTypeReadable.read.Goals as goal
 
 pub returns-in_err-kind-clause-none : goal.returns-in_err-kind-clause-none

@@ -1,5 +1,4 @@
-use Rattle.wasm_base.proofs.Words.{◌∙◌}
-use Rattle.wasm_tool.proofs.RecipeLemmas.{first_sections}
+use Rattle.wasm_tool.proofs.Common.{◌∙◌, first_sections}
 use Rattle.wasm_tool.proofs.recipe.Recipe.finish.Goals as goal
 
 pub returns-clause-ok : goal.returns-clause-ok

@@ -1,7 +1,4 @@
-use Rattle.wasm_base.proofs.Words.{Err, ap}
-use Rattle.std.proofs.lemmas.List.{nil_from_length}
-use Rattle.wasm_tool.specs.{lines_of, lines_with, version_with, IsModule}
-use Rattle.wasm_tool.proofs.RecipeLemmas.{refused_at_end, unused_at_end}
+use Rattle.wasm_tool.proofs.Common.{Err, ap, nil_from_length, lines_of, lines_with, version_with, IsModule, refused_at_end, unused_at_end}
 use Rattle.wasm_tool.proofs.recipe.Recipe.module_of.Goals as goal
 
 pub returns-in_err-finish : goal.returns-in_err-finish

@@ -1,5 +1,4 @@
-use Rattle.wasm_base.proofs.Words.{◌≢◌, length, arith}
-use Rattle.wasm_tool.proofs.SectionLemmas.{puts_none, puts_some}
+use Rattle.wasm_tool.proofs.Common.{◌≢◌, length, arith, puts_none, puts_some}
 use Rattle.wasm_tool.proofs.recipe.Recipe.put_code.Goals as goal
 
 pub returns-then-is_empty : goal.returns-then-is_empty

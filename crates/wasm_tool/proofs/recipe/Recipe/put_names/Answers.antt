@@ -1,5 +1,4 @@
-use Rattle.wasm_base.proofs.Words.{◌<◌, length, arith}
-use Rattle.wasm_tool.proofs.SectionLemmas.{puts_no_names, puts_names}
+use Rattle.wasm_tool.proofs.Common.{◌<◌, length, arith, puts_no_names, puts_names}
 use Rattle.wasm_tool.proofs.recipe.Recipe.put_names.Goals as goal
 
 pub returns-in-0 : goal.returns-in-0

@@ -1,5 +1,4 @@
-use Rattle.wasm_base.proofs.Words.{on_ok}
-use Rattle.wasm_tool.proofs.RecipeLemmas.{more_sections}
+use Rattle.wasm_tool.proofs.Common.{on_ok, more_sections}
 use Rattle.wasm_tool.proofs.recipe.Recipe.put_sections.Goals as goal
 
 pub returns : goal.returns

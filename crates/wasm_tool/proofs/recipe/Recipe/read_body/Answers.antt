@@ -1,5 +1,4 @@
-use Rattle.wasm_base.proofs.Words.{arith}
-use Rattle.wasm_tool.proofs.SectionLemmas.{encodable_count, encodable_size_prefixed}
+use Rattle.wasm_tool.proofs.Common.{arith, encodable_count, encodable_size_prefixed}
 use Rattle.wasm_tool.proofs.recipe.Recipe.read_body.Goals as goal
 
 pub returns-in_err-raw : goal.returns-in_err-raw

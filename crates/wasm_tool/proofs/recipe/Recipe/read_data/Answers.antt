@@ -1,6 +1,4 @@
-use Rattle.wasm_base.proofs.Words.{◌++◌, ◌∷◌, [], rules, IsEncodableSection}
-use Rattle.wasm_sections.proofs.Words.{active_encoding}
-use Rattle.wasm_tool.proofs.SectionLemmas.{encodable_count, encodable_segment}
+use Rattle.wasm_tool.proofs.Common.{◌++◌, ◌∷◌, [], rules, IsEncodableSection, active_encoding, encodable_count, encodable_segment}
 use Rattle.wasm_tool.proofs.recipe.Recipe.read_data.Goals as goal
 
 pub returns-in_err-add_data : goal.returns-in_err-add_data

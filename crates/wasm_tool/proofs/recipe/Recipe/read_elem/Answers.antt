@@ -1,6 +1,4 @@
-use Rattle.wasm_base.proofs.Words.{◌++◌, ◌∷◌, [], rules, IsEncodableSection}
-use Rattle.wasm_tool.specs.{functions_encoding}
-use Rattle.wasm_tool.proofs.SectionLemmas.{encodable_count, encodable_functions}
+use Rattle.wasm_tool.proofs.Common.{◌++◌, ◌∷◌, [], rules, IsEncodableSection, functions_encoding, encodable_count, encodable_functions}
 use Rattle.wasm_tool.proofs.recipe.Recipe.read_elem.Goals as goal
 
 pub returns-in_err-active : goal.returns-in_err-active

@@ -1,5 +1,4 @@
-use Rattle.wasm_base.proofs.Words.{arith}
-use Rattle.wasm_tool.proofs.SectionLemmas.{encodable_count, encodable_name}
+use Rattle.wasm_tool.proofs.Common.{arith, encodable_count, encodable_name}
 use Rattle.wasm_tool.proofs.recipe.Recipe.read_export.Goals as goal
 
 pub returns-in_err-export : goal.returns-in_err-export

@@ -1,11 +1,6 @@
+use Rattle.wasm_tool.proofs.Common.{◌≡◌, ◌++◌, ◌∷◌, List, ℕ, ap, subst, ◌∙◌, size_prefixed_encoding, entity_encoding, EntityType, adds, counted_words, entity_of, from_words, import_entry, Version}
+use Rattle.wasm_tool.proofs.Common.{follows_refused, encodable_count, encodable_import}
 use Rattle.std.specs.Prelude.{Ok, Err}
-use Rattle.wasm_base.proofs.Words.{◌≡◌, ◌++◌, ◌∷◌, List, ℕ, ap, subst, ◌∙◌, size_prefixed_encoding}
-use Rattle.wasm_sections.specs.Imports.{entity_encoding}
-use Rattle.wasm_sections.specs.declared.import.EntityType.{EntityType}
-use Rattle.wasm_tool.specs.{adds, counted_words, entity_of, from_words, import_entry}
-use Rattle.wasm_tool.specs.declared.version.Version.{Version}
-use Rattle.wasm_tool.proofs.RecipeLemmas.{follows_refused}
-use Rattle.wasm_tool.proofs.SectionLemmas.{encodable_count, encodable_import}
 use Rattle.wasm_tool.proofs.recipe.Recipe.read_import.Goals as goal
 
 -- The entry of a line of these words.

@@ -1,6 +1,4 @@
-use Rattle.wasm_base.proofs.Words.{◌≡◌, ◌∷◌, List, ℕ, codes, ap, ap₂, sym, subst, ◌∙◌}
-use Rattle.wasm_tool.specs.{counted_words, entry_of, entry_of_words, name_entry, rest_of, Follows}
-use Rattle.wasm_tool.specs.declared.version.Version.{Version}
+use Rattle.wasm_tool.proofs.Common.{◌≡◌, ◌∷◌, List, ℕ, codes, ap, ap₂, sym, subst, ◌∙◌, counted_words, entry_of, entry_of_words, name_entry, rest_of, Follows, Version}
 use Rattle.wasm_tool.proofs.recipe.Recipe.read_line.Goals as goal
 
 -- The entry of a line of this command.

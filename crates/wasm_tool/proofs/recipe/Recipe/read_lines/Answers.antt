@@ -1,8 +1,5 @@
-use Rattle.wasm_base.proofs.Words.{Ok, Err, take, sym, subst, arith, lit<, common_steps, YieldsList-at, YieldsList-turn, YieldsList-from_str_split}
-use Rattle.wasm_tool.specs.{lines_of, lines_with, entry_of, version_with, ContainsLines, Follows}
-use Rattle.wasm_tool.proofs.LineLemmas.{part_at}
-use Rattle.wasm_tool.proofs.VersionLemmas.{line_at, line_within, one_more_line}
-use Rattle.wasm_tool.proofs.RecipeLemmas.{explains, contains_more, all_read}
+use Rattle.wasm_tool.proofs.Common.{Ok, Err, take, sym, subst, arith, lit<, common_steps, YieldsList-at, YieldsList-turn, YieldsList-from_str_split, lines_of, lines_with, entry_of, version_with}
+use Rattle.wasm_tool.proofs.Common.{ContainsLines, Follows, part_at, line_at, line_within, one_more_line, explains, contains_more, all_read}
 use Rattle.wasm_tool.proofs.recipe.Recipe.read_lines.Goals as goal
 
 pub returns-in-Err : goal.returns-in-Err

@@ -1,7 +1,4 @@
-use Rattle.wasm_base.proofs.Words.{◌++◌, ◌∷◌, [], rules, size_prefixed_encoding}
-use Rattle.wasm_custom.proofs.Words.{subsection_encoding}
-use Rattle.wasm_tool.specs.{AreEncodableNames}
-use Rattle.wasm_tool.proofs.SectionLemmas.{names_count, names_size_prefixed, names_name}
+use Rattle.wasm_tool.proofs.Common.{◌++◌, ◌∷◌, [], rules, size_prefixed_encoding, subsection_encoding, AreEncodableNames, names_count, names_size_prefixed, names_name}
 use Rattle.wasm_tool.proofs.recipe.Recipe.read_name.Goals as goal
 
 pub returns-in_err-module : goal.returns-in_err-module

@@ -1,5 +1,4 @@
-use Rattle.wasm_base.proofs.Words.{◌≡◌, length}
-use Rattle.wasm_tool.specs.{rest_of, words_of}
+use Rattle.wasm_tool.proofs.Common.{◌≡◌, length, rest_of, words_of}
 use Rattle.wasm_tool.proofs.words.Words.cut.Given as goal
 
 -- Only empty words have been skipped.

@@ -1,5 +1,4 @@
-use Rattle.wasm_base.proofs.Words.{fault_stays}
-use Rattle.wasm_types.proofs.DecodeFields.{field_none, field_decodes}
+use Rattle.wasm_types.proofs.Common.{fault_stays, field_none, field_decodes}
 use Rattle.wasm_types.proofs.fields.FieldTypeReadable.read.Goals as goal
 
 pub returns-in_err-element_type-clause-none : goal.returns-in_err-element_type-clause-none

@@ -1,5 +1,4 @@
-use Rattle.wasm_base.proofs.Words.{fault_stays}
-use Rattle.wasm_types.proofs.DecodeFields.{mutable_none}
+use Rattle.wasm_types.proofs.Common.{fault_stays, mutable_none}
 use Rattle.wasm_types.proofs.fields.MutableReadable.read.Goals as goal
 
 pub returns-in_err-code-clause-none : goal.returns-in_err-code-clause-none

@@ -1,5 +1,4 @@
-use Rattle.wasm_base.proofs.Words.{arith, fault_stays}
-use Rattle.wasm_types.proofs.DecodeFields.{storage_none, val_rejects}
+use Rattle.wasm_types.proofs.Common.{arith, fault_stays, storage_none, val_rejects}
 use Rattle.wasm_types.proofs.fields.StorageTypeReadable.read.Goals as goal
 
 pub returns-in_err-tag-clause-none : goal.returns-in_err-tag-clause-none

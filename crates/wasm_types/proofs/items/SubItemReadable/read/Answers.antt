@@ -1,5 +1,4 @@
-use Rattle.wasm_base.proofs.Words.{fault_stays, if_ok_more, if_err_more}
-use Rattle.wasm_types.proofs.DecodeItems.{sub_none, sub_decodes, sub_none_after}
+use Rattle.wasm_types.proofs.Common.{fault_stays, if_ok_more, if_err_more, sub_none, sub_decodes, sub_none_after}
 use Rattle.wasm_types.proofs.items.SubItemReadable.read.Goals as goal
 
 pub returns-in_err-tag-clause-none : goal.returns-in_err-tag-clause-none

@@ -1,6 +1,4 @@
-use Rattle.wasm_base.proofs.Words.{sym, subst, Appends}
-use Rattle.wasm_types.specs.{entry_encoding, IsEncodableEntry}
-use Rattle.wasm_types.proofs.MinimalTypes.{group_appended}
+use Rattle.wasm_types.proofs.Common.{sym, subst, Appends, entry_encoding, IsEncodableEntry, group_appended}
 use Rattle.wasm_types.proofs.items.TypeEntryEncode.encode.Goals as goal
 
 pub returns-in-Group-clause-appends : goal.returns-in-Group-clause-appends

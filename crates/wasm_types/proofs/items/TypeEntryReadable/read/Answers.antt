@@ -1,5 +1,4 @@
-use Rattle.wasm_base.proofs.Words.{fault_stays}
-use Rattle.wasm_types.proofs.DecodeItems.{type_none, group_none, single_none, group_decodes, single_decodes}
+use Rattle.wasm_types.proofs.Common.{fault_stays, type_none, group_none, single_none, group_decodes, single_decodes}
 use Rattle.wasm_types.proofs.items.TypeEntryReadable.read.Goals as goal
 
 pub returns-in_err-tag-clause-none : goal.returns-in_err-tag-clause-none

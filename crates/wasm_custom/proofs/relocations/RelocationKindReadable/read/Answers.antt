@@ -1,0 +1,6 @@
+use Rattle.wasm_custom.proofs.Common.{fault_stays}
+use Rattle.wasm_custom.proofs.RelocationLaws.{kind_none}
+use Rattle.wasm_custom.proofs.relocations.RelocationKindReadable.read.Goals as goal
+
+pub returns-in_err-code-clause-none : goal.returns-in_err-code-clause-none
+returns-in_err-code-clause-none g c = fault_stays c.from_residual.result _ c.from_residual.ensures.1 λ n. kind_none c.args.bytes.now (c.in_err-code.ensures.none n)
