@@ -152,7 +152,7 @@ pub const HOLDERS: [Holder; 5] = [
 
 /// Types of relocations that have an addend (Linking.md), and those of them whose addend is an
 /// offset in a function or in a custom section.
-const WITH_ADDEND: [u8; 15] = [3, 4, 5, 8, 9, 11, 14, 15, 16, 17, 21, 22, 23, 25, 27];
+const WITH_ADDEND: [u8; 14] = [3, 4, 5, 8, 9, 11, 14, 15, 16, 17, 21, 22, 23, 25];
 const IN_FUNCTION: [u8; 2] = [8, 22];
 const IN_CUSTOM: u8 = 9;
 
@@ -178,7 +178,7 @@ fn relocations(section: &Section<'_>) -> Option<Relocations> {
         along.unsigned(32)?;
         along.unsigned(32)?;
         if WITH_ADDEND.contains(&kind) {
-            along.signed(32)?;
+            along.signed(64)?;
         }
         found.in_functions |= IN_FUNCTION.contains(&kind);
         found.in_custom |= kind == IN_CUSTOM;

@@ -8,7 +8,8 @@ abbrev pub not_custom : List (ℕ × List ℕ) → List (ℕ × List ℕ)
 not_custom [] = []
 not_custom (s ∷ sections) = if s.0 == number_of ids.Custom then not_custom sections else s ∷ not_custom sections
 
--- The bytes are a module, and the new bytes are a module of its sections that are not custom, alone.
+-- The bytes are a module, and the new bytes are a module of exactly its sections that are not
+-- custom.
 pub record IsStripped (bytes new : List ℕ) : Type 0 where
   pub sections : List (ℕ × List ℕ)
   pub read : wasm_module padded bytes sections

@@ -10,8 +10,8 @@ use Rattle.wasm_sections.specs.declared.export.ExportKind.TheVariants.{Func, Mem
 use Rattle.wasm_sections.specs.declared.import.EntityType.TheVariants.{Function}
 use Rattle.examples.specs.Bodies.{row, factorial_body}
 
--- The payload of a type section with two types: a function without parameters and results, and one
--- of a number that returns one.
+-- The payload of a type section with two types: that of a function without parameters and results,
+-- and that of one from an `i32` to an `i32`.
 abbrev pub two_types : List ℕ
 two_types = 0x02 ∷ 0x60 ∷ 0x00 ∷ 0x00 ∷ 0x60 ∷ 0x01 ∷ 0x7F ∷ 0x01 ∷ 0x7F ∷ []
 

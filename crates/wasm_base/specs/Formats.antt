@@ -118,7 +118,7 @@ members F mode s (x ∷ xs) = (front back : List ℕ) × (s ≡ front ++ back) �
 abbrev pub vec : {X : Type 0} → Format X → Format (List X)
 vec F mode s xs = Then u32 (λ n. members F) mode s (length xs, xs)
 
--- A size prefix, then a payload of exactly that many bytes, all of which encode one value.
+-- A size prefix, then a payload of exactly that many bytes, which as a whole encode one value.
 pub record SizePrefixed {X : Type 0} (F : Format X) (mode : Mode) (s : List ℕ) (x : X) : Type 0 where
   pub front : List ℕ
   pub content : List ℕ

@@ -1,4 +1,4 @@
--- This file re-exports the definitions that the specs of dependent crates use.
+-- This file re-exports definitions that the specs of dependent crates use.
 pub use Rattle.wasm_base.specs.Calls.{DecodesBack, DecodesBackPadded}
 pub use Rattle.wasm_base.specs.Continuing.{RejectsWhole}
 pub use Rattle.wasm_base.specs.Cow.{utf8_of, items_of}

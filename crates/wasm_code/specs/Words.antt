@@ -1,4 +1,4 @@
--- This file re-exports the definitions that the specs of dependent crates use.
+-- This file re-exports definitions that the specs of dependent crates use.
 pub use Rattle.wasm_code.specs.Bodies.{Body, IsWellFormedBody, and_then, body}
 pub use Rattle.wasm_code.specs.BodyViews.{body_view}
 pub use Rattle.wasm_code.specs.Code.{code_decoding, raw_code_decoding}

@@ -1,4 +1,4 @@
--- This file re-exports the definitions that the specs of dependent crates use.
+-- This file re-exports definitions that the specs of dependent crates use.
 pub use Rattle.wasm_custom.specs.Comdats.{Comdat, comdat_view}
 pub use Rattle.wasm_custom.specs.CoreDumps.{Instance, core_decoding, core_name, core_payload, instance_view, instances_decoding, instances_name, instances_payload, modules_decoding, modules_name}
 pub use Rattle.wasm_custom.specs.CoreDumps.{modules_payload}

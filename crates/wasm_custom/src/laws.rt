@@ -216,8 +216,9 @@ pub fn object_linking()
     ensures built { IsIncludedIn (linking_payload padded_mode) (object_payload padded_mode) }
 {}
 
-/// Two byte sequences that encode no section, even if padded LEB128 is admitted. In the branch
-/// hints, a value has two bytes. In the linking section, a defined function has no name.
+/// Two byte sequences that encode, in the builders' grammar, no section of branch hints and no
+/// linking section, even if padded LEB128 is admitted. In the first a value has two bytes. In the
+/// second a defined function has no name.
 #[tactic(auto, using(crate::proofs::RejectionLaws::nothing))]
 pub fn rejections()
     ensures long_value { RejectsAllAfterPadded (size_prefixed hints_payload) (33 ∷ 25 ∷ (hints_name ++ (1 ∷ 0 ∷ 1 ∷ 3 ∷ 1 ∷ 128 ∷ 1 ∷ []))) }

@@ -1,4 +1,4 @@
-// Counted lists, each of which is one argument of a call that adds to a section.
+// Counted lists, each of which is one argument of a call that adds to a section or to another list.
 ghost use Rattle.std.specs.Prelude.{◌≡◌, ◌≢◌, ℕ, List, [], length, IfOk, IsTrue, ◌↔◌, ⊤, Option};
 ghost use Rattle.wasm_base.specs.Calls.{Adds};
 ghost use Rattle.wasm_base.specs.declared.refused.Refused.TheVariants.{TooLong};

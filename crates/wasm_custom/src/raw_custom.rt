@@ -8,7 +8,8 @@ use std::alloc::Allocator;
 use wasm_base::{Encode, Result, Section, SectionId};
 
 /// A custom section of raw bytes, including its size prefix. The bytes are not checked: if they are
-/// not a size prefix, a name and data, a reader of the module decodes other sections, or fails.
+/// not a size prefix, a name and data, a reader of the module finds a section without a name or
+/// other sections there, or fails.
 ///
 /// ```rust
 /// module.section(&RawCustomSection(&[2, 1, b'a']))?;

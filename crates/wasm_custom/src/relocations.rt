@@ -128,13 +128,17 @@ impl Encode for Addend64Relocation {
     }
 }
 
-/// A relocation: where the linker writes a number, and the symbol that it computes the number from.
+/// A relocation: where the linker writes a number, and the symbol or type that it computes the
+/// number from.
+///
+/// Offsets count from the start of the section's payload, in a custom section from the end of its
+/// name.
 #[derive(Clone, Copy, PartialEq, Eq, Hash, Debug)]
 pub enum Relocation {
     /// A relocation without an addend.
     Plain {
         kind: PlainRelocation,
-        /// The offset in the section's payload.
+        /// The offset in the section, in bytes.
         offset: u32,
         /// The index of the symbol, or of the type of a `TypeIndexLeb`.
         index: u32,
@@ -142,7 +146,7 @@ pub enum Relocation {
     /// A relocation with an addend of 32 bits.
     Addend32 {
         kind: Addend32Relocation,
-        /// The offset in the section's payload.
+        /// The offset in the section, in bytes.
         offset: u32,
         /// The index of the symbol.
         index: u32,
@@ -152,7 +156,7 @@ pub enum Relocation {
     /// A relocation with an addend of 64 bits.
     Addend64 {
         kind: Addend64Relocation,
-        /// The offset in the section's payload.
+        /// The offset in the section, in bytes.
         offset: u32,
         /// The index of the symbol.
         index: u32,

@@ -65,7 +65,7 @@ mem_flags m = bit_or (bit_or m.align (where_set (has_ordering m.ordering) 0x10))
 
 -- The encoding of a memory argument: flags, the index if it is encoded, the byte of the ordering if
 -- it is explicit, and the offset. Core specification, Binary Format, Instructions, Memory
--- Instructions.
+-- Instructions; it lacks the ordering and the index of an array type.
 abbrev pub mem_arg_encoding : MemArg → List ℕ
 mem_arg_encoding m =
     unsigned_encoding (mem_flags m) ++ (optional_encoding unsigned_encoding (index_of m.target) ++ (optional_encoding (λ o. mem_ordering_code o ∷ []) m.ordering ++ unsigned_encoding m.offset))

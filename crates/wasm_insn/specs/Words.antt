@@ -1,4 +1,4 @@
--- This file re-exports the definitions that the specs of dependent crates use.
+-- This file re-exports definitions that the specs of dependent crates use.
 pub use Rattle.wasm_insn.specs.Arguments.{Argument, labels, memory, signed32, unsigned}
 pub use Rattle.wasm_insn.specs.Instructions.{IsEncodableInstruction, IsWellFormedInstruction, instruction_encoding, row_of}
 pub use Rattle.wasm_insn.specs.Plain.{IsWellFormed, Plain, instruction, normal, plain_encoding, same_op}

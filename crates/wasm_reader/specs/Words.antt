@@ -1,4 +1,4 @@
--- This file re-exports the definitions that the specs of dependent crates use.
+-- This file re-exports definitions that the specs of dependent crates use.
 pub use Rattle.wasm_reader.specs.Iterating.{Iterating, Located, LocatedBody, ahead, known_kind_of}
 pub use Rattle.wasm_reader.specs.Kinds.{Bodies, Contents, Functions, content, contents_of, kind_in, kind_numbered, number_in}
 pub use Rattle.wasm_reader.specs.Modules.{HasLines, StopsAt}

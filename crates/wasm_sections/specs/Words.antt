@@ -1,4 +1,4 @@
--- This file re-exports the definitions that the specs of dependent crates use.
+-- This file re-exports definitions that the specs of dependent crates use.
 pub use Rattle.wasm_sections.specs.DataSegments.{DataItem, active_encoding, data_count_decoding, data_decoding, data_item, segment_view}
 pub use Rattle.wasm_sections.specs.Elements.{ElementItem, element, element_decoding, element_view}
 pub use Rattle.wasm_sections.specs.Exports.{ExportItem, export, export_decoding, item_of, kind_code}

@@ -151,9 +151,10 @@ pub fn padded_payloads()
     ensures numbers { DecodesPayloadsPadded u32_format }
 {}
 
-/// Three byte sequences that encode no section, even if padded LEB128 is admitted. In the globals,
-/// bytes follow the first `End` of a constant expression. In the data, the explicit memory of a
-/// segment is memory 0. In the imports, the byte 00 before a group is padded.
+/// Three byte sequences that encode no section of their kind in the builders' grammar, even if
+/// padded LEB128 is admitted. In the globals, bytes follow the first `End` of a constant
+/// expression. In the data, the explicit memory of a segment is memory 0, which the standard
+/// admits. In the imports, the byte 00 before a group is padded.
 #[tactic(auto, using(crate::proofs::RejectionLaws::nothing))]
 pub fn rejections()
     ensures inner_end { RejectsAllAfterPadded (counted_format global_item) (9 ∷ 1 ∷ 127 ∷ 0 ∷ 65 ∷ 1 ∷ 11 ∷ 65 ∷ 2 ∷ 11 ∷ []) }

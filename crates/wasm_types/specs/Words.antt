@@ -1,3 +1,3 @@
--- This file re-exports the definitions that the specs of dependent crates use.
+-- This file re-exports definitions that the specs of dependent crates use.
 pub use Rattle.wasm_types.specs.Items.{entry_view}
 pub use Rattle.wasm_types.specs.RecTypes.{Sub, TypeItem, array, func, plain_type, single, structure, type_decoding, type_item}

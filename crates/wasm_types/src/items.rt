@@ -1,4 +1,4 @@
-// The decoded entries of a type section, subtypes and recursion groups: decoded, and encoded again.
+// Entries of a type section, subtypes and recursion groups: decoded, and encoded again.
 ghost use Rattle.std.specs.Prelude.{◌≢◌, IfOk, IfErr};
 ghost use Rattle.wasm_base.specs.Formats.{such};
 ghost use Rattle.wasm_base.specs.Numbers.{padded_of};

@@ -1,4 +1,5 @@
-/* Assembles recipes, lists and outlines what modules hold, and shortens padded sections and modules. */
+/* Assembles recipes, lists and outlines what modules hold, and shortens padded sections and
+   modules. */
 #include "dolzhytik.h"
 #include <inttypes.h>
 #include <stdio.h>
@@ -118,7 +119,8 @@ static void shorten_module(const void *module, size_t len, uint32_t drop_offsets
     printf("\n");
 }
 
-/* A type, a custom section of padded numbers called `name`, one without a name, and seven functions that don't stand there. */
+/* A type, a custom section of padded numbers called `name`, one without a name, and a function
+   section that counts seven functions and ends before them. */
 static const char outlined[] = "\0asm\x01\0\0\0" "\x01\x04\x01\x60\0\0" "\0\x87\0\x84\0name\xFF" "\0\x01\x05" "\x03\x01\x07";
 
 /* A padded code section, and symbols, which hold offsets into it. */

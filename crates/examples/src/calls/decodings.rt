@@ -1,5 +1,5 @@
-//! Bodies that decode to other instructions than those that were encoded: each function does
-//! nothing, and its clause states the decoded body.
+//! Bodies whose decoded instructions are not those of the pieces that were appended: each function
+//! does nothing, and its clause states the decoded body.
 ghost use Rattle.std.specs.Prelude.{◌∷◌, []};
 ghost use Rattle.wasm_base.specs.Decoding.{DecodesWhole};
 ghost use Rattle.wasm_code.specs.Bodies.{body};

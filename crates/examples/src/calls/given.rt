@@ -1,4 +1,5 @@
-//! Values that are made from their fields, and sections of core dumps as custom sections.
+//! Values that are made from their fields, and sections of core dumps and of relocations as custom
+//! sections.
 ghost use Rattle.std.specs.Prelude.{◌≡◌, [], IfOk, true};
 ghost use Rattle.wasm_base.specs.Cow.{items_of, utf8_of};
 ghost use Rattle.wasm_code.specs.Expressions.{Stores};

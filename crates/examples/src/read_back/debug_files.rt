@@ -1,5 +1,5 @@
-//! References to debug information, written and read back: a source map, a file, and the identity of
-//! the build.
+//! References to debug information, written and read back: a source map, a file, and the identity
+//! of the build.
 ghost use Rattle.std.specs.Prelude.{◌≡◌, ◌≢◌, [], IfOk, IfErr, OnOk};
 ghost use Rattle.wasm_base.specs.Formats.{size_prefixed};
 ghost use Rattle.wasm_base.specs.Modules.{GainsDecoding};

@@ -15,8 +15,8 @@ use wasm_custom::{
 };
 use wasm_reader::{Items, SectionKind};
 
-/// Appends the relocation section of a code section: relocations without an addend, and with addends
-/// of 32 and of 64 bits.
+/// Appends the relocation section of a code section: relocations without an addend, and with
+/// addends of 32 and of 64 bits.
 fn write_relocations<A: Allocator + Copy>(sink: &mut Vec<u8, A>, index: u32) -> Result<()>
     ensures { OnOk result (GainsDecoding (size_prefixed relocations_payload) (call_and_addresses index) sink.old.items sink.new.items) }
 {
