@@ -139,10 +139,13 @@ impl DecodeError {
         }
     }
 
-    /// Returns the number of bytes left, from the first byte that cannot be part of an encoding to
-    /// the end of the input. If a payload ends too soon, the count begins at the payload's end.
-    /// The number saturates at 4294967295, and means nothing for `Memory`. Tests show it; no
-    /// contract says it.
+    /// Returns the number of bytes left. The count begins at the first byte that cannot be part of
+    /// an encoding, with these exceptions: the first byte of a name that is not UTF-8 or lacks the
+    /// prefix `reloc.`, the first byte of an unknown opcode, the last size byte of a section name
+    /// of another length, and the end of a payload that ends too soon.
+    ///
+    /// The number saturates at 4294967295, and means nothing for `Memory`. Tests show where the
+    /// count begins; no contract says it.
     ///
     /// # Proved
     ///

@@ -249,8 +249,9 @@ pub fn padded_payloads() {}
 /// Definitions: [`IsIncludedIn`](crate::definitions::base::decoding::IsIncludedIn), [`linking_payload`](crate::definitions::custom::linking::linking_payload), [`standard`](crate::definitions::base::numbers::Mode), [`object_payload`](crate::definitions::custom::linking::object_payload), [`standard_minimal`](crate::definitions::base::numbers::Mode), [`padded_mode`](crate::definitions::base::numbers::Mode). [How to read clauses](crate::definitions).
 pub fn object_linking() {}
 
-/// Two byte sequences that encode no section, even if padded LEB128 is admitted. In the branch
-/// hints, a value has two bytes. In the linking section, a defined function has no name.
+/// Two byte sequences that encode, in the builders' grammar, no section of branch hints and no
+/// linking section, even if padded LEB128 is admitted. In the first a value has two bytes. In the
+/// second a defined function has no name.
 ///
 /// # Proved
 ///

@@ -1,5 +1,5 @@
 // Written by tools/to-rust from crates/wasm_custom/src/lists.rt: change that.
-// Counted lists, each of which is one argument of a call that adds to a section.
+// Counted lists, each of which is one argument of a call that adds to a section or to another list.
 
 use crate::vec::Sink;
 use crate::custom::subsections::{Content, Subsection};

@@ -167,7 +167,11 @@ impl Encode for Addend64Relocation {
     }
 }
 
-/// A relocation: where the linker writes a number, and the symbol that it computes the number from.
+/// A relocation: where the linker writes a number, and the symbol or type that it computes the
+/// number from.
+///
+/// Offsets count from the start of the section's payload, in a custom section from the end of its
+/// name.
 ///
 /// [`RelocationSection::relocation`](crate::fallible::RelocationSection::relocation) takes it,
 /// and [`Items::Relocations`](crate::reader::Items::Relocations) has them. The cases are the
@@ -196,7 +200,7 @@ pub enum Relocation {
     Plain {
         /// The kind.
         kind: PlainRelocation,
-        /// The offset in the section's payload.
+        /// The offset in the section, in bytes.
         offset: u32,
         /// The index of the symbol, or of the type of a `TypeIndexLeb`.
         index: u32,
@@ -205,7 +209,7 @@ pub enum Relocation {
     Addend32 {
         /// The kind.
         kind: Addend32Relocation,
-        /// The offset in the section's payload.
+        /// The offset in the section, in bytes.
         offset: u32,
         /// The index of the symbol.
         index: u32,
@@ -216,7 +220,7 @@ pub enum Relocation {
     Addend64 {
         /// The kind.
         kind: Addend64Relocation,
-        /// The offset in the section's payload.
+        /// The offset in the section, in bytes.
         offset: u32,
         /// The index of the symbol.
         index: u32,

@@ -892,7 +892,7 @@ pub trait formats {
     ///
     /// Definitions: [`Format`](formats::Format), [`Then`](formats::Then), [`u32`](formats::u32), [`members`](formats::members).
     type vec;
-    /// A size prefix, then a payload of exactly that many bytes, all of which encode one value.
+    /// A size prefix, then a payload of exactly that many bytes, which as a whole encode one value.
     ///
     /// ```text
     /// pub record SizePrefixed {X : Type 0} (F : Format X) (mode : Mode) (s : List ℕ) (x : X)

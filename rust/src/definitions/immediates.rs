@@ -382,7 +382,7 @@ pub trait immediates {
     ///
     /// Definitions: [`where_set`](immediates::where_set), [`has_ordering`](immediates::has_ordering), [`is_array`](immediates::is_array), [`has_memory`](immediates::has_memory).
     type mem_flags;
-    /// The encoding of a memory argument: flags, the index if it is encoded, the byte of the ordering if it is explicit, and the offset. Core specification, Binary Format, Instructions, Memory Instructions.
+    /// The encoding of a memory argument: flags, the index if it is encoded, the byte of the ordering if it is explicit, and the offset. Core specification, Binary Format, Instructions, Memory Instructions; it lacks the ordering and the index of an array type.
     ///
     /// ```text
     /// abbrev pub mem_arg_encoding : MemArg → List ℕ

@@ -3543,8 +3543,9 @@ fn cast_type(nullable: bool, heap_type: HeapType) -> RefType {
 ///
 /// # Errors
 ///
-/// Returns [`ReadFault::UnknownOpcode`] if no instruction has this opcode and these arguments. An
-/// instruction that was decoded has a case, as a test of each case shows.
+/// Returns [`ReadFault::UnknownOpcode`] if no instruction has this opcode and arguments of these
+/// types. Of the flags of a cast only bits 0 and 1 count. An instruction that was decoded has a case,
+/// as a test of each case shows.
 ///
 /// ```
 /// use dolzhytik::Instruction;
@@ -4204,7 +4205,8 @@ impl<'a, A: Allocator> TryFrom<(Op, &'a [Arg<A>])> for Instruction<'a> {
 ///
 /// # Errors
 ///
-/// Returns [`ReadFault::UnknownOpcode`] if no instruction has this opcode and these arguments.
+/// Returns [`ReadFault::UnknownOpcode`] if no instruction has this opcode and arguments of these
+/// types. Of the flags of a cast only bits 0 and 1 count.
 ///
 /// ```
 /// use dolzhytik::Instruction;

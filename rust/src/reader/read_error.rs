@@ -22,8 +22,9 @@ pub struct ReadError {
     pub cause: ReadFault,
     /// The offset of the first byte that cannot be part of an encoding, from the start of the
     /// module, in bytes; the end of a payload that ends too soon; the first byte of a name for
-    /// `NotUtf8`. It is unspecified for `Memory`. Contracts promise that it is in the decoded
-    /// section or payload, and tests check which byte it is.
+    /// `NotUtf8`, and of an opcode for `UnknownOpcode`. It is unspecified for `Memory`. Contracts
+    /// promise that it is not before the section, payload or body that does not decode, and not
+    /// past the end of the module, payload or body. Tests check which byte it is.
     pub offset: usize,
 }
 

@@ -513,7 +513,8 @@ impl<'a, A: Allocator + Copy, G: Grammar> Readable<'a, A, G> for ImportCompact<'
 }
 
 /// Returns the kind byte of a group and the remaining bytes, if the bytes begin with 00 and a byte
-/// that is the kind of no entity. No single import begins so after its module name.
+/// of 7E or above. Such a byte is the kind of no entity, so no single import begins so after its
+/// module name.
 ///
 /// # Proved
 ///

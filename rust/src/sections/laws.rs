@@ -190,9 +190,10 @@ pub fn payloads() {}
 /// Definitions: [`DecodesPayloadsPadded`](crate::definitions::base::modules::DecodesPayloadsPadded), [`vec`](crate::definitions::base::formats::vec), [`u32_format`](crate::definitions::base::formats::u32), [`table_item`](crate::definitions::sections::tables::table_item), [`memory_type`](crate::definitions::sections::memories::memory_type), [`global_item`](crate::definitions::sections::globals::global_item), [`export`](crate::definitions::sections::exports::export), [`element`](crate::definitions::sections::elements::element), [`data_item`](crate::definitions::sections::data_segments::data_item), [`import_format`](crate::definitions::sections::imports::import_format), [`tag_type`](crate::definitions::sections::tags::tag_type). [How to read clauses](crate::definitions).
 pub fn padded_payloads() {}
 
-/// Three byte sequences that encode no section, even if padded LEB128 is admitted. In the globals,
-/// bytes follow the first `End` of a constant expression. In the data, the explicit memory of a
-/// segment is memory 0. In the imports, the byte 00 before a group is padded.
+/// Three byte sequences that encode no section of their kind in the builders' grammar, even if
+/// padded LEB128 is admitted. In the globals, bytes follow the first `End` of a constant
+/// expression. In the data, the explicit memory of a segment is memory 0, which the standard
+/// admits. In the imports, the byte 00 before a group is padded.
 ///
 /// # Proved
 ///

@@ -1,5 +1,5 @@
 // Written by tools/to-rust from crates/wasm_types/src/items.rt: change that.
-// The decoded entries of a type section, subtypes and recursion groups: decoded, and encoded again.
+// Entries of a type section, subtypes and recursion groups: decoded, and encoded again.
 
 use crate::vec::{Sink, Vec};
 use crate::types::shapes::{read_composite, read_composite_after};

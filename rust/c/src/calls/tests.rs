@@ -507,7 +507,8 @@ const CAUSES: [RecipeCause; 9] = [
     RecipeCause::UnusedLocals,
 ];
 
-/// The messages are those that the errors and causes print themselves.
+/// The messages are the names that `Debug` prints of the errors, and the texts that the causes of
+/// recipes print.
 #[test]
 fn texts_that_are_printed() {
     let rt = crate::host::HostRuntime;

@@ -1,6 +1,6 @@
 // Written by tools/to-rust from crates/examples/src/calls/decodings.rt: change that.
-//! Bodies that decode to other instructions than those that were encoded: each function does
-//! nothing, and its clause states the decoded body.
+//! Bodies whose decoded instructions are not those of the pieces that were appended: each function
+//! does nothing, and its clause states the decoded body.
 
 /// After a load of alignment 16 and offset 0, the byte of `End` is an offset: the bytes decode to a
 /// load with an ordering, and to nothing else.

@@ -1,5 +1,6 @@
 // Written by tools/to-rust from crates/examples/src/calls/given.rt: change that.
-//! Values that are made from their fields, and sections of core dumps as custom sections.
+//! Values that are made from their fields, and sections of core dumps and of relocations as custom
+//! sections.
 
 use dolzhytik::fallible::Vec;
 use dolzhytik::fallible::Allocator;

@@ -1,6 +1,6 @@
 // Written by tools/to-rust from crates/examples/src/read_back/debug_files.rt: change that.
-//! References to debug information, written and read back: a source map, a file, and the identity of
-//! the build.
+//! References to debug information, written and read back: a source map, a file, and the identity
+//! of the build.
 
 use dolzhytik::fallible::{Sink, Vec};
 use crate::examples::read_back::read_and_shorten;

@@ -9,8 +9,8 @@ use dolzhytik::reader::ReadFault;
 use dolzhytik::fallible::{Addend32Relocation, Addend64Relocation, PlainRelocation, Relocation, RelocationSection};
 use dolzhytik::reader::{Items, SectionKind};
 
-/// Appends the relocation section of a code section: relocations without an addend, and with addends
-/// of 32 and of 64 bits.
+/// Appends the relocation section of a code section: relocations without an addend, and with
+/// addends of 32 and of 64 bits.
 ///
 /// # Proved
 ///
