@@ -118,7 +118,7 @@ pub fn padded_function<'a, A: Allocator + Copy + 'a>(
     Ok(items)
 }
 
-/// Appends two decoded values, or neither.
+/// Appends two decoded values. After an error, the bytes of the sink are unchanged.
 pub fn both_or_neither<T: Shorten, U: Shorten, A: Allocator>(
     first: &T,
     second: &U,

@@ -387,8 +387,8 @@ fn append_custom<B: Allocator>(name: &str, bytes: &[u8], sink: &mut Vec<u8, B>) 
 ///
 /// # Errors
 ///
-/// Returns `TooLong` if a count or a length is above 4294967295, and `Memory` if an allocation
-/// fails.
+/// Returns `TooLong` only if no bytes decode to the items in the builders' grammar, and `Memory` if
+/// an allocation fails.
 #[tactic(auto, using(crate::proofs::KindLaws::contents, crate::proofs::KindLaws::fitting))]
 pub fn encode_items<A: Allocator, B: Allocator>(
     items: &Items<'_, A>,
