@@ -494,8 +494,8 @@ fn append_custom<B: Sink>(name: &str, bytes: &[u8], sink: &mut B) -> Result<()> 
 ///
 /// # Errors
 ///
-/// Returns `TooLong` if a count or a length is above 4294967295, and `Memory` if an allocation
-/// fails.
+/// Returns `TooLong` only if no bytes decode to the items in the builders' grammar, and `Memory` if
+/// an allocation fails.
 ///
 /// # Examples
 ///

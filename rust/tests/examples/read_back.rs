@@ -141,7 +141,7 @@ pub fn padded_function<'a, A: Allocator + Copy + 'a>(
     Ok(items)
 }
 
-/// Appends two decoded values, or neither.
+/// Appends two decoded values. After an error, the bytes of the sink are unchanged.
 ///
 /// # Proved
 ///
