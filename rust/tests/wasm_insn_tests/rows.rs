@@ -1,6 +1,6 @@
 // Written by tools/to-rust from tests/wasm_insn_tests/src/rows.rtt: change that.
 // Written by tools/instructions from tools/instructions.tsv: do not edit.
-//! The bytes of each instruction, in hexadecimal, in the order of `cases.rt`.
+//! The bytes of each instruction, in hexadecimal, in the order of `cases`.
 
 pub static INSTRUCTIONS: [&str; 122] = [
     "00", // Unreachable

@@ -68,7 +68,7 @@ def cases_file(cases: list[Case]) -> str:
 
 def rows_file(cases: list[Case]) -> str:
     """Returns the file of their bytes, in hexadecimal."""
-    text = NOTE + "//! The bytes of each instruction, in hexadecimal, in the order of `cases.rt`.\n"
+    text = NOTE + "//! The bytes of each instruction, in hexadecimal, in the order of `cases`.\n"
     for static, of in [(static_of(enum), of_enum(cases, enum)) for enum in TESTED] + [("NAMES", named(cases))]:
         text += f"\npub static {static}: [&str; {len(of)}] = [\n" + "".join(f'    "{bytes(bytes_of(it)).hex()}", // {it.name}\n' for it in of) + "];\n"
     return text

@@ -9,7 +9,7 @@ from ..definitions.imports import parsed
 from ..definitions.library import library
 from ..to_rust.command import generated
 from ..to_rust.crates import Crate
-from ..to_rust.glosses import asked, check_form, gloss, head
+from ..to_rust.glosses import EXACT, asked, check_form, check_rows, gloss, head
 from ..to_rust.written import Written
 from .report import stops
 
@@ -70,6 +70,13 @@ def names_keep_their_form() -> None:
     check_form('ensures front { IsFrontOf sink.old.items sink.new.items }', 'a.rt:1')
     check_form('requires spare { a ≤ b }', 'a.rt:1')
     assert stops(check_form, 'ensures found { IfErr result (λ e. p) }', 'a.rt:1').startswith('a.rt:1: a clause found')
+
+
+def rows_are_of_clauses() -> None:
+    """The generator stops at words for a clause, or for a form, that no clause has."""
+    term = next(iter(EXACT))
+    assert stops(check_rows, set(EXACT) - {term}) == f'to_rust/glosses.py has words for a clause that no call has: {term}'
+    assert stops(check_rows, set(EXACT)).startswith('to_rust/glosses.py has words for a form that no clause has: ')
 
 
 def front_page_explains() -> None:
@@ -134,6 +141,7 @@ TESTS = [
     links_clauses,
     glosses,
     names_keep_their_form,
+    rows_are_of_clauses,
     front_page_explains,
     every_link_is_to_a_definition,
     calls_that_ask_are_linked,

@@ -2,16 +2,19 @@
 one."""
 from __future__ import annotations
 
+import functools
 import os
 import pathlib
 import shutil
 import subprocess
 import sys
 import tempfile
+from collections.abc import Callable
 
 from ..repository import TOP
 from ..wasm32.copies import PRELUDE, Copy, Unknown, without
 from ..wasm32.target import replace_links
+from .report import run_all
 
 TESTS = '''//! Tests.
 #![allow(dead_code)]
@@ -214,15 +217,15 @@ def lists_of_the_tool(room: Room) -> None:
 ALL = [copies, items_left_out, unknown_forms, not_run, newer_lists, links_replaced, lists_of_the_tool]
 
 
+def in_a_room(test: Callable[[Room], None]) -> Callable[[], None]:
+    """Returns the test with a room of its own."""
+    @functools.wraps(test)
+    def run() -> None:
+        with tempfile.TemporaryDirectory(prefix='wasm32-test-') as path:
+            test(Room(path))
+    return run
+
+
 def main() -> int:
     """Runs the tests."""
-    failed = 0
-    for test in ALL:
-        with tempfile.TemporaryDirectory(prefix='wasm32-test-') as path:
-            try:
-                test(Room(path))
-            except AssertionError as error:
-                failed += 1
-                print(f'wasm32-test: {test.__name__}: {error}')
-    print(f'{len(ALL) - failed} passed, {failed} failed')
-    return 1 if failed else 0
+    return run_all('wasm32-test', [in_a_room(test) for test in ALL])

@@ -15,7 +15,7 @@ from ..repository import TOP, text_of
 from .asks import asks, list_of
 from .beside import check_used
 from .context import sources
-from .glosses import names_table
+from .glosses import check_rows, names_table, parts
 from .tables import LIBRARIES
 from .written import written
 
@@ -23,15 +23,18 @@ from .written import written
 def generated(top: pathlib.Path = TOP) -> dict[str, str]:
     """Returns the text of each generated file, by its path below rust/."""
     files, rows = {}, []
+    terms: set[str] = set()
     imports = {it.path: it.imports for it in library().files.values()}
     for it in sources(top):
         file = written(it)
         files[it.crate.target(it.relative)] = file.text
         if it.crate.name in LIBRARIES:
             rows += asks(it.crate, file.source)
+            terms |= {parts(proved)[1] for notes in file.source.notes.values() for proved in notes.get('Proved', [])}
             imports[file.path] = [scope.use for scope in file.source.scopes]
     files['src/asks.md'] = list_of(rows)
     check_widths(files)
+    check_rows(terms)
     check_used()
     front.check(imports, front.page())
     return {**files, **pages(library(), names_table())}

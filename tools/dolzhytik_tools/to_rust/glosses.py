@@ -2,20 +2,21 @@
 
 A clause of the form `IfOk result ..` says something of calls that return `Ok` only, and so on:
 `gloss` sorts the clauses of a function by that. `NAMES` has the names of clauses that mean the same
-wherever they are. The generator stops at a clause with such a name and another form. A clause that
-is one definition with its arguments says what the definition's sentence says. `ASKED` has words for
-what calls ask.
+wherever they are. The generator stops at an `ensures` with such a name and another form. `EXACT`
+has words for single clauses, by their text, and `SAID` for clauses of a form. The generator stops at
+a row of these that no clause has, since a changed clause leaves its row behind. A clause that is one
+definition with its arguments says what the definition's sentence says. `ASKED` has words for what
+calls ask.
 """
 from __future__ import annotations
 
 import re
-from collections.abc import Mapping, Sequence
+from collections.abc import Collection, Mapping, Sequence
 from dataclasses import dataclass
 
 from ..errors import Stop
 
 CLAUSE = re.compile(r'(?:ensures|requires)\s+(\w+ )?\{(.*)\}', re.S)
-# One argument: a word, or brackets around anything.
 AFTER_OK = re.compile(r'(?:IfOk|OnOk) result (.*)', re.S)
 AFTER_ERROR = re.compile(r'(?:IfErr|OnErr) result (.*)', re.S)
 
@@ -244,6 +245,16 @@ def head(clause: str) -> str:
 def words_of(term: str) -> str:
     """Returns what a term of a known form says, or an empty line."""
     return EXACT.get(term) or next((said for form, said in SAID if re.fullmatch(form, term)), '')
+
+
+def check_rows(terms: Collection[str]) -> None:
+    """Stops at a row of `EXACT` or `SAID` that no clause has."""
+    for term in EXACT:
+        if term not in terms:
+            raise Stop(f'to_rust/glosses.py has words for a clause that no call has: {term}')
+    for form, _ in SAID:
+        if not any(re.fullmatch(form, it) for it in terms):
+            raise Stop(f'to_rust/glosses.py has words for a form that no clause has: {form}')
 
 
 def told(name: str, term: str) -> str:
