@@ -1,4 +1,5 @@
-# Completion of dolzhytik for bash. Source this file, or copy it to the folder of bash-completion as `dolzhytik`.
+# Completion of dolzhytik for bash. Source this file, or copy it to the folder of bash-completion as
+# `dolzhytik`.
 _dolzhytik() {
     local word=${COMP_WORDS[COMP_CWORD]} before=${COMP_WORDS[COMP_CWORD - 1]} words=
     local commands='outline dump size strip shorten build help'

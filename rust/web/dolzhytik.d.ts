@@ -3,8 +3,8 @@ export interface Section {
   /** The section id. */
   id: number;
   /**
-   * The kind that the id stands for: `custom`, `type`, `import`, `function`, `table`, `memory`, `global`, `export`,
-   * `start`, `element`, `code`, `data`, `data count`, `tag` or `unknown`.
+   * The kind that the id stands for: `custom`, `type`, `import`, `function`, `table`, `memory`,
+   * `global`, `export`, `start`, `element`, `code`, `data`, `data count`, `tag` or `unknown`.
    */
   kind: string;
   /** The name of a custom section; null if it has none, and in other sections. */
@@ -14,8 +14,9 @@ export interface Section {
   /** The size of the payload, in bytes. */
   size: number;
   /**
-   * The number of items; null if the payload does not decode, and in custom and unknown sections, whose items are not
-   * counted. A recursion group of types is one item, and so is a group of imports.
+   * The number of items; null if the payload does not decode, and in custom and unknown sections,
+   * whose items are not counted. A recursion group of types is one item, and so is a group of
+   * imports.
    */
   items: number | null;
 }
@@ -26,24 +27,30 @@ export interface Item {
   offset: number;
   /** The size, in bytes. A function body has its size prefix. */
   size: number;
-  /** What the bytes decode to, for the most part in the WebAssembly text format. Later versions may change it. */
+  /**
+   * What the bytes decode to, for the most part in the WebAssembly text format. Later versions may
+   * change it.
+   */
   text: string;
 }
 
 export interface MinimizeOptions {
   /**
-   * Leaves out the custom sections that hold offsets: `linking`, `reloc.*`, `.debug_*`, `metadata.code.*`,
-   * `external_debug_info`, `build_id` and `sourceMappingURL`.
+   * Leaves out the custom sections that hold offsets: `linking`, `reloc.*`, `.debug_*`,
+   * `metadata.code.*`, `external_debug_info`, `build_id` and `sourceMappingURL`.
    */
   dropOffsets?: boolean;
 }
 
 /**
- * Why a call fails. If memory is refused, the cause is `out of memory`, and offset and line are null if no section or
- * line needs it.
+ * Why a call fails. If memory is refused, the cause is `out of memory`, and offset and line are
+ * null if no section or line needs it.
  */
 export class DolzhytikError extends Error {
-  /** What the program `dolzhytik` reports, without the name of the file; `dropOffsets` for `--drop-offsets`. */
+  /**
+   * What the program `dolzhytik` reports, without the name of the file; `dropOffsets` for
+   * `--drop-offsets`.
+   */
   message: string;
   /** The message without the section and the offset, or without the line. */
   cause: string;
@@ -55,20 +62,22 @@ export class DolzhytikError extends Error {
 
 /**
  * Returns the sections of a module, whether or not their payloads decode.
- * @throws {DolzhytikError} if the bytes do not begin with the header, or do not have all bytes of a section.
+ * @throws {DolzhytikError} if the bytes do not begin with the header, or do not have all bytes of a
+ * section.
  */
 export function outline(module: Uint8Array): Section[];
 
 /**
- * Returns the sections of a module, each of which decodes. Payloads of type and unknown sections are not decoded, nor
- * is a custom section behind its name; `items` is null in all of these.
+ * Returns the sections of a module, each of which decodes. Payloads of type and unknown sections
+ * are not decoded, nor is a custom section behind its name; `items` is null in all of these.
  * @throws {DolzhytikError} if a payload does not decode, or as {@link outline} does.
  */
 export function list(module: Uint8Array): Section[];
 
 /**
  * Returns the minimal encoding of a module. A section that does not decode is kept, byte for byte.
- * @throws {DolzhytikError} if offsets in custom sections would no longer fit, or as {@link outline} does.
+ * @throws {DolzhytikError} if offsets in custom sections would no longer fit, or as {@link outline}
+ * does.
  */
 export function minimize(module: Uint8Array, options?: MinimizeOptions): Uint8Array;
 
@@ -79,8 +88,9 @@ export function minimize(module: Uint8Array, options?: MinimizeOptions): Uint8Ar
 export function assemble(recipe: string): Uint8Array;
 
 /**
- * Returns the items of the section at this index of the outline, or the first ones, up to a limit. There are none if
- * the section does not decode, and in custom sections but `name`, `producers`, `linking` and branch hints.
+ * Returns the items of the section at this index of the outline, or the first ones, up to a limit.
+ * There are none if the section does not decode, and in custom sections but `name`, `producers`,
+ * `linking` and branch hints.
  * @throws {DolzhytikError} as {@link outline} does.
  * @throws {RangeError} if the index is no integer, or either number is negative.
  */

@@ -33,14 +33,20 @@ async function compile(url) {
 }
 
 const compiled = await compile(new URL('./dolzhytik.wasm', import.meta.url));
-/** The exports of the instance that takes the next call. It is null during a call, and after one that was stopped. */
+/**
+ * The exports of the instance that takes the next call. It is null during a call, and after one
+ * that was stopped.
+ */
 let idle = (await WebAssembly.instantiate(compiled)).exports;
 
 function outOfMemory() {
   return new DolzhytikError(OUT_OF_MEMORY, { cause: OUT_OF_MEMORY, offset: null, line: null });
 }
 
-/** Copies bytes into the memory of an instance, and returns their address, or 0 where it has no space for them. */
+/**
+ * Copies bytes into the memory of an instance, and returns their address, or 0 where it has no
+ * space for them.
+ */
 function passed(wasm, bytes) {
   const address = bytes.length < NONE ? wasm.dz_alloc(bytes.length) >>> 0 : 0;
   if (address !== 0) {

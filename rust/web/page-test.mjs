@@ -792,7 +792,9 @@ function leastContrast() {
   return all.sort((a, b) => a.ratio - b.ratio)[0];
 }
 
-/** How much wider than the window the page is, and than their pane the bytes are. Runs in the page. */
+/**
+ * How much wider than the window the page is, and than their pane the bytes are. Runs in the page.
+ */
 function overflow() {
   const right = (selector) => document.querySelector(selector).getBoundingClientRect().right;
   return [document.scrollingElement.scrollWidth - innerWidth, right('#bytes .ascii') - right('#bytes')];

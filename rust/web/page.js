@@ -20,7 +20,10 @@ function posted({ message, cause, offset, line }) {
   return { message, cause: typeof cause === 'string' ? cause : null, offset: offset ?? null, line: line ?? null };
 }
 
-/** The sections of a module. Where it is damaged, those before the damage: they are a module of their own. */
+/**
+ * The sections of a module. Where it is damaged, those before the damage: they are a module of
+ * their own.
+ */
 function readSections({ outline, DolzhytikError }, module) {
   try {
     return { sections: outline(module), error: null };
@@ -31,10 +34,15 @@ function readSections({ outline, DolzhytikError }, module) {
   }
 }
 
-/** Whether the payload is not one of its id. Items of custom sections and of unknown ids are not counted. */
+/**
+ * Whether the payload is not one of its id. Items of custom sections and of unknown ids are not
+ * counted.
+ */
 const isFlawed = ({ id, name, items }) => (id === 0 ? name === null : id <= 13 && items === null);
 
-/** Why a section of a module does not decode, or null where each does. `list` does not decode types. */
+/**
+ * Why a section of a module does not decode, or null where each does. `list` does not decode types.
+ */
 function flawOf({ list }, module, sections) {
   const index = sections.findIndex(isFlawed);
   if (index < 0) return null;
@@ -125,7 +133,10 @@ const counted = (count, noun) => `${number(count)} ${noun}${count === 1 ? '' : '
 const range = (from, to) => (to - from > 1 ? `${hex(from)} to ${hex(to - 1)}` : hex(from));
 const byId = (id) => document.getElementById(id);
 
-/** An element with properties (those with a dash are attributes) and children. Strings become text nodes. */
+/**
+ * An element with properties (those with a dash are attributes) and children. Strings become text
+ * nodes.
+ */
 function make(tag, properties = {}, ...children) {
   const element = document.createElement(tag);
   for (const [name, value] of Object.entries(properties)) {
@@ -136,7 +147,10 @@ function make(tag, properties = {}, ...children) {
   return element;
 }
 
-/** A text of a module, with escapes for control characters and those that change the direction of text. */
+/**
+ * A text of a module, with escapes for control characters and those that change the direction of
+ * text.
+ */
 function escaped(text) {
   return text.replace(/[\p{Cc}\p{Cf}\p{Zl}\p{Zp}]/gu, (char) => `\\u{${char.codePointAt(0).toString(16)}}`);
 }
@@ -255,7 +269,9 @@ class Rows {
     this.made.replaceChildren(...rows);
   }
 
-  /** Scrolls a row into view: by as little as possible where it is near, else to the upper third. */
+  /**
+   * Scrolls a row into view: by as little as possible where it is near, else to the upper third.
+   */
   reveal(row) {
     const { height, scroller } = this;
     const { scrollTop, clientHeight } = scroller;
@@ -369,7 +385,9 @@ class ByteView {
     new ResizeObserver(() => this.#fit()).observe(element);
   }
 
-  /** Shows the bytes between two offsets. Those before the payload are the id and the size prefix. */
+  /**
+   * Shows the bytes between two offsets. Those before the payload are the id and the size prefix.
+   */
   show(bytes, from, payload, to) {
     Object.assign(this, { spot: -1, marked: { from: 0, to: 0 } });
     [this.#bytes, this.#from, this.#payload, this.#to] = [bytes, from, payload, to];
@@ -767,7 +785,10 @@ function paired(before, after) {
   });
 }
 
-/** A row of the savings. `after` is a size, null for a section that is left out, or undefined where not known. */
+/**
+ * A row of the savings. `after` is a size, null for a section that is left out, or undefined where
+ * not known.
+ */
 function savingRow(label, name, before, after) {
   const saved = after === undefined ? null : before - (after ?? 0);
   const row = make('tr', { className: saved === 0 ? 'none-saved' : '' });

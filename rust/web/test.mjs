@@ -183,7 +183,9 @@ test('recipes that are none', () => {
 
 const item = (offset, size, text) => ({ offset, size, text });
 
-/** Checks the items of a section with this id and payload, each of which has its bytes and its text. */
+/**
+ * Checks the items of a section with this id and payload, each of which has its bytes and its text.
+ */
 function checkItems(id, before, rows) {
   const bytes = rows.map(([text]) => hex(text));
   const payload = Uint8Array.from([...hex(before), ...bytes.flatMap((row) => [...row])]);

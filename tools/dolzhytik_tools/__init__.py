@@ -1,1 +1,2 @@
-"""The commands of tools/: each file beside this package is a thin script over one of its modules."""
+"""The commands of tools/: each file beside this package is a thin script over one of its
+modules."""

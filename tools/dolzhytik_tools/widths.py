@@ -48,7 +48,8 @@ class Expressions:
         return self.tokens[self.solid[at]] if 0 <= at < len(self.solid) else ''
 
     def rows(self) -> list[tuple[str, str]]:
-        """Returns each function's name and listed expression, in the order of the file, once each."""
+        """Returns each function's name and listed expression, in the order of the file, once
+        each."""
         rows: dict[tuple[str, str], None] = {}
         function = ''
         for at in range(len(self.solid)):

@@ -3544,8 +3544,8 @@ fn cast_type(nullable: bool, heap_type: HeapType) -> RefType {
 /// # Errors
 ///
 /// Returns [`ReadFault::UnknownOpcode`] if no instruction has this opcode and arguments of these
-/// types. Of the flags of a cast only bits 0 and 1 count. An instruction that was decoded has a case,
-/// as a test of each case shows.
+/// types. Of the flags of a cast only bits 0 and 1 count. An instruction that was decoded has a
+/// case, as a test of each case shows.
 ///
 /// ```
 /// use dolzhytik::Instruction;

@@ -20,7 +20,8 @@ class Shown:
 
 @dataclass(frozen=True)
 class ShownEntity:
-    """The kind of an import, the index of its type if that is all it has, and why it is in range."""
+    """The kind of an import, the index of its type if that is all it has, and why it is in
+    range."""
 
     kind: str
     index: str | None

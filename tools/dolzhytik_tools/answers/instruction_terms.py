@@ -32,7 +32,8 @@ class InstructionTerms:
         return self.instruction(self.case_of(call), arguments)
 
     def instruction(self, case: Case, arguments: tuple[Tree, ...]) -> Shown:
-        """An instruction with the arguments of its call, whose order may not be that of its fields."""
+        """An instruction with the arguments of its call, whose order may not be that of its
+        fields."""
         order = dict(zip(case.parameters, arguments))
         if len(arguments) != len(case.parameters):
             raise Stop("the call `%s` with %d arguments" % (case.call, len(arguments)))

@@ -1,4 +1,5 @@
-"""The sources of a crate of callers: its functions with their clauses, its constants and imports."""
+"""The sources of a crate of callers: its functions with their clauses, its constants and
+imports."""
 from __future__ import annotations
 
 import pathlib

@@ -6,7 +6,8 @@ from dataclasses import dataclass
 
 @dataclass(frozen=True)
 class BuilderLaws:
-    """A builder: the lemma of its `new`, the crate of its lemmas, and the predicate of its content."""
+    """A builder: the lemma of its `new`, the crate of its lemmas, and the predicate of its
+    content."""
 
     new: str
     crate: str
@@ -15,7 +16,8 @@ class BuilderLaws:
 
 @dataclass(frozen=True)
 class Gain:
-    """The lemmas of a filled builder: of a module that gains it, and of a buffer it is encoded to."""
+    """The lemmas of a filled builder: of a module that gains it, and of a buffer it is encoded
+    to."""
 
     of_module: str
     of_buffer: str

@@ -62,7 +62,8 @@ def calls_of(known: Definitions) -> dict[str, set[Key]]:
 
 
 def check(crates: pathlib.Path, outermost: Set[str], exceptions: Mapping[Exempt, str]) -> tuple[int, int]:
-    """Prints the functions that no other crate calls. Returns how many functions passed and failed."""
+    """Prints the functions that no other crate calls. Returns how many functions passed and
+    failed."""
     known = read(crates)
     called = calls_of(known)
     passed, failed, needed = 0, 0, set()

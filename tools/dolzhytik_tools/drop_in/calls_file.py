@@ -8,7 +8,8 @@ from .standard import alias, said
 
 
 def signature(case: Case) -> str:
-    """Returns the head of a call. A list is an iterator of known length, or a slice of value types."""
+    """Returns the head of a call. A list is an iterator of known length, or a slice of value
+    types."""
     generic, parameters = "", ""
     for name, ty in case.parameters:
         item = item_of(ty)

@@ -1,4 +1,5 @@
-"""What the standard calls an instruction: its name in the text format, its opcode, and its class."""
+"""What the standard calls an instruction: its name in the text format, its opcode, and its
+class."""
 from __future__ import annotations
 
 from ..errors import Stop

@@ -71,7 +71,8 @@ def shared_arms(enum: Enum, cases: list[Case], body: Body, of_nested: str, nothi
 
 
 def append(case: Case, indent: str) -> tuple[tuple[str, ...], str]:
-    """Encodes the fields of a case. Those of `Instruction` are borrowed, and its lists are slices."""
+    """Encodes the fields of a case. Those of `Instruction` are borrowed, and its lists are
+    slices."""
     names, parts, is_lent = case.fields if case.form == "by name" else case.letters, case.given.parts, case.enum == INSTRUCTION
     if case.form == "one":
         return names, f"slice::from_ref({names[0]}).encode(sink)"

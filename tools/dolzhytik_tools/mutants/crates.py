@@ -65,7 +65,8 @@ def is_of_the_gate(name: str) -> bool:
 
 
 def symbols_of(name: str) -> list[str]:
-    """Returns the prover's names of the functions of a built library, and none for any other crate."""
+    """Returns the prover's names of the functions of a built library, and none for any other
+    crate."""
     if not is_built(name):
         return []
     code = json.loads(text_of(f"{rlib(name)}/toolchain/mir.json"))

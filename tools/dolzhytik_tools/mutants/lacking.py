@@ -58,7 +58,8 @@ def count_bad(edits: list[Edit]) -> int:
 
 
 def functions_with_one(name: str, edits: dict[str, list[Edit]]) -> list[bool]:
-    """Returns of each function that needs a mutant whether it has one, and names those that do not."""
+    """Returns of each function that needs a mutant whether it has one, and names those that do
+    not."""
     edited = {it.target for folder in edits for it in edits[folder] if folder != "private" or name in DRIVEN}
     has_one = []
     for path in sorted(f"{at}/{file}"[len(f"crates/{name}/") :] for at, _, files in os.walk(f"crates/{name}/src") for file in files):

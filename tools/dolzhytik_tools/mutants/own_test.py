@@ -1,4 +1,5 @@
-"""The test of the tool on mutants of which some must be reported, and of the ledger on small files."""
+"""The test of the tool on mutants of which some must be reported, and of the ledger on small
+files."""
 from __future__ import annotations
 
 import argparse

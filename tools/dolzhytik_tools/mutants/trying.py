@@ -97,7 +97,8 @@ class Tries:
         return (again, alone) if len(again) < len(edits) else ([], again)
 
     def judge(self, edits: list[Edit], record: Callable[[list[Edit]], object] = lambda _: None) -> None:
-        """Tries all mutants, in as few checks as possible, and records the verdicts of each check."""
+        """Tries all mutants, in as few checks as possible, and records the verdicts of each
+        check."""
         for it in edits:
             if it.bad:
                 it.end(False, f"BAD EDIT: {it.at}: {it.bad}")

@@ -1,5 +1,5 @@
-"""Tests of tools/drop-in: a proved sink that the table does not fit, the enum's match, doc comments,
-and changed files."""
+"""Tests of tools/drop-in: a proved sink that the table does not fit, the enum's match, doc
+comments, and changed files."""
 from __future__ import annotations
 
 import pathlib
@@ -62,9 +62,9 @@ SAID = {
 
 
 def said_trouble() -> str | None:
-    """A doc comment has the name, the opcode, the class and the effect. A call that takes its arguments in
-    another order than its bytes says so. An opcode without a class stops the tool, and so does an
-    unknown field or name."""
+    """A doc comment has the name, the opcode, the class and the effect. A call that takes its
+    arguments in another order than its bytes says so. An opcode without a class stops the tool, and
+    so does an unknown field or name."""
     by_name = {it.name: it for it in cases()}
     wrong = [name for name, line in SAID.items() if documentation(by_name[name])[0] != line]
     if wrong:

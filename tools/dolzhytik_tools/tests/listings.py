@@ -1,5 +1,5 @@
-"""Runs the listings of README.md, docs/RECIPES.md and docs/C.md: programs compile, commands succeed,
-and both print what the page says."""
+"""Runs the listings of README.md, docs/RECIPES.md and docs/C.md: programs compile, commands
+succeed, and both print what the page says."""
 from __future__ import annotations
 
 import os
@@ -34,7 +34,8 @@ def blocks(page: str, language: str) -> list[str]:
 
 
 def run(folder: pathlib.Path, *words: str) -> tuple[int, str]:
-    """Runs a command in the folder with the built programs on the path, and returns its status and all that it printed."""
+    """Runs a command in the folder with the built programs on the path, and returns its status and
+    all that it printed."""
     path = os.pathsep.join([str(TARGET / "debug"), str(WASMROW), os.environ["PATH"]])
     done = subprocess.run(words, cwd=folder, env={**os.environ, "PATH": path}, stdout=subprocess.PIPE, stderr=subprocess.STDOUT, text=True)
     return done.returncode, done.stdout

@@ -122,7 +122,8 @@ def text(span: Span | None) -> str | None:
 
 
 def forms() -> None:
-    """Items of all forms are found in their order; macros, enums and nested functions are skipped."""
+    """Items of all forms are found in their order; macros, enums and nested functions are
+    skipped."""
     found = [(type(it).__name__, getattr(it, "name", "")) for it in ITEMS]
     assert found == [
         ("Use", ""), ("Use", ""), ("Constant", "MOST"), ("Function", "least"), ("Struct", "Pair"), ("Struct", "Named"), ("Struct", "Empty"),

@@ -1,5 +1,5 @@
-"""Documents public items beside their doc comments: by the texts of tools/rustdoc, by `# Errors`, and
-by the table of instructions.
+"""Documents public items beside their doc comments: by the texts of tools/rustdoc, by `# Errors`,
+and by the table of instructions.
 
 A file of tools/rustdoc has the texts of a library's items. `## NAME` or `## OWNER::NAME` begins the
 text of an item, lines `alias: WORD, WORD` are what search finds it by, lines `- NAME: TEXT` document
@@ -35,8 +35,8 @@ HEADINGS = ('/// # Errors', '/// # Panics', '/// # Examples')
 
 @dataclass
 class Text:
-    """The text of an item: its line in the file, words for search, the documentation of its members,
-    and what is appended to its doc comment."""
+    """The text of an item: its line in the file, words for search, the documentation of its
+    members, and what is appended to its doc comment."""
 
     where: str
     aliases: list[str] = field(default_factory=list)

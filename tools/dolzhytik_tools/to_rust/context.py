@@ -1,4 +1,5 @@
-"""Facts about all sources that one depends on: the traits, and the libraries that each crate names."""
+"""Facts about all sources that one depends on: the traits, and the libraries that each crate
+names."""
 from __future__ import annotations
 
 import functools

@@ -32,7 +32,8 @@ class Crate:
         return self.folder + '/' + (self.root if path.name == 'lib.rs' and len(path.parts) == 1 else str(path))
 
     def by_hand(self, path: str) -> str:
-        """Returns the path here of a name of a hand-written module: others find it in `fallible`."""
+        """Returns the path here of a name of a hand-written module: others find it in
+        `fallible`."""
         if self.name in LIBRARIES:
             return 'crate::' + path
         module, _, name = path.partition('::')

@@ -90,7 +90,8 @@ def clause_text(source: Source, place: int, end: int) -> str:
 
 
 def item_start(source: Source, function: int) -> int:
-    """Returns the first token of the function with this `fn`: of its attributes, or its visibility."""
+    """Returns the first token of the function with this `fn`: of its attributes, or its
+    visibility."""
     place = function
     while True:
         before = source.back(place)

@@ -235,7 +235,8 @@ def head_of(term: str) -> str:
 
 
 def head(clause: str) -> str:
-    """Returns the first word of a clause's term, or of what it says after `Ok` or after an error."""
+    """Returns the first word of a clause's term, or of what it says after `Ok` or after an
+    error."""
     term = parts(clause)[1]
     found = next((form.fullmatch(term) for form in (AFTER_OK, AFTER_ERROR) if is_after(form, term)), None)
     inner = found[1][1:-1] if found and found[1].startswith('(') else found[1] if found else term

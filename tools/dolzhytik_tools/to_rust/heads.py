@@ -1,4 +1,5 @@
-"""The lines of a generated file that its source lacks: imports, inner modules, runnable examples."""
+"""The lines of a generated file that its source lacks: imports, inner modules, runnable
+examples."""
 from __future__ import annotations
 
 import functools

@@ -1,4 +1,5 @@
-"""The lists of the generator of Rust: crates, and what it erases or changes, each with its reason."""
+"""The lists of the generator of Rust: crates, and what it erases or changes, each with its
+reason."""
 from __future__ import annotations
 
 from dataclasses import dataclass

@@ -105,7 +105,8 @@ class Copy:
         return line.replace('fn', 'pub(crate) fn', 1)
 
     def module(self, line: str) -> str:
-        """Returns a line. A module that it declares is visible to the root, and uses the prelude."""
+        """Returns a line. A module that it declares is visible to the root, and uses the
+        prelude."""
         if self.inner and line == self.inner[-1].indent + '}':
             self.inner.pop()
         declared = MODULE.match(line)

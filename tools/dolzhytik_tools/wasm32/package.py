@@ -54,7 +54,8 @@ def write(path: pathlib.Path, text: str) -> None:
 
 
 def folder(name: str, root: list[str]) -> list[str]:
-    """Writes the copies of the files of a folder but main.rs, and returns the paths of their tests."""
+    """Writes the copies of the files of a folder but main.rs, and returns the paths of their
+    tests."""
     tests: list[str] = []
     for path, copied in copies(name, root):
         write(PACKAGE / 'tests' / path, f'{copied.head}\n#[allow(unused_imports)]\n{copied.body}')
@@ -88,7 +89,8 @@ def program(name: str) -> list[str]:
 
 
 def check_lists() -> None:
-    """Stops unless every folder of rust/tests is in a list, and the files of `LEFT_OUT` are there."""
+    """Stops unless every folder of rust/tests is in a list, and the files of `LEFT_OUT` are
+    there."""
     folders = {path.name for path in TESTS.iterdir() if path.is_dir()} | {'limits'}
     listed = {*PROGRAMS, *SHARED, *NEED_PROCESSES}
     files = {name for name, _ in LEFT_OUT if not (TESTS / f'{name}.rs').is_file()}

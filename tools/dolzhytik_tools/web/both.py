@@ -141,7 +141,8 @@ def is_text(recipe: bytes) -> bool:
 
 
 def same_recipes(both: Both, folder: pathlib.Path) -> bool:
-    """Compares the modules of random recipes, some of them faulty. A string of JavaScript is text."""
+    """Compares the modules of random recipes, some of them faulty. A string of JavaScript is
+    text."""
     rng = random.Random(1)
     recipes = filter(is_text, (recipe_of(rng) for _ in range(RECIPES)))
     path = folder / 'recipe'
