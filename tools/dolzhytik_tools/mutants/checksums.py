@@ -4,13 +4,13 @@ A function is proved from its own body and proof files, from the contracts of it
 definitions and lemmas. Each lemma is proved too, so none makes a wrong body pass: lemmas are left
 out. So the checksum covers exactly
 - the mutant, and the mutated function with its proof files, and those of its cycle;
-- its crate's line of crates.txt, its definitions, and its sources without `#[inline]` and the bodies
-  of other functions, all without comments and blank lines;
+- its crate's line of crates.txt, its definitions, and its sources without `#[inline]` and the
+  bodies of other functions, all without comments and blank lines;
 - the same of each crate below;
 - the kit's logic, and the code that reads what a check prints (judging.py).
-If a mutant changes a constant, a table, a definition or several places, the checksum covers all bodies
-and the proof files of all functions of its crate. It has no machine, time or absolute path, so a
-committed verdict holds wherever these contents are the same.
+If a mutant changes a constant, a table, a definition or several places, the checksum covers all
+bodies and the proof files of all functions of its crate. It has no machine, time or absolute path,
+so a committed verdict holds wherever these contents are the same.
 """
 from __future__ import annotations
 

@@ -2,10 +2,11 @@
 and by the table of instructions.
 
 A file of tools/rustdoc has the texts of a library's items. `## NAME` or `## OWNER::NAME` begins the
-text of an item, lines `alias: WORD, WORD` are what search finds it by, lines `- NAME: TEXT` document
-its variants and fields (`VARIANT.FIELD` is a field of a variant), and what follows is appended to its
-doc comment, or replaces that of an item that the root of the package exports. Paragraphs go before
-the first heading of the doc comment. The tool stops at a text whose item is missing.
+text of an item, lines `alias: WORD, WORD` are what search finds it by, lines `- NAME: TEXT`
+document its variants and fields (`VARIANT.FIELD` is a field of a variant), and what follows is
+appended to its doc comment, or replaces that of an item that the root of the package exports.
+Paragraphs go before the first heading of the doc comment. The tool stops at a text whose item is
+missing.
 """
 from __future__ import annotations
 

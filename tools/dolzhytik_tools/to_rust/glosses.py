@@ -3,10 +3,10 @@
 A clause of the form `IfOk result ..` says something of calls that return `Ok` only, and so on:
 `gloss` sorts the clauses of a function by that. `NAMES` has the names of clauses that mean the same
 wherever they are. The generator stops at an `ensures` with such a name and another form. `EXACT`
-has words for single clauses, by their text, and `SAID` for clauses of a form. The generator stops at
-a row of these that no clause has, since a changed clause leaves its row behind. A clause that is one
-definition with its arguments says what the definition's sentence says. `ASKED` has words for what
-calls ask.
+has words for single clauses, by their text, and `SAID` for clauses of a form. The generator stops
+at a row of these that no clause has, since a changed clause leaves its row behind. A clause that is
+one definition with its arguments says what the definition's sentence says. `ASKED` has words for
+what calls ask.
 """
 from __future__ import annotations
 
