@@ -17,7 +17,10 @@ pub enum Grammar {
 pub trait Follow: Sized {
     fn grammar(&self) -> Grammar;
 
-    /// Follows `item`. Builders write `other` of its bytes, if that is some.
+    /// The grammar whose minimal encodings are written.
+    fn written(&self) -> Grammar;
+
+    /// Follows `item`. Its minimal encoding is `other` of its bytes, if that is some.
     fn rewritten(
         &mut self,
         item: fn(&mut Self) -> Option<()>,
@@ -176,12 +179,28 @@ fn by_builders(bytes: &[u8]) -> Option<Vec<u8>> {
     }
 }
 
+/// A nullable reference to an abstract type in one byte.
+fn in_one_byte(bytes: &[u8]) -> Option<Vec<u8>> {
+    match *bytes {
+        [0x63, tag] if ABSTRACT.contains(&tag) => Some(vec![tag]),
+        _ => None,
+    }
+}
+
+/// The minimal encoding of types in a grammar.
+fn minimal_type(written: Grammar) -> fn(&[u8]) -> Option<Vec<u8>> {
+    match written {
+        Grammar::Builders => by_builders,
+        Grammar::Standard => in_one_byte,
+    }
+}
+
 fn reference<G: Follow>(g: &mut G) -> Option<()> {
     let any_reference = |g: &mut G| {
         let tag = g.tag(&[short(g.grammar()), &REFERENCES].concat())?;
         reference_after(g, tag)
     };
-    g.rewritten(any_reference, by_builders)
+    g.rewritten(any_reference, minimal_type(g.written()))
 }
 
 fn value<G: Follow>(g: &mut G) -> Option<()> {
@@ -189,7 +208,7 @@ fn value<G: Follow>(g: &mut G) -> Option<()> {
         let tag = g.tag(&[&NUMBERS, short(g.grammar()), &REFERENCES].concat())?;
         reference_after(g, tag)
     };
-    g.rewritten(any_value, by_builders)
+    g.rewritten(any_value, minimal_type(g.written()))
 }
 
 fn block<G: Follow>(g: &mut G) -> Option<()> {
@@ -200,7 +219,7 @@ fn block<G: Follow>(g: &mut G) -> Option<()> {
             None => g.index(),
         }
     };
-    g.rewritten(any_block, by_builders)
+    g.rewritten(any_block, minimal_type(g.written()))
 }
 
 // ---- immediates

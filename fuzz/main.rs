@@ -62,7 +62,12 @@ fn agree(kind: u32, bytes: &[u8]) -> (bool, bool) {
     let mut room = vec![BLANK; bytes.len()];
     let library = by_library(kind, bytes, &mut room);
     match (
-        shortened(bytes, KINDS[kind as usize], Grammar::Builders),
+        shortened(
+            bytes,
+            KINDS[kind as usize],
+            Grammar::Builders,
+            Grammar::Builders,
+        ),
         library,
     ) {
         (Some((encoding, taken)), Ok((length, by))) => (

@@ -112,6 +112,10 @@ impl Follow for Maker<'_> {
         self.grammar
     }
 
+    fn written(&self) -> Grammar {
+        self.grammar()
+    }
+
     fn rewritten(
         &mut self,
         item: fn(&mut Self) -> Option<()>,

@@ -244,19 +244,25 @@ fn has_items(given: &reader::Section<'_>, expected: &Section<'_>) -> bool {
         (Ok(items), Ok(count)) => {
             let mut payload = fallible::Vec::new(Global);
             count == expected.items()
-                && expected.shortest(Grammar::Standard).is_some()
+                && expected
+                    .shortest(Grammar::Standard, Grammar::Standard)
+                    .is_some()
                 && encode_items(&items, &mut payload).is_ok()
-                && expected.shortest(Grammar::Builders).is_none_or(|encoding| {
-                    let size = encoding.len() - payload.len();
-                    encoding[size..] == *payload && size <= 5
-                })
+                && expected
+                    .shortest(Grammar::Builders, Grammar::Builders)
+                    .is_none_or(|encoding| {
+                        let size = encoding.len() - payload.len();
+                        encoding[size..] == *payload && size <= 5
+                    })
         }
         (Err(error), Err(same)) => {
             let range = given.range();
             error == same
                 && (range.start..=range.end).contains(&error.offset)
                 && ![ReadFault::Memory, ReadFault::NotShortest].contains(&error.cause)
-                && expected.shortest(Grammar::Standard).is_none()
+                && expected
+                    .shortest(Grammar::Standard, Grammar::Standard)
+                    .is_none()
         }
         _ => false,
     }

@@ -1,5 +1,4 @@
-//! A plain reader: it decodes bytes, and writes the minimal encoding of the same items, as builders
-//! write it.
+//! A plain reader: it decodes bytes, and writes the minimal encoding of the same items in a grammar.
 
 use crate::grammar::{Follow, Grammar, table};
 use std::collections::HashMap;
@@ -9,6 +8,7 @@ pub struct Plain<'a> {
     pub rest: &'a [u8],
     pub encoding: Vec<u8>,
     grammar: Grammar,
+    written: Grammar,
 }
 
 pub fn put_unsigned(encoding: &mut Vec<u8>, mut n: u64) {
@@ -39,12 +39,18 @@ fn shapes() -> &'static HashMap<(u8, u32), &'static str> {
 }
 
 impl<'a> Plain<'a> {
-    /// Reads from the first of the bytes on.
+    /// Reads from the first of the bytes on, and writes as builders do.
     pub fn new(rest: &'a [u8], grammar: Grammar) -> Self {
+        Plain::between(rest, grammar, Grammar::Builders)
+    }
+
+    /// Reads in one grammar, and writes in another.
+    fn between(rest: &'a [u8], grammar: Grammar, written: Grammar) -> Self {
         Plain {
             rest,
             encoding: Vec::new(),
             grammar,
+            written,
         }
     }
 
@@ -95,6 +101,10 @@ impl<'a> Plain<'a> {
 impl Follow for Plain<'_> {
     fn grammar(&self) -> Grammar {
         self.grammar
+    }
+
+    fn written(&self) -> Grammar {
+        self.written
     }
 
     fn rewritten(
@@ -227,7 +237,7 @@ impl Follow for Plain<'_> {
 
     fn frame(&mut self, content: &dyn Fn(&mut Self) -> Option<()>) -> Option<()> {
         let size = self.unsigned(32)?;
-        let mut inner = Plain::new(self.take(size as usize)?, self.grammar);
+        let mut inner = Plain::between(self.take(size as usize)?, self.grammar, self.written);
         content(&mut inner)?;
         if !inner.rest.is_empty() {
             return None;
@@ -250,10 +260,15 @@ impl Follow for Plain<'_> {
     }
 }
 
-/// Returns the minimal encoding, as builders write it, of the section of the kind at the front, and
-/// the length of that section in bytes.
-pub fn shortened(bytes: &[u8], kind: &str, grammar: Grammar) -> Option<(Vec<u8>, usize)> {
-    let mut along = Plain::new(bytes, grammar);
+/// Returns the minimal encoding of the section of the kind at the front, which is read in one grammar
+/// and written in another, and the length of that section in bytes.
+pub fn shortened(
+    bytes: &[u8],
+    kind: &str,
+    grammar: Grammar,
+    written: Grammar,
+) -> Option<(Vec<u8>, usize)> {
+    let mut along = Plain::between(bytes, grammar, written);
     crate::grammar::section(&mut along, kind)?;
     let taken = bytes.len() - along.rest.len();
     Some((along.encoding, taken))

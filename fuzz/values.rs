@@ -12,7 +12,7 @@ use std::time::Instant;
 /// their minimal encodings; and whether there was a section.
 fn agree<G: reader::Grammar>(bytes: &[u8], kind: &str, grammar: Grammar) -> (bool, bool) {
     match (
-        shortened(bytes, kind, grammar),
+        shortened(bytes, kind, grammar, Grammar::Builders),
         by_library::<G>(bytes, kind),
     ) {
         (Some((encoding, taken)), Ok((text, by))) => {

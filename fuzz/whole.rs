@@ -90,16 +90,16 @@ impl Section<'_> {
         }
     }
 
-    /// The minimal encoding of the size prefix and the payload, if the section decodes as its kind
-    /// in the grammar.
-    pub fn shortest(&self, grammar: Grammar) -> Option<Vec<u8>> {
-        let (encoding, taken) = shortened(self.framed, self.kind(), grammar)?;
+    /// The minimal encoding of the size prefix and the payload in the grammar `written`, if the
+    /// section decodes as its kind in `grammar`.
+    pub fn shortest(&self, grammar: Grammar, written: Grammar) -> Option<Vec<u8>> {
+        let (encoding, taken) = shortened(self.framed, self.kind(), grammar, written)?;
         (taken == self.framed.len()).then_some(encoding)
     }
 
     /// The number of items in an outline.
     pub fn items(&self) -> Option<u32> {
-        self.shortest(Grammar::Standard)?;
+        self.shortest(Grammar::Standard, Grammar::Standard)?;
         match self.id {
             0 | 14.. => None,
             8 | 12 => Some(1),
@@ -255,7 +255,7 @@ where
     'a: 'b,
 {
     let one = |section: &'b Section<'a>| {
-        let shortest = section.shortest(Grammar::Builders);
+        let shortest = section.shortest(Grammar::Standard, Grammar::Standard);
         Rewritten {
             section,
             is_kept: shortest.is_none(),

@@ -8,3 +8,4 @@ pub mod OneByte
 pub mod StrippedLaws
 pub mod IteratedLaws
 pub mod CoverageLaws
+pub mod MinimizedLaws

@@ -48,7 +48,7 @@ such_rejects P k h fails = record { none = λ y last g. fails (subst P (sym (dec
 pub members_start : {X : Type 0} (F : Format X) (mode : Mode) (bytes : List ℕ) → Decodes (members F) mode bytes [] bytes
 members_start F mode bytes = record { front = []; split = refl; encodes = refl }
 
-members_push : {X : Type 0} (F : Format X) (mode : Mode) (s t : List ℕ) (xs : List X) (x : X) → members F mode s xs → F mode t x → members F mode (s ++ t) (xs ++ x ∷ [])
+pub members_push : {X : Type 0} (F : Format X) (mode : Mode) (s t : List ℕ) (xs : List X) (x : X) → members F mode s xs → F mode t x → members F mode (s ++ t) (xs ++ x ∷ [])
 members_push F mode s t [] x h g = (t, [], ap (λ z. z ++ t) h ∙ sym (append-nil t), g, refl)
 members_push F mode s t (y ∷ xs) x h g = (h.0, h.1 ++ t, ap (λ z. z ++ t) h.2 ∙ append_assoc h.0 h.1 t, h.3, members_push F mode h.1 t xs x h.4 g)
 

@@ -37,4 +37,7 @@ pub mod DecodedValues
 pub mod Faults
 pub mod FaultWords
 pub mod MinimalEncodings
+pub mod GrammarLaws
+pub mod MinimizeLaws
+pub mod TightTypes
 pub mod SkipLaws

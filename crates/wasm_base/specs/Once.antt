@@ -25,7 +25,8 @@ pub record AddsOnce (Gives : List ℕ → Type 0) (encodable : Type 0) (old new 
   pub too_long : encodable → length old < longest → result ≢ Err TooLong
   pub full : length old ≡ longest → result ≡ Err TooLong
 
--- The iterator may be called, ends, and yields exactly `count` items, which are at most 2^32 - 1.
+-- The iterator may be called, ends, and yields exactly `count` items. The count is at most
+-- 2^32 - 1.
 pub record ReportsCount {S T : Type 0} (can_next : S → Type 0) (gives : S → Option T → S → Type 0) (remaining : S → Count) (it : S) (count : ℕ) : Type 0 where
   pub can : can_next it
   pub finite : IsFinite (remaining it)

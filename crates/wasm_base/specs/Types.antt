@@ -64,6 +64,32 @@ val_encoding F64 = 0x7C ∷ []
 val_encoding V128 = 0x7B ∷ []
 val_encoding (Ref r) = ref_encoding r
 
+-- The minimal encoding of a nullable reference type by the standard: each unshared abstract heap
+-- type has a byte of its own.
+abbrev pub tight_nullable : HeapType → List ℕ
+tight_nullable (Abstract false ty) = abstract_code ty ∷ []
+tight_nullable heap = 0x63 ∷ heap_encoding heap
+
+-- The minimal encoding of a reference type by the standard, by whether it is nullable.
+abbrev pub tight_bytes : (nullable : Bool) → HeapType → List ℕ
+tight_bytes true heap = tight_nullable heap
+tight_bytes false heap = 0x64 ∷ heap_encoding heap
+
+-- The minimal encoding of a value type by the standard.
+abbrev pub tight_encoding : ValType → List ℕ
+tight_encoding (Ref r) = tight_bytes r.nullable r.heap_type
+tight_encoding ty = val_encoding ty
+
+-- The minimal encoding of a reference type in each grammar.
+abbrev pub ref_encoding_in : Grammar → RefType → List ℕ
+ref_encoding_in builders r = ref_encoding r
+ref_encoding_in admitted r = tight_bytes r.nullable r.heap_type
+
+-- The minimal encoding of a value type in each grammar.
+abbrev pub val_encoding_in : Grammar → ValType → List ℕ
+val_encoding_in builders ty = val_encoding ty
+val_encoding_in admitted ty = tight_encoding ty
+
 -- ---- indices of 32 bits
 
 -- The index of a heap type, if it has one, is below 2^32.

@@ -5,6 +5,7 @@ ghost use Rattle.wasm_base.specs.Formats.{byte, raw_bytes, vector_format};
 use crate::encode::Encode;
 use crate::fault::{DecodeError, ReadFault};
 use crate::grammar::Grammar;
+use crate::minimize::Canonical;
 use crate::readable::{Layout, Readable};
 use crate::refused::Result;
 use std::alloc::Allocator;
@@ -55,6 +56,11 @@ impl<'a, A: Allocator + Copy, G: Grammar> Readable<'a, A, G> for u8 {
             [b, rest @ ..] => Ok((*b, rest)),
         }
     }
+}
+
+impl Canonical for u8 {
+    #[tactic(auto, using(crate::proofs::GrammarLaws::byte_canonical))]
+    fn canonical() {}
 }
 
 /// A vector's sixteen bytes, little-endian, in two's complement.

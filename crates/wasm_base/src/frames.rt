@@ -11,6 +11,7 @@ use crate::encode::Encode;
 use crate::fault::DecodeError;
 use crate::grammar::Grammar;
 use crate::leb128::encoding_size;
+use crate::minimize::{Minimize, minimize_whole};
 use crate::readable::{Layout, Readable};
 use crate::refused::{Refused, Result};
 use crate::shorten::Shorten;
@@ -161,5 +162,24 @@ impl<T: Shorten> Shorten for SizePrefixed<T> {
     fn write_minimal<B: Allocator>(&self, sink: &mut Vec<u8, B>) -> Result<()> {
         let SizePrefixed(value) = self;
         append_payload(value, sink)
+    }
+}
+
+/// Minimizes the payload, and then inserts its size.
+impl<G: Grammar, T: Minimize<G>> Minimize<G> for SizePrefixed<T> {
+    #[tactic(auto, using(crate::proofs::MinimizeLaws::sized_minimizes, crate::proofs::DecodeSizePrefixed::filled_steps, crate::proofs::MinimalEncodings::front_steps))]
+    fn minimize<'a, A: Allocator + Copy, B: Allocator>(
+        bytes: &'a [u8],
+        alloc: A,
+        sink: &mut Vec<u8, B>,
+    ) -> Result<&'a [u8], DecodeError> {
+        let (content, rest) = <&'a [u8] as Readable<'a, A, G>>::read(bytes, alloc)?;
+        let start = sink.len();
+        match minimize_whole::<T, A, G, _>(content, alloc, sink) {
+            Ok(()) => {}
+            Err(error) => return Err(error.before(rest)),
+        }
+        prefix_size_since(sink, start)?;
+        Ok(rest)
     }
 }

@@ -12,6 +12,7 @@ ghost use Rattle.wasm_base.specs.Formats.{u32 as u32_format, u64 as u64_format, 
 use crate::encode::Encode;
 use crate::fault::{DecodeError, ReadFault};
 use crate::grammar::Grammar;
+use crate::minimize::{Canonical, Minimize, minimize_value};
 use crate::readable::{Layout, Readable};
 use crate::refused::{Refused, Result};
 use crate::shorten::Shorten;
@@ -569,5 +570,53 @@ impl Shorten for u32 {
     #[tactic(auto, using(crate::proofs::DecodePlain::u32_appended))]
     fn write_minimal<B: Allocator>(&self, sink: &mut Vec<u8, B>) -> Result<()> {
         self.encode(sink)
+    }
+}
+
+impl Canonical for u32 {
+    #[tactic(auto, using(crate::proofs::GrammarLaws::u32_canonical))]
+    fn canonical() {}
+}
+
+impl<G: Grammar> Minimize<G> for u32 {
+    #[inline]
+    fn minimize<'a, A: Allocator + Copy, B: Allocator>(
+        bytes: &'a [u8],
+        alloc: A,
+        sink: &mut Vec<u8, B>,
+    ) -> Result<&'a [u8], DecodeError> {
+        minimize_value::<u32, A, G, _>(bytes, alloc, sink)
+    }
+}
+
+impl Canonical for i32 {
+    #[tactic(auto, using(crate::proofs::GrammarLaws::s32_canonical))]
+    fn canonical() {}
+}
+
+impl<G: Grammar> Minimize<G> for i32 {
+    #[inline]
+    fn minimize<'a, A: Allocator + Copy, B: Allocator>(
+        bytes: &'a [u8],
+        alloc: A,
+        sink: &mut Vec<u8, B>,
+    ) -> Result<&'a [u8], DecodeError> {
+        minimize_value::<i32, A, G, _>(bytes, alloc, sink)
+    }
+}
+
+impl Canonical for i64 {
+    #[tactic(auto, using(crate::proofs::GrammarLaws::s64_canonical))]
+    fn canonical() {}
+}
+
+impl<G: Grammar> Minimize<G> for i64 {
+    #[inline]
+    fn minimize<'a, A: Allocator + Copy, B: Allocator>(
+        bytes: &'a [u8],
+        alloc: A,
+        sink: &mut Vec<u8, B>,
+    ) -> Result<&'a [u8], DecodeError> {
+        minimize_value::<i64, A, G, _>(bytes, alloc, sink)
     }
 }

@@ -16,6 +16,7 @@ mod grammar;
 mod kind;
 pub mod laws;
 mod leb128;
+mod minimize;
 mod modules;
 mod names;
 mod once;
@@ -42,6 +43,10 @@ pub use frames::{
 pub use grammar::{Grammar, Padded, Standard};
 pub use kind::Kind;
 pub use leb128::{Groups, encoding_size, read_groups, read_index};
+pub use minimize::{
+    Canonical, Minimize, Shared, minimize_many, minimize_shared, minimize_to_end, minimize_value,
+    minimize_whole,
+};
 pub use modules::Module;
 pub use once::{BytesOf, EncodeOnce, VecOf, bytes_of, vec_of};
 pub use parts::{Lent, Optional, read_optional};

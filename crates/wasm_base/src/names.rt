@@ -1,13 +1,17 @@
 // Names, and size-prefixed bytes. Decoded ones are slices of the input.
-ghost use Rattle.std.specs.Prelude.{◌<◌, ℕ, List, length};
+ghost use Rattle.std.specs.Prelude.{◌≢◌, ◌<◌, ℕ, List, length, IfOk, IfErr};
+ghost use Rattle.wasm_base.specs.Numbers.{padded_of};
+ghost use Rattle.wasm_base.specs.Minimal.{Minimizes, IsFrontOf};
+ghost use Rattle.wasm_base.specs.declared.fault.ReadFault.TheVariants.{Memory};
 ghost use Rattle.wasm_base.specs.Encodings.{longest, size_prefixed_encoding, HasEncodableSize};
 ghost use Rattle.wasm_base.specs.Formats.{size_prefixed, any_bytes, name};
-ghost use Rattle.wasm_base.specs.Decoding.{Unambiguous};
+ghost use Rattle.wasm_base.specs.Decoding.{Rejects, Unambiguous};
 
 use crate::encode::Encode;
 use crate::fault::{DecodeError, ReadFault};
 use crate::frames::encode_size_prefixed;
 use crate::grammar::Grammar;
+use crate::minimize::Minimize;
 use crate::readable::{Layout, Readable};
 use crate::refused::Result;
 use crate::shorten::Shorten;
@@ -88,5 +92,39 @@ impl Shorten for &str {
     #[tactic(auto, using(crate::proofs::DecodePlain::name_appended, crate::proofs::DecodedValues::name_encodable))]
     fn write_minimal<B: Allocator>(&self, sink: &mut Vec<u8, B>) -> Result<()> {
         self.encode(sink)
+    }
+}
+
+impl<'s, G: Grammar> Minimize<G> for &'s str {
+    #[tactic(auto, using(crate::proofs::MinimizeLaws::name_minimizes, crate::proofs::MinimalEncodings::front_steps))]
+    fn minimize<'a, A: Allocator + Copy, B: Allocator>(
+        bytes: &'a [u8],
+        alloc: A,
+        sink: &mut Vec<u8, B>,
+    ) -> Result<&'a [u8], DecodeError>
+        ensures found { IfOk result (λ rest. Minimizes G.grammar name bytes.now rest.now sink.old.items sink.new.items) }
+        ensures none { IfErr result (λ e. e.cause ≢ Memory → Rejects name (padded_of G.grammar) bytes.now) }
+        ensures front { IsFrontOf sink.old.items sink.new.items }
+    {
+        let (name, rest) = <&'a str as Readable<'a, A, G>>::read(bytes, alloc)?;
+        name.encode(sink)?;
+        Ok(rest)
+    }
+}
+
+impl<'s, G: Grammar> Minimize<G> for &'s [u8] {
+    #[tactic(auto, using(crate::proofs::MinimizeLaws::bytes_minimizes, crate::proofs::MinimalEncodings::front_steps))]
+    fn minimize<'a, A: Allocator + Copy, B: Allocator>(
+        bytes: &'a [u8],
+        alloc: A,
+        sink: &mut Vec<u8, B>,
+    ) -> Result<&'a [u8], DecodeError>
+        ensures found { IfOk result (λ rest. Minimizes G.grammar (size_prefixed any_bytes) bytes.now rest.now sink.old.items sink.new.items) }
+        ensures none { IfErr result (λ e. e.cause ≢ Memory → Rejects (size_prefixed any_bytes) (padded_of G.grammar) bytes.now) }
+        ensures front { IsFrontOf sink.old.items sink.new.items }
+    {
+        let (content, rest) = <&'a [u8] as Readable<'a, A, G>>::read(bytes, alloc)?;
+        encode_size_prefixed(sink, content)?;
+        Ok(rest)
     }
 }

@@ -6,6 +6,7 @@ ghost use Rattle.wasm_base.specs.Formats.{pair};
 use crate::encode::Encode;
 use crate::fault::DecodeError;
 use crate::grammar::Grammar;
+use crate::minimize::Minimize;
 use crate::readable::{Layout, Readable};
 use crate::refused::Result;
 use crate::shorten::Shorten;
@@ -106,5 +107,19 @@ impl<T: Shorten, U: Shorten> Shorten for (T, U) {
     fn write_minimal<B: Allocator>(&self, sink: &mut Vec<u8, B>) -> Result<()> {
         self.0.write_minimal(sink)?;
         self.1.write_minimal(sink)
+    }
+}
+
+impl<G: Grammar, T: Minimize<G>, U: Minimize<G>> Minimize<G> for (T, U) {
+    #[tactic(auto, using(crate::proofs::MinimalEncodings::front_steps, crate::proofs::DecodingSteps::steps))]
+    fn minimize<'a, A: Allocator + Copy, B: Allocator>(
+        bytes: &'a [u8],
+        alloc: A,
+        sink: &mut Vec<u8, B>,
+    ) -> Result<&'a [u8], DecodeError> {
+        let after = T::minimize(bytes, alloc, sink)?;
+        T::laws();
+        let rest = U::minimize(after, alloc, sink)?;
+        Ok(rest)
     }
 }

@@ -1,7 +1,7 @@
 // Heap types, reference types and value types.
 ghost use Rattle.std.specs.Prelude.{◌≡◌, ◌∷◌, [], ⊤, cond, ◌≢◌, IfOk, IfErr, IsTrue, true, false, MatchOption};
 ghost use Rattle.wasm_base.specs.Calls.{Appends};
-ghost use Rattle.wasm_base.specs.Types.{abstract_code, heap_encoding, ref_encoding, val_encoding, abstract_type, heap_type, ref_type, val_type, HasNoByte, HasLongForm};
+ghost use Rattle.wasm_base.specs.Types.{abstract_code, heap_encoding, ref_encoding, val_encoding, tight_bytes, ref_encoding_in, val_encoding_in, abstract_type, heap_type, ref_type, val_type, HasNoByte, HasLongForm};
 ghost use Rattle.wasm_base.specs.Formats.{after_byte};
 ghost use Rattle.wasm_base.specs.Numbers.{is_admitted, padded_of};
 ghost use Rattle.wasm_base.specs.Decoding.{Decodes, Rejects};
@@ -15,6 +15,7 @@ use crate::encode::Encode;
 use crate::fault::{DecodeError, ReadFault};
 use crate::grammar::Grammar;
 use crate::leb128::read_index;
+use crate::minimize::Minimize;
 use crate::readable::{Layout, Readable};
 use crate::refused::Result;
 use crate::shorten::Shorten;
@@ -173,6 +174,57 @@ impl Encode for RefType {
             _ => return self.encode_heap_type(sink),
         };
         byte.encode(sink)
+    }
+}
+
+impl RefType {
+    /// Appends the minimal encoding by the standard.
+    fn encode_tight<A: Allocator>(self, sink: &mut Vec<u8, A>) -> Result<()>
+        ensures { Appends (tight_bytes self.nullable self.heap_type) ⊤ sink.old sink.new result }
+    {
+        match self {
+            RefType {
+                nullable: true,
+                heap_type: HeapType::Abstract { shared: false, ty },
+            } => ty.encode(sink),
+            _ => self.encode_heap_type(sink),
+        }
+    }
+
+    /// Appends the minimal encoding in the grammar `G`. In the standard's, a nullable reference to
+    /// an abstract type has one byte.
+    ///
+    /// # Errors
+    ///
+    /// Returns [`Refused::Memory`](crate::Refused), and leaves the bytes of the sink unchanged, if
+    /// an allocation fails.
+    pub fn encode_in<G: Grammar, A: Allocator>(self, sink: &mut Vec<u8, A>) -> Result<()>
+        ensures { Appends (ref_encoding_in G.grammar self) ⊤ sink.old sink.new result }
+    {
+        if G::is_standard() {
+            self.encode_tight(sink)
+        } else {
+            self.encode(sink)
+        }
+    }
+}
+
+impl ValType {
+    /// Appends the minimal encoding in the grammar `G`. In the standard's, a nullable reference to
+    /// an abstract type has one byte.
+    ///
+    /// # Errors
+    ///
+    /// Returns [`Refused::Memory`](crate::Refused), and leaves the bytes of the sink unchanged, if
+    /// an allocation fails.
+    #[inline]
+    pub fn encode_in<G: Grammar, A: Allocator>(self, sink: &mut Vec<u8, A>) -> Result<()>
+        ensures { Appends (val_encoding_in G.grammar self) ⊤ sink.old sink.new result }
+    {
+        match self {
+            ValType::Ref(ty) if G::is_standard() => ty.encode_tight(sink),
+            _ => self.encode(sink),
+        }
     }
 }
 
@@ -385,6 +437,19 @@ impl<'a, A: Allocator + Copy, G: Grammar> Readable<'a, A, G> for RefType {
     }
 }
 
+impl<G: Grammar> Minimize<G> for RefType {
+    #[tactic(auto, using(crate::proofs::MinimalEncodings::front_steps))]
+    fn minimize<'a, A: Allocator + Copy, B: Allocator>(
+        bytes: &'a [u8],
+        alloc: A,
+        sink: &mut Vec<u8, B>,
+    ) -> Result<&'a [u8], DecodeError> {
+        let (ty, rest) = <RefType as Readable<'a, A, G>>::read(bytes, alloc)?;
+        ty.encode_in::<G, _>(sink)?;
+        Ok(rest)
+    }
+}
+
 /// Decodes a value type after its first byte, `tag`.
 ///
 /// # Errors
@@ -435,5 +500,18 @@ impl Shorten for ValType {
     #[tactic(auto, using(crate::proofs::DecodePlain::val_appended))]
     fn write_minimal<B: Allocator>(&self, sink: &mut Vec<u8, B>) -> Result<()> {
         self.encode(sink)
+    }
+}
+
+impl<G: Grammar> Minimize<G> for ValType {
+    #[tactic(auto, using(crate::proofs::MinimalEncodings::front_steps))]
+    fn minimize<'a, A: Allocator + Copy, B: Allocator>(
+        bytes: &'a [u8],
+        alloc: A,
+        sink: &mut Vec<u8, B>,
+    ) -> Result<&'a [u8], DecodeError> {
+        let (ty, rest) = <ValType as Readable<'a, A, G>>::read(bytes, alloc)?;
+        ty.encode_in::<G, _>(sink)?;
+        Ok(rest)
     }
 }

@@ -9,6 +9,7 @@ ghost use Rattle.wasm_base.specs.Minimal.{AppendsMinimal, IsFrontOf, HasEncoding
 use crate::encode::Encode;
 use crate::fault::DecodeError;
 use crate::grammar::Grammar;
+use crate::minimize::{Minimize, minimize_many};
 use crate::once::{EncodeOnce, vec_of};
 use crate::readable::{Layout, Readable};
 use crate::refused::Result;
@@ -122,5 +123,16 @@ impl<T: Shorten, A: Allocator> Shorten for Vec<T, A> {
     fn write_minimal<B: Allocator>(&self, sink: &mut Vec<u8, B>) -> Result<()> {
         self.len().encode(sink)?;
         write_all(self, sink)
+    }
+}
+
+/// Minimizes the members one by one, and keeps none.
+impl<G: Grammar, T: Minimize<G>, C: Allocator> Minimize<G> for Vec<T, C> {
+    fn minimize<'a, A: Allocator + Copy, B: Allocator>(
+        bytes: &'a [u8],
+        alloc: A,
+        sink: &mut Vec<u8, B>,
+    ) -> Result<&'a [u8], DecodeError> {
+        minimize_many::<T, A, G, _>(bytes, alloc, sink)
     }
 }

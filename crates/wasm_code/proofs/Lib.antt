@@ -12,6 +12,7 @@ pub mod RejectionLaws
 pub mod Drained
 pub mod SameTypes
 pub mod DecodeLists
+pub mod MinimizeBodies
 pub mod MinimalLists
 pub mod OffsetSteps
 pub mod WalkCalls

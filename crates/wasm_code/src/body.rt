@@ -7,18 +7,17 @@ ghost use Rattle.wasm_insn.specs.Plain.{instruction, Plain as PlainInstruction};
 ghost use Rattle.wasm_insn.specs.Table.{table};
 ghost use Rattle.wasm_code.specs.Bodies.{Body as BodyModel, body};
 ghost use Rattle.wasm_base.specs.declared.refused.Refused.TheVariants.{TooLong};
-ghost use Rattle.wasm_base.specs.Minimal.{AppendsMinimal, IsFrontOf, HasEncoding};
+ghost use Rattle.wasm_base.specs.Minimal.{AppendsMinimal, IsFrontOf, HasEncoding, MinimizesWhole};
 ghost use Rattle.wasm_base.specs.declared.fault.ReadFault.TheVariants.{Memory};
 ghost use Rattle.wasm_insn.specs.Views.{plain_view};
 ghost use Rattle.wasm_code.specs.BodyViews.{body_view};
 
-use crate::walk::Instructions;
 use std::alloc::{Allocator, Global};
 use wasm_base::{
-    DecodeError, Dropped, Grammar, Layout, Readable, Result, Shorten, Skip, ValType,
-    prefix_size_since, skip_many,
+    DecodeError, Dropped, Grammar, Layout, Minimize, Padded, Readable, Result, Shorten, Skip,
+    ValType, minimize_many, minimize_to_end, prefix_size_since, skip_many,
 };
-use wasm_insn::{Plain, append_instruction};
+use wasm_insn::Plain;
 
 /// The capacity of a new list allows for one instruction per this many bytes. The list grows if
 /// they are shorter.
@@ -122,8 +121,24 @@ impl<A: Allocator> Shorten for Body<A> {
     }
 }
 
-/// Writes the bytes that [`shorten_body`] appends. After an error, part of them may follow the old
-/// bytes.
+/// Minimizes the content of a body, without its size prefix.
+#[tactic(auto, using(wasm_base::proofs::MinimalEncodings::front_steps))]
+fn minimize_content<'a, A: Allocator + Copy, G: Grammar, B: Allocator>(
+    bytes: &'a [u8],
+    alloc: A,
+    sink: &mut Vec<u8, B>,
+) -> Result<(), DecodeError>
+    ensures found { OnOk result (MinimizesWhole G.grammar body bytes.now sink.old.items sink.new.items) }
+    ensures none { IfErr result (λ e. e.cause ≢ Memory → RejectsWhole body (padded_of G.grammar) bytes.now) }
+    ensures front { IsFrontOf sink.old.items sink.new.items }
+{
+    let rest = minimize_many::<(u32, ValType), A, G, _>(bytes, alloc, sink)?;
+    minimize_to_end::<Plain<A>, A, G, _>(rest, alloc, sink)
+}
+
+/// Appends the minimal encoding of a body with its size prefix. After an error, part of it may
+/// follow the old bytes of the sink.
+#[tactic(auto, using(wasm_base::proofs::MinimalEncodings::front_steps))]
 fn write_body<A: Allocator + Copy, B: Allocator>(
     bytes: &[u8],
     alloc: A,
@@ -134,18 +149,14 @@ fn write_body<A: Allocator + Copy, B: Allocator>(
     ensures front { IsFrontOf sink.old.items sink.new.items }
 {
     let start = sink.len();
-    let (runs, mut instructions) = Instructions::of_body(bytes, alloc)?;
-    runs.write_minimal(sink)?;
-    while let Some(step) = instructions.next()? {
-        append_instruction(step.op, instructions.args(), sink)?;
-    }
+    minimize_content::<A, Padded, _>(bytes, alloc, sink)?;
     prefix_size_since(sink, start)?;
     Ok(())
 }
 
 /// Appends the minimal encoding of a function body with its size prefix, as in a code section. The
-/// bytes are those of the body without its size prefix. The call visits the instructions, and keeps
-/// one at a time. On an error, the sink is unchanged.
+/// bytes are those of the body without its size prefix. Instructions are minimized one by one. On an
+/// error, the sink is unchanged.
 ///
 /// ```text
 /// shorten_body(&[0x80, 0x00, 0x20, 0x81, 0x00, 0x0B], alloc, &mut out)?;
@@ -170,6 +181,25 @@ pub fn shorten_body<A: Allocator + Copy, B: Allocator>(
         sink.truncate(start);
     }
     written
+}
+
+/// Minimizes a body with its size prefix, as in a code section.
+impl<G: Grammar, C: Allocator> Minimize<G> for Body<C> {
+    #[tactic(auto, using(wasm_base::proofs::MinimizeLaws::sized_minimizes, wasm_base::proofs::DecodeSizePrefixed::filled_steps, wasm_base::proofs::MinimalEncodings::front_steps))]
+    fn minimize<'a, A: Allocator + Copy, B: Allocator>(
+        bytes: &'a [u8],
+        alloc: A,
+        sink: &mut Vec<u8, B>,
+    ) -> Result<&'a [u8], DecodeError> {
+        let (content, rest) = <&'a [u8] as Readable<'a, A, G>>::read(bytes, alloc)?;
+        let start = sink.len();
+        match minimize_content::<A, G, _>(content, alloc, sink) {
+            Ok(()) => {}
+            Err(error) => return Err(error.before(rest)),
+        }
+        prefix_size_since(sink, start)?;
+        Ok(rest)
+    }
 }
 
 /// Skips instructions up to the last byte.

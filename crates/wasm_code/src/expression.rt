@@ -7,7 +7,9 @@ ghost use Rattle.wasm_code.specs.Bodies.{body};
 
 use crate::body::append_code;
 use std::alloc::{Allocator, Global};
-use wasm_base::{DecodeError, Grammar, Layout, ReadFault, Readable, Result, Shorten, Skip};
+use wasm_base::{
+    DecodeError, Grammar, Layout, Minimize, ReadFault, Readable, Result, Shorten, Skip,
+};
 use wasm_insn::Plain;
 
 /// The opcode of `End`.
@@ -69,6 +71,28 @@ impl<'a, A: Allocator + Copy, G: Grammar> Skip<'a, A, G> for Expression<A> {
                 return Ok(after);
             }
             rest = <Plain<A> as Skip<'a, A, G>>::skip(rest, alloc)?;
+        }
+    }
+}
+
+/// Minimizes the instructions one by one, up to the first `End`.
+impl<G: Grammar, C: Allocator> Minimize<G> for Expression<C> {
+    #[tactic(auto, using(wasm_base::proofs::MinimalEncodings::front_steps))]
+    fn minimize<'a, A: Allocator + Copy, B: Allocator>(
+        bytes: &'a [u8],
+        alloc: A,
+        sink: &mut Vec<u8, B>,
+    ) -> Result<&'a [u8], DecodeError> {
+        let mut rest = bytes;
+        loop {
+            let [first, after @ ..] = rest else {
+                return Err(ReadFault::Ended.at(b""));
+            };
+            if *first == END {
+                sink.push(END)?;
+                return Ok(after);
+            }
+            rest = <Plain<C> as Minimize<G>>::minimize(rest, alloc, sink)?;
         }
     }
 }

@@ -12,6 +12,7 @@ pub mod SegmentLaws
 pub mod InitLaws
 pub mod ComdatLaws
 pub mod LinkLaws
+pub mod SharedFormats
 pub mod ProducerLaws
 pub mod FeatureLaws
 pub mod HintLaws

@@ -56,7 +56,7 @@ full_link_unambiguous =
     (λ mode s x h. ap link_id h.1, (λ mode s x h. ap link_id h.1, (λ mode s x h. ap link_id h.1, (λ mode s x h. ap link_id h.1, (λ mode s x h. ap link_id h.1, tt)))))
 
 -- A table of symbols of one format is a table of a format that includes it.
-tables_included : (F G : Format Symbol) (m : Mode) → IsIncludedIn (F m) (G m) → IsIncludedIn (size_prefixed (vec F) m) (size_prefixed (vec G) m)
+pub tables_included : (F G : Format Symbol) (m : Mode) → IsIncludedIn (F m) (G m) → IsIncludedIn (size_prefixed (vec F) m) (size_prefixed (vec G) m)
 tables_included F G m h = size_prefixed_included (vec F) (vec G) m (vec_included F G m h)
 
 built_is_full_link : (m : Mode) → IsIncludedIn (built_link m) (full_link m)

@@ -24,7 +24,7 @@ flags_of (indexed kind flags index n) = flags
 flags_of (of_data flags n d) = flags
 flags_of (of_section flags index) = flags
 
-abbrev code_of : Symbol → ℕ
+abbrev pub code_of : Symbol → ℕ
 code_of (indexed kind flags index n) = kind_code kind
 code_of (of_data flags n d) = 0x01
 code_of (of_section flags index) = 0x03

@@ -37,7 +37,7 @@ abbrev pub comdat_encoding : Comdat → List ℕ
 comdat_encoding c = size_prefixed_encoding c.name ++ (unsigned_encoding c.flags ++ vec_encoding comdat_symbol_encoding c.symbols)
 
 -- The group is well-formed: its name is UTF-8 of at most 2^32 - 1 bytes, its flags are in range,
--- and its members are well-formed and at most 2^32 - 1.
+-- and its members are well-formed and their number is at most 2^32 - 1.
 pub record IsComdat (c : Comdat) : Type 0 where
   pub name : IsEncodableName c.name
   pub flags : c.flags < 2 ^ 32

@@ -118,7 +118,8 @@ dylink_encoding (ExportFlags exports) = subsection_encoding 3 (vec_encoding expo
 dylink_encoding (ImportFlags imports) = subsection_encoding 4 (vec_encoding import_flags_encoding imports)
 dylink_encoding (RuntimePath paths) = subsection_encoding 5 (vec_encoding size_prefixed_encoding paths)
 
--- The subsection is well-formed: its items are well-formed and at most 2^32 - 1.
+-- The subsection is well-formed: its items are well-formed, and their number is at
+-- most 2^32 - 1.
 abbrev pub IsDylink : DylinkItem → Type 0
 IsDylink (Memory m) = AreNeeds m
 IsDylink (Needed names) = IsEncodableVec IsEncodableName names

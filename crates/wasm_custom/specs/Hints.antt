@@ -26,7 +26,7 @@ abbrev pub hints_encoding : Hints → List ℕ
 hints_encoding h = unsigned_encoding h.0 ++ vec_encoding hint_encoding h.1
 
 -- The function's hints are well-formed: its index is below 2^32, and its hints are well-formed and
--- at most 2^32 - 1.
+-- their number is at most 2^32 - 1.
 abbrev pub AreHints : Hints → Type 0
 AreHints h = (h.0 < 2 ^ 32) × IsEncodableVec IsHint h.1
 

@@ -31,15 +31,15 @@ link_encoding (Comdats comdats) = subsection_encoding 7 (vec_encoding comdat_enc
 link_encoding (Symbols symbols) = subsection_encoding 8 (vec_encoding symbol_encoding symbols)
 link_encoding (Target n) = subsection_encoding 9 (size_prefixed_encoding n)
 
--- The subsection of a `LinkingSection` is well-formed: its symbols are well-formed and at most
--- 2^32 - 1, or its name is UTF-8. No other subsection is one of a `LinkingSection`.
+-- The subsection of a `LinkingSection` is well-formed: its symbols are well-formed and their number
+-- is at most 2^32 - 1, or its name is UTF-8. No other subsection is one of a `LinkingSection`.
 abbrev pub IsLink : LinkItem → Type 0
 IsLink (Symbols symbols) = IsEncodableVec IsSymbol symbols
 IsLink (Target n) = IsUtf8 n
 IsLink _ = ⊥
 
--- The subsection of an `ObjectLinking` is well-formed: its items are well-formed and at most
--- 2^32 - 1, or its name is UTF-8.
+-- The subsection of an `ObjectLinking` is well-formed: its items are well-formed and their number is
+-- at most 2^32 - 1, or its name is UTF-8.
 abbrev pub IsObjectLink : LinkItem → Type 0
 IsObjectLink (Segments segments) = IsEncodableVec IsSegment segments
 IsObjectLink (InitFunctions functions) = IsEncodableVec IsInit functions

@@ -35,7 +35,7 @@ abbrev pub IsNaming : Naming → Type 0
 IsNaming n = (n.0 < 2 ^ 32) × IsEncodableName n.1
 
 -- The indirect name association is well-formed: its index is below 2^32, and its names are
--- well-formed and at most 2^32 - 1.
+-- well-formed and their number is at most 2^32 - 1.
 abbrev pub IsInside : Inside → Type 0
 IsInside i = (i.0 < 2 ^ 32) × IsEncodableVec IsNaming i.1
 

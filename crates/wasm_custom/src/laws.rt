@@ -81,7 +81,7 @@ pub fn sections()
     ensures hint_laws { ItemLaws hint_items }
     ensures module_laws { ItemLaws module_items }
     ensures instance_laws { ItemLaws instance_items }
-    ensures layout_laws { ItemLaws frame_items }
+    ensures frame_laws { ItemLaws frame_items }
     ensures relocation_laws { ItemLaws relocation_items }
 {}
 

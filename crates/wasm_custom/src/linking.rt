@@ -99,7 +99,7 @@ impl<A: Allocator> LinkingSection<A> {
 }
 
 /// The version of linking sections.
-const VERSION: u32 = 2;
+pub(crate) const VERSION: u32 = 2;
 
 /// A decoded subsection of a linking section. The builders' grammar has symbol tables and
 /// architectures alone.
@@ -183,7 +183,7 @@ impl<'a, A: Allocator + Copy + 'a, G: Grammar> Readable<'a, A, G> for LinkItem<'
 
 /// Skips the version, and returns the remaining bytes.
 #[tactic(auto, using(crate::proofs::LinkLaws::version_steps))]
-fn after_version<'a, A: Allocator + Copy, G: Grammar>(
+pub(crate) fn after_version<'a, A: Allocator + Copy, G: Grammar>(
     bytes: &'a [u8],
     alloc: A,
 ) -> Result<&'a [u8], DecodeError>

@@ -5,7 +5,7 @@ ghost use Rattle.wasm_base.specs.Formats.{name as name_format, optional, prefixe
 ghost use Rattle.wasm_base.specs.Numbers.{padded_of};
 ghost use Rattle.wasm_base.specs.Decoding.{Unambiguous, Decodes, Rejects};
 ghost use Rattle.wasm_base.specs.Encodings.{size_prefixed_encoding, HasEncodableSize, optional_encoding};
-ghost use Rattle.wasm_custom.specs.Symbols.{kind_code, indexed_encoding, of_data_encoding, definition_encoding, Symbol as SymbolModel, symbol_encoding, IsDefinition, IsGivenSymbol, indexed, of_data, of_section, has_name as flags_name, has_definition as flags_definition, definition as definition_format, IsBuiltKind, indexed_symbol, data_symbol, section_symbol, symbol, symbol_view};
+ghost use Rattle.wasm_custom.specs.Symbols.{kind_code, indexed_encoding, of_data_encoding, definition_encoding, Symbol as SymbolModel, symbol_encoding, IsDefinition, IsGivenSymbol, indexed, of_data, of_section, has_name as flags_name, has_definition as flags_definition, definition as definition_format, IsBuiltKind, indexed_symbol, data_symbol, section_symbol, full_symbol, symbol, symbol_view};
 ghost use Rattle.wasm_custom.specs.declared.symbols.DataSymbolDefinition.{DataSymbolDefinition as DefinitionModel};
 ghost use Rattle.wasm_custom.specs.declared.symbols.SymbolKind.TheVariants as kinds;
 ghost use Rattle.wasm_base.specs.declared.refused.Refused.TheVariants.{TooLong};
@@ -481,9 +481,16 @@ fn append_section<B: Allocator>(flags: u32, section: u32, sink: &mut Vec<u8, B>)
     section.write_minimal(sink)
 }
 
-impl<'a> Shorten for Symbol<'a> {
-    #[tactic(auto, using(crate::proofs::SymbolLaws::short_steps))]
-    fn write_minimal<B: Allocator>(&self, sink: &mut Vec<u8, B>) -> Result<()> {
+impl Symbol<'_> {
+    /// Appends the minimal encoding of the symbol, of any kind. After an error, part of it may
+    /// follow the old bytes of the sink.
+    #[tactic(auto, using(crate::proofs::SymbolLaws::short_steps, crate::proofs::SharedFormats::full_steps))]
+    pub(crate) fn append<B: Allocator>(&self, sink: &mut Vec<u8, B>) -> Result<()>
+        ensures ok { OnOk result (AppendsMinimal symbol (symbol_view self.now) sink.old.items sink.new.items) }
+        ensures full { OnOk result (AppendsMinimal full_symbol (symbol_view self.now) sink.old.items sink.new.items) }
+        ensures front { IsFrontOf sink.old.items sink.new.items }
+        ensures too_long { HasEncoding symbol (symbol_view self.now) → result ≢ Err TooLong }
+    {
         match *self {
             Symbol::Function { flags, index, name } => {
                 append_indexed(SymbolKind::Function, flags, index, name, sink)
@@ -504,5 +511,11 @@ impl<'a> Shorten for Symbol<'a> {
                 append_indexed(SymbolKind::Tag, flags, index, name, sink)
             }
         }
+    }
+}
+
+impl<'a> Shorten for Symbol<'a> {
+    fn write_minimal<B: Allocator>(&self, sink: &mut Vec<u8, B>) -> Result<()> {
+        self.append(sink)
     }
 }

@@ -6,3 +6,4 @@ pub mod ImmediateLaws
 pub mod ImmediateEncodings
 pub mod DecodeImmediates
 pub mod DecodePlain
+pub mod MinimalImmediates

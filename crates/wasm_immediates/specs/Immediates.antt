@@ -1,6 +1,8 @@
 -- This file defines the encodings of immediates: memory arguments, block types, catches, handles
 -- and vectors.
 use Rattle.wasm_base.specs.Words.{twos_complement, unsigned_encoding, signed_encoding, little_endian_encoding, optional_encoding, val_encoding}
+use Rattle.wasm_base.specs.Numbers.{Grammar}
+use Rattle.wasm_base.specs.Types.{val_encoding_in}
 use Rattle.std.specs.Prelude.{ℕ, zero, suc, ℤ, pos, List, [], ◌∷◌, ◌++◌, Option, Some, None, Bool, true, false}
 use Rattle.std.specs.Int.RustNames.{bit_or}
 use Rattle.wasm_immediates.specs.declared.memory.Ordering.{Ordering}
@@ -78,6 +80,11 @@ abbrev pub block_encoding : BlockType → List ℕ
 block_encoding blocks.Empty = 0x40 ∷ []
 block_encoding (blocks.Result ty) = val_encoding ty
 block_encoding (blocks.FunctionType index) = signed_encoding (pos index)
+
+-- The minimal encoding of a block type in each grammar: they differ in the type of a result.
+abbrev pub block_encoding_in : Grammar → BlockType → List ℕ
+block_encoding_in w (blocks.Result ty) = val_encoding_in w ty
+block_encoding_in w block = block_encoding block
 
 -- The encoding of a catch clause: a byte for its kind, its tag if it has one, and its label. Core
 -- specification, Binary Format, Instructions, Control Instructions.

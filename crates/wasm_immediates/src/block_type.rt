@@ -1,6 +1,7 @@
 // The types of blocks.
 ghost use Rattle.std.specs.Prelude.{⊤, ◌≢◌, IfOk, IfErr};
-ghost use Rattle.wasm_immediates.specs.Immediates.{block_encoding};
+ghost use Rattle.wasm_immediates.specs.Immediates.{block_encoding, block_encoding_in};
+ghost use Rattle.wasm_base.specs.Calls.{Appends};
 ghost use Rattle.wasm_base.specs.Numbers.{padded_of};
 ghost use Rattle.wasm_base.specs.Decoding.{Decodes, Rejects};
 ghost use Rattle.wasm_immediates.specs.ImmediateFormats.{block_type};
@@ -9,7 +10,8 @@ ghost use Rattle.wasm_base.specs.declared.fault.ReadFault.TheVariants.{Memory};
 
 use std::alloc::Allocator;
 use wasm_base::{
-    DecodeError, Encode, Grammar, Layout, Readable, Result, ValType, read_index, read_val_after,
+    DecodeError, Encode, Grammar, Layout, Minimize, Readable, Result, ValType, read_index,
+    read_val_after,
 };
 
 /// The type of a block: its parameters and results.
@@ -82,5 +84,31 @@ impl<'a, A: Allocator + Copy, G: Grammar> Readable<'a, A, G> for BlockType {
             return Ok((BlockType::Empty, rest));
         }
         read_any_block::<A, G>(bytes, alloc)
+    }
+}
+
+impl BlockType {
+    /// Appends the minimal encoding in the grammar `G`.
+    fn encode_in<G: Grammar, A: Allocator>(self, sink: &mut Vec<u8, A>) -> Result<()>
+        ensures { Appends (block_encoding_in G.grammar self) ⊤ sink.old sink.new result }
+    {
+        match self {
+            BlockType::Result(ty) => ty.encode_in::<G, _>(sink),
+            _ => self.encode(sink),
+        }
+    }
+}
+
+impl<G: Grammar> Minimize<G> for BlockType {
+    #[tactic(auto, using(wasm_base::proofs::MinimalEncodings::front_steps))]
+    #[inline]
+    fn minimize<'a, A: Allocator + Copy, B: Allocator>(
+        bytes: &'a [u8],
+        alloc: A,
+        sink: &mut Vec<u8, B>,
+    ) -> Result<&'a [u8], DecodeError> {
+        let (block, rest) = <BlockType as Readable<'a, A, G>>::read(bytes, alloc)?;
+        block.encode_in::<G, _>(sink)?;
+        Ok(rest)
     }
 }

@@ -6,7 +6,10 @@ ghost use Rattle.wasm_immediates.specs.declared.control.Catch.{Catch as CatchMod
 ghost use Rattle.wasm_immediates.specs.declared.control.Handle.{Handle as HandleModel};
 
 use std::alloc::Allocator;
-use wasm_base::{DecodeError, Encode, Grammar, Layout, ReadFault, Readable, Result};
+use wasm_base::{
+    Canonical, DecodeError, Encode, Grammar, Layout, Minimize, ReadFault, Readable, Result,
+    minimize_value,
+};
 
 /// A clause of `try_table`: the exceptions that it catches, and the label that it then branches to.
 #[derive(Clone, Copy, Debug)]
@@ -117,5 +120,35 @@ impl<'a, A: Allocator + Copy, G: Grammar> Readable<'a, A, G> for Handle {
             }
             _ => Err(ReadFault::UnknownTag.just_before(rest)),
         }
+    }
+}
+
+impl Canonical for Catch {
+    #[tactic(auto, using(crate::proofs::MinimalImmediates::catch_canonical))]
+    fn canonical() {}
+}
+
+impl<G: Grammar> Minimize<G> for Catch {
+    fn minimize<'a, A: Allocator + Copy, B: Allocator>(
+        bytes: &'a [u8],
+        alloc: A,
+        sink: &mut Vec<u8, B>,
+    ) -> Result<&'a [u8], DecodeError> {
+        minimize_value::<Catch, A, G, _>(bytes, alloc, sink)
+    }
+}
+
+impl Canonical for Handle {
+    #[tactic(auto, using(crate::proofs::MinimalImmediates::handle_canonical))]
+    fn canonical() {}
+}
+
+impl<G: Grammar> Minimize<G> for Handle {
+    fn minimize<'a, A: Allocator + Copy, B: Allocator>(
+        bytes: &'a [u8],
+        alloc: A,
+        sink: &mut Vec<u8, B>,
+    ) -> Result<&'a [u8], DecodeError> {
+        minimize_value::<Handle, A, G, _>(bytes, alloc, sink)
     }
 }

@@ -13,7 +13,10 @@ ghost use Rattle.wasm_base.specs.declared.fault.ReadFault.TheVariants.{Memory};
 
 use std::alloc::Allocator;
 use std::default::Default;
-use wasm_base::{DecodeError, Encode, Grammar, Layout, ReadFault, Readable, Result, read_optional};
+use wasm_base::{
+    Canonical, DecodeError, Encode, Grammar, Layout, Minimize, ReadFault, Readable, Result,
+    minimize_value, read_optional,
+};
 
 /// The index of a lane of a vector.
 pub type Lane = u8;
@@ -317,5 +320,21 @@ impl<'a, A: Allocator + Copy, G: Grammar> Readable<'a, A, G> for MemArg {
             }
         }
         read_any_memory::<A, G>(bytes, alloc)
+    }
+}
+
+impl Canonical for MemArg {
+    #[tactic(auto, using(crate::proofs::MinimalImmediates::memory_canonical))]
+    fn canonical() {}
+}
+
+impl<G: Grammar> Minimize<G> for MemArg {
+    #[inline]
+    fn minimize<'a, A: Allocator + Copy, B: Allocator>(
+        bytes: &'a [u8],
+        alloc: A,
+        sink: &mut Vec<u8, B>,
+    ) -> Result<&'a [u8], DecodeError> {
+        minimize_value::<MemArg, A, G, _>(bytes, alloc, sink)
     }
 }

@@ -19,7 +19,7 @@ use Rattle.wasm_insn.specs.declared.part.Part.TheVariants as parts
 abbrev IsDecoded : Part → Argument → Type 0
 IsDecoded p x = IsWellFormedArgument x × (normal_argument x ≡ x) × (part_of x ≡ p)
 
-argument_is : (p : Part) → AllValues (IsDecoded p) (part p)
+pub argument_is : (p : Part) → AllValues (IsDecoded p) (part p)
 argument_is parts.Unsigned mode s x h = subst (IsDecoded parts.Unsigned) h.1 (h.2.range, refl, refl)
 argument_is parts.Signed32 mode s x h = subst (IsDecoded parts.Signed32) h.1 ((h.2.above, h.2.below), refl, refl)
 argument_is parts.Signed64 mode s x h = subst (IsDecoded parts.Signed64) h.1 ((h.2.above, h.2.below), refl, refl)
@@ -48,7 +48,7 @@ arguments_are (p ∷ ps) mode s xs h =
     let others = arguments_are ps mode h.2.back h.0.1 h.2.second in
     subst (AreDecoded (p ∷ ps)) h.1 ((first.0, others.0), ap₂ ◌∷◌ first.1 others.1, ap₂ ◌∷◌ first.2 others.2)
 
-opcode_is : AllValues IsOpcode opcode
+pub opcode_is : AllValues IsOpcode opcode
 opcode_is mode s op h = subst IsOpcode h.1 (after h.0.0 mode h.2.back h.0.1 h.2.second)
   where
     after : (b : ℕ) → AllValues IsOpcode (op_after b)

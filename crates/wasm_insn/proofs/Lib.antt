@@ -10,3 +10,4 @@ pub mod CaseLaws
 pub mod DecodeArguments
 pub mod DecodeInstructions
 pub mod DecodePlain
+pub mod MinimizeInstructions

@@ -471,7 +471,10 @@ pub(crate) fn read_arguments_into<'a, A: Allocator + Copy, G: Grammar>(
 
 /// Appends the minimal encoding of the argument.
 #[tactic(auto, using(wasm_immediates::proofs::FixedBytes::vector_bytes, crate::proofs::DecodePlain::any_members))]
-fn append_argument<A: Allocator, B: Allocator>(arg: &Arg<A>, sink: &mut Vec<u8, B>) -> Result<()>
+pub(crate) fn append_argument<A: Allocator, B: Allocator>(
+    arg: &Arg<A>,
+    sink: &mut Vec<u8, B>,
+) -> Result<()>
     ensures ok { OnOk result (sink.new.items ≡ sink.old.items ++ argument_encoding (argument_view arg.now)) }
     ensures err { OnErr result (sink.new.items ≡ sink.old.items) }
     ensures too_long { IsWellFormedArgument (argument_view arg.now) → result ≢ Err TooLong }

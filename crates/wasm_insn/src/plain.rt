@@ -71,14 +71,9 @@ pub fn read_instruction_into<'a, A: Allocator + Copy, G: Grammar>(
     Ok((op, rest))
 }
 
-/// Appends the minimal encoding of the instruction.
-///
-/// # Errors
-///
-/// Returns [`Refused`](wasm_base::Refused) if an allocation fails. A decoded instruction never
-/// causes `TooLong`. After an error, the old bytes are unchanged, but part of the encoding may
-/// follow them.
-pub fn append_instruction<A: Allocator, B: Allocator>(
+/// Appends the minimal encoding of an instruction. After an error, part of it may follow the old
+/// bytes of the sink.
+fn append_instruction<A: Allocator, B: Allocator>(
     op: Op,
     args: &[Arg<A>],
     sink: &mut Vec<u8, B>,

@@ -15,10 +15,9 @@ pub use Rattle.wasm_reader.proofs.KeptOffsets.{found_more, moved_of, or_left, or
 pub use Rattle.wasm_reader.proofs.KindLaws.{AppendsItems, bodies_read, build_id_read, core_instances_read, core_modules_read, core_stack_read, custom_appended, debug_file_read, dylink_read}
 pub use Rattle.wasm_reader.proofs.KindLaws.{functions_read, hints_read, items_appended, linking_read, names_read, no_kind, producers_read, source_map_read, target_features_read, uncounted}
 pub use Rattle.wasm_reader.proofs.KindLaws.{relocations_read}
-pub use Rattle.wasm_reader.proofs.MinimalBodies.{HasShortened, shortened_all, shortened_start, shortened_step, skip}
 pub use Rattle.wasm_reader.proofs.MinimalModules.{after_id, gains, gains_same, is_change_encoding, keeps_offsets, loses_at, rewrites_below, rewrites_longer, rewrites_rest, rewrites_start}
 pub use Rattle.wasm_reader.proofs.MinimalModules.{rewrites_step, rewrites_stop, stays_in, stops_at, whole_size_prefixed}
-pub use Rattle.wasm_reader.proofs.MinimalSections.{bodies_shortened, items_shortened, shortened, sized}
+pub use Rattle.wasm_reader.proofs.MinimalSections.{items_minimized, shortened}
 pub use Rattle.wasm_reader.specs.{Contents, CoreInstances, Dylink, EndsAt, Hints, Rewrites, Shortens, StopsAt, TargetFeatures, ahead, contains_offsets, content, contents_of, keeps, kind_in}
 pub use Rattle.wasm_reader.specs.{section_of}
 pub use Rattle.wasm_reader.specs.declared.whole.Target.TheVariants.{CodeAndData, Module, Relocated}

@@ -1,7 +1,7 @@
 -- This file proves the laws of the kinds of sections: their decoding, their encoding, and their ids
 -- and names.
 use Rattle.wasm_base.proofs.Words.{Mode, ◌≡◌, ℕ, List, [], ◌++◌, map, length, refl, sym, ap, subst, ◌∙◌, ◌≢◌, ◌∷◌, Bool, true, false, if◌then◌else◌, cond, Option, Some, Result, Ok, Err, map-id}
-use Rattle.wasm_base.proofs.Words.{minimal, padded, u32, name, any_bytes, pair, vec, size_prefixed, Format, mapped, UnambiguousWhole, Decodes, Rejects, vec_encoding, IsEncodableVec, name_unambiguous}
+use Rattle.wasm_base.proofs.Words.{minimal, padded, standard_minimal, standard, u32, name, any_bytes, pair, vec, size_prefixed, Format, mapped, UnambiguousWhole, Decodes, Rejects, vec_encoding, IsEncodableVec, name_unambiguous}
 use Rattle.wasm_base.proofs.Words.{vec_unambiguous, whole_from_unique, mapped_whole, pair_whole, any_bytes_whole, u32_unambiguous, decodes_same, AppendsMinimal, encoding_appended, pair_appended}
 use Rattle.wasm_base.proofs.Words.{mapped_appended, records_appended, RejectsWhole, bytes_eq, ne_eqb}
 use Rattle.wasm_base.proofs.Words.{All, All-nil, All-cons, HasEncoding, members, coded, mapped_encoded, members_encoded, counted_encodable, left_encoded, name_encodable}
@@ -241,36 +241,36 @@ content_whole kinds.Dylink = mapped_whole Dylink (λ x y e. cc) dylink_section.w
 content_whole kinds.Relocations = mapped_whole Relocations (λ x y e. cc) relocations_whole
 
 -- The content that a kind decodes to is of that kind.
-pub kind_is : (kind : SectionKind) (s : List ℕ) (x : Contents) → content kind padded s x → kind_in x ≡ kind
-kind_is kinds.Bodies s x h = sym (ap kind_in h.1)
-kind_is kinds.Segments s x h = sym (ap kind_in h.1)
-kind_is kinds.DataCount s x h = sym (ap kind_in h.1)
-kind_is kinds.Elements s x h = sym (ap kind_in h.1)
-kind_is kinds.Exports s x h = sym (ap kind_in h.1)
-kind_is kinds.Functions s x h = sym (ap kind_in h.1)
-kind_is kinds.Globals s x h = sym (ap kind_in h.1)
-kind_is kinds.Imports s x h = sym (ap kind_in h.1)
-kind_is kinds.Memories s x h = sym (ap kind_in h.1)
-kind_is kinds.Start s x h = sym (ap kind_in h.1)
-kind_is kinds.Tables s x h = sym (ap kind_in h.1)
-kind_is kinds.Tags s x h = sym (ap kind_in h.1)
-kind_is kinds.Names s x h = sym (ap kind_in h.1)
-kind_is kinds.Linking s x h = sym (ap kind_in h.1)
-kind_is kinds.Producers s x h = sym (ap kind_in h.1)
-kind_is kinds.Hints s x h = sym (ap kind_in h.1)
-kind_is kinds.Core s x h = sym (ap kind_in h.1)
-kind_is kinds.CoreModules s x h = sym (ap kind_in h.1)
-kind_is kinds.CoreInstances s x h = sym (ap kind_in h.1)
-kind_is kinds.CoreStack s x h = sym (ap kind_in h.1)
-kind_is kinds.Custom s x h = sym (ap kind_in h.1)
-kind_is kinds.Raw s x h = sym (ap kind_in h.1)
-kind_is kinds.Types s x h = sym (ap kind_in h.1)
-kind_is kinds.TargetFeatures s x h = sym (ap kind_in h.1)
-kind_is kinds.SourceMappingUrl s x h = sym (ap kind_in h.1)
-kind_is kinds.ExternalDebugInfo s x h = sym (ap kind_in h.1)
-kind_is kinds.BuildId s x h = sym (ap kind_in h.1)
-kind_is kinds.Dylink s x h = sym (ap kind_in h.1)
-kind_is kinds.Relocations s x h = sym (ap kind_in h.1)
+pub kind_is : (m : Mode) (kind : SectionKind) (s : List ℕ) (x : Contents) → content kind m s x → kind_in x ≡ kind
+kind_is m kinds.Bodies s x h = sym (ap kind_in h.1)
+kind_is m kinds.Segments s x h = sym (ap kind_in h.1)
+kind_is m kinds.DataCount s x h = sym (ap kind_in h.1)
+kind_is m kinds.Elements s x h = sym (ap kind_in h.1)
+kind_is m kinds.Exports s x h = sym (ap kind_in h.1)
+kind_is m kinds.Functions s x h = sym (ap kind_in h.1)
+kind_is m kinds.Globals s x h = sym (ap kind_in h.1)
+kind_is m kinds.Imports s x h = sym (ap kind_in h.1)
+kind_is m kinds.Memories s x h = sym (ap kind_in h.1)
+kind_is m kinds.Start s x h = sym (ap kind_in h.1)
+kind_is m kinds.Tables s x h = sym (ap kind_in h.1)
+kind_is m kinds.Tags s x h = sym (ap kind_in h.1)
+kind_is m kinds.Names s x h = sym (ap kind_in h.1)
+kind_is m kinds.Linking s x h = sym (ap kind_in h.1)
+kind_is m kinds.Producers s x h = sym (ap kind_in h.1)
+kind_is m kinds.Hints s x h = sym (ap kind_in h.1)
+kind_is m kinds.Core s x h = sym (ap kind_in h.1)
+kind_is m kinds.CoreModules s x h = sym (ap kind_in h.1)
+kind_is m kinds.CoreInstances s x h = sym (ap kind_in h.1)
+kind_is m kinds.CoreStack s x h = sym (ap kind_in h.1)
+kind_is m kinds.Custom s x h = sym (ap kind_in h.1)
+kind_is m kinds.Raw s x h = sym (ap kind_in h.1)
+kind_is m kinds.Types s x h = sym (ap kind_in h.1)
+kind_is m kinds.TargetFeatures s x h = sym (ap kind_in h.1)
+kind_is m kinds.SourceMappingUrl s x h = sym (ap kind_in h.1)
+kind_is m kinds.ExternalDebugInfo s x h = sym (ap kind_in h.1)
+kind_is m kinds.BuildId s x h = sym (ap kind_in h.1)
+kind_is m kinds.Dylink s x h = sym (ap kind_in h.1)
+kind_is m kinds.Relocations s x h = sym (ap kind_in h.1)
 
 -- ---- the decoding of each kind
 
@@ -410,21 +410,22 @@ for_if : (P : SectionKind → Type 0) (b : Bool) {x y : SectionKind} → P x →
 for_if P true p q = p
 for_if P false p q = q
 
--- The minimal encoding of a section begins with the same name as any of its encodings.
+-- The minimal encoding of a section in the standard's grammar begins with the same name as any of
+-- its encodings.
 abbrev pub KeepsName : List ℕ → SectionKind → Type 0
-KeepsName n kind = (s t rest : List ℕ) (x : Contents) → content kind padded s x → content kind minimal t x → Decodes name padded s n rest → (last : List ℕ) × Decodes name padded t n last
+KeepsName n kind = (s t rest : List ℕ) (x : Contents) → content kind standard s x → content kind standard_minimal t x → Decodes name standard s n rest → (last : List ℕ) × Decodes name standard t n last
 
-named_front : {X : Type 0} (m : List ℕ) (F : Format X) (s t rest n : List ℕ) (x y : X) → named_payload m F padded s x → named_payload m F minimal t y → Decodes name padded s n rest → (last : List ℕ) × Decodes name padded t n last
+named_front : {X : Type 0} (m : List ℕ) (F : Format X) (s t rest n : List ℕ) (x y : X) → named_payload m F standard s x → named_payload m F standard_minimal t y → Decodes name standard s n rest → (last : List ℕ) × Decodes name standard t n last
 named_front m F s t rest n x y h g r =
     let a = h.2 in
     let b = g.2 in
     let same : n ≡ m = (decodes_same name_unambiguous r (record { front = a.front; split = a.joined; encodes = a.first })).0 in
-    (b.back, subst (λ z. Decodes name padded t z b.back) (sym same) (record { front = b.front; split = b.joined; encodes = name_unambiguous.encodings.included minimal padded tt b.front m b.first }))
+    (b.back, subst (λ z. Decodes name standard t z b.back) (sym same) (record { front = b.front; split = b.joined; encodes = name_unambiguous.encodings.included standard_minimal standard tt b.front m b.first }))
 
 named_kept : {X : Type 0} (f : X → Contents) (m : List ℕ) {F : Format X} (kind : SectionKind) → content kind ≡ mapped f (named_payload m F) → (n : List ℕ) → KeepsName n kind
 named_kept f m {F} kind is n s t rest x h g r =
-    let a = subst (λ G. G padded s x) is h in
-    let b = subst (λ G. G minimal t x) is g in
+    let a = subst (λ G. G standard s x) is h in
+    let b = subst (λ G. G standard_minimal t x) is g in
     named_front m F s t rest n a.0 b.0 a.2 b.2 r
 
 names_kept : (n : List ℕ) → KeepsName n kinds.Names
@@ -472,7 +473,7 @@ custom_kept n s t rest x h g r =
     let b = g.2 in
     let same : n ≡ h.0.0 = (decodes_same name_unambiguous r (record { front = a.front; split = a.joined; encodes = a.first })).0 in
     let same_key : h.0 ≡ g.0 = cc (h.1 ∙ sym g.1) in
-    (b.back, subst (λ z. Decodes name padded t z b.back) (sym (same ∙ ap (λ z. z.0) same_key)) (record { front = b.front; split = b.joined; encodes = name_unambiguous.encodings.included minimal padded tt b.front g.0.0 b.first }))
+    (b.back, subst (λ z. Decodes name standard t z b.back) (sym (same ∙ ap (λ z. z.0) same_key)) (record { front = b.front; split = b.joined; encodes = name_unambiguous.encodings.included standard_minimal standard tt b.front g.0.0 b.first }))
 
 relocations_kept : (n : List ℕ) → KeepsName n kinds.Relocations
 relocations_kept n s t rest x h g r =
@@ -480,7 +481,7 @@ relocations_kept n s t rest x h g r =
     let b = g.2 in
     let same : n ≡ h.0.0 = (decodes_same name_unambiguous r (record { front = a.front; split = a.joined; encodes = a.first.0 })).0 in
     let same_key : h.0 ≡ g.0 = cc (h.1 ∙ sym g.1) in
-    (b.back, subst (λ z. Decodes name padded t z b.back) (sym (same ∙ ap (λ z. z.0) same_key)) (record { front = b.front; split = b.joined; encodes = name_unambiguous.encodings.included minimal padded tt b.front g.0.0 b.first.0 }))
+    (b.back, subst (λ z. Decodes name standard t z b.back) (sym (same ∙ ap (λ z. z.0) same_key)) (record { front = b.front; split = b.joined; encodes = name_unambiguous.encodings.included standard_minimal standard tt b.front g.0.0 b.first.0 }))
 
 -- Each of the kinds keeps each name.
 abbrev AllKeepNames : List (List ℕ × SectionKind) → Type 0

@@ -12,6 +12,5 @@ pub mod DecodeOutlines
 pub mod DecodeSections
 pub mod IteratingLaws
 pub mod MinimalAgain
-pub mod MinimalBodies
 pub mod MinimalModules
 pub mod MinimalSections

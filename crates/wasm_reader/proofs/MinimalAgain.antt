@@ -1,12 +1,14 @@
 -- This file proves that a minimized module is minimized to itself.
-use Rattle.wasm_reader.specs.{kind_named, Contents, content, Section, IsSection, IsNameOf, HasSections, bytes_of, kind_at, section_kind_of, section, Shortens, contains_offsets, AllStay, IsWritten}
+use Rattle.wasm_reader.specs.{kind_named, Contents, content, Section, IsSection, IsNameOf, HasSections, bytes_of, kind_at, section_kind_of, section, ShortensIn, contains_offsets, AllStay, IsWritten}
 use Rattle.wasm_reader.specs.{Rewrite, IsRewrite, written, written_as, ShortensModule, LosesOffsets, Explains, IsMemory, IsIdempotent}
 use Rattle.wasm_reader.specs.declared.kinds.SectionKind.{SectionKind}
 use Rattle.wasm_reader.specs.declared.whole.Offsets.{Offsets}
 use Rattle.wasm_reader.proofs.KindLaws.{keeps_name}
 use Rattle.wasm_base.proofs.Words.{◌≡◌, ◌≢◌, ℕ, ◌+◌, List, [], ◌∷◌, ◌++◌, length, drop, false, Option, Some, None, refl, sym, ap, subst, ◌∙◌, append-nil, arith, AllByRecursion, flat_map}
-use Rattle.wasm_base.proofs.Words.{append_cancel_left, minimal, padded, builders, any_bytes, size_prefixed, header, name, wasm_module, Decodes, Rejects, size_prefixed_bytes_unambiguous}
-use Rattle.wasm_base.proofs.Words.{name_unambiguous, u32_unambiguous, decodes_same}
+use Rattle.wasm_base.proofs.Words.{append_cancel_left, admitted, padded, standard, standard_minimal, IsIncludedIn, any_bytes, size_prefixed, header, name, wasm_module, Decodes, Rejects, size_prefixed_bytes_unambiguous}
+use Rattle.wasm_base.proofs.Words.{name_unambiguous, decodes_same}
+use Rattle.wasm_base.specs.Minimal.{IsShared, padded_twins}
+use Rattle.wasm_base.proofs.GrammarLaws.{name_both}
 use Rattle.wasm_base.specs.declared.fault.ReadFault.{ReadFault}
 use Rattle.wasm_base.specs.declared.fault.ReadFault.TheVariants.{Memory}
 use Rattle.wasm_reader.specs.declared.whole.How.{How}
@@ -15,7 +17,7 @@ use Rattle.wasm_reader.specs.declared.whole.ModuleFault.{ModuleFault}
 use Rattle.wasm_reader.specs.declared.whole.Offsets.TheVariants.{Refuse, LeaveOut}
 use Rattle.wasm_reader.specs.declared.whole.Target.{Target}
 use Rattle.wasm_reader.proofs.MinimalModules.{sections_of, bytes_joined}
-use Rattle.wasm_reader.proofs.MinimalSections.{section_unambiguous}
+use Rattle.wasm_reader.proofs.MinimalSections.{section_unambiguous, standard_size, minimal_size}
 use Rattle.wasm_reader.specs.declared.kinds.SectionKind.TheVariants as kinds
 use Rattle.wasm_reader.specs.declared.whole.ModuleFault.TheVariants as faults
 
@@ -27,6 +29,16 @@ one_name id payload (Some n) (Some m) h g = ap Some (decodes_same name_unambiguo
 one_name id payload (Some n) None h g = absurd ((g h.0).none n h.1 h.2)
 one_name id payload None (Some m) h g = absurd ((h g.0).none m g.1 g.2)
 
+-- A name of the standard's grammar is one of the builders', and the other way around.
+built_name : IsIncludedIn (name standard) (name padded)
+built_name = let both : IsShared padded_twins name = name_both in both.same
+
+built_decodes : {bytes n rest : List ℕ} → Decodes name standard bytes n rest → Decodes name padded bytes n rest
+built_decodes {n = n} h = record { front = h.front; split = h.split; encodes = built_name h.front n h.encodes }
+
+admitted_name : {bytes n rest : List ℕ} → Decodes name padded bytes n rest → Decodes name standard bytes n rest
+admitted_name {n = n} h = record { front = h.front; split = h.split; encodes = name_unambiguous.encodings.included padded standard tt h.front n h.encodes }
+
 -- ---- size-prefixed bytes
 
 -- Size-prefixed bytes have one payload.
@@ -35,19 +47,19 @@ one_payload s p q h g = (size_prefixed_bytes_unambiguous.unique padded s s [] []
 
 -- The payload of a section decodes to `x` by this kind, and so do its size-prefixed bytes.
 record DecodingOf (kind : SectionKind) (s : Section) (x : Contents) : Type 0 where
-  contains : content kind padded s.payload x
-  whole : section kind padded s.sized x
+  contains : content kind standard s.payload x
+  whole : section kind standard s.sized x
 
-decoding_of : (kind : SectionKind) (s : Section) (encoding : List ℕ) → IsSection s → (h : Shortens kind s.sized (length s.sized) [] encoding) → DecodingOf kind s h.value
+decoding_of : (kind : SectionKind) (s : Section) (encoding : List ℕ) → IsSection s → (h : ShortensIn admitted kind s.sized (length s.sized) [] encoding) → DecodingOf kind s h.value
 decoding_of kind s encoding i h =
     let r = h.takes.decodes in
     let f = r.encodes in
-    let any : size_prefixed any_bytes padded r.front f.content = record { front = f.front; content = f.content; joined = f.joined; size = f.size; encodes = refl } in
+    let any : size_prefixed any_bytes padded r.front f.content = record { front = f.front; content = f.content; joined = f.joined; size = standard_size f.front (length f.content) f.size; encodes = refl } in
     let read : Decodes (size_prefixed any_bytes) padded s.sized f.content (drop (length s.sized) s.sized) = record { front = r.front; split = r.split; encodes = any } in
     let all : Decodes (size_prefixed any_bytes) padded s.sized s.payload [] = record { front = s.sized; split = sym (append-nil s.sized); encodes = i.contains } in
     let same = decodes_same size_prefixed_bytes_unambiguous all read in
     let front : s.sized ≡ r.front = r.split ∙ ap (λ z. r.front ++ z) (sym same.1) ∙ append-nil r.front in
-    record { contains = subst (λ z. content kind padded z h.value) (sym same.0) f.encodes; whole = subst (λ z. section kind padded z h.value) (sym front) f }
+    record { contains = subst (λ z. content kind standard z h.value) (sym same.0) f.encodes; whole = subst (λ z. section kind standard z h.value) (sym front) f }
 
 -- ---- one section
 
@@ -57,19 +69,19 @@ record IsOutputOf (w v : Rewrite) : Type 0 where
   encoding : w.encoding ≡ v.section.sized
 
 module _ (offsets : Offsets) (w v : Rewrite) (i : IsSection w.section) (j : IsSection v.section) (s : IsOutputOf w v) where
-  custom_has_name : (x : Contents) → w.section.id ≡ 0 → content (kind_at w.section.id None) padded w.section.payload x → (Rejects name padded w.section.payload) → ⊥
-  custom_has_name x e h n = let g : content kinds.Custom padded w.section.payload x = subst (λ z. content (kind_at z None) padded w.section.payload x) e h in
+  custom_has_name : (x : Contents) → w.section.id ≡ 0 → content (kind_at w.section.id None) standard w.section.payload x → (Rejects name padded w.section.payload) → ⊥
+  custom_has_name x e h n = let g : content kinds.Custom standard w.section.payload x = subst (λ z. content (kind_at z None) standard w.section.payload x) e h in
       let a = g.2 in
-      n.none g.0.0 a.back (record { front = a.front; split = a.joined; encodes = a.first })
+      n.none g.0.0 a.back (record { front = a.front; split = a.joined; encodes = built_name a.front g.0.0 a.first })
 
-  name_after : (n : Option (List ℕ)) → w.section.name ≡ n → (h : Shortens (kind_at w.section.id n) w.section.sized (length w.section.sized) [] w.encoding) → IsNameOf w.section.id w.section.payload n → v.section.name ≡ n
+  name_after : (n : Option (List ℕ)) → w.section.name ≡ n → (h : ShortensIn admitted (kind_at w.section.id n) w.section.sized (length w.section.sized) [] w.encoding) → IsNameOf w.section.id w.section.payload n → v.section.name ≡ n
   name_after (Some n) e h g =
       let read = decoding_of (kind_named n) w.section w.encoding i h in
       let f = h.encodes in
-      let any : size_prefixed any_bytes padded h.encoding f.content = record { front = f.front; content = f.content; joined = f.joined; size = u32_unambiguous.encodings.included minimal padded tt f.front (length f.content) f.size; encodes = refl } in
+      let any : size_prefixed any_bytes padded h.encoding f.content = record { front = f.front; content = f.content; joined = f.joined; size = minimal_size f.front (length f.content) f.size; encodes = refl } in
       let same : f.content ≡ v.section.payload = one_payload v.section.sized f.content v.section.payload (subst (λ z. size_prefixed any_bytes padded z f.content) (sym h.appended ∙ s.encoding) any) j.contains in
-      let kept = keeps_name n w.section.payload f.content g.1 h.value read.contains f.encodes g.2 in
-      one_name v.section.id v.section.payload v.section.name (Some n) j.named (sym s.id ∙ g.0, kept.0, subst (λ z. Decodes name padded z n kept.0) same kept.1)
+      let kept = keeps_name n w.section.payload f.content g.1 h.value read.contains f.encodes (admitted_name g.2) in
+      one_name v.section.id v.section.payload v.section.name (Some n) j.named (sym s.id ∙ g.0, kept.0, subst (λ z. Decodes name padded z n kept.0) same (built_decodes kept.1))
   name_after None e h g = none v.section.name j.named
     where
       none : (m : Option (List ℕ)) → IsNameOf v.section.id v.section.payload m → m ≡ None
@@ -88,19 +100,19 @@ module _ (offsets : Offsets) (w v : Rewrite) (i : IsSection w.section) (j : IsSe
   same_kind : (how : How) → IsWritten offsets how w.section w.encoding → how ≢ LeftOut → section_kind_of v.section ≡ section_kind_of w.section
   same_kind how h n = ap (λ z. kind_at v.section.id z) (same_name how h n) ∙ ap (λ z. kind_at z w.section.name) (sym s.id)
 
-  minimal_again : (how : How) → IsWritten offsets how w.section w.encoding → how ≢ LeftOut → Shortens (section_kind_of v.section) v.section.sized (length v.section.sized) [] v.encoding → v.encoding ≡ v.section.sized
+  minimal_again : (how : How) → IsWritten offsets how w.section w.encoding → how ≢ LeftOut → ShortensIn admitted (section_kind_of v.section) v.section.sized (length v.section.sized) [] v.encoding → v.encoding ≡ v.section.sized
   minimal_again Minimal h n g =
       let kind = section_kind_of w.section in
-      let k : Shortens kind v.section.sized (length v.section.sized) [] v.encoding = subst (λ z. Shortens z v.section.sized (length v.section.sized) [] v.encoding) (same_kind Minimal h n) g in
+      let k : ShortensIn admitted kind v.section.sized (length v.section.sized) [] v.encoding = subst (λ z. ShortensIn admitted z v.section.sized (length v.section.sized) [] v.encoding) (same_kind Minimal h n) g in
       let unique = section_unambiguous kind in
-      let first : section kind minimal v.section.sized h.0.value = subst (λ z. section kind minimal z h.0.value) (sym h.0.appended ∙ s.encoding) h.0.encodes in
+      let first : section kind standard_minimal v.section.sized h.0.value = subst (λ z. section kind standard_minimal z h.0.value) (sym h.0.appended ∙ s.encoding) h.0.encodes in
       let read = decoding_of kind v.section v.encoding j k in
-      let same : h.0.value ≡ k.value = (unique.unique padded v.section.sized v.section.sized [] [] h.0.value k.value (unique.encodings.included minimal padded tt v.section.sized h.0.value first) read.whole refl).0 in
-      k.appended ∙ unique.encodings.one builders k.encoding v.section.sized k.value k.encodes (subst (λ z. section kind minimal v.section.sized z) same first)
+      let same : h.0.value ≡ k.value = (unique.unique standard v.section.sized v.section.sized [] [] h.0.value k.value (unique.encodings.included standard_minimal standard tt v.section.sized h.0.value first) read.whole refl).0 in
+      k.appended ∙ unique.encodings.one admitted k.encoding v.section.sized k.value k.encodes (subst (λ z. section kind standard_minimal v.section.sized z) same first)
   minimal_again Kept h n g =
       let kind = section_kind_of w.section in
-      let k : Shortens kind v.section.sized (length v.section.sized) [] v.encoding = subst (λ z. Shortens z v.section.sized (length v.section.sized) [] v.encoding) (same_kind Kept h n) g in
-      let none : Rejects (section kind) padded v.section.sized = subst (λ z. Rejects (section kind) padded z) (sym h.0.0 ∙ s.encoding) h.0.1 in
+      let k : ShortensIn admitted kind v.section.sized (length v.section.sized) [] v.encoding = subst (λ z. ShortensIn admitted z v.section.sized (length v.section.sized) [] v.encoding) (same_kind Kept h n) g in
+      let none : Rejects (section kind) standard v.section.sized = subst (λ z. Rejects (section kind) standard z) (sym h.0.0 ∙ s.encoding) h.0.1 in
       absurd (none.none k.value (drop (length v.section.sized) v.section.sized) k.takes.decodes)
   minimal_again LeftOut h n g = absurd (n refl)
 
@@ -125,7 +137,7 @@ encoding_sized : (offsets : Offsets) (w : Rewrite) (how : How) → IsSection w.s
 encoding_sized offsets w Minimal i h n =
     let t = h.0 in
     let f = t.encodes in
-    let any : size_prefixed any_bytes padded t.encoding f.content = record { front = f.front; content = f.content; joined = f.joined; size = u32_unambiguous.encodings.included minimal padded tt f.front (length f.content) f.size; encodes = refl } in
+    let any : size_prefixed any_bytes padded t.encoding f.content = record { front = f.front; content = f.content; joined = f.joined; size = minimal_size f.front (length f.content) f.size; encodes = refl } in
     record { payload = f.content; sized = subst (λ z. size_prefixed any_bytes padded z f.content) (sym t.appended) any }
 encoding_sized offsets w Kept i h n = record { payload = w.section.payload; sized = subst (λ z. size_prefixed any_bytes padded z w.section.payload) (sym h.0.0) i.contains }
 encoding_sized offsets w LeftOut i h n = absurd (n refl)

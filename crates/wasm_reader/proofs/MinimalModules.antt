@@ -1,9 +1,9 @@
 -- This file proves how the minimizer encodes a module.
 use Rattle.wasm_base.proofs.Words.{◌≡◌, ◌≢◌, ℕ, ◌≤◌, ◌<◌, ◌+◌, ◌-◌, ◌^◌, suc, List, [], ◌∷◌, ◌++◌, length, map, take, drop, Bool, false, Decides, Some, None, refl, sym, ap, subst, ◌∙◌, append_assoc}
-use Rattle.wasm_base.proofs.Words.{append-nil, arith, AllByRecursion, flat_map, flat_map-append, length-drop, length-map, take_at, take_all, drop_at, RejectsWhole, padded, minimal, any_bytes}
-use Rattle.wasm_base.proofs.Words.{any_section, size_prefixed, header, members, wasm_module, Decodes, Rejects, size_prefixed_bytes_unambiguous, u32_unambiguous, decodes_same}
+use Rattle.wasm_base.proofs.Words.{append-nil, arith, AllByRecursion, flat_map, flat_map-append, length-drop, length-map, take_at, take_all, drop_at, RejectsWhole, admitted, padded, any_bytes}
+use Rattle.wasm_base.proofs.Words.{any_section, size_prefixed, header, members, wasm_module, Decodes, Rejects, size_prefixed_bytes_unambiguous, decodes_same}
 use Rattle.std.proofs.lemmas.List.{length-append}
-use Rattle.wasm_reader.specs.{Section, IsSection, HasSections, bytes_of, EndsAt, Takes, Shortens, contains_offsets, KeepsOffsets, HasLostOffsets, IsEncodingFor, IsWritten, Rewrite, IsRewrite, written}
+use Rattle.wasm_reader.specs.{Section, IsSection, HasSections, bytes_of, EndsAt, TakesIn, ShortensIn, contains_offsets, KeepsOffsets, HasLostOffsets, IsEncodingFor, IsWritten, Rewrite, IsRewrite, written}
 use Rattle.wasm_reader.specs.{written_as, id_written, IsChange, IsFirst, size_before, size_after, ShortensModule, LosesOffsets, GainsSection, leaves_out, lost_at, HasTally, Rewrites, StopsAfter}
 use Rattle.wasm_reader.specs.{IsFrontOf}
 use Rattle.wasm_reader.specs.declared.kinds.SectionKind.{SectionKind}
@@ -13,24 +13,25 @@ use Rattle.wasm_reader.specs.declared.whole.How.TheVariants.{Minimal, Kept, Left
 use Rattle.wasm_reader.specs.declared.whole.Offsets.TheVariants.{Refuse, LeaveOut}
 use Rattle.wasm_reader.specs.declared.whole.Tally.{Tally}
 use Rattle.wasm_reader.proofs.KeptOffsets.{all_map, first_lost, not_lost, nothing, nothing_known}
+use Rattle.wasm_reader.proofs.MinimalSections.{standard_size, minimal_size}
 use Rattle.wasm_reader.proofs.DecodeOutlines.{All-append, joined_more, no_module, ends_behind, sections_read, any_of}
 
 -- ---- a section
 
 -- A section that is minimized uses all of its size-prefixed bytes.
-pub whole_size_prefixed : (kind : SectionKind) (s : Section) (n : ℕ) (old new : List ℕ) → IsSection s → Shortens kind s.sized n old new → (encoding : List ℕ) × Shortens kind s.sized (length s.sized) [] encoding × (new ≡ old ++ encoding)
+pub whole_size_prefixed : (kind : SectionKind) (s : Section) (n : ℕ) (old new : List ℕ) → IsSection s → ShortensIn admitted kind s.sized n old new → (encoding : List ℕ) × ShortensIn admitted kind s.sized (length s.sized) [] encoding × (new ≡ old ++ encoding)
 whole_size_prefixed kind s n old new i h =
     let r = h.takes.decodes in
     let all : Decodes (size_prefixed any_bytes) padded s.sized s.payload [] = record { front = s.sized; split = sym (append-nil s.sized); encodes = i.contains } in
     let f = r.encodes in
-    let any : size_prefixed any_bytes padded r.front f.content = record { front = f.front; content = f.content; joined = f.joined; size = f.size; encodes = refl } in
+    let any : size_prefixed any_bytes padded r.front f.content = record { front = f.front; content = f.content; joined = f.joined; size = standard_size f.front (length f.content) f.size; encodes = refl } in
     let read : Decodes (size_prefixed any_bytes) padded s.sized f.content (drop n s.sized) = record { front = r.front; split = r.split; encodes = any } in
     let same = decodes_same size_prefixed_bytes_unambiguous all read in
     let taken : n ≡ length s.sized = omega (arith, ap length same.1, length-drop n s.sized, h.takes.within) in (
       h.encoding,
       record {
         value = h.value;
-        takes = subst (λ z. Takes kind s.sized h.value z) taken h.takes;
+        takes = subst (λ z. TakesIn admitted kind s.sized h.value z) taken h.takes;
         encoding = h.encoding;
         encodes = h.encodes;
         shorter = omega (arith, h.shorter, taken);
@@ -172,7 +173,7 @@ module _ (w : Rewrite) (bytes ids : List ℕ) (rest : EncodedWith bytes ids) whe
   one_written offsets Minimal i g =
       let t = g.0 in
       let f = t.encodes in
-      let any : size_prefixed any_bytes padded t.encoding f.content = record { front = f.front; content = f.content; joined = f.joined; size = u32_unambiguous.encodings.included minimal padded tt f.front (length f.content) f.size; encodes = refl } in
+      let any : size_prefixed any_bytes padded t.encoding f.content = record { front = f.front; content = f.content; joined = f.joined; size = minimal_size f.front (length f.content) f.size; encodes = refl } in
       one_more w.section.id w.encoding f.content bytes ids (subst (λ z. size_prefixed any_bytes padded z f.content) (sym t.appended) any) rest
   one_written offsets Kept i g = one_more w.section.id w.encoding w.section.payload bytes ids (subst (λ z. size_prefixed any_bytes padded z w.section.payload) (sym g.0.0) i.contains) rest
   one_written offsets LeftOut i g = rest

@@ -1,71 +1,168 @@
 -- This file proves that the minimizer appends the one minimal encoding of decoded sections.
-use Rattle.wasm_reader.specs.{Contents, Bodies, content, kind_in, section, Takes, Shortens, HaveOneEncoding}
+use Rattle.wasm_reader.specs.{Contents, Bodies, Segments, DataCount, Elements, Exports, Functions, Globals, Imports, Memories, Start, Tables, Tags, Types, Names, Linking, Producers, Hints, Core}
+use Rattle.wasm_reader.specs.{CoreModules, CoreInstances, CoreStack, Custom, Raw, TargetFeatures, SourceMappingUrl, ExternalDebugInfo, BuildId, Dylink, Relocations, content, kind_in, section, TakesIn, ShortensIn, HaveOneEncoding}
 use Rattle.wasm_reader.specs.declared.kinds.SectionKind.{SectionKind}
 use Rattle.wasm_reader.proofs.KindLaws.{content_whole, kind_is}
-use Rattle.wasm_base.proofs.Words.{◌≡◌, ℕ, ◌+◌, List, [], ◌++◌, length, drop, refl, sym, ap, subst, ◌∙◌, arith, length-drop, append_cancel_left, minimal, padded, builders, any_bytes, size_prefixed}
-use Rattle.wasm_base.proofs.Words.{vec, Unambiguous, Decodes, size_prefixed_encoding, HasEncodableSize, size_prefixed_unambiguous, decodes_same, AppendsMinimal, mapped_appended, take}
-use Rattle.wasm_base.proofs.MinimalEncodings.{size_prefixed_appended}
+use Rattle.wasm_base.proofs.Words.{◌≡◌, ◌≢◌, ◌↔◌, ℕ, ◌+◌, List, [], ◌++◌, length, refl, sym, ap, subst, ◌∙◌, arith, append_cancel_left, minimal, padded, standard_minimal, standard, Grammar, builders, minimal_of, padded_of}
+use Rattle.wasm_base.proofs.Words.{Format, u32, mapped, vec, size_prefixed, Result, OnOk, Unambiguous, IsIncludedIn, size_prefixed_unambiguous, decodes_same, AppendsMinimal, on_ok, u32_unambiguous}
+use Rattle.wasm_base.specs.Faults.{Failure}
+use Rattle.wasm_base.specs.Minimal.{AreSameInBoth, IsShared, padded_twins, Minimizes, MinimizesWhole}
+use Rattle.wasm_base.proofs.GrammarLaws.{u32_both, name_both, any_bytes_both, mapped_both, pair_both}
+use Rattle.wasm_base.proofs.MinimizeLaws.{same_minimizes}
 use Rattle.std.proofs.lemmas.List.{length-append}
-use Rattle.wasm_code.proofs.Words.{Body, body}
-use Rattle.wasm_reader.proofs.DecodeSections.{takes}
+use Rattle.wasm_code.proofs.Words.{body}
+use Rattle.wasm_sections.proofs.Words.{data_item, element, export, global_item, import_format, memory_type, table_item, tag_type}
+use Rattle.wasm_types.proofs.Words.{type_item}
+use Rattle.wasm_custom.proofs.Words.{linking_payload}
+use Rattle.wasm_custom.proofs.SharedFormats.{names_same, producers_same, hints_same, core_same, modules_same, instances_same, stack_same, features_same, source_map_same, debug_file_same, build_id_same, dylink_same, relocations_same}
+use Rattle.wasm_reader.proofs.DecodeSections.{taken}
 use Rattle.wasm_reader.specs.declared.kinds.SectionKind.TheVariants as kinds
+
+-- ---- payloads
+
+-- If the call minimizes a value of `F`, it minimizes the payload of a section of the kind.
+abbrev pub MinimizesAs : {X : Type 0} → Format X → SectionKind → Type 0
+MinimizesAs F k = (w : Grammar) (kind : SectionKind) (bytes old new : List ℕ) (r : Result (Unit {0}) Failure) → kind ≡ k → OnOk r (MinimizesWhole w F bytes old new) → OnOk r (MinimizesWhole w (content kind) bytes old new)
+
+minimizes_as : {X : Type 0} (f : X → Contents) {F : Format X} {k : SectionKind} → content k ≡ mapped f F → MinimizesAs F k
+minimizes_as f {F} is w kind bytes old new r e found = on_ok r _ _ found λ h.
+    let same : mapped f F ≡ content kind = sym (ap content e ∙ is) in
+    let whole : MinimizesWhole w (mapped f F) bytes old new = record { value = f h.value; decoded = (h.value, refl, h.decoded); encoding = h.encoding; encodes = (h.value, refl, h.encodes); appended = h.appended } in
+    subst (λ G. MinimizesWhole w G bytes old new) same whole
+
+pub bodies_minimized : MinimizesAs (vec (size_prefixed body)) kinds.Bodies
+bodies_minimized = minimizes_as Bodies refl
+
+pub segments_minimized : MinimizesAs (vec data_item) kinds.Segments
+segments_minimized = minimizes_as Segments refl
+
+pub data_count_minimized : MinimizesAs u32 kinds.DataCount
+data_count_minimized = minimizes_as DataCount refl
+
+pub elements_minimized : MinimizesAs (vec element) kinds.Elements
+elements_minimized = minimizes_as Elements refl
+
+pub exports_minimized : MinimizesAs (vec export) kinds.Exports
+exports_minimized = minimizes_as Exports refl
+
+pub functions_minimized : MinimizesAs (vec u32) kinds.Functions
+functions_minimized = minimizes_as Functions refl
+
+pub globals_minimized : MinimizesAs (vec global_item) kinds.Globals
+globals_minimized = minimizes_as Globals refl
+
+pub imports_minimized : MinimizesAs (vec import_format) kinds.Imports
+imports_minimized = minimizes_as Imports refl
+
+pub memories_minimized : MinimizesAs (vec memory_type) kinds.Memories
+memories_minimized = minimizes_as Memories refl
+
+pub start_minimized : MinimizesAs u32 kinds.Start
+start_minimized = minimizes_as Start refl
+
+pub tables_minimized : MinimizesAs (vec table_item) kinds.Tables
+tables_minimized = minimizes_as Tables refl
+
+pub tags_minimized : MinimizesAs (vec tag_type) kinds.Tags
+tags_minimized = minimizes_as Tags refl
+
+pub types_minimized : MinimizesAs (vec type_item) kinds.Types
+types_minimized = minimizes_as Types refl
+
+pub linking_minimized : MinimizesAs linking_payload kinds.Linking
+linking_minimized = minimizes_as Linking refl
+
+-- The kinds whose items are decoded, and then encoded.
+abbrev pub IsListed : SectionKind → Type 0
+IsListed kind =
+    (kind ≢ kinds.Bodies) × (kind ≢ kinds.Segments) × (kind ≢ kinds.DataCount) × (kind ≢ kinds.Elements) × (kind ≢ kinds.Exports) × (kind ≢ kinds.Functions) × (kind ≢ kinds.Globals) × (kind ≢ kinds.Imports) × (kind ≢ kinds.Memories)
+    × (kind ≢ kinds.Start) × (kind ≢ kinds.Tables) × (kind ≢ kinds.Tags) × (kind ≢ kinds.Types) × (kind ≢ kinds.Linking)
+
+mapped_same : {X : Type 0} (f : X → Contents) {F : Format X} → AreSameInBoth F → AreSameInBoth (mapped f F)
+mapped_same f k = record { shared = λ p. mapped_both f (k.shared p) }
+
+-- Their formats are the same in both grammars.
+content_same : (kind : SectionKind) → IsListed kind → AreSameInBoth (content kind)
+content_same kinds.Bodies n = absurd (n.0 refl)
+content_same kinds.Segments n = absurd (n.1 refl)
+content_same kinds.DataCount n = absurd (n.2 refl)
+content_same kinds.Elements n = absurd (n.3 refl)
+content_same kinds.Exports n = absurd (n.4 refl)
+content_same kinds.Functions n = absurd (n.5 refl)
+content_same kinds.Globals n = absurd (n.6 refl)
+content_same kinds.Imports n = absurd (n.7 refl)
+content_same kinds.Memories n = absurd (n.8 refl)
+content_same kinds.Start n = absurd (n.9 refl)
+content_same kinds.Tables n = absurd (n.10 refl)
+content_same kinds.Tags n = absurd (n.11 refl)
+content_same kinds.Types n = absurd (n.12 refl)
+content_same kinds.Linking n = absurd (n.13 refl)
+content_same kinds.Names n = mapped_same Names names_same
+content_same kinds.Producers n = mapped_same Producers producers_same
+content_same kinds.Hints n = mapped_same Hints hints_same
+content_same kinds.Core n = mapped_same Core core_same
+content_same kinds.CoreModules n = mapped_same CoreModules modules_same
+content_same kinds.CoreInstances n = mapped_same CoreInstances instances_same
+content_same kinds.CoreStack n = mapped_same CoreStack stack_same
+content_same kinds.Custom n = record { shared = λ p. mapped_both Custom (pair_both name_both any_bytes_both) }
+content_same kinds.Raw n = record { shared = λ p. mapped_both Raw any_bytes_both }
+content_same kinds.TargetFeatures n = mapped_same TargetFeatures features_same
+content_same kinds.SourceMappingUrl n = mapped_same SourceMappingUrl source_map_same
+content_same kinds.ExternalDebugInfo n = mapped_same ExternalDebugInfo debug_file_same
+content_same kinds.BuildId n = mapped_same BuildId build_id_same
+content_same kinds.Dylink n = mapped_same Dylink dylink_same
+content_same kinds.Relocations n = mapped_same Relocations relocations_same
+
+-- Decoded items, whose encoding is appended.
+pub items_minimized : (w : Grammar) (kind : SectionKind) (bytes old new : List ℕ) (x : Contents) → IsListed kind → content kind (padded_of w) bytes x → AppendsMinimal (content (kind_in x)) x old new → MinimizesWhole w (content kind) bytes old new
+items_minimized w kind bytes old new x n h a = same_minimizes w (content kind) x bytes old new (content_same kind n) h (subst (λ k. AppendsMinimal (content k) x old new) (kind_in_grammar w kind bytes x h) a)
+  where
+    kind_in_grammar : (v : Grammar) (k : SectionKind) (s : List ℕ) (y : Contents) → content k (padded_of v) s y → kind_in y ≡ k
+    kind_in_grammar v k s y g = kind_is (padded_of v) k s y g
 
 -- ---- sections
 
 pub section_unambiguous : (kind : SectionKind) → Unambiguous (section kind)
 section_unambiguous kind = size_prefixed_unambiguous (content_whole kind)
 
--- The payload encodes items of the kind, whose minimal encoding is appended.
-abbrev pub IsShortened : SectionKind → List ℕ → List ℕ → List ℕ → Type 0
-IsShortened kind sized old new = (x : Contents) × content kind padded sized x × AppendsMinimal (content kind) x old new
-
-pub bodies_shortened : (kind : SectionKind) (sized old new : List ℕ) → kind ≡ kinds.Bodies → (xs : List Body) × vec (size_prefixed body) padded sized xs × AppendsMinimal (vec (size_prefixed body)) xs old new → IsShortened kind sized old new
-bodies_shortened kind sized old new e h = subst (λ k. IsShortened k sized old new) (sym e) (Bodies h.0, (h.0, refl, h.1), mapped_appended Bodies (vec (size_prefixed body)) h.0 old new (λ z k. cc k) h.2)
-
-pub items_shortened : (kind : SectionKind) (sized old new : List ℕ) (x : Contents) → content kind padded sized x → AppendsMinimal (content (kind_in x)) x old new → IsShortened kind sized old new
-items_shortened kind sized old new x h a = (x, h, subst (λ k. AppendsMinimal (content k) x old new) (kind_is kind sized x h) a)
-
--- The payload encodes items of the kind, and the minimal encoding of their section is appended.
-abbrev pub IsSectionShortened : SectionKind → List ℕ → List ℕ → List ℕ → Type 0
-IsSectionShortened kind sized old new = (x : Contents) × content kind padded sized x × AppendsMinimal (section kind) x old new
-
--- The payload is appended, and then its size before it.
-pub sized : (kind : SectionKind) (payload old middle new : List ℕ) (start : ℕ) → start ≡ length old → IsShortened kind payload old middle → HasEncodableSize (drop start middle) → new ≡ take start middle ++ size_prefixed_encoding (drop start middle) → IsSectionShortened kind payload old new
-sized kind payload old middle new start e s encodable is = (s.0, s.1, size_prefixed_appended (content kind) s.0 start old middle new e s.2 encodable is)
-
-pub shortened : (kind : SectionKind) (bytes payload rest old new : List ℕ) (n : ℕ) → Decodes (size_prefixed any_bytes) padded bytes payload rest → n + length rest ≡ length bytes → IsSectionShortened kind payload old new → Shortens kind bytes n old new
-shortened kind bytes payload rest old new n h l s =
-    let x = s.0 in
-    let given = s.2 in
-    let t = takes kind bytes payload rest x n h s.1 l in
-    let read = t.decodes in
-    let encodes = given.encodes read.front read.encodes in
+pub shortened : (w : Grammar) (kind : SectionKind) (bytes rest old new : List ℕ) (n : ℕ) → Minimizes w (section kind) bytes rest old new → n + length rest ≡ length bytes → ShortensIn w kind bytes n old new
+shortened w kind bytes rest old new n h l =
+    let read = h.decoded in
     let unique = section_unambiguous kind in
-    let less = unique.encodings.shorter builders read.front x read.encodes in
-    let same = unique.encodings.one builders less.0 given.encoding x less.1 encodes in
+    let less = unique.encodings.shorter w read.front h.value read.encodes in
+    let same = unique.encodings.one w less.0 h.encoding h.value less.1 h.encodes in
     record {
-      value = x;
-      takes = t;
-      encoding = given.encoding;
-      encodes = encodes;
-      shorter = omega (arith, less.2, ap length same, ap length read.split, length-append read.front (drop n bytes), length-drop n bytes, t.within);
-      appended = given.appended;
+      value = h.value;
+      takes = record { within = omega (arith, l); decodes = taken bytes rest h.value n read l };
+      encoding = h.encoding;
+      encodes = h.encodes;
+      shorter = omega (arith, less.2, ap length same, ap length read.split, length-append read.front rest, l);
+      appended = h.appended;
     }
+
+-- A size prefix of the standard's grammar is one of the builders'.
+pub standard_size : IsIncludedIn (u32 standard) (u32 padded)
+standard_size = let both : IsShared padded_twins u32 = u32_both in both.same
+
+pub minimal_size : IsIncludedIn (u32 standard_minimal) (u32 padded)
+minimal_size s n h = standard_size s n (u32_unambiguous.encodings.included standard_minimal standard tt s n h)
 
 -- ---- one encoding
 
-decodes_as : (kind : SectionKind) (bytes old new : List ℕ) (n : ℕ) (x : Contents) → (s : Shortens kind bytes n old new) → Takes kind bytes x n → section kind minimal s.encoding x
-decodes_as kind bytes old new n x s t = subst (λ z. section kind minimal s.encoding z) (decodes_same (section_unambiguous kind) s.takes.decodes t.decodes).0 s.encodes
+module _ (w : Grammar) where
+  decodes_as : (kind : SectionKind) (bytes old new : List ℕ) (n : ℕ) (x : Contents) → (s : ShortensIn w kind bytes n old new) → TakesIn w kind bytes x n → section kind (minimal_of w) s.encoding x
+  decodes_as kind bytes old new n x s t = subst (λ z. section kind (minimal_of w) s.encoding z) (decodes_same (section_unambiguous kind) s.takes.decodes t.decodes).0 s.encodes
 
-pub one_encoding : HaveOneEncoding
-one_encoding = record {
-  same = λ kind a b old other s t n m x y p q h g.
+  one_in : (kind : SectionKind) (a b old other s t : List ℕ) (n m : ℕ) (x y : Contents) → ShortensIn w kind a n old (old ++ s) → ShortensIn w kind b m other (other ++ t) → TakesIn w kind a x n → TakesIn w kind b y m → (s ≡ t) ↔ (x ≡ y)
+  one_in kind a b old other s t n m x y p q h g =
       let unique = section_unambiguous kind in
       let first = decodes_as kind a old (old ++ s) n x p h in
       let second = decodes_as kind b other (other ++ t) m y q g in
       let s_is : s ≡ p.encoding = append_cancel_left old s p.encoding p.appended in
       let t_is : t ≡ q.encoding = append_cancel_left other t q.encoding q.appended in (
-        λ e. (unique.unique minimal p.encoding q.encoding [] [] x y first second (ap (λ z. z ++ []) (sym s_is ∙ e ∙ t_is))).0,
-        λ e. s_is ∙ unique.encodings.one builders p.encoding q.encoding y (subst (λ z. section kind minimal p.encoding z) e first) second ∙ sym t_is,
-      );
-}
+        λ e. (unique.unique (minimal_of w) p.encoding q.encoding [] [] x y first second (ap (λ z. z ++ []) (sym s_is ∙ e ∙ t_is))).0,
+        λ e. s_is ∙ unique.encodings.one w p.encoding q.encoding y (subst (λ z. section kind (minimal_of w) p.encoding z) e first) second ∙ sym t_is,
+      )
+
+pub one_encoding : HaveOneEncoding
+one_encoding = record { same = one_in builders; same_in = one_in }

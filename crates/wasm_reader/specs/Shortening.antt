@@ -3,10 +3,10 @@
 use Rattle.std.specs.Prelude.{◌≡◌, ◌≢◌, ◌⊎◌, ◌||◌, ℕ, ◌+◌, ◌≤◌, List, [], ◌∷◌, ◌++◌, length, map, codes, min, Bool, true, false, if◌then◌else◌, Decides, MatchBool, Option, Some, None, is_some}
 use Rattle.std.specs.List.{AllByRecursion, flat_map}
 use Rattle.std.specs.Str.{bytes_eq}
-use Rattle.wasm_base.specs.Words.{padded, any_section, header, members, wasm_module, RejectsWhole, Decodes, Rejects, number_of}
+use Rattle.wasm_base.specs.Words.{admitted, padded, standard, any_section, header, members, wasm_module, RejectsWhole, Decodes, Rejects, number_of}
 use Rattle.wasm_custom.specs.Words.{begins_with, linking_name, relocations_prefix}
 use Rattle.wasm_reader.specs.Outlines.{Section, bytes_of, section_kind_of, IsSection, HasSections, EndsAt}
-use Rattle.wasm_reader.specs.Sections.{section, Shortens}
+use Rattle.wasm_reader.specs.Sections.{section, ShortensIn}
 use Rattle.wasm_reader.specs.declared.whole.Found.{Found}
 use Rattle.wasm_reader.specs.declared.whole.How.{How}
 use Rattle.wasm_reader.specs.declared.whole.How.TheVariants.{Minimal, Kept, LeftOut}
@@ -68,11 +68,12 @@ pub record Rewrite : Type 0 where
   pub how : How
   pub encoding : List ℕ
 
--- The bytes are the minimal encoding of the section; or its bytes unchanged, since they do not
--- decode by its kind. A section that is left out has none.
+-- The bytes are the minimal encoding of the section in the standard's grammar; or its bytes
+-- unchanged, since they do not decode by its kind in this grammar. A section that is left out has
+-- none.
 abbrev pub IsEncodingFor : How → Section → List ℕ → Type 0
-IsEncodingFor Minimal s encoding = Shortens (section_kind_of s) s.sized (length s.sized) [] encoding
-IsEncodingFor Kept s encoding = (encoding ≡ s.sized) × Rejects (section (section_kind_of s)) padded s.sized
+IsEncodingFor Minimal s encoding = ShortensIn admitted (section_kind_of s) s.sized (length s.sized) [] encoding
+IsEncodingFor Kept s encoding = (encoding ≡ s.sized) × Rejects (section (section_kind_of s)) standard s.sized
 IsEncodingFor LeftOut s encoding = ⊥
 
 -- The section is encoded in this way. It is left out exactly if it holds offsets and such sections

@@ -1,92 +1,94 @@
 // Minimizes sections.
-ghost use Rattle.std.specs.Prelude.{◌≡◌, ◌≢◌, List, IfOk, IfErr, OnOk, OnErr};
-ghost use Rattle.wasm_base.specs.Formats.{size_prefixed, vec};
+ghost use Rattle.std.specs.Prelude.{◌≡◌, ◌≢◌, IfOk, IfErr, OnOk, OnErr};
 ghost use Rattle.wasm_base.specs.Continuing.{RejectsWhole};
-ghost use Rattle.wasm_base.specs.Numbers.{padded};
+ghost use Rattle.wasm_base.specs.Numbers.{padded, padded_of};
 ghost use Rattle.wasm_base.specs.Decoding.{Rejects};
-ghost use Rattle.wasm_code.specs.Bodies.{Body, body};
-ghost use Rattle.wasm_base.specs.Minimal.{AppendsMinimal, IsFrontOf};
+ghost use Rattle.wasm_base.specs.Minimal.{Minimizes, MinimizesWhole, IsFrontOf};
 ghost use Rattle.wasm_base.specs.declared.fault.ReadFault.TheVariants.{Memory};
-ghost use Rattle.wasm_reader.specs.Kinds.{Contents, content};
-ghost use Rattle.wasm_reader.specs.Sections.{section, Shortens};
+ghost use Rattle.wasm_reader.specs.Kinds.{content};
+ghost use Rattle.wasm_reader.specs.Sections.{section, Shortens, ShortensIn};
 
 use crate::kinds::{SectionKind, encode_items, read_content};
 use std::alloc::Allocator;
-use wasm_base::{DecodeError, Padded, ReadFault, Readable, Shorten, prefix_size_since};
-use wasm_code::shorten_body;
+use wasm_base::{
+    DecodeError, Grammar, Minimize, Padded, ReadFault, Readable, minimize_whole, prefix_size_since,
+};
+use wasm_code::Body;
+use wasm_custom::minimize_links;
+use wasm_sections::{
+    ElementItem, Export, GlobalItem, Imports, MemoryType, Segment, TableItem, TagType,
+};
+use wasm_types::TypeEntry;
 
-/// Appends the minimal encoding of a vector of bodies that occupies all of the bytes. It keeps no
-/// decoded body. After an error, the old bytes are still the front of the sink.
+/// Minimizes the payload of a section of this kind. Core items are not kept, and neither are
+/// subsections of a linking section. The items of other custom sections are decoded, and then
+/// encoded.
 #[tactic(auto, using(wasm_base::proofs::MinimalEncodings::front_steps))]
-fn shorten_bodies<A: Allocator + Copy, B: Allocator>(
-    bytes: &[u8],
-    alloc: A,
-    sink: &mut Vec<u8, B>,
-) -> Result<(), DecodeError>
-    ensures found { OnOk result ((xs : List Body) × vec (size_prefixed body) padded bytes.now xs × AppendsMinimal (vec (size_prefixed body)) xs sink.old.items sink.new.items) }
-    ensures front { IsFrontOf sink.old.items sink.new.items }
-    ensures none { IfErr result (λ e. e.cause ≢ Memory → RejectsWhole (vec (size_prefixed body)) padded bytes.now) }
-{
-    let (count, mut rest) = <u32 as Readable<'_, A, Padded>>::read(bytes, alloc)?;
-    count.write_minimal(sink)?;
-    for _taken in 0..count {
-        let (sized, after) = <&[u8] as Readable<'_, A, Padded>>::read(rest, alloc)?;
-        shorten_body(sized, alloc, sink)?;
-        rest = after;
-    }
-    if rest.is_empty() {
-        Ok(())
-    } else {
-        Err(ReadFault::SizeMismatch.at(rest))
-    }
-}
-
-/// Appends the minimal encoding of the payload of a section of this kind. After an error, the old
-/// bytes are still the front of the sink.
-#[tactic(auto, using(wasm_base::proofs::MinimalEncodings::front_steps))]
-fn shorten_content<A: Allocator + Copy, B: Allocator>(
+pub(crate) fn minimize_content<A: Allocator + Copy, G: Grammar, B: Allocator>(
     kind: SectionKind,
     bytes: &[u8],
     alloc: A,
     sink: &mut Vec<u8, B>,
 ) -> Result<(), DecodeError>
-    ensures found { OnOk result ((x : Contents) × content kind padded bytes.now x × AppendsMinimal (content kind) x sink.old.items sink.new.items) }
+    ensures found { OnOk result (MinimizesWhole G.grammar (content kind) bytes.now sink.old.items sink.new.items) }
     ensures front { IsFrontOf sink.old.items sink.new.items }
-    ensures none { IfErr result (λ e. e.cause ≢ Memory → RejectsWhole (content kind) padded bytes.now) }
+    ensures none { IfErr result (λ e. e.cause ≢ Memory → RejectsWhole (content kind) (padded_of G.grammar) bytes.now) }
 {
     match kind {
-        SectionKind::Bodies => shorten_bodies(bytes, alloc, sink),
+        SectionKind::Bodies => minimize_whole::<Vec<Body<A>, A>, A, G, _>(bytes, alloc, sink),
+        SectionKind::Segments => minimize_whole::<Vec<Segment<'_, A>, A>, A, G, _>(
+            bytes, alloc, sink,
+        ),
+        SectionKind::DataCount => minimize_whole::<u32, A, G, _>(bytes, alloc, sink),
+        SectionKind::Elements => minimize_whole::<Vec<ElementItem<A>, A>, A, G, _>(
+            bytes, alloc, sink,
+        ),
+        SectionKind::Exports => minimize_whole::<Vec<Export<'_>, A>, A, G, _>(bytes, alloc, sink),
+        SectionKind::Functions => minimize_whole::<Vec<u32, A>, A, G, _>(bytes, alloc, sink),
+        SectionKind::Globals => minimize_whole::<Vec<GlobalItem<A>, A>, A, G, _>(
+            bytes, alloc, sink,
+        ),
+        SectionKind::Imports => minimize_whole::<Vec<Imports<'_, A>, A>, A, G, _>(
+            bytes, alloc, sink,
+        ),
+        SectionKind::Memories => minimize_whole::<Vec<MemoryType, A>, A, G, _>(bytes, alloc, sink),
+        SectionKind::Start => minimize_whole::<u32, A, G, _>(bytes, alloc, sink),
+        SectionKind::Tables => minimize_whole::<Vec<TableItem<A>, A>, A, G, _>(bytes, alloc, sink),
+        SectionKind::Tags => minimize_whole::<Vec<TagType, A>, A, G, _>(bytes, alloc, sink),
+        SectionKind::Types => minimize_whole::<Vec<TypeEntry<A>, A>, A, G, _>(bytes, alloc, sink),
+        SectionKind::Linking => minimize_links::<A, G, _>(bytes, alloc, sink),
         _ => {
-            let items = read_content::<A, Padded>(kind, bytes, alloc)?;
+            let items = read_content::<A, G>(kind, bytes, alloc)?;
             encode_items(&items, sink)?;
             Ok(())
         }
     }
 }
 
-/// Appends the minimal encoding of a section of this kind with this payload. After an error, the
-/// old bytes are still the front of the sink.
-#[tactic(auto, using(wasm_base::proofs::MinimalEncodings::front_steps))]
-fn shorten_sized<A: Allocator + Copy, B: Allocator>(
+/// Minimizes the section at the front, without its id, and returns the remaining bytes.
+#[tactic(auto, using(wasm_base::proofs::MinimizeLaws::sized_minimizes, wasm_base::proofs::MinimalEncodings::front_steps))]
+fn minimize_section<'a, A: Allocator + Copy, G: Grammar, B: Allocator>(
     kind: SectionKind,
-    bytes: &[u8],
+    bytes: &'a [u8],
     alloc: A,
     sink: &mut Vec<u8, B>,
-) -> Result<(), DecodeError>
-    ensures found { OnOk result ((x : Contents) × content kind padded bytes.now x × AppendsMinimal (section kind) x sink.old.items sink.new.items) }
+) -> Result<&'a [u8], DecodeError>
+    ensures found { IfOk result (λ rest. Minimizes G.grammar (section kind) bytes.now rest.now sink.old.items sink.new.items) }
     ensures front { IsFrontOf sink.old.items sink.new.items }
-    ensures none { IfErr result (λ e. e.cause ≢ Memory → RejectsWhole (content kind) padded bytes.now) }
+    ensures none { IfErr result (λ e. e.cause ≢ Memory → Rejects (section kind) (padded_of G.grammar) bytes.now) }
 {
+    let (payload, rest) = <&'a [u8] as Readable<'a, A, G>>::read(bytes, alloc)?;
     let start = sink.len();
-    shorten_content(kind, bytes, alloc, sink)?;
+    minimize_content::<A, G, _>(kind, payload, alloc, sink)?;
     prefix_size_since(sink, start)?;
-    Ok(())
+    Ok(rest)
 }
 
 /// Appends the minimal encoding of the section at the front, and returns the section's length in
 /// the input, in bytes. Both are without the section's id. On an error, the bytes of the sink are
-/// unchanged. Decoded items are allocated with the sink's allocator, and then dropped. Code is
-/// decoded one instruction at a time.
+/// unchanged. Core items are decoded one by one, and not kept; so are the subsections of a linking
+/// section. The items of other custom sections are allocated with the sink's allocator, and then
+/// dropped.
 ///
 /// In a code section that becomes shorter, instructions move. Offsets into it that are kept
 /// elsewhere are then wrong: relocations, debugging information, branch hints and source maps.
@@ -109,24 +111,23 @@ pub fn shorten<A: Allocator + Copy>(
     ensures err { OnErr result (sink.new.items ≡ sink.old.items) }
     ensures none { IfErr result (λ e. e ≢ Memory → Rejects (section kind) padded bytes.now) }
 {
-    shorten_in(*sink.allocator(), kind, bytes, sink)
+    shorten_in::<A, Padded, _>(*sink.allocator(), kind, bytes, sink)
 }
 
-/// Does what [`shorten`] does, with another allocator for decoded items.
-pub(crate) fn shorten_in<A: Allocator + Copy, B: Allocator>(
+/// Does what [`shorten`] does, in a grammar and with another allocator for decoded items.
+pub(crate) fn shorten_in<A: Allocator + Copy, G: Grammar, B: Allocator>(
     alloc: A,
     kind: SectionKind,
     bytes: &[u8],
     sink: &mut Vec<u8, B>,
 ) -> Result<usize, ReadFault>
-    ensures ok { IfOk result (λ n. Shortens kind bytes.now n sink.old.items sink.new.items) }
+    ensures ok { IfOk result (λ n. ShortensIn G.grammar kind bytes.now n sink.old.items sink.new.items) }
     ensures err { OnErr result (sink.new.items ≡ sink.old.items) }
-    ensures none { IfErr result (λ e. e ≢ Memory → Rejects (section kind) padded bytes.now) }
+    ensures none { IfErr result (λ e. e ≢ Memory → Rejects (section kind) (padded_of G.grammar) bytes.now) }
 {
-    let (sized, rest) = <&[u8] as Readable<'_, A, Padded>>::read(bytes, alloc)?;
     let start = sink.len();
-    match shorten_sized(kind, sized, alloc, sink) {
-        Ok(()) => Ok(bytes.len() - rest.len()),
+    match minimize_section::<A, G, _>(kind, bytes, alloc, sink) {
+        Ok(rest) => Ok(bytes.len() - rest.len()),
         Err(error) => {
             sink.truncate(start);
             Err(error.cause())

@@ -1,8 +1,9 @@
 // Iterates over the sections of a module.
-ghost use Rattle.std.specs.Prelude.{◌≡◌, ◌≢◌, ◌++◌, ◌+◌, ◌<◌, ◌≤◌, ◌^◌, ◌⊎◌, length, drop, option_map, IfOk, IfErr};
+ghost use Rattle.std.specs.Prelude.{◌≡◌, ◌≢◌, ◌++◌, ◌+◌, ◌<◌, ◌≤◌, ◌^◌, ◌⊎◌, length, drop, option_map, IfOk, IfErr, OnOk, OnErr};
 ghost use Rattle.std.specs.Iterator.{at_most};
 ghost use Rattle.wasm_base.specs.Formats.{fixed, header};
-ghost use Rattle.wasm_base.specs.Numbers.{padded, standard};
+ghost use Rattle.wasm_base.specs.Minimal.{MinimizesWhole};
+ghost use Rattle.wasm_base.specs.Numbers.{admitted, padded, standard};
 ghost use Rattle.wasm_base.specs.Continuing.{RejectsWhole};
 ghost use Rattle.wasm_base.specs.Decoding.{Rejects};
 ghost use Rattle.wasm_base.specs.declared.fault.ReadFault.TheVariants.{Ended, UnknownTag, Memory};
@@ -11,6 +12,7 @@ ghost use Rattle.wasm_reader.specs.Outlines.{section_of, section_kind_of, bytes_
 ghost use Rattle.wasm_reader.specs.Iterating.{Iterating, Located, ahead, end_of, known_kind_of, IsInPayload, NextSection};
 
 use crate::kinds::{Items, SectionKind, read_content, read_number};
+use crate::minimal::minimize_content;
 use crate::modules::{HEADER, read_header};
 use crate::read_error::ReadError;
 use crate::standing::{Standing, read_standing};
@@ -281,6 +283,38 @@ impl<'a, A: Allocator + Copy> Section<'a, A> {
                 self.standing.payload.len(),
                 self.range().end,
             )),
+        }
+    }
+    /// Appends the payload in its minimal encoding. In the standard's grammar a nullable reference
+    /// to an abstract type has one byte, for example. On an error, the bytes of the sink are
+    /// unchanged.
+    ///
+    /// Core items are decoded one by one, and not kept; so are the subsections of a linking
+    /// section. The items of other custom sections are allocated, and then dropped.
+    ///
+    /// ```text
+    /// let mut payload = Vec::new(alloc);
+    /// section.minimize(&mut payload)?;
+    /// module.section(&RawSection { id: section.id(), bytes: &payload })?;
+    /// ```
+    ///
+    /// # Errors
+    ///
+    /// An error but `Memory` means that the payload does not decode as the section's kind.
+    pub fn minimize<B: Allocator>(&self, sink: &mut Vec<u8, B>) -> Result<(), ReadError>
+        ensures found { OnOk result (MinimizesWhole admitted (content (section_kind_of self.now.section)) self.now.section.payload sink.old.items sink.new.items) }
+        ensures err { OnErr result (sink.new.items ≡ sink.old.items) }
+        ensures none { IfErr result (λ e. e.cause ≢ Memory → RejectsWhole (content (section_kind_of self.now.section)) standard self.now.section.payload) }
+        ensures within { IfErr result (λ e. IsInPayload self.now e.offset) }
+    {
+        let start = sink.len();
+        let payload = self.standing.payload;
+        match minimize_content::<A, Standard, _>(self.standing.kind(), payload, self.alloc, sink) {
+            Ok(()) => Ok(()),
+            Err(error) => {
+                sink.truncate(start);
+                Err(ReadError::located(error, payload.len(), self.range().end))
+            }
         }
     }
 }

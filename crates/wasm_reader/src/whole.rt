@@ -40,7 +40,7 @@ use crate::sections::Sections;
 use crate::standing::Standing;
 use std::alloc::{AllocError, Allocator};
 use thiserror::Error;
-use wasm_base::ReadFault;
+use wasm_base::{ReadFault, Standard};
 
 /// The treatment of custom sections that hold offsets.
 ///
@@ -191,7 +191,7 @@ fn append_size_prefixed<A: Allocator + Copy, B: Allocator>(
     ensures err { OnErr result (sink.new.items ≡ sink.old.items) }
     ensures memory { IfErr result (λ e. e ≡ Memory) }
 {
-    match shorten_in(alloc, section.kind(), section.sized, sink) {
+    match shorten_in::<A, Standard, _>(alloc, section.kind(), section.sized, sink) {
         Ok(_) => Ok(How::Minimal),
         Err(ReadFault::Memory) => Err(ReadFault::Memory),
         Err(_) => match sink.extend_from_slice(section.sized) {

@@ -80,7 +80,7 @@ pub record IsItem (e : ExportItem) : Type 0 where
   pub name : IsUtf8 e.name
   pub index : e.index < 2 ^ 32
 
-export_is : AllValues IsItem export
+pub export_is : AllValues IsItem export
 export_is mode s e h = subst IsItem h.1 (record { name = h.2.first.1; index = h.2.second.second.range })
 
 pub export_short : (e : Export) → IsEncodableExport e → (s : List ℕ) → export padded s (item_of e) → export minimal (export_encoding e) (item_of e)

@@ -347,7 +347,7 @@ pub ruleset import_steps = (alike_decodes, alike_no_type, alike_no_names, group_
 
 -- ---- the one minimal encoding of decoded imports
 
-entity_is : AllValues IsEntity entity
+pub entity_is : AllValues IsEntity entity
 entity_is =
     values_tagged IsEntity entity_tags (
       λ mode s x h. subst IsEntity h.1 h.2.range,

@@ -1,7 +1,8 @@
 -- This file defines global types and globals, their encodings and their formats. Core
 -- specification, Binary Format, Types, Global Types, and Modules, Global Section.
 use Rattle.std.specs.Prelude.{ℕ, ◌+◌, List, [], ◌∷◌, ◌++◌, Bool}
-use Rattle.wasm_base.specs.Words.{Kind, ContainsItems, Format, coded, mapped, pair, vec, Mode, minimal, padded, val_type, val_encoding, IsVal, SectionDecoding, decoding_of, number_of}
+use Rattle.wasm_base.specs.Words.{Grammar, Kind, ContainsItems, Format, coded, mapped, pair, vec, Mode, minimal, padded, val_type, val_encoding, IsVal, SectionDecoding, decoding_of, number_of}
+use Rattle.wasm_base.specs.Types.{val_encoding_in}
 use Rattle.wasm_base.specs.declared.types.ValType.{ValType}
 use Rattle.wasm_code.specs.Words.{expression, expression_encoding}
 use Rattle.wasm_immediates.specs.Words.{where_set}
@@ -29,6 +30,10 @@ global_flags g = record { mutable = g.mutable; shared = g.shared }
 -- The encoding of a global type: its value type, and the byte of its flags.
 abbrev pub global_encoding : GlobalType → List ℕ
 global_encoding g = val_encoding g.val_type ++ global_code (global_flags g) ∷ []
+
+-- The minimal encoding of a global type in each grammar.
+abbrev pub global_encoding_in : Grammar → GlobalType → List ℕ
+global_encoding_in w g = val_encoding_in w g.val_type ++ global_code (global_flags g) ∷ []
 
 -- The global type is well-formed: an index in its value type is below 2^32.
 abbrev pub IsGlobal : GlobalType → Type 0

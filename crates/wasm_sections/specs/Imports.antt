@@ -1,11 +1,11 @@
 -- This file defines imports and groups of imports, their encodings and their format. Core
 -- specification, Binary Format, Modules, Import Section.
 use Rattle.std.specs.Prelude.{ℕ, ◌^◌, ◌<◌, List, [], ◌∷◌, ◌++◌, map, IsUtf8}
-use Rattle.wasm_base.specs.Words.{items_of, Kind, ContainsItems, Format, u32, name, byte, vec, mapped, tagged, choice, impossible, one_of, pair, prefixed, IsEncodableName, unsigned_encoding}
+use Rattle.wasm_base.specs.Words.{items_of, Grammar, Kind, ContainsItems, Format, u32, name, byte, vec, mapped, tagged, choice, impossible, one_of, pair, prefixed, IsEncodableName, unsigned_encoding}
 use Rattle.wasm_base.specs.Words.{size_prefixed_encoding, HasEncodableSize, vec_encoding, IsEncodableVec, SectionDecoding, decoding_of, number_of}
-use Rattle.wasm_sections.specs.Globals.{global_encoding, IsGlobal, global_type}
+use Rattle.wasm_sections.specs.Globals.{global_encoding, global_encoding_in, IsGlobal, global_type}
 use Rattle.wasm_sections.specs.Memories.{memory_encoding, IsMemory, memory_type}
-use Rattle.wasm_sections.specs.Tables.{table_encoding, IsTable, table_type}
+use Rattle.wasm_sections.specs.Tables.{table_encoding, table_encoding_in, IsTable, table_type}
 use Rattle.wasm_sections.specs.Tags.{tag_encoding, IsTag, tag_type}
 use Rattle.wasm_sections.specs.declared.import.EntityType.{EntityType}
 use Rattle.wasm_sections.specs.declared.import.EntityType.TheVariants.{Function, Table, Memory, Global, Tag, FunctionExact}
@@ -26,6 +26,15 @@ entity_encoding (Memory ty) = 0x02 ∷ memory_encoding ty
 entity_encoding (Global ty) = 0x03 ∷ global_encoding ty
 entity_encoding (Tag ty) = 0x04 ∷ tag_encoding ty
 entity_encoding (FunctionExact index) = 0x20 ∷ unsigned_encoding index
+
+-- The minimal encoding of an entity in each grammar.
+abbrev pub entity_encoding_in : Grammar → EntityType → List ℕ
+entity_encoding_in w (Function index) = 0x00 ∷ unsigned_encoding index
+entity_encoding_in w (Table ty) = 0x01 ∷ table_encoding_in w ty
+entity_encoding_in w (Memory ty) = 0x02 ∷ memory_encoding ty
+entity_encoding_in w (Global ty) = 0x03 ∷ global_encoding_in w ty
+entity_encoding_in w (Tag ty) = 0x04 ∷ tag_encoding ty
+entity_encoding_in w (FunctionExact index) = 0x20 ∷ unsigned_encoding index
 
 -- The numbers of the entity are in range.
 abbrev pub IsEntity : EntityType → Type 0

@@ -1,8 +1,9 @@
 -- This file defines table types and tables, their encodings and their formats. Core specification,
 -- Binary Format, Types, Table Types, and Modules, Table Section.
 use Rattle.std.specs.Prelude.{ℕ, ◌^◌, ◌<◌, List, [], ◌∷◌, ◌++◌, Bool, true, false, Option, Some, None, IfSome, option_map}
-use Rattle.wasm_base.specs.Words.{Kind, ContainsItems, Format, u64, impossible, mapped, tagged, pair, optional, when, one_of, prefixed, is_given, vec, Mode, minimal, padded, unsigned_encoding}
+use Rattle.wasm_base.specs.Words.{Grammar, Kind, ContainsItems, Format, u64, impossible, mapped, tagged, pair, optional, when, one_of, prefixed, is_given, vec, Mode, minimal, padded, unsigned_encoding}
 use Rattle.wasm_base.specs.Words.{optional_encoding, ref_type, ref_encoding, IsRef, SectionDecoding, decoding_of, number_of}
+use Rattle.wasm_base.specs.Types.{ref_encoding_in}
 use Rattle.wasm_base.specs.declared.types.RefType.{RefType}
 use Rattle.wasm_base.specs.declared.types.ValType.{ValType}
 use Rattle.wasm_base.specs.declared.types.ValType.TheVariants.{I32, I64}
@@ -23,6 +24,10 @@ table_flags t = record { has_maximum = is_given t.maximum; shared = t.shared; is
 -- is given.
 abbrev pub table_encoding : TableType → List ℕ
 table_encoding t = ref_encoding t.element_type ++ (flags_code (table_flags t) ∷ (unsigned_encoding t.minimum ++ optional_encoding unsigned_encoding t.maximum))
+
+-- The minimal encoding of a table type in each grammar.
+abbrev pub table_encoding_in : Grammar → TableType → List ℕ
+table_encoding_in w t = ref_encoding_in w t.element_type ++ (flags_code (table_flags t) ∷ (unsigned_encoding t.minimum ++ optional_encoding unsigned_encoding t.maximum))
 
 -- The table type is well-formed: its numbers are in range.
 pub record IsTable (t : TableType) : Type 0 where

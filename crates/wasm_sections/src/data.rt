@@ -265,7 +265,7 @@ impl<'a, A: Allocator> Layout for Segment<'a, A> {
 /// standard's grammar admits memory 0 there.
 #[tactic(auto, using(crate::proofs::DataLaws::index_steps))]
 #[inline]
-fn has_index<G: Grammar>(memory: u32) -> bool
+pub(crate) fn has_index<G: Grammar>(memory: u32) -> bool
     ensures { Decides result (HasIndex G.grammar memory) }
 {
     memory != 0 || G::is_standard()

@@ -19,15 +19,15 @@ use wasm_code::Expression;
 
 /// The flag of an element segment, as its bits.
 #[derive(Clone, Copy, Debug)]
-struct ElementFlag {
-    not_active: bool,
-    second: bool,
-    expressions: bool,
+pub(crate) struct ElementFlag {
+    pub(crate) not_active: bool,
+    pub(crate) second: bool,
+    pub(crate) expressions: bool,
 }
 
 impl ElementFlag {
     /// Returns the number that encodes the flag.
-    fn code(self) -> u32
+    pub(crate) fn code(self) -> u32
         ensures { result ≡ flag_code (element_flag_view self) }
     {
         let not_active = if self.not_active { 1 } else { 0 };
@@ -37,7 +37,7 @@ impl ElementFlag {
     }
 
     /// Returns `true` if the kind of the elements is explicit in the encoding.
-    fn has_kind(self) -> bool
+    pub(crate) fn has_kind(self) -> bool
         ensures { result ≡ has_kind (element_flag_view self) }
     {
         self.not_active || self.second

@@ -42,7 +42,7 @@ pub struct GlobalType {
 impl GlobalType {
     /// Returns the flags: a bit for each attribute that is set.
     #[inline]
-    fn flags(&self) -> u8
+    pub(crate) fn flags(&self) -> u8
         ensures { result ≡ global_code (global_flags self.now) }
     {
         where_set(self.mutable, 0x01) + where_set(self.shared, 0x02)

@@ -312,7 +312,7 @@ impl<'a, A: Allocator + Copy, G: Grammar> Readable<'a, A, G> for ImportCompact<'
 /// of 7E or above. Such a byte is the kind of no entity, so no single import begins so after its
 /// module name.
 #[tactic(auto, using(crate::proofs::ImportLaws::group_steps))]
-fn group_kind<G: Grammar>(bytes: &[u8]) -> Option<(u8, &[u8])>
+pub(crate) fn group_kind<G: Grammar>(bytes: &[u8]) -> Option<(u8, &[u8])>
     ensures { MatchOption result (Rejects (prefixed (0x00 ∷ []) group) (padded_of G.grammar) bytes.now) (λ x. (bytes.now ≡ 0x00 ∷ x.0 ∷ x.1.now) × (0x7E ≤ x.0)) }
 {
     match bytes {

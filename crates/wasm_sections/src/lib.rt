@@ -3,7 +3,7 @@
 //!
 //! Each section has a builder. The crate also decodes their items (`Readable` of
 //! `wasm_base`), skips them (`Skip`), and writes decoded ones in their minimal encoding
-//! (`Shorten`).
+//! (`Shorten`), or appends it while it decodes them (`Minimize`).
 #![tactic(auto)]
 
 mod counted_section;
@@ -17,6 +17,7 @@ mod global;
 mod import;
 pub mod laws;
 mod memory;
+mod minimize;
 mod start;
 mod table;
 mod tag;

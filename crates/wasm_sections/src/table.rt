@@ -64,7 +64,7 @@ impl TableType {
     /// Returns the flags: a bit for each optional field that is present, and for each attribute
     /// that is set.
     #[inline]
-    fn flags(&self) -> u8
+    pub(crate) fn flags(&self) -> u8
         ensures { result ≡ flags_code (table_flags self.now) }
     {
         where_set(self.maximum.is_some(), 0x01)

@@ -25,7 +25,7 @@ values_choice {X} Q (c ∷ cs) other h g b mode s x k = go (values_choice Q cs o
 tagged_values : {X : Type 0} (Q : X → Type 0) (G : ℕ → Format X) → ((b : ℕ) → AllValues Q (G b)) → AllValues Q (tagged byte G)
 tagged_values Q G all mode s x h = subst Q h.1 (all h.0.0 mode h.2.back h.0.1 h.2.second)
 
-storage_is : AllValues IsStorage storage_type
+pub storage_is : AllValues IsStorage storage_type
 storage_is =
     values_one_of IsStorage (values_tagged IsStorage storage_tags (λ mode s x h. subst IsStorage (sym h.1) tt, (λ mode s x h. subst IsStorage (sym h.1) tt, tt)))
     (λ mode s x h. subst IsStorage h.1 (val_type_is mode s h.0 h.2))

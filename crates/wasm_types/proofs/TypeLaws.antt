@@ -334,7 +334,7 @@ at_sub : (b : ℕ) → IsCompositeByte b → (mode : Mode) (s : List ℕ) (x : C
 at_sub b p mode s x h = rw (ne_eqb b 0x50 p.2, ne_eqb b 0x4F p.1) (x, refl, h)
 
 -- A composite type alone.
-alone_encodes : (mode : Mode) (s : List ℕ) (c : Composite) → composite_type mode s c → prefixed_sub builders mode s (alone_of c)
+pub alone_encodes : (mode : Mode) (s : List ℕ) (c : Composite) → composite_type mode s c → prefixed_sub builders mode s (alone_of c)
 alone_encodes mode s c h = lifted IsCompositeByte alone_of {G = after_composite} {H = after_in builders} composite_bytes at_sub mode s c h
 
 -- The bytes end with an encoding of the composite type, which the subtype is alone.

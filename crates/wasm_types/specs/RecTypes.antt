@@ -2,6 +2,7 @@
 -- specification, Binary Format, Types, and Modules, Type Section.
 use Rattle.std.specs.Prelude.{ℕ, ◌^◌, ◌<◌, List, [], ◌∷◌, ◌++◌, length, Bool, true, false, Option, Some, None, IfSome, pos}
 use Rattle.wasm_base.specs.Words.{Kind, ContainsItems, Format, Grammar, builders, admitted, by_mode, after_byte, u32, byte, s33, fixed, impossible, coded, mapped, such, pair, tagged, choice, one_of}
+use Rattle.wasm_base.specs.Types.{val_encoding_in}
 use Rattle.wasm_base.specs.Words.{vec, IsUnsignedInRange, unsigned_encoding, signed_encoding, vec_encoding, IsEncodableVec, val_type, val_encoding, IsVal, SectionDecoding, decoding_of, number_of}
 use Rattle.wasm_base.specs.declared.types.ValType.{ValType}
 use Rattle.wasm_types.specs.declared.types.FieldType.{FieldType}
@@ -45,6 +46,11 @@ abbrev pub storage_encoding : StorageType → List ℕ
 storage_encoding I8 = 0x78 ∷ []
 storage_encoding I16 = 0x77 ∷ []
 storage_encoding (Val ty) = val_encoding ty
+
+-- The minimal encoding of a storage type in each grammar.
+abbrev pub storage_encoding_in : Grammar → StorageType → List ℕ
+storage_encoding_in w (Val ty) = val_encoding_in w ty
+storage_encoding_in w packed = storage_encoding packed
 
 -- The byte for the mutability of a field.
 abbrev pub mutable_code : Bool → ℕ

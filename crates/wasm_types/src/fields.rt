@@ -11,7 +11,7 @@ use wasm_base::{DecodeError, Grammar, Layout, ReadFault, Readable, ValType};
 
 /// The mutability of a field.
 #[derive(Clone, Copy)]
-struct Mutable(bool);
+pub(crate) struct Mutable(pub(crate) bool);
 
 impl Layout for Mutable {
     ghost Value = { Bool };

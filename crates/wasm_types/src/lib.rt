@@ -8,6 +8,7 @@
 mod fields;
 mod items;
 pub mod laws;
+mod minimize;
 mod shapes;
 mod type_section;
 mod types;

@@ -279,7 +279,7 @@ impl Encode for StorageType {
 
 /// Returns the byte that encodes the mutability of a field.
 #[inline]
-fn mutability(mutable: bool) -> u8
+pub(crate) fn mutability(mutable: bool) -> u8
     ensures { result ≡ mutable_code mutable }
 {
     if mutable { 0x01 } else { 0x00 }

@@ -5,6 +5,7 @@ use crate::vec::Sink;
 use crate::base::encode::Encode;
 use crate::base::fault::{DecodeError, ReadFault};
 use crate::base::grammar::Grammar;
+use crate::base::minimize::Canonical;
 use crate::base::readable::{Layout, Readable};
 use crate::base::refused::Result;
 use crate::alloc::Allocator;
@@ -57,6 +58,10 @@ impl<'a, A: Allocator + Copy, G: Grammar> Readable<'a, A, G> for u8 {
             [b, rest @ ..] => Ok((*b, rest)),
         }
     }
+}
+
+impl Canonical for u8 {
+    fn canonical() {}
 }
 
 /// A vector's sixteen bytes, little-endian, in two's complement.

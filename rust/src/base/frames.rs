@@ -6,6 +6,7 @@ use crate::base::encode::Encode;
 use crate::base::fault::DecodeError;
 use crate::base::grammar::Grammar;
 use crate::base::leb128::encoding_size;
+use crate::base::minimize::{Minimize, minimize_whole};
 use crate::base::readable::{Layout, Readable};
 use crate::base::refused::{Refused, Result};
 use crate::base::shorten::Shorten;
@@ -294,5 +295,23 @@ impl<T: Shorten> Shorten for SizePrefixed<T> {
     fn write_minimal<B: Sink>(&self, sink: &mut B) -> Result<()> {
         let SizePrefixed(value) = self;
         append_payload(value, sink)
+    }
+}
+
+/// Minimizes the payload, and then inserts its size.
+impl<G: Grammar, T: Minimize<G>> Minimize<G> for SizePrefixed<T> {
+    fn minimize<'a, A: Allocator + Copy, B: Sink>(
+        bytes: &'a [u8],
+        alloc: A,
+        sink: &mut B,
+    ) -> Result<&'a [u8], DecodeError> {
+        let (content, rest) = <&'a [u8] as Readable<'a, A, G>>::read(bytes, alloc)?;
+        let start = sink.len();
+        match minimize_whole::<T, A, G, _>(content, alloc, sink) {
+            Ok(()) => {}
+            Err(error) => return Err(error.before(rest)),
+        }
+        prefix_size_since(sink, start)?;
+        Ok(rest)
     }
 }

@@ -6,6 +6,7 @@ use crate::vec::Sink;
 use crate::base::encode::Encode;
 use crate::base::fault::{DecodeError, ReadFault};
 use crate::base::grammar::Grammar;
+use crate::base::minimize::{Canonical, Minimize, minimize_value};
 use crate::base::readable::{Layout, Readable};
 use crate::base::refused::{Refused, Result};
 use crate::base::shorten::Shorten;
@@ -909,5 +910,50 @@ pub fn read_index<G: Grammar>(bytes: &[u8]) -> Result<(u32, &[u8]), DecodeError>
 impl Shorten for u32 {
     fn write_minimal<B: Sink>(&self, sink: &mut B) -> Result<()> {
         self.encode(sink)
+    }
+}
+
+impl Canonical for u32 {
+    fn canonical() {}
+}
+
+impl<G: Grammar> Minimize<G> for u32 {
+    #[inline]
+    fn minimize<'a, A: Allocator + Copy, B: Sink>(
+        bytes: &'a [u8],
+        alloc: A,
+        sink: &mut B,
+    ) -> Result<&'a [u8], DecodeError> {
+        minimize_value::<u32, A, G, _>(bytes, alloc, sink)
+    }
+}
+
+impl Canonical for i32 {
+    fn canonical() {}
+}
+
+impl<G: Grammar> Minimize<G> for i32 {
+    #[inline]
+    fn minimize<'a, A: Allocator + Copy, B: Sink>(
+        bytes: &'a [u8],
+        alloc: A,
+        sink: &mut B,
+    ) -> Result<&'a [u8], DecodeError> {
+        minimize_value::<i32, A, G, _>(bytes, alloc, sink)
+    }
+}
+
+impl Canonical for i64 {
+    fn canonical() {}
+}
+
+impl<G: Grammar> Minimize<G> for i64 {
+    #[inline]
+    fn minimize<'a, A: Allocator + Copy, B: Sink>(
+        bytes: &'a [u8],
+        alloc: A,
+        sink: &mut B,
+    ) -> Result<&'a [u8], DecodeError> {
+        minimize_value::<i64, A, G, _>(bytes, alloc, sink)
     }
 }

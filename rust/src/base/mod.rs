@@ -16,6 +16,7 @@ mod grammar;
 mod kind;
 pub mod laws;
 mod leb128;
+mod minimize;
 mod modules;
 mod names;
 mod once;
@@ -46,6 +47,7 @@ pub use leb128::{Groups, encoding_size};
 #[doc(alias = "parse")]
 pub use leb128::read_groups;
 pub(crate) use leb128::read_index;
+pub(crate) use minimize::{Canonical, Minimize, Shared, minimize_many, minimize_shared, minimize_to_end, minimize_value, minimize_whole};
 #[doc(alias = "wasm")]
 #[doc(alias = "encoder")]
 pub use modules::Module;
@@ -76,6 +78,7 @@ pub(crate) mod reading {
     pub use super::fault::ReadFault;
     pub use super::frames::{SizePrefixed, prefix_size_since};
     pub use super::grammar::{Grammar, Padded, Standard};
+    pub use super::minimize::{Canonical, Minimize, Shared, minimize_many, minimize_shared, minimize_to_end, minimize_value, minimize_whole};
     pub use super::parts::read_optional;
     pub use super::readable::Layout;
     #[doc(alias = "parse")]

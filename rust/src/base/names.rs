@@ -6,6 +6,7 @@ use crate::base::encode::Encode;
 use crate::base::fault::{DecodeError, ReadFault};
 use crate::base::frames::encode_size_prefixed;
 use crate::base::grammar::Grammar;
+use crate::base::minimize::Minimize;
 use crate::base::readable::{Layout, Readable};
 use crate::base::refused::Result;
 use crate::base::shorten::Shorten;
@@ -106,5 +107,62 @@ impl Shorten for &[u8] {
 impl Shorten for &str {
     fn write_minimal<B: Sink>(&self, sink: &mut B) -> Result<()> {
         self.encode(sink)
+    }
+}
+
+impl<'s, G: Grammar> Minimize<G> for &'s str {
+    /// # Proved
+    ///
+    /// - After `Ok`, `found`: A value decodes from the front of the bytes in this grammar, and `rest` follows it. The call appends the minimal encoding of the value in this grammar.
+    /// - After an error, `none`: the bytes do not begin with such an encoding, unless the cause is `Memory`.
+    /// - `front`: The new bytes begin with the old ones.
+    ///
+    /// ```text
+    /// ensures found { IfOk result
+    ///     (λ rest. Minimizes G.grammar name bytes.now rest.now sink.old.items sink.new.items)
+    ///     }
+    /// ensures none { IfErr result
+    ///     (λ e. e.cause ≢ Memory → Rejects name (padded_of G.grammar) bytes.now) }
+    /// ensures front { IsFrontOf sink.old.items sink.new.items }
+    /// ```
+    ///
+    /// Definitions: [`Minimizes`](crate::definitions::base::minimal::Minimizes), [`name`](crate::definitions::base::formats::name), [`Rejects`](crate::definitions::base::decoding::Rejects), [`padded_of`](crate::definitions::base::numbers::padded_of), [`IsFrontOf`](crate::definitions::base::minimal::IsFrontOf). [How to read clauses](crate::definitions).
+    fn minimize<'a, A: Allocator + Copy, B: Sink>(
+        bytes: &'a [u8],
+        alloc: A,
+        sink: &mut B,
+    ) -> Result<&'a [u8], DecodeError> {
+        let (name, rest) = <&'a str as Readable<'a, A, G>>::read(bytes, alloc)?;
+        name.encode(sink)?;
+        Ok(rest)
+    }
+}
+
+impl<'s, G: Grammar> Minimize<G> for &'s [u8] {
+    /// # Proved
+    ///
+    /// - After `Ok`, `found`: A value decodes from the front of the bytes in this grammar, and `rest` follows it. The call appends the minimal encoding of the value in this grammar.
+    /// - After an error, `none`: the bytes do not begin with such an encoding, unless the cause is `Memory`.
+    /// - `front`: The new bytes begin with the old ones.
+    ///
+    /// ```text
+    /// ensures found { IfOk result
+    ///     (λ rest. Minimizes G.grammar
+    ///         (size_prefixed any_bytes) bytes.now rest.now sink.old.items sink.new.items) }
+    /// ensures none { IfErr result
+    ///     (λ e. e.cause ≢ Memory → Rejects (size_prefixed any_bytes)
+    ///         (padded_of G.grammar) bytes.now) }
+    /// ensures front { IsFrontOf sink.old.items sink.new.items }
+    /// ```
+    ///
+    /// Definitions: [`Minimizes`](crate::definitions::base::minimal::Minimizes), [`size_prefixed`](crate::definitions::base::formats::size_prefixed), [`any_bytes`](crate::definitions::base::formats::any_bytes), [`Rejects`](crate::definitions::base::decoding::Rejects), [`padded_of`](crate::definitions::base::numbers::padded_of), [`IsFrontOf`](crate::definitions::base::minimal::IsFrontOf). [How to read clauses](crate::definitions).
+    fn minimize<'a, A: Allocator + Copy, B: Sink>(
+        bytes: &'a [u8],
+        alloc: A,
+        sink: &mut B,
+    ) -> Result<&'a [u8], DecodeError> {
+        let (content, rest) = <&'a [u8] as Readable<'a, A, G>>::read(bytes, alloc)?;
+        encode_size_prefixed(sink, content)?;
+        Ok(rest)
     }
 }

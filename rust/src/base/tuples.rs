@@ -5,6 +5,7 @@ use crate::vec::Sink;
 use crate::base::encode::Encode;
 use crate::base::fault::DecodeError;
 use crate::base::grammar::Grammar;
+use crate::base::minimize::Minimize;
 use crate::base::readable::{Layout, Readable};
 use crate::base::refused::Result;
 use crate::base::shorten::Shorten;
@@ -125,5 +126,18 @@ impl<T: Shorten, U: Shorten> Shorten for (T, U) {
     fn write_minimal<B: Sink>(&self, sink: &mut B) -> Result<()> {
         self.0.write_minimal(sink)?;
         self.1.write_minimal(sink)
+    }
+}
+
+impl<G: Grammar, T: Minimize<G>, U: Minimize<G>> Minimize<G> for (T, U) {
+    fn minimize<'a, A: Allocator + Copy, B: Sink>(
+        bytes: &'a [u8],
+        alloc: A,
+        sink: &mut B,
+    ) -> Result<&'a [u8], DecodeError> {
+        let after = T::minimize(bytes, alloc, sink)?;
+        T::laws();
+        let rest = U::minimize(after, alloc, sink)?;
+        Ok(rest)
     }
 }

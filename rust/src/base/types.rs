@@ -6,6 +6,7 @@ use crate::base::encode::Encode;
 use crate::base::fault::{DecodeError, ReadFault};
 use crate::base::grammar::Grammar;
 use crate::base::leb128::read_index;
+use crate::base::minimize::Minimize;
 use crate::base::readable::{Layout, Readable};
 use crate::base::refused::Result;
 use crate::base::shorten::Shorten;
@@ -296,6 +297,82 @@ impl Encode for RefType {
     }
 }
 
+impl RefType {
+    /// Appends the minimal encoding by the standard.
+    ///
+    /// # Proved
+    ///
+    /// The call appends the encoding, or returns an error and leaves the bytes as they were. If the value fits, the call never returns `TooLong`, and it succeeds within the spare capacity.
+    ///
+    /// ```text
+    /// ensures { Appends (tight_bytes self.nullable self.heap_type) ⊤ sink.old sink.new result
+    ///     }
+    /// ```
+    ///
+    /// Definitions: [`Appends`](crate::definitions::base::calls::Appends), [`tight_bytes`](crate::definitions::base::types::tight_bytes). [How to read clauses](crate::definitions).
+    fn encode_tight<A: Sink>(self, sink: &mut A) -> Result<()> {
+        match self {
+            RefType {
+                nullable: true,
+                heap_type: HeapType::Abstract { shared: false, ty },
+            } => ty.encode(sink),
+            _ => self.encode_heap_type(sink),
+        }
+    }
+
+    /// Appends the minimal encoding in the grammar `G`. In the standard's, a nullable reference to
+    /// an abstract type has one byte.
+    ///
+    /// # Errors
+    ///
+    /// Returns [`Refused::Memory`](crate::base::Refused), and leaves the bytes of the sink unchanged, if
+    /// an allocation fails.
+    ///
+    /// # Proved
+    ///
+    /// The call appends the encoding, or returns an error and leaves the bytes as they were. If the value fits, the call never returns `TooLong`, and it succeeds within the spare capacity.
+    ///
+    /// ```text
+    /// ensures { Appends (ref_encoding_in G.grammar self) ⊤ sink.old sink.new result }
+    /// ```
+    ///
+    /// Definitions: [`Appends`](crate::definitions::base::calls::Appends), [`ref_encoding_in`](crate::definitions::base::types::ref_encoding_in). [How to read clauses](crate::definitions).
+    pub fn encode_in<G: Grammar, A: Sink>(self, sink: &mut A) -> Result<()> {
+        if G::is_standard() {
+            self.encode_tight(sink)
+        } else {
+            self.encode(sink)
+        }
+    }
+}
+
+impl ValType {
+    /// Appends the minimal encoding in the grammar `G`. In the standard's, a nullable reference to
+    /// an abstract type has one byte.
+    ///
+    /// # Errors
+    ///
+    /// Returns [`Refused::Memory`](crate::base::Refused), and leaves the bytes of the sink unchanged, if
+    /// an allocation fails.
+    ///
+    /// # Proved
+    ///
+    /// The call appends the encoding, or returns an error and leaves the bytes as they were. If the value fits, the call never returns `TooLong`, and it succeeds within the spare capacity.
+    ///
+    /// ```text
+    /// ensures { Appends (val_encoding_in G.grammar self) ⊤ sink.old sink.new result }
+    /// ```
+    ///
+    /// Definitions: [`Appends`](crate::definitions::base::calls::Appends), [`val_encoding_in`](crate::definitions::base::types::val_encoding_in). [How to read clauses](crate::definitions).
+    #[inline]
+    pub fn encode_in<G: Grammar, A: Sink>(self, sink: &mut A) -> Result<()> {
+        match self {
+            ValType::Ref(ty) if G::is_standard() => ty.encode_tight(sink),
+            _ => self.encode(sink),
+        }
+    }
+}
+
 /// Encodes a number or vector type as one byte, and a reference as its reference type.
 ///
 /// # Defined
@@ -547,6 +624,18 @@ impl<'a, A: Allocator + Copy, G: Grammar> Readable<'a, A, G> for RefType {
     }
 }
 
+impl<G: Grammar> Minimize<G> for RefType {
+    fn minimize<'a, A: Allocator + Copy, B: Sink>(
+        bytes: &'a [u8],
+        alloc: A,
+        sink: &mut B,
+    ) -> Result<&'a [u8], DecodeError> {
+        let (ty, rest) = <RefType as Readable<'a, A, G>>::read(bytes, alloc)?;
+        ty.encode_in::<G, _>(sink)?;
+        Ok(rest)
+    }
+}
+
 /// Decodes a value type after its first byte, `tag`.
 ///
 /// # Errors
@@ -608,5 +697,17 @@ impl<'a, A: Allocator + Copy, G: Grammar> Readable<'a, A, G> for ValType {
 impl Shorten for ValType {
     fn write_minimal<B: Sink>(&self, sink: &mut B) -> Result<()> {
         self.encode(sink)
+    }
+}
+
+impl<G: Grammar> Minimize<G> for ValType {
+    fn minimize<'a, A: Allocator + Copy, B: Sink>(
+        bytes: &'a [u8],
+        alloc: A,
+        sink: &mut B,
+    ) -> Result<&'a [u8], DecodeError> {
+        let (ty, rest) = <ValType as Readable<'a, A, G>>::read(bytes, alloc)?;
+        ty.encode_in::<G, _>(sink)?;
+        Ok(rest)
     }
 }

@@ -5,6 +5,7 @@ use crate::vec::{Sink, Vec};
 use crate::base::encode::Encode;
 use crate::base::fault::DecodeError;
 use crate::base::grammar::Grammar;
+use crate::base::minimize::{Minimize, minimize_many};
 use crate::base::once::{EncodeOnce, vec_of};
 use crate::base::readable::{Layout, Readable};
 use crate::base::refused::Result;
@@ -193,5 +194,16 @@ impl<T: Shorten, A: Allocator> Shorten for Vec<T, A> {
     fn write_minimal<B: Sink>(&self, sink: &mut B) -> Result<()> {
         self.len().encode(sink)?;
         write_all(self, sink)
+    }
+}
+
+/// Minimizes the members one by one, and keeps none.
+impl<G: Grammar, T: Minimize<G>, C: Allocator> Minimize<G> for Vec<T, C> {
+    fn minimize<'a, A: Allocator + Copy, B: Sink>(
+        bytes: &'a [u8],
+        alloc: A,
+        sink: &mut B,
+    ) -> Result<&'a [u8], DecodeError> {
+        minimize_many::<T, A, G, _>(bytes, alloc, sink)
     }
 }

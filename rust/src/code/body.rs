@@ -2,10 +2,9 @@
 // Lists of instructions and function bodies: decoded, skipped and minimized.
 
 use crate::vec::{Sink, Vec};
-use crate::code::walk::Instructions;
 use crate::alloc::{Allocator, Global};
-use crate::base::{DecodeError, Dropped, Grammar, Layout, Readable, Result, Shorten, Skip, ValType, prefix_size_since, skip_many};
-use crate::insn::{Plain, append_instruction};
+use crate::base::{DecodeError, Dropped, Grammar, Layout, Minimize, Padded, Readable, Result, Shorten, Skip, ValType, minimize_many, minimize_to_end, prefix_size_since, skip_many};
+use crate::insn::Plain;
 
 /// The capacity of a new list allows for one instruction per this many bytes. The list grows if
 /// they are shorter.
@@ -184,8 +183,34 @@ impl<A: Allocator> Shorten for Body<A> {
     }
 }
 
-/// Writes the bytes that [`shorten_body`] appends. After an error, part of them may follow the old
-/// bytes.
+/// Minimizes the content of a body, without its size prefix.
+///
+/// # Proved
+///
+/// - After `Ok`, `found`: The bytes as a whole decode to a value in this grammar, and the call appends the minimal encoding of the value in this grammar.
+/// - After an error, `none`: the bytes as a whole are no such encoding, unless the cause is `Memory`.
+/// - `front`: The new bytes begin with the old ones.
+///
+/// ```text
+/// ensures found { OnOk result
+///     (MinimizesWhole G.grammar body bytes.now sink.old.items sink.new.items) }
+/// ensures none { IfErr result
+///     (λ e. e.cause ≢ Memory → RejectsWhole body (padded_of G.grammar) bytes.now) }
+/// ensures front { IsFrontOf sink.old.items sink.new.items }
+/// ```
+///
+/// Definitions: [`MinimizesWhole`](crate::definitions::base::minimal::MinimizesWhole), [`body`](crate::definitions::code::bodies::body), [`RejectsWhole`](crate::definitions::base::continuing::RejectsWhole), [`padded_of`](crate::definitions::base::numbers::padded_of), [`IsFrontOf`](crate::definitions::base::minimal::IsFrontOf). [How to read clauses](crate::definitions).
+fn minimize_content<'a, A: Allocator + Copy, G: Grammar, B: Sink>(
+    bytes: &'a [u8],
+    alloc: A,
+    sink: &mut B,
+) -> Result<(), DecodeError> {
+    let rest = minimize_many::<(u32, ValType), A, G, _>(bytes, alloc, sink)?;
+    minimize_to_end::<Plain<A>, A, G, _>(rest, alloc, sink)
+}
+
+/// Appends the minimal encoding of a body with its size prefix. After an error, part of it may
+/// follow the old bytes of the sink.
 ///
 /// # Proved
 ///
@@ -209,18 +234,14 @@ fn write_body<A: Allocator + Copy, B: Sink>(
     sink: &mut B,
 ) -> Result<(), DecodeError> {
     let start = sink.len();
-    let (runs, mut instructions) = Instructions::of_body(bytes, alloc)?;
-    runs.write_minimal(sink)?;
-    while let Some(step) = instructions.next()? {
-        append_instruction(step.op, instructions.args(), sink)?;
-    }
+    minimize_content::<A, Padded, _>(bytes, alloc, sink)?;
     prefix_size_since(sink, start)?;
     Ok(())
 }
 
 /// Appends the minimal encoding of a function body with its size prefix, as in a code section. The
-/// bytes are those of the body without its size prefix. The call visits the instructions, and keeps
-/// one at a time. On an error, the sink is unchanged.
+/// bytes are those of the body without its size prefix. Instructions are minimized one by one. On an
+/// error, the sink is unchanged.
 ///
 /// # Errors
 ///
@@ -265,6 +286,24 @@ pub fn shorten_body<A: Allocator + Copy, B: Sink>(
         sink.truncate(start);
     }
     written
+}
+
+/// Minimizes a body with its size prefix, as in a code section.
+impl<G: Grammar, C: Allocator> Minimize<G> for Body<C> {
+    fn minimize<'a, A: Allocator + Copy, B: Sink>(
+        bytes: &'a [u8],
+        alloc: A,
+        sink: &mut B,
+    ) -> Result<&'a [u8], DecodeError> {
+        let (content, rest) = <&'a [u8] as Readable<'a, A, G>>::read(bytes, alloc)?;
+        let start = sink.len();
+        match minimize_content::<A, G, _>(content, alloc, sink) {
+            Ok(()) => {}
+            Err(error) => return Err(error.before(rest)),
+        }
+        prefix_size_since(sink, start)?;
+        Ok(rest)
+    }
 }
 
 /// Skips instructions up to the last byte.

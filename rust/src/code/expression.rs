@@ -4,7 +4,7 @@
 use crate::vec::{Sink, Vec};
 use crate::code::body::append_code;
 use crate::alloc::{Allocator, Global};
-use crate::base::{DecodeError, Grammar, Layout, ReadFault, Readable, Result, Shorten, Skip};
+use crate::base::{DecodeError, Grammar, Layout, Minimize, ReadFault, Readable, Result, Shorten, Skip};
 use crate::insn::Plain;
 
 /// The opcode of `End`.
@@ -98,6 +98,27 @@ impl<'a, A: Allocator + Copy, G: Grammar> Skip<'a, A, G> for Expression<A> {
                 return Ok(after);
             }
             rest = <Plain<A> as Skip<'a, A, G>>::skip(rest, alloc)?;
+        }
+    }
+}
+
+/// Minimizes the instructions one by one, up to the first `End`.
+impl<G: Grammar, C: Allocator> Minimize<G> for Expression<C> {
+    fn minimize<'a, A: Allocator + Copy, B: Sink>(
+        bytes: &'a [u8],
+        alloc: A,
+        sink: &mut B,
+    ) -> Result<&'a [u8], DecodeError> {
+        let mut rest = bytes;
+        loop {
+            let [first, after @ ..] = rest else {
+                return Err(ReadFault::Ended.at(b""));
+            };
+            if *first == END {
+                sink.push(END)?;
+                return Ok(after);
+            }
+            rest = <Plain<C> as Minimize<G>>::minimize(rest, alloc, sink)?;
         }
     }
 }

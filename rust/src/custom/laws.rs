@@ -11,7 +11,7 @@
 /// # Proved
 ///
 /// - `names`, `linking`, `objects`, `producers`, `dylink`, `target_features`, `hints`, `modules`, `instances`, `core`, `stack`, `source_maps`, `debug_files`, `build_ids`, `relocation_sections`, `customs`, `subsections`, `links`, `symbols`, `object_links`, `object_symbols`, `segments`, `init_functions`, `comdat_symbols`, `comdats`, `fields`, `dylink_items`, `dylink_needs`, `export_flags`, `import_flags`, `prefixes`, `features`, `functions_hints`, `marked_names`, `single_instances`, `frames`, `values`, `relocation_kinds`, `relocations`: A format whose encodings determine their own end is unambiguous in every mode, with encodings as `HasEncodings` states.
-/// - `name_laws`, `linking_items`, `object_laws`, `producer_laws`, `dylink_laws`, `feature_laws`, `hint_laws`, `module_laws`, `instance_laws`, `layout_laws`, `relocation_laws`: The laws of a kind of items: the format is unambiguous, and a well-formed record whose size fits encodes its normal form.
+/// - `name_laws`, `linking_items`, `object_laws`, `producer_laws`, `dylink_laws`, `feature_laws`, `hint_laws`, `module_laws`, `instance_laws`, `frame_laws`, `relocation_laws`: The laws of a kind of items: the format is unambiguous, and a well-formed record whose size fits encodes its normal form.
 ///
 /// ```text
 /// ensures names { Unambiguous (size_prefixed name_payload) }
@@ -62,7 +62,7 @@
 /// ensures hint_laws { ItemLaws hint_items }
 /// ensures module_laws { ItemLaws module_items }
 /// ensures instance_laws { ItemLaws instance_items }
-/// ensures layout_laws { ItemLaws frame_items }
+/// ensures frame_laws { ItemLaws frame_items }
 /// ensures relocation_laws { ItemLaws relocation_items }
 /// ```
 ///

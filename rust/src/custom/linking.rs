@@ -141,7 +141,7 @@ impl<A: Allocator> LinkingSection<A> {
 }
 
 /// The version of linking sections.
-const VERSION: u32 = 2;
+pub(crate) const VERSION: u32 = 2;
 
 /// A decoded subsection of a linking section. The builders' grammar has symbol tables and
 /// architectures alone.
@@ -280,7 +280,7 @@ impl<'a, A: Allocator + Copy + 'a, G: Grammar> Readable<'a, A, G> for LinkItem<'
 /// ```
 ///
 /// Definitions: [`Decodes`](crate::definitions::base::decoding::Decodes), [`just`](crate::definitions::base::formats::just), [`version`](crate::definitions::custom::linking::version), [`u32_format`](crate::definitions::base::formats::u32), [`padded_of`](crate::definitions::base::numbers::padded_of), [`Rejects`](crate::definitions::base::decoding::Rejects). [How to read clauses](crate::definitions).
-fn after_version<'a, A: Allocator + Copy, G: Grammar>(
+pub(crate) fn after_version<'a, A: Allocator + Copy, G: Grammar>(
     bytes: &'a [u8],
     alloc: A,
 ) -> Result<&'a [u8], DecodeError> {

@@ -803,8 +803,27 @@ fn append_section<B: Sink>(flags: u32, section: u32, sink: &mut B) -> Result<()>
     section.write_minimal(sink)
 }
 
-impl<'a> Shorten for Symbol<'a> {
-    fn write_minimal<B: Sink>(&self, sink: &mut B) -> Result<()> {
+impl Symbol<'_> {
+    /// Appends the minimal encoding of the symbol, of any kind. After an error, part of it may
+    /// follow the old bytes of the sink.
+    ///
+    /// # Proved
+    ///
+    /// - After `Ok`, `ok`, `full`: the sink gains the minimal encoding.
+    /// - `front`: The new bytes begin with the old ones.
+    /// - `too_long`: a value that has an encoding never gives `TooLong`.
+    ///
+    /// ```text
+    /// ensures ok { OnOk result
+    ///     (AppendsMinimal symbol (symbol_view self.now) sink.old.items sink.new.items) }
+    /// ensures full { OnOk result
+    ///     (AppendsMinimal full_symbol (symbol_view self.now) sink.old.items sink.new.items) }
+    /// ensures front { IsFrontOf sink.old.items sink.new.items }
+    /// ensures too_long { HasEncoding symbol (symbol_view self.now) → result ≢ Err TooLong }
+    /// ```
+    ///
+    /// Definitions: [`AppendsMinimal`](crate::definitions::base::minimal::AppendsMinimal), [`symbol`](crate::definitions::custom::symbols::symbol), [`symbol_view`](crate::definitions::custom::symbols::symbol_view), [`full_symbol`](crate::definitions::custom::symbols::full_symbol), [`IsFrontOf`](crate::definitions::base::minimal::IsFrontOf), [`HasEncoding`](crate::definitions::base::minimal::HasEncoding). [How to read clauses](crate::definitions).
+    pub(crate) fn append<B: Sink>(&self, sink: &mut B) -> Result<()> {
         match *self {
             Symbol::Function { flags, index, name } => {
                 append_indexed(SymbolKind::Function, flags, index, name, sink)
@@ -825,5 +844,11 @@ impl<'a> Shorten for Symbol<'a> {
                 append_indexed(SymbolKind::Tag, flags, index, name, sink)
             }
         }
+    }
+}
+
+impl<'a> Shorten for Symbol<'a> {
+    fn write_minimal<B: Sink>(&self, sink: &mut B) -> Result<()> {
+        self.append(sink)
     }
 }

@@ -1276,7 +1276,9 @@ pub trait laws {
     type RejectsAllAfterPadded;
 }
 
-/// Calls that append the minimal encoding of a decoded value.
+/// Calls that append the minimal encoding of a value, which was decoded before or is decoded by the call.
+///
+/// - Formats of both grammars: [`Twins`](minimal::Twins), [`first_twin`](minimal::first_twin), [`second_twin`](minimal::second_twin), [`IsShared`](minimal::IsShared), [`AreSameInBoth`](minimal::AreSameInBoth).
 ///
 /// [How to read definitions](super). The file is [`Minimal.antt`](https://github.com/dolzhytik/dolzhytik/blob/main/crates/wasm_base/specs/Minimal.antt).
 pub trait minimal {
@@ -1309,6 +1311,91 @@ pub trait minimal {
     /// IsFrontOf old new = (more : List ℕ) × (new ≡ old ++ more)
     /// ```
     type IsFrontOf;
+    /// A value decodes from the front of the bytes in this grammar, and `rest` follows it. The call appends the minimal encoding of the value in this grammar.
+    ///
+    /// ```text
+    /// pub record Minimizes {X : Type 0} (w : Grammar) (F : Format X)
+    ///     (bytes rest old new : List ℕ) : Type 0 where
+    ///   pub value : X
+    ///   pub decoded : Decodes F (padded_of w) bytes value rest
+    ///   pub encoding : List ℕ
+    ///   pub encodes : F (minimal_of w) encoding value
+    ///   pub appended : new ≡ old ++ encoding
+    /// ```
+    ///
+    /// Definitions: [`Grammar`](numbers::Grammar), [`Format`](formats::Format), [`Decodes`](decoding::Decodes), [`padded_of`](numbers::padded_of), [`minimal_of`](numbers::minimal_of).
+    type Minimizes;
+    /// The bytes as a whole decode to a value in this grammar, and the call appends the minimal encoding of the value in this grammar.
+    ///
+    /// ```text
+    /// pub record MinimizesWhole {X : Type 0} (w : Grammar) (F : Format X)
+    ///     (bytes old new : List ℕ) : Type 0 where
+    ///   pub value : X
+    ///   pub decoded : F (padded_of w) bytes value
+    ///   pub encoding : List ℕ
+    ///   pub encodes : F (minimal_of w) encoding value
+    ///   pub appended : new ≡ old ++ encoding
+    /// ```
+    ///
+    /// Definitions: [`Grammar`](numbers::Grammar), [`Format`](formats::Format), [`padded_of`](numbers::padded_of), [`minimal_of`](numbers::minimal_of).
+    type MinimizesWhole;
+    /// Whatever bytes a value decodes from, its encoding is the minimal one in the same grammar.
+    ///
+    /// ```text
+    /// pub record EncodesMinimally {T X : Type 0} (F : Format X) (view : T → X)
+    ///     (encoding : T → List ℕ) : Type 0 where
+    ///   pub minimal_in : (w : Grammar) (s : List ℕ) (x : T) → F (padded_of w) s (view x)
+    ///       → F (minimal_of w) (encoding x) (view x)
+    /// ```
+    ///
+    /// Definitions: [`Format`](formats::Format), [`Grammar`](numbers::Grammar), [`padded_of`](numbers::padded_of), [`minimal_of`](numbers::minimal_of).
+    type EncodesMinimally;
+    /// Two modes with the same numbers: from minimal LEB128 in the builders' grammar to the standard's, and from padded LEB128 in the standard's grammar to the builders'.
+    ///
+    /// ```text
+    /// pub data Twins : Type 0 where
+    ///   minimal_twins : Twins
+    ///   padded_twins : Twins
+    /// ```
+    type Twins;
+    /// The mode that encodes a value.
+    ///
+    /// ```text
+    /// abbrev pub first_twin : Twins → Mode
+    /// first_twin minimal_twins = minimal
+    /// first_twin padded_twins = standard
+    /// ```
+    ///
+    /// Definitions: [`Twins`](minimal::Twins), [`Mode`](numbers::Mode), [`minimal_twins`](minimal::Twins), [`minimal`](numbers::Mode), [`padded_twins`](minimal::Twins), [`standard`](numbers::Mode).
+    type first_twin;
+    /// The mode that encodes the value too.
+    ///
+    /// ```text
+    /// abbrev pub second_twin : Twins → Mode
+    /// second_twin minimal_twins = standard_minimal
+    /// second_twin padded_twins = padded
+    /// ```
+    ///
+    /// Definitions: [`Twins`](minimal::Twins), [`Mode`](numbers::Mode), [`minimal_twins`](minimal::Twins), [`standard_minimal`](numbers::Mode), [`padded_twins`](minimal::Twins), [`padded`](numbers::Mode).
+    type second_twin;
+    /// What the first mode encodes, the second encodes too.
+    ///
+    /// ```text
+    /// pub record IsShared {X : Type 0} (p : Twins) (F : Format X) : Type 0 where
+    ///   pub same : IsIncludedIn (F (first_twin p)) (F (second_twin p))
+    /// ```
+    ///
+    /// Definitions: [`Twins`](minimal::Twins), [`Format`](formats::Format), [`IsIncludedIn`](decoding::IsIncludedIn), [`first_twin`](minimal::first_twin), [`second_twin`](minimal::second_twin).
+    type IsShared;
+    /// The standard's grammar has no other encodings than the builders', minimal or padded.
+    ///
+    /// ```text
+    /// pub record AreSameInBoth {X : Type 0} (F : Format X) : Type 0 where
+    ///   pub shared : (p : Twins) → IsShared p F
+    /// ```
+    ///
+    /// Definitions: [`Format`](formats::Format), [`Twins`](minimal::Twins), [`IsShared`](minimal::IsShared).
+    type AreSameInBoth;
 }
 
 /// The sections that a module decodes to.
@@ -1690,7 +1777,7 @@ pub trait once {
     ///
     /// Definitions: [`longest`](encodings::longest).
     type AddsOnce;
-    /// The iterator may be called, ends, and yields exactly `count` items, which are at most 2^32 - 1.
+    /// The iterator may be called, ends, and yields exactly `count` items. The count is at most 2^32 - 1.
     ///
     /// ```text
     /// pub record ReportsCount {S T : Type 0} (can_next : S → Type 0)
@@ -1888,7 +1975,7 @@ pub trait section_id {
 
 /// The encodings and the formats of heap types, reference types and value types. Core specification, Binary Format, Types.
 ///
-/// - Encodings: [`abstract_code`](types::abstract_code), [`heap_encoding`](types::heap_encoding), [`nullable_encoding`](types::nullable_encoding), [`ref_bytes`](types::ref_bytes), [`ref_encoding`](types::ref_encoding), [`val_encoding`](types::val_encoding).
+/// - Encodings: [`abstract_code`](types::abstract_code), [`heap_encoding`](types::heap_encoding), [`nullable_encoding`](types::nullable_encoding), [`ref_bytes`](types::ref_bytes), [`ref_encoding`](types::ref_encoding), [`val_encoding`](types::val_encoding), [`tight_nullable`](types::tight_nullable), [`tight_bytes`](types::tight_bytes), [`tight_encoding`](types::tight_encoding), [`ref_encoding_in`](types::ref_encoding_in), [`val_encoding_in`](types::val_encoding_in).
 /// - Indices of 32 bits: [`IsHeap`](types::IsHeap), [`IsRef`](types::IsRef), [`IsVal`](types::IsVal).
 /// - Formats: [`abstract_type`](types::abstract_type), [`unshared`](types::unshared), [`shared`](types::shared), [`heap_tags`](types::heap_tags), [`heap_type`](types::heap_type), [`FUNCREF`](types::FUNCREF), [`EXTERNREF`](types::EXTERNREF), [`nullable_to`](types::nullable_to), [`to`](types::to), [`HasNoByte`](types::HasNoByte), [`ref_tags`](types::ref_tags), [`built_ref`](types::built_ref), [`nullable_abstract`](types::nullable_abstract), [`HasNoCode`](types::HasNoCode), [`tight_tags`](types::tight_tags), [`admitted_tags`](types::admitted_tags), [`tight_ref`](types::tight_ref), [`admitted_ref`](types::admitted_ref), [`HasLongForm`](types::HasLongForm), [`ref_type`](types::ref_type), [`val_tags`](types::val_tags), [`number_type`](types::number_type), [`val_type`](types::val_type), [`IsIndexByte`](types::IsIndexByte).
 ///
@@ -1970,6 +2057,56 @@ pub trait types {
     ///
     /// Definitions: [`ref_encoding`](types::ref_encoding).
     type val_encoding;
+    /// The minimal encoding of a nullable reference type by the standard: each unshared abstract heap type has a byte of its own.
+    ///
+    /// ```text
+    /// abbrev pub tight_nullable : HeapType → List ℕ
+    /// tight_nullable (Abstract false ty) = abstract_code ty ∷ []
+    /// tight_nullable heap = 0x63 ∷ heap_encoding heap
+    /// ```
+    ///
+    /// Definitions: [`abstract_code`](types::abstract_code), [`heap_encoding`](types::heap_encoding).
+    type tight_nullable;
+    /// The minimal encoding of a reference type by the standard, by whether it is nullable.
+    ///
+    /// ```text
+    /// abbrev pub tight_bytes : (nullable : Bool) → HeapType → List ℕ
+    /// tight_bytes true heap = tight_nullable heap
+    /// tight_bytes false heap = 0x64 ∷ heap_encoding heap
+    /// ```
+    ///
+    /// Definitions: [`tight_nullable`](types::tight_nullable), [`heap_encoding`](types::heap_encoding).
+    type tight_bytes;
+    /// The minimal encoding of a value type by the standard.
+    ///
+    /// ```text
+    /// abbrev pub tight_encoding : ValType → List ℕ
+    /// tight_encoding (Ref r) = tight_bytes r.nullable r.heap_type
+    /// tight_encoding ty = val_encoding ty
+    /// ```
+    ///
+    /// Definitions: [`tight_bytes`](types::tight_bytes), [`val_encoding`](types::val_encoding).
+    type tight_encoding;
+    /// The minimal encoding of a reference type in each grammar.
+    ///
+    /// ```text
+    /// abbrev pub ref_encoding_in : Grammar → RefType → List ℕ
+    /// ref_encoding_in builders r = ref_encoding r
+    /// ref_encoding_in admitted r = tight_bytes r.nullable r.heap_type
+    /// ```
+    ///
+    /// Definitions: [`Grammar`](numbers::Grammar), [`builders`](numbers::Grammar), [`ref_encoding`](types::ref_encoding), [`admitted`](numbers::Grammar), [`tight_bytes`](types::tight_bytes).
+    type ref_encoding_in;
+    /// The minimal encoding of a value type in each grammar.
+    ///
+    /// ```text
+    /// abbrev pub val_encoding_in : Grammar → ValType → List ℕ
+    /// val_encoding_in builders ty = val_encoding ty
+    /// val_encoding_in admitted ty = tight_encoding ty
+    /// ```
+    ///
+    /// Definitions: [`Grammar`](numbers::Grammar), [`builders`](numbers::Grammar), [`val_encoding`](types::val_encoding), [`admitted`](numbers::Grammar), [`tight_encoding`](types::tight_encoding).
+    type val_encoding_in;
     /// The index of a heap type, if it has one, is below 2^32.
     ///
     /// ```text

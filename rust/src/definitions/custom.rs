@@ -123,7 +123,7 @@ pub trait comdats {
     ///
     /// Definitions: [`Comdat`](comdats::Comdat), [`size_prefixed_encoding`](super::base::encodings::size_prefixed_encoding), [`unsigned_encoding`](super::base::numbers::unsigned_encoding), [`vec_encoding`](super::base::encodings::vec_encoding), [`comdat_symbol_encoding`](comdats::comdat_symbol_encoding).
     type comdat_encoding;
-    /// The group is well-formed: its name is UTF-8 of at most 2^32 - 1 bytes, its flags are in range, and its members are well-formed and at most 2^32 - 1.
+    /// The group is well-formed: its name is UTF-8 of at most 2^32 - 1 bytes, its flags are in range, and its members are well-formed and their number is at most 2^32 - 1.
     ///
     /// ```text
     /// pub record IsComdat (c : Comdat) : Type 0 where
@@ -1031,7 +1031,7 @@ pub trait dylink {
     ///
     /// Definitions: [`DylinkItem`](dylink::DylinkItem), [`Memory`](dylink::DylinkItem), [`subsection_encoding`](customs::subsection_encoding), [`needs_encoding`](dylink::needs_encoding), [`Needed`](dylink::DylinkItem), [`vec_encoding`](super::base::encodings::vec_encoding), [`size_prefixed_encoding`](super::base::encodings::size_prefixed_encoding), [`ExportFlags`](dylink::DylinkItem), [`export_flags_encoding`](dylink::export_flags_encoding), [`ImportFlags`](dylink::DylinkItem), [`import_flags_encoding`](dylink::import_flags_encoding), [`RuntimePath`](dylink::DylinkItem).
     type dylink_encoding;
-    /// The subsection is well-formed: its items are well-formed and at most 2^32 - 1.
+    /// The subsection is well-formed: its items are well-formed, and their number is at most 2^32 - 1.
     ///
     /// ```text
     /// abbrev pub IsDylink : DylinkItem → Type 0
@@ -1256,7 +1256,7 @@ pub trait hints {
     ///
     /// Definitions: [`Hints`](hints::Hints), [`unsigned_encoding`](super::base::numbers::unsigned_encoding), [`vec_encoding`](super::base::encodings::vec_encoding), [`hint_encoding`](hints::hint_encoding).
     type hints_encoding;
-    /// The function's hints are well-formed: its index is below 2^32, and its hints are well-formed and at most 2^32 - 1.
+    /// The function's hints are well-formed: its index is below 2^32, and its hints are well-formed and their number is at most 2^32 - 1.
     ///
     /// ```text
     /// abbrev pub AreHints : Hints → Type 0
@@ -1431,7 +1431,7 @@ pub trait linking {
     ///
     /// Definitions: [`LinkItem`](linking::LinkItem), [`Segments`](linking::LinkItem), [`subsection_encoding`](customs::subsection_encoding), [`vec_encoding`](super::base::encodings::vec_encoding), [`segment_encoding`](segments::segment_encoding), [`InitFunctions`](linking::LinkItem), [`init_encoding`](init_functions::init_encoding), [`Comdats`](linking::LinkItem), [`comdat_encoding`](comdats::comdat_encoding), [`Symbols`](linking::LinkItem), [`symbol_encoding`](symbols::symbol_encoding), [`Target`](linking::LinkItem), [`size_prefixed_encoding`](super::base::encodings::size_prefixed_encoding).
     type link_encoding;
-    /// The subsection of a `LinkingSection` is well-formed: its symbols are well-formed and at most 2^32 - 1, or its name is UTF-8. No other subsection is one of a `LinkingSection`.
+    /// The subsection of a `LinkingSection` is well-formed: its symbols are well-formed and their number is at most 2^32 - 1, or its name is UTF-8. No other subsection is one of a `LinkingSection`.
     ///
     /// ```text
     /// abbrev pub IsLink : LinkItem → Type 0
@@ -1442,7 +1442,7 @@ pub trait linking {
     ///
     /// Definitions: [`LinkItem`](linking::LinkItem), [`Symbols`](linking::LinkItem), [`IsEncodableVec`](super::base::encodings::IsEncodableVec), [`IsSymbol`](symbols::IsSymbol), [`Target`](linking::LinkItem).
     type IsLink;
-    /// The subsection of an `ObjectLinking` is well-formed: its items are well-formed and at most 2^32 - 1, or its name is UTF-8.
+    /// The subsection of an `ObjectLinking` is well-formed: its items are well-formed and their number is at most 2^32 - 1, or its name is UTF-8.
     ///
     /// ```text
     /// abbrev pub IsObjectLink : LinkItem → Type 0
@@ -1761,7 +1761,7 @@ pub trait names {
     ///
     /// Definitions: [`Naming`](names::Naming), [`IsEncodableName`](super::base::laws::IsEncodableName).
     type IsNaming;
-    /// The indirect name association is well-formed: its index is below 2^32, and its names are well-formed and at most 2^32 - 1.
+    /// The indirect name association is well-formed: its index is below 2^32, and its names are well-formed and their number is at most 2^32 - 1.
     ///
     /// ```text
     /// abbrev pub IsInside : Inside → Type 0

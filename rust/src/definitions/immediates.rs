@@ -307,7 +307,7 @@ pub trait immediate_formats {
 /// The encodings of immediates: memory arguments, block types, catches, handles and vectors.
 ///
 /// - Memory arguments: [`ordering_code`](immediates::ordering_code), [`mem_ordering_code`](immediates::mem_ordering_code), [`index_of`](immediates::index_of), [`has_ordering`](immediates::has_ordering), [`is_array`](immediates::is_array), [`has_memory`](immediates::has_memory), [`where_set`](immediates::where_set), [`mem_flags`](immediates::mem_flags), [`mem_arg_encoding`](immediates::mem_arg_encoding).
-/// - Blocks, catches and handles: [`block_encoding`](immediates::block_encoding), [`catch_encoding`](immediates::catch_encoding), [`handle_encoding`](immediates::handle_encoding).
+/// - Blocks, catches and handles: [`block_encoding`](immediates::block_encoding), [`block_encoding_in`](immediates::block_encoding_in), [`catch_encoding`](immediates::catch_encoding), [`handle_encoding`](immediates::handle_encoding).
 /// - Vectors of 128 bits: [`vector_encoding`](immediates::vector_encoding).
 ///
 /// [How to read definitions](super). The file is [`Immediates.antt`](https://github.com/dolzhytik/dolzhytik/blob/main/crates/wasm_immediates/specs/Immediates.antt).
@@ -406,6 +406,16 @@ pub trait immediates {
     ///
     /// Definitions: [`val_encoding`](super::base::types::val_encoding), [`signed_encoding`](super::base::numbers::signed_encoding).
     type block_encoding;
+    /// The minimal encoding of a block type in each grammar: they differ in the type of a result.
+    ///
+    /// ```text
+    /// abbrev pub block_encoding_in : Grammar → BlockType → List ℕ
+    /// block_encoding_in w (blocks.Result ty) = val_encoding_in w ty
+    /// block_encoding_in w block = block_encoding block
+    /// ```
+    ///
+    /// Definitions: [`Grammar`](super::base::numbers::Grammar), [`val_encoding_in`](super::base::types::val_encoding_in), [`block_encoding`](immediates::block_encoding).
+    type block_encoding_in;
     /// The encoding of a catch clause: a byte for its kind, its tag if it has one, and its label. Core specification, Binary Format, Instructions, Control Instructions.
     ///
     /// ```text

@@ -721,33 +721,51 @@ pub trait sections {
     ///
     /// Definitions: [`Format`](super::base::formats::Format), [`Contents`](kinds::Contents), [`size_prefixed`](super::base::formats::size_prefixed), [`content`](kinds::content).
     type section;
-    /// The first `n` bytes are a section of this kind, possibly padded, with this content.
+    /// The first `n` bytes are a section of this kind in this grammar, possibly padded, with this content.
     ///
     /// ```text
-    /// pub record Takes (kind : SectionKind) (bytes : List ℕ) (x : Contents) (n : ℕ)
-    ///     : Type 0 where
+    /// pub record TakesIn (w : Grammar) (kind : SectionKind) (bytes : List ℕ) (x : Contents)
+    ///     (n : ℕ) : Type 0 where
     ///   pub within : n ≤ length bytes
-    ///   pub decodes : Decodes (section kind) padded bytes x (drop n bytes)
+    ///   pub decodes : Decodes (section kind) (padded_of w) bytes x (drop n bytes)
     /// ```
     ///
-    /// Definitions: [`Contents`](kinds::Contents), [`Decodes`](super::base::decoding::Decodes), [`section`](sections::section), [`padded`](super::base::numbers::Mode).
-    type Takes;
-    /// The first `n` bytes are a section of this kind. The buffer gains its minimal encoding, which has at most `n` bytes.
+    /// Definitions: [`Grammar`](super::base::numbers::Grammar), [`Contents`](kinds::Contents), [`Decodes`](super::base::decoding::Decodes), [`section`](sections::section), [`padded_of`](super::base::numbers::padded_of).
+    type TakesIn;
+    /// The same in the builders' grammar.
     ///
     /// ```text
-    /// pub record Shortens (kind : SectionKind) (bytes : List ℕ) (n : ℕ) (old new : List ℕ)
-    ///     : Type 0 where
+    /// abbrev pub Takes : SectionKind → List ℕ → Contents → ℕ → Type 0
+    /// Takes kind bytes x n = TakesIn builders kind bytes x n
+    /// ```
+    ///
+    /// Definitions: [`Contents`](kinds::Contents), [`TakesIn`](sections::TakesIn), [`builders`](super::base::numbers::Grammar).
+    type Takes;
+    /// The first `n` bytes are a section of this kind in this grammar. The buffer gains its minimal encoding in the grammar, which has at most `n` bytes.
+    ///
+    /// ```text
+    /// pub record ShortensIn (w : Grammar) (kind : SectionKind) (bytes : List ℕ) (n : ℕ)
+    ///     (old new : List ℕ) : Type 0 where
     ///   pub value : Contents
-    ///   pub takes : Takes kind bytes value n
+    ///   pub takes : TakesIn w kind bytes value n
     ///   pub encoding : List ℕ
-    ///   pub encodes : section kind minimal encoding value
+    ///   pub encodes : section kind (minimal_of w) encoding value
     ///   pub shorter : length encoding ≤ n
     ///   pub appended : new ≡ old ++ encoding
     /// ```
     ///
-    /// Definitions: [`Contents`](kinds::Contents), [`Takes`](sections::Takes), [`section`](sections::section), [`minimal`](super::base::numbers::Mode).
+    /// Definitions: [`Grammar`](super::base::numbers::Grammar), [`Contents`](kinds::Contents), [`TakesIn`](sections::TakesIn), [`section`](sections::section), [`minimal_of`](super::base::numbers::minimal_of).
+    type ShortensIn;
+    /// The same in the builders' grammar.
+    ///
+    /// ```text
+    /// abbrev pub Shortens : SectionKind → List ℕ → ℕ → List ℕ → List ℕ → Type 0
+    /// Shortens kind bytes n old new = ShortensIn builders kind bytes n old new
+    /// ```
+    ///
+    /// Definitions: [`ShortensIn`](sections::ShortensIn), [`builders`](super::base::numbers::Grammar).
     type Shortens;
-    /// Two sections of a kind have the same minimal encoding exactly if they decode to the same items.
+    /// Two sections of a kind have the same minimal encoding in a grammar exactly if they decode to the same items.
     ///
     /// ```text
     /// pub record HaveOneEncoding : Type 0 where
@@ -755,9 +773,13 @@ pub trait sections {
     ///       (x y : Contents) → Shortens kind a n old (old ++ s)
     ///       → Shortens kind b m other (other ++ t) → Takes kind a x n → Takes kind b y m
     ///       → (s ≡ t) ↔ (x ≡ y)
+    ///   pub same_in : (w : Grammar) (kind : SectionKind) (a b old other s t : List ℕ)
+    ///       (n m : ℕ) (x y : Contents) → ShortensIn w kind a n old (old ++ s)
+    ///       → ShortensIn w kind b m other (other ++ t) → TakesIn w kind a x n
+    ///       → TakesIn w kind b y m → (s ≡ t) ↔ (x ≡ y)
     /// ```
     ///
-    /// Definitions: [`Contents`](kinds::Contents), [`Shortens`](sections::Shortens), [`Takes`](sections::Takes).
+    /// Definitions: [`Contents`](kinds::Contents), [`Shortens`](sections::Shortens), [`Takes`](sections::Takes), [`Grammar`](super::base::numbers::Grammar), [`ShortensIn`](sections::ShortensIn), [`TakesIn`](sections::TakesIn).
     type HaveOneEncoding;
 }
 
@@ -848,18 +870,18 @@ pub trait shortening {
     ///
     /// Definitions: [`Section`](outlines::Section).
     type Rewrite;
-    /// The bytes are the minimal encoding of the section; or its bytes unchanged, since they do not decode by its kind. A section that is left out has none.
+    /// The bytes are the minimal encoding of the section in the standard's grammar; or its bytes unchanged, since they do not decode by its kind in this grammar. A section that is left out has none.
     ///
     /// ```text
     /// abbrev pub IsEncodingFor : How → Section → List ℕ → Type 0
-    /// IsEncodingFor Minimal s encoding = Shortens (section_kind_of s) s.sized (length s.sized)
-    ///     [] encoding
+    /// IsEncodingFor Minimal s encoding = ShortensIn admitted (section_kind_of s) s.sized
+    ///     (length s.sized) [] encoding
     /// IsEncodingFor Kept s encoding = (encoding ≡ s.sized)
-    ///     × Rejects (section (section_kind_of s)) padded s.sized
+    ///     × Rejects (section (section_kind_of s)) standard s.sized
     /// IsEncodingFor LeftOut s encoding = ⊥
     /// ```
     ///
-    /// Definitions: [`Section`](outlines::Section), [`Shortens`](sections::Shortens), [`section_kind_of`](outlines::section_kind_of), [`Rejects`](super::base::decoding::Rejects), [`section`](sections::section), [`padded`](super::base::numbers::Mode).
+    /// Definitions: [`Section`](outlines::Section), [`ShortensIn`](sections::ShortensIn), [`admitted`](super::base::numbers::Grammar), [`section_kind_of`](outlines::section_kind_of), [`Rejects`](super::base::decoding::Rejects), [`section`](sections::section), [`standard`](super::base::numbers::Mode).
     type IsEncodingFor;
     /// The section is encoded in this way. It is left out exactly if it holds offsets and such sections are to be left out.
     ///

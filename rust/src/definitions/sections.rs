@@ -57,7 +57,7 @@ pub trait constants {
 
 /// Data segments, their encodings and their format. Core specification, Binary Format, Modules, Data Section.
 ///
-/// - Data segments: [`active_encoding`](data_segments::active_encoding), [`passive_encoding`](data_segments::passive_encoding), [`segment_encoding`](data_segments::segment_encoding), [`GivenData`](data_segments::GivenData), [`DataItem`](data_segments::DataItem), [`data_encoding`](data_segments::data_encoding), [`IsGivenDataIn`](data_segments::IsGivenDataIn), [`IsGivenData`](data_segments::IsGivenData), [`IsGivenDataPadded`](data_segments::IsGivenDataPadded), [`data_of`](data_segments::data_of), [`in_first`](data_segments::in_first), [`in_memory`](data_segments::in_memory), [`data_tags`](data_segments::data_tags), [`data_in`](data_segments::data_in), [`data_item`](data_segments::data_item), [`data_items`](data_segments::data_items).
+/// - Data segments: [`active_encoding`](data_segments::active_encoding), [`active_front`](data_segments::active_front), [`passive_encoding`](data_segments::passive_encoding), [`segment_encoding`](data_segments::segment_encoding), [`GivenData`](data_segments::GivenData), [`DataItem`](data_segments::DataItem), [`data_encoding`](data_segments::data_encoding), [`IsGivenDataIn`](data_segments::IsGivenDataIn), [`IsGivenData`](data_segments::IsGivenData), [`IsGivenDataPadded`](data_segments::IsGivenDataPadded), [`data_of`](data_segments::data_of), [`in_first`](data_segments::in_first), [`in_memory`](data_segments::in_memory), [`data_tags`](data_segments::data_tags), [`data_in`](data_segments::data_in), [`data_item`](data_segments::data_item), [`data_items`](data_segments::data_items).
 /// - Calls: [`AddsBytes`](data_segments::AddsBytes).
 /// - Decoded segments: [`segment_view`](data_segments::segment_view), [`ContainsSegments`](data_segments::ContainsSegments), [`data_decoding`](data_segments::data_decoding), [`data_count_decoding`](data_segments::data_count_decoding).
 ///
@@ -76,6 +76,16 @@ pub trait data_segments {
     ///
     /// Definitions: [`expression_encoding`](super::code::expressions::expression_encoding), [`size_prefixed_encoding`](super::base::encodings::size_prefixed_encoding), [`unsigned_encoding`](super::base::numbers::unsigned_encoding).
     type active_encoding;
+    /// The bytes before the offset of an active segment of this memory: a flag, and the memory's index unless it is 0.
+    ///
+    /// ```text
+    /// abbrev pub active_front : ℕ → List ℕ
+    /// active_front zero = unsigned_encoding 0
+    /// active_front (suc n) = unsigned_encoding 2 ++ unsigned_encoding (suc n)
+    /// ```
+    ///
+    /// Definitions: [`unsigned_encoding`](super::base::numbers::unsigned_encoding).
+    type active_front;
     /// The encoding of a passive segment: a flag, then the size-prefixed bytes.
     ///
     /// ```text
@@ -1087,6 +1097,16 @@ pub trait globals {
     ///
     /// Definitions: [`val_encoding`](super::base::types::val_encoding), [`global_code`](globals::global_code), [`global_flags`](globals::global_flags).
     type global_encoding;
+    /// The minimal encoding of a global type in each grammar.
+    ///
+    /// ```text
+    /// abbrev pub global_encoding_in : Grammar → GlobalType → List ℕ
+    /// global_encoding_in w g = val_encoding_in w g.val_type
+    ///     ++ global_code (global_flags g) ∷ []
+    /// ```
+    ///
+    /// Definitions: [`Grammar`](super::base::numbers::Grammar), [`val_encoding_in`](super::base::types::val_encoding_in), [`global_code`](globals::global_code), [`global_flags`](globals::global_flags).
+    type global_encoding_in;
     /// The global type is well-formed: an index in its value type is below 2^32.
     ///
     /// ```text
@@ -1251,7 +1271,7 @@ pub trait globals {
 
 /// Imports and groups of imports, their encodings and their format. Core specification, Binary Format, Modules, Import Section.
 ///
-/// - Imported entities: [`entity_encoding`](imports::entity_encoding), [`IsEntity`](imports::IsEntity), [`entity_tags`](imports::entity_tags), [`entity`](imports::entity).
+/// - Imported entities: [`entity_encoding`](imports::entity_encoding), [`entity_encoding_in`](imports::entity_encoding_in), [`IsEntity`](imports::IsEntity), [`entity_tags`](imports::entity_tags), [`entity`](imports::entity).
 /// - Imports: [`Imported`](imports::Imported), [`ImportItem`](imports::ImportItem), [`named_encoding`](imports::named_encoding), [`imported_encoding`](imports::imported_encoding), [`import_encoding`](imports::import_encoding), [`IsEncodableImported`](imports::IsEncodableImported), [`IsEncodableImport`](imports::IsEncodableImport), [`IsNamed`](imports::IsNamed), [`IsImported`](imports::IsImported), [`IsImport`](imports::IsImport).
 /// - Arguments of calls: [`import_item`](imports::import_item), [`compact_item`](imports::compact_item), [`imports_item`](imports::imports_item).
 /// - Format: [`alike_of`](imports::alike_of), [`group_tags`](imports::group_tags), [`group`](imports::group), [`named_entity`](imports::named_entity), [`after_module`](imports::after_module), [`import_of`](imports::import_of), [`import_format`](imports::import_format), [`import_items`](imports::import_items), [`ContainsImports`](imports::ContainsImports), [`import_decoding`](imports::import_decoding).
@@ -1272,6 +1292,20 @@ pub trait imports {
     ///
     /// Definitions: [`unsigned_encoding`](super::base::numbers::unsigned_encoding), [`table_encoding`](tables::table_encoding), [`memory_encoding`](memories::memory_encoding), [`global_encoding`](globals::global_encoding), [`tag_encoding`](tags::tag_encoding).
     type entity_encoding;
+    /// The minimal encoding of an entity in each grammar.
+    ///
+    /// ```text
+    /// abbrev pub entity_encoding_in : Grammar → EntityType → List ℕ
+    /// entity_encoding_in w (Function index) = 0x00 ∷ unsigned_encoding index
+    /// entity_encoding_in w (Table ty) = 0x01 ∷ table_encoding_in w ty
+    /// entity_encoding_in w (Memory ty) = 0x02 ∷ memory_encoding ty
+    /// entity_encoding_in w (Global ty) = 0x03 ∷ global_encoding_in w ty
+    /// entity_encoding_in w (Tag ty) = 0x04 ∷ tag_encoding ty
+    /// entity_encoding_in w (FunctionExact index) = 0x20 ∷ unsigned_encoding index
+    /// ```
+    ///
+    /// Definitions: [`Grammar`](super::base::numbers::Grammar), [`unsigned_encoding`](super::base::numbers::unsigned_encoding), [`table_encoding_in`](tables::table_encoding_in), [`memory_encoding`](memories::memory_encoding), [`global_encoding_in`](globals::global_encoding_in), [`tag_encoding`](tags::tag_encoding).
+    type entity_encoding_in;
     /// The numbers of the entity are in range.
     ///
     /// ```text
@@ -1664,6 +1698,17 @@ pub trait tables {
     ///
     /// Definitions: [`ref_encoding`](super::base::types::ref_encoding), [`flags_code`](flags::flags_code), [`table_flags`](tables::table_flags), [`unsigned_encoding`](super::base::numbers::unsigned_encoding), [`optional_encoding`](super::base::encodings::optional_encoding).
     type table_encoding;
+    /// The minimal encoding of a table type in each grammar.
+    ///
+    /// ```text
+    /// abbrev pub table_encoding_in : Grammar → TableType → List ℕ
+    /// table_encoding_in w t = ref_encoding_in w t.element_type
+    ///     ++ (flags_code (table_flags t)
+    ///     ∷ (unsigned_encoding t.minimum ++ optional_encoding unsigned_encoding t.maximum))
+    /// ```
+    ///
+    /// Definitions: [`Grammar`](super::base::numbers::Grammar), [`ref_encoding_in`](super::base::types::ref_encoding_in), [`flags_code`](flags::flags_code), [`table_flags`](tables::table_flags), [`unsigned_encoding`](super::base::numbers::unsigned_encoding), [`optional_encoding`](super::base::encodings::optional_encoding).
+    type table_encoding_in;
     /// The table type is well-formed: its numbers are in range.
     ///
     /// ```text

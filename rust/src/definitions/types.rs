@@ -216,7 +216,7 @@ pub trait items {
 /// The types of a type section, their encodings and their formats. Core specification, Binary Format, Types, and Modules, Type Section.
 ///
 /// - Types: [`Shape`](rec_types::Shape), [`Composite`](rec_types::Composite), [`Sub`](rec_types::Sub), [`TypeItem`](rec_types::TypeItem).
-/// - Encodings: [`storage_encoding`](rec_types::storage_encoding), [`mutable_code`](rec_types::mutable_code), [`field_encoding`](rec_types::field_encoding), [`func_encoding`](rec_types::func_encoding), [`struct_encoding`](rec_types::struct_encoding), [`cont_encoding`](rec_types::cont_encoding), [`shape_encoding`](rec_types::shape_encoding), [`index_encoding`](rec_types::index_encoding), [`shared_encoding`](rec_types::shared_encoding), [`composite_encoding`](rec_types::composite_encoding), [`before_encoding`](rec_types::before_encoding), [`sub_encoding`](rec_types::sub_encoding), [`type_encoding`](rec_types::type_encoding).
+/// - Encodings: [`storage_encoding`](rec_types::storage_encoding), [`storage_encoding_in`](rec_types::storage_encoding_in), [`mutable_code`](rec_types::mutable_code), [`field_encoding`](rec_types::field_encoding), [`func_encoding`](rec_types::func_encoding), [`struct_encoding`](rec_types::struct_encoding), [`cont_encoding`](rec_types::cont_encoding), [`shape_encoding`](rec_types::shape_encoding), [`index_encoding`](rec_types::index_encoding), [`shared_encoding`](rec_types::shared_encoding), [`composite_encoding`](rec_types::composite_encoding), [`before_encoding`](rec_types::before_encoding), [`sub_encoding`](rec_types::sub_encoding), [`type_encoding`](rec_types::type_encoding).
 /// - Well-formed types: numbers in range, and counts of at most 2^32 - 1: [`IsStorage`](rec_types::IsStorage), [`IsField`](rec_types::IsField), [`IsShape`](rec_types::IsShape), [`IsGivenIndex`](rec_types::IsGivenIndex), [`IsComposite`](rec_types::IsComposite), [`IsSub`](rec_types::IsSub), [`IsType`](rec_types::IsType).
 /// - Formats: [`storage_tags`](rec_types::storage_tags), [`packed_type`](rec_types::packed_type), [`storage_type`](rec_types::storage_type), [`field_of`](rec_types::field_of), [`field_type`](rec_types::field_type), [`func_of`](rec_types::func_of), [`shape_tags`](rec_types::shape_tags), [`after_shape`](rec_types::after_shape), [`given_index`](rec_types::given_index), [`no_index`](rec_types::no_index), [`with_index`](rec_types::with_index), [`after_descriptor`](rec_types::after_descriptor), [`after_describes`](rec_types::after_describes), [`composite_of`](rec_types::composite_of), [`after_composite`](rec_types::after_composite), [`composite_type`](rec_types::composite_type), [`sub_of`](rec_types::sub_of), [`alone_of`](rec_types::alone_of), [`supertypes_and`](rec_types::supertypes_and), [`HasFinalPrefix`](rec_types::HasFinalPrefix), [`sub_tags`](rec_types::sub_tags), [`after_alone`](rec_types::after_alone), [`prefixed_sub`](rec_types::prefixed_sub), [`sub_type`](rec_types::sub_type), [`after_sub`](rec_types::after_sub), [`group_tags`](rec_types::group_tags), [`group_type`](rec_types::group_type), [`type_item`](rec_types::type_item), [`type_items`](rec_types::type_items).
 /// - The type section: [`ContainsTypes`](rec_types::ContainsTypes), [`type_decoding`](rec_types::type_decoding), [`plain_type`](rec_types::plain_type).
@@ -277,6 +277,16 @@ pub trait rec_types {
     ///
     /// Definitions: [`val_encoding`](super::base::types::val_encoding).
     type storage_encoding;
+    /// The minimal encoding of a storage type in each grammar.
+    ///
+    /// ```text
+    /// abbrev pub storage_encoding_in : Grammar → StorageType → List ℕ
+    /// storage_encoding_in w (Val ty) = val_encoding_in w ty
+    /// storage_encoding_in w packed = storage_encoding packed
+    /// ```
+    ///
+    /// Definitions: [`Grammar`](super::base::numbers::Grammar), [`val_encoding_in`](super::base::types::val_encoding_in), [`storage_encoding`](rec_types::storage_encoding).
+    type storage_encoding_in;
     /// The byte for the mutability of a field.
     ///
     /// ```text

@@ -3,7 +3,7 @@
 
 use crate::vec::Sink;
 use crate::alloc::Allocator;
-use crate::base::{DecodeError, Encode, Grammar, Layout, Readable, Result, ValType, read_index, read_val_after};
+use crate::base::{DecodeError, Encode, Grammar, Layout, Minimize, Readable, Result, ValType, read_index, read_val_after};
 
 /// The type of a block: an immediate of `block`, `loop`, `if` and `try_table`, as of
 /// [`InstructionSink::block`](crate::InstructionSink::block).
@@ -106,5 +106,38 @@ impl<'a, A: Allocator + Copy, G: Grammar> Readable<'a, A, G> for BlockType {
             return Ok((BlockType::Empty, rest));
         }
         read_any_block::<A, G>(bytes, alloc)
+    }
+}
+
+impl BlockType {
+    /// Appends the minimal encoding in the grammar `G`.
+    ///
+    /// # Proved
+    ///
+    /// The call appends the encoding, or returns an error and leaves the bytes as they were. If the value fits, the call never returns `TooLong`, and it succeeds within the spare capacity.
+    ///
+    /// ```text
+    /// ensures { Appends (block_encoding_in G.grammar self) ⊤ sink.old sink.new result }
+    /// ```
+    ///
+    /// Definitions: [`Appends`](crate::definitions::base::calls::Appends), [`block_encoding_in`](crate::definitions::immediates::immediates::block_encoding_in). [How to read clauses](crate::definitions).
+    fn encode_in<G: Grammar, A: Sink>(self, sink: &mut A) -> Result<()> {
+        match self {
+            BlockType::Result(ty) => ty.encode_in::<G, _>(sink),
+            _ => self.encode(sink),
+        }
+    }
+}
+
+impl<G: Grammar> Minimize<G> for BlockType {
+    #[inline]
+    fn minimize<'a, A: Allocator + Copy, B: Sink>(
+        bytes: &'a [u8],
+        alloc: A,
+        sink: &mut B,
+    ) -> Result<&'a [u8], DecodeError> {
+        let (block, rest) = <BlockType as Readable<'a, A, G>>::read(bytes, alloc)?;
+        block.encode_in::<G, _>(sink)?;
+        Ok(rest)
     }
 }

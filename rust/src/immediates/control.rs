@@ -3,7 +3,7 @@
 
 use crate::vec::Sink;
 use crate::alloc::Allocator;
-use crate::base::{DecodeError, Encode, Grammar, Layout, ReadFault, Readable, Result};
+use crate::base::{Canonical, DecodeError, Encode, Grammar, Layout, Minimize, ReadFault, Readable, Result, minimize_value};
 
 /// A catch clause, which [`InstructionSink::try_table`](crate::InstructionSink::try_table)
 /// takes.
@@ -186,5 +186,33 @@ impl<'a, A: Allocator + Copy, G: Grammar> Readable<'a, A, G> for Handle {
             }
             _ => Err(ReadFault::UnknownTag.just_before(rest)),
         }
+    }
+}
+
+impl Canonical for Catch {
+    fn canonical() {}
+}
+
+impl<G: Grammar> Minimize<G> for Catch {
+    fn minimize<'a, A: Allocator + Copy, B: Sink>(
+        bytes: &'a [u8],
+        alloc: A,
+        sink: &mut B,
+    ) -> Result<&'a [u8], DecodeError> {
+        minimize_value::<Catch, A, G, _>(bytes, alloc, sink)
+    }
+}
+
+impl Canonical for Handle {
+    fn canonical() {}
+}
+
+impl<G: Grammar> Minimize<G> for Handle {
+    fn minimize<'a, A: Allocator + Copy, B: Sink>(
+        bytes: &'a [u8],
+        alloc: A,
+        sink: &mut B,
+    ) -> Result<&'a [u8], DecodeError> {
+        minimize_value::<Handle, A, G, _>(bytes, alloc, sink)
     }
 }

@@ -4,7 +4,7 @@
 use crate::vec::Sink;
 use crate::alloc::Allocator;
 use core::default::Default;
-use crate::base::{DecodeError, Encode, Grammar, Layout, ReadFault, Readable, Result, read_optional};
+use crate::base::{Canonical, DecodeError, Encode, Grammar, Layout, Minimize, ReadFault, Readable, Result, minimize_value, read_optional};
 
 /// The index of a lane of a vector, which calls such as
 /// [`InstructionSink::i8x16_replace_lane`](crate::InstructionSink::i8x16_replace_lane) take. It
@@ -480,5 +480,20 @@ impl<'a, A: Allocator + Copy, G: Grammar> Readable<'a, A, G> for MemArg {
             }
         }
         read_any_memory::<A, G>(bytes, alloc)
+    }
+}
+
+impl Canonical for MemArg {
+    fn canonical() {}
+}
+
+impl<G: Grammar> Minimize<G> for MemArg {
+    #[inline]
+    fn minimize<'a, A: Allocator + Copy, B: Sink>(
+        bytes: &'a [u8],
+        alloc: A,
+        sink: &mut B,
+    ) -> Result<&'a [u8], DecodeError> {
+        minimize_value::<MemArg, A, G, _>(bytes, alloc, sink)
     }
 }

@@ -794,7 +794,10 @@ pub(crate) fn read_arguments_into<'a, A: Allocator + Copy, G: Grammar>(
 /// ```
 ///
 /// Definitions: [`argument_encoding`](crate::definitions::insn::arguments::argument_encoding), [`argument_view`](crate::definitions::insn::views::argument_view), [`IsWellFormedArgument`](crate::definitions::insn::plain::IsWellFormedArgument). [How to read clauses](crate::definitions).
-fn append_argument<A: Allocator, B: Sink>(arg: &Arg<A>, sink: &mut B) -> Result<()> {
+pub(crate) fn append_argument<A: Allocator, B: Sink>(
+    arg: &Arg<A>,
+    sink: &mut B,
+) -> Result<()> {
     match arg {
         Arg::U32(n) => n.encode(sink),
         Arg::S32(n) => n.encode(sink),

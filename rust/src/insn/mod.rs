@@ -16,6 +16,7 @@ mod arguments;
 mod atomic;
 mod instruction;
 pub mod laws;
+mod minimize;
 mod numeric;
 mod op;
 mod part;
@@ -40,7 +41,7 @@ pub use instruction::Instruction;
 pub use numeric::Numeric;
 pub use op::{Op, Shape};
 pub use part::Part;
-pub(crate) use plain::{Plain, append_instruction, read_instruction_into};
+pub(crate) use plain::{Plain, read_instruction_into};
 pub use prefixed_numeric::PrefixedNumeric;
 pub use sink::Buffer;
 #[doc(alias = "assembler")]

@@ -89,13 +89,8 @@ pub fn read_instruction_into<'a, A: Allocator + Copy, G: Grammar>(
     Ok((op, rest))
 }
 
-/// Appends the minimal encoding of the instruction.
-///
-/// # Errors
-///
-/// Returns [`Refused`](crate::base::Refused) if an allocation fails. A decoded instruction never
-/// causes `TooLong`. After an error, the old bytes are unchanged, but part of the encoding may
-/// follow them.
+/// Appends the minimal encoding of an instruction. After an error, part of it may follow the old
+/// bytes of the sink.
 ///
 /// # Proved
 ///
@@ -115,7 +110,7 @@ pub fn read_instruction_into<'a, A: Allocator + Copy, G: Grammar>(
 /// ```
 ///
 /// Definitions: [`AppendsMinimal`](crate::definitions::base::minimal::AppendsMinimal), [`instruction`](crate::definitions::insn::plain::instruction), [`table`](crate::definitions::insn::table::table), [`argument_view`](crate::definitions::insn::views::argument_view), [`IsFrontOf`](crate::definitions::base::minimal::IsFrontOf), [`HasEncoding`](crate::definitions::base::minimal::HasEncoding). [How to read clauses](crate::definitions).
-pub fn append_instruction<A: Allocator, B: Sink>(
+fn append_instruction<A: Allocator, B: Sink>(
     op: Op,
     args: &[Arg<A>],
     sink: &mut B,

@@ -7,7 +7,7 @@
 ///
 /// # Proved
 ///
-/// Two sections of a kind have the same minimal encoding exactly if they decode to the same items.
+/// Two sections of a kind have the same minimal encoding in a grammar exactly if they decode to the same items.
 ///
 /// ```text
 /// ensures { HaveOneEncoding }

@@ -4,117 +4,105 @@
 use crate::vec::{Sink, Vec};
 use crate::reader::kinds::{SectionKind, encode_items, read_content};
 use crate::alloc::Allocator;
-use crate::base::{DecodeError, Padded, ReadFault, Readable, Shorten, prefix_size_since};
-use crate::code::shorten_body;
+use crate::base::{DecodeError, Grammar, Minimize, Padded, ReadFault, Readable, minimize_whole, prefix_size_since};
+use crate::code::Body;
+use crate::custom::minimize_links;
+use crate::sections::{ElementItem, Export, GlobalItem, Imports, MemoryType, Segment, TableItem, TagType};
+use crate::types::TypeEntry;
 
-/// Appends the minimal encoding of a vector of bodies that occupies all of the bytes. It keeps no
-/// decoded body. After an error, the old bytes are still the front of the sink.
+/// Minimizes the payload of a section of this kind. Core items are not kept, and neither are
+/// subsections of a linking section. The items of other custom sections are decoded, and then
+/// encoded.
 ///
 /// # Proved
 ///
-/// - After `Ok`: `found`.
+/// - After `Ok`, `found`: The bytes as a whole decode to a value in this grammar, and the call appends the minimal encoding of the value in this grammar.
 /// - After an error, `none`: the bytes as a whole are no such encoding, unless the cause is `Memory`.
 /// - `front`: The new bytes begin with the old ones.
 ///
 /// ```text
 /// ensures found { OnOk result
-///     ((xs : List Body) × vec (size_prefixed body) padded bytes.now xs
-///         × AppendsMinimal (vec (size_prefixed body)) xs sink.old.items sink.new.items) }
+///     (MinimizesWhole G.grammar (content kind) bytes.now sink.old.items sink.new.items) }
 /// ensures front { IsFrontOf sink.old.items sink.new.items }
 /// ensures none { IfErr result
-///     (λ e. e.cause ≢ Memory → RejectsWhole (vec (size_prefixed body)) padded bytes.now) }
+///     (λ e. e.cause ≢ Memory → RejectsWhole (content kind)
+///         (padded_of G.grammar) bytes.now) }
 /// ```
 ///
-/// Definitions: [`Body`](crate::definitions::code::bodies::Body), [`vec`](crate::definitions::base::formats::vec), [`size_prefixed`](crate::definitions::base::formats::size_prefixed), [`body`](crate::definitions::code::bodies::body), [`padded`](crate::definitions::base::numbers::Mode), [`AppendsMinimal`](crate::definitions::base::minimal::AppendsMinimal), [`IsFrontOf`](crate::definitions::base::minimal::IsFrontOf), [`RejectsWhole`](crate::definitions::base::continuing::RejectsWhole). [How to read clauses](crate::definitions).
-fn shorten_bodies<A: Allocator + Copy, B: Sink>(
-    bytes: &[u8],
-    alloc: A,
-    sink: &mut B,
-) -> Result<(), DecodeError> {
-    let (count, mut rest) = <u32 as Readable<'_, A, Padded>>::read(bytes, alloc)?;
-    count.write_minimal(sink)?;
-    for _taken in 0..count {
-        let (sized, after) = <&[u8] as Readable<'_, A, Padded>>::read(rest, alloc)?;
-        shorten_body(sized, alloc, sink)?;
-        rest = after;
-    }
-    if rest.is_empty() {
-        Ok(())
-    } else {
-        Err(ReadFault::SizeMismatch.at(rest))
-    }
-}
-
-/// Appends the minimal encoding of the payload of a section of this kind. After an error, the old
-/// bytes are still the front of the sink.
-///
-/// # Proved
-///
-/// - After `Ok`: `found`.
-/// - After an error, `none`: the bytes as a whole are no such encoding, unless the cause is `Memory`.
-/// - `front`: The new bytes begin with the old ones.
-///
-/// ```text
-/// ensures found { OnOk result
-///     ((x : Contents) × content kind padded bytes.now x
-///         × AppendsMinimal (content kind) x sink.old.items sink.new.items) }
-/// ensures front { IsFrontOf sink.old.items sink.new.items }
-/// ensures none { IfErr result
-///     (λ e. e.cause ≢ Memory → RejectsWhole (content kind) padded bytes.now) }
-/// ```
-///
-/// Definitions: [`Contents`](crate::definitions::reader::kinds::Contents), [`content`](crate::definitions::reader::kinds::content), [`padded`](crate::definitions::base::numbers::Mode), [`AppendsMinimal`](crate::definitions::base::minimal::AppendsMinimal), [`IsFrontOf`](crate::definitions::base::minimal::IsFrontOf), [`RejectsWhole`](crate::definitions::base::continuing::RejectsWhole). [How to read clauses](crate::definitions).
-fn shorten_content<A: Allocator + Copy, B: Sink>(
+/// Definitions: [`MinimizesWhole`](crate::definitions::base::minimal::MinimizesWhole), [`content`](crate::definitions::reader::kinds::content), [`IsFrontOf`](crate::definitions::base::minimal::IsFrontOf), [`RejectsWhole`](crate::definitions::base::continuing::RejectsWhole), [`padded_of`](crate::definitions::base::numbers::padded_of). [How to read clauses](crate::definitions).
+pub(crate) fn minimize_content<A: Allocator + Copy, G: Grammar, B: Sink>(
     kind: SectionKind,
     bytes: &[u8],
     alloc: A,
     sink: &mut B,
 ) -> Result<(), DecodeError> {
     match kind {
-        SectionKind::Bodies => shorten_bodies(bytes, alloc, sink),
+        SectionKind::Bodies => minimize_whole::<Vec<Body<A>, A>, A, G, _>(bytes, alloc, sink),
+        SectionKind::Segments => minimize_whole::<Vec<Segment<'_, A>, A>, A, G, _>(
+            bytes, alloc, sink,
+        ),
+        SectionKind::DataCount => minimize_whole::<u32, A, G, _>(bytes, alloc, sink),
+        SectionKind::Elements => minimize_whole::<Vec<ElementItem<A>, A>, A, G, _>(
+            bytes, alloc, sink,
+        ),
+        SectionKind::Exports => minimize_whole::<Vec<Export<'_>, A>, A, G, _>(bytes, alloc, sink),
+        SectionKind::Functions => minimize_whole::<Vec<u32, A>, A, G, _>(bytes, alloc, sink),
+        SectionKind::Globals => minimize_whole::<Vec<GlobalItem<A>, A>, A, G, _>(
+            bytes, alloc, sink,
+        ),
+        SectionKind::Imports => minimize_whole::<Vec<Imports<'_, A>, A>, A, G, _>(
+            bytes, alloc, sink,
+        ),
+        SectionKind::Memories => minimize_whole::<Vec<MemoryType, A>, A, G, _>(bytes, alloc, sink),
+        SectionKind::Start => minimize_whole::<u32, A, G, _>(bytes, alloc, sink),
+        SectionKind::Tables => minimize_whole::<Vec<TableItem<A>, A>, A, G, _>(bytes, alloc, sink),
+        SectionKind::Tags => minimize_whole::<Vec<TagType, A>, A, G, _>(bytes, alloc, sink),
+        SectionKind::Types => minimize_whole::<Vec<TypeEntry<A>, A>, A, G, _>(bytes, alloc, sink),
+        SectionKind::Linking => minimize_links::<A, G, _>(bytes, alloc, sink),
         _ => {
-            let items = read_content::<A, Padded>(kind, bytes, alloc)?;
+            let items = read_content::<A, G>(kind, bytes, alloc)?;
             encode_items(&items, sink)?;
             Ok(())
         }
     }
 }
 
-/// Appends the minimal encoding of a section of this kind with this payload. After an error, the
-/// old bytes are still the front of the sink.
+/// Minimizes the section at the front, without its id, and returns the remaining bytes.
 ///
 /// # Proved
 ///
-/// - After `Ok`: `found`.
-/// - After an error, `none`: the bytes as a whole are no such encoding, unless the cause is `Memory`.
+/// - After `Ok`, `found`: A value decodes from the front of the bytes in this grammar, and `rest` follows it. The call appends the minimal encoding of the value in this grammar.
+/// - After an error, `none`: the bytes do not begin with such an encoding, unless the cause is `Memory`.
 /// - `front`: The new bytes begin with the old ones.
 ///
 /// ```text
-/// ensures found { OnOk result
-///     ((x : Contents) × content kind padded bytes.now x
-///         × AppendsMinimal (section kind) x sink.old.items sink.new.items) }
+/// ensures found { IfOk result
+///     (λ rest. Minimizes G.grammar
+///         (section kind) bytes.now rest.now sink.old.items sink.new.items) }
 /// ensures front { IsFrontOf sink.old.items sink.new.items }
 /// ensures none { IfErr result
-///     (λ e. e.cause ≢ Memory → RejectsWhole (content kind) padded bytes.now) }
+///     (λ e. e.cause ≢ Memory → Rejects (section kind) (padded_of G.grammar) bytes.now) }
 /// ```
 ///
-/// Definitions: [`Contents`](crate::definitions::reader::kinds::Contents), [`content`](crate::definitions::reader::kinds::content), [`padded`](crate::definitions::base::numbers::Mode), [`AppendsMinimal`](crate::definitions::base::minimal::AppendsMinimal), [`section`](crate::definitions::reader::sections::section), [`IsFrontOf`](crate::definitions::base::minimal::IsFrontOf), [`RejectsWhole`](crate::definitions::base::continuing::RejectsWhole). [How to read clauses](crate::definitions).
-fn shorten_sized<A: Allocator + Copy, B: Sink>(
+/// Definitions: [`Minimizes`](crate::definitions::base::minimal::Minimizes), [`section`](crate::definitions::reader::sections::section), [`IsFrontOf`](crate::definitions::base::minimal::IsFrontOf), [`Rejects`](crate::definitions::base::decoding::Rejects), [`padded_of`](crate::definitions::base::numbers::padded_of). [How to read clauses](crate::definitions).
+fn minimize_section<'a, A: Allocator + Copy, G: Grammar, B: Sink>(
     kind: SectionKind,
-    bytes: &[u8],
+    bytes: &'a [u8],
     alloc: A,
     sink: &mut B,
-) -> Result<(), DecodeError> {
+) -> Result<&'a [u8], DecodeError> {
+    let (payload, rest) = <&'a [u8] as Readable<'a, A, G>>::read(bytes, alloc)?;
     let start = sink.len();
-    shorten_content(kind, bytes, alloc, sink)?;
+    minimize_content::<A, G, _>(kind, payload, alloc, sink)?;
     prefix_size_since(sink, start)?;
-    Ok(())
+    Ok(rest)
 }
 
 /// Appends the minimal encoding of the section at the front, and returns the section's length in
 /// the input, in bytes. Both are without the section's id. On an error, the bytes of the sink are
-/// unchanged. Decoded items are allocated with the sink's allocator, and then dropped. Code is
-/// decoded one instruction at a time.
+/// unchanged. Core items are decoded one by one, and not kept; so are the subsections of a linking
+/// section. The items of other custom sections are allocated with the sink's allocator, and then
+/// dropped.
 ///
 /// In a code section that becomes shorter, instructions move. Offsets into it that are kept
 /// elsewhere are then wrong: relocations, debugging information, branch hints and source maps.
@@ -157,36 +145,35 @@ pub fn shorten<A: Allocator + Copy>(
     bytes: &[u8],
     sink: &mut Vec<u8, A>,
 ) -> Result<usize, ReadFault> {
-    shorten_in(*sink.allocator(), kind, bytes, sink)
+    shorten_in::<A, Padded, _>(*sink.allocator(), kind, bytes, sink)
 }
 
-/// Does what [`shorten`] does, with another allocator for decoded items.
+/// Does what [`shorten`] does, in a grammar and with another allocator for decoded items.
 ///
 /// # Proved
 ///
-/// - After `Ok`, `ok`: As many bytes as the result says are a section of this kind, from the first one on. The buffer gains its minimal encoding, which is at most as long.
+/// - After `Ok`, `ok`: The first `n` bytes are a section of this kind in this grammar. The buffer gains its minimal encoding in the grammar, which has at most `n` bytes.
 /// - After an error, `err`: the bytes of the sink are unchanged.
 /// - After an error, `none`: the bytes do not begin with such an encoding, unless the cause is `Memory`.
 ///
 /// ```text
 /// ensures ok { IfOk result
-///     (λ n. Shortens kind bytes.now n sink.old.items sink.new.items) }
+///     (λ n. ShortensIn G.grammar kind bytes.now n sink.old.items sink.new.items) }
 /// ensures err { OnErr result (sink.new.items ≡ sink.old.items) }
 /// ensures none { IfErr result
-///     (λ e. e ≢ Memory → Rejects (section kind) padded bytes.now) }
+///     (λ e. e ≢ Memory → Rejects (section kind) (padded_of G.grammar) bytes.now) }
 /// ```
 ///
-/// Definitions: [`Shortens`](crate::definitions::reader::sections::Shortens), [`Rejects`](crate::definitions::base::decoding::Rejects), [`section`](crate::definitions::reader::sections::section), [`padded`](crate::definitions::base::numbers::Mode). [How to read clauses](crate::definitions).
-pub(crate) fn shorten_in<A: Allocator + Copy, B: Sink>(
+/// Definitions: [`ShortensIn`](crate::definitions::reader::sections::ShortensIn), [`Rejects`](crate::definitions::base::decoding::Rejects), [`section`](crate::definitions::reader::sections::section), [`padded_of`](crate::definitions::base::numbers::padded_of). [How to read clauses](crate::definitions).
+pub(crate) fn shorten_in<A: Allocator + Copy, G: Grammar, B: Sink>(
     alloc: A,
     kind: SectionKind,
     bytes: &[u8],
     sink: &mut B,
 ) -> Result<usize, ReadFault> {
-    let (sized, rest) = <&[u8] as Readable<'_, A, Padded>>::read(bytes, alloc)?;
     let start = sink.len();
-    match shorten_sized(kind, sized, alloc, sink) {
-        Ok(()) => Ok(bytes.len() - rest.len()),
+    match minimize_section::<A, G, _>(kind, bytes, alloc, sink) {
+        Ok(rest) => Ok(bytes.len() - rest.len()),
         Err(error) => {
             sink.truncate(start);
             Err(error.cause())

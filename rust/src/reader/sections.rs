@@ -1,7 +1,9 @@
 // Written by tools/to-rust from crates/wasm_reader/src/sections.rt: change that.
 // Iterates over the sections of a module.
 
+use crate::vec::Sink;
 use crate::reader::kinds::{Items, SectionKind, read_content, read_number};
+use crate::reader::minimal::minimize_content;
 use crate::reader::modules::{HEADER, read_header};
 use crate::reader::read_error::ReadError;
 use crate::reader::standing::{Standing, read_standing};
@@ -434,6 +436,64 @@ impl<'a, A: Allocator + Copy> Section<'a, A> {
                 self.standing.payload.len(),
                 self.range().end,
             )),
+        }
+    }
+    /// Appends the payload in its minimal encoding. In the standard's grammar a nullable reference
+    /// to an abstract type has one byte, for example. On an error, the bytes of the sink are
+    /// unchanged.
+    ///
+    /// Core items are decoded one by one, and not kept; so are the subsections of a linking
+    /// section. The items of other custom sections are allocated, and then dropped.
+    ///
+    /// # Errors
+    ///
+    /// An error but `Memory` means that the payload does not decode as the section's kind.
+    ///
+    /// # Examples
+    ///
+    /// ```
+    /// use dolzhytik::fallible::Global;
+    /// use dolzhytik::reader::Sections;
+    ///
+    /// // The type of a function that takes an `anyref`, in two bytes.
+    /// let module = b"\0asm\x01\0\0\0\x01\x06\x01\x60\x01\x63\x6E\x00";
+    /// let section = Sections::new(Global, module)?.next().expect("a section")?;
+    /// let mut payload = vec![];
+    /// section.minimize(&mut payload)?;
+    /// assert_eq!(payload, [0x01, 0x60, 0x01, 0x6E, 0x00]);
+    /// # Ok::<(), dolzhytik::reader::ReadError>(())
+    /// ```
+    ///
+    /// # Proved
+    ///
+    /// - After `Ok`, `found`: The bytes as a whole decode to a value in this grammar, and the call appends the minimal encoding of the value in this grammar.
+    /// - After an error, `err`: the bytes of the sink are unchanged.
+    /// - After an error, `none`: the bytes as a whole are no such encoding, unless the cause is `Memory`.
+    /// - After an error, `within`: the offset of the error is in the payload.
+    ///
+    /// ```text
+    /// ensures found { OnOk result
+    ///     (MinimizesWhole admitted
+    ///         (content (section_kind_of self.now.section)) self.now.section.payload
+    ///         sink.old.items sink.new.items) }
+    /// ensures err { OnErr result (sink.new.items ≡ sink.old.items) }
+    /// ensures none { IfErr result
+    ///     (λ e. e.cause ≢ Memory → RejectsWhole
+    ///         (content (section_kind_of self.now.section)) standard self.now.section.payload)
+    ///     }
+    /// ensures within { IfErr result (λ e. IsInPayload self.now e.offset) }
+    /// ```
+    ///
+    /// Definitions: [`MinimizesWhole`](crate::definitions::base::minimal::MinimizesWhole), [`admitted`](crate::definitions::base::numbers::Grammar), [`content`](crate::definitions::reader::kinds::content), [`section_kind_of`](crate::definitions::reader::outlines::section_kind_of), [`RejectsWhole`](crate::definitions::base::continuing::RejectsWhole), [`standard`](crate::definitions::base::numbers::Mode), [`IsInPayload`](crate::definitions::reader::iterating::IsInPayload). [How to read clauses](crate::definitions).
+    pub fn minimize<B: Sink>(&self, sink: &mut B) -> Result<(), ReadError> {
+        let start = sink.len();
+        let payload = self.standing.payload;
+        match minimize_content::<A, Standard, _>(self.standing.kind(), payload, self.alloc, sink) {
+            Ok(()) => Ok(()),
+            Err(error) => {
+                sink.truncate(start);
+                Err(ReadError::located(error, payload.len(), self.range().end))
+            }
         }
     }
 }

@@ -7,7 +7,7 @@ use crate::reader::modules::HEADER;
 use crate::reader::sections::Sections;
 use crate::reader::standing::Standing;
 use crate::alloc::{AllocError, Allocator};
-use crate::base::ReadFault;
+use crate::base::{ReadFault, Standard};
 
 /// The treatment of custom sections that hold offsets.
 ///
@@ -255,7 +255,7 @@ fn append_size_prefixed<A: Allocator + Copy, B: Sink>(
     section: &Standing<'_>,
     sink: &mut B,
 ) -> Result<How, ReadFault> {
-    match shorten_in(alloc, section.kind(), section.sized, sink) {
+    match shorten_in::<A, Standard, _>(alloc, section.kind(), section.sized, sink) {
         Ok(_) => Ok(How::Minimal),
         Err(ReadFault::Memory) => Err(ReadFault::Memory),
         Err(_) => match sink.extend_from_slice(section.sized) {

@@ -513,7 +513,7 @@ impl<'a, A: Allocator> Layout for Segment<'a, A> {
 ///
 /// Definitions: [`HasIndex`](crate::definitions::immediates::immediate_formats::HasIndex). [How to read clauses](crate::definitions).
 #[inline]
-fn has_index<G: Grammar>(memory: u32) -> bool {
+pub(crate) fn has_index<G: Grammar>(memory: u32) -> bool {
     memory != 0 || G::is_standard()
 }
 

@@ -8,10 +8,10 @@ use crate::code::Expression;
 
 /// The flag of an element segment, as its bits.
 #[derive(Clone, Copy, Debug)]
-struct ElementFlag {
-    not_active: bool,
-    second: bool,
-    expressions: bool,
+pub(crate) struct ElementFlag {
+    pub(crate) not_active: bool,
+    pub(crate) second: bool,
+    pub(crate) expressions: bool,
 }
 
 impl ElementFlag {
@@ -24,7 +24,7 @@ impl ElementFlag {
     /// ```
     ///
     /// Definitions: [`flag_code`](crate::definitions::sections::elements::flag_code), [`element_flag_view`](crate::definitions::sections::elements::element_flag_view). [How to read clauses](crate::definitions).
-    fn code(self) -> u32 {
+    pub(crate) fn code(self) -> u32 {
         let not_active = if self.not_active { 1 } else { 0 };
         let second = if self.second { 2 } else { 0 };
         let expressions = if self.expressions { 4 } else { 0 };
@@ -40,7 +40,7 @@ impl ElementFlag {
     /// ```
     ///
     /// Definitions: [`has_kind`](crate::definitions::sections::elements::has_kind), [`element_flag_view`](crate::definitions::sections::elements::element_flag_view). [How to read clauses](crate::definitions).
-    fn has_kind(self) -> bool {
+    pub(crate) fn has_kind(self) -> bool {
         self.not_active || self.second
     }
 }

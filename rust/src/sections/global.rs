@@ -82,7 +82,7 @@ impl GlobalType {
     ///
     /// Definitions: [`global_code`](crate::definitions::sections::globals::global_code), [`global_flags`](crate::definitions::sections::globals::global_flags). [How to read clauses](crate::definitions).
     #[inline]
-    fn flags(&self) -> u8 {
+    pub(crate) fn flags(&self) -> u8 {
         where_set(self.mutable, 0x01) + where_set(self.shared, 0x02)
     }
 }

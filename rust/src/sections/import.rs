@@ -525,7 +525,7 @@ impl<'a, A: Allocator + Copy, G: Grammar> Readable<'a, A, G> for ImportCompact<'
 /// ```
 ///
 /// Definitions: [`Rejects`](crate::definitions::base::decoding::Rejects), [`prefixed`](crate::definitions::base::formats::prefixed), [`group`](crate::definitions::sections::imports::group), [`padded_of`](crate::definitions::base::numbers::padded_of). [How to read clauses](crate::definitions).
-fn group_kind<G: Grammar>(bytes: &[u8]) -> Option<(u8, &[u8])> {
+pub(crate) fn group_kind<G: Grammar>(bytes: &[u8]) -> Option<(u8, &[u8])> {
     match bytes {
         [0x00, kind @ 0x7E..=0xFF, rest @ ..] => Some((*kind, rest)),
         _ => None,

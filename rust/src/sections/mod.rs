@@ -4,7 +4,7 @@
 //!
 //! Each section has a builder. The crate also decodes their items (`Readable` of
 //! `wasm_base`), skips them (`Skip`), and writes decoded ones in their minimal encoding
-//! (`Shorten`).
+//! (`Shorten`), or appends it while it decodes them (`Minimize`).
 
 pub(crate) mod counted_section;
 pub(crate) mod data;
@@ -17,6 +17,7 @@ pub(crate) mod global;
 pub(crate) mod import;
 pub mod laws;
 pub(crate) mod memory;
+pub(crate) mod minimize;
 pub(crate) mod start;
 pub(crate) mod table;
 pub(crate) mod tag;

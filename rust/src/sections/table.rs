@@ -120,7 +120,7 @@ impl TableType {
     ///
     /// Definitions: [`flags_code`](crate::definitions::sections::flags::flags_code), [`table_flags`](crate::definitions::sections::tables::table_flags). [How to read clauses](crate::definitions).
     #[inline]
-    fn flags(&self) -> u8 {
+    pub(crate) fn flags(&self) -> u8 {
         where_set(self.maximum.is_some(), 0x01)
             + where_set(self.shared, 0x02)
             + where_set(self.table64, 0x04)

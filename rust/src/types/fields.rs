@@ -7,7 +7,7 @@ use crate::base::{DecodeError, Grammar, Layout, ReadFault, Readable, ValType};
 
 /// The mutability of a field.
 #[derive(Clone, Copy)]
-struct Mutable(bool);
+pub(crate) struct Mutable(pub(crate) bool);
 
 /// # Defined
 ///

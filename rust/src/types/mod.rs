@@ -8,6 +8,7 @@
 pub(crate) mod fields;
 pub(crate) mod items;
 pub mod laws;
+pub(crate) mod minimize;
 pub(crate) mod shapes;
 pub(crate) mod type_section;
 pub(crate) mod types;

@@ -540,7 +540,7 @@ impl Encode for StorageType {
 ///
 /// Definitions: [`mutable_code`](crate::definitions::types::rec_types::mutable_code). [How to read clauses](crate::definitions).
 #[inline]
-fn mutability(mutable: bool) -> u8 {
+pub(crate) fn mutability(mutable: bool) -> u8 {
     if mutable { 0x01 } else { 0x00 }
 }
 

@@ -74,8 +74,7 @@ fn what_relocations_and_symbols_name_stays() {
         &of_debug,
     ];
     check(&sections, 2, &expected);
-    // A symbol of kind 3 without flags, which is section 1. Such a linking section is kept, since
-    // it does not decode in the grammar of the builders.
+    // A symbol of kind 3 without flags, which is section 1. Builders don't write such a section.
     let debug = custom(".debug_info", "ff");
     let linking = custom("linking", "02 08 04 01 03 00 01");
     let sections = [PADDED[1], PADDED_DEBUG, PADDED_NAME, PADDED[3], &linking];
@@ -85,7 +84,7 @@ fn what_relocations_and_symbols_name_stays() {
         &[SHORT[1], &debug, SHORT_NAME, PADDED[3]],
     );
     let expected = [SHORT[1], PADDED_DEBUG, SHORT_NAME, PADDED[3], &linking];
-    check(&sections, 3, &expected);
+    check(&sections, 2, &expected);
     // Relocations of a section that the module lacks.
     let lacking = custom("reloc.x", "ffffffff0f 00");
     check(&[PADDED[1], &lacking], 0, &[SHORT[1], &lacking]);

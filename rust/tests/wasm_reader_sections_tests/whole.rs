@@ -4,11 +4,12 @@
 use dolzhytik::fallible::Vec;
 use crate::checks::check_bytes;
 use crate::examples::read_back::{shortened_twice, smaller_module};
+use crate::examples::{minimal_body, minimal_payload, one_byte_reference};
 use dolzhytik::fallible::Global;
 use crate::host::Abort;
 use crate::test_support::{MOST, Refusing};
 use dolzhytik::fallible::Result;
-use dolzhytik::reader::{ModuleFault, Offsets, Outlined, ReadFault, outline, shorten_module};
+use dolzhytik::reader::{ModuleFault, Offsets, Outlined, ReadFault, Sections, outline, shorten_module};
 
 /// A type section, a function section, bytes that are not a memory section, a code section and a
 /// name section, with padded numbers.
@@ -85,6 +86,53 @@ static SAVED: [(&[u8], &[u8]); 3] = [
         \x00\x18\x13external_debug_info\x03a.w",
         b"\0asm\x01\0\0\0\x01\x04\x01\x60\x00\x00\x03\x02\x01\x00\x0A\x04\x01\x02\x00\x0B\
         \x00\x18\x13external_debug_info\x03a.w",
+    ),
+];
+
+/// Sections after the header that only the standard's grammar has, and their minimal encodings: a
+/// parameter `anyref` of two bytes, an empty list of supertypes, an imported table and global, a
+/// table with a value, a global, an element segment, a memory argument and a data segment with
+/// memory 0, and the data segments of a linking section.
+static STANDARD: [(&[u8], &[u8]); 10] = [
+    (
+        b"\x01\x06\x01\x60\x01\x63\x6E\x00",
+        b"\x01\x05\x01\x60\x01\x6E\x00",
+    ),
+    (
+        b"\x01\x06\x01\x4F\x00\x60\x00\x00",
+        b"\x01\x04\x01\x60\x00\x00",
+    ),
+    (
+        b"\x02\x0A\x01\x01m\x01t\x01\x63\x6E\x00\x00",
+        b"\x02\x09\x01\x01m\x01t\x01\x6E\x00\x00",
+    ),
+    (
+        b"\x02\x09\x01\x01m\x01g\x03\x63\x6E\x00",
+        b"\x02\x08\x01\x01m\x01g\x03\x6E\x00",
+    ),
+    (
+        b"\x04\x0A\x01\x40\x00\x63\x6E\x00\x00\xD0\x6E\x0B",
+        b"\x04\x09\x01\x40\x00\x6E\x00\x00\xD0\x6E\x0B",
+    ),
+    (
+        b"\x06\x07\x01\x63\x71\x00\xD0\x71\x0B",
+        b"\x06\x06\x01\x71\x00\xD0\x71\x0B",
+    ),
+    (
+        b"\x09\x05\x01\x05\x63\x6E\x00",
+        b"\x09\x04\x01\x05\x6E\x00",
+    ),
+    (
+        b"\x0A\x0B\x01\x09\x00\x41\x00\x28\x42\x00\x04\x1A\x0B",
+        b"\x0A\x0A\x01\x08\x00\x41\x00\x28\x02\x04\x1A\x0B",
+    ),
+    (
+        b"\x0B\x08\x01\x02\x00\x41\x00\x0B\x01a",
+        b"\x0B\x07\x01\x00\x41\x00\x0B\x01a",
+    ),
+    (
+        b"\x00\x11\x07linking\x82\x00\x05\x05\x01\x01a\x00\x00",
+        b"\x00\x10\x07linking\x02\x05\x05\x01\x01a\x00\x00",
     ),
 ];
 
@@ -170,6 +218,59 @@ fn modules() {
         check_shortened(&rt, &heap, SHORTEST, offsets, SHORTEST, 1);
         check_shortened(&rt, &heap, &CODE[..8], offsets, &CODE[..8], 0);
     }
+}
+
+/// Checks the minimal payload of the first section. If a request for memory fails, the sink is
+/// empty.
+fn check_payload(rt: &impl Abort, heap: &Refusing<Global>, module: &[u8], payload: &[u8]) {
+    for nth in 1..MOST {
+        heap.refuse(0);
+        let mut sections = Sections::new(heap, module).expect("a module");
+        let section = sections.next().expect("a section").expect("accepted");
+        let mut sink = Vec::new(heap);
+        heap.refuse(nth);
+        let answer = minimal_payload(&section, &mut sink);
+        if heap.is_waiting() {
+            assert!(rt; answer.is_ok(), "a payload");
+            check_bytes(rt, &sink, payload);
+            return;
+        }
+        assert!(rt; matches!(answer, Err(error) if error.cause == ReadFault::Memory), "another answer than want of memory");
+        check_bytes(rt, &sink, b"");
+    }
+    panic!(rt; "no call was granted")
+}
+
+/// Modules are minimized in the standard's grammar.
+#[test]
+fn modules_of_the_standard() {
+    let rt = crate::host::HostRuntime;
+    let heap = Refusing::new(rt.alloc());
+    for (padded, minimal) in STANDARD {
+        let module = both(rt.alloc(), &CODE[..8], padded).expect("accepted");
+        let shortest = both(rt.alloc(), &CODE[..8], minimal).expect("accepted");
+        check_shortened(&rt, &heap, &module, Offsets::Refuse, &shortest, 0);
+        check_shortened(&rt, &heap, &shortest, Offsets::Refuse, &shortest, 0);
+        check_payload(&rt, &heap, &module, &minimal[2..]);
+    }
+}
+
+/// The callers that prove facts about minimized values.
+#[test]
+fn smaller_values() {
+    let rt = crate::host::HostRuntime;
+    for bytes in [b"\x63\x6E\x2A".as_slice(), b"\x6E\x2A"] {
+        let mut sink = Vec::new(rt.alloc());
+        assert!(rt; one_byte_reference(rt.alloc(), bytes, &mut sink).is_ok(), "a type");
+        check_bytes(&rt, &sink, b"\x6E");
+    }
+    let mut sink = Vec::new(rt.alloc());
+    assert!(rt; one_byte_reference(rt.alloc(), b"\x7F", &mut sink).is_err(), "no reference");
+    let padded = b"\x80\x00\x20\x81\x00\x0B";
+    assert!(rt; minimal_body(rt.alloc(), padded, &mut sink).is_ok(), "a body");
+    check_bytes(&rt, &sink, b"\x04\x00\x20\x01\x0B");
+    assert!(rt; minimal_body(rt.alloc(), b"\x00\x20", &mut sink).is_err(), "no body");
+    check_bytes(&rt, &sink, b"\x04\x00\x20\x01\x0B");
 }
 
 /// The callers that prove facts about minimized modules.

@@ -4,13 +4,15 @@ A function is proved from its own body and proof files, from the contracts of it
 definitions and lemmas. Each lemma is proved too, so none makes a wrong body pass: lemmas are left
 out. So the checksum covers exactly
 - the mutant, and the mutated function with its proof files, and those of its cycle;
-- its crate's line of crates.txt, its definitions, and its sources without `#[inline]` and the
-  bodies of other functions, all without comments and blank lines;
-- the same of each crate below;
+- of its crate and the crates below, the definitions and the items of sources that these name, and
+  those that these name in turn (reached.py), without comments, blank lines, `#[inline]` and the
+  bodies of functions;
+- its crate's line of crates.txt, and the attributes of its root;
 - the kit's logic, and the code that reads what a check prints (judging.py).
 If a mutant changes a constant, a table, a definition or several places, the checksum covers all
-bodies and the proof files of all functions of its crate. It has no machine, time or absolute path,
-so a committed verdict holds wherever these contents are the same.
+definitions, sources and proof files of functions of its crate, and the definitions and interfaces
+of the crates below. It has no machine, time or absolute path, so a committed verdict holds wherever
+these contents are the same.
 """
 from __future__ import annotations
 
@@ -25,6 +27,7 @@ from dataclasses import dataclass
 from ..rattle import lexer
 from ..rattle.functions import Function, functions_of
 from ..repository import text_of
+from . import reached
 from .edits import Edit
 
 # The proof files of one function. No other function cites them.
@@ -130,5 +133,24 @@ def logic() -> str:
 
 def sum_of(crate: CrateFolders, edit: Edit, judging: str) -> str:
     """Returns the checksum of a mutant; `judging` is the source of what decides of its verdict."""
-    own = of_function(crate.top, edit.target) if edit.target else whole(crate.top)
-    return checksum(logic(), judging, crate.uses, sum_of_interface(crate.top), [*map(sum_of_interface, crate.below)], edit.text, own)
+    if not edit.target:
+        interfaces = [sum_of_interface(crate.top), *map(sum_of_interface, crate.below)]
+        return checksum(logic(), judging, crate.uses, interfaces, edit.text, whole(crate.top))
+    own = of_function(crate.top, edit.target)
+    known = reached.universe((crate.top, *crate.below), bare)
+    changes = re.sub(r"(?m)^(?:file|old|new|after): ?", "", edit.text)
+    words = set().union(*map(reached.words_of, [changes, *own])) | known.keys_of(edit.target.path, edit.target.name)
+    imported = reached.imports(text_of(f"{crate.top}/{edit.target.path}"))
+    return checksum(logic(), judging, crate.uses, attributes(crate.top), edit.text, own, known.reached(os.path.basename(crate.top), edit.target.path, imported, words))
+
+
+@functools.lru_cache(maxsize=None)
+def attributes(top: str) -> list[str]:
+    """Returns the attributes of the root of a crate, such as the tactics of its proofs."""
+    return [it for path in files_below(f"{top}/src") for it in text_of(path).split("\n") if it.startswith("#![")]
+
+
+def forget() -> None:
+    """Forgets what was read, since files may have changed."""
+    for it in (sum_of_interface, attributes, reached.units_of, reached.universe):
+        it.cache_clear()

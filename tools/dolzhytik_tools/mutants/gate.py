@@ -44,7 +44,7 @@ class Gate:
 
     def record(self, name: str, tried: list[Edit]) -> None:
         """Records verdicts, but for those of files that changed while the prover ran."""
-        checksums.sum_of_interface.cache_clear()
+        checksums.forget()
         after = sums_of(self.repository, name, tried)
         labels = {it.label for edits in self.found[name].values() for it in edits}
         verdicts = {it.label: self.sums[it.label] if it.is_rejected else "" for it in tried if after[it.label] == self.sums[it.label]}

@@ -54,13 +54,61 @@ def reads_files_of_edits() -> bool:
 
 
 # A crate whose function `add` has a mutant, and one below it. Then changes of a file, and whether
-# the mutant's checksum must change.
+# the mutant's checksum must change: `add` names `one`, `STEP` and `Low`, and `?` calls `from`.
+LOW = """/// Adds one.
+pub fn one(n: u32) -> u32
+    ensures { result ≡ n + 1 }
+{
+    n + 1
+}
+
+pub fn two(n: u32) -> u32
+    ensures { result ≡ n + 2 }
+{
+    n + 2
+}
+
+fn more(n: u32) -> u32
+    ensures { result ≡ n + 3 }
+{
+    n + 3
+}
+"""
+TOP = """use low::one;
+const STEP: u32 = 1;
+const SPARE: u32 = 1;
+pub struct Fault;
+
+impl From<u8> for Fault {
+    fn from(code: u8) -> Fault
+        ensures { result ≡ fault }
+    {
+        Fault
+    }
+}
+
+#[cycle(sums)]
+pub fn add(n: u32) -> Result<u32, Fault>
+    ensures { result ≡ n + Low }
+{
+    n + one(STEP)?
+}
+
+fn other(n: u32) -> u32 {
+    n // same
+}
+
+#[cycle(sums)]
+fn more(n: u32) -> u32 {
+    add(n)
+}
+"""
 SMALL_FILES = {
-    "low/src/lib.rt": "/// Adds one.\npub fn one(n: u32) -> u32\n    ensures { result ≡ n + 1 }\n{\n    n + 1\n}\n",
-    "low/specs/Lib.antt": "-- A number.\nabbrev Low := 1\n",
+    "low/src/lib.rt": LOW,
+    "low/specs/Lib.antt": "-- A number.\nabbrev Low := Named\n\nabbrev Named := 1\n\nabbrev Spare := 3\n",
     "low/proofs/one/Answers.antt": "one\n",
     "low/proofs/Laws.antt": "a lemma\n",
-    "top/src/lib.rt": "const STEP: u32 = 1;\n\n#[cycle(sums)]\npub fn add(n: u32) -> u32\n    ensures { result ≡ n }\n{\n    n\n}\n\nfn other(n: u32) -> u32 {\n    n // same\n}\n\n#[cycle(sums)]\nfn more(n: u32) -> u32 {\n    add(n)\n}\n",
+    "top/src/lib.rt": TOP,
     "top/proofs/add/Answers.antt": "add\n",
     "top/proofs/other/Answers.antt": "other\n",
     "top/proofs/+sums/Answers.antt": "sums\n",
@@ -70,17 +118,23 @@ SMALL_CHANGES = [
     ("low/src/lib.rt", "    n + 1\n", "    1 + n\n", False),
     ("low/src/lib.rt", "/// Adds one.", "/// Adds 1.", False),
     ("low/src/lib.rt", "≡ n + 1", "≡ 1 + n", True),
-    ("low/specs/Lib.antt", "1", "2", True),
+    ("low/src/lib.rt", "≡ n + 2", "≡ 2 + n", False),
+    ("low/src/lib.rt", "≡ n + 3", "≡ 3 + n", False),
+    ("low/specs/Lib.antt", "Named := 1", "Named := 2", True),
+    ("low/specs/Lib.antt", "Spare := 3", "Spare := 4", False),
     ("low/specs/Lib.antt", "A number", "One", False),
     ("low/proofs/one/Answers.antt", "one", "two", False),
     ("low/proofs/Laws.antt", "lemma", "law", False),
     ("top/src/lib.rt", "// same", "// the same", False),
     ("top/src/lib.rt", "{\n    n //", "{\n    0 //", False),
-    ("top/src/lib.rt", "fn other(n: u32)", "fn other(n: u64)", True),
-    ("top/src/lib.rt", "fn other(n: u32)", "#[inline]\nfn other(n: u32)", False),
+    ("top/src/lib.rt", "fn other(n: u32)", "fn other(n: u64)", False),
+    ("top/src/lib.rt", "fn more(n: u32)", "fn more(n: u64)", True),
+    ("top/src/lib.rt", "pub fn add", "#[inline]\npub fn add", False),
     ("top/src/lib.rt", "STEP: u32 = 1", "STEP: u32 = 2", True),
-    ("top/src/lib.rt", "≡ n }\n{\n    n\n", "≡ n }\n{\n    n + 0\n", True),
-    ("top/src/lib.rt", "≡ n }", "≡ n + 0 }", True),
+    ("top/src/lib.rt", "SPARE: u32 = 1", "SPARE: u32 = 2", False),
+    ("top/src/lib.rt", "≡ fault", "≡ another", True),
+    ("top/src/lib.rt", "    n + one(STEP)", "    one(STEP) + n", True),
+    ("top/src/lib.rt", "≡ n + Low", "≡ Low + n", True),
     ("top/proofs/add/Answers.antt", "add", "sum", True),
     ("top/proofs/other/Answers.antt", "other", "others", False),
     ("top/proofs/+sums/Answers.antt", "sums", "all", True),

@@ -37,13 +37,18 @@ def turn_sink(source: Source, place: int, angle: int, end: int) -> None:
         if not is_word(source.tokens[at]) or bound is None or source.tokens[source.skip(bound)] not in (',', '>'):
             continue
         parameter = source.tokens[at]
-        uses = [u for u in source.solid_places(place, end) if source.tokens[u] == parameter and u != at]
+        uses = [u for u in source.solid_places(place, end) if is_use(source, u, parameter) and u != at]
         sinks = [sink_type(source, u) for u in uses]
         if uses and all(sinks):
             source.edit(bound - 1, bound, 'Sink', 'sink')
             for it in sinks:
                 source.edit(it.begin, it.end, parameter, 'sink')
             source.has_sinks = True
+
+
+def is_use(source: Source, at: int, parameter: str) -> bool:
+    """Returns whether the token is the parameter, and not the last name of a path."""
+    return source.tokens[at] == parameter and source.tokens[max(at - 2, 0):at] != [':', ':']
 
 
 def sink_type(source: Source, use: int) -> Span | None:

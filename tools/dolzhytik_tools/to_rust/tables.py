@@ -48,8 +48,10 @@ PUBLIC_LAWS = {'wasm_reader': 'reader::laws'}
 # library's module has them in a module of its own, which `reader` exports.
 READERS = {
     'wasm_base': {
-        'DecodeError', 'Dropped', 'Grammar', 'Layout', 'Padded', 'ReadFault', 'Readable', 'Shorten', 'SizePrefixed', 'Skip',
-        'Standard', 'append_all', 'prefix_size_since', 'read_before', 'read_optional', 'read_to_end', 'read_whole', 'skip_many',
+        'Canonical', 'DecodeError', 'Dropped', 'Grammar', 'Layout', 'Minimize', 'Padded', 'ReadFault', 'Readable', 'Shared',
+        'Shorten', 'SizePrefixed', 'Skip', 'Standard', 'append_all', 'minimize_many', 'minimize_shared', 'minimize_to_end',
+        'minimize_value', 'minimize_whole', 'prefix_size_since', 'read_before', 'read_optional', 'read_to_end', 'read_whole',
+        'skip_many',
     },
     'wasm_types': {'SubItem', 'TypeEntry'},
     'wasm_insn': {'Arg', 'Plain'},
@@ -59,7 +61,7 @@ READERS = {
 }
 READING = 'reading'
 # The names that only libraries above use: private in the package.
-BETWEEN = {'wasm_base': {'read_index', 'read_val_after'}, 'wasm_insn': {'append_instruction', 'read_instruction_into'}}
+BETWEEN = {'wasm_base': {'read_index', 'read_val_after'}, 'wasm_insn': {'read_instruction_into'}}
 # Hand-written pages below rust/src: each is in place of the documentation of a library's module.
 PAGES = {'wasm_reader': 'reader.md'}
 # The libraries whose private items the root of the package uses, such as the first bytes of

@@ -4,9 +4,7 @@ use crate::files::Input;
 use crate::sections::Section;
 use crate::shorten::savings::Saving;
 use dolzhytik::fallible::{self, Encode, Global};
-use dolzhytik::reader::{
-    Items, ReadError, ReadFault, SectionKind, encode_items, read_section, shorten_body,
-};
+use dolzhytik::reader::{Items, ReadError, ReadFault, encode_items};
 
 /// What is written for a section.
 pub enum Written {
@@ -114,27 +112,11 @@ fn written(section: &Section<'_>, payload: fallible::Vec<u8>) -> Result<Written,
     })
 }
 
-/// Returns the minimal encoding of the payload, as `shorten` encodes it.
+/// Returns the minimal encoding of the payload.
 fn minimal_payload(section: &Section<'_>) -> Result<fallible::Vec<u8>, ReadFault> {
     let mut payload = fallible::Vec::with_capacity(Global, section.payload().len())?;
-    let kind = section.kind().unwrap_or(SectionKind::Raw);
-    if kind == SectionKind::Bodies {
-        append_bodies(section, &mut payload)?;
-    } else {
-        // The bytes after the id.
-        let (items, _) = read_section(Global, kind, &section.bytes()[1..])?;
-        encode_items(&items, &mut payload)?;
-    }
+    section
+        .minimize(&mut payload)
+        .map_err(|error| error.cause)?;
     Ok(payload)
-}
-
-/// Appends the minimal encodings of the bodies of a code section, and keeps none of them.
-fn append_bodies(section: &Section<'_>, sink: &mut fallible::Vec<u8>) -> Result<(), ReadFault> {
-    let bodies = section.bodies().map_err(|error| error.cause)?;
-    bodies.left().encode(sink)?;
-    for body in bodies {
-        let body = body.map_err(|error| error.cause)?;
-        shorten_body(body.bytes(), Global, sink)?;
-    }
-    Ok(())
 }

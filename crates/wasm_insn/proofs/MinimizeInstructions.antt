@@ -1,0 +1,119 @@
+-- This file proves that the minimizer of an instruction appends the minimal encodings of its opcode
+-- and of its arguments.
+use Rattle.wasm_base.proofs.Words.{Grammar, builders, admitted, minimal, padded_of, ◌≡◌, ◌≢◌, ℕ, ◌+◌, ◌<◌, ◌≤◌, List, [], ◌∷◌, ◌++◌, length, get_or, take, Some, refl, sym, ap, subst, ◌∙◌, append_assoc, append-nil, take_more, take_all}
+use Rattle.wasm_base.proofs.Words.{Mode, u32, Decodes}
+use Rattle.wasm_base.specs.Numbers.{minimal_of}
+use Rattle.wasm_base.specs.Minimal.{Minimizes}
+use Rattle.wasm_base.proofs.GrammarLaws.{AreMinimalInBoth, minimal_in, u32_both, s32_both, s64_both, little_endian_both, vector_both, byte_both, raw_bytes_both, fixed_both, such_both, when_both, mapped_both, tagged_both, vec_both}
+use Rattle.wasm_base.proofs.MinimizeLaws.{minimized_as, mapped_minimizes, then_minimizes, appended_then}
+use Rattle.wasm_base.proofs.TightTypes.{heap_both}
+use Rattle.wasm_immediates.proofs.MinimalImmediates.{mem_arg_both, ordering_both, catch_both, handle_both}
+use Rattle.wasm_insn.specs.declared.op.Op.{Op}
+use Rattle.wasm_insn.specs.declared.op.Op.TheVariants.{Byte, Prefixed}
+use Rattle.wasm_insn.specs.declared.op.Shape.{Shape}
+use Rattle.wasm_insn.specs.declared.part.Part.{Part}
+use Rattle.wasm_insn.specs.{parts_of, op_encoding, Argument, argument_encoding, part_of, part, arguments, arguments_after, cons, opcode, op_after, is_prefix, shape_of, plain_of, instruction, table}
+use Rattle.wasm_insn.specs.Plain.{float32_of, float64_of}
+use Rattle.wasm_insn.specs.Arguments.{unsigned, signed32, signed64, vector, memory, lane, lanes, heap, ordering, labels, catches, handles, flag}
+use Rattle.wasm_insn.proofs.DecodeArguments.{HasArguments, arguments_start, arguments_step, arguments_done}
+use Rattle.wasm_insn.proofs.DecodePlain.{argument_is, opcode_is}
+use Rattle.wasm_insn.proofs.PlainLaws.{argument_encodes, opcode_encodes}
+use Rattle.wasm_insn.specs.declared.part.Part.TheVariants as parts
+
+-- ---- one argument
+
+part_both : (p : Part) → p ≢ parts.Block → p ≢ parts.Types → AreMinimalInBoth (part p)
+part_both parts.Unsigned b t = mapped_both unsigned u32_both
+part_both parts.Signed32 b t = mapped_both signed32 s32_both
+part_both parts.Signed64 b t = mapped_both signed64 s64_both
+part_both parts.Float32 b t = mapped_both float32_of (little_endian_both 4)
+part_both parts.Float64 b t = mapped_both float64_of (little_endian_both 8)
+part_both parts.Vector b t = mapped_both vector vector_both
+part_both parts.Memory b t = mapped_both memory mem_arg_both
+part_both parts.Lane b t = mapped_both lane byte_both
+part_both parts.Lanes b t = mapped_both lanes (raw_bytes_both 16)
+part_both parts.Block b t = absurd (b refl)
+part_both parts.Heap b t = mapped_both heap heap_both
+part_both parts.Ordering b t = mapped_both ordering ordering_both
+part_both parts.Labels b t = mapped_both labels (vec_both u32_both)
+part_both parts.Catches b t = mapped_both catches (vec_both catch_both)
+part_both parts.Types b t = absurd (t refl)
+part_both parts.Handles b t = mapped_both handles (vec_both handle_both)
+part_both parts.Flag b t = mapped_both flag (such_both (λ b. b < 4) byte_both)
+
+-- A decoded argument is encoded again.
+pub rare_minimizes : (w : Grammar) (p : Part) (x : Argument) (bytes rest old new : List ℕ) → p ≢ parts.Block → p ≢ parts.Types → Decodes (part p) (padded_of w) bytes x rest → new ≡ old ++ argument_encoding x → Minimizes w (part p) bytes rest old new
+rare_minimizes w p x bytes rest old new b t h e =
+    let is = argument_is p (padded_of w) h.front x h.encodes in
+    let encodes : part p minimal (argument_encoding x) x = subst (λ q. part q minimal (argument_encoding x) x) is.2 (subst (λ y. part (part_of x) minimal (argument_encoding x) y) is.1 (argument_encodes x is.0)) in
+    minimized_as w (part p) x bytes rest old new (argument_encoding x) h (minimal_in w x (argument_encoding x) (part_both p b t) encodes) e
+
+-- The argument has this type.
+pub part_minimizes : {wanted : Part} (w : Grammar) (p : Part) (bytes rest old new : List ℕ) → wanted ≡ p → Minimizes w (part p) bytes rest old new → Minimizes w (part wanted) bytes rest old new
+part_minimizes w p bytes rest old new e h = subst (λ q. Minimizes w (part q) bytes rest old new) (sym e) h
+
+-- ---- a loop over the types of arguments
+
+arguments_push : (ps : List Part) (p : Part) (m : Mode) (s t : List ℕ) (xs : List Argument) (x : Argument) → arguments ps m s xs → part p m t x → arguments (ps ++ p ∷ []) m (s ++ t) (xs ++ x ∷ [])
+arguments_push [] p m s t xs x h g = ((x, []), sym (ap (λ z. z ++ x ∷ []) h.1), record { front = t; back = []; joined = ap (λ z. z ++ t) h.0 ∙ sym (append-nil t); first = g; second = (refl, refl) })
+arguments_push (q ∷ ps) p m s t xs x h g =
+    let k = h.2 in
+    let more = arguments_push ps p m k.back t h.0.1 x k.second g in
+    ((h.0.0, h.0.1 ++ x ∷ []), ap (λ z. z ++ x ∷ []) h.1, record { front = k.front; back = k.back ++ t; joined = ap (λ z. z ++ t) k.joined ∙ append_assoc k.front k.back t; first = k.first; second = more })
+
+-- The state after the first `k` arguments.
+pub record HasMinimizedArguments (w : Grammar) (ps : List Part) (k : ℕ) (bytes rest old new : List ℕ) : Type 0 where
+  pub values : List Argument
+  pub read : HasArguments ps (padded_of w) k bytes values rest
+  pub encoding : List ℕ
+  pub encodes : arguments (take k ps) (minimal_of w) encoding values
+  pub appended : new ≡ old ++ encoding
+
+module _ {w : Grammar} (ps : List Part) (bytes : List ℕ) where
+  pub minimized_arguments_start : (old : List ℕ) → HasMinimizedArguments w ps 0 bytes bytes old old
+  minimized_arguments_start old = record { values = []; read = arguments_start ps bytes [] refl; encoding = []; encodes = (refl, refl); appended = sym (append-nil old) }
+
+  pub minimized_arguments_step : (k : ℕ) (d : Part) (rest after old middle new : List ℕ) → k < length ps → HasMinimizedArguments w ps k bytes rest old middle → Minimizes w (part (get_or ps k d)) rest after middle new → HasMinimizedArguments w ps (k + 1) bytes after old new
+  minimized_arguments_step k d rest after old middle new l h g = record {
+    values = h.values ++ g.value ∷ [];
+    read = arguments_step ps bytes k d rest after h.values g.value l h.read g.decoded;
+    encoding = h.encoding ++ g.encoding;
+    encodes = subst (λ qs. arguments qs (minimal_of w) (h.encoding ++ g.encoding) (h.values ++ g.value ∷ [])) (sym (take_more ps k d l)) (arguments_push (take k ps) (get_or ps k d) (minimal_of w) h.encoding g.encoding h.values g.value h.encodes g.encodes);
+    appended = appended_then h.encoding g.encoding old middle new h.appended g.appended;
+  }
+
+  pub minimized_arguments_done : (k : ℕ) (rest old new : List ℕ) → length ps ≤ k → HasMinimizedArguments w ps k bytes rest old new → Minimizes w (arguments ps) bytes rest old new
+  minimized_arguments_done k rest old new l h = record {
+    value = h.values;
+    decoded = arguments_done ps bytes k rest h.values l h.read;
+    encoding = h.encoding;
+    encodes = subst (λ qs. arguments qs (minimal_of w) h.encoding h.values) (take_all k ps l) h.encodes;
+    appended = h.appended;
+  }
+
+-- ---- by shape
+
+pub shape_minimizes : {w : Grammar} (shape : Shape) (ps : List Part) (bytes rest old new : List ℕ) → ps ≡ parts_of shape → Minimizes w (arguments ps) bytes rest old new → Minimizes w (arguments (parts_of shape)) bytes rest old new
+shape_minimizes {w = w} shape ps bytes rest old new e h = subst (λ qs. Minimizes w (arguments qs) bytes rest old new) e h
+
+-- A shape of no arguments.
+pub none_minimizes : (w : Grammar) (shape : Shape) (bytes old : List ℕ) → parts_of shape ≡ [] → Minimizes w (arguments (parts_of shape)) bytes bytes old old
+none_minimizes w shape bytes old e = subst (λ qs. Minimizes w (arguments qs) bytes bytes old old) (sym e) (record { value = []; decoded = record { front = []; split = refl; encodes = (refl, refl) }; encoding = []; encodes = (refl, refl); appended = sym (append-nil old) })
+
+-- A shape of one argument.
+pub one_minimizes : (w : Grammar) (shape : Shape) (p : Part) (bytes rest old new : List ℕ) → parts_of shape ≡ p ∷ [] → Minimizes w (part p) bytes rest old new → Minimizes w (arguments (parts_of shape)) bytes rest old new
+one_minimizes w shape p bytes rest old new e h = subst (λ qs. Minimizes w (arguments qs) bytes rest old new) (sym e) (mapped_minimizes cons (then_minimizes h (record { value = []; decoded = record { front = []; split = refl; encodes = (refl, refl) }; encoding = []; encodes = (refl, refl); appended = sym (append-nil new) })))
+
+-- ---- an instruction
+
+opcode_both : AreMinimalInBoth opcode
+opcode_both = tagged_both byte_both after
+  where
+    after : (b : ℕ) → AreMinimalInBoth (op_after b)
+    after b = when_both (is_prefix b) (mapped_both (Prefixed b) u32_both) (fixed_both [] (Byte b))
+
+pub instruction_minimizes : (w : Grammar) (op : Op) (shape : Shape) (bytes rest last old middle new : List ℕ) → Decodes opcode (padded_of w) bytes op rest → shape_of table op ≡ Some shape → middle ≡ old ++ op_encoding op → Minimizes w (arguments (parts_of shape)) rest last middle new
+    → Minimizes w (instruction table) bytes last old new
+instruction_minimizes w op shape bytes rest last old middle new h e m g =
+    let opcode_minimized = minimized_as w opcode op bytes rest old middle (op_encoding op) h (minimal_in w op (op_encoding op) opcode_both (opcode_encodes op (opcode_is (padded_of w) h.front op h.encodes))) m in
+    mapped_minimizes plain_of (then_minimizes {G = λ op. arguments_after (shape_of table op)} opcode_minimized (subst (λ s. Minimizes w (arguments_after s) rest last middle new) (sym e) g))
