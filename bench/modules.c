@@ -42,6 +42,12 @@ static const shape SHAPES[] = {
     SHAPE("function types", 1, 0, 1, "", "", "\x60\0\0", ""),
     SHAPE("empty structs", 1, 0, 1, "", "", "\x5F\0", ""),
     SHAPE("names", 0, 1, 1, "\4name", "", "\0\1f", ""),
+    SHAPE("one field of producers", 0, 0, 1, "\x09producers", "\1\3sdk", "\1a\1b", ""),
+    SHAPE("target features", 0, 0, 1, "\x0Ftarget_features", "", "+\1a", ""),
+    SHAPE("branch hints of one function", 0, 0, 1, "\x19metadata.code.branch_hint", "\1\0", "\0\1\1", ""),
+    SHAPE("one core instance", 0, 0, 1, "\x0D" "coreinstances", "\1\0\0", "\0", "\0"),
+    SHAPE("one core frame", 0, 0, 1, "\x09" "corestack", "\0\1t\1\0\0\0\0", "\x7F\0", "\0"),
+    SHAPE("relocations", 0, 0, 1, "\x0Areloc.CODE", "\3", "\0\4\0", ""),
     SHAPE("one custom section", 0, 0, 0, "\1c", "", "\0", ""),
     SHAPE("empty sections", -1, 0, 0, "", "", "\1\0", ""),
 };

@@ -45,7 +45,7 @@ pub fn minimal_body<A: Allocator + Copy>(
     shorten_body(bytes, alloc, sink)
 }
 
-/// Minimizes the payload of a section. The output decodes, by the section's kind, to the same items.
+/// Minimizes the payload of a section. The output decodes to the same items of the section's kind.
 pub fn minimal_payload<A: Allocator + Copy, B: Allocator>(
     section: &Section<'_, A>,
     sink: &mut Vec<u8, B>,

@@ -1,9 +1,9 @@
 -- This file proves which formats are the same in both grammars.
 use Rattle.wasm_base.proofs.Std.{ℕ, ◌^◌, ◌<◌, List, [], ◌∷◌, length, Bool, true, false, Some, None, eqb, inl, inr, refl, subst, arith, IsUtf8}
-use Rattle.wasm_base.specs.{minimal, padded, standard_minimal, Mode, IsUnsignedSize, IsSignedSize, Unsigned, Signed, Format, u32, u64, s32, s64, s33, byte, raw_bytes, any_bytes, little_endian, fixed, impossible, such, when, mapped}
+use Rattle.wasm_base.specs.{minimal, IsUnsignedSize, IsSignedSize, Unsigned, Signed, Format, u32, u64, s32, s64, s33, byte, raw_bytes, any_bytes, little_endian, fixed, impossible, such, when, mapped}
 use Rattle.wasm_base.specs.{Then, pair, tagged, choice, prefixed, members, vec, size_prefixed, optional, one_of, coded, numbered, name, vector_format, unsigned_encoding, Grammar, builders, admitted, minimal_of, padded_of}
 use Rattle.wasm_base.specs.{IsIncludedIn, EncodesMinimally, HasEncodableSize, size_prefixed_encoding, signed_encoding, IsSigned32InRange, IsSigned64InRange}
-use Rattle.wasm_base.specs.Minimal.{Twins, minimal_twins, padded_twins, first_twin, second_twin, IsShared, AreSameInBoth}
+use Rattle.wasm_base.specs.Minimal.{Twins, minimal_twins, padded_twins, first_twin, second_twin, IsShared}
 use Rattle.wasm_base.proofs.FormatLaws.{AllValues}
 use Rattle.wasm_base.proofs.EncodingLaws.{u32_encodes, s32_encodes, s64_encodes, name_encodes, size_prefixed_encodes}
 

@@ -2,7 +2,7 @@
 -- and so of the whole value.
 use Rattle.wasm_base.proofs.Std.{◌≡◌, ◌≢◌, ap₂, drop, take, drop_at, take_at, map-id, ℕ, ◌+◌, List, [], ◌∷◌, ◌++◌, length, refl, sym, ap, subst, ◌∙◌, append_assoc, append-nil, arith}
 use Rattle.std.proofs.lemmas.List.{length-append}
-use Rattle.wasm_base.specs.{Grammar, builders, admitted, minimal_of, padded_of, Format, u32, mapped, such, Then, pair, tagged, fixed, prefixed, members, vec, Decodes, AppendsMinimal, Minimizes, MinimizesWhole, HasEncodableSize, size_prefixed, any_bytes, Unambiguous, EncodesMinimally, unsigned_encoding, size_prefixed_encoding, name}
+use Rattle.wasm_base.specs.{Grammar, builders, admitted, minimal_of, padded_of, Format, u32, mapped, such, Then, pair, tagged, members, vec, Decodes, AppendsMinimal, Minimizes, MinimizesWhole, HasEncodableSize, size_prefixed, any_bytes, Unambiguous, EncodesMinimally, unsigned_encoding, size_prefixed_encoding, name}
 use Rattle.wasm_base.proofs.DecodingSteps.{then_decodes, mapped_decodes, such_decodes, members_start, members_step, members_push, vec_decodes}
 use Rattle.wasm_base.proofs.DecodeSizePrefixed.{filled_decodes}
 use Rattle.wasm_base.proofs.DecodeWhole.{HasMembers, members_begun, members_continued, members_done, whole_decodes}

@@ -128,8 +128,8 @@ pub fn minimize_many<'a, T: Minimize<G>, A: Allocator + Copy, G: Grammar, B: All
 ///
 /// # Errors
 ///
-/// Any error but `Memory` means that the bytes as a whole encode no such value. After an error, part
-/// of the encoding may follow the old bytes of the sink.
+/// Any error but `Memory` means that the bytes as a whole encode no such value. After an error,
+/// part of the encoding may follow the old bytes of the sink.
 #[tactic(auto, using(crate::proofs::MinimizeLaws::whole_minimizes, crate::proofs::DecodeWhole::whole_steps, crate::proofs::MinimalEncodings::front_steps))]
 pub fn minimize_whole<'a, T: Minimize<G>, A: Allocator + Copy, G: Grammar, B: Allocator>(
     bytes: &'a [u8],

@@ -155,8 +155,8 @@ fn write_body<A: Allocator + Copy, B: Allocator>(
 }
 
 /// Appends the minimal encoding of a function body with its size prefix, as in a code section. The
-/// bytes are those of the body without its size prefix. Instructions are minimized one by one. On an
-/// error, the sink is unchanged.
+/// bytes are those of the body without its size prefix. Instructions are minimized one by one. On
+/// an error, the sink is unchanged.
 ///
 /// ```text
 /// shorten_body(&[0x80, 0x00, 0x20, 0x81, 0x00, 0x0B], alloc, &mut out)?;

@@ -3,7 +3,6 @@ ghost use Rattle.std.specs.Prelude.{List, map};
 ghost use Rattle.wasm_insn.specs.Plain.{Plain as PlainInstruction};
 ghost use Rattle.wasm_code.specs.Expressions.{expression};
 ghost use Rattle.wasm_insn.specs.Views.{plain_view};
-ghost use Rattle.wasm_code.specs.Bodies.{body};
 
 use crate::body::append_code;
 use std::alloc::{Allocator, Global};

@@ -176,6 +176,9 @@ frame_no_locals bytes rest p h n = mapped_rejects stack_frame_of (then_rejects_s
 pub frame_no_stack : {m : Mode} (bytes rest next : List ℕ) (p : CodeLocation) (ls : List CoreDumpValue) → Decodes place m bytes p rest → Decodes (vec value) m rest ls next → Rejects (vec value) m next → Rejects stack_frame m bytes
 frame_no_stack bytes rest next p ls h g n = mapped_rejects stack_frame_of (then_rejects_second location_unambiguous h (then_rejects_second (vec_unambiguous value_unambiguous) g n))
 
+pub frame_no_lists : {m : Mode} (bytes rest : List ℕ) (p : CodeLocation) → Decodes place m bytes p rest → Rejects (pair (vec value) (vec value)) m rest → Rejects stack_frame m bytes
+frame_no_lists bytes rest p h n = mapped_rejects stack_frame_of (then_rejects_second location_unambiguous h n)
+
 pub ruleset frame_steps = (frame_decodes, frame_no_location, frame_no_locals, frame_no_stack)
 
 -- ---- sections
@@ -200,11 +203,14 @@ stack_no_frames {m = m} bytes rest last thread h g n = named_rejects stack_name 
       n.none x.1 (subst (λ z. vec stack_frame m z x.1) (sym same.1) s.second);
 })
 
+pub stack_rejects : {m : Mode} (bytes rest : List ℕ) → Decodes (just stack_name name) m bytes tt rest → RejectsWhole threaded m rest → RejectsWhole stack_payload m bytes
+stack_rejects bytes rest h n = named_rejects stack_name threaded bytes rest h n
+
 pub ruleset stack_steps = (stack_fills, stack_none, stack_no_thread, stack_no_frames)
 
 -- ---- the one minimal encoding of decoded stacks
 
-value_is : AllValues IsValue value
+pub value_is : AllValues IsValue value
 value_is =
     values_tagged IsValue value_tags (
       λ mode s x h. subst IsValue (sym h.1) tt,

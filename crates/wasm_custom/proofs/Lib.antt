@@ -25,3 +25,4 @@ pub mod RejectionLaws
 pub mod Calls
 pub mod DecodeMarked
 pub mod DecodeNamed
+pub mod MinimizeCustoms

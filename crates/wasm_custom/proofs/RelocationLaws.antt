@@ -255,6 +255,9 @@ section_no_index bytes rest n h begins none = pair_rejects name_of_section (sect
 pub section_no_list : {m : Mode} (bytes rest last n : List ℕ) (section : ℕ) → Decodes name m bytes n rest → IsRelocationsName n → Decodes u32 m rest section last → RejectsWhole (vec relocation) m last → RejectsWhole relocations_payload m bytes
 section_no_list bytes rest last n section h begins g none = pair_rejects name_of_section (section_name h begins) (pair_rejects u32_unambiguous g none)
 
+pub section_rejects : {m : Mode} (bytes rest n : List ℕ) → Decodes name m bytes n rest → IsRelocationsName n → RejectsWhole (pair u32 (vec relocation)) m rest → RejectsWhole relocations_payload m bytes
+section_rejects bytes rest n h begins none = pair_rejects name_of_section (section_name h begins) none
+
 pub ruleset section_steps = (section_fills, section_none, section_other, section_no_index, section_no_list)
 
 -- ---- the one minimal encoding of decoded relocations

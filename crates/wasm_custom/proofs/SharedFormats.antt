@@ -1,25 +1,22 @@
--- This file proves that the formats of custom sections but for linking are the same in both
--- grammars, and how linking sections are minimized in each.
-use Rattle.wasm_base.proofs.Words.{◌≡◌, ℕ, ◌<◌, List, [], ◌∷◌, ◌++◌, ◌∙◌, refl, sym, ap, subst, map-id, Bool, true, false, Some, None, Mode, minimal, padded, standard, standard_minimal, Grammar, builders, admitted, is_admitted, padded_of, Format, byte, u32, name, any_bytes, just, fixed, such, mapped, pair, prefixed, tagged, choice, by_mode, members, vec, size_prefixed, impossible}
+-- This file proves which formats of custom sections are the same in both grammars, and how linking
+-- sections are minimized in each.
+use Rattle.wasm_base.proofs.Words.{◌≡◌, ℕ, ◌<◌, List, [], ◌∷◌, ◌++◌, ◌∙◌, refl, sym, ap, subst, map-id, true, minimal, standard_minimal, Grammar, builders, admitted, is_admitted, padded_of, Format, byte, u32, name, just, pair, prefixed, by_mode, coded, members, vec, size_prefixed}
 use Rattle.wasm_base.proofs.Words.{AllDetermine, Decodes, AppendsMinimal, size_prefixed_encoding, unsigned_encoding, tagged_encodes}
 use Rattle.wasm_base.specs.Numbers.{minimal_of}
 use Rattle.wasm_base.specs.Minimal.{Twins, minimal_twins, padded_twins, IsShared, AreSameInBoth, Minimizes, MinimizesWhole}
-use Rattle.wasm_base.proofs.GrammarLaws.{u32_canonical, name_canonical, u32_both, s32_both, s64_both, byte_both, any_bytes_both, little_endian_both, fixed_both, coded_both, name_both, such_both, mapped_both, pair_both, prefixed_both, tagged_both, choices_both, when_both, optional_both, members_both, vec_both, size_prefixed_both}
+use Rattle.wasm_base.proofs.GrammarLaws.{u32_canonical, name_canonical, u32_both, s32_both, s64_both, byte_both, any_bytes_both, little_endian_both, fixed_both, coded_both, name_both, mapped_both, pair_both, prefixed_both, tagged_both, choices_both, optional_both, size_prefixed_both}
 use Rattle.wasm_base.proofs.MinimizeLaws.{minimized_as, mapped_minimizes, appended_then}
-use Rattle.wasm_custom.specs.{named_payload, listing, entries, counted_payload, NameKind, of_module, of_map, of_indirect, of_other, name_kind_of, after_id, subsection, name_payload, Producer, producer, field, producers_payload}
-use Rattle.wasm_custom.specs.{hint_of, hint, hints, hints_payload, marked_name, instance_of, instance, core_payload, modules_payload, instances_payload, f32_of, f64_of, value_tags, value, stack_frame_of, stack_frame, stack_payload}
-use Rattle.wasm_custom.specs.{source_map_payload, debug_file_payload, build_id_payload, needs_of, needs, export_flags_of, export_flags, import_flags_of, import_flags, dylink_tags, dylink_item, dylink_payload, prefix_code, feature, features_payload}
-use Rattle.wasm_custom.specs.{plain_of, addend32_of, addend64_of, relocation_code, after_kind, relocation, IsRelocationsName, relocations_payload, comdat_symbol_of, comdat_symbol, Comdat, comdat_of, comdat, SegmentInfo, segment_of, segment, init_of, init_function}
-use Rattle.wasm_custom.specs.{Symbol, indexed, of_data, of_section, indexed_of, data_of, has_name, has_definition, definition_of, definition, indexed_symbol, data_symbol, section_symbol, built_symbol, full_symbol_tags, full_symbol, symbol, kind_code}
-use Rattle.wasm_custom.specs.{LinkItem, Target, link, built_link, full_link, linking_name, version, linking_payload}
-use Rattle.wasm_custom.specs.Dylink.{Memory, Needed, ExportFlags, ImportFlags, RuntimePath}
+use Rattle.wasm_custom.specs.{named_payload}
+use Rattle.wasm_custom.specs.{marked_name, core_payload, f32_of, f64_of, value_tags, value}
+use Rattle.wasm_custom.specs.{source_map_payload, debug_file_payload, build_id_payload, prefix_code}
+use Rattle.wasm_custom.specs.{plain_of, addend32_of, addend64_of, relocation_code, after_kind, relocation, comdat_symbol_of, comdat_symbol, Comdat, comdat_of, comdat, SegmentInfo, segment_of, segment, init_of, init_function}
+use Rattle.wasm_custom.specs.{Symbol, indexed, of_data, of_section, indexed_of, data_of, has_name, has_definition, definition_of, indexed_symbol, data_symbol, section_symbol, built_symbol, full_symbol_tags, full_symbol, symbol, kind_code}
+use Rattle.wasm_custom.specs.{LinkItem, Target, link, linking_name, version, linking_payload}
 use Rattle.wasm_custom.specs.Linking.{Segments, InitFunctions, Comdats, Symbols}
-use Rattle.wasm_custom.specs.Names.{Module, Map, Indirect, Other}
 use Rattle.wasm_custom.specs.declared.core_values.CoreDumpValue.TheVariants.{Missing, I32, I64}
 use Rattle.wasm_custom.specs.declared.init_functions.InitFunction.{InitFunction}
 use Rattle.wasm_custom.specs.declared.relocations.RelocationKind.{RelocationKind}
 use Rattle.wasm_custom.specs.declared.relocations.RelocationKind.TheVariants as kinds
-use Rattle.wasm_custom.specs.declared.symbols.DataSymbolDefinition.{DataSymbolDefinition}
 use Rattle.wasm_custom.specs.declared.symbols.SymbolKind.{SymbolKind}
 use Rattle.wasm_custom.specs.declared.symbols.SymbolKind.TheVariants.{Function, Global, Tag, Table}
 use Rattle.wasm_custom.proofs.SymbolLaws.{code_of}
@@ -33,65 +30,21 @@ module _ {p : Twins} where
   named_both : (n : List ℕ) {X : Type 0} {F : Format X} → IsShared p F → IsShared p (named_payload n F)
   named_both n k = let front : IsShared p name = name_both in tagged_both (record { same = λ s u h. front.same s n h }) (λ u. k)
 
-  -- Items after a front.
-  listing_both : (counted : Bool) {X : Type 0} {F : Format X} → IsShared p F → IsShared p (listing counted F)
-  listing_both counted k = when_both counted (vec_both k) (members_both k)
-
-  plain_both : (n : List ℕ) (counted : Bool) {X : Type 0} {F : Format X} → IsShared p F → IsShared p (named_payload n (entries (fixed [] (tt {0})) counted F))
-  plain_both n counted k = named_both n (tagged_both (fixed_both [] (tt {0})) (λ u. listing_both counted k))
-
   -- ---- items
-
-  naming_both : IsShared p (pair u32 name)
-  naming_both = pair_both u32_both name_both
-
-  after_id_both : (kind : NameKind) (id : ℕ) → IsShared p (after_id kind id)
-  after_id_both of_module id = mapped_both Module (size_prefixed_both name_both)
-  after_id_both of_map id = mapped_both (Map id) (size_prefixed_both (vec_both naming_both))
-  after_id_both of_indirect id = mapped_both (Indirect id) (size_prefixed_both (vec_both (pair_both u32_both (vec_both naming_both))))
-  after_id_both of_other id = mapped_both (Other id) (size_prefixed_both any_bytes_both)
-
-  subsection_both : IsShared p subsection
-  subsection_both = tagged_both byte_both (λ id. after_id_both (name_kind_of id) id)
-
-  field_both : IsShared p field
-  field_both = pair_both name_both (vec_both (pair_both name_both name_both))
-
-  hints_both : IsShared p hints
-  hints_both = pair_both u32_both (vec_both (mapped_both hint_of (pair_both u32_both (prefixed_both (0x01 ∷ []) (such_both (λ b. b < 128) byte_both)))))
 
   marked_both : IsShared p marked_name
   marked_both = prefixed_both (0x00 ∷ []) name_both
 
-  instance_both : IsShared p instance
-  instance_both = mapped_both instance_of (prefixed_both (0x00 ∷ []) (pair_both u32_both (pair_both (vec_both u32_both) (vec_both u32_both))))
-
   value_both : IsShared p value
   value_both = choices_both value_tags (fixed_both [] Missing, (mapped_both I32 s32_both, (mapped_both I64 s64_both, (mapped_both f32_of (little_endian_both 4), (mapped_both f64_of (little_endian_both 8), tt)))))
-
-  stack_frame_both : IsShared p stack_frame
-  stack_frame_both = mapped_both stack_frame_of (pair_both (prefixed_both (0x00 ∷ []) (pair_both u32_both (pair_both u32_both u32_both))) (pair_both (vec_both value_both) (vec_both value_both)))
-
-  dylink_both : IsShared p dylink_item
-  dylink_both =
-      choices_both dylink_tags (
-        mapped_both Memory (size_prefixed_both (mapped_both needs_of (pair_both (pair_both u32_both u32_both) (pair_both u32_both u32_both)))),
-        (
-          mapped_both Needed (size_prefixed_both (vec_both name_both)),
-          (
-            mapped_both ExportFlags (size_prefixed_both (vec_both (mapped_both export_flags_of (pair_both name_both u32_both)))),
-            (mapped_both ImportFlags (size_prefixed_both (vec_both (mapped_both import_flags_of (pair_both name_both (pair_both name_both u32_both))))), (mapped_both RuntimePath (size_prefixed_both (vec_both name_both)), tt)),
-          ),
-        ),
-      )
 
   after_kind_both : (kind : RelocationKind) → IsShared p (after_kind kind)
   after_kind_both (kinds.Plain k) = mapped_both (plain_of k) (pair_both u32_both u32_both)
   after_kind_both (kinds.Addend32 k) = mapped_both (addend32_of k) (pair_both (pair_both u32_both u32_both) s32_both)
   after_kind_both (kinds.Addend64 k) = mapped_both (addend64_of k) (pair_both (pair_both u32_both u32_both) s64_both)
 
-  relocations_both : IsShared p relocations_payload
-  relocations_both = pair_both (such_both IsRelocationsName name_both) (pair_both u32_both (vec_both (tagged_both (coded_both relocation_code) after_kind_both)))
+  relocation_both : IsShared p relocation
+  relocation_both = tagged_both (coded_both relocation_code) after_kind_both
 
   comdat_symbol_both : IsShared p comdat_symbol
   comdat_symbol_both = mapped_both comdat_symbol_of (pair_both byte_both u32_both)
@@ -108,29 +61,8 @@ module _ {p : Twins} where
   full_symbol_both : IsShared p full_symbol
   full_symbol_both = choices_both full_symbol_tags (indexed_both Function, (data_both, (indexed_both Global, (section_both, (indexed_both Tag, (indexed_both Table, tt))))))
 
-pub names_same : AreSameInBoth name_payload
-names_same = record { shared = λ p. plain_both _ false subsection_both }
-
-pub producers_same : AreSameInBoth producers_payload
-producers_same = record { shared = λ p. plain_both _ true field_both }
-
-pub hints_same : AreSameInBoth hints_payload
-hints_same = record { shared = λ p. plain_both _ true hints_both }
-
 pub core_same : AreSameInBoth core_payload
 core_same = record { shared = λ p. named_both _ marked_both }
-
-pub modules_same : AreSameInBoth modules_payload
-modules_same = record { shared = λ p. plain_both _ true marked_both }
-
-pub instances_same : AreSameInBoth instances_payload
-instances_same = record { shared = λ p. plain_both _ true instance_both }
-
-pub stack_same : AreSameInBoth stack_payload
-stack_same = record { shared = λ p. named_both _ (pair_both marked_both (vec_both stack_frame_both)) }
-
-pub features_same : AreSameInBoth features_payload
-features_same = record { shared = λ p. plain_both _ true (pair_both (coded_both prefix_code) name_both) }
 
 pub source_map_same : AreSameInBoth source_map_payload
 source_map_same = record { shared = λ p. named_both _ name_both }
@@ -141,11 +73,14 @@ debug_file_same = record { shared = λ p. named_both _ name_both }
 pub build_id_same : AreSameInBoth build_id_payload
 build_id_same = record { shared = λ p. named_both _ (size_prefixed_both any_bytes_both) }
 
-pub dylink_same : AreSameInBoth dylink_payload
-dylink_same = record { shared = λ p. plain_both _ false dylink_both }
+pub relocation_same : AreSameInBoth relocation
+relocation_same = record { shared = λ p. relocation_both }
 
-pub relocations_same : AreSameInBoth relocations_payload
-relocations_same = record { shared = λ p. relocations_both }
+pub prefix_same : AreSameInBoth (coded prefix_code)
+prefix_same = record { shared = λ p. coded_both prefix_code }
+
+pub value_same : AreSameInBoth value
+value_same = record { shared = λ p. value_both }
 
 pub comdat_symbol_same : AreSameInBoth comdat_symbol
 comdat_symbol_same = record { shared = λ p. comdat_symbol_both }

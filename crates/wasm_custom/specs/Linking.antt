@@ -38,8 +38,8 @@ IsLink (Symbols symbols) = IsEncodableVec IsSymbol symbols
 IsLink (Target n) = IsUtf8 n
 IsLink _ = ⊥
 
--- The subsection of an `ObjectLinking` is well-formed: its items are well-formed and their number is
--- at most 2^32 - 1, or its name is UTF-8.
+-- The subsection of an `ObjectLinking` is well-formed: its items are well-formed and their number
+-- is at most 2^32 - 1, or its name is UTF-8.
 abbrev pub IsObjectLink : LinkItem → Type 0
 IsObjectLink (Segments segments) = IsEncodableVec IsSegment segments
 IsObjectLink (InitFunctions functions) = IsEncodableVec IsInit functions

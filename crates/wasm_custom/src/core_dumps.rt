@@ -24,8 +24,8 @@ use crate::named::after_name;
 use std::alloc::{Allocator, Global};
 use std::marker::Model;
 use wasm_base::{
-    DecodeError, Encode, Grammar, Kind, Readable, Result, Section, SectionId, Shorten, read_whole,
-    vec_of,
+    DecodeError, Encode, Grammar, Kind, Layout, Readable, Result, Section, SectionId, Shorten,
+    read_whole, vec_of,
 };
 
 /// The `core` section of a dumped process, modelled as its data: the byte 00, and the name of the
@@ -322,6 +322,34 @@ pub fn read_modules<'a, A: Allocator + Copy, G: Grammar>(
     read_counted::<'a, ModuleItems, &'a str, A, G>(bytes, alloc)
 }
 
+/// A decoded instance: the index of its module, its memories and its globals.
+#[derive(Debug, Drop)]
+pub(crate) struct CoreInstance<A: Allocator>(pub (u32, Vec<u32, A>, Vec<u32, A>));
+
+impl<A: Allocator> Layout for CoreInstance<A> {
+    ghost Value = { Instance };
+
+    ghost format = { instance };
+
+    ghost view = { λ i. instance_view i.0 };
+
+    #[tactic(auto, using(crate::proofs::CoreDumpLaws::instance_unambiguous))]
+    fn laws() {}
+}
+
+impl<'a, A: Allocator + Copy, G: Grammar> Readable<'a, A, G> for CoreInstance<A> {
+    #[tactic(auto, using(crate::proofs::CoreDumpLaws::instance_steps))]
+    fn read(bytes: &'a [u8], alloc: A) -> Result<(CoreInstance<A>, &'a [u8]), DecodeError> {
+        let ((module_index, (memories, globals)), rest) = read_marked::<
+            'a,
+            (u32, (Vec<u32, A>, Vec<u32, A>)),
+            A,
+            G,
+        >(0x00, bytes, alloc)?;
+        Ok((CoreInstance((module_index, memories, globals)), rest))
+    }
+}
+
 impl<A: Allocator> ItemsAs<(u32, Vec<u32, A>, Vec<u32, A>)> for InstanceItems {
     ghost Said = { Instance };
 
@@ -347,18 +375,14 @@ impl<A: Allocator> ItemsAs<(u32, Vec<u32, A>, Vec<u32, A>)> for InstanceItems {
 
 impl<'a, A: Allocator + Copy, G: Grammar> DecodesItems<'a, (u32, Vec<u32, A>, Vec<u32, A>), A, G>
     for InstanceItems {
-    #[tactic(auto, using(crate::proofs::CoreDumpLaws::instance_steps))]
     fn read_item(
         bytes: &'a [u8],
         alloc: A,
     ) -> Result<((u32, Vec<u32, A>, Vec<u32, A>), &'a [u8]), DecodeError> {
-        let ((module_index, (memories, globals)), rest) = read_marked::<
-            'a,
-            (u32, (Vec<u32, A>, Vec<u32, A>)),
-            A,
-            G,
-        >(0x00, bytes, alloc)?;
-        Ok(((module_index, memories, globals), rest))
+        let (CoreInstance(instance), rest) = <CoreInstance<A> as Readable<'a, A, G>>::read(
+            bytes, alloc,
+        )?;
+        Ok((instance, rest))
     }
 }
 

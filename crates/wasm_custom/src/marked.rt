@@ -4,10 +4,11 @@ ghost use Rattle.wasm_base.specs.Formats.{prefixed};
 ghost use Rattle.wasm_base.specs.Numbers.{padded_of};
 ghost use Rattle.wasm_base.specs.Decoding.{Unambiguous, Decodes, Rejects};
 ghost use Rattle.wasm_custom.specs.CoreDumps.{marked_name};
+ghost use Rattle.wasm_base.specs.Minimal.{Minimizes, IsFrontOf};
 ghost use Rattle.wasm_base.specs.declared.fault.ReadFault.TheVariants.{Memory};
 
 use std::alloc::Allocator;
-use wasm_base::{DecodeError, Grammar, Layout, ReadFault, Readable};
+use wasm_base::{DecodeError, Encode, Grammar, Layout, Minimize, ReadFault, Readable};
 
 /// Decodes the byte `mark` and the value after it, and returns the value with the remaining bytes.
 #[tactic(auto, using(crate::proofs::DecodeMarked::marked_steps))]
@@ -25,6 +26,27 @@ pub(crate) fn read_marked<'a, T: Readable<'a, A, G>, A: Allocator + Copy, G: Gra
     }
     let (value, rest) = T::read(rest, alloc)?;
     Ok((value, rest))
+}
+
+/// Minimizes the byte `mark` and the value after it.
+#[tactic(auto, using(crate::proofs::DecodeMarked::marked_steps, crate::proofs::MinimizeCustoms::marked_minimizes, wasm_base::proofs::MinimalEncodings::front_steps))]
+pub(crate) fn minimize_marked<'a, T: Minimize<G>, A: Allocator + Copy, G: Grammar, B: Allocator>(
+    mark: u8,
+    bytes: &'a [u8],
+    alloc: A,
+    sink: &mut Vec<u8, B>,
+) -> Result<&'a [u8], DecodeError>
+    ensures found { IfOk result (λ rest. Minimizes G.grammar (prefixed (mark ∷ []) T.format) bytes.now rest.now sink.old.items sink.new.items) }
+    ensures none { IfErr result (λ e. e.cause ≢ Memory → Rejects (prefixed (mark ∷ []) T.format) (padded_of G.grammar) bytes.now) }
+    ensures front { IsFrontOf sink.old.items sink.new.items }
+{
+    let (first, after) = <u8 as Readable<'a, A, G>>::read(bytes, alloc)?;
+    if first != mark {
+        return Err(ReadFault::UnknownTag.just_before(after));
+    }
+    mark.encode(sink)?;
+    let rest = T::minimize(after, alloc, sink)?;
+    Ok(rest)
 }
 
 /// The name of a process or a module: the byte 00, and a name.

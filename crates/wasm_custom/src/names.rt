@@ -344,7 +344,7 @@ pub enum NameItem<'a, A: Allocator = Global> {
 
 /// The content of a subsection.
 #[derive(Clone, Copy, Debug)]
-enum NameKind {
+pub(crate) enum NameKind {
     Module,
     Map,
     Indirect,
@@ -352,7 +352,7 @@ enum NameKind {
 }
 
 /// Returns the content of a subsection of this id.
-fn name_kind_of(id: u8) -> NameKind
+pub(crate) fn name_kind_of(id: u8) -> NameKind
     ensures { kind_as result ≡ kind_of_id id }
 {
     match id {

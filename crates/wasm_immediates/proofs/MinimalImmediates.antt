@@ -2,15 +2,12 @@
 use Rattle.wasm_base.proofs.Words.{Grammar, builders, admitted, minimal, padded_of, ◌≡◌, ℕ, pos, List, [], ◌++◌, Bool, true, false, refl, subst, inl, inr, s33, Decodes, s33_encodes}
 use Rattle.wasm_base.specs.Numbers.{minimal_of, signed_encoding}
 use Rattle.wasm_base.specs.Minimal.{IsShared, minimal_twins, Minimizes, EncodesMinimally}
-use Rattle.wasm_base.specs.Types.{val_encoding_in}
 use Rattle.wasm_base.proofs.GrammarLaws.{AreMinimalInBoth, minimal_in, canonical_by, u32_both, u64_both, s33_both, fixed_both, impossible_both, coded_both, such_both, when_both, mapped_both, pair_both, tagged_both, choices_both, optional_both}
 use Rattle.wasm_base.proofs.MinimizeLaws.{minimized_as}
 use Rattle.wasm_base.proofs.TightTypes.{val_encodes_in}
-use Rattle.wasm_immediates.specs.declared.memory.MemArg.{MemArg}
-use Rattle.wasm_immediates.specs.declared.memory.MemArgTarget.{MemArgTarget}
 use Rattle.wasm_immediates.specs.declared.memory.MemArgTarget.TheVariants.{Memory, Array}
 use Rattle.wasm_immediates.specs.declared.block_type.BlockType.{BlockType}
-use Rattle.wasm_immediates.specs.{HasIndex, target_of, mem_orderings, mem_ordering, mem_arg_of, mem_arg_with, after_flags, mem_arg_in, mem_arg, bit, mem_arg_encoding, block_type, block_encoding_in, catch, catch_tags}
+use Rattle.wasm_immediates.specs.{HasIndex, target_of, mem_orderings, mem_ordering, mem_arg_of, after_flags, mem_arg_in, mem_arg, bit, mem_arg_encoding, block_type, block_encoding_in, catch, catch_tags}
 use Rattle.wasm_immediates.specs.{catch_encoding, handle, handle_tags, handle_encoding, ordering_format, IsWellFormedBlock, IsWellFormedCatch, IsWellFormedHandle, one_of_pair, one_ref_of_pair, on_label_of_pair}
 use Rattle.wasm_immediates.proofs.DecodePlain.{memory_is, block_is, catch_is, handle_is}
 use Rattle.wasm_immediates.proofs.ImmediateEncodings.{memory_encodes, block_encodes, catch_encodes, handle_encodes}

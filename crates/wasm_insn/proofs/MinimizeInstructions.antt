@@ -1,7 +1,7 @@
 -- This file proves that the minimizer of an instruction appends the minimal encodings of its opcode
 -- and of its arguments.
-use Rattle.wasm_base.proofs.Words.{Grammar, builders, admitted, minimal, padded_of, ◌≡◌, ◌≢◌, ℕ, ◌+◌, ◌<◌, ◌≤◌, List, [], ◌∷◌, ◌++◌, length, get_or, take, Some, refl, sym, ap, subst, ◌∙◌, append_assoc, append-nil, take_more, take_all}
-use Rattle.wasm_base.proofs.Words.{Mode, u32, Decodes}
+use Rattle.wasm_base.proofs.Words.{Grammar, minimal, padded_of, ◌≡◌, ◌≢◌, ℕ, ◌+◌, ◌<◌, ◌≤◌, List, [], ◌∷◌, ◌++◌, length, get_or, take, Some, refl, sym, ap, subst, ◌∙◌, append_assoc, append-nil, take_more, take_all}
+use Rattle.wasm_base.proofs.Words.{Mode, Decodes}
 use Rattle.wasm_base.specs.Numbers.{minimal_of}
 use Rattle.wasm_base.specs.Minimal.{Minimizes}
 use Rattle.wasm_base.proofs.GrammarLaws.{AreMinimalInBoth, minimal_in, u32_both, s32_both, s64_both, little_endian_both, vector_both, byte_both, raw_bytes_both, fixed_both, such_both, when_both, mapped_both, tagged_both, vec_both}

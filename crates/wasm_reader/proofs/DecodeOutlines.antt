@@ -2,10 +2,10 @@
 use Rattle.wasm_base.proofs.Words.{standard, ◌≡◌, ◌≢◌, ℕ, ◌<◌, ◌^◌, ◌+◌, ◌-◌, suc, List, [], ◌∷◌, ◌++◌, length, map, take, Option, Some, None, refl, sym, ap, subst, ◌∙◌, append_assoc, append-nil}
 use Rattle.wasm_base.proofs.Words.{arith, AllByRecursion, flat_map, flat_map-append, length-map, take_at, RejectsWhole, padded, Format, any_bytes, any_section, byte, fixed, size_prefixed, header}
 use Rattle.wasm_base.proofs.Words.{members, wasm_module, Decodes, Rejects, BeginsWith, byte_unambiguous, begins_then, section_unambiguous, then_rejects_first, then_rejects_second}
-use Rattle.wasm_reader.specs.{number_in, Contents, content, Section, IsSection, bytes_of, IsCount, IsOutline, AreOutlines, HasOutline, EndsAt}
+use Rattle.wasm_reader.specs.{number_in, kind_at, Contents, content, Section, IsSection, bytes_of, IsCount, IsOutline, AreOutlines, HasOutline, EndsAt}
 use Rattle.wasm_reader.specs.declared.outlines.Outlined.{Outlined}
 use Rattle.wasm_reader.specs.declared.kinds.SectionKind.{SectionKind}
-use Rattle.wasm_reader.proofs.KindLaws.{content_whole}
+use Rattle.wasm_reader.proofs.KindLaws.{content_whole, named_uncounted}
 use Rattle.std.proofs.lemmas.List.{length-append}
 use Rattle.wasm_reader.proofs.ModuleLaws.{one_way}
 use Rattle.wasm_sections.proofs.Words.{prefixed_decodes}
@@ -42,6 +42,11 @@ counted kind payload x None h e = λ y g. ap number_in ((content_whole kind).who
 -- There is no number of items if nothing decodes.
 pub not_counted : (kind : SectionKind) (payload : List ℕ) → RejectsWhole (content kind) standard payload → IsCount kind payload None
 not_counted kind payload n = λ x h. absurd (n.none x h)
+
+-- Items of custom sections are not counted.
+pub custom_not_counted : (id : ℕ) (n : Option (List ℕ)) (payload : List ℕ) → id ≡ 0 → IsCount (kind_at id n) payload None
+custom_not_counted id (Some n) payload e = λ x h. named_uncounted n standard payload x h
+custom_not_counted id None payload e = λ x h. sym (ap number_in (subst (λ i. content (kind_at i None) standard payload x) e h).1)
 
 -- ---- lists
 

@@ -572,3 +572,25 @@ uncounted kinds.ExternalDebugInfo m s x h n0 n1 n2 n3 n4 n5 n6 n7 n8 n9 n10 n11 
 uncounted kinds.BuildId m s x h n0 n1 n2 n3 n4 n5 n6 n7 n8 n9 n10 n11 n12 = ap number_in h.1
 uncounted kinds.Dylink m s x h n0 n1 n2 n3 n4 n5 n6 n7 n8 n9 n10 n11 n12 = ap number_in h.1
 uncounted kinds.Relocations m s x h n0 n1 n2 n3 n4 n5 n6 n7 n8 n9 n10 n11 n12 = ap number_in h.1
+
+-- ---- custom sections
+
+-- Sections of this kind have no number of items.
+abbrev pub IsUncounted : SectionKind → Type 0
+IsUncounted kind = (m : Mode) (s : List ℕ) (x : Contents) → content kind m s x → number_in x ≡ None
+
+abbrev AreUncounted : List (List ℕ × SectionKind) → Type 0
+AreUncounted [] = Unit {0}
+AreUncounted (k ∷ ks) = IsUncounted k.1 × AreUncounted ks
+
+uncounted_among : (ks : List (List ℕ × SectionKind)) → AreUncounted ks → (n : List ℕ) → IsUncounted (kind_among_names ks n)
+uncounted_among [] h n = λ m s x g. sym (ap number_in g.1)
+uncounted_among (k ∷ ks) h n = for_if IsUncounted (bytes_eq n k.0) h.0 (uncounted_among ks h.1 n)
+
+pub named_uncounted : (n : List ℕ) → IsUncounted (kind_named n)
+named_uncounted n = for_if IsUncounted (begins_with relocations_prefix n) (λ m s x g. sym (ap number_in g.1))
+    (uncounted_among known_names (
+      λ m s x g. sym (ap number_in g.1),
+      (λ m s x g. sym (ap number_in g.1), (λ m s x g. sym (ap number_in g.1), (λ m s x g. sym (ap number_in g.1), (λ m s x g. sym (ap number_in g.1), (λ m s x g. sym (ap number_in g.1), (λ m s x g. sym (ap number_in g.1), (λ m s x g. sym (ap number_in g.1),
+      (λ m s x g. sym (ap number_in g.1), (λ m s x g. sym (ap number_in g.1), (λ m s x g. sym (ap number_in g.1), (λ m s x g. sym (ap number_in g.1), (λ m s x g. sym (ap number_in g.1), tt)))))))))))),
+    ) n)

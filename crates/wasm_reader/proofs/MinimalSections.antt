@@ -14,7 +14,8 @@ use Rattle.wasm_code.proofs.Words.{body}
 use Rattle.wasm_sections.proofs.Words.{data_item, element, export, global_item, import_format, memory_type, table_item, tag_type}
 use Rattle.wasm_types.proofs.Words.{type_item}
 use Rattle.wasm_custom.proofs.Words.{linking_payload}
-use Rattle.wasm_custom.proofs.SharedFormats.{names_same, producers_same, hints_same, core_same, modules_same, instances_same, stack_same, features_same, source_map_same, debug_file_same, build_id_same, dylink_same, relocations_same}
+use Rattle.wasm_custom.specs.{name_payload, producers_payload, hints_payload, modules_payload, instances_payload, stack_payload, features_payload, dylink_payload, relocations_payload}
+use Rattle.wasm_custom.proofs.SharedFormats.{core_same, source_map_same, debug_file_same, build_id_same}
 use Rattle.wasm_reader.proofs.DecodeSections.{taken}
 use Rattle.wasm_reader.specs.declared.kinds.SectionKind.TheVariants as kinds
 
@@ -72,17 +73,45 @@ types_minimized = minimizes_as Types refl
 pub linking_minimized : MinimizesAs linking_payload kinds.Linking
 linking_minimized = minimizes_as Linking refl
 
--- The kinds whose items are decoded, and then encoded.
-abbrev pub IsListed : SectionKind → Type 0
-IsListed kind =
+pub names_minimized : MinimizesAs name_payload kinds.Names
+names_minimized = minimizes_as Names refl
+
+pub producers_minimized : MinimizesAs producers_payload kinds.Producers
+producers_minimized = minimizes_as Producers refl
+
+pub hints_minimized : MinimizesAs hints_payload kinds.Hints
+hints_minimized = minimizes_as Hints refl
+
+pub modules_minimized : MinimizesAs modules_payload kinds.CoreModules
+modules_minimized = minimizes_as CoreModules refl
+
+pub instances_minimized : MinimizesAs instances_payload kinds.CoreInstances
+instances_minimized = minimizes_as CoreInstances refl
+
+pub stack_minimized : MinimizesAs stack_payload kinds.CoreStack
+stack_minimized = minimizes_as CoreStack refl
+
+pub features_minimized : MinimizesAs features_payload kinds.TargetFeatures
+features_minimized = minimizes_as TargetFeatures refl
+
+pub dylink_minimized : MinimizesAs dylink_payload kinds.Dylink
+dylink_minimized = minimizes_as Dylink refl
+
+pub relocations_minimized : MinimizesAs relocations_payload kinds.Relocations
+relocations_minimized = minimizes_as Relocations refl
+
+-- The kinds whose payload is one name or one sequence of bytes, which is decoded, and then encoded.
+abbrev pub IsSingle : SectionKind → Type 0
+IsSingle kind =
     (kind ≢ kinds.Bodies) × (kind ≢ kinds.Segments) × (kind ≢ kinds.DataCount) × (kind ≢ kinds.Elements) × (kind ≢ kinds.Exports) × (kind ≢ kinds.Functions) × (kind ≢ kinds.Globals) × (kind ≢ kinds.Imports) × (kind ≢ kinds.Memories)
-    × (kind ≢ kinds.Start) × (kind ≢ kinds.Tables) × (kind ≢ kinds.Tags) × (kind ≢ kinds.Types) × (kind ≢ kinds.Linking)
+    × (kind ≢ kinds.Start) × (kind ≢ kinds.Tables) × (kind ≢ kinds.Tags) × (kind ≢ kinds.Types) × (kind ≢ kinds.Names) × (kind ≢ kinds.Linking) × (kind ≢ kinds.Producers) × (kind ≢ kinds.Hints) × (kind ≢ kinds.CoreModules)
+    × (kind ≢ kinds.CoreInstances) × (kind ≢ kinds.CoreStack) × (kind ≢ kinds.TargetFeatures) × (kind ≢ kinds.Dylink) × (kind ≢ kinds.Relocations)
 
 mapped_same : {X : Type 0} (f : X → Contents) {F : Format X} → AreSameInBoth F → AreSameInBoth (mapped f F)
 mapped_same f k = record { shared = λ p. mapped_both f (k.shared p) }
 
 -- Their formats are the same in both grammars.
-content_same : (kind : SectionKind) → IsListed kind → AreSameInBoth (content kind)
+content_same : (kind : SectionKind) → IsSingle kind → AreSameInBoth (content kind)
 content_same kinds.Bodies n = absurd (n.0 refl)
 content_same kinds.Segments n = absurd (n.1 refl)
 content_same kinds.DataCount n = absurd (n.2 refl)
@@ -96,25 +125,25 @@ content_same kinds.Start n = absurd (n.9 refl)
 content_same kinds.Tables n = absurd (n.10 refl)
 content_same kinds.Tags n = absurd (n.11 refl)
 content_same kinds.Types n = absurd (n.12 refl)
-content_same kinds.Linking n = absurd (n.13 refl)
-content_same kinds.Names n = mapped_same Names names_same
-content_same kinds.Producers n = mapped_same Producers producers_same
-content_same kinds.Hints n = mapped_same Hints hints_same
+content_same kinds.Linking n = absurd (n.14 refl)
+content_same kinds.Names n = absurd (n.13 refl)
+content_same kinds.Producers n = absurd (n.15 refl)
+content_same kinds.Hints n = absurd (n.16 refl)
 content_same kinds.Core n = mapped_same Core core_same
-content_same kinds.CoreModules n = mapped_same CoreModules modules_same
-content_same kinds.CoreInstances n = mapped_same CoreInstances instances_same
-content_same kinds.CoreStack n = mapped_same CoreStack stack_same
+content_same kinds.CoreModules n = absurd (n.17 refl)
+content_same kinds.CoreInstances n = absurd (n.18 refl)
+content_same kinds.CoreStack n = absurd (n.19 refl)
 content_same kinds.Custom n = record { shared = λ p. mapped_both Custom (pair_both name_both any_bytes_both) }
 content_same kinds.Raw n = record { shared = λ p. mapped_both Raw any_bytes_both }
-content_same kinds.TargetFeatures n = mapped_same TargetFeatures features_same
+content_same kinds.TargetFeatures n = absurd (n.20 refl)
 content_same kinds.SourceMappingUrl n = mapped_same SourceMappingUrl source_map_same
 content_same kinds.ExternalDebugInfo n = mapped_same ExternalDebugInfo debug_file_same
 content_same kinds.BuildId n = mapped_same BuildId build_id_same
-content_same kinds.Dylink n = mapped_same Dylink dylink_same
-content_same kinds.Relocations n = mapped_same Relocations relocations_same
+content_same kinds.Dylink n = absurd (n.21 refl)
+content_same kinds.Relocations n = absurd (n.22 refl)
 
--- Decoded items, whose encoding is appended.
-pub items_minimized : (w : Grammar) (kind : SectionKind) (bytes old new : List ℕ) (x : Contents) → IsListed kind → content kind (padded_of w) bytes x → AppendsMinimal (content (kind_in x)) x old new → MinimizesWhole w (content kind) bytes old new
+-- The decoded value, whose encoding is appended.
+pub items_minimized : (w : Grammar) (kind : SectionKind) (bytes old new : List ℕ) (x : Contents) → IsSingle kind → content kind (padded_of w) bytes x → AppendsMinimal (content (kind_in x)) x old new → MinimizesWhole w (content kind) bytes old new
 items_minimized w kind bytes old new x n h a = same_minimizes w (content kind) x bytes old new (content_same kind n) h (subst (λ k. AppendsMinimal (content k) x old new) (kind_in_grammar w kind bytes x h) a)
   where
     kind_in_grammar : (v : Grammar) (k : SectionKind) (s : List ℕ) (y : Contents) → content k (padded_of v) s y → kind_in y ≡ k

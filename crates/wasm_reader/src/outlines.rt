@@ -27,11 +27,14 @@ pub struct Outlined<'a> {
 }
 
 /// Returns the number of items of a section, if its payload decodes as its kind and the items are
-/// counted.
+/// counted. Those of custom sections are not, so their payloads are not decoded.
 fn count<A: Allocator + Copy>(section: &Section<'_, A>) -> Result<Option<u32>, ReadFault>
     ensures found { IfOk result (λ count. IsCount (section_kind_of section.now.section) section.now.section.payload count) }
     ensures memory { IfErr result (λ e. e ≡ Memory) }
 {
+    if section.id() == 0 {
+        return Ok(None);
+    }
     match section.count() {
         Ok(count) => Ok(count),
         Err(error) if error.cause == ReadFault::Memory => Err(ReadFault::Memory),

@@ -1,12 +1,11 @@
 -- This file proves that the minimizers of sections append the minimal encodings of the items that
 -- they decode.
-use Rattle.wasm_base.proofs.Words.{◌≡◌, ◌≢◌, ℕ, zero, suc, ◌+◌, ◌^◌, ◌<◌, ◌≤◌, List, [], ◌∷◌, ◌++◌, length, Bool, true, false, Option, None, Some, IfSome, refl, sym, ap, subst, ◌∙◌, append_assoc, append-nil, arith, inl, inr, IsUtf8}
-use Rattle.wasm_base.proofs.Words.{Grammar, builders, admitted, padded_of, minimal, name, byte, u32, u64, coded, numbered, fixed, mapped, such, when, pair, prefixed, optional, tagged, choice, vec, size_prefixed, any_bytes, is_given, Format, AllValues, Decodes}
-use Rattle.wasm_base.proofs.Words.{HasEncodableSize, size_prefixed_encoding, unsigned_encoding, optional_encoding, ref_type, val_type, u32_encodes, u64_encodes, name_encodes, pair_encodes, optional_encodes, tagged_encodes, then_decodes, fixed_decodes}
+use Rattle.wasm_base.proofs.Words.{◌≡◌, ◌≢◌, ℕ, zero, suc, ◌+◌, ◌^◌, ◌<◌, ◌≤◌, List, [], ◌∷◌, ◌++◌, Bool, true, false, refl, sym, ap, subst, ◌∙◌, append_assoc, append-nil, arith, inl, inr, IsUtf8}
+use Rattle.wasm_base.proofs.Words.{Grammar, builders, admitted, padded_of, minimal, name, byte, u32, u64, coded, numbered, fixed, mapped, when, pair, prefixed, optional, vec, size_prefixed, any_bytes, is_given, Format, AllValues, Decodes}
+use Rattle.wasm_base.proofs.Words.{HasEncodableSize, size_prefixed_encoding, unsigned_encoding, optional_encoding, ref_type, val_type, u32_encodes, u64_encodes, name_encodes, pair_encodes, optional_encodes, tagged_encodes, fixed_decodes}
 use Rattle.wasm_base.specs.Numbers.{minimal_of}
 use Rattle.wasm_base.specs.Minimal.{Minimizes, EncodesMinimally}
 use Rattle.wasm_base.specs.Types.{ref_encoding_in, val_encoding_in}
-use Rattle.wasm_base.specs.declared.types.RefType.{RefType}
 use Rattle.wasm_base.specs.Types.{FUNCREF}
 use Rattle.wasm_base.proofs.GrammarLaws.{AreMinimalInBoth, minimal_in, canonical_by, u32_canonical, u32_both, u64_both, byte_both, name_both, coded_both, mapped_both, pair_both, tagged_both, when_both, optional_both, impossible_both, vec_both}
 use Rattle.wasm_base.proofs.PartLaws.{bytes_encodes}
@@ -15,9 +14,9 @@ use Rattle.wasm_base.proofs.TightTypes.{ref_encodes_in, val_encodes_in}
 use Rattle.wasm_code.proofs.Words.{expression}
 use Rattle.wasm_insn.proofs.Words.{Plain}
 use Rattle.wasm_immediates.specs.ImmediateFormats.{HasIndex}
-use Rattle.wasm_sections.specs.{flags_code, memory_type, memory_encoding, memory_of, after_memory_flags, tag_code, tag_of, tag_type, tag_encoding, kind_code, export, export_of, export_encoding, item_of, ExportItem}
-use Rattle.wasm_sections.specs.{global_code, global_flags, global_encoding_in, IsGlobal, global_type, global_from, global_item, table_flags, table_encoding_in, IsTable, Limits, limits_of, after_limits_flags, limits, table_type, before_init, without_init, with_init, table_item}
-use Rattle.wasm_sections.specs.{entity_encoding_in, IsEntity, entity, single, named, alike, alike_of, import_of, import_format, active, passive, in_first, in_memory, active_front, data_in, data_item}
+use Rattle.wasm_sections.specs.{flags_code, memory_type, memory_encoding, memory_of, tag_code, tag_of, tag_type, tag_encoding, kind_code, export, export_of, export_encoding, item_of, ExportItem}
+use Rattle.wasm_sections.specs.{global_code, global_flags, global_encoding_in, IsGlobal, global_type, global_from, global_item, table_flags, table_encoding_in, IsTable, Limits, limits_of, limits, table_type, before_init, without_init, with_init, table_item}
+use Rattle.wasm_sections.specs.{entity_encoding_in, IsEntity, entity, single, named, alike, import_format, active, passive, in_first, in_memory, active_front, data_in, data_item}
 use Rattle.wasm_sections.specs.{ElementFlag, flag_code, has_kind, SegmentMode, in_table, in_no_table, segment_mode, functions, list_of, elements_as, segment_of, element}
 use Rattle.wasm_sections.specs.Elements.{declared, passive as inactive}
 use Rattle.wasm_sections.specs.declared.export.Export.{Export}
@@ -26,9 +25,6 @@ use Rattle.wasm_sections.specs.declared.import.EntityType.{EntityType}
 use Rattle.wasm_sections.specs.declared.import.EntityType.TheVariants.{Function, Table, Memory, Global, Tag, FunctionExact}
 use Rattle.wasm_sections.specs.declared.table.TableType.{TableType}
 use Rattle.wasm_sections.proofs.DataLaws.{bytes_read, first_decodes, passive_decodes, other_decodes}
-use Rattle.wasm_sections.proofs.DecodeLimits.{u64_is}
-use Rattle.wasm_sections.proofs.ElementLaws.{segment_mode_declared, segment_mode_passive}
-use Rattle.wasm_sections.proofs.ExportLaws.{export_is}
 use Rattle.wasm_sections.proofs.GlobalLaws.{global_is}
 use Rattle.wasm_sections.proofs.ImportLaws.{entity_is, single_decodes, named_decodes, alike_decodes}
 use Rattle.wasm_sections.proofs.MemoryLaws.{memory_encodes, memory_is}

@@ -1,6 +1,6 @@
 -- This file proves that the minimizer of types appends the minimal encodings of their components.
-use Rattle.wasm_base.proofs.Words.{Mode, Grammar, builders, admitted, padded_of, ◌≡◌, ◌≢◌, ℕ, pos, ◌<◌, List, [], ◌∷◌, ◌++◌, length, Bool, true, false, Option, Some, None, refl, sym, ap, subst, ◌∙◌, append_assoc, append-nil, arith, inl, inr}
-use Rattle.wasm_base.proofs.Words.{is_admitted, ints, vec_u32_unambiguous, byte_unambiguous, u32_unambiguous, decodes_same, then_decodes, mapped_decodes, mapped_rejects, such_decodes, such_none, tagged_rejects, no_choice, one_of_right, one_of_rejects, coded, Format, u32, s33, byte, mapped, such, pair, choice, impossible, tagged, vec, val_type, Decodes, Rejects}
+use Rattle.wasm_base.proofs.Words.{Grammar, builders, admitted, padded_of, ◌≡◌, ◌≢◌, ℕ, pos, ◌<◌, List, [], ◌∷◌, ◌++◌, length, Bool, true, false, refl, sym, ap, subst, ◌∙◌, append_assoc, arith, inl, inr}
+use Rattle.wasm_base.proofs.Words.{is_admitted, ints, vec_u32_unambiguous, byte_unambiguous, u32_unambiguous, decodes_same, then_decodes, mapped_decodes, mapped_rejects, such_decodes, such_none, tagged_rejects, no_choice, one_of_right, one_of_rejects, coded, Format, u32, s33, byte, mapped, such, pair, choice, impossible, tagged, vec, Decodes, Rejects}
 use Rattle.wasm_base.specs.Numbers.{minimal_of, unsigned_encoding, signed_encoding}
 use Rattle.wasm_base.specs.Minimal.{Minimizes}
 use Rattle.wasm_base.proofs.DecodingSteps.{members_start, vec_decodes, then_rejects_second}
@@ -8,12 +8,11 @@ use Rattle.wasm_base.proofs.EncodingLaws.{s33_encodes, tagged_encodes}
 use Rattle.wasm_base.proofs.GrammarLaws.{minimal_in, u32_canonical, s33_both}
 use Rattle.wasm_base.proofs.MinimizeLaws.{minimized_as, mapped_minimizes, then_minimizes, tagged_minimizes, appended_then}
 use Rattle.wasm_base.proofs.TightTypes.{val_encodes_in}
-use Rattle.wasm_base.proofs.DecodePlain.{val_type_is}
 use Rattle.wasm_base.proofs.Tags.{choice_other, IsOther}
 use Rattle.wasm_types.specs.declared.types.StorageType.{StorageType}
 use Rattle.wasm_types.specs.declared.types.StorageType.TheVariants.{I8, I16, Val}
-use Rattle.wasm_types.specs.{mutable_code, field_of, field_type, storage_encoding_in, storage_type, packed_type, with_index, given_index, no_index, after_shape, after_describes, after_composite, composite_of, composite_type, Composite, Sub, TypeItem}
-use Rattle.wasm_types.specs.{sub_of, alone_of, supertypes_and, HasFinalPrefix, sub_tags, after_alone, prefixed_sub, sub_type, after_sub, group, single, group_tags, group_type, type_item}
+use Rattle.wasm_types.specs.{mutable_code, field_of, field_type, storage_encoding_in, storage_type, with_index, given_index, no_index, after_describes, after_composite, composite_of, composite_type, Composite, Sub}
+use Rattle.wasm_types.specs.{sub_of, alone_of, supertypes_and, HasFinalPrefix, prefixed_sub, sub_type, group, single, group_tags, group_type, type_item}
 use Rattle.wasm_types.proofs.DecodeFields.{first_of_both}
 use Rattle.wasm_types.proofs.DecodeItems.{prefix_listed, prefix_standard, final_list_empty, open_decodes, final_decodes, final_none, alone_reads, sub_decodes, sub_none_after, group_decodes}
 use Rattle.wasm_types.proofs.TypeLaws.{after_in, alone_encodes}

@@ -10,6 +10,7 @@ mod items;
 pub mod laws;
 mod minimize;
 mod shapes;
+mod skip;
 mod type_section;
 mod types;
 

@@ -101,8 +101,8 @@ fn minimize_shape_after<'a, A: Allocator + Copy, G: Grammar, B: Allocator>(
     }
 }
 
-/// Minimizes an optional descriptor and an inner type after the first byte, `tag`, which is appended
-/// already.
+/// Minimizes an optional descriptor and an inner type after the first byte, `tag`, which is
+/// appended already.
 #[tactic(auto, using(wasm_base::proofs::MinimalEncodings::front_steps))]
 fn minimize_descriptor_after<'a, A: Allocator + Copy, G: Grammar, B: Allocator>(
     tag: u8,
@@ -197,8 +197,9 @@ fn minimize_supertypes_and<'a, A: Allocator + Copy, G: Grammar, B: Allocator>(
     minimize_composite::<A, G, _>(rest, alloc, sink)
 }
 
-/// Minimizes a final subtype whose first byte, 0x4F, precedes the bytes and is not appended. Without
-/// supertypes, which only the standard's grammar admits here, the composite type alone is appended.
+/// Minimizes a final subtype whose first byte, 0x4F, precedes the bytes and is not appended.
+/// Without supertypes, which only the standard's grammar admits here, the composite type alone is
+/// appended.
 #[tactic(auto, using(wasm_base::proofs::MinimalEncodings::front_steps))]
 fn minimize_final<'a, A: Allocator + Copy, G: Grammar, B: Allocator>(
     bytes: &'a [u8],

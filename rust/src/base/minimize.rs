@@ -278,8 +278,8 @@ pub fn minimize_many<'a, T: Minimize<G>, A: Allocator + Copy, G: Grammar, B: Sin
 ///
 /// # Errors
 ///
-/// Any error but `Memory` means that the bytes as a whole encode no such value. After an error, part
-/// of the encoding may follow the old bytes of the sink.
+/// Any error but `Memory` means that the bytes as a whole encode no such value. After an error,
+/// part of the encoding may follow the old bytes of the sink.
 ///
 /// # Examples
 ///

@@ -240,8 +240,8 @@ fn write_body<A: Allocator + Copy, B: Sink>(
 }
 
 /// Appends the minimal encoding of a function body with its size prefix, as in a code section. The
-/// bytes are those of the body without its size prefix. Instructions are minimized one by one. On an
-/// error, the sink is unchanged.
+/// bytes are those of the body without its size prefix. Instructions are minimized one by one. On
+/// an error, the sink is unchanged.
 ///
 /// # Errors
 ///

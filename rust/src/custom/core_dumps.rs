@@ -8,7 +8,7 @@ use crate::custom::entries::{CustomEntries, CustomKind};
 use crate::custom::marked::{MarkedName, read_marked};
 use crate::custom::named::after_name;
 use crate::alloc::{Allocator, Global};
-use crate::base::{DecodeError, Encode, Grammar, Kind, Readable, Result, Section, SectionId, Shorten, read_whole, vec_of};
+use crate::base::{DecodeError, Encode, Grammar, Kind, Layout, Readable, Result, Section, SectionId, Shorten, read_whole, vec_of};
 
 /// The `core` section of a dumped process, modelled as its data: the byte 00, and the name of the
 /// process.
@@ -509,6 +509,35 @@ pub fn read_modules<'a, A: Allocator + Copy, G: Grammar>(
     read_counted::<'a, ModuleItems, &'a str, A, G>(bytes, alloc)
 }
 
+/// A decoded instance: the index of its module, its memories and its globals.
+#[derive(Debug)]
+pub(crate) struct CoreInstance<A: Allocator>(pub (u32, Vec<u32, A>, Vec<u32, A>));
+
+/// # Defined
+///
+/// ```text
+/// Value = { Instance }
+/// format = { instance }
+/// view = { λ i. instance_view i.0 }
+/// ```
+///
+/// Definitions: [`Instance`](crate::definitions::custom::core_dumps::Instance), [`instance`](crate::definitions::custom::core_dumps::instance), [`instance_view`](crate::definitions::custom::core_dumps::instance_view). [How to read clauses](crate::definitions).
+impl<A: Allocator> Layout for CoreInstance<A> {
+    fn laws() {}
+}
+
+impl<'a, A: Allocator + Copy, G: Grammar> Readable<'a, A, G> for CoreInstance<A> {
+    fn read(bytes: &'a [u8], alloc: A) -> Result<(CoreInstance<A>, &'a [u8]), DecodeError> {
+        let ((module_index, (memories, globals)), rest) = read_marked::<
+            'a,
+            (u32, (Vec<u32, A>, Vec<u32, A>)),
+            A,
+            G,
+        >(0x00, bytes, alloc)?;
+        Ok((CoreInstance((module_index, memories, globals)), rest))
+    }
+}
+
 /// # Defined
 ///
 /// ```text
@@ -539,13 +568,10 @@ impl<'a, A: Allocator + Copy, G: Grammar> DecodesItems<'a, (u32, Vec<u32, A>, Ve
         bytes: &'a [u8],
         alloc: A,
     ) -> Result<((u32, Vec<u32, A>, Vec<u32, A>), &'a [u8]), DecodeError> {
-        let ((module_index, (memories, globals)), rest) = read_marked::<
-            'a,
-            (u32, (Vec<u32, A>, Vec<u32, A>)),
-            A,
-            G,
-        >(0x00, bytes, alloc)?;
-        Ok(((module_index, memories, globals), rest))
+        let (CoreInstance(instance), rest) = <CoreInstance<A> as Readable<'a, A, G>>::read(
+            bytes, alloc,
+        )?;
+        Ok((instance, rest))
     }
 }
 

@@ -175,7 +175,7 @@ impl<A: Allocator> BranchHints<A> {
 
 /// The value of a hint, in one byte.
 #[derive(Clone, Copy, Debug)]
-struct HintValue(u8);
+pub(crate) struct HintValue(pub u8);
 
 /// # Defined
 ///

@@ -1,8 +1,9 @@
 // Written by tools/to-rust from crates/wasm_custom/src/marked.rt: change that.
 // Values after a fixed byte.
 
+use crate::vec::Sink;
 use crate::alloc::Allocator;
-use crate::base::{DecodeError, Grammar, Layout, ReadFault, Readable};
+use crate::base::{DecodeError, Encode, Grammar, Layout, Minimize, ReadFault, Readable};
 
 /// Decodes the byte `mark` and the value after it, and returns the value with the remaining bytes.
 ///
@@ -31,6 +32,41 @@ pub(crate) fn read_marked<'a, T: Readable<'a, A, G>, A: Allocator + Copy, G: Gra
     }
     let (value, rest) = T::read(rest, alloc)?;
     Ok((value, rest))
+}
+
+/// Minimizes the byte `mark` and the value after it.
+///
+/// # Proved
+///
+/// - After `Ok`, `found`: A value decodes from the front of the bytes in this grammar, and `rest` follows it. The call appends the minimal encoding of the value in this grammar.
+/// - After an error, `none`: the bytes do not begin with such an encoding, unless the cause is `Memory`.
+/// - `front`: The new bytes begin with the old ones.
+///
+/// ```text
+/// ensures found { IfOk result
+///     (λ rest. Minimizes G.grammar
+///         (prefixed (mark ∷ []) T.format) bytes.now rest.now sink.old.items
+///         sink.new.items) }
+/// ensures none { IfErr result
+///     (λ e. e.cause ≢ Memory → Rejects (prefixed (mark ∷ []) T.format)
+///         (padded_of G.grammar) bytes.now) }
+/// ensures front { IsFrontOf sink.old.items sink.new.items }
+/// ```
+///
+/// Definitions: [`Minimizes`](crate::definitions::base::minimal::Minimizes), [`prefixed`](crate::definitions::base::formats::prefixed), [`Rejects`](crate::definitions::base::decoding::Rejects), [`padded_of`](crate::definitions::base::numbers::padded_of), [`IsFrontOf`](crate::definitions::base::minimal::IsFrontOf). [How to read clauses](crate::definitions).
+pub(crate) fn minimize_marked<'a, T: Minimize<G>, A: Allocator + Copy, G: Grammar, B: Sink>(
+    mark: u8,
+    bytes: &'a [u8],
+    alloc: A,
+    sink: &mut B,
+) -> Result<&'a [u8], DecodeError> {
+    let (first, after) = <u8 as Readable<'a, A, G>>::read(bytes, alloc)?;
+    if first != mark {
+        return Err(ReadFault::UnknownTag.just_before(after));
+    }
+    mark.encode(sink)?;
+    let rest = T::minimize(after, alloc, sink)?;
+    Ok(rest)
 }
 
 /// The name of a process or a module: the byte 00, and a name.

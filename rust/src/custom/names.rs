@@ -777,7 +777,7 @@ pub enum NameItem<'a, A: Allocator = Global> {
 
 /// The content of a subsection.
 #[derive(Clone, Copy, Debug)]
-enum NameKind {
+pub(crate) enum NameKind {
     Module,
     Map,
     Indirect,
@@ -793,7 +793,7 @@ enum NameKind {
 /// ```
 ///
 /// Definitions: [`kind_as`](crate::definitions::custom::names::kind_as), [`kind_of_id`](crate::definitions::custom::names::name_kind_of). [How to read clauses](crate::definitions).
-fn name_kind_of(id: u8) -> NameKind {
+pub(crate) fn name_kind_of(id: u8) -> NameKind {
     match id {
         0 => NameKind::Module,
         1 | 4..=9 | 11 => NameKind::Map,

@@ -437,7 +437,7 @@ pub(crate) fn read_number<'a, A: Allocator + Copy, G: Grammar>(
         SectionKind::Memories => count_skipped::<'a, Dropped<MemoryType>, A, G>(bytes, alloc),
         SectionKind::Tables => count_skipped::<'a, TableItem<A>, A, G>(bytes, alloc),
         SectionKind::Tags => count_skipped::<'a, Dropped<TagType>, A, G>(bytes, alloc),
-        SectionKind::Types => count_skipped::<'a, Dropped<TypeEntry<A>>, A, G>(bytes, alloc),
+        SectionKind::Types => count_skipped::<'a, TypeEntry<A>, A, G>(bytes, alloc),
         SectionKind::DataCount | SectionKind::Start => {
             drop(read_content::<A, G>(kind, bytes, alloc)?);
             Ok(Some(1))

@@ -6,13 +6,12 @@ use crate::reader::kinds::{SectionKind, encode_items, read_content};
 use crate::alloc::Allocator;
 use crate::base::{DecodeError, Grammar, Minimize, Padded, ReadFault, Readable, minimize_whole, prefix_size_since};
 use crate::code::Body;
-use crate::custom::minimize_links;
+use crate::custom::{minimize_dylink, minimize_features, minimize_hints, minimize_instances, minimize_links, minimize_modules, minimize_names, minimize_producers, minimize_relocations, minimize_stack};
 use crate::sections::{ElementItem, Export, GlobalItem, Imports, MemoryType, Segment, TableItem, TagType};
 use crate::types::TypeEntry;
 
-/// Minimizes the payload of a section of this kind. Core items are not kept, and neither are
-/// subsections of a linking section. The items of other custom sections are decoded, and then
-/// encoded.
+/// Minimizes the payload of a section of this kind. No list of items is kept. A payload that is one
+/// name or one sequence of bytes is decoded, and then encoded.
 ///
 /// # Proved
 ///
@@ -58,7 +57,16 @@ pub(crate) fn minimize_content<A: Allocator + Copy, G: Grammar, B: Sink>(
         SectionKind::Tables => minimize_whole::<Vec<TableItem<A>, A>, A, G, _>(bytes, alloc, sink),
         SectionKind::Tags => minimize_whole::<Vec<TagType, A>, A, G, _>(bytes, alloc, sink),
         SectionKind::Types => minimize_whole::<Vec<TypeEntry<A>, A>, A, G, _>(bytes, alloc, sink),
+        SectionKind::Names => minimize_names::<A, G, _>(bytes, alloc, sink),
         SectionKind::Linking => minimize_links::<A, G, _>(bytes, alloc, sink),
+        SectionKind::Producers => minimize_producers::<A, G, _>(bytes, alloc, sink),
+        SectionKind::Hints => minimize_hints::<A, G, _>(bytes, alloc, sink),
+        SectionKind::CoreModules => minimize_modules::<A, G, _>(bytes, alloc, sink),
+        SectionKind::CoreInstances => minimize_instances::<A, G, _>(bytes, alloc, sink),
+        SectionKind::CoreStack => minimize_stack::<A, G, _>(bytes, alloc, sink),
+        SectionKind::TargetFeatures => minimize_features::<A, G, _>(bytes, alloc, sink),
+        SectionKind::Dylink => minimize_dylink::<A, G, _>(bytes, alloc, sink),
+        SectionKind::Relocations => minimize_relocations::<A, G, _>(bytes, alloc, sink),
         _ => {
             let items = read_content::<A, G>(kind, bytes, alloc)?;
             encode_items(&items, sink)?;
@@ -100,9 +108,7 @@ fn minimize_section<'a, A: Allocator + Copy, G: Grammar, B: Sink>(
 
 /// Appends the minimal encoding of the section at the front, and returns the section's length in
 /// the input, in bytes. Both are without the section's id. On an error, the bytes of the sink are
-/// unchanged. Core items are decoded one by one, and not kept; so are the subsections of a linking
-/// section. The items of other custom sections are allocated with the sink's allocator, and then
-/// dropped.
+/// unchanged. Items are decoded one by one, and not kept.
 ///
 /// In a code section that becomes shorter, instructions move. Offsets into it that are kept
 /// elsewhere are then wrong: relocations, debugging information, branch hints and source maps.

@@ -41,7 +41,7 @@ pub struct Outlined<'a> {
 }
 
 /// Returns the number of items of a section, if its payload decodes as its kind and the items are
-/// counted.
+/// counted. Those of custom sections are not, so their payloads are not decoded.
 ///
 /// # Proved
 ///
@@ -57,6 +57,9 @@ pub struct Outlined<'a> {
 ///
 /// Definitions: [`IsCount`](crate::definitions::reader::outlines::IsCount), [`section_kind_of`](crate::definitions::reader::outlines::section_kind_of). [How to read clauses](crate::definitions).
 fn count<A: Allocator + Copy>(section: &Section<'_, A>) -> Result<Option<u32>, ReadFault> {
+    if section.id() == 0 {
+        return Ok(None);
+    }
     match section.count() {
         Ok(count) => Ok(count),
         Err(error) if error.cause == ReadFault::Memory => Err(ReadFault::Memory),

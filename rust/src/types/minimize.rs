@@ -122,8 +122,8 @@ fn minimize_shape_after<'a, A: Allocator + Copy, G: Grammar, B: Sink>(
     }
 }
 
-/// Minimizes an optional descriptor and an inner type after the first byte, `tag`, which is appended
-/// already.
+/// Minimizes an optional descriptor and an inner type after the first byte, `tag`, which is
+/// appended already.
 ///
 /// # Proved
 ///
@@ -281,8 +281,9 @@ fn minimize_supertypes_and<'a, A: Allocator + Copy, G: Grammar, B: Sink>(
     minimize_composite::<A, G, _>(rest, alloc, sink)
 }
 
-/// Minimizes a final subtype whose first byte, 0x4F, precedes the bytes and is not appended. Without
-/// supertypes, which only the standard's grammar admits here, the composite type alone is appended.
+/// Minimizes a final subtype whose first byte, 0x4F, precedes the bytes and is not appended.
+/// Without supertypes, which only the standard's grammar admits here, the composite type alone is
+/// appended.
 ///
 /// # Proved
 ///

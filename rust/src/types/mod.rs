@@ -10,6 +10,7 @@ pub(crate) mod items;
 pub mod laws;
 pub(crate) mod minimize;
 pub(crate) mod shapes;
+pub(crate) mod skip;
 pub(crate) mod type_section;
 pub(crate) mod types;
 

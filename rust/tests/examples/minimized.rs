@@ -44,7 +44,7 @@ pub fn minimal_body<A: Allocator + Copy>(
     shorten_body(bytes, alloc, sink)
 }
 
-/// Minimizes the payload of a section. The output decodes, by the section's kind, to the same items.
+/// Minimizes the payload of a section. The output decodes to the same items of the section's kind.
 ///
 /// # Asks
 ///

@@ -92,12 +92,12 @@ fn first<'a>(alloc: &'a Grants, module: &'a [u8]) -> Section<'a, &'a Grants> {
     sections.next().unwrap().unwrap()
 }
 
-/// A section alone, counted and decoded.
+/// A section alone: counting requests no memory, and decoding so many times.
 #[track_caller]
-fn check_section(section: &str, counting: usize, decoding: usize) {
+fn check_section(section: &str, decoding: usize) {
     let bytes = module(&[section]);
     let (granted, _) = first_granted(|alloc| unless_refused(first(alloc, &bytes).count()));
-    assert_eq!(granted, counting);
+    assert_eq!(granted, 0);
     let (granted, _) =
         first_granted(|alloc| unless_refused(first(alloc, &bytes).items()).map(drop));
     assert_eq!(granted, decoding);
@@ -106,9 +106,9 @@ fn check_section(section: &str, counting: usize, decoding: usize) {
 /// A type has a list of parameters and one of results.
 #[test]
 fn of_sections() {
-    check_section(PADDED[0], 2, 3);
-    check_section(PADDED[1], 0, 1);
-    check_section(PADDED[2], 0, 1);
+    check_section(PADDED[0], 3);
+    check_section(PADDED[1], 1);
+    check_section(PADDED[2], 1);
 }
 
 #[test]

@@ -12,8 +12,8 @@ pub fn load_of_alignment_16()
     ensures { DecodesWhole body (0x00 ∷ 0x28 ∷ 0x10 ∷ 0x00 ∷ 0x0B ∷ []) (without_locals (ordered_load ∷ [])) }
 {}
 
-/// The byte sequences 41 and 01 0B, one after the other: they decode to a constant and `End`, and to
-/// nothing else.
+/// The byte sequences 41 and 01 0B, one after the other: they decode to a constant and `End`, and
+/// to nothing else.
 #[tactic(auto, using(crate::proofs::DecodeBodies::decodings))]
 pub fn pieces_of_a_constant()
     ensures { DecodesWhole body (0x00 ∷ 0x41 ∷ 0x01 ∷ 0x0B ∷ []) (without_locals constant_and_end) }

@@ -12,8 +12,8 @@
 /// ```
 pub fn load_of_alignment_16() {}
 
-/// The byte sequences 41 and 01 0B, one after the other: they decode to a constant and `End`, and to
-/// nothing else.
+/// The byte sequences 41 and 01 0B, one after the other: they decode to a constant and `End`, and
+/// to nothing else.
 ///
 /// # Proved
 ///

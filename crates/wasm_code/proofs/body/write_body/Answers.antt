@@ -1,4 +1,4 @@
-use Rattle.wasm_code.proofs.Common.{rules, fault_stays}
+use Rattle.wasm_code.proofs.Common.{rules}
 use Rattle.wasm_code.proofs.MinimizeBodies.{body_shortened}
 use Rattle.wasm_code.proofs.body.write_body.Goals as goal
 

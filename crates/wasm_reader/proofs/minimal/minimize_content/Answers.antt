@@ -1,8 +1,10 @@
 use Rattle.wasm_base.proofs.Faults.{if_err_more}
 use Rattle.wasm_reader.proofs.Common.{memory_stays, contents_of}
 use Rattle.wasm_reader.proofs.KindLaws.{bodies_read, segments_read, data_count_read, elements_read, exports_read, functions_read, globals_read, imports_read, memories_read, start_read, tables_read, tags_read, types_read, linking_read}
+use Rattle.wasm_reader.proofs.KindLaws.{names_read, producers_read, hints_read, core_modules_read, core_instances_read, core_stack_read, target_features_read, dylink_read, relocations_read}
 use Rattle.wasm_reader.proofs.MinimalSections.{bodies_minimized, segments_minimized, data_count_minimized, elements_minimized, exports_minimized, functions_minimized, globals_minimized, imports_minimized, memories_minimized, start_minimized, tables_minimized, tags_minimized}
-use Rattle.wasm_reader.proofs.MinimalSections.{types_minimized, linking_minimized, items_minimized, IsListed}
+use Rattle.wasm_reader.proofs.MinimalSections.{types_minimized, linking_minimized, items_minimized, IsSingle}
+use Rattle.wasm_reader.proofs.MinimalSections.{names_minimized, producers_minimized, hints_minimized, modules_minimized, instances_minimized, stack_minimized, features_minimized, dylink_minimized, relocations_minimized}
 use Rattle.wasm_reader.proofs.minimal.minimize_content.Goals as goal
 
 pub returns-in-Bodies-clause-found : goal.returns-in-Bodies-clause-found
@@ -89,11 +91,65 @@ returns-in-Linking-clause-found g c = linking_minimized _ c.args.kind c.args.byt
 pub returns-in-Linking-clause-none : goal.returns-in-Linking-clause-none
 returns-in-Linking-clause-none g c = if_err_more c.minimize_links.result (λ e f n. (linking_read _ c.args.kind c.args.bytes.now c.in-Linking.is).0 (f n)) c.minimize_links.ensures.none
 
+pub returns-in-Names-clause-found : goal.returns-in-Names-clause-found
+returns-in-Names-clause-found g c = names_minimized _ c.args.kind c.args.bytes.now _ _ c.minimize_names.result c.in-Names.is c.minimize_names.ensures.found
+
+pub returns-in-Names-clause-none : goal.returns-in-Names-clause-none
+returns-in-Names-clause-none g c = if_err_more c.minimize_names.result (λ e f n. (names_read _ c.args.kind c.args.bytes.now c.in-Names.is).0 (f n)) c.minimize_names.ensures.none
+
+pub returns-in-Producers-clause-found : goal.returns-in-Producers-clause-found
+returns-in-Producers-clause-found g c = producers_minimized _ c.args.kind c.args.bytes.now _ _ c.minimize_producers.result c.in-Producers.is c.minimize_producers.ensures.found
+
+pub returns-in-Producers-clause-none : goal.returns-in-Producers-clause-none
+returns-in-Producers-clause-none g c = if_err_more c.minimize_producers.result (λ e f n. (producers_read _ c.args.kind c.args.bytes.now c.in-Producers.is).0 (f n)) c.minimize_producers.ensures.none
+
+pub returns-in-Hints-clause-found : goal.returns-in-Hints-clause-found
+returns-in-Hints-clause-found g c = hints_minimized _ c.args.kind c.args.bytes.now _ _ c.minimize_hints.result c.in-Hints.is c.minimize_hints.ensures.found
+
+pub returns-in-Hints-clause-none : goal.returns-in-Hints-clause-none
+returns-in-Hints-clause-none g c = if_err_more c.minimize_hints.result (λ e f n. (hints_read _ c.args.kind c.args.bytes.now c.in-Hints.is).0 (f n)) c.minimize_hints.ensures.none
+
+pub returns-in-CoreModules-clause-found : goal.returns-in-CoreModules-clause-found
+returns-in-CoreModules-clause-found g c = modules_minimized _ c.args.kind c.args.bytes.now _ _ c.minimize_modules.result c.in-CoreModules.is c.minimize_modules.ensures.found
+
+pub returns-in-CoreModules-clause-none : goal.returns-in-CoreModules-clause-none
+returns-in-CoreModules-clause-none g c = if_err_more c.minimize_modules.result (λ e f n. (core_modules_read _ c.args.kind c.args.bytes.now c.in-CoreModules.is).0 (f n)) c.minimize_modules.ensures.none
+
+pub returns-in-CoreInstances-clause-found : goal.returns-in-CoreInstances-clause-found
+returns-in-CoreInstances-clause-found g c = instances_minimized _ c.args.kind c.args.bytes.now _ _ c.minimize_instances.result c.in-CoreInstances.is c.minimize_instances.ensures.found
+
+pub returns-in-CoreInstances-clause-none : goal.returns-in-CoreInstances-clause-none
+returns-in-CoreInstances-clause-none g c = if_err_more c.minimize_instances.result (λ e f n. (core_instances_read _ c.args.kind c.args.bytes.now c.in-CoreInstances.is).0 (f n)) c.minimize_instances.ensures.none
+
+pub returns-in-CoreStack-clause-found : goal.returns-in-CoreStack-clause-found
+returns-in-CoreStack-clause-found g c = stack_minimized _ c.args.kind c.args.bytes.now _ _ c.minimize_stack.result c.in-CoreStack.is c.minimize_stack.ensures.found
+
+pub returns-in-CoreStack-clause-none : goal.returns-in-CoreStack-clause-none
+returns-in-CoreStack-clause-none g c = if_err_more c.minimize_stack.result (λ e f n. (core_stack_read _ c.args.kind c.args.bytes.now c.in-CoreStack.is).0 (f n)) c.minimize_stack.ensures.none
+
+pub returns-in-TargetFeatures-clause-found : goal.returns-in-TargetFeatures-clause-found
+returns-in-TargetFeatures-clause-found g c = features_minimized _ c.args.kind c.args.bytes.now _ _ c.minimize_features.result c.in-TargetFeatures.is c.minimize_features.ensures.found
+
+pub returns-in-TargetFeatures-clause-none : goal.returns-in-TargetFeatures-clause-none
+returns-in-TargetFeatures-clause-none g c = if_err_more c.minimize_features.result (λ e f n. (target_features_read _ c.args.kind c.args.bytes.now c.in-TargetFeatures.is).0 (f n)) c.minimize_features.ensures.none
+
+pub returns-in-Dylink-clause-found : goal.returns-in-Dylink-clause-found
+returns-in-Dylink-clause-found g c = dylink_minimized _ c.args.kind c.args.bytes.now _ _ c.minimize_dylink.result c.in-Dylink.is c.minimize_dylink.ensures.found
+
+pub returns-in-Dylink-clause-none : goal.returns-in-Dylink-clause-none
+returns-in-Dylink-clause-none g c = if_err_more c.minimize_dylink.result (λ e f n. (dylink_read _ c.args.kind c.args.bytes.now c.in-Dylink.is).0 (f n)) c.minimize_dylink.ensures.none
+
+pub returns-in-Relocations-clause-found : goal.returns-in-Relocations-clause-found
+returns-in-Relocations-clause-found g c = relocations_minimized _ c.args.kind c.args.bytes.now _ _ c.minimize_relocations.result c.in-Relocations.is c.minimize_relocations.ensures.found
+
+pub returns-in-Relocations-clause-none : goal.returns-in-Relocations-clause-none
+returns-in-Relocations-clause-none g c = if_err_more c.minimize_relocations.result (λ e f n. (relocations_read _ c.args.kind c.args.bytes.now c.in-Relocations.is).0 (f n)) c.minimize_relocations.ensures.none
+
 pub returns-in_err-encode_items-in_default-clause-none : goal.returns-in_err-encode_items-in_default-clause-none
 returns-in_err-encode_items-in_default-clause-none g c = memory_stays _ c.from_residual-in_err-encode_items-in_default.result c.from_residual-in_err-encode_items-in_default.ensures.1
 
 pub returns-in_ok-encode_items-in_default-clause-found : goal.returns-in_ok-encode_items-in_default-clause-found
 returns-in_ok-encode_items-in_default-clause-found g c =
     let other = c.in_default in
-    let listed : IsListed c.args.kind = (other.not-Bodies, other.not-Segments, other.not-DataCount, other.not-Elements, other.not-Exports, other.not-Functions, other.not-Globals, other.not-Imports, other.not-Memories, other.not-Start, other.not-Tables, other.not-Tags, other.not-Types, other.not-Linking) in
-    items_minimized g.G.Grammar.grammar c.args.kind c.args.bytes.now _ _ (contents_of c.in_ok-items-in_default.items) listed c.in_ok-items-in_default.ensures.found c.in_ok-encode_items-in_default.ensures.ok
+    let single : IsSingle c.args.kind = (other.not-Bodies, other.not-Segments, other.not-DataCount, other.not-Elements, other.not-Exports, other.not-Functions, other.not-Globals, other.not-Imports, other.not-Memories, other.not-Start, other.not-Tables, other.not-Tags, other.not-Types, other.not-Names, other.not-Linking, other.not-Producers, other.not-Hints, other.not-CoreModules, other.not-CoreInstances, other.not-CoreStack, other.not-TargetFeatures, other.not-Dylink, other.not-Relocations) in
+    items_minimized g.G.Grammar.grammar c.args.kind c.args.bytes.now _ _ (contents_of c.in_ok-items-in_default.items) single c.in_ok-items-in_default.ensures.found c.in_ok-encode_items-in_default.ensures.ok

@@ -1,4 +1,4 @@
-use Rattle.wasm_base.proofs.Words.{List, [], ◌∷◌, ◌++◌, ◌∙◌, ap, on_ok}
+use Rattle.wasm_base.proofs.Words.{[], ◌∷◌, ◌++◌, ◌∙◌, ap, on_ok}
 use Rattle.wasm_base.proofs.MinimizeLaws.{appended_then}
 use Rattle.wasm_base.specs.Types.{val_encoding_in}
 use Rattle.wasm_sections.specs.{global_code, global_flags}

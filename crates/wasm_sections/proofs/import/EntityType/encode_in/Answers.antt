@@ -1,4 +1,4 @@
-use Rattle.wasm_base.proofs.Words.{◌≡◌, List, [], ◌∷◌, ◌++◌, sym, subst, on_ok}
+use Rattle.wasm_base.proofs.Words.{◌≡◌, [], ◌∷◌, ◌++◌, sym, subst, on_ok}
 use Rattle.wasm_base.proofs.MinimizeLaws.{appended_then}
 use Rattle.wasm_sections.specs.{entity_encoding_in, table_encoding_in, global_encoding_in}
 use Rattle.wasm_sections.proofs.import.EntityType.encode_in.Goals as goal

@@ -1,5 +1,5 @@
 use Rattle.wasm_custom.proofs.Common.{fault_stays, instance_none, instance_decodes}
-use Rattle.wasm_custom.proofs.core_dumps.InstanceItemsDecodesItemsTuple3U32VecU32VecU32.read_item.Goals as goal
+use Rattle.wasm_custom.proofs.core_dumps.CoreInstanceReadable.read.Goals as goal
 
 pub returns-in_err-module_index-clause-none : goal.returns-in_err-module_index-clause-none
 returns-in_err-module_index-clause-none g c = fault_stays c.from_residual.result _ c.from_residual.ensures.1 λ n. instance_none c.args.bytes.now (c.in_err-module_index.ensures.none n)

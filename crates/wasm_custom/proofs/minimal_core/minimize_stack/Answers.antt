@@ -1,0 +1,14 @@
+use Rattle.wasm_base.proofs.Words.{pair, vec, fault_stays}
+use Rattle.wasm_custom.specs.{stack_name, marked_name, stack_frame}
+use Rattle.wasm_custom.proofs.CoreStackLaws.{stack_none, stack_rejects}
+use Rattle.wasm_custom.proofs.MinimizeCustoms.{named_minimizes}
+use Rattle.wasm_custom.proofs.minimal_core.minimize_stack.Goals as goal
+
+pub returns-in_err-rest-clause-none : goal.returns-in_err-rest-clause-none
+returns-in_err-rest-clause-none g c = fault_stays c.from_residual.result _ c.from_residual.ensures.1 λ n. stack_none c.args.bytes.now (c.in_err-rest.ensures.none n)
+
+pub returns-in_err-minimize_whole-clause-none : goal.returns-in_err-minimize_whole-clause-none
+returns-in_err-minimize_whole-clause-none g c = fault_stays c.from_residual-in_err-minimize_whole.result _ c.from_residual-in_err-minimize_whole.ensures.1 λ n. stack_rejects c.args.bytes.now _ c.in_ok-rest.ensures.found (c.in_err-minimize_whole.ensures.none n)
+
+pub returns-clause-found : goal.returns-clause-found
+returns-clause-found g c = named_minimizes g.G.Grammar.grammar stack_name c.in_ok-rest.ensures.found c.in_ok-encode.ensures.appends.ok (pair marked_name (vec stack_frame)) c.in_ok-minimize_whole.ensures.found
