@@ -591,6 +591,26 @@ pub named_uncounted : (n : List ℕ) → IsUncounted (kind_named n)
 named_uncounted n = for_if IsUncounted (begins_with relocations_prefix n) (λ m s x g. sym (ap number_in g.1))
     (uncounted_among known_names (
       λ m s x g. sym (ap number_in g.1),
-      (λ m s x g. sym (ap number_in g.1), (λ m s x g. sym (ap number_in g.1), (λ m s x g. sym (ap number_in g.1), (λ m s x g. sym (ap number_in g.1), (λ m s x g. sym (ap number_in g.1), (λ m s x g. sym (ap number_in g.1), (λ m s x g. sym (ap number_in g.1),
-      (λ m s x g. sym (ap number_in g.1), (λ m s x g. sym (ap number_in g.1), (λ m s x g. sym (ap number_in g.1), (λ m s x g. sym (ap number_in g.1), (λ m s x g. sym (ap number_in g.1), tt)))))))))))),
+      (
+        λ m s x g. sym (ap number_in g.1),
+        (
+          λ m s x g. sym (ap number_in g.1),
+          (
+            λ m s x g. sym (ap number_in g.1),
+            (
+              λ m s x g. sym (ap number_in g.1),
+              (
+                λ m s x g. sym (ap number_in g.1),
+                (
+                  λ m s x g. sym (ap number_in g.1),
+                  (
+                    λ m s x g. sym (ap number_in g.1),
+                    (λ m s x g. sym (ap number_in g.1), (λ m s x g. sym (ap number_in g.1), (λ m s x g. sym (ap number_in g.1), (λ m s x g. sym (ap number_in g.1), (λ m s x g. sym (ap number_in g.1), tt))))),
+                  ),
+                ),
+              ),
+            ),
+          ),
+        ),
+      ),
     ) n)

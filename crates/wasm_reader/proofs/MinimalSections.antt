@@ -14,7 +14,7 @@ use Rattle.wasm_code.proofs.Words.{body}
 use Rattle.wasm_sections.proofs.Words.{data_item, element, export, global_item, import_format, memory_type, table_item, tag_type}
 use Rattle.wasm_types.proofs.Words.{type_item}
 use Rattle.wasm_custom.proofs.Words.{linking_payload}
-use Rattle.wasm_custom.specs.{name_payload, producers_payload, hints_payload, modules_payload, instances_payload, stack_payload, features_payload, dylink_payload, relocations_payload}
+use Rattle.wasm_custom.proofs.Words.{name_payload, producers_payload, hints_payload, modules_payload, instances_payload, stack_payload, features_payload, dylink_payload, relocations_payload}
 use Rattle.wasm_custom.proofs.SharedFormats.{core_same, source_map_same, debug_file_same, build_id_same}
 use Rattle.wasm_reader.proofs.DecodeSections.{taken}
 use Rattle.wasm_reader.specs.declared.kinds.SectionKind.TheVariants as kinds
