@@ -14,7 +14,7 @@ enum { BYTES = 1000000 };
 typedef struct {
     const char *name;
     int id;
-    int framed; /* whether all is size-prefixed, after a 1: one body, or the names of functions */
+    int framed; /* the byte before the size prefix of all, such as a subsection's id, or 0 without one */
     int counted; /* whether the number of repetitions is before them */
     size_t name_len, before_len, item_len, after_len;
     const char *custom, *before, *item, *after;
@@ -48,6 +48,8 @@ static const shape SHAPES[] = {
     SHAPE("one core instance", 0, 0, 1, "\x0D" "coreinstances", "\1\0\0", "\0", "\0"),
     SHAPE("one core frame", 0, 0, 1, "\x09" "corestack", "\0\1t\1\0\0\0\0", "\x7F\0", "\0"),
     SHAPE("relocations", 0, 0, 1, "\x0Areloc.CODE", "\3", "\0\4\0", ""),
+    SHAPE("needed libraries", 0, 2, 1, "\x08" "dylink.0", "", "\1l", ""),
+    SHAPE("one symbol table", 0, 8, 1, "\7linking\2", "", "\0\0\0\1f", ""),
     SHAPE("one custom section", 0, 0, 0, "\1c", "", "\0", ""),
     SHAPE("empty sections", -1, 0, 0, "", "", "\1\0", ""),
 };
@@ -80,7 +82,7 @@ static size_t content(const shape *s, uint8_t *out) {
     if (s->framed) {
         len = frame(out, len);
         memmove(out + 1, out, len++);
-        out[0] = 1;
+        out[0] = (uint8_t)s->framed;
     }
     memmove(out + s->name_len, out, len);
     memcpy(out, s->custom, s->name_len);
