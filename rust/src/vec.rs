@@ -47,10 +47,14 @@ impl<T, A: Allocator> Vec<T, A> {
     /// # Errors
     ///
     /// Returns [`AllocError`] if the allocation fails.
+    #[inline]
     pub fn with_capacity(alloc: A, capacity: usize) -> Result<Self, AllocError> {
-        let mut vec = Vec::new(alloc);
-        vec.reserve_exact(capacity)?;
-        Ok(vec)
+        let mut items = vec::Vec::new();
+        if capacity > 0 {
+            alloc.grant(capacity.saturating_mul(size_of::<T>()))?;
+            items.try_reserve_exact(capacity)?;
+        }
+        Ok(Vec { items, alloc })
     }
 
     /// Returns the allocator.

@@ -64,7 +64,7 @@ pub use Rattle.wasm_custom.proofs.Words.{adds_relocation, new_relocations, reloc
 pub use Rattle.wasm_custom.specs.declared.target_features.FeaturePrefix.TheVariants.{Disallowed, Used}
 pub use Rattle.wasm_immediates.specs.declared.block_type.BlockType.TheVariants.{Empty}
 pub use Rattle.wasm_immediates.specs.declared.memory.MemArgTarget.TheVariants.{Memory}
-pub use Rattle.wasm_insn.proofs.Words.{HasSmallAlignments, IsWellFormedWhereAligned, Plain, byte_encodes, byte_shape, instruction, one_argument, table, unsigned}
+pub use Rattle.wasm_insn.proofs.Words.{DecodesOperation, HasSmallAlignments, IsWellFormedWhereAligned, Plain, byte_encodes, byte_shape, instruction, one_argument, table, unsigned}
 pub use Rattle.wasm_insn.specs.declared.instruction.Instruction.{Instruction}
 pub use Rattle.wasm_insn.specs.declared.instruction.Instruction.TheVariants.{Block, BrIf, Call, End, GlobalGet, GlobalSet, I32Const, I32Load, I32Store, LocalGet, Numeric, RefFunc, RefNull, Return}
 pub use Rattle.wasm_insn.specs.declared.numeric.Numeric.TheVariants.{I32Add, I32Eqz, I32Mul, I32Sub}

@@ -7,6 +7,7 @@ pub mod Laws
 pub mod BodyViews
 pub mod Offsets
 pub mod Walks
+pub mod Members
 unfoldable pub use Rattle.wasm_code.specs.Expressions.*
 unfoldable pub use Rattle.wasm_code.specs.Bodies.*
 unfoldable pub use Rattle.wasm_code.specs.Code.*
@@ -14,3 +15,4 @@ unfoldable pub use Rattle.wasm_code.specs.Laws.*
 unfoldable pub use Rattle.wasm_code.specs.BodyViews.*
 unfoldable pub use Rattle.wasm_code.specs.Offsets.*
 unfoldable pub use Rattle.wasm_code.specs.Walks.*
+unfoldable pub use Rattle.wasm_code.specs.Members.*

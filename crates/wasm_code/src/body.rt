@@ -21,7 +21,7 @@ use wasm_insn::Plain;
 
 /// The capacity of a new list allows for one instruction per this many bytes. The list grows if
 /// they are shorter.
-const BYTES_OF_ONE: usize = 4;
+const BYTES_OF_ONE: usize = 2;
 
 /// Decodes instructions that occupy all of the bytes.
 ///
@@ -35,7 +35,8 @@ pub fn read_code<'a, A: Allocator + Copy, G: Grammar>(
     ensures found { IfOk result (λ x. members (instruction table) (padded_of G.grammar) bytes.now (map plain_view x.items)) }
     ensures none { IfErr result (λ e. e.cause ≢ Memory → RejectsWhole (members (instruction table)) (padded_of G.grammar) bytes.now) }
 {
-    let mut items = Vec::with_capacity(alloc, bytes.len() / BYTES_OF_ONE)?;
+    let capacity = bytes.len() / BYTES_OF_ONE + bytes.len() % BYTES_OF_ONE;
+    let mut items = Vec::with_capacity(alloc, capacity)?;
     let mut rest = bytes;
     loop {
         if rest.is_empty() {

@@ -10,6 +10,7 @@ mod first;
 mod function;
 pub mod laws;
 mod locals;
+mod members;
 mod walk;
 
 pub use body::{Body, read_body, read_code, shorten_body};
@@ -17,4 +18,5 @@ pub use code_section::CodeSection;
 pub use const_expr::ConstExpr;
 pub use expression::Expression;
 pub use function::Function;
-pub use walk::{Instructions, Step};
+pub use members::Members;
+pub use walk::{Decoded, Instructions};

@@ -1,5 +1,5 @@
-// A visitor of instructions, one at a time.
-ghost use Rattle.std.specs.Prelude.{◌≡◌, ◌≢◌, ◌≤◌, ◌<◌, ◌+◌, [], ◌∷◌, IfOk, IfErr, IfSome, None, drop, length, map};
+// A visitor of instructions, one at a time. It allocates nothing.
+ghost use Rattle.std.specs.Prelude.{◌≡◌, ◌≢◌, ◌≤◌, ◌<◌, ◌+◌, [], ◌∷◌, IfOk, IfErr, IfSome, None, drop, length};
 ghost use Rattle.wasm_base.specs.Formats.{u32, pair, such, vec};
 ghost use Rattle.wasm_base.specs.Continuing.{RejectsWhole};
 ghost use Rattle.wasm_base.specs.Numbers.{padded, standard, padded_of};
@@ -10,23 +10,21 @@ ghost use Rattle.wasm_insn.specs.Table.{table};
 ghost use Rattle.wasm_code.specs.Bodies.{body};
 ghost use Rattle.wasm_code.specs.Expressions.{IsNoEnd, expression};
 ghost use Rattle.wasm_base.specs.declared.fault.ReadFault.TheVariants.{Memory};
-ghost use Rattle.wasm_insn.specs.Views.{argument_view};
+ghost use Rattle.wasm_insn.specs.Operands.{DecodesOperation};
 ghost use Rattle.wasm_code.specs.Walks.{Walking, ahead};
 
 use crate::expression::END;
 use std::alloc::{Allocator, Global};
 use std::marker::{Model, PhantomData};
 use wasm_base::{DecodeError, Grammar, Padded, ReadFault, Readable, Standard, ValType};
-use wasm_insn::{Arg, Op, read_instruction_into};
+use wasm_insn::{Op, Operands, read_instruction};
 
-/// Visits the instructions of a body or an expression, one after another. It keeps the arguments of
-/// one instruction, in memory that it reuses: lists in arguments apart, it allocates nothing after
-/// the first instruction that has arguments.
+/// Visits the instructions of a body or an expression, one after another, and allocates nothing.
 ///
 /// ```text
 /// let (_runs, mut instructions) = Instructions::of_body(bytes, alloc)?;
-/// while let Some(step) = instructions.next()? {
-///     // step.op begins at step.offset, and instructions.args() are its arguments
+/// while let Some(decoded) = instructions.next()? {
+///     // decoded.op begins at decoded.offset, and decoded.operands are its operands
 /// }
 /// ```
 ///
@@ -38,30 +36,32 @@ use wasm_insn::{Arg, Op, read_instruction_into};
 pub struct Instructions<'a, A: Allocator = Global, G: Grammar = Padded> {
     bytes: &'a [u8],
     offset: usize,
-    args: Vec<Arg<A>, A>,
+    alloc: A,
     grammar: PhantomData<G>,
 }
 
 impl<'a, A: Allocator, G: Grammar> Model for Instructions<'a, A, G> {
     ghost Value = { Walking };
 
-    ghost view = { λ w. record { bytes = w.bytes.now; offset = w.offset; arguments = map argument_view w.args.items } };
+    ghost view = { λ w. record { bytes = w.bytes.now; offset = w.offset } };
 
     ghost invariant = { λ w. w.offset ≤ length w.bytes.now };
 }
 
-/// A visited instruction: its offset in bytes, and its opcode.
-#[derive(Clone, Copy, PartialEq, Eq, Debug)]
-pub struct Step {
+/// A decoded instruction: its offset in bytes, its opcode, and its operands, which borrow the
+/// bytes.
+#[derive(Clone, Copy, Debug)]
+pub struct Decoded<'a> {
     pub offset: usize,
     pub op: Op,
+    pub operands: Operands<'a>,
 }
 
 impl<'a, A: Allocator + Copy> Instructions<'a, A> {
     /// Returns a visitor that begins at the first byte, and allocates nothing. It accepts padded
     /// numbers.
     pub fn new(bytes: &'a [u8], alloc: A) -> Self
-        ensures { result ≡ record { bytes = bytes.now; offset = 0; arguments = [] } }
+        ensures { result ≡ record { bytes = bytes.now; offset = 0 } }
     {
         Instructions::begin(bytes, alloc)
     }
@@ -73,7 +73,6 @@ impl<'a, A: Allocator + Copy> Instructions<'a, A> {
         ensures found { IfOk result (λ x. Decodes (vec (pair u32 val_type)) padded bytes.now x.0.items (ahead x.1)) }
         ensures same { IfOk result (λ x. x.1.bytes ≡ bytes.now) }
         ensures within { IfOk result (λ x. x.1.offset ≤ length bytes.now) }
-        ensures before { IfOk result (λ x. x.1.arguments ≡ []) }
         ensures none { IfErr result (λ e. e.cause ≢ Memory → RejectsWhole body padded bytes.now) }
     {
         Instructions::begin_body(bytes, alloc)
@@ -84,7 +83,7 @@ impl<'a, A: Allocator + Copy> Instructions<'a, A, Standard> {
     /// Returns a visitor that begins at the first byte, and allocates nothing. It accepts all
     /// encodings that the standard admits.
     pub fn standard(bytes: &'a [u8], alloc: A) -> Self
-        ensures { result ≡ record { bytes = bytes.now; offset = 0; arguments = [] } }
+        ensures { result ≡ record { bytes = bytes.now; offset = 0 } }
     {
         Instructions::begin(bytes, alloc)
     }
@@ -98,7 +97,6 @@ impl<'a, A: Allocator + Copy> Instructions<'a, A, Standard> {
         ensures found { IfOk result (λ x. Decodes (vec (pair u32 val_type)) standard bytes.now x.0.items (ahead x.1)) }
         ensures same { IfOk result (λ x. x.1.bytes ≡ bytes.now) }
         ensures within { IfOk result (λ x. x.1.offset ≤ length bytes.now) }
-        ensures before { IfOk result (λ x. x.1.arguments ≡ []) }
         ensures none { IfErr result (λ e. e.cause ≢ Memory → RejectsWhole body standard bytes.now) }
     {
         Instructions::begin_body(bytes, alloc)
@@ -108,12 +106,12 @@ impl<'a, A: Allocator + Copy> Instructions<'a, A, Standard> {
 impl<'a, A: Allocator + Copy, G: Grammar> Instructions<'a, A, G> {
     /// Returns a visitor that begins at the first byte.
     fn begin(bytes: &'a [u8], alloc: A) -> Self
-        ensures { result ≡ record { bytes = bytes.now; offset = 0; arguments = [] } }
+        ensures { result ≡ record { bytes = bytes.now; offset = 0 } }
     {
         Instructions {
             bytes,
             offset: 0,
-            args: Vec::new(alloc),
+            alloc,
             grammar: PhantomData,
         }
     }
@@ -124,44 +122,44 @@ impl<'a, A: Allocator + Copy, G: Grammar> Instructions<'a, A, G> {
         ensures found { IfOk result (λ x. Decodes (vec (pair u32 val_type)) (padded_of G.grammar) bytes.now x.0.items (ahead x.1)) }
         ensures same { IfOk result (λ x. x.1.bytes ≡ bytes.now) }
         ensures within { IfOk result (λ x. x.1.offset ≤ length bytes.now) }
-        ensures before { IfOk result (λ x. x.1.arguments ≡ []) }
         ensures none { IfErr result (λ e. e.cause ≢ Memory → RejectsWhole body (padded_of G.grammar) bytes.now) }
     {
         let (runs, rest) = <Vec<(u32, ValType), A> as Readable<'a, A, G>>::read(bytes, alloc)?;
         let instructions = Instructions {
             bytes,
             offset: bytes.len() - rest.len(),
-            args: Vec::new(alloc),
+            alloc,
             grammar: PhantomData,
         };
         Ok((runs, instructions))
     }
 
     /// Visits the instruction at the offset of the visitor, and advances the offset past it.
-    fn step(&mut self) -> Result<Step, DecodeError>
-        ensures offset { IfOk result (λ step. step.offset ≡ self.old.offset) }
-        ensures found { IfOk result (λ step. Decodes (instruction table) (padded_of G.grammar) (ahead self.old) (record { op = step.op; arguments = self.new.arguments }) (ahead self.new)) }
+    #[inline(always)]
+    fn step(&mut self) -> Result<Decoded<'a>, DecodeError>
+        ensures offset { IfOk result (λ it. it.offset ≡ self.old.offset) }
+        ensures found { IfOk result (λ it. DecodesOperation (instruction table) (padded_of G.grammar) (ahead self.old) it.op it.operands (ahead self.new)) }
         ensures further { IfOk result (λ _. (self.old.offset < self.new.offset) × (self.new.offset ≤ length self.new.bytes)) }
         ensures same { self.new.bytes ≡ self.old.bytes }
         ensures stays { IfErr result (λ _. self.new.offset ≡ self.old.offset) }
         ensures none { IfErr result (λ e. e.cause ≢ Memory → Rejects (instruction table) (padded_of G.grammar) (ahead self.old)) }
     {
         let offset = self.offset;
-        let alloc = *self.args.allocator();
-        let (op, rest) = read_instruction_into::<A, G>(
-            &self.bytes[offset..],
-            alloc,
-            &mut self.args,
-        )?;
+        let (op, operands, rest) = read_instruction::<A, G>(&self.bytes[offset..], self.alloc)?;
         self.offset = self.bytes.len() - rest.len();
-        Ok(Step { offset, op })
+        Ok(Decoded {
+            offset,
+            op,
+            operands,
+        })
     }
 
     /// Visits the next instruction, or returns `None` at the end of the bytes. After an error the
     /// offset is unchanged.
-    pub fn next(&mut self) -> Result<Option<Step>, DecodeError>
-        ensures offset { IfOk result (λ next. IfSome next (λ step. step.offset ≡ self.old.offset)) }
-        ensures found { IfOk result (λ next. IfSome next (λ step. Decodes (instruction table) (padded_of G.grammar) (ahead self.old) (record { op = step.op; arguments = self.new.arguments }) (ahead self.new))) }
+    #[inline(always)]
+    pub fn next(&mut self) -> Result<Option<Decoded<'a>>, DecodeError>
+        ensures offset { IfOk result (λ next. IfSome next (λ it. it.offset ≡ self.old.offset)) }
+        ensures found { IfOk result (λ next. IfSome next (λ it. DecodesOperation (instruction table) (padded_of G.grammar) (ahead self.old) it.op it.operands (ahead self.new))) }
         ensures further { IfOk result (λ next. IfSome next (λ _. (self.old.offset < self.new.offset) × (self.new.offset ≤ length self.new.bytes))) }
         ensures end { IfOk result (λ next. next ≡ None → ahead self.old ≡ []) }
         ensures ended { IfOk result (λ next. next ≡ None → self.new ≡ self.old) }
@@ -173,15 +171,16 @@ impl<'a, A: Allocator + Copy, G: Grammar> Instructions<'a, A, G> {
         if self.offset == self.bytes.len() {
             return Ok(None);
         }
-        let step = self.step()?;
-        Ok(Some(step))
+        let decoded = self.step()?;
+        Ok(Some(decoded))
     }
 
     /// Visits the next instruction of an expression, or returns `None` at its final `End`, which
     /// the visitor does not pass. After an error the offset is unchanged.
-    pub fn next_before_end(&mut self) -> Result<Option<Step>, DecodeError>
-        ensures offset { IfOk result (λ next. IfSome next (λ step. step.offset ≡ self.old.offset)) }
-        ensures found { IfOk result (λ next. IfSome next (λ step. Decodes (such IsNoEnd (instruction table)) (padded_of G.grammar) (ahead self.old) (record { op = step.op; arguments = self.new.arguments }) (ahead self.new))) }
+    #[inline(always)]
+    pub fn next_before_end(&mut self) -> Result<Option<Decoded<'a>>, DecodeError>
+        ensures offset { IfOk result (λ next. IfSome next (λ it. it.offset ≡ self.old.offset)) }
+        ensures found { IfOk result (λ next. IfSome next (λ it. DecodesOperation (such IsNoEnd (instruction table)) (padded_of G.grammar) (ahead self.old) it.op it.operands (ahead self.new))) }
         ensures further { IfOk result (λ next. IfSome next (λ _. (self.old.offset < self.new.offset) × (self.new.offset ≤ length self.new.bytes))) }
         ensures end { IfOk result (λ next. next ≡ None → ahead self.old ≡ 0x0B ∷ drop (self.old.offset + 1) self.old.bytes) }
         ensures ended { IfOk result (λ next. next ≡ None → self.new ≡ self.old) }
@@ -195,16 +194,8 @@ impl<'a, A: Allocator + Copy, G: Grammar> Instructions<'a, A, G> {
         if *first == END {
             return Ok(None);
         }
-        let step = self.step()?;
-        Ok(Some(step))
-    }
-
-    /// Returns the arguments of the instruction that was visited last. After an error they are
-    /// unspecified.
-    pub fn args(&self) -> &[Arg<A>]
-        ensures { map argument_view result.now ≡ self.now.arguments }
-    {
-        &self.args
+        let decoded = self.step()?;
+        Ok(Some(decoded))
     }
 
     /// Returns the offset of the next instruction, in bytes.

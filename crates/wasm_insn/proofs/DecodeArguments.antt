@@ -7,7 +7,7 @@ use Rattle.wasm_base.specs.declared.types.ValType.{ValType}
 use Rattle.wasm_insn.specs.declared.op.Shape.{Shape}
 use Rattle.wasm_insn.specs.declared.part.Part.{Part}
 use Rattle.wasm_insn.specs.{parts_of, Argument, unsigned, signed32, signed64, float32, float64, vector, memory, lane, lanes, block, heap, ordering, labels, catches, types, handles, flag, part}
-use Rattle.wasm_insn.specs.{arguments, cons, float32_of, float64_of, argument_view}
+use Rattle.wasm_insn.specs.{arguments, cons, float32_of, float64_of}
 use Rattle.wasm_insn.proofs.PlainLaws.{part_unambiguous}
 use Rattle.wasm_immediates.specs.declared.floats.Ieee32.{Ieee32}
 use Rattle.wasm_immediates.specs.declared.floats.Ieee64.{Ieee64}
@@ -17,7 +17,6 @@ use Rattle.wasm_immediates.specs.declared.block_type.BlockType.{BlockType}
 use Rattle.wasm_immediates.specs.declared.control.Catch.{Catch}
 use Rattle.wasm_immediates.specs.declared.control.Handle.{Handle}
 use Rattle.wasm_immediates.proofs.Words.{ordering_format, block_type, mem_arg, catch, handle}
-use Rattle.wasm_insn.specs.declared.arguments.Arg.{Arg}
 use Rattle.wasm_insn.specs.declared.part.Part.TheVariants as parts
 
 -- ---- a loop over the types of immediates
@@ -68,19 +67,6 @@ pub ruleset shape_steps = (shape_decodes, shape_rejects)
 -- ---- a shape of one immediate
 
 module _ (shape : Shape) (p : Part) (e : parts_of shape ≡ p ∷ []) (bytes : List ℕ) where
-  pub one_read : {m : Mode} {A : Type 0} (rest last : List ℕ) (x : Arg A) (items : List (Arg A)) → Decodes (part p) m bytes (argument_view x) rest → items ≡ x ∷ [] → last ≡ rest → Decodes (arguments (parts_of shape)) m bytes (map argument_view items) last
-  one_read {m = m} rest last x items h i l =
-      let none : List Argument = [] in
-      let one : Decodes (arguments (p ∷ [])) m bytes (argument_view x ∷ none) rest = mapped_decodes cons (then_decodes h (fixed_decodes rest none)) in
-      let listed : Decodes (arguments (p ∷ [])) m bytes (map argument_view items) rest = subst (λ z. Decodes (arguments (p ∷ [])) m bytes (map argument_view z) rest) (sym i) one in
-      subst (λ ps. Decodes (arguments ps) m bytes (map argument_view items) last) (sym e) (subst (λ z. Decodes (arguments (p ∷ [])) m bytes (map argument_view items) z) (sym l) listed)
-
-  -- An immediate that is skipped.
-  pub one_skipped : {m : Mode} (rest : List ℕ) (x : Argument) → Decodes (part p) m bytes x rest → (xs : List Argument) × Decodes (arguments (parts_of shape)) m bytes xs rest
-  one_skipped {m = m} rest x h =
-      let none : List Argument = [] in
-      (x ∷ none, subst (λ ps. Decodes (arguments ps) m bytes (x ∷ none) rest) (sym e) (mapped_decodes cons (then_decodes h (fixed_decodes rest none))))
-
   pub one_rejects : {m : Mode} → Rejects (part p) m bytes → Rejects (arguments (parts_of shape)) m bytes
   one_rejects {m = m} n = subst (λ ps. Rejects (arguments ps) m bytes) (sym e) (mapped_rejects cons (then_rejects_first n))
 

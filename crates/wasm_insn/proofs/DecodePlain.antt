@@ -38,10 +38,10 @@ argument_is parts.Types mode s x h = subst (IsDecoded parts.Types) h.1 (vec_is I
 argument_is parts.Handles mode s x h = subst (IsDecoded parts.Handles) h.1 (vec_is IsWellFormedHandle handle handle_is mode s h.0 h.2, refl, refl)
 argument_is parts.Flag mode s x h = subst (IsDecoded parts.Flag) h.1 (h.2.1, refl, refl)
 
-abbrev AreDecoded : List Part → List Argument → Type 0
+abbrev pub AreDecoded : List Part → List Argument → Type 0
 AreDecoded ps xs = AreWellFormed xs × (normal_arguments xs ≡ xs) × (map part_of xs ≡ ps)
 
-arguments_are : (ps : List Part) → AllValues (AreDecoded ps) (arguments ps)
+pub arguments_are : (ps : List Part) → AllValues (AreDecoded ps) (arguments ps)
 arguments_are [] mode s xs h = subst (AreDecoded []) (sym h.1) (tt, refl, refl)
 arguments_are (p ∷ ps) mode s xs h =
     let first = argument_is p mode h.2.front h.0.0 h.2.first in

@@ -10,4 +10,5 @@ pub mod CaseLaws
 pub mod DecodeArguments
 pub mod DecodeInstructions
 pub mod DecodePlain
+pub mod DecodeOperands
 pub mod MinimizeInstructions

@@ -15,6 +15,7 @@ pub mod Instructions
 pub mod Sink
 pub mod Cases
 pub mod Views
+pub mod Operands
 unfoldable pub use Rattle.wasm_insn.specs.Opcodes.*
 unfoldable pub use Rattle.wasm_insn.specs.Parts.*
 unfoldable pub use Rattle.wasm_insn.specs.Arguments.*
@@ -30,3 +31,4 @@ unfoldable pub use Rattle.wasm_insn.specs.Instructions.*
 unfoldable pub use Rattle.wasm_insn.specs.Sink.*
 unfoldable pub use Rattle.wasm_insn.specs.Cases.*
 unfoldable pub use Rattle.wasm_insn.specs.Views.*
+unfoldable pub use Rattle.wasm_insn.specs.Operands.*

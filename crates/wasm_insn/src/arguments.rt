@@ -54,7 +54,7 @@ pub enum Arg<A: Allocator = Global> {
 /// Decodes an unsigned number of 32 bits.
 #[inline(always)]
 #[tactic(auto, using(crate::proofs::DecodeArguments::unsigned_part))]
-pub(crate) fn read_unsigned<'a, A: Allocator + Copy, G: Grammar>(
+fn read_unsigned<'a, A: Allocator + Copy, G: Grammar>(
     bytes: &'a [u8],
     alloc: A,
 ) -> Result<(Arg<A>, &'a [u8]), DecodeError>
@@ -68,7 +68,7 @@ pub(crate) fn read_unsigned<'a, A: Allocator + Copy, G: Grammar>(
 /// Decodes a signed number of 32 bits.
 #[inline(always)]
 #[tactic(auto, using(crate::proofs::DecodeArguments::signed32_part))]
-pub(crate) fn read_signed32<'a, A: Allocator + Copy, G: Grammar>(
+fn read_signed32<'a, A: Allocator + Copy, G: Grammar>(
     bytes: &'a [u8],
     alloc: A,
 ) -> Result<(Arg<A>, &'a [u8]), DecodeError>
@@ -82,7 +82,7 @@ pub(crate) fn read_signed32<'a, A: Allocator + Copy, G: Grammar>(
 /// Decodes a signed number of 64 bits.
 #[inline(always)]
 #[tactic(auto, using(crate::proofs::DecodeArguments::signed64_part))]
-pub(crate) fn read_signed64<'a, A: Allocator + Copy, G: Grammar>(
+fn read_signed64<'a, A: Allocator + Copy, G: Grammar>(
     bytes: &'a [u8],
     alloc: A,
 ) -> Result<(Arg<A>, &'a [u8]), DecodeError>
@@ -138,7 +138,7 @@ fn read_vector<'a, A: Allocator + Copy, G: Grammar>(
 /// Decodes a memory argument.
 #[inline(always)]
 #[tactic(auto, using(crate::proofs::DecodeArguments::memory_part))]
-pub(crate) fn read_memory<'a, A: Allocator + Copy, G: Grammar>(
+fn read_memory<'a, A: Allocator + Copy, G: Grammar>(
     bytes: &'a [u8],
     alloc: A,
 ) -> Result<(Arg<A>, &'a [u8]), DecodeError>
@@ -179,7 +179,7 @@ fn read_lanes<'a, A: Allocator + Copy, G: Grammar>(
 /// Decodes a block type.
 #[inline(always)]
 #[tactic(auto, using(crate::proofs::DecodeArguments::block_part))]
-pub(crate) fn read_block<'a, A: Allocator + Copy, G: Grammar>(
+fn read_block<'a, A: Allocator + Copy, G: Grammar>(
     bytes: &'a [u8],
     alloc: A,
 ) -> Result<(Arg<A>, &'a [u8]), DecodeError>
@@ -347,7 +347,7 @@ fn read_parts<'a, A: Allocator + Copy, G: Grammar>(
 /// shapes.
 #[inline(never)]
 #[tactic(auto, using(crate::proofs::DecodeArguments::shape_steps))]
-fn read_any<'a, A: Allocator + Copy, G: Grammar>(
+pub(crate) fn read_any<'a, A: Allocator + Copy, G: Grammar>(
     shape: Shape,
     bytes: &'a [u8],
     alloc: A,
@@ -361,112 +361,18 @@ fn read_any<'a, A: Allocator + Copy, G: Grammar>(
     Ok((args, rest))
 }
 
-/// Returns the list of the one decoded argument, and the remaining bytes.
+/// Returns the list of one argument.
 #[inline(always)]
-fn list_one<'a, A: Allocator + Copy>(
+pub(crate) fn list_one<A: Allocator + Copy>(
     alloc: A,
-    read: (Arg<A>, &'a [u8]),
-) -> Result<(Vec<Arg<A>, A>, &'a [u8]), DecodeError>
-    ensures listed { IfOk result (λ x. (x.0.items ≡ read.entry.0 ∷ []) × (x.1.now ≡ read.entry.1.now)) }
+    arg: Arg<A>,
+) -> Result<Vec<Arg<A>, A>, DecodeError>
+    ensures listed { IfOk result (λ args. args.items ≡ arg ∷ []) }
     ensures refused { IfErr result (λ e. e.cause ≡ Memory) }
 {
-    let (arg, rest) = read;
     let mut args = Vec::with_capacity(alloc, 1)?;
     args.push_reserved(arg);
-    Ok((args, rest))
-}
-
-/// Decodes the arguments of an opcode of this shape, into a list of exactly their number. Common
-/// shapes are decoded inline.
-#[inline]
-pub(crate) fn read_arguments<'a, A: Allocator + Copy, G: Grammar>(
-    shape: Shape,
-    bytes: &'a [u8],
-    alloc: A,
-) -> Result<(Vec<Arg<A>, A>, &'a [u8]), DecodeError>
-    ensures found { IfOk result (λ x. Decodes (arguments (parts_of shape)) (padded_of G.grammar) bytes.now (map argument_view x.0.items) x.1.now) }
-    ensures none { IfErr result (λ e. e.cause ≢ Memory → Rejects (arguments (parts_of shape)) (padded_of G.grammar) bytes.now) }
-{
-    match shape {
-        Shape::Nothing => Ok((Vec::new(alloc), bytes)),
-        Shape::U => list_one(alloc, read_unsigned::<A, G>(bytes, alloc)?),
-        Shape::M => list_one(alloc, read_memory::<A, G>(bytes, alloc)?),
-        Shape::C32 => list_one(alloc, read_signed32::<A, G>(bytes, alloc)?),
-        Shape::C64 => list_one(alloc, read_signed64::<A, G>(bytes, alloc)?),
-        Shape::B => list_one(alloc, read_block::<A, G>(bytes, alloc)?),
-        _ => read_any::<A, G>(shape, bytes, alloc),
-    }
-}
-
-/// Decodes the arguments of any shape into the memory of `args`. Out of line, for rare shapes.
-#[inline(never)]
-#[tactic(auto, using(crate::proofs::DecodeArguments::shape_steps))]
-fn read_any_into<'a, A: Allocator + Copy, G: Grammar>(
-    shape: Shape,
-    bytes: &'a [u8],
-    alloc: A,
-    args: &mut Vec<Arg<A>, A>,
-) -> Result<&'a [u8], DecodeError>
-    ensures found { IfOk result (λ rest. Decodes (arguments (parts_of shape)) (padded_of G.grammar) bytes.now (map argument_view args.new.items) rest.now) }
-    ensures none { IfErr result (λ e. e.cause ≢ Memory → Rejects (arguments (parts_of shape)) (padded_of G.grammar) bytes.now) }
-{
-    args.clear();
-    read_parts::<A, G>(shape.parts(), bytes, alloc, args)
-}
-
-/// Drops the arguments of the list. For an empty list, no call is needed.
-#[inline(always)]
-fn drop_all<A: Allocator + Copy>(args: &mut Vec<Arg<A>, A>)
-    ensures { args.new.items ≡ [] }
-{
-    if !args.is_empty() {
-        args.clear();
-    }
-}
-
-/// Makes the decoded argument the only one of the list, and returns the remaining bytes.
-#[inline(always)]
-fn keep_one<'a, A: Allocator + Copy>(
-    args: &mut Vec<Arg<A>, A>,
-    read: (Arg<A>, &'a [u8]),
-) -> Result<&'a [u8], DecodeError>
-    ensures kept { IfOk result (λ rest. (args.new.items ≡ read.entry.0 ∷ []) × (rest.now ≡ read.entry.1.now)) }
-    ensures refused { IfErr result (λ e. e.cause ≡ Memory) }
-{
-    let (arg, rest) = read;
-    if let [one] = &mut args[..] {
-        *one = arg;
-        return Ok(rest);
-    }
-    drop_all(args);
-    args.push(arg)?;
-    Ok(rest)
-}
-
-/// Decodes the arguments of an opcode of this shape into the memory of `args`, and drops its old
-/// ones. Common shapes are decoded inline.
-#[inline]
-pub(crate) fn read_arguments_into<'a, A: Allocator + Copy, G: Grammar>(
-    shape: Shape,
-    bytes: &'a [u8],
-    alloc: A,
-    args: &mut Vec<Arg<A>, A>,
-) -> Result<&'a [u8], DecodeError>
-    ensures found { IfOk result (λ rest. Decodes (arguments (parts_of shape)) (padded_of G.grammar) bytes.now (map argument_view args.new.items) rest.now) }
-    ensures none { IfErr result (λ e. e.cause ≢ Memory → Rejects (arguments (parts_of shape)) (padded_of G.grammar) bytes.now) }
-{
-    match shape {
-        Shape::Nothing => {
-            drop_all(args);
-            Ok(bytes)
-        }
-        Shape::U => keep_one(args, read_unsigned::<A, G>(bytes, alloc)?),
-        Shape::M => keep_one(args, read_memory::<A, G>(bytes, alloc)?),
-        Shape::C32 => keep_one(args, read_signed32::<A, G>(bytes, alloc)?),
-        Shape::C64 => keep_one(args, read_signed64::<A, G>(bytes, alloc)?),
-        Shape::B => keep_one(args, read_block::<A, G>(bytes, alloc)?),
-        _ => read_any_into::<A, G>(shape, bytes, alloc, args),
-    }
+    Ok(args)
 }
 
 /// Appends the minimal encoding of the argument.
@@ -567,7 +473,7 @@ fn skip_parts<'a, A: Allocator + Copy, G: Grammar>(
 /// Skips the arguments of any shape, and returns the remaining bytes. Out of line, for rare shapes.
 #[inline(never)]
 #[tactic(auto, using(crate::proofs::DecodeArguments::shape_steps))]
-fn skip_any<'a, A: Allocator + Copy, G: Grammar>(
+pub(crate) fn skip_any<'a, A: Allocator + Copy, G: Grammar>(
     shape: Shape,
     bytes: &'a [u8],
     alloc: A,
@@ -576,41 +482,4 @@ fn skip_any<'a, A: Allocator + Copy, G: Grammar>(
     ensures none { IfErr result (λ e. e.cause ≢ Memory → Rejects (arguments (parts_of shape)) (padded_of G.grammar) bytes.now) }
 {
     skip_parts::<A, G>(shape.parts(), bytes, alloc)
-}
-
-/// Skips the arguments of an opcode of this shape, and returns the remaining bytes. Common shapes
-/// are skipped inline.
-#[inline]
-pub(crate) fn skip_arguments<'a, A: Allocator + Copy, G: Grammar>(
-    shape: Shape,
-    bytes: &'a [u8],
-    alloc: A,
-) -> Result<&'a [u8], DecodeError>
-    ensures found { IfOk result (λ rest. (xs : List Argument) × Decodes (arguments (parts_of shape)) (padded_of G.grammar) bytes.now xs rest.now) }
-    ensures none { IfErr result (λ e. e.cause ≢ Memory → Rejects (arguments (parts_of shape)) (padded_of G.grammar) bytes.now) }
-{
-    match shape {
-        Shape::Nothing => Ok(bytes),
-        Shape::U => {
-            let (_arg, rest) = read_unsigned::<A, G>(bytes, alloc)?;
-            Ok(rest)
-        }
-        Shape::M => {
-            let (_arg, rest) = read_memory::<A, G>(bytes, alloc)?;
-            Ok(rest)
-        }
-        Shape::C32 => {
-            let (_arg, rest) = read_signed32::<A, G>(bytes, alloc)?;
-            Ok(rest)
-        }
-        Shape::C64 => {
-            let (_arg, rest) = read_signed64::<A, G>(bytes, alloc)?;
-            Ok(rest)
-        }
-        Shape::B => {
-            let (_arg, rest) = read_block::<A, G>(bytes, alloc)?;
-            Ok(rest)
-        }
-        _ => skip_any::<A, G>(shape, bytes, alloc),
-    }
 }

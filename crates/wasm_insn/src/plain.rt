@@ -9,12 +9,11 @@ ghost use Rattle.wasm_base.specs.Minimal.{AppendsMinimal, IsFrontOf, HasEncoding
 ghost use Rattle.wasm_base.specs.declared.fault.ReadFault.TheVariants.{Memory};
 ghost use Rattle.wasm_insn.specs.Views.{argument_view, plain_view};
 
-use crate::arguments::{
-    Arg, append_arguments, read_arguments, read_arguments_into, skip_arguments,
-};
-use crate::op::{Op, read_op};
+use crate::arguments::{Arg, append_arguments};
+use crate::op::Op;
+use crate::operands::read_instruction;
 use std::alloc::{Allocator, Global};
-use wasm_base::{DecodeError, Encode, Grammar, Layout, ReadFault, Readable, Result, Shorten, Skip};
+use wasm_base::{DecodeError, Encode, Grammar, Layout, Readable, Result, Shorten, Skip};
 
 /// An instruction in normal form: its opcode, and an argument for each immediate of the opcode's
 /// shape.
@@ -36,39 +35,11 @@ impl<A: Allocator> Layout for Plain<A> {
 }
 
 impl<'a, A: Allocator + Copy, G: Grammar> Readable<'a, A, G> for Plain<A> {
-    #[tactic(auto, using(crate::proofs::DecodeInstructions::instruction_steps))]
     fn read(bytes: &'a [u8], alloc: A) -> Result<(Plain<A>, &'a [u8]), DecodeError> {
-        let (op, rest) = read_op::<A, G>(bytes, alloc)?;
-        let Some(shape) = op.shape() else {
-            return Err(ReadFault::UnknownOpcode.at(bytes));
-        };
-        let (args, rest) = read_arguments::<A, G>(shape, rest, alloc)?;
+        let (op, operands, rest) = read_instruction::<A, G>(bytes, alloc)?;
+        let args = operands.to_args(alloc)?;
         Ok((Plain { op, args }, rest))
     }
-}
-
-/// Decodes the instruction at the front: returns its opcode and the remaining bytes, and replaces
-/// the content of `args` by its arguments.
-///
-/// # Errors
-///
-/// Any error but `Memory` means that no instruction is at the front. After an error, the content of
-/// `args` is unspecified.
-#[tactic(auto, using(crate::proofs::DecodeInstructions::instruction_steps))]
-pub fn read_instruction_into<'a, A: Allocator + Copy, G: Grammar>(
-    bytes: &'a [u8],
-    alloc: A,
-    args: &mut Vec<Arg<A>, A>,
-) -> Result<(Op, &'a [u8]), DecodeError>
-    ensures found { IfOk result (λ x. Decodes (instruction table) (padded_of G.grammar) bytes.now (record { op = x.0; arguments = map argument_view args.new.items }) x.1.now) }
-    ensures none { IfErr result (λ e. e.cause ≢ Memory → Rejects (instruction table) (padded_of G.grammar) bytes.now) }
-{
-    let (op, rest) = read_op::<A, G>(bytes, alloc)?;
-    let Some(shape) = op.shape() else {
-        return Err(ReadFault::UnknownOpcode.at(bytes));
-    };
-    let rest = read_arguments_into::<A, G>(shape, rest, alloc, args)?;
-    Ok((op, rest))
 }
 
 /// Appends the minimal encoding of an instruction. After an error, part of it may follow the old
@@ -94,14 +65,9 @@ impl<A: Allocator> Shorten for Plain<A> {
 
 /// Skips the instruction at the front, and allocates nothing.
 impl<'a, A: Allocator + Copy, G: Grammar> Skip<'a, A, G> for Plain<A> {
-    #[tactic(auto, using(crate::proofs::DecodeInstructions::instruction_steps))]
-    #[inline]
+    #[inline(always)]
     fn skip(bytes: &'a [u8], alloc: A) -> Result<&'a [u8], DecodeError> {
-        let (op, rest) = read_op::<A, G>(bytes, alloc)?;
-        let Some(shape) = op.shape() else {
-            return Err(ReadFault::UnknownOpcode.at(bytes));
-        };
-        let rest = skip_arguments::<A, G>(shape, rest, alloc)?;
+        let (_op, _operands, rest) = read_instruction::<A, G>(bytes, alloc)?;
         Ok(rest)
     }
 }

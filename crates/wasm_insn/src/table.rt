@@ -139,7 +139,7 @@ fn find_shape(runs: &[Run], number: u32) -> Option<Shape>
 
 /// Returns the shape of the one-byte opcode, or `None` if there is no such opcode.
 #[inline]
-fn byte_shape(byte: u8) -> Option<Shape>
+pub(crate) fn byte_shape(byte: u8) -> Option<Shape>
     ensures { result ≡ shape_of table (Byte byte) }
 {
     ONE_BYTE[usize::from(byte)]

@@ -26,8 +26,8 @@ use wasm_code::Instructions;
 /// for body in section.bodies()? {
 ///     let body = body?;
 ///     let (locals, mut instructions) = body.instructions()?;
-///     while let Some(step) = instructions.next().map_err(|error| body.locate(error))? {
-///         // step.op, instructions.args()
+///     while let Some(decoded) = instructions.next().map_err(|error| body.locate(error))? {
+///         // decoded.op, decoded.operands
 ///     }
 /// }
 /// ```
@@ -187,7 +187,6 @@ impl<'a, A: Allocator + Copy> CodeBody<'a, A> {
         ensures found { IfOk result (λ x. Decodes (vec (pair u32 val_type)) standard self.now.bytes x.0.items (ahead_in x.1)) }
         ensures same { IfOk result (λ x. x.1.bytes ≡ self.now.bytes) }
         ensures inside { IfOk result (λ x. x.1.offset ≤ length self.now.bytes) }
-        ensures before { IfOk result (λ x. x.1.arguments ≡ []) }
         ensures none { IfErr result (λ e. e.cause ≢ Memory → RejectsWhole body standard self.now.bytes) }
         ensures from { IfErr result (λ e. self.now.offset ≤ e.offset) }
         ensures within { IfErr result (λ e. e.offset ≤ self.now.offset + length self.now.bytes) }

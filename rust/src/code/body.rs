@@ -8,7 +8,7 @@ use crate::insn::Plain;
 
 /// The capacity of a new list allows for one instruction per this many bytes. The list grows if
 /// they are shorter.
-const BYTES_OF_ONE: usize = 4;
+const BYTES_OF_ONE: usize = 2;
 
 /// Decodes instructions that occupy all of the bytes.
 ///
@@ -46,7 +46,8 @@ pub fn read_code<'a, A: Allocator + Copy, G: Grammar>(
     bytes: &'a [u8],
     alloc: A,
 ) -> Result<Vec<Plain<A>, A>, DecodeError> {
-    let mut items = Vec::with_capacity(alloc, bytes.len() / BYTES_OF_ONE)?;
+    let capacity = bytes.len() / BYTES_OF_ONE + bytes.len() % BYTES_OF_ONE;
+    let mut items = Vec::with_capacity(alloc, capacity)?;
     let mut rest = bytes;
     loop {
         if rest.is_empty() {

@@ -10,6 +10,7 @@ pub(crate) mod first;
 pub(crate) mod function;
 pub mod laws;
 pub(crate) mod locals;
+pub(crate) mod members;
 pub(crate) mod walk;
 
 pub(crate) use body::{Body, read_body, read_code, shorten_body};
@@ -23,7 +24,8 @@ pub(crate) use expression::Expression;
 #[doc(alias = "func")]
 #[doc(alias = "locals")]
 pub use function::Function;
-pub(crate) use walk::{Instructions, Step};
+pub(crate) use members::Members;
+pub(crate) use walk::{Decoded, Instructions};
 
 /// The names that decode, which `reader` exports.
 pub(crate) mod reading {
@@ -37,7 +39,12 @@ pub(crate) mod reading {
     #[doc(alias = "minimize")]
     pub use super::body::shorten_body;
     pub use super::expression::Expression;
-    pub use super::walk::Step;
+    #[doc(alias = "labels")]
+    #[doc(alias = "br_table targets")]
+    #[doc(alias = "catch clauses")]
+    #[doc(alias = "vector")]
+    pub use super::members::Members;
+    pub use super::walk::Decoded;
     #[doc(alias = "disassemble")]
     #[doc(alias = "opcode")]
     #[doc(alias = "operators")]

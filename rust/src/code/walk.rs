@@ -1,16 +1,14 @@
 // Written by tools/to-rust from crates/wasm_code/src/walk.rt: change that.
-// A visitor of instructions, one at a time.
+// A visitor of instructions, one at a time. It allocates nothing.
 
 use crate::vec::Vec;
 use crate::code::expression::END;
 use crate::alloc::{Allocator, Global};
 use core::marker::PhantomData;
 use crate::base::{DecodeError, Grammar, Padded, ReadFault, Readable, Standard, ValType};
-use crate::insn::{Arg, Op, read_instruction_into};
+use crate::insn::{Op, Operands, read_instruction};
 
-/// Visits the instructions of a body or an expression, one after another. It keeps the arguments of
-/// one instruction, in memory that it reuses: lists in arguments apart, it allocates nothing after
-/// the first instruction that has arguments.
+/// Visits the instructions of a body or an expression, one after another, and allocates nothing.
 ///
 /// # Errors
 ///
@@ -27,42 +25,55 @@ use crate::insn::{Arg, Op, read_instruction_into};
 /// // local.get 5: 20 05. i32.add: 6A. end: 0B.
 /// let mut instructions = Instructions::new(&[0x20, 5, 0x6A, 0x0B], Global);
 /// let mut found = vec![];
-/// while let Some(step) = instructions.next()? {
-///     let instruction = Instruction::try_from((step.op, instructions.args()));
-///     found.push(format!("{}: {:?}", step.offset, instruction.unwrap()));
+/// while let Some(decoded) = instructions.next()? {
+///     let instruction = Instruction::try_from(decoded)?;
+///     found.push(format!("{}: {instruction:?}", decoded.offset));
 /// }
 /// assert_eq!(found, ["0: LocalGet(5)", "2: I32Add", "3: End"]);
-/// # Ok::<(), dolzhytik::reader::DecodeError>(())
+/// # Ok::<(), dolzhytik::reader::ReadFault>(())
 /// ```
 #[derive(Debug)]
 pub struct Instructions<'a, A: Allocator = Global, G: Grammar = Padded> {
     bytes: &'a [u8],
     offset: usize,
-    args: Vec<Arg<A>, A>,
+    alloc: A,
     grammar: PhantomData<G>,
 }
 
-/// A visited instruction: its offset in bytes, and its opcode.
+/// A decoded instruction: its offset in bytes, its opcode, and its operands, which borrow the
+/// bytes.
 ///
-/// [`Instructions::next`](crate::reader::Instructions::next) returns it. The immediates are
-/// [`Instructions::args`](crate::reader::Instructions::args), until the next call.
+/// [`Instructions::next`](crate::reader::Instructions::next) returns it. It is `Copy`, and
+/// borrows the bytes. To match on
+/// instructions by name, convert it: `Instruction::try_from(decoded)` gives a value of
+/// [`Instruction`](crate::Instruction).
 ///
 /// # Examples
 ///
 /// ```
 /// use dolzhytik::fallible::{Global, Op};
-/// use dolzhytik::reader::{Instructions, Step};
+/// use dolzhytik::reader::{Instructions, Operands};
 ///
-/// let mut instructions = Instructions::new(&[0x0B], Global);
-/// assert_eq!(instructions.next()?, Some(Step { offset: 0, op: Op::Byte(0x0B) }));
+/// // i32.const 7: 41 07. call 3, with a padded number: 10 83 80 00. end: 0B.
+/// let bytes = [0x41, 7, 0x10, 0x83, 0x80, 0, 0x0B];
+/// let mut instructions = Instructions::new(&bytes, Global);
+/// let mut calls = vec![];
+/// while let Some(decoded) = instructions.next()? {
+///     if let (Op::Byte(0x10), Operands::U32(function)) = (decoded.op, decoded.operands) {
+///         calls.push((decoded.offset, function));
+///     }
+/// }
+/// assert_eq!(calls, [(2, 3)]);
 /// # Ok::<(), dolzhytik::reader::DecodeError>(())
 /// ```
-#[derive(Clone, Copy, PartialEq, Eq, Debug)]
-pub struct Step {
+#[derive(Clone, Copy, Debug)]
+pub struct Decoded<'a> {
     /// The offset of the instruction.
     pub offset: usize,
     /// The opcode.
     pub op: Op,
+    /// The operands (immediates).
+    pub operands: Operands<'a>,
 }
 
 impl<'a, A: Allocator + Copy> Instructions<'a, A> {
@@ -72,7 +83,7 @@ impl<'a, A: Allocator + Copy> Instructions<'a, A> {
     /// # Proved
     ///
     /// ```text
-    /// ensures { result ≡ record { bytes = bytes.now; offset = 0; arguments = [] } }
+    /// ensures { result ≡ record { bytes = bytes.now; offset = 0 } }
     /// ```
     ///
     /// [How to read clauses](crate::definitions).
@@ -90,14 +101,13 @@ impl<'a, A: Allocator + Copy> Instructions<'a, A> {
     ///
     /// # Proved
     ///
-    /// After `Ok`: `found`, the bytes begin with an encoding of the locals, and the instructions follow it; `same`, the visitor is over these bytes; `within`, the offset is in the bytes, or at their end; `before`, the visitor has no immediates yet. After an error: `none`, the bytes as a whole are no such encoding, unless the cause is `Memory`.
+    /// After `Ok`: `found`, the bytes begin with an encoding of the locals, and the instructions follow it; `same`, the visitor is over these bytes; `within`, the offset is in the bytes, or at their end. After an error: `none`, the bytes as a whole are no such encoding, unless the cause is `Memory`.
     ///
     /// ```text
     /// ensures found { IfOk result
     ///     (λ x. Decodes (vec (pair u32 val_type)) padded bytes.now x.0.items (ahead x.1)) }
     /// ensures same { IfOk result (λ x. x.1.bytes ≡ bytes.now) }
     /// ensures within { IfOk result (λ x. x.1.offset ≤ length bytes.now) }
-    /// ensures before { IfOk result (λ x. x.1.arguments ≡ []) }
     /// ensures none { IfErr result
     ///     (λ e. e.cause ≢ Memory → RejectsWhole body padded bytes.now) }
     /// ```
@@ -115,7 +125,7 @@ impl<'a, A: Allocator + Copy> Instructions<'a, A, Standard> {
     /// # Proved
     ///
     /// ```text
-    /// ensures { result ≡ record { bytes = bytes.now; offset = 0; arguments = [] } }
+    /// ensures { result ≡ record { bytes = bytes.now; offset = 0 } }
     /// ```
     ///
     /// [How to read clauses](crate::definitions).
@@ -140,20 +150,19 @@ impl<'a, A: Allocator + Copy> Instructions<'a, A, Standard> {
     /// let (runs, mut instructions) =
     ///     Instructions::of_standard_body(&[1, 1, 0x7E, 0x0B], Global)?;
     /// assert_eq!((&runs[..], instructions.offset()), (&[(1, ValType::I64)][..], 3));
-    /// assert_eq!(instructions.next()?.map(|step| step.op), Some(Op::Byte(0x0B)));
+    /// assert_eq!(instructions.next()?.map(|it| it.op), Some(Op::Byte(0x0B)));
     /// # Ok::<(), dolzhytik::reader::DecodeError>(())
     /// ```
     ///
     /// # Proved
     ///
-    /// After `Ok`: `found`, the bytes begin with an encoding of the locals, and the instructions follow it; `same`, the visitor is over these bytes; `within`, the offset is in the bytes, or at their end; `before`, the visitor has no immediates yet. After an error: `none`, the bytes as a whole are no such encoding, unless the cause is `Memory`.
+    /// After `Ok`: `found`, the bytes begin with an encoding of the locals, and the instructions follow it; `same`, the visitor is over these bytes; `within`, the offset is in the bytes, or at their end. After an error: `none`, the bytes as a whole are no such encoding, unless the cause is `Memory`.
     ///
     /// ```text
     /// ensures found { IfOk result
     ///     (λ x. Decodes (vec (pair u32 val_type)) standard bytes.now x.0.items (ahead x.1)) }
     /// ensures same { IfOk result (λ x. x.1.bytes ≡ bytes.now) }
     /// ensures within { IfOk result (λ x. x.1.offset ≤ length bytes.now) }
-    /// ensures before { IfOk result (λ x. x.1.arguments ≡ []) }
     /// ensures none { IfErr result
     ///     (λ e. e.cause ≢ Memory → RejectsWhole body standard bytes.now) }
     /// ```
@@ -173,7 +182,7 @@ impl<'a, A: Allocator + Copy, G: Grammar> Instructions<'a, A, G> {
     /// # Proved
     ///
     /// ```text
-    /// ensures { result ≡ record { bytes = bytes.now; offset = 0; arguments = [] } }
+    /// ensures { result ≡ record { bytes = bytes.now; offset = 0 } }
     /// ```
     ///
     /// [How to read clauses](crate::definitions).
@@ -181,7 +190,7 @@ impl<'a, A: Allocator + Copy, G: Grammar> Instructions<'a, A, G> {
         Instructions {
             bytes,
             offset: 0,
-            args: Vec::new(alloc),
+            alloc,
             grammar: PhantomData,
         }
     }
@@ -190,7 +199,7 @@ impl<'a, A: Allocator + Copy, G: Grammar> Instructions<'a, A, G> {
     ///
     /// # Proved
     ///
-    /// After `Ok`: `found`, the bytes begin with an encoding of the locals, and the instructions follow it; `same`, the visitor is over these bytes; `within`, the offset is in the bytes, or at their end; `before`, the visitor has no immediates yet. After an error: `none`, the bytes as a whole are no such encoding, unless the cause is `Memory`.
+    /// After `Ok`: `found`, the bytes begin with an encoding of the locals, and the instructions follow it; `same`, the visitor is over these bytes; `within`, the offset is in the bytes, or at their end. After an error: `none`, the bytes as a whole are no such encoding, unless the cause is `Memory`.
     ///
     /// ```text
     /// ensures found { IfOk result
@@ -198,7 +207,6 @@ impl<'a, A: Allocator + Copy, G: Grammar> Instructions<'a, A, G> {
     ///         (ahead x.1)) }
     /// ensures same { IfOk result (λ x. x.1.bytes ≡ bytes.now) }
     /// ensures within { IfOk result (λ x. x.1.offset ≤ length bytes.now) }
-    /// ensures before { IfOk result (λ x. x.1.arguments ≡ []) }
     /// ensures none { IfErr result
     ///     (λ e. e.cause ≢ Memory → RejectsWhole body (padded_of G.grammar) bytes.now) }
     /// ```
@@ -209,7 +217,7 @@ impl<'a, A: Allocator + Copy, G: Grammar> Instructions<'a, A, G> {
         let instructions = Instructions {
             bytes,
             offset: bytes.len() - rest.len(),
-            args: Vec::new(alloc),
+            alloc,
             grammar: PhantomData,
         };
         Ok((runs, instructions))
@@ -219,13 +227,13 @@ impl<'a, A: Allocator + Copy, G: Grammar> Instructions<'a, A, G> {
     ///
     /// # Proved
     ///
-    /// After `Ok`: `offset`; `found`, an instruction of this opcode and these immediates was next; `further`. After an error: `stays`, the offset is unchanged; `none`, the bytes do not begin with such an encoding, unless the cause is `Memory`. In any case: `same`, the bytes stay the same.
+    /// After `Ok`: `offset`; `found`, an instruction of this opcode and these operands was next; `further`. After an error: `stays`, the offset is unchanged; `none`, the bytes do not begin with such an encoding, unless the cause is `Memory`. In any case: `same`, the bytes stay the same.
     ///
     /// ```text
-    /// ensures offset { IfOk result (λ step. step.offset ≡ self.old.offset) }
+    /// ensures offset { IfOk result (λ it. it.offset ≡ self.old.offset) }
     /// ensures found { IfOk result
-    ///     (λ step. Decodes (instruction table) (padded_of G.grammar) (ahead self.old)
-    ///         (record { op = step.op; arguments = self.new.arguments }) (ahead self.new)) }
+    ///     (λ it. DecodesOperation (instruction table) (padded_of G.grammar)
+    ///         (ahead self.old) it.op it.operands (ahead self.new)) }
     /// ensures further { IfOk result
     ///     (λ _. (self.old.offset < self.new.offset)
     ///         × (self.new.offset ≤ length self.new.bytes)) }
@@ -236,17 +244,17 @@ impl<'a, A: Allocator + Copy, G: Grammar> Instructions<'a, A, G> {
     ///         (ahead self.old)) }
     /// ```
     ///
-    /// Definitions: [`Decodes`](crate::definitions::base::decoding::Decodes), [`instruction`](crate::definitions::insn::plain::instruction), [`table`](crate::definitions::insn::table::table), [`padded_of`](crate::definitions::base::numbers::padded_of), [`ahead`](crate::definitions::code::walks::ahead), [`Rejects`](crate::definitions::base::decoding::Rejects). [How to read clauses](crate::definitions).
-    fn step(&mut self) -> Result<Step, DecodeError> {
+    /// Definitions: [`DecodesOperation`](crate::definitions::insn::operands::DecodesOperation), [`instruction`](crate::definitions::insn::plain::instruction), [`table`](crate::definitions::insn::table::table), [`padded_of`](crate::definitions::base::numbers::padded_of), [`ahead`](crate::definitions::code::walks::ahead), [`Rejects`](crate::definitions::base::decoding::Rejects). [How to read clauses](crate::definitions).
+    #[inline(always)]
+    fn step(&mut self) -> Result<Decoded<'a>, DecodeError> {
         let offset = self.offset;
-        let alloc = *self.args.allocator();
-        let (op, rest) = read_instruction_into::<A, G>(
-            &self.bytes[offset..],
-            alloc,
-            &mut self.args,
-        )?;
+        let (op, operands, rest) = read_instruction::<A, G>(&self.bytes[offset..], self.alloc)?;
         self.offset = self.bytes.len() - rest.len();
-        Ok(Step { offset, op })
+        Ok(Decoded {
+            offset,
+            op,
+            operands,
+        })
     }
 
     /// Visits the next instruction, or returns `None` at the end of the bytes. After an error the
@@ -258,15 +266,14 @@ impl<'a, A: Allocator + Copy, G: Grammar> Instructions<'a, A, G> {
     ///
     /// # Proved
     ///
-    /// After `Ok`: `offset`, the step has the old offset; `found`, an instruction of this opcode and these immediates was next; `further`, the offset grows, and is in the bytes or at their end; `end`, `None` says that no bytes were left; `ended`, `None` changes nothing. After an error: `stays`, the offset is unchanged; `none`, the bytes do not begin with such an encoding, unless the cause is `Memory`; `left`, bytes were left. In any case: `same`, the bytes stay the same.
+    /// After `Ok`: `offset`, the instruction has the old offset; `found`, an instruction of this opcode and these operands was next; `further`, the offset grows, and is in the bytes or at their end; `end`, `None` says that no bytes were left; `ended`, `None` changes nothing. After an error: `stays`, the offset is unchanged; `none`, the bytes do not begin with such an encoding, unless the cause is `Memory`; `left`, bytes were left. In any case: `same`, the bytes stay the same.
     ///
     /// ```text
-    /// ensures offset { IfOk result
-    ///     (λ next. IfSome next (λ step. step.offset ≡ self.old.offset)) }
+    /// ensures offset { IfOk result (λ next. IfSome next (λ it. it.offset ≡ self.old.offset)) }
     /// ensures found { IfOk result
-    ///     (λ next. IfSome next (λ step. Decodes (instruction table) (padded_of G.grammar)
-    ///             (ahead self.old) (record { op = step.op; arguments = self.new.arguments })
-    ///             (ahead self.new))) }
+    ///     (λ next. IfSome next (λ it. DecodesOperation (instruction table)
+    ///             (padded_of G.grammar) (ahead self.old) it.op it.operands (ahead self.new)))
+    ///     }
     /// ensures further { IfOk result
     ///     (λ next. IfSome next (λ _. (self.old.offset < self.new.offset)
     ///             × (self.new.offset ≤ length self.new.bytes))) }
@@ -280,13 +287,14 @@ impl<'a, A: Allocator + Copy, G: Grammar> Instructions<'a, A, G> {
     /// ensures left { IfErr result (λ _. ahead self.old ≢ []) }
     /// ```
     ///
-    /// Definitions: [`Decodes`](crate::definitions::base::decoding::Decodes), [`instruction`](crate::definitions::insn::plain::instruction), [`table`](crate::definitions::insn::table::table), [`padded_of`](crate::definitions::base::numbers::padded_of), [`ahead`](crate::definitions::code::walks::ahead), [`Rejects`](crate::definitions::base::decoding::Rejects). [How to read clauses](crate::definitions).
-    pub fn next(&mut self) -> Result<Option<Step>, DecodeError> {
+    /// Definitions: [`DecodesOperation`](crate::definitions::insn::operands::DecodesOperation), [`instruction`](crate::definitions::insn::plain::instruction), [`table`](crate::definitions::insn::table::table), [`padded_of`](crate::definitions::base::numbers::padded_of), [`ahead`](crate::definitions::code::walks::ahead), [`Rejects`](crate::definitions::base::decoding::Rejects). [How to read clauses](crate::definitions).
+    #[inline(always)]
+    pub fn next(&mut self) -> Result<Option<Decoded<'a>>, DecodeError> {
         if self.offset == self.bytes.len() {
             return Ok(None);
         }
-        let step = self.step()?;
-        Ok(Some(step))
+        let decoded = self.step()?;
+        Ok(Some(decoded))
     }
 
     /// Visits the next instruction of an expression, or returns `None` at its final `End`, which
@@ -312,15 +320,13 @@ impl<'a, A: Allocator + Copy, G: Grammar> Instructions<'a, A, G> {
     ///
     /// # Proved
     ///
-    /// After `Ok`: `offset`, the step has the old offset; `found`, an instruction of this opcode and these immediates was next, and is no `end`; `further`, the offset grows, and is in the bytes or at their end; `end`, `None` says that an `end` is next; `ended`, `None` changes nothing. After an error: `stays`, the offset is unchanged; `none`, the bytes do not begin with such an encoding, unless the cause is `Memory`. In any case: `same`, the bytes stay the same.
+    /// After `Ok`: `offset`, the instruction has the old offset; `found`, an instruction of this opcode and these operands was next, and is no `end`; `further`, the offset grows, and is in the bytes or at their end; `end`, `None` says that an `end` is next; `ended`, `None` changes nothing. After an error: `stays`, the offset is unchanged; `none`, the bytes do not begin with such an encoding, unless the cause is `Memory`. In any case: `same`, the bytes stay the same.
     ///
     /// ```text
-    /// ensures offset { IfOk result
-    ///     (λ next. IfSome next (λ step. step.offset ≡ self.old.offset)) }
+    /// ensures offset { IfOk result (λ next. IfSome next (λ it. it.offset ≡ self.old.offset)) }
     /// ensures found { IfOk result
-    ///     (λ next. IfSome next (λ step. Decodes (such IsNoEnd (instruction table))
-    ///             (padded_of G.grammar) (ahead self.old)
-    ///             (record { op = step.op; arguments = self.new.arguments }) (ahead self.new)))
+    ///     (λ next. IfSome next (λ it. DecodesOperation (such IsNoEnd (instruction table))
+    ///             (padded_of G.grammar) (ahead self.old) it.op it.operands (ahead self.new)))
     ///     }
     /// ensures further { IfOk result
     ///     (λ next. IfSome next (λ _. (self.old.offset < self.new.offset)
@@ -336,30 +342,17 @@ impl<'a, A: Allocator + Copy, G: Grammar> Instructions<'a, A, G> {
     ///     }
     /// ```
     ///
-    /// Definitions: [`Decodes`](crate::definitions::base::decoding::Decodes), [`such`](crate::definitions::base::formats::such), [`IsNoEnd`](crate::definitions::code::expressions::IsNoEnd), [`instruction`](crate::definitions::insn::plain::instruction), [`table`](crate::definitions::insn::table::table), [`padded_of`](crate::definitions::base::numbers::padded_of), [`ahead`](crate::definitions::code::walks::ahead), [`Rejects`](crate::definitions::base::decoding::Rejects), [`expression`](crate::definitions::code::expressions::expression). [How to read clauses](crate::definitions).
-    pub fn next_before_end(&mut self) -> Result<Option<Step>, DecodeError> {
+    /// Definitions: [`DecodesOperation`](crate::definitions::insn::operands::DecodesOperation), [`such`](crate::definitions::base::formats::such), [`IsNoEnd`](crate::definitions::code::expressions::IsNoEnd), [`instruction`](crate::definitions::insn::plain::instruction), [`table`](crate::definitions::insn::table::table), [`padded_of`](crate::definitions::base::numbers::padded_of), [`ahead`](crate::definitions::code::walks::ahead), [`Rejects`](crate::definitions::base::decoding::Rejects), [`expression`](crate::definitions::code::expressions::expression). [How to read clauses](crate::definitions).
+    #[inline(always)]
+    pub fn next_before_end(&mut self) -> Result<Option<Decoded<'a>>, DecodeError> {
         let [first, ..] = &self.bytes[self.offset..] else {
             return Err(ReadFault::Ended.at(b""));
         };
         if *first == END {
             return Ok(None);
         }
-        let step = self.step()?;
-        Ok(Some(step))
-    }
-
-    /// Returns the arguments of the instruction that was visited last. After an error they are
-    /// unspecified.
-    ///
-    /// # Proved
-    ///
-    /// ```text
-    /// ensures { map argument_view result.now ≡ self.now.arguments }
-    /// ```
-    ///
-    /// Definitions: [`argument_view`](crate::definitions::insn::views::argument_view). [How to read clauses](crate::definitions).
-    pub fn args(&self) -> &[Arg<A>] {
-        &self.args
+        let decoded = self.step()?;
+        Ok(Some(decoded))
     }
 
     /// Returns the offset of the next instruction, in bytes.

@@ -865,6 +865,56 @@ pub trait laws {
     type StoresMorePadded;
 }
 
+/// The iterator over the members of a vector.
+///
+/// [How to read definitions](super). The file is [`Members.antt`](https://github.com/dolzhytik/dolzhytik/blob/main/crates/wasm_code/specs/Members.antt).
+pub trait members {
+    /// The state of the iterator: the number of members that are left, and the bytes from the next on.
+    ///
+    /// ```text
+    /// pub record VisitingMembers : Type 0 where
+    ///   pub left : ℕ
+    ///   pub rest : List ℕ
+    /// ```
+    type VisitingMembers;
+    /// The iterator returned this member: it is at the front of the old bytes, and the new ones follow it.
+    ///
+    /// ```text
+    /// pub record GivesMember {T X : Type 0} (F : Format X) (view : T → X) (mode : Mode)
+    ///     (old : VisitingMembers) (member : T) (new : VisitingMembers) : Type 0 where
+    ///   pub decodes : Decodes F mode old.rest (view member) new.rest
+    ///   pub left : old.left ≡ new.left + 1
+    /// ```
+    ///
+    /// Definitions: [`Format`](super::base::formats::Format), [`Mode`](super::base::numbers::Mode), [`VisitingMembers`](members::VisitingMembers), [`Decodes`](super::base::decoding::Decodes).
+    type GivesMember;
+    /// The iterator returned this error, and has ended: no member is at the front, for any cause but `Memory`.
+    ///
+    /// ```text
+    /// pub record EndsMembers {X : Type 0} (F : Format X) (mode : Mode) (old : VisitingMembers)
+    ///     (e : Failure) (new : VisitingMembers) : Type 0 where
+    ///   pub some : old.left ≢ 0
+    ///   pub none : e.cause ≢ Memory → Rejects F mode old.rest
+    ///   pub ended : (new.left ≡ 0) × (new.rest ≡ old.rest)
+    /// ```
+    ///
+    /// Definitions: [`Format`](super::base::formats::Format), [`Mode`](super::base::numbers::Mode), [`VisitingMembers`](members::VisitingMembers), [`Failure`](super::base::faults::Failure), [`Rejects`](super::base::decoding::Rejects).
+    type EndsMembers;
+    /// The result of `next`: `None` if no member is left, a member, or an error.
+    ///
+    /// ```text
+    /// abbrev pub NextMember : {T X : Type 0} → Format X → (T → X) → Mode → VisitingMembers
+    ///     → Option (Result T Failure) → VisitingMembers → Type 0
+    /// NextMember F view mode old None new = (old.left ≡ 0) × (new ≡ old)
+    /// NextMember F view mode old
+    ///     (Some (Ok member)) new = GivesMember F view mode old member new
+    /// NextMember F view mode old (Some (Err e)) new = EndsMembers F mode old e new
+    /// ```
+    ///
+    /// Definitions: [`Format`](super::base::formats::Format), [`Mode`](super::base::numbers::Mode), [`VisitingMembers`](members::VisitingMembers), [`Failure`](super::base::faults::Failure), [`GivesMember`](members::GivesMember), [`EndsMembers`](members::EndsMembers).
+    type NextMember;
+}
+
 /// The laws of the offsets at which the instruction reader visits a body.
 ///
 /// [How to read definitions](super). The file is [`Offsets.antt`](https://github.com/dolzhytik/dolzhytik/blob/main/crates/wasm_code/specs/Offsets.antt).
@@ -904,16 +954,13 @@ pub trait offsets {
 ///
 /// [How to read definitions](super). The file is [`Walks.antt`](https://github.com/dolzhytik/dolzhytik/blob/main/crates/wasm_code/specs/Walks.antt).
 pub trait walks {
-    /// The state of the reader: all bytes, the offset of the next instruction in them, and the immediates of the last instruction.
+    /// The state of the reader: all bytes, and the offset of the next instruction in them.
     ///
     /// ```text
     /// pub record Walking : Type 0 where
     ///   pub bytes : List ℕ
     ///   pub offset : ℕ
-    ///   pub arguments : List Argument
     /// ```
-    ///
-    /// Definitions: [`Argument`](super::insn::arguments::Argument).
     type Walking;
     /// The bytes from the reader's offset on.
     ///

@@ -1499,6 +1499,74 @@ pub trait opcodes {
     type op_encoding;
 }
 
+/// The operands of a decoded instruction: which immediates they are, and what decoding to them means.
+///
+/// [How to read definitions](super). The file is [`Operands.antt`](https://github.com/dolzhytik/dolzhytik/blob/main/crates/wasm_insn/specs/Operands.antt).
+pub trait operands {
+    /// Whether operands of this shape have a case of their own.
+    ///
+    /// ```text
+    /// abbrev pub has_case : Shape → Bool
+    /// has_case shapes.Nothing = true
+    /// has_case shapes.U = true
+    /// has_case shapes.C32 = true
+    /// has_case shapes.C64 = true
+    /// has_case shapes.M = true
+    /// has_case shapes.B = true
+    /// has_case _ = false
+    /// ```
+    type has_case;
+    /// The operands are these immediates. Encoded operands have a shape without a case of its own, and are those that the bytes as a whole encode in the standard's grammar, which admits what the builders' does.
+    ///
+    /// ```text
+    /// abbrev pub AreOperands : Operands → List Argument → Type 0
+    /// AreOperands operands.Nothing xs = xs ≡ []
+    /// AreOperands (operands.U32 n) xs = xs ≡ unsigned n ∷ []
+    /// AreOperands (operands.S32 v) xs = xs ≡ signed32 v ∷ []
+    /// AreOperands (operands.S64 v) xs = xs ≡ signed64 v ∷ []
+    /// AreOperands (operands.Mem m) xs = xs ≡ memory m ∷ []
+    /// AreOperands (operands.Block type) xs = xs ≡ block type ∷ []
+    /// AreOperands (operands.Encoded shape bytes) xs = (has_case shape ≡ false)
+    ///     × arguments (parts_of shape) standard bytes.now xs
+    /// ```
+    ///
+    /// Definitions: [`Argument`](arguments::Argument), [`unsigned`](arguments::Argument), [`signed32`](arguments::Argument), [`signed64`](arguments::Argument), [`memory`](arguments::Argument), [`block`](arguments::Argument), [`has_case`](operands::has_case), [`arguments`](plain::arguments), [`parts_of`](parts::parts_of), [`standard`](super::base::numbers::Mode).
+    type AreOperands;
+    /// The operands are no immediates: their shape has a case of its own, or their bytes do not encode immediates of their shape.
+    ///
+    /// ```text
+    /// pub record AreNoOperands (given : Operands) : Type 0 where
+    ///   pub none : (xs : List Argument) → AreOperands given xs → ⊥
+    /// ```
+    ///
+    /// Definitions: [`Argument`](arguments::Argument), [`AreOperands`](operands::AreOperands).
+    type AreNoOperands;
+    /// Immediates of these types decode from the front of the bytes, and the operands are these.
+    ///
+    /// ```text
+    /// pub record DecodesOperands (ps : List Part) (mode : Mode) (bytes : List ℕ)
+    ///     (given : Operands) (rest : List ℕ) : Type 0 where
+    ///   pub immediates : List Argument
+    ///   pub decodes : Decodes (arguments ps) mode bytes immediates rest
+    ///   pub operands : AreOperands given immediates
+    /// ```
+    ///
+    /// Definitions: [`Mode`](super::base::numbers::Mode), [`Argument`](arguments::Argument), [`Decodes`](super::base::decoding::Decodes), [`arguments`](plain::arguments), [`AreOperands`](operands::AreOperands).
+    type DecodesOperands;
+    /// An instruction with this opcode and these operands decodes from the front of the bytes.
+    ///
+    /// ```text
+    /// pub record DecodesOperation (F : Format Plain) (mode : Mode) (bytes : List ℕ) (op : Op)
+    ///     (given : Operands) (rest : List ℕ) : Type 0 where
+    ///   pub immediates : List Argument
+    ///   pub decodes : Decodes F mode bytes (record { op = op; arguments = immediates }) rest
+    ///   pub operands : AreOperands given immediates
+    /// ```
+    ///
+    /// Definitions: [`Format`](super::base::formats::Format), [`Plain`](plain::Plain), [`Mode`](super::base::numbers::Mode), [`Argument`](arguments::Argument), [`Decodes`](super::base::decoding::Decodes), [`AreOperands`](operands::AreOperands).
+    type DecodesOperation;
+}
+
 /// Which immediates follow an opcode, by the shape of the instruction.
 ///
 /// [How to read definitions](super). The file is [`Parts.antt`](https://github.com/dolzhytik/dolzhytik/blob/main/crates/wasm_insn/specs/Parts.antt).

@@ -10,8 +10,8 @@ use crate::immediates::{BlockType, Catch, Handle, Ieee32, Ieee64, MemArg, Orderi
 
 /// An argument of an instruction, decoded from one immediate of its shape.
 ///
-/// [`Plain`](crate::reader::Plain) and
-/// [`Instructions::args`](crate::reader::Instructions::args) have them.
+/// [`Plain`](crate::reader::Plain) has them, and
+/// [`Operands::to_args`](crate::reader::Operands::to_args) returns them.
 /// To match on instructions by name, convert an opcode with its arguments:
 /// `Instruction::try_from((op, args))`
 /// gives a value of [`Instruction`](crate::Instruction).
@@ -24,8 +24,9 @@ use crate::immediates::{BlockType, Catch, Handle, Ieee32, Ieee64, MemArg, Orderi
 ///
 /// // br_table: 0E, one label, 5, and the default label, 6.
 /// let mut instructions = Instructions::new(&[0x0E, 1, 5, 6], Global);
-/// instructions.next()?;
-/// let [Arg::Labels(labels), Arg::U32(default)] = instructions.args() else {
+/// let decoded = instructions.next()?.unwrap();
+/// let args = decoded.operands.to_args(Global)?;
+/// let [Arg::Labels(labels), Arg::U32(default)] = &args[..] else {
 ///     panic!("other immediates");
 /// };
 /// assert_eq!((&labels[..], *default), (&[5][..], 6));
@@ -87,7 +88,7 @@ pub enum Arg<A: Allocator = Global> {
 ///
 /// Definitions: [`Decodes`](crate::definitions::base::decoding::Decodes), [`part`](crate::definitions::insn::plain::part), [`padded_of`](crate::definitions::base::numbers::padded_of), [`argument_view`](crate::definitions::insn::views::argument_view), [`Rejects`](crate::definitions::base::decoding::Rejects). [How to read clauses](crate::definitions).
 #[inline(always)]
-pub(crate) fn read_unsigned<'a, A: Allocator + Copy, G: Grammar>(
+fn read_unsigned<'a, A: Allocator + Copy, G: Grammar>(
     bytes: &'a [u8],
     alloc: A,
 ) -> Result<(Arg<A>, &'a [u8]), DecodeError> {
@@ -112,7 +113,7 @@ pub(crate) fn read_unsigned<'a, A: Allocator + Copy, G: Grammar>(
 ///
 /// Definitions: [`Decodes`](crate::definitions::base::decoding::Decodes), [`part`](crate::definitions::insn::plain::part), [`padded_of`](crate::definitions::base::numbers::padded_of), [`argument_view`](crate::definitions::insn::views::argument_view), [`Rejects`](crate::definitions::base::decoding::Rejects). [How to read clauses](crate::definitions).
 #[inline(always)]
-pub(crate) fn read_signed32<'a, A: Allocator + Copy, G: Grammar>(
+fn read_signed32<'a, A: Allocator + Copy, G: Grammar>(
     bytes: &'a [u8],
     alloc: A,
 ) -> Result<(Arg<A>, &'a [u8]), DecodeError> {
@@ -137,7 +138,7 @@ pub(crate) fn read_signed32<'a, A: Allocator + Copy, G: Grammar>(
 ///
 /// Definitions: [`Decodes`](crate::definitions::base::decoding::Decodes), [`part`](crate::definitions::insn::plain::part), [`padded_of`](crate::definitions::base::numbers::padded_of), [`argument_view`](crate::definitions::insn::views::argument_view), [`Rejects`](crate::definitions::base::decoding::Rejects). [How to read clauses](crate::definitions).
 #[inline(always)]
-pub(crate) fn read_signed64<'a, A: Allocator + Copy, G: Grammar>(
+fn read_signed64<'a, A: Allocator + Copy, G: Grammar>(
     bytes: &'a [u8],
     alloc: A,
 ) -> Result<(Arg<A>, &'a [u8]), DecodeError> {
@@ -237,7 +238,7 @@ fn read_vector<'a, A: Allocator + Copy, G: Grammar>(
 ///
 /// Definitions: [`Decodes`](crate::definitions::base::decoding::Decodes), [`part`](crate::definitions::insn::plain::part), [`padded_of`](crate::definitions::base::numbers::padded_of), [`argument_view`](crate::definitions::insn::views::argument_view), [`Rejects`](crate::definitions::base::decoding::Rejects). [How to read clauses](crate::definitions).
 #[inline(always)]
-pub(crate) fn read_memory<'a, A: Allocator + Copy, G: Grammar>(
+fn read_memory<'a, A: Allocator + Copy, G: Grammar>(
     bytes: &'a [u8],
     alloc: A,
 ) -> Result<(Arg<A>, &'a [u8]), DecodeError> {
@@ -311,7 +312,7 @@ fn read_lanes<'a, A: Allocator + Copy, G: Grammar>(
 ///
 /// Definitions: [`Decodes`](crate::definitions::base::decoding::Decodes), [`part`](crate::definitions::insn::plain::part), [`padded_of`](crate::definitions::base::numbers::padded_of), [`argument_view`](crate::definitions::insn::views::argument_view), [`Rejects`](crate::definitions::base::decoding::Rejects). [How to read clauses](crate::definitions).
 #[inline(always)]
-pub(crate) fn read_block<'a, A: Allocator + Copy, G: Grammar>(
+fn read_block<'a, A: Allocator + Copy, G: Grammar>(
     bytes: &'a [u8],
     alloc: A,
 ) -> Result<(Arg<A>, &'a [u8]), DecodeError> {
@@ -600,7 +601,7 @@ fn read_parts<'a, A: Allocator + Copy, G: Grammar>(
 ///
 /// Definitions: [`Decodes`](crate::definitions::base::decoding::Decodes), [`arguments`](crate::definitions::insn::plain::arguments), [`parts_of`](crate::definitions::insn::parts::parts_of), [`padded_of`](crate::definitions::base::numbers::padded_of), [`argument_view`](crate::definitions::insn::views::argument_view), [`Rejects`](crate::definitions::base::decoding::Rejects). [How to read clauses](crate::definitions).
 #[inline(never)]
-fn read_any<'a, A: Allocator + Copy, G: Grammar>(
+pub(crate) fn read_any<'a, A: Allocator + Copy, G: Grammar>(
     shape: Shape,
     bytes: &'a [u8],
     alloc: A,
@@ -611,173 +612,26 @@ fn read_any<'a, A: Allocator + Copy, G: Grammar>(
     Ok((args, rest))
 }
 
-/// Returns the list of the one decoded argument, and the remaining bytes.
+/// Returns the list of one argument.
 ///
 /// # Proved
 ///
 /// After `Ok`: `listed`. After an error: `refused`, the cause is `Memory`.
 ///
 /// ```text
-/// ensures listed { IfOk result
-///     (λ x. (x.0.items ≡ read.entry.0 ∷ []) × (x.1.now ≡ read.entry.1.now)) }
+/// ensures listed { IfOk result (λ args. args.items ≡ arg ∷ []) }
 /// ensures refused { IfErr result (λ e. e.cause ≡ Memory) }
 /// ```
 ///
 /// [How to read clauses](crate::definitions).
 #[inline(always)]
-fn list_one<'a, A: Allocator + Copy>(
+pub(crate) fn list_one<A: Allocator + Copy>(
     alloc: A,
-    read: (Arg<A>, &'a [u8]),
-) -> Result<(Vec<Arg<A>, A>, &'a [u8]), DecodeError> {
-    let (arg, rest) = read;
+    arg: Arg<A>,
+) -> Result<Vec<Arg<A>, A>, DecodeError> {
     let mut args = Vec::with_capacity(alloc, 1)?;
     args.push_reserved(arg);
-    Ok((args, rest))
-}
-
-/// Decodes the arguments of an opcode of this shape, into a list of exactly their number. Common
-/// shapes are decoded inline.
-///
-/// # Proved
-///
-/// After `Ok`: `found`, the bytes begin with an encoding of the value, and the returned bytes follow it. After an error: `none`, the bytes do not begin with such an encoding, unless the cause is `Memory`.
-///
-/// ```text
-/// ensures found { IfOk result
-///     (λ x. Decodes (arguments (parts_of shape)) (padded_of G.grammar) bytes.now
-///         (map argument_view x.0.items) x.1.now) }
-/// ensures none { IfErr result
-///     (λ e. e.cause ≢ Memory → Rejects (arguments (parts_of shape))
-///         (padded_of G.grammar) bytes.now) }
-/// ```
-///
-/// Definitions: [`Decodes`](crate::definitions::base::decoding::Decodes), [`arguments`](crate::definitions::insn::plain::arguments), [`parts_of`](crate::definitions::insn::parts::parts_of), [`padded_of`](crate::definitions::base::numbers::padded_of), [`argument_view`](crate::definitions::insn::views::argument_view), [`Rejects`](crate::definitions::base::decoding::Rejects). [How to read clauses](crate::definitions).
-#[inline]
-pub(crate) fn read_arguments<'a, A: Allocator + Copy, G: Grammar>(
-    shape: Shape,
-    bytes: &'a [u8],
-    alloc: A,
-) -> Result<(Vec<Arg<A>, A>, &'a [u8]), DecodeError> {
-    match shape {
-        Shape::Nothing => Ok((Vec::new(alloc), bytes)),
-        Shape::U => list_one(alloc, read_unsigned::<A, G>(bytes, alloc)?),
-        Shape::M => list_one(alloc, read_memory::<A, G>(bytes, alloc)?),
-        Shape::C32 => list_one(alloc, read_signed32::<A, G>(bytes, alloc)?),
-        Shape::C64 => list_one(alloc, read_signed64::<A, G>(bytes, alloc)?),
-        Shape::B => list_one(alloc, read_block::<A, G>(bytes, alloc)?),
-        _ => read_any::<A, G>(shape, bytes, alloc),
-    }
-}
-
-/// Decodes the arguments of any shape into the memory of `args`. Out of line, for rare shapes.
-///
-/// # Proved
-///
-/// - After `Ok`, `found`: The bytes begin with such an encoding, and the remaining bytes follow it.
-/// - After an error, `none`: the bytes do not begin with such an encoding, unless the cause is `Memory`.
-///
-/// ```text
-/// ensures found { IfOk result
-///     (λ rest. Decodes (arguments (parts_of shape)) (padded_of G.grammar) bytes.now
-///         (map argument_view args.new.items) rest.now) }
-/// ensures none { IfErr result
-///     (λ e. e.cause ≢ Memory → Rejects (arguments (parts_of shape))
-///         (padded_of G.grammar) bytes.now) }
-/// ```
-///
-/// Definitions: [`Decodes`](crate::definitions::base::decoding::Decodes), [`arguments`](crate::definitions::insn::plain::arguments), [`parts_of`](crate::definitions::insn::parts::parts_of), [`padded_of`](crate::definitions::base::numbers::padded_of), [`argument_view`](crate::definitions::insn::views::argument_view), [`Rejects`](crate::definitions::base::decoding::Rejects). [How to read clauses](crate::definitions).
-#[inline(never)]
-fn read_any_into<'a, A: Allocator + Copy, G: Grammar>(
-    shape: Shape,
-    bytes: &'a [u8],
-    alloc: A,
-    args: &mut Vec<Arg<A>, A>,
-) -> Result<&'a [u8], DecodeError> {
-    args.clear();
-    read_parts::<A, G>(shape.parts(), bytes, alloc, args)
-}
-
-/// Drops the arguments of the list. For an empty list, no call is needed.
-///
-/// # Proved
-///
-/// ```text
-/// ensures { args.new.items ≡ [] }
-/// ```
-///
-/// [How to read clauses](crate::definitions).
-#[inline(always)]
-fn drop_all<A: Allocator + Copy>(args: &mut Vec<Arg<A>, A>) {
-    if !args.is_empty() {
-        args.clear();
-    }
-}
-
-/// Makes the decoded argument the only one of the list, and returns the remaining bytes.
-///
-/// # Proved
-///
-/// After `Ok`: `kept`. After an error: `refused`, the cause is `Memory`.
-///
-/// ```text
-/// ensures kept { IfOk result
-///     (λ rest. (args.new.items ≡ read.entry.0 ∷ []) × (rest.now ≡ read.entry.1.now)) }
-/// ensures refused { IfErr result (λ e. e.cause ≡ Memory) }
-/// ```
-///
-/// [How to read clauses](crate::definitions).
-#[inline(always)]
-fn keep_one<'a, A: Allocator + Copy>(
-    args: &mut Vec<Arg<A>, A>,
-    read: (Arg<A>, &'a [u8]),
-) -> Result<&'a [u8], DecodeError> {
-    let (arg, rest) = read;
-    if let [one] = &mut args[..] {
-        *one = arg;
-        return Ok(rest);
-    }
-    drop_all(args);
-    args.push(arg)?;
-    Ok(rest)
-}
-
-/// Decodes the arguments of an opcode of this shape into the memory of `args`, and drops its old
-/// ones. Common shapes are decoded inline.
-///
-/// # Proved
-///
-/// - After `Ok`, `found`: The bytes begin with such an encoding, and the remaining bytes follow it.
-/// - After an error, `none`: the bytes do not begin with such an encoding, unless the cause is `Memory`.
-///
-/// ```text
-/// ensures found { IfOk result
-///     (λ rest. Decodes (arguments (parts_of shape)) (padded_of G.grammar) bytes.now
-///         (map argument_view args.new.items) rest.now) }
-/// ensures none { IfErr result
-///     (λ e. e.cause ≢ Memory → Rejects (arguments (parts_of shape))
-///         (padded_of G.grammar) bytes.now) }
-/// ```
-///
-/// Definitions: [`Decodes`](crate::definitions::base::decoding::Decodes), [`arguments`](crate::definitions::insn::plain::arguments), [`parts_of`](crate::definitions::insn::parts::parts_of), [`padded_of`](crate::definitions::base::numbers::padded_of), [`argument_view`](crate::definitions::insn::views::argument_view), [`Rejects`](crate::definitions::base::decoding::Rejects). [How to read clauses](crate::definitions).
-#[inline]
-pub(crate) fn read_arguments_into<'a, A: Allocator + Copy, G: Grammar>(
-    shape: Shape,
-    bytes: &'a [u8],
-    alloc: A,
-    args: &mut Vec<Arg<A>, A>,
-) -> Result<&'a [u8], DecodeError> {
-    match shape {
-        Shape::Nothing => {
-            drop_all(args);
-            Ok(bytes)
-        }
-        Shape::U => keep_one(args, read_unsigned::<A, G>(bytes, alloc)?),
-        Shape::M => keep_one(args, read_memory::<A, G>(bytes, alloc)?),
-        Shape::C32 => keep_one(args, read_signed32::<A, G>(bytes, alloc)?),
-        Shape::C64 => keep_one(args, read_signed64::<A, G>(bytes, alloc)?),
-        Shape::B => keep_one(args, read_block::<A, G>(bytes, alloc)?),
-        _ => read_any_into::<A, G>(shape, bytes, alloc, args),
-    }
+    Ok(args)
 }
 
 /// Appends the minimal encoding of the argument.
@@ -936,60 +790,10 @@ fn skip_parts<'a, A: Allocator + Copy, G: Grammar>(
 ///
 /// Definitions: [`Argument`](crate::definitions::insn::arguments::Argument), [`Decodes`](crate::definitions::base::decoding::Decodes), [`arguments`](crate::definitions::insn::plain::arguments), [`parts_of`](crate::definitions::insn::parts::parts_of), [`padded_of`](crate::definitions::base::numbers::padded_of), [`Rejects`](crate::definitions::base::decoding::Rejects). [How to read clauses](crate::definitions).
 #[inline(never)]
-fn skip_any<'a, A: Allocator + Copy, G: Grammar>(
+pub(crate) fn skip_any<'a, A: Allocator + Copy, G: Grammar>(
     shape: Shape,
     bytes: &'a [u8],
     alloc: A,
 ) -> Result<&'a [u8], DecodeError> {
     skip_parts::<A, G>(shape.parts(), bytes, alloc)
-}
-
-/// Skips the arguments of an opcode of this shape, and returns the remaining bytes. Common shapes
-/// are skipped inline.
-///
-/// # Proved
-///
-/// After `Ok`: `found`. After an error: `none`, the bytes do not begin with such an encoding, unless the cause is `Memory`.
-///
-/// ```text
-/// ensures found { IfOk result
-///     (λ rest. (xs : List Argument)
-///         × Decodes (arguments (parts_of shape))
-///         (padded_of G.grammar) bytes.now xs rest.now) }
-/// ensures none { IfErr result
-///     (λ e. e.cause ≢ Memory → Rejects (arguments (parts_of shape))
-///         (padded_of G.grammar) bytes.now) }
-/// ```
-///
-/// Definitions: [`Argument`](crate::definitions::insn::arguments::Argument), [`Decodes`](crate::definitions::base::decoding::Decodes), [`arguments`](crate::definitions::insn::plain::arguments), [`parts_of`](crate::definitions::insn::parts::parts_of), [`padded_of`](crate::definitions::base::numbers::padded_of), [`Rejects`](crate::definitions::base::decoding::Rejects). [How to read clauses](crate::definitions).
-#[inline]
-pub(crate) fn skip_arguments<'a, A: Allocator + Copy, G: Grammar>(
-    shape: Shape,
-    bytes: &'a [u8],
-    alloc: A,
-) -> Result<&'a [u8], DecodeError> {
-    match shape {
-        Shape::Nothing => Ok(bytes),
-        Shape::U => {
-            let (_arg, rest) = read_unsigned::<A, G>(bytes, alloc)?;
-            Ok(rest)
-        }
-        Shape::M => {
-            let (_arg, rest) = read_memory::<A, G>(bytes, alloc)?;
-            Ok(rest)
-        }
-        Shape::C32 => {
-            let (_arg, rest) = read_signed32::<A, G>(bytes, alloc)?;
-            Ok(rest)
-        }
-        Shape::C64 => {
-            let (_arg, rest) = read_signed64::<A, G>(bytes, alloc)?;
-            Ok(rest)
-        }
-        Shape::B => {
-            let (_arg, rest) = read_block::<A, G>(bytes, alloc)?;
-            Ok(rest)
-        }
-        _ => skip_any::<A, G>(shape, bytes, alloc),
-    }
 }

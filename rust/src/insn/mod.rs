@@ -19,6 +19,7 @@ pub mod laws;
 mod minimize;
 mod numeric;
 mod op;
+mod operands;
 mod part;
 mod plain;
 mod prefixed_numeric;
@@ -40,8 +41,9 @@ pub use atomic::Atomic;
 pub use instruction::Instruction;
 pub use numeric::Numeric;
 pub use op::{Op, Shape};
+pub(crate) use operands::{Operands, read_instruction};
 pub use part::Part;
-pub(crate) use plain::{Plain, read_instruction_into};
+pub(crate) use plain::Plain;
 pub use prefixed_numeric::PrefixedNumeric;
 pub use sink::Buffer;
 #[doc(alias = "assembler")]
@@ -58,5 +60,6 @@ pub use crate::immediates::{
 /// The names that decode, which `reader` exports.
 pub(crate) mod reading {
     pub use super::arguments::Arg;
+    pub use super::operands::Operands;
     pub use super::plain::Plain;
 }

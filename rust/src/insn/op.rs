@@ -7,7 +7,7 @@ use crate::base::{DecodeError, Encode, Grammar, Readable, Result};
 
 /// An opcode: a byte, or a prefix and a number.
 ///
-/// [`Plain`](crate::reader::Plain) and [`Step`](crate::reader::Step) have one.
+/// [`Plain`](crate::reader::Plain) and [`Decoded`](crate::reader::Decoded) have one.
 ///
 /// # Examples
 ///

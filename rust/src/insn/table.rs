@@ -139,7 +139,7 @@ fn find_shape(runs: &[Run], number: u32) -> Option<Shape> {
 ///
 /// Definitions: [`shape_of`](crate::definitions::insn::plain::shape_of), [`table`](crate::definitions::insn::table::table). [How to read clauses](crate::definitions).
 #[inline]
-fn byte_shape(byte: u8) -> Option<Shape> {
+pub(crate) fn byte_shape(byte: u8) -> Option<Shape> {
     ONE_BYTE[usize::from(byte)]
 }
 

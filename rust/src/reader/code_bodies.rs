@@ -29,10 +29,10 @@ use crate::code::Instructions;
 /// for body in Sections::new(Global, module)?.next().unwrap()?.bodies()? {
 ///     let body = body?;
 ///     let (_, mut instructions) = body.instructions()?;
-///     while let Some(step) =
+///     while let Some(decoded) =
 ///         instructions.next().map_err(|error| body.locate(error))?
 ///     {
-///         found.push((body.offset() + step.offset, step.op));
+///         found.push((body.offset() + decoded.offset, decoded.op));
 ///     }
 /// }
 /// // Offsets in the module.
@@ -248,7 +248,7 @@ impl<'a, A: Allocator + Copy> CodeBody<'a, A> {
     ///
     /// # Proved
     ///
-    /// After `Ok`: `found`, the bytes begin with an encoding of the locals, and the instructions follow it; `same`, the visitor is over the bytes of the body; `inside`, the offset is in the body, or at its end; `before`, the visitor has no immediates yet. After an error: `none`, the bytes as a whole are no such encoding, unless the cause is `Memory`; `from`, the offset of the error is not before this one; `within`, the offset of the error is not after the body.
+    /// After `Ok`: `found`, the bytes begin with an encoding of the locals, and the instructions follow it; `same`, the visitor is over the bytes of the body; `inside`, the offset is in the body, or at its end. After an error: `none`, the bytes as a whole are no such encoding, unless the cause is `Memory`; `from`, the offset of the error is not before this one; `within`, the offset of the error is not after the body.
     ///
     /// ```text
     /// ensures found { IfOk result
@@ -256,7 +256,6 @@ impl<'a, A: Allocator + Copy> CodeBody<'a, A> {
     ///         (ahead_in x.1)) }
     /// ensures same { IfOk result (λ x. x.1.bytes ≡ self.now.bytes) }
     /// ensures inside { IfOk result (λ x. x.1.offset ≤ length self.now.bytes) }
-    /// ensures before { IfOk result (λ x. x.1.arguments ≡ []) }
     /// ensures none { IfErr result
     ///     (λ e. e.cause ≢ Memory → RejectsWhole body standard self.now.bytes) }
     /// ensures from { IfErr result (λ e. self.now.offset ≤ e.offset) }

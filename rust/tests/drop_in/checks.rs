@@ -30,12 +30,15 @@ pub fn section(section: &impl Section, id: u8, expected: &[u8]) {
 
 /// Checks that the bytes decode to the instruction alone, converted from what a reader decodes.
 fn check_decoded(bytes: &[u8], value: &Instruction<'_>) {
-    let mut decoded = Instructions::standard(bytes, Global);
-    let step = decoded.next().unwrap().expect("an instruction");
-    let converted = Instruction::try_from((step.op, decoded.args())).unwrap();
-    assert_eq!(format!("{converted:?}"), format!("{value:?}"));
-    assert_eq!(encoded(&converted), bytes, "{value:?}");
-    assert!(decoded.next().unwrap().is_none(), "{value:?}");
+    let mut instructions = Instructions::standard(bytes, Global);
+    let decoded = instructions.next().unwrap().expect("an instruction");
+    let args = decoded.operands.to_args(Global).unwrap();
+    let borrowed = Instruction::try_from((decoded.op, &args[..])).unwrap();
+    for converted in [borrowed, Instruction::try_from(decoded).unwrap()] {
+        assert_eq!(format!("{converted:?}"), format!("{value:?}"));
+        assert_eq!(encoded(&converted), bytes, "{value:?}");
+    }
+    assert!(instructions.next().unwrap().is_none(), "{value:?}");
 }
 
 /// Checks that an instruction has these bytes: as a value, by its named call, and by `encode` of

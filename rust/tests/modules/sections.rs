@@ -1,7 +1,7 @@
 //! Iterating over the sections of a module, and over the bodies of a code section.
 use crate::samples::{PADDED, PADDED_NAME, SHORT, UNREAD, bytes_of, custom, module};
 use dolzhytik::fallible::{Global, Op, ValType};
-use dolzhytik::reader::{Items, ReadError, ReadFault, Section, SectionKind, Sections, Step};
+use dolzhytik::reader::{Items, ReadError, ReadFault, Section, SectionKind, Sections};
 
 fn error(cause: ReadFault, offset: usize) -> ReadError {
     ReadError { cause, offset }
@@ -250,16 +250,13 @@ fn bodies_of_a_code_section() {
     let (locals, mut instructions) = first.instructions().unwrap();
     assert_eq!(*locals, [(2, ValType::I32)]);
     let mut steps = Vec::new();
-    while let Some(step) = instructions.next().unwrap() {
-        steps.push(step);
+    while let Some(decoded) = instructions.next().unwrap() {
+        steps.push((decoded.offset, decoded.op));
     }
-    let step = |offset, byte| Step {
-        offset,
-        op: Op::Byte(byte),
-    };
+    let expected = [(3, 0x20), (5, 0x45), (6, 0x1a), (7, 0x0b)];
     assert_eq!(
         steps,
-        [step(3, 0x20), step(5, 0x45), step(6, 0x1a), step(7, 0x0b)]
+        expected.map(|(offset, byte)| (offset, Op::Byte(byte)))
     );
     let second = bodies.next().unwrap().unwrap();
     assert_eq!((second.offset(), second.bytes()), (30, &[0x00, 0x0b][..]));

@@ -9,7 +9,7 @@ mod tools;
 use dolzhytik::encoding_size;
 use dolzhytik::fallible::{self, Addend32Relocation, Global, Op, PlainRelocation, Relocation};
 use dolzhytik::reader::{
-    Arg, Instructions, Items, LinkItem, Outlined, Padded, Readable, SectionKind, Sections,
+    Instructions, Items, LinkItem, Operands, Outlined, Padded, Readable, SectionKind, Sections,
     encode_items, outline, read_section,
 };
 use std::fs;
@@ -57,15 +57,15 @@ fn padded_operands(payload: &[u8]) -> Vec<Operand> {
         let (body, after) = <&[u8] as Readable<Global, Padded>>::read(rest, Global).unwrap();
         let start = payload.len() - after.len() - body.len();
         let (_locals, mut instructions) = Instructions::of_body(body, Global).unwrap();
-        while let Some(step) = instructions.next().unwrap() {
-            let value = match instructions.args() {
-                [Arg::U32(index)] => u64::from(*index),
-                [Arg::Mem(argument)] => argument.offset,
+        while let Some(decoded) = instructions.next().unwrap() {
+            let value = match decoded.operands {
+                Operands::U32(index) => u64::from(index),
+                Operands::Mem(argument) => argument.offset,
                 _ => continue,
             };
             let end = instructions.offset();
-            if end > step.offset + 5 {
-                operands.push((start + end - 5, step.op, value));
+            if end > decoded.offset + 5 {
+                operands.push((start + end - 5, decoded.op, value));
             }
         }
         rest = after;

@@ -1,6 +1,5 @@
 // Written by tools/to-rust from tests/wasm_reader_tests/src/refusals.rtt: change that.
-// Tests with each request for memory failing in turn: the error is `Memory`, and a visitor stays at
-// its offset.
+// Tests with each request for memory failing in turn: the error is `Memory`. Visitors request none.
 
 use dolzhytik::fallible::Vec;
 use crate::checks::check_cause;
@@ -8,9 +7,9 @@ use dolzhytik::fallible::Global;
 use crate::host::Abort;
 use crate::test_support::{MOST, Refusing};
 use dolzhytik::reader::{DecodeError, Padded, ReadFault, Readable, SizePrefixed};
-use dolzhytik::reader::{Body, Expression, Instructions, Step};
-use dolzhytik::fallible::Op;
-use dolzhytik::reader::Plain;
+use dolzhytik::reader::{Body, Decoded, Expression, Instructions};
+use dolzhytik::fallible::{Op, Shape};
+use dolzhytik::reader::{Operands, Plain};
 
 /// Checks that there is no error.
 fn check_read(rt: &impl Abort, given: Option<ReadFault>) {
@@ -31,14 +30,29 @@ fn check_refusals<'a, T: Readable<'a, &'a Refusing<Global>, Padded>>(
             Ok(_) => None,
             Err(error) => Some(error.cause()),
         };
-        if heap.is_waiting() {
-            check_read(rt, fault);
-            check_requests(rt, nth, requests);
+        if is_granted(rt, heap, fault, nth, requests) {
             return;
         }
-        check_cause(rt, fault, ReadFault::Memory);
     }
     panic!(rt; "no call was granted")
+}
+
+/// Returns whether no request of the call was refused, and checks the number of its requests then.
+/// Otherwise checks that it failed with `Memory`.
+fn is_granted(
+    rt: &impl Abort,
+    heap: &Refusing<Global>,
+    fault: Option<ReadFault>,
+    nth: u64,
+    requests: u64,
+) -> bool {
+    if heap.is_waiting() {
+        check_read(rt, fault);
+        check_requests(rt, nth, requests);
+        return true;
+    }
+    check_cause(rt, fault, ReadFault::Memory);
+    false
 }
 
 /// Checks that the first successful call is the one after these requests.
@@ -78,41 +92,55 @@ fn walks_of_bodies() {
     check_cause(&rt, refused, ReadFault::Memory);
 }
 
-/// Checks the result of a visitor, and its offset.
+/// Checks the offset and the opcode of an instruction, and the offset of the visitor after it.
 fn check_walk(
     rt: &impl Abort,
-    given: Result<Option<Step>, DecodeError>,
-    expected: Result<Option<Step>, ReadFault>,
+    given: Result<Option<Decoded>, DecodeError>,
+    expected: (usize, Op),
     offset: usize,
     expected_offset: usize,
 ) {
-    assert_eq!(rt; given.map_err(|error| error.cause()), expected);
+    let given = given.map(|decoded| decoded.map(|it| (it.offset, it.op)));
+    assert_eq!(rt; given.map_err(|error| error.cause()), Ok(Some(expected)));
     assert_eq!(rt; offset, expected_offset);
 }
 
 #[test]
-fn walks() {
+fn walks_take_no_memory() {
     let rt = crate::host::HostRuntime;
     let heap = Refusing::new(rt.alloc());
-    let mut walk = Instructions::new(&[0x20, 1, 0x41, 2, 0x0B], &heap);
-    let first = Step {
-        offset: 0,
-        op: Op::Byte(0x20),
-    };
-    heap.refuse(1);
-    let answer = walk.next();
-    check_walk(&rt, answer, Err(ReadFault::Memory), walk.offset(), 0);
-    heap.refuse(1);
-    let answer = walk.next_before_end();
-    check_walk(&rt, answer, Err(ReadFault::Memory), walk.offset(), 0);
-    let answer = walk.next();
-    check_walk(&rt, answer, Ok(Some(first)), walk.offset(), 2);
-    // The memory of its arguments is there.
+    let mut walk = Instructions::new(&[0x20, 1, 0x0E, 1, 0, 0, 0x41, 2, 0x0B], &heap);
     heap.refuse_all();
-    let second = Step {
-        offset: 2,
-        op: Op::Byte(0x41),
-    };
+    let answer = walk.next();
+    check_walk(&rt, answer, (0, Op::Byte(0x20)), walk.offset(), 2);
+    let answer = walk.next();
+    check_walk(&rt, answer, (2, Op::Byte(0x0E)), walk.offset(), 6);
     let answer = walk.next_before_end();
-    check_walk(&rt, answer, Ok(Some(second)), walk.offset(), 4);
+    check_walk(&rt, answer, (6, Op::Byte(0x41)), walk.offset(), 8);
+}
+
+/// Checks that the operands become a list, or that this fails with `Memory` if a request fails; and
+/// the number of requests.
+fn check_list(rt: &impl Abort, heap: &Refusing<Global>, operands: Operands, requests: u64) {
+    for nth in 1..MOST {
+        heap.refuse(nth);
+        let fault = match operands.to_args(heap) {
+            Ok(_) => None,
+            Err(error) => Some(error.cause()),
+        };
+        if is_granted(rt, heap, fault, nth, requests) {
+            return;
+        }
+    }
+    panic!(rt; "no call was granted")
+}
+
+#[test]
+fn lists_of_operands() {
+    let rt = crate::host::HostRuntime;
+    let heap = Refusing::new(rt.alloc());
+    check_list(&rt, &heap, Operands::Nothing, 0);
+    check_list(&rt, &heap, Operands::U32(7), 1);
+    check_list(&rt, &heap, Operands::Encoded(Shape::F32, &[0, 0, 0, 0]), 1);
+    check_list(&rt, &heap, Operands::Encoded(Shape::Bt, &[1, 5, 6]), 2);
 }

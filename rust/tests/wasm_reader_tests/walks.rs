@@ -7,19 +7,25 @@ use dolzhytik::fallible::Global;
 use crate::host::Abort;
 use dolzhytik::reader::{DecodeError, ReadFault};
 use dolzhytik::fallible::{Result, ValType};
+use dolzhytik::reader::{Decoded, Instructions};
 use dolzhytik::fallible::Function;
-use dolzhytik::reader::{Instructions, Step};
 use dolzhytik::fallible::laws::code as laws;
-use dolzhytik::fallible::Op;
+use dolzhytik::reader::{Arg, Operands};
+use dolzhytik::fallible::{BlockType, MemArg, MemArgTarget, Op, Shape};
 
-/// Checks the step.
-fn check_step(rt: &impl Abort, given: Option<Step>, offset: usize, op: Op) {
-    assert_eq!(rt; given, Some(Step { offset, op }));
+/// Returns the offset and the opcode.
+fn step_of(decoded: Decoded) -> (usize, Op) {
+    (decoded.offset, decoded.op)
+}
+
+/// Checks the offset and the opcode of an instruction.
+fn check_step(rt: &impl Abort, given: Option<Decoded>, offset: usize, op: Op) {
+    assert_eq!(rt; given.map(step_of), Some((offset, op)));
 }
 
 /// Checks that no instruction remains, and the offset of the end.
-fn check_end(rt: &impl Abort, given: Option<Step>, offset: usize, expected: usize) {
-    assert_eq!(rt; given, None);
+fn check_end(rt: &impl Abort, given: Option<Decoded>, offset: usize, expected: usize) {
+    assert_eq!(rt; given.map(step_of), None);
     assert_eq!(rt; offset, expected);
 }
 
@@ -28,7 +34,8 @@ fn check_count(rt: &impl Abort, given: usize, expected: usize) {
 }
 
 /// Checks the error of the visitor.
-fn check_stop(rt: &impl Abort, given: Result<Option<Step>, DecodeError>, expected: ReadFault) {
+fn check_stop(rt: &impl Abort, given: Result<Option<Decoded>, DecodeError>, expected: ReadFault) {
+    let given = given.map(|decoded| decoded.map(step_of));
     assert_eq!(rt; given.map_err(|error| error.cause()), Err(expected));
 }
 
@@ -39,13 +46,111 @@ fn bodies() {
     let (runs, mut walk) = Instructions::of_body(&bytes, rt.alloc()).expect("accepted");
     check_count(&rt, runs.len(), 1);
     check_step(&rt, walk.next().expect("accepted"), 3, Op::Byte(0x20));
-    check_count(&rt, walk.args().len(), 1);
     check_step(&rt, walk.next().expect("accepted"), 6, Op::Byte(0x0E));
-    check_count(&rt, walk.args().len(), 2);
     check_step(&rt, walk.next().expect("accepted"), 10, Op::Byte(0x0B));
-    check_count(&rt, walk.args().len(), 0);
     check_end(&rt, walk.next().expect("accepted"), walk.offset(), 11);
     check_count(&rt, walk.rest().len(), 0);
+}
+
+/// Checks that the operands are one number, and that their list is this one argument.
+fn check_operand(rt: &impl Abort, alloc: Global, given: Operands, expected: i64) {
+    assert_eq!(rt; operand_of(given), Some(expected));
+    let args = given.to_args(alloc).expect("accepted");
+    assert_eq!(rt; argument_of(&args), Some(expected));
+}
+
+/// Returns the operand as a number: of a memory argument, its offset and 100 times its memory; of a
+/// block type, the index of a function type.
+fn operand_of(operands: Operands) -> Option<i64> {
+    match operands {
+        Operands::U32(number) => Some(i64::from(number)),
+        Operands::S32(number) => Some(i64::from(number)),
+        Operands::S64(number) => Some(number),
+        Operands::Mem(memory) => Some(place_of(memory)),
+        Operands::Block(BlockType::FunctionType(index)) => Some(i64::from(index)),
+        Operands::Block(_) => Some(-1),
+        Operands::Nothing | Operands::Encoded(_, _) => None,
+    }
+}
+
+/// Returns the one argument as a number, as `operand_of` does.
+fn argument_of(args: &[Arg]) -> Option<i64> {
+    match args {
+        [Arg::U32(number)] => Some(i64::from(*number)),
+        [Arg::S32(number)] => Some(i64::from(*number)),
+        [Arg::S64(number)] => Some(*number),
+        [Arg::Mem(memory)] => Some(place_of(*memory)),
+        [Arg::Block(BlockType::FunctionType(index))] => Some(i64::from(*index)),
+        [Arg::Block(_)] => Some(-1),
+        _ => None,
+    }
+}
+
+/// Returns the offset of a memory argument, and 100 times its memory.
+fn place_of(memory: MemArg) -> i64 {
+    let of = match memory.target {
+        MemArgTarget::Memory(index) => i64::from(index),
+        MemArgTarget::Array(_) => -1,
+    };
+    (memory.offset % 100) as i64 + of.wrapping_mul(100)
+}
+
+#[test]
+fn operands() {
+    let rt = crate::host::HostRuntime;
+    let bytes = [
+        0x20, 0x81, 0x00, 0x20, 5, 0x41, 0x7F, 0x41, 0xFF, 0x00, 0x42, 0x40, 0x42, 0x80, 0x01, 0x28,
+        2, 8, 0x28, 0x42, 1, 8, 0x28, 2, 0x88, 0, 0x02, 0x05, 0x02, 0x40, 0x02, 0x7F,
+    ];
+    let expected = [1, 5, -1, 127, -64, 128, 8, 108, 8, 5, -1, -1];
+    let mut walk = Instructions::new(&bytes, rt.alloc());
+    for number in expected {
+        let decoded = walk.next().expect("accepted").expect("more");
+        check_operand(&rt, rt.alloc(), decoded.operands, number);
+    }
+    check_end(&rt, walk.next().expect("accepted"), walk.offset(), 32);
+}
+
+/// Checks the operands that are kept as bytes, and the length of their list.
+fn check_encoded(
+    rt: &impl Abort,
+    alloc: Global,
+    given: Operands,
+    expected: (Shape, &[u8]),
+    count: usize,
+) {
+    let Operands::Encoded(shape, bytes) = given else {
+        panic!(rt; "another case")
+    };
+    assert_eq!(rt; shape, expected.0);
+    assert_eq!(rt; bytes, expected.1);
+    check_count(rt, given.to_args(alloc).expect("accepted").len(), count);
+}
+
+#[test]
+fn operands_of_rare_shapes() {
+    let rt = crate::host::HostRuntime;
+    let bytes = [0x01, 0x43, 0, 0, 0x80, 0x3F, 0x0E, 1, 0x85, 0, 6, 0x11, 3, 0];
+    let mut walk = Instructions::new(&bytes, rt.alloc());
+    let nop = walk.next().expect("accepted").expect("more");
+    check_count(&rt, nop.operands.to_args(rt.alloc()).expect("accepted").len(), 0);
+    let float = walk.next().expect("accepted").expect("more");
+    check_encoded(&rt, rt.alloc(), float.operands, (Shape::F32, &bytes[2..6]), 1);
+    let table = walk.next().expect("accepted").expect("more");
+    check_encoded(&rt, rt.alloc(), table.operands, (Shape::Bt, &bytes[7..11]), 2);
+    let call = walk.next().expect("accepted").expect("more");
+    check_encoded(&rt, rt.alloc(), call.operands, (Shape::Uu, &bytes[12..]), 2);
+}
+
+#[test]
+fn operands_that_no_instruction_has() {
+    let rt = crate::host::HostRuntime;
+    let cut = Operands::Encoded(Shape::F32, &[0, 0, 0]);
+    let cause = match cut.to_args(rt.alloc()) {
+        Ok(_) => None,
+        Err(error) => Some(error.cause()),
+    };
+    assert_eq!(rt; cause, Some(ReadFault::Ended));
 }
 
 #[test]

@@ -59,11 +59,11 @@ def decoded_arm(case: Case) -> str:
         raise Stop("no decoded arguments are known for the layout %s" % case.shape)
     else:
         pattern = ", ".join("Arg::%s(%s)" % it for it in zip(DECODED[case.shape], "abc"))
-        parts = ["Cow::Borrowed(%s.as_slice())" % it if item_of(ty) else "*" + it for it, ty in zip(case.letters(), case.types)]
+        parts = ["L::list(%s)" % it if item_of(ty) else "*" + it for it, ty in zip(case.letters(), case.types)]
     guard = ""
     if case.is_one:
         guard, parts = " if a.len() == 1", ["a[0]"]
-    return "            (%s, [%s])%s => Instruction::%s,\n" % (case.op(), pattern, guard, case.of(parts))
+    return "        (%s, [%s])%s => Instruction::%s,\n" % (case.op(), pattern, guard, case.of(parts))
 
 
 # Types whose values are arguments of the functions that encode them; others are borrowed.
@@ -103,9 +103,9 @@ TEMPLATE = """//! The instructions, as cases of one enum.
 use super::Encode;
 use super::entries::append;
 use crate::base::{self, CowSlice, HeapType, Lent, RefType, Result, ValType};
-use crate::alloc::Allocator;
+use crate::alloc::{Allocator, Global};
 use crate::insn::{self, BlockType, Catch, Handle, Ieee32, Ieee64, Lane, MemArg, Op, Ordering};
-use crate::reader::{Arg, Plain, ReadFault};
+use crate::reader::{Arg, Decoded, Plain, ReadFault};
 use crate::vec::Sink;
 use alloc_crate::borrow::Cow;
 use alloc_crate::vec::Vec;
@@ -125,7 +125,7 @@ use core::slice;
 ///
 /// The enum is `non_exhaustive`: a `match` outside this package needs a wildcard. To decode
 /// instructions, see [`reader::CodeBody::instructions`](crate::reader::CodeBody::instructions);
-/// `Instruction::try_from((step.op, instructions.args()))` converts a decoded one.
+/// `Instruction::try_from(decoded)` converts a decoded one.
 ///
 /// ```
 /// use dolzhytik::{BlockType, Encode, Instruction};
@@ -165,7 +165,38 @@ fn cast_type(nullable: bool, heap_type: HeapType) -> RefType {
     RefType { nullable, heap_type }
 }
 
-/// Converts a decoded instruction: its opcode and its arguments. Lists are borrowed.
+/// How the lists of decoded arguments become those of an instruction.
+trait Lists<'a, 'l> {
+    fn list<T: Clone, A: Allocator>(items: &'a crate::vec::Vec<T, A>) -> Cow<'l, [T]>;
+}
+
+struct Borrowed;
+
+impl<'a> Lists<'a, 'a> for Borrowed {
+    fn list<T: Clone, A: Allocator>(items: &'a crate::vec::Vec<T, A>) -> Cow<'a, [T]> {
+        Cow::Borrowed(items.as_slice())
+    }
+}
+
+struct Owned;
+
+impl<'a> Lists<'a, 'static> for Owned {
+    fn list<T: Clone, A: Allocator>(items: &'a crate::vec::Vec<T, A>) -> Cow<'static, [T]> {
+        Cow::Owned(items.to_vec())
+    }
+}
+
+/// Returns the instruction of an opcode and its arguments, if there is one.
+fn instruction_of<'a, 'l, A: Allocator, L: Lists<'a, 'l>>(
+    op: Op,
+    args: &'a [Arg<A>],
+) -> core::result::Result<Instruction<'l>, ReadFault> {
+    Ok(match (number_of(op), args) {
+%s        _ => return Err(ReadFault::UnknownOpcode),
+    })
+}
+
+/// Converts an opcode and its arguments. Lists are borrowed.
 ///
 /// A `select` with one type is [`TypedSelect`](Instruction::TypedSelect).
 ///
@@ -177,27 +208,51 @@ fn cast_type(nullable: bool, heap_type: HeapType) -> RefType {
 ///
 /// ```
 /// use dolzhytik::Instruction;
-/// use dolzhytik::fallible::Global;
-/// use dolzhytik::reader::{ReadFault, Instructions};
+/// use dolzhytik::fallible::{Global, Op};
+/// use dolzhytik::reader::{Arg, ReadFault};
 ///
-/// // local.get 1; i32.const 5; i32.add.
-/// let mut decoded = Instructions::standard(&[0x20, 1, 0x41, 5, 0x6A], Global);
-/// let mut constants = vec![];
-/// while let Some(step) = decoded.next().map_err(|error| error.cause())? {
-///     if let Instruction::I32Const(n) = Instruction::try_from((step.op, decoded.args()))? {
-///         constants.push(n);
-///     }
-/// }
-/// assert_eq!(constants, [5]);
+/// let args: [Arg<Global>; 1] = [Arg::S32(5)];
+/// let instruction = Instruction::try_from((Op::Byte(0x41), &args[..]))?;
+/// assert!(matches!(instruction, Instruction::I32Const(5)));
 /// # Ok::<(), ReadFault>(())
 /// ```
 impl<'a, A: Allocator> TryFrom<(Op, &'a [Arg<A>])> for Instruction<'a> {
     type Error = ReadFault;
 
     fn try_from((op, args): (Op, &'a [Arg<A>])) -> core::result::Result<Self, ReadFault> {
-        Ok(match (number_of(op), args) {
-%s            _ => return Err(ReadFault::UnknownOpcode),
-        })
+        instruction_of::<A, Borrowed>(op, args)
+    }
+}
+
+/// Converts a decoded instruction. Lists are copied.
+///
+/// # Errors
+///
+/// Returns [`ReadFault::Memory`] if an allocation fails, but for that of a list, which aborts. Any
+/// other error means that the bytes of the operands were not decoded as this instruction.
+///
+/// ```
+/// use dolzhytik::Instruction;
+/// use dolzhytik::fallible::Global;
+/// use dolzhytik::reader::{Instructions, ReadFault};
+///
+/// // local.get 1; i32.const 5; i32.add.
+/// let mut instructions = Instructions::standard(&[0x20, 1, 0x41, 5, 0x6A], Global);
+/// let mut constants = vec![];
+/// while let Some(decoded) = instructions.next()? {
+///     if let Instruction::I32Const(n) = Instruction::try_from(decoded)? {
+///         constants.push(n);
+///     }
+/// }
+/// assert_eq!(constants, [5]);
+/// # Ok::<(), ReadFault>(())
+/// ```
+impl TryFrom<Decoded<'_>> for Instruction<'static> {
+    type Error = ReadFault;
+
+    fn try_from(decoded: Decoded<'_>) -> core::result::Result<Self, ReadFault> {
+        let args = decoded.operands.to_args(Global)?;
+        instruction_of::<Global, Owned>(decoded.op, &args)
     }
 }
 

@@ -54,14 +54,14 @@ READERS = {
         'skip_many',
     },
     'wasm_types': {'SubItem', 'TypeEntry'},
-    'wasm_insn': {'Arg', 'Plain'},
-    'wasm_code': {'Body', 'Expression', 'Instructions', 'Step', 'read_body', 'read_code', 'shorten_body'},
+    'wasm_insn': {'Arg', 'Operands', 'Plain'},
+    'wasm_code': {'Body', 'Decoded', 'Expression', 'Instructions', 'Members', 'read_body', 'read_code', 'shorten_body'},
     'wasm_sections': {'ElementItem', 'ElementItemMode', 'ElementList', 'GlobalItem', 'Segment', 'TableItem'},
     'wasm_custom': {'CoreFrame', 'DylinkItem', 'LinkItem', 'NameItem', 'Symbol'},
 }
 READING = 'reading'
 # The names that only libraries above use: private in the package.
-BETWEEN = {'wasm_base': {'read_index', 'read_val_after'}, 'wasm_insn': {'read_instruction_into'}}
+BETWEEN = {'wasm_base': {'read_index', 'read_val_after'}, 'wasm_insn': {'read_instruction'}}
 # Hand-written pages below rust/src: each is in place of the documentation of a library's module.
 PAGES = {'wasm_reader': 'reader.md'}
 # The libraries whose private items the root of the package uses, such as the first bytes of

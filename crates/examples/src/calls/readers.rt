@@ -1,5 +1,5 @@
 //! Readers of instructions: where a visitor begins, the bytes before it, and a body as a whole.
-ghost use Rattle.std.specs.Prelude.{◌≡◌, ◌≢◌, [], IfOk, IfErr};
+ghost use Rattle.std.specs.Prelude.{◌≡◌, ◌≢◌, IfOk, IfErr};
 ghost use Rattle.wasm_base.specs.Continuing.{RejectsWhole};
 ghost use Rattle.wasm_base.specs.Numbers.{padded_of};
 ghost use Rattle.wasm_code.specs.Bodies.{body};
@@ -13,7 +13,7 @@ use wasm_code::{Body, Instructions, read_body};
 
 /// Returns a visitor that begins at the first byte.
 pub fn walk_over<'a, A: Allocator + Copy>(bytes: &'a [u8], alloc: A) -> Instructions<'a, A>
-    ensures { result ≡ record { bytes = bytes.now; offset = 0; arguments = [] } }
+    ensures { result ≡ record { bytes = bytes.now; offset = 0 } }
 {
     Instructions::new(bytes, alloc)
 }
@@ -23,7 +23,7 @@ pub fn standard_walk_over<'a, A: Allocator + Copy>(
     bytes: &'a [u8],
     alloc: A,
 ) -> Instructions<'a, A, Standard>
-    ensures { result ≡ record { bytes = bytes.now; offset = 0; arguments = [] } }
+    ensures { result ≡ record { bytes = bytes.now; offset = 0 } }
 {
     Instructions::<A, Standard>::standard(bytes, alloc)
 }

@@ -10,7 +10,7 @@ use dolzhytik::reader::{Body, Instructions, read_body};
 /// # Proved
 ///
 /// ```text
-/// ensures { result ≡ record { bytes = bytes.now; offset = 0; arguments = [] } }
+/// ensures { result ≡ record { bytes = bytes.now; offset = 0 } }
 /// ```
 pub fn walk_over<'a, A: Allocator + Copy>(bytes: &'a [u8], alloc: A) -> Instructions<'a, A> {
     Instructions::new(bytes, alloc)
@@ -21,7 +21,7 @@ pub fn walk_over<'a, A: Allocator + Copy>(bytes: &'a [u8], alloc: A) -> Instruct
 /// # Proved
 ///
 /// ```text
-/// ensures { result ≡ record { bytes = bytes.now; offset = 0; arguments = [] } }
+/// ensures { result ≡ record { bytes = bytes.now; offset = 0 } }
 /// ```
 pub fn standard_walk_over<'a, A: Allocator + Copy>(
     bytes: &'a [u8],

@@ -5,8 +5,10 @@ use wasm_code::Instructions;
 
 pub fn walk<A: Allocator + Copy>(alloc: A) -> Result<(), ReadFault> {
     let (_runs, mut instructions) = Instructions::of_body(&[0, 1, 0x0B], alloc)?;
-    let _ = instructions.next_before_end()?;
-    let _ = instructions.args();
+    let decoded = instructions.next_before_end()?;
     let _ = instructions.offset();
+    if let Some(decoded) = decoded {
+        let _ = decoded.operands.to_args(alloc)?;
+    }
     Ok(())
 }

@@ -1,6 +1,6 @@
-use Rattle.wasm_base.proofs.Words.{◌≡◌, ◌∷◌, ◌++◌, [], ◌<◌, ◌≤◌, length, sym, subst, ◌∙◌, arith, padded, Decodes}
+use Rattle.wasm_base.proofs.Words.{◌≡◌, ◌∷◌, ◌++◌, [], ◌<◌, ◌≤◌, length, sym, subst, ◌∙◌, arith, padded}
 use Rattle.std.proofs.lemmas.List.{length-append}
-use Rattle.wasm_insn.proofs.Words.{Plain, instruction, table}
+use Rattle.wasm_insn.proofs.Words.{DecodesOperation, Plain, instruction, table}
 use Rattle.wasm_code.proofs.Words.{ahead, continues, ended, of_some, body_fills}
 use Rattle.wasm_bench.proofs.decoding.walked.Goals as goal
 
@@ -9,11 +9,11 @@ loop-walk-preserved c =
     let w = c.loop-walk.invariant in
     let old = c.loop-walk.walk in
     let new = c.next.new.self in
-    let i : Plain = record { op = c.in-Some._step.op; arguments = new.arguments } in
-    let read = of_some (λ step. Decodes (instruction table) padded (ahead old) (record { op = step.op; arguments = new.arguments }) (ahead new)) c.in-Some.is c.in_ok-_step.ensures.found in
+    let read = of_some (λ it. DecodesOperation (instruction table) padded (ahead old) it.op it.operands (ahead new)) c.in-Some.is c.in_ok-_step.ensures.found in
+    let i : Plain = record { op = c.in-Some._step.op; arguments = read.immediates } in
     let further = of_some (λ step. (old.offset < new.offset) × (new.offset ≤ length new.bytes)) c.in-Some.is c.in_ok-_step.ensures.further in
     let same : new.bytes ≡ c.args.body.now = c.in_ok-_step.ensures.same ∙ w.5 in
-    (w.0 ++ i ∷ [], continues w.0 w.1 read, omega (arith, length-append w.0 (i ∷ []), w.2), omega (arith, w.3, further.0), subst (λ z. new.offset ≤ length z) same further.1, same)
+    (w.0 ++ i ∷ [], continues w.0 w.1 read.decodes, omega (arith, length-append w.0 (i ∷ []), w.2), omega (arith, w.3, further.0), subst (λ z. new.offset ≤ length z) same further.1, same)
 
 pub returns : goal.returns
 returns c =

@@ -56,18 +56,20 @@ impl Body<'_, '_> {
         self.list_locals(function, listing)?;
         let (offset, bytes) = (self.cursor.offset(), self.cursor.rest());
         let mut instructions = Instructions::<Global, Standard>::standard(bytes, Global);
-        while let Some(step) = instructions
+        while let Some(decoded) = instructions
             .next()
             .map_err(|error| self.code.locate(error))?
         {
-            let (op, args) = (step.op, instructions.args());
+            let op = decoded.op;
+            let args = decoded.operands.to_args(Global);
+            let args = args.map_err(|error| self.code.locate(error))?;
             listing.line(&Line {
-                offset: offset + step.offset,
-                bytes: &bytes[step.offset..instructions.offset()],
+                offset: offset + decoded.offset,
+                bytes: &bytes[decoded.offset..instructions.offset()],
                 depth: self.depth_of(op),
                 name: name_of(op).unwrap_or_default(),
-                operands: Operands { op, args },
-                refers_to: self.name_in(op, args),
+                operands: Operands { op, args: &args },
+                refers_to: self.name_in(op, &args),
             })?;
         }
         Ok(())

@@ -1,5 +1,5 @@
-use Rattle.examples.proofs.Common.{[], ◌∷◌, ◌++◌, ◌<◌, ◌≤◌, length, ◌∙◌, arith, fault_stays, padded, Decodes, length-append, ahead, continues, ended, stopped, of_some, body_fills, body_no_code, Plain}
-use Rattle.examples.proofs.Common.{instruction, table}
+use Rattle.examples.proofs.Common.{[], ◌∷◌, ◌++◌, ◌<◌, ◌≤◌, length, ◌∙◌, arith, fault_stays, padded, length-append, ahead, continues, ended, stopped, of_some, body_fills, body_no_code, Plain}
+use Rattle.examples.proofs.Common.{DecodesOperation, instruction, table}
 use Rattle.examples.proofs.calls.walks.count_instructions.Goals as goal
 
 pub returns-in_err-_step-clause-none : goal.returns-in_err-_step-clause-none
@@ -12,10 +12,10 @@ loop-instructions-preserved g c =
     let w = c.loop-instructions.invariant in
     let old = c.loop-instructions.instructions in
     let new = c.next.new.self in
-    let i : Plain = record { op = c.in-Some._step.op; arguments = new.arguments } in
-    let read = of_some (λ step. Decodes (instruction table) padded (ahead old) (record { op = step.op; arguments = new.arguments }) (ahead new)) c.in-Some.is c.in_ok-_step.ensures.found in
+    let read = of_some (λ it. DecodesOperation (instruction table) padded (ahead old) it.op it.operands (ahead new)) c.in-Some.is c.in_ok-_step.ensures.found in
+    let i : Plain = record { op = c.in-Some._step.op; arguments = read.immediates } in
     let further = of_some (λ step. (old.offset < new.offset) × (new.offset ≤ length new.bytes)) c.in-Some.is c.in_ok-_step.ensures.further in
-    (w.0 ++ i ∷ [], continues w.0 w.1 read, omega (arith, length-append w.0 (i ∷ []), w.2), omega (arith, w.3, further.0), c.in_ok-_step.ensures.same ∙ w.4)
+    (w.0 ++ i ∷ [], continues w.0 w.1 read.decodes, omega (arith, length-append w.0 (i ∷ []), w.2), omega (arith, w.3, further.0), c.in_ok-_step.ensures.same ∙ w.4)
 
 pub returns-clause-found : goal.returns-clause-found
 returns-clause-found g c =

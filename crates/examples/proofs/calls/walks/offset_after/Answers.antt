@@ -1,5 +1,5 @@
 use Rattle.examples.proofs.Common.{◌≡◌, ◌<◌, ◌≤◌, [], ◌∷◌, length, drop, refl, subst, ◌∙◌, arith, padded, u32, pair, vec, Decodes, val_type, length-append, and_then, HasVisited, ahead, of_some, Plain}
-use Rattle.examples.proofs.Common.{instruction, table}
+use Rattle.examples.proofs.Common.{DecodesOperation, instruction, table}
 use Rattle.examples.proofs.calls.walks.offset_after.Goals as goal
 
 pub loop-taken-init : goal.loop-taken-init
@@ -14,11 +14,11 @@ loop-taken-preserved g c =
     let w = c.loop-taken.invariant in
     let old = c.loop-taken.instructions in
     let new = c.next.new.self in
-    let i : Plain = record { op = c.in-Some._step.op; arguments = new.arguments } in
-    let read = of_some (λ step. Decodes (instruction table) padded (ahead old) (record { op = step.op; arguments = new.arguments }) (ahead new)) c.in-Some.is c.in_ok-_step.ensures.found in
+    let read = of_some (λ it. DecodesOperation (instruction table) padded (ahead old) it.op it.operands (ahead new)) c.in-Some.is c.in_ok-_step.ensures.found in
+    let i : Plain = record { op = c.in-Some._step.op; arguments = read.immediates } in
     let further = of_some (λ step. (old.offset < new.offset) × (new.offset ≤ length new.bytes)) c.in-Some.is c.in_ok-_step.ensures.further in
     let same : new.bytes ≡ c.args.bytes.now = c.in_ok-_step.ensures.same ∙ w.4 in
-    let there = subst (λ z. Decodes (instruction table) padded (drop old.offset z) i (drop new.offset c.args.bytes.now)) w.4 (subst (λ z. Decodes (instruction table) padded (ahead old) i (drop new.offset z)) same read) in
+    let there = subst (λ z. Decodes (instruction table) padded (drop old.offset z) i (drop new.offset c.args.bytes.now)) w.4 (subst (λ z. Decodes (instruction table) padded (ahead old) i (drop new.offset z)) same read.decodes) in
     let within : new.offset ≤ length c.args.bytes.now = subst (λ z. new.offset ≤ length z) same further.1 in
     (and_then w.0 (i ∷ []), c.offsets.ensures.continues c.args.bytes.now old.offset new.offset w.0 i w.1 there further.0 within, omega (arith, length-append w.0.code (i ∷ []), w.2), within, same)
 

@@ -1,0 +1,52 @@
+-- This file defines the operands of a decoded instruction: which immediates they are, and what
+-- decoding to them means.
+use Rattle.std.specs.Prelude.{◌≡◌, ℕ, List, [], ◌∷◌, Bool, true, false}
+use Rattle.wasm_base.specs.Words.{Format, Mode, standard, Decodes}
+use Rattle.wasm_insn.specs.declared.op.Op.{Op}
+use Rattle.wasm_insn.specs.declared.op.Shape.{Shape}
+use Rattle.wasm_insn.specs.declared.op.Shape.TheVariants as shapes
+use Rattle.wasm_insn.specs.declared.part.Part.{Part}
+use Rattle.wasm_insn.specs.declared.operands.Operands.{Operands}
+use Rattle.wasm_insn.specs.declared.operands.Operands.TheVariants as operands
+use Rattle.wasm_insn.specs.Arguments.{Argument, unsigned, signed32, signed64, memory, block}
+use Rattle.wasm_insn.specs.Parts.{parts_of}
+use Rattle.wasm_insn.specs.Plain.{Plain, arguments}
+
+-- Whether operands of this shape have a case of their own.
+abbrev pub has_case : Shape → Bool
+has_case shapes.Nothing = true
+has_case shapes.U = true
+has_case shapes.C32 = true
+has_case shapes.C64 = true
+has_case shapes.M = true
+has_case shapes.B = true
+has_case _ = false
+
+-- The operands are these immediates. Encoded operands have a shape without a case of its own, and
+-- are those that the bytes as a whole encode in the standard's grammar, which admits what the
+-- builders' does.
+abbrev pub AreOperands : Operands → List Argument → Type 0
+AreOperands operands.Nothing xs = xs ≡ []
+AreOperands (operands.U32 n) xs = xs ≡ unsigned n ∷ []
+AreOperands (operands.S32 v) xs = xs ≡ signed32 v ∷ []
+AreOperands (operands.S64 v) xs = xs ≡ signed64 v ∷ []
+AreOperands (operands.Mem m) xs = xs ≡ memory m ∷ []
+AreOperands (operands.Block type) xs = xs ≡ block type ∷ []
+AreOperands (operands.Encoded shape bytes) xs = (has_case shape ≡ false) × arguments (parts_of shape) standard bytes.now xs
+
+-- The operands are no immediates: their shape has a case of its own, or their bytes do not encode
+-- immediates of their shape.
+pub record AreNoOperands (given : Operands) : Type 0 where
+  pub none : (xs : List Argument) → AreOperands given xs → ⊥
+
+-- Immediates of these types decode from the front of the bytes, and the operands are these.
+pub record DecodesOperands (ps : List Part) (mode : Mode) (bytes : List ℕ) (given : Operands) (rest : List ℕ) : Type 0 where
+  pub immediates : List Argument
+  pub decodes : Decodes (arguments ps) mode bytes immediates rest
+  pub operands : AreOperands given immediates
+
+-- An instruction with this opcode and these operands decodes from the front of the bytes.
+pub record DecodesOperation (F : Format Plain) (mode : Mode) (bytes : List ℕ) (op : Op) (given : Operands) (rest : List ℕ) : Type 0 where
+  pub immediates : List Argument
+  pub decodes : Decodes F mode bytes (record { op = op; arguments = immediates }) rest
+  pub operands : AreOperands given immediates
