@@ -1,5 +1,6 @@
 -- This file re-exports what the proofs of this crate's functions use.
 pub use Rattle.examples.proofs.Branch.{after_constant, length_after, with_block}
+pub use Rattle.examples.proofs.CalledLaws.{calls_and_call, calls_and_other, ends_members, gives_member}
 pub use Rattle.examples.proofs.CoverageLaws.{HasCovered, HasFound, add_found, all_decode, are_sections, bodies_number, body_shrinks, code_payload, counted_images, counter_encodes, counting_gained}
 pub use Rattle.examples.proofs.CoverageLaws.{covered_all, covered_encodes, covered_more, covered_none, covered_result, each_at, error_stays, export_gained, exports_are, exports_else, exports_long}
 pub use Rattle.examples.proofs.CoverageLaws.{exports_push, found_all, found_more, found_none, gains_extended, gains_one, given_body, given_error, globals_number, imported_join, imported_more}
@@ -12,6 +13,7 @@ pub use Rattle.examples.proofs.OneByte.{one_byte}
 pub use Rattle.examples.proofs.Rows.{call_listed, while_listed}
 pub use Rattle.examples.proofs.StrippedLaws.{HasStripped, stripped_custom, stripped_done, stripped_kept}
 pub use Rattle.examples.specs.Adding.{add_export}
+pub use Rattle.examples.specs.Called.{is_call}
 pub use Rattle.examples.specs.Compiled.{factorial_of, squares_of}
 pub use Rattle.examples.specs.Coverage.{AreImports, HasDecoding, HasNone, IsKept, KeepsSections, counter, counter_exports, covered_bodies, covered_body, has_counter, imported, imported_from, is_in}
 pub use Rattle.examples.specs.Coverage.{row}
@@ -37,6 +39,8 @@ pub use Rattle.std.proofs.lemmas.List.{length-append}
 pub use Rattle.std.proofs.lemmas.List.Sums.{count_by_more_no, count_by_more_yes}
 pub use Rattle.std.specs.List.{starts_with}
 pub use Rattle.std.specs.declared.alloc.Global.{Global}
+pub use Rattle.wasm_base.proofs.DecodeVectors.{loop_step}
+pub use Rattle.wasm_base.proofs.Words.{HasRead, loop_decodes, loop_rejects, u32_unambiguous, vec_rejects_count}
 pub use Rattle.wasm_base.proofs.Words.{All, All-more, All-nil, AllByRecursion, ContainsPadded, Decodes, DecodesOneMore, Err, FUNCREF, IsUnsignedInRange, IsVal, List, None, Ok, OnOk, Rejects, Result}
 pub use Rattle.wasm_base.proofs.Words.{[], adds_item, adds_items, adds_items_padded, adds_raw, ap, append-nil, ap₂, arith, ascii, codes, common_steps, contains_padded, copied_source, custom}
 pub use Rattle.wasm_base.proofs.Words.{drained_array, drained_vec, drop, each, encoded_padded, encodes_items, encodes_items_padded, false, fault_stays, finished, flat_map, gains_items_padded}

@@ -9,3 +9,4 @@ pub mod StrippedLaws
 pub mod IteratedLaws
 pub mod CoverageLaws
 pub mod MinimizedLaws
+pub mod CalledLaws

@@ -24,3 +24,4 @@ pub mod ReadPadded
 pub mod Relocated
 pub mod Stored
 pub mod Stripped
+pub mod Called

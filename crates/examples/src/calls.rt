@@ -10,6 +10,7 @@ pub mod given;
 pub mod grammars;
 pub mod instructions;
 pub mod once;
+pub mod operands;
 pub mod queries;
 pub mod raw_segments;
 pub mod readers;

@@ -7,7 +7,7 @@ use dolzhytik::fallible::Global;
 use crate::host::Abort;
 use crate::test_support::{MOST, Refusing};
 use dolzhytik::reader::{DecodeError, Padded, ReadFault, Readable, SizePrefixed};
-use dolzhytik::reader::{Body, Decoded, Expression, Instructions};
+use dolzhytik::reader::{Body, Decoded, Expression, Instructions, Members};
 use dolzhytik::fallible::{Op, Shape};
 use dolzhytik::reader::{Operands, Plain};
 
@@ -143,4 +143,32 @@ fn lists_of_operands() {
     check_list(&rt, &heap, Operands::U32(7), 1);
     check_list(&rt, &heap, Operands::Encoded(Shape::F32, &[0, 0, 0, 0]), 1);
     check_list(&rt, &heap, Operands::Encoded(Shape::Bt, &[1, 5, 6]), 2);
+}
+
+#[test]
+fn members() {
+    let rt = crate::host::HostRuntime;
+    let heap = Refusing::new(rt.alloc());
+    heap.refuse_all();
+    let labels: [u8; 3] = [2, 5, 6];
+    let Ok(mut members) = Members::<u32, &Refusing<Global>>::new(&labels, &heap) else {
+        panic!(rt; "refused")
+    };
+    for expected in [5, 6] {
+        let Some(Ok(label)) = members.next() else {
+            panic!(rt; "refused")
+        };
+        assert_eq!(rt; label, expected);
+    }
+    // A member that is a list is allocated.
+    let lists: [u8; 3] = [1, 1, 5];
+    let Ok(mut members) = Members::<Vec<u32, &Refusing<Global>>, &Refusing<Global>>::new(&lists, &heap) else {
+        panic!(rt; "refused")
+    };
+    let fault = match members.next() {
+        Some(Err(error)) => Some(error.cause()),
+        _ => None,
+    };
+    check_cause(&rt, fault, ReadFault::Memory);
+    assert_eq!(rt; members.left(), 0);
 }

@@ -2,12 +2,13 @@
 // Tests of the instruction visitor, with ample memory.
 
 use dolzhytik::fallible::Vec;
+use crate::examples::calls::operands::{count_calls, labels_of};
 use crate::examples::calls::walks::{count_instructions, offset_after};
 use dolzhytik::fallible::Global;
 use crate::host::Abort;
 use dolzhytik::reader::{DecodeError, ReadFault};
 use dolzhytik::fallible::{Result, ValType};
-use dolzhytik::reader::{Decoded, Instructions};
+use dolzhytik::reader::{Decoded, Instructions, Members};
 use dolzhytik::fallible::Function;
 use dolzhytik::fallible::laws::code as laws;
 use dolzhytik::reader::{Arg, Operands};
@@ -223,6 +224,71 @@ fn offsets_of_instructions() {
         offset_after(&body, 3, rt.alloc()).expect("accepted"),
         body.len(),
     );
+}
+
+#[test]
+fn calls_of_a_function() {
+    let rt = crate::host::HostRuntime;
+    // call 5, with a padded number too; call 6; local.get 5; return_call 5.
+    let body = [
+        0, 0x10, 5, 0x10, 0x85, 0x80, 0, 0x10, 6, 0x20, 5, 0x12, 5, 0x0B,
+    ];
+    let calls = count_calls(&body, 5, rt.alloc()).expect("accepted");
+    check_count(&rt, calls, 2);
+    let calls = count_calls(&body, 7, rt.alloc()).expect("accepted");
+    check_count(&rt, calls, 0);
+}
+
+/// Checks a label, the number of labels that are left, and the bytes that are.
+fn check_label(
+    rt: &impl Abort,
+    members: &mut Members<u32>,
+    expected: Option<u32>,
+    left: u32,
+    rest: &[u8],
+) {
+    let label = match members.next() {
+        None => None,
+        Some(Ok(label)) => Some(label),
+        Some(Err(_)) => panic!(rt; "an error"),
+    };
+    assert_eq!(rt; label, expected);
+    assert_eq!(rt; members.left(), left);
+    assert_eq!(rt; members.rest(), rest);
+}
+
+#[test]
+fn labels() {
+    let rt = crate::host::HostRuntime;
+    let bytes = [3, 5, 0x80, 1, 0, 6];
+    let mut members = Members::new(&bytes, rt.alloc()).expect("accepted");
+    assert_eq!(rt; members.left(), 3);
+    assert_eq!(rt; members.rest(), &bytes[1..]);
+    check_label(&rt, &mut members, Some(5), 2, &bytes[2..]);
+    check_label(&rt, &mut members, Some(128), 1, &bytes[4..]);
+    check_label(&rt, &mut members, Some(0), 0, &bytes[5..]);
+    check_label(&rt, &mut members, None, 0, &bytes[5..]);
+    let (labels, rest) = labels_of(&bytes, rt.alloc()).expect("accepted");
+    assert_eq!(rt; &labels[..], &[5, 128, 0]);
+    assert_eq!(rt; rest, &[6]);
+}
+
+#[test]
+fn labels_that_end_early() {
+    let rt = crate::host::HostRuntime;
+    let mut members: Members<u32> = Members::new(&[2, 5], rt.alloc()).expect("accepted");
+    check_label(&rt, &mut members, Some(5), 1, &[]);
+    let cause = match members.next() {
+        Some(Err(error)) => Some(error.cause()),
+        _ => None,
+    };
+    assert_eq!(rt; cause, Some(ReadFault::Ended));
+    check_label(&rt, &mut members, None, 0, &[]);
+    let cause = match Members::<u32>::new(&[], rt.alloc()) {
+        Err(error) => Some(error.cause()),
+        Ok(_) => None,
+    };
+    assert_eq!(rt; cause, Some(ReadFault::Ended));
 }
 
 #[test]
