@@ -4,10 +4,10 @@ use Rattle.wasm_insn.proofs.Words.{DecodesOperation, Plain, instruction, table}
 use Rattle.wasm_code.proofs.Words.{ahead, continues, ended, of_some, body_fills}
 use Rattle.wasm_bench.proofs.decoding.walked.Goals as goal
 
-pub loop-walk-preserved : goal.loop-walk-preserved
-loop-walk-preserved c =
-    let w = c.loop-walk.invariant in
-    let old = c.loop-walk.walk in
+pub loop-step-preserved : goal.loop-step-preserved
+loop-step-preserved c =
+    let w = c.loop-step.invariant in
+    let old = c.loop-step.walk in
     let new = c.next.new.self in
     let read = of_some (λ it. DecodesOperation (instruction table) padded (ahead old) it.op it.operands (ahead new)) c.in-Some.is c.in_ok-_step.ensures.found in
     let i : Plain = record { op = c.in-Some._step.op; arguments = read.immediates } in
@@ -17,7 +17,7 @@ loop-walk-preserved c =
 
 pub returns : goal.returns
 returns c =
-    let w = c.loop-walk.invariant in
+    let w = c.loop-step.invariant in
     record {
       walked = record { runs = c.in_ok-_runs._runs.items; code = w.0 };
       encodes = body_fills c.args.body.now (ahead c.in_ok-_runs.walk) c.in_ok-_runs._runs.items w.0 c.in_ok-_runs.ensures.found (ended w.0 w.1 (c.in_ok-_step.ensures.end c.in_default.is));
