@@ -1,7 +1,7 @@
 //! Calls of readers.
 use std::alloc::Allocator;
 use wasm_base::ReadFault;
-use wasm_code::Instructions;
+use wasm_code::{Instructions, Members};
 
 pub fn walk<A: Allocator + Copy>(alloc: A) -> Result<(), ReadFault> {
     let (_runs, mut instructions) = Instructions::of_body(&[0, 1, 0x0B], alloc)?;
@@ -10,5 +10,11 @@ pub fn walk<A: Allocator + Copy>(alloc: A) -> Result<(), ReadFault> {
     if let Some(decoded) = decoded {
         let _ = decoded.operands.to_args(alloc)?;
     }
+    Ok(())
+}
+
+pub fn members<A: Allocator + Copy>(alloc: A) -> Result<(), ReadFault> {
+    let labels = Members::<u32, A>::new(&[1, 5], alloc)?;
+    let _ = labels.left();
     Ok(())
 }

@@ -3,7 +3,7 @@
 
 use dolzhytik::fallible::Allocator;
 use dolzhytik::reader::ReadFault;
-use dolzhytik::reader::Instructions;
+use dolzhytik::reader::{Instructions, Members};
 
 pub fn walk<A: Allocator + Copy>(alloc: A) -> Result<(), ReadFault> {
     let (_runs, mut instructions) = Instructions::of_body(&[0, 1, 0x0B], alloc)?;
@@ -12,5 +12,11 @@ pub fn walk<A: Allocator + Copy>(alloc: A) -> Result<(), ReadFault> {
     if let Some(decoded) = decoded {
         let _ = decoded.operands.to_args(alloc)?;
     }
+    Ok(())
+}
+
+pub fn members<A: Allocator + Copy>(alloc: A) -> Result<(), ReadFault> {
+    let labels = Members::<u32, A>::new(&[1, 5], alloc)?;
+    let _ = labels.left();
     Ok(())
 }
