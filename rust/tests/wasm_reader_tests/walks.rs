@@ -269,8 +269,8 @@ fn labels() {
     check_label(&rt, &mut members, Some(0), 0, &bytes[5..]);
     check_label(&rt, &mut members, None, 0, &bytes[5..]);
     let (labels, rest) = labels_of(&bytes, rt.alloc()).expect("accepted");
-    assert_eq!(rt; &labels[..], &[5, 128, 0]);
-    assert_eq!(rt; rest, &[6]);
+    assert_eq!(rt; &labels[..], [5, 128, 0].as_slice());
+    assert_eq!(rt; rest, [6].as_slice());
 }
 
 #[test]
