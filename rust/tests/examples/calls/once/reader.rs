@@ -15,7 +15,7 @@ pub fn walk<A: Allocator + Copy>(alloc: A) -> Result<(), ReadFault> {
     Ok(())
 }
 
-pub fn members<A: Allocator + Copy>(alloc: A) -> Result<(), ReadFault> {
+pub fn labels_left<A: Allocator + Copy>(alloc: A) -> Result<(), ReadFault> {
     let labels = Members::<u32, A>::new(&[1, 5], alloc)?;
     let _ = labels.left();
     Ok(())
