@@ -42,8 +42,7 @@ impl<'a> Operands<'a> {
     ///
     /// # Errors
     ///
-    /// Any error but `Memory` means that the operands are [`Encoded`](Operands::Encoded), and that
-    /// their bytes encode none of their shape. No decoded instruction has such operands.
+    /// Any error but `Memory` means that no decoded instruction has these operands.
     pub fn to_args<A: Allocator + Copy>(self, alloc: A) -> Result<Vec<Arg<A>, A>, DecodeError>
         ensures found { IfOk result (λ args. (xs : List Argument) → AreOperands self.entry xs → map argument_view args.items ≡ xs) }
         ensures none { IfErr result (λ e. e.cause ≢ Memory → AreNoOperands self.entry) }

@@ -55,8 +55,7 @@ impl<'a> Operands<'a> {
     ///
     /// # Errors
     ///
-    /// Any error but `Memory` means that the operands are [`Encoded`](Operands::Encoded), and that
-    /// their bytes encode none of their shape. No decoded instruction has such operands.
+    /// Any error but `Memory` means that no decoded instruction has these operands.
     ///
     /// # Proved
     ///

@@ -118,10 +118,7 @@ static STANDARD: [(&[u8], &[u8]); 10] = [
         b"\x06\x07\x01\x63\x71\x00\xD0\x71\x0B",
         b"\x06\x06\x01\x71\x00\xD0\x71\x0B",
     ),
-    (
-        b"\x09\x05\x01\x05\x63\x6E\x00",
-        b"\x09\x04\x01\x05\x6E\x00",
-    ),
+    (b"\x09\x05\x01\x05\x63\x6E\x00", b"\x09\x04\x01\x05\x6E\x00"),
     (
         b"\x0A\x0B\x01\x09\x00\x41\x00\x28\x42\x00\x04\x1A\x0B",
         b"\x0A\x0A\x01\x08\x00\x41\x00\x28\x02\x04\x1A\x0B",
@@ -226,7 +223,10 @@ fn check_payload(rt: &impl Abort, heap: &Refusing<Global>, module: &[u8], payloa
     for nth in 1..MOST {
         heap.refuse(0);
         let mut sections = Sections::new(heap, module).expect("a module");
-        let section = sections.next().expect("a section").expect("accepted");
+        let section = sections
+            .next()
+            .expect("a section")
+            .expect("accepted");
         let mut sink = Vec::new(heap);
         heap.refuse(nth);
         let answer = minimal_payload(&section, &mut sink);
@@ -235,7 +235,10 @@ fn check_payload(rt: &impl Abort, heap: &Refusing<Global>, module: &[u8], payloa
             check_bytes(rt, &sink, payload);
             return;
         }
-        assert!(rt; matches!(answer, Err(error) if error.cause == ReadFault::Memory), "another answer than want of memory");
+        assert!(rt;
+            matches!(answer, Err(error) if error.cause == ReadFault::Memory),
+            "another answer than want of memory"
+        );
         check_bytes(rt, &sink, b"");
     }
     panic!(rt; "no call was granted")
@@ -261,15 +264,27 @@ fn smaller_values() {
     let rt = crate::host::HostRuntime;
     for bytes in [b"\x63\x6E\x2A".as_slice(), b"\x6E\x2A"] {
         let mut sink = Vec::new(rt.alloc());
-        assert!(rt; one_byte_reference(rt.alloc(), bytes, &mut sink).is_ok(), "a type");
+        assert!(rt;
+            one_byte_reference(rt.alloc(), bytes, &mut sink).is_ok(),
+            "a type"
+        );
         check_bytes(&rt, &sink, b"\x6E");
     }
     let mut sink = Vec::new(rt.alloc());
-    assert!(rt; one_byte_reference(rt.alloc(), b"\x7F", &mut sink).is_err(), "no reference");
+    assert!(rt;
+        one_byte_reference(rt.alloc(), b"\x7F", &mut sink).is_err(),
+        "no reference"
+    );
     let padded = b"\x80\x00\x20\x81\x00\x0B";
-    assert!(rt; minimal_body(rt.alloc(), padded, &mut sink).is_ok(), "a body");
+    assert!(rt;
+        minimal_body(rt.alloc(), padded, &mut sink).is_ok(),
+        "a body"
+    );
     check_bytes(&rt, &sink, b"\x04\x00\x20\x01\x0B");
-    assert!(rt; minimal_body(rt.alloc(), b"\x00\x20", &mut sink).is_err(), "no body");
+    assert!(rt;
+        minimal_body(rt.alloc(), b"\x00\x20", &mut sink).is_err(),
+        "no body"
+    );
     check_bytes(&rt, &sink, b"\x04\x00\x20\x01\x0B");
 }
 

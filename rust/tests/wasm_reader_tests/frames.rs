@@ -108,9 +108,19 @@ fn texts_of_faults() {
     check_said(&rt, alloc, ReadFault::Ended, "unexpected end of input");
     check_said(&rt, alloc, ReadFault::NotShortest, "padded integer");
     check_said(&rt, alloc, ReadFault::TooLarge, "integer too large");
-    check_said(&rt, alloc, ReadFault::UnknownTag, "unexpected byte or value");
+    check_said(
+        &rt,
+        alloc,
+        ReadFault::UnknownTag,
+        "unexpected byte or value",
+    );
     check_said(&rt, alloc, ReadFault::UnknownOpcode, "unknown opcode");
     check_said(&rt, alloc, ReadFault::NotUtf8, "invalid UTF-8");
-    check_said(&rt, alloc, ReadFault::SizeMismatch, "bytes remain after the value");
+    check_said(
+        &rt,
+        alloc,
+        ReadFault::SizeMismatch,
+        "bytes remain after the value",
+    );
     check_said(&rt, alloc, ReadFault::Memory, "out of memory")
 }

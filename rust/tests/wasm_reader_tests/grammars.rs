@@ -239,7 +239,8 @@ fn standard_segments() {
     let bytes = [0x02, 0x00, 0x41, 0x07, 0x0B, 0x01, 0xAA, 9];
     let read = <Segment<'_> as Readable<'_, Global, Standard>>::read(&bytes, alloc);
     let is_expected = match read {
-        Ok((Segment::Active { memory, bytes, .. }, [9])) => memory == 0 && bytes == [0xAA].as_slice(),
+        Ok((Segment::Active { memory, bytes, .. }, [9])) => memory == 0
+            && bytes == [0xAA].as_slice(),
         _ => false,
     };
     assert!(&rt; is_expected);

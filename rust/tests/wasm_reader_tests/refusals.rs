@@ -6,9 +6,10 @@ use crate::checks::check_cause;
 use dolzhytik::fallible::Global;
 use crate::host::Abort;
 use crate::test_support::{MOST, Refusing};
-use dolzhytik::reader::{DecodeError, Padded, ReadFault, Readable, SizePrefixed};
+use dolzhytik::reader::{DecodeError, Padded, ReadFault, Readable, SizePrefixed, Standard};
+use dolzhytik::fallible::ValType;
 use dolzhytik::reader::{Body, Decoded, Expression, Instructions, Members};
-use dolzhytik::fallible::{Op, Shape};
+use dolzhytik::fallible::{Catch, Handle, Op, Shape};
 use dolzhytik::reader::{Operands, Plain};
 
 /// Checks that there is no error.
@@ -145,24 +146,37 @@ fn lists_of_operands() {
     check_list(&rt, &heap, Operands::Encoded(Shape::Bt, &[1, 5, 6]), 2);
 }
 
+/// Checks that the members of the vector are decoded without memory, and their number.
+fn check_members<'a, T: Readable<'a, &'a Refusing<Global>, Standard>>(
+    rt: &impl Abort,
+    heap: &'a Refusing<Global>,
+    bytes: &'a [u8],
+    expected: usize,
+) {
+    heap.refuse_all();
+    let Ok(mut members) = Members::<T, &Refusing<Global>>::new(bytes, heap) else {
+        panic!(rt; "refused")
+    };
+    let mut count = 0;
+    while let Some(Ok(_)) = members.next() {
+        count += 1;
+    }
+    assert_eq!(rt; count, expected);
+}
+
 #[test]
 fn members() {
     let rt = crate::host::HostRuntime;
     let heap = Refusing::new(rt.alloc());
-    heap.refuse_all();
-    let labels: [u8; 3] = [2, 5, 6];
-    let Ok(mut members) = Members::<u32, &Refusing<Global>>::new(&labels, &heap) else {
-        panic!(rt; "refused")
-    };
-    for expected in [5, 6] {
-        let Some(Ok(label)) = members.next() else {
-            panic!(rt; "refused")
-        };
-        assert_eq!(rt; label, expected);
-    }
+    check_members::<u32>(&rt, &heap, &[2, 5, 6], 2);
+    check_members::<Catch>(&rt, &heap, &[2, 0, 1, 2, 2, 3], 2);
+    check_members::<Handle>(&rt, &heap, &[1, 0, 1, 2], 1);
+    check_members::<ValType>(&rt, &heap, &[2, 0x7F, 0x63, 0x70], 2);
     // A member that is a list is allocated.
     let lists: [u8; 3] = [1, 1, 5];
-    let Ok(mut members) = Members::<Vec<u32, &Refusing<Global>>, &Refusing<Global>>::new(&lists, &heap) else {
+    let Ok(mut members) = Members::<Vec<u32, &Refusing<Global>>, &Refusing<Global>>::new(
+        &lists, &heap,
+    ) else {
         panic!(rt; "refused")
     };
     let fault = match members.next() {

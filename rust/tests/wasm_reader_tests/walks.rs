@@ -100,8 +100,8 @@ fn place_of(memory: MemArg) -> i64 {
 fn operands() {
     let rt = crate::host::HostRuntime;
     let bytes = [
-        0x20, 0x81, 0x00, 0x20, 5, 0x41, 0x7F, 0x41, 0xFF, 0x00, 0x42, 0x40, 0x42, 0x80, 0x01, 0x28,
-        2, 8, 0x28, 0x42, 1, 8, 0x28, 2, 0x88, 0, 0x02, 0x05, 0x02, 0x40, 0x02, 0x7F,
+        0x20, 0x81, 0x00, 0x20, 5, 0x41, 0x7F, 0x41, 0xFF, 0x00, 0x42, 0x40, 0x42, 0x80, 0x01,
+        0x28, 2, 8, 0x28, 0x42, 1, 8, 0x28, 2, 0x88, 0, 0x02, 0x05, 0x02, 0x40, 0x02, 0x7F,
     ];
     let expected = [1, 5, -1, 127, -64, 128, 8, 108, 8, 5, -1, -1];
     let mut walk = Instructions::new(&bytes, rt.alloc());
@@ -131,14 +131,35 @@ fn check_encoded(
 #[test]
 fn operands_of_rare_shapes() {
     let rt = crate::host::HostRuntime;
-    let bytes = [0x01, 0x43, 0, 0, 0x80, 0x3F, 0x0E, 1, 0x85, 0, 6, 0x11, 3, 0];
+    let bytes = [
+        0x01, 0x43, 0, 0, 0x80, 0x3F, 0x0E, 1, 0x85, 0, 6, 0x11, 3, 0,
+    ];
     let mut walk = Instructions::new(&bytes, rt.alloc());
     let nop = walk.next().expect("accepted").expect("more");
-    check_count(&rt, nop.operands.to_args(rt.alloc()).expect("accepted").len(), 0);
+    check_count(
+        &rt,
+        nop.operands
+            .to_args(rt.alloc())
+            .expect("accepted")
+            .len(),
+        0,
+    );
     let float = walk.next().expect("accepted").expect("more");
-    check_encoded(&rt, rt.alloc(), float.operands, (Shape::F32, &bytes[2..6]), 1);
+    check_encoded(
+        &rt,
+        rt.alloc(),
+        float.operands,
+        (Shape::F32, &bytes[2..6]),
+        1,
+    );
     let table = walk.next().expect("accepted").expect("more");
-    check_encoded(&rt, rt.alloc(), table.operands, (Shape::Bt, &bytes[7..11]), 2);
+    check_encoded(
+        &rt,
+        rt.alloc(),
+        table.operands,
+        (Shape::Bt, &bytes[7..11]),
+        2,
+    );
     let call = walk.next().expect("accepted").expect("more");
     check_encoded(&rt, rt.alloc(), call.operands, (Shape::Uu, &bytes[12..]), 2);
 }
