@@ -43,6 +43,7 @@ impl<'a> Operands<'a> {
     /// # Errors
     ///
     /// Any error but `Memory` means that no decoded instruction has these operands.
+    #[inline(always)]
     pub fn to_args<A: Allocator + Copy>(self, alloc: A) -> Result<Vec<Arg<A>, A>, DecodeError>
         ensures found { IfOk result (λ args. (xs : List Argument) → AreOperands self.entry xs → map argument_view args.items ≡ xs) }
         ensures none { IfErr result (λ e. e.cause ≢ Memory → AreNoOperands self.entry) }
@@ -143,7 +144,7 @@ fn read_short_operands<'a, G: Grammar>(
 /// Decodes the instruction at the front if it has a one-byte opcode of the most frequent shapes,
 /// and each of its operands has one byte. `None` says nothing about the bytes.
 #[inline(always)]
-fn read_short<'a, G: Grammar>(bytes: &'a [u8]) -> Option<(Op, Operands<'a>, &'a [u8])>
+pub(crate) fn read_short<'a, G: Grammar>(bytes: &'a [u8]) -> Option<(Op, Operands<'a>, &'a [u8])>
     ensures { IfSome result (λ x. DecodesOperation (instruction table) (padded_of G.grammar) bytes.now x.0 x.1 x.2.now) }
 {
     let [byte, rest @ ..] = bytes else {
@@ -213,7 +214,7 @@ fn read_operands<'a, A: Allocator + Copy, G: Grammar>(
 /// Decodes any instruction at the front. Out of line, for rare shapes and long numbers.
 #[inline(never)]
 #[tactic(auto, using(crate::proofs::DecodeOperands::operation_steps, crate::proofs::DecodeInstructions::instruction_steps))]
-fn read_long<'a, A: Allocator + Copy, G: Grammar>(
+pub(crate) fn read_long<'a, A: Allocator + Copy, G: Grammar>(
     bytes: &'a [u8],
     alloc: A,
 ) -> Result<(Op, Operands<'a>, &'a [u8]), DecodeError>
