@@ -71,6 +71,7 @@ impl<'a> Operands<'a> {
     /// Definitions: [`Argument`](crate::definitions::insn::arguments::Argument), [`AreOperands`](crate::definitions::insn::operands::AreOperands), [`argument_view`](crate::definitions::insn::views::argument_view), [`AreNoOperands`](crate::definitions::insn::operands::AreNoOperands). [How to read clauses](crate::definitions).
     #[doc(alias = "immediates")]
     #[doc(alias = "operands")]
+    #[inline(always)]
     pub fn to_args<A: Allocator + Copy>(self, alloc: A) -> Result<Vec<Arg<A>, A>, DecodeError> {
         match self {
             Operands::Nothing => Ok(Vec::new(alloc)),
@@ -204,7 +205,7 @@ fn read_short_operands<'a, G: Grammar>(
 ///
 /// Definitions: [`DecodesOperation`](crate::definitions::insn::operands::DecodesOperation), [`instruction`](crate::definitions::insn::plain::instruction), [`table`](crate::definitions::insn::table::table), [`padded_of`](crate::definitions::base::numbers::padded_of). [How to read clauses](crate::definitions).
 #[inline(always)]
-fn read_short<'a, G: Grammar>(bytes: &'a [u8]) -> Option<(Op, Operands<'a>, &'a [u8])> {
+pub(crate) fn read_short<'a, G: Grammar>(bytes: &'a [u8]) -> Option<(Op, Operands<'a>, &'a [u8])> {
     let [byte, rest @ ..] = bytes else {
         return None;
     };
@@ -321,7 +322,7 @@ fn read_operands<'a, A: Allocator + Copy, G: Grammar>(
 ///
 /// Definitions: [`DecodesOperation`](crate::definitions::insn::operands::DecodesOperation), [`instruction`](crate::definitions::insn::plain::instruction), [`table`](crate::definitions::insn::table::table), [`padded_of`](crate::definitions::base::numbers::padded_of), [`Rejects`](crate::definitions::base::decoding::Rejects). [How to read clauses](crate::definitions).
 #[inline(never)]
-fn read_long<'a, A: Allocator + Copy, G: Grammar>(
+pub(crate) fn read_long<'a, A: Allocator + Copy, G: Grammar>(
     bytes: &'a [u8],
     alloc: A,
 ) -> Result<(Op, Operands<'a>, &'a [u8]), DecodeError> {

@@ -4,7 +4,7 @@
 use crate::vec::{Sink, Vec};
 use crate::insn::arguments::{Arg, append_arguments};
 use crate::insn::op::Op;
-use crate::insn::operands::read_instruction;
+use crate::insn::operands::{read_instruction, read_long, read_short};
 use crate::alloc::{Allocator, Global};
 use crate::base::{DecodeError, Encode, Grammar, Layout, Readable, Result, Shorten, Skip};
 
@@ -45,11 +45,44 @@ impl<A: Allocator> Layout for Plain<A> {
 }
 
 impl<'a, A: Allocator + Copy, G: Grammar> Readable<'a, A, G> for Plain<A> {
+    // Each of the two ways has its own call of `to_args`, so that the compiler joins the short one to
+    // the cases that `read_short` returns.
+    #[inline]
     fn read(bytes: &'a [u8], alloc: A) -> Result<(Plain<A>, &'a [u8]), DecodeError> {
-        let (op, operands, rest) = read_instruction::<A, G>(bytes, alloc)?;
-        let args = operands.to_args(alloc)?;
+        if let Some((op, operands, rest)) = read_short::<G>(bytes) {
+            let args = operands.to_args(alloc)?;
+            return Ok((Plain { op, args }, rest));
+        }
+        let (op, args, rest) = read_long_plain::<A, G>(bytes, alloc)?;
         Ok((Plain { op, args }, rest))
     }
+}
+
+/// Decodes any instruction at the front. Out of line, for rare shapes and long numbers.
+///
+/// # Proved
+///
+/// - After `Ok`, `found`: The bytes begin with such an encoding, and the remaining bytes follow it.
+/// - After an error, `none`: the bytes do not begin with such an encoding, unless the cause is `Memory`.
+///
+/// ```text
+/// ensures found { IfOk result
+///     (λ x. Decodes (instruction table) (padded_of G.grammar) bytes.now
+///         (record { op = x.0; arguments = map argument_view x.1.items }) x.2.now) }
+/// ensures none { IfErr result
+///     (λ e. e.cause ≢ Memory → Rejects (instruction table)
+///         (padded_of G.grammar) bytes.now) }
+/// ```
+///
+/// Definitions: [`Decodes`](crate::definitions::base::decoding::Decodes), [`instruction`](crate::definitions::insn::plain::instruction), [`table`](crate::definitions::insn::table::table), [`padded_of`](crate::definitions::base::numbers::padded_of), [`argument_view`](crate::definitions::insn::views::argument_view), [`Rejects`](crate::definitions::base::decoding::Rejects). [How to read clauses](crate::definitions).
+#[inline(never)]
+fn read_long_plain<'a, A: Allocator + Copy, G: Grammar>(
+    bytes: &'a [u8],
+    alloc: A,
+) -> Result<(Op, Vec<Arg<A>, A>, &'a [u8]), DecodeError> {
+    let (op, operands, rest) = read_long::<A, G>(bytes, alloc)?;
+    let args = operands.to_args(alloc)?;
+    Ok((op, args, rest))
 }
 
 /// Appends the minimal encoding of an instruction. After an error, part of it may follow the old
