@@ -14,3 +14,7 @@ pub mod IteratingLaws
 pub mod MinimalAgain
 pub mod MinimalModules
 pub mod MinimalSections
+pub mod OpcodesOfShapes
+pub mod ByOpcode
+pub mod Conversions
+pub mod OtherArguments

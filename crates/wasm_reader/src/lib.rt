@@ -8,7 +8,9 @@
 //! decodes to its name and data.
 #![tactic(auto)]
 
+mod by_opcode;
 mod code_bodies;
+mod convert;
 mod counts;
 mod kinds;
 pub mod laws;
@@ -22,6 +24,7 @@ mod standing;
 mod whole;
 
 pub use code_bodies::{Bodies, CodeBody};
+pub use convert::instruction_of;
 pub use kinds::{Items, SectionKind, encode_items};
 pub use minimal::shorten;
 pub use modules::{Listed, list_module};

@@ -3,6 +3,32 @@
 //!
 //! The contracts of [`wasm_reader`](https://github.com/dolzhytik/dolzhytik/blob/main/crates/wasm_reader/README.md) name these definitions.
 
+/// When an opcode and immediates are no instruction.
+///
+/// [How to read definitions](super). The file is [`Conversions.antt`](https://github.com/dolzhytik/dolzhytik/blob/main/crates/wasm_reader/specs/Conversions.antt).
+pub trait conversions {
+    /// The flags of a cast are below 4.
+    ///
+    /// ```text
+    /// abbrev pub HasSmallFlags : Argument → Type 0
+    /// HasSmallFlags (flag n) = n < 4
+    /// HasSmallFlags _ = ⊤
+    /// ```
+    ///
+    /// Definitions: [`Argument`](super::insn::arguments::Argument), [`flag`](super::insn::arguments::Argument).
+    type HasSmallFlags;
+    /// The opcode and the immediates are no instruction: the table has no row for the opcode, or the immediates are not of the types of its shape, or flags of a cast are above 3.
+    ///
+    /// ```text
+    /// pub record IsNoInstruction (op : Op) (xs : List Argument) : Type 0 where
+    ///   pub none : (shape : Shape) → shape_of table op ≡ Some shape
+    ///       → map part_of xs ≡ parts_of shape → AllByRecursion HasSmallFlags xs → ⊥
+    /// ```
+    ///
+    /// Definitions: [`Argument`](super::insn::arguments::Argument), [`shape_of`](super::insn::plain::shape_of), [`table`](super::insn::table::table), [`part_of`](super::insn::arguments::part_of), [`parts_of`](super::insn::parts::parts_of), [`HasSmallFlags`](conversions::HasSmallFlags).
+    type IsNoInstruction;
+}
+
 /// The iterators over the sections of a module, and over the bodies of a code section.
 ///
 /// - Sections: [`Iterating`](iterating::Iterating), [`ahead`](iterating::ahead), [`Located`](iterating::Located), [`end_of`](iterating::end_of), [`known_kind_of`](iterating::known_kind_of), [`IsInPayload`](iterating::IsInPayload), [`GivesSection`](iterating::GivesSection), [`GivesError`](iterating::GivesError), [`NextSection`](iterating::NextSection).

@@ -8,7 +8,9 @@ pub use crate::code::reading::*;
 pub use crate::sections::reading::*;
 pub use crate::custom::reading::*;
 
+mod by_opcode;
 mod code_bodies;
+mod convert;
 mod counts;
 mod kinds;
 pub mod laws;
@@ -22,6 +24,8 @@ mod standing;
 mod whole;
 
 pub use code_bodies::{Bodies, CodeBody};
+#[doc(alias = "convert")]
+pub use convert::instruction_of;
 pub use kinds::{Items, SectionKind};
 #[doc(alias = "edit")]
 #[doc(alias = "insert")]

@@ -27,6 +27,9 @@ mod checks;
 mod clones;
 #[cfg(test)]
 #[rustfmt::skip]
+mod conversions;
+#[cfg(test)]
+#[rustfmt::skip]
 mod cows;
 #[cfg(test)]
 #[rustfmt::skip]

@@ -6,6 +6,7 @@ import re
 
 from ..errors import Stop
 from ..repository import text_of
+from . import conversion_proofs, conversions
 from .definitions import all_cases, bare_definition, nested_rows, row_definition, rows, variants_used
 from .formatting import WIDTH, arm
 from .opcodes import byte_shapes, counts, parts_defined, parts_made, runs_defined, runs_made, shapes_declared, shapes_used
@@ -14,7 +15,7 @@ from .sources import append, bare_source, constants, copied, look, op_arms, shar
 from .table import ENUMS, INSTRUCTION, NESTED, PREFIXES, Case, Enum, of_enum
 from .test_files import cases_file, rows_file
 
-CRATE = "crates/wasm_insn"
+CRATE, READER = "crates/wasm_insn", "crates/wasm_reader"
 TESTS = "tests/wasm_insn_tests/src"
 ATOMIC, VECTOR_IMMEDIATE = ENUMS["Atomic"], ENUMS["VectorImmediate"]
 
@@ -104,6 +105,15 @@ def whole_files(cases: list[Case]) -> dict[str, str]:
     return found
 
 
+def conversion_files(cases: list[Case]) -> dict[str, str]:
+    """Returns the files of wasm_reader that convert an opcode and its immediates."""
+    return {
+        "src/by_opcode.rt": conversions.source(cases),
+        "proofs/ByOpcode.antt": conversion_proofs.opcodes(cases),
+        "proofs/OtherArguments.antt": conversion_proofs.arguments(),
+    }
+
+
 def stop_if_long(path: str, text: str) -> None:
     """Stops at a line of code that `rt fmt` would lay out in another way."""
     for line in text.split("\n"):
@@ -122,4 +132,5 @@ def generated(top: pathlib.Path, cases: list[Case]) -> dict[str, str]:
             stop_if_long(path, it.text)
         path = f"{CRATE}/{path}"
         files[path] = filled(path, text_of(top / path), found)
+    files |= {f"{READER}/{path}": text for path, text in conversion_files(cases).items()}
     return files | {f"{TESTS}/cases.rtt": cases_file(cases), f"{TESTS}/rows.rtt": rows_file(cases)}

@@ -8,7 +8,7 @@ import tempfile
 
 from ..errors import Stop
 from ..instructions.command import main as main_of_tool
-from ..instructions.files import CRATE, TESTS, generated, regions
+from ..instructions.files import CRATE, READER, TESTS, generated, regions
 from ..instructions.regions import filled
 from ..instructions.table import TABLE, read
 from ..repository import TOP, text_of
@@ -44,18 +44,19 @@ OWN = {"src/instruction.rt", "src/ranged.rt", "specs/Instructions.antt"}
 ROWS = {"specs/Cases.antt", "cases.rtt", "rows.rtt"}
 OPS = {"src/table.rt", "specs/Table.antt"}
 NUMBERS = {"src/prefixed_numeric.rt", "specs/PrefixedNumeric.antt"}
+CASES, OPCODES = {"src/by_opcode.rt"}, {"src/by_opcode.rt", "proofs/ByOpcode.antt"}
 # Good lines: a name, a line of the table, its change, and the files that change with it.
 GOOD = [
-    ("another name", "01\tNop\t", "01\tNothing\t", OWN | ROWS),
-    ("another number", "FC 22\tI64MulWideU", "FC 23\tI64MulWideU", NUMBERS | OPS | {"rows.rtt"}),
-    ("another layout", "D5\tBrOnNull\tu", "D5\tBrOnNull\th", OWN | ROWS | OPS),
-    ("another name of a field", "ArrayNewFixed\tuu\tarray_type_index array_size", "ArrayNewFixed\tuu\tarray_type_index array_length", {"src/instruction.rt", "src/ranged.rt", "cases.rtt"}),
+    ("another name", "01\tNop\t", "01\tNothing\t", OWN | ROWS | CASES),
+    ("another number", "FC 22\tI64MulWideU", "FC 23\tI64MulWideU", NUMBERS | OPS | OPCODES | {"rows.rtt"}),
+    ("another layout", "D5\tBrOnNull\tu", "D5\tBrOnNull\th", OWN | ROWS | OPS | OPCODES),
+    ("another name of a field", "ArrayNewFixed\tuu\tarray_type_index array_size", "ArrayNewFixed\tuu\tarray_type_index array_length", {"src/instruction.rt", "src/ranged.rt", "cases.rtt"} | CASES),
     ("another call", "01\tNop\t-\t\tnop", "01\tNop\t-\t\tnothing", set()),
-    ("an instruction in the place of another", "D6\tBrOnNonNull\tu\t\tbr_on_non_null\tlabel", "D7\tRefTo\tuu\tfirst second\tref_to", OWN | ROWS | OPS),
-    ("a new numeric instruction", "FD 0\tV128Load\t", "FC 23\tI64Old\t-\t\ti64_old\nFD 0\tV128Load\t", NUMBERS | ROWS | OPS),
+    ("an instruction in the place of another", "D6\tBrOnNonNull\tu\t\tbr_on_non_null\tlabel", "D7\tRefTo\tuu\tfirst second\tref_to", OWN | ROWS | OPS | OPCODES),
+    ("a new numeric instruction", "FD 0\tV128Load\t", "FC 23\tI64Old\t-\t\ti64_old\nFD 0\tV128Load\t", NUMBERS | ROWS | OPS | OPCODES),
     ("a new vector instruction with fields", "FE 0\tMemoryAtomicNotify", "FD 276\tV128Load16Zero\tm\t\tv128_load16_zero\tmemarg\nFE 0\tMemoryAtomicNotify",
-     {"src/vector_immediate.rt", "specs/VectorImmediate.antt"} | ROWS | OPS),
-    ("a new atomic instruction", "FE 16\tI32AtomicLoad\t", "FE 5\tPauseOf\to\t\tpause_of\tordering\nFE 16\tI32AtomicLoad\t", {"src/atomic.rt", "src/ranged.rt", "specs/Atomic.antt"} | ROWS | OPS),
+     {"src/vector_immediate.rt", "specs/VectorImmediate.antt"} | ROWS | OPS | OPCODES),
+    ("a new atomic instruction", "FE 16\tI32AtomicLoad\t", "FE 5\tPauseOf\to\t\tpause_of\tordering\nFE 16\tI32AtomicLoad\t", {"src/atomic.rt", "src/ranged.rt", "specs/Atomic.antt"} | ROWS | OPS | OPCODES),
 ]
 
 
@@ -83,9 +84,13 @@ def files() -> dict[str, str]:
     return generated(TOP, read(table()))
 
 
+def folder_of(path: str) -> str:
+    return TESTS if path.endswith(".rtt") else READER if path in OPCODES else CRATE
+
+
 def good_trouble(old: str, new: str, named: set[str]) -> str | None:
     before, made = files(), generated(TOP, read(changed(old, new)[0]))
-    wanted = {f"{TESTS if it.endswith('.rtt') else CRATE}/{it}" for it in named}
+    wanted = {f"{folder_of(it)}/{it}" for it in named}
     wrong = wanted ^ {path for path in made if made[path] != before[path]}
     return f"too many or too few are {sorted(wrong)}" if wrong else None
 

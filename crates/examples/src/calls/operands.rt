@@ -1,5 +1,5 @@
 //! Callers of the instruction visitor that read operands, and prove their results.
-ghost use Rattle.std.specs.Prelude.{◌≡◌, ◌≢◌, List, IfOk, IfErr, count_by};
+ghost use Rattle.std.specs.Prelude.{◌≡◌, ◌≢◌, ◌++◌, true, false, List, IfOk, IfErr, count_by};
 ghost use Rattle.wasm_base.specs.Continuing.{RejectsWhole};
 ghost use Rattle.wasm_base.specs.Decoding.{Decodes, Rejects};
 ghost use Rattle.wasm_base.specs.Formats.{u32, vec};
@@ -8,12 +8,16 @@ ghost use Rattle.wasm_base.specs.declared.fault.ReadFault.TheVariants.{Memory};
 ghost use Rattle.wasm_code.specs.Bodies.{Body, body};
 ghost use Rattle.wasm_insn.specs.Arguments.{Argument};
 ghost use Rattle.wasm_insn.specs.Operands.{AreOperands};
+ghost use Rattle.wasm_insn.specs.Plain.{plain_encoding};
+ghost use Rattle.wasm_insn.specs.Views.{plain_view};
+ghost use Rattle.wasm_reader.specs.Conversions.{IsNoInstruction};
 ghost use Rattle.examples.specs.Called.{is_call};
 
 use std::alloc::Allocator;
-use wasm_base::DecodeError;
+use wasm_base::{DecodeError, Encode, Result};
 use wasm_code::{Decoded, Instructions, Members};
-use wasm_insn::{Op, Operands};
+use wasm_insn::{Op, Operands, Plain};
+use wasm_reader::instruction_of;
 
 /// Returns whether the instruction is a call of this function.
 fn is_call_of(decoded: Decoded, function: u32) -> bool
@@ -43,6 +47,22 @@ pub fn count_calls<A: Allocator + Copy>(
         }
     }
     Ok(count)
+}
+
+/// Appends the encoding of a decoded instruction, as that of the value that builders take. Returns
+/// whether the opcode and its arguments are an instruction.
+pub fn append_again<A: Allocator, B: Allocator>(
+    plain: &Plain<A>,
+    sink: &mut Vec<u8, B>,
+) -> Result<bool>
+    ensures appended { IfOk result (λ is. is ≡ true → sink.new.items ≡ sink.old.items ++ plain_encoding (plain_view plain.now)) }
+    ensures other { IfOk result (λ is. is ≡ false → IsNoInstruction plain.now.op (plain_view plain.now).arguments) }
+{
+    let Some(instruction) = instruction_of(plain.op, &plain.args) else {
+        return Ok(false);
+    };
+    instruction.encode(sink)?;
+    Ok(true)
 }
 
 /// Returns the labels at the front of the operands of `br_table`, and the bytes after them.

@@ -1,12 +1,14 @@
 // Written by tools/to-rust from crates/examples/src/calls/operands.rt: change that.
 //! Callers of the instruction visitor that read operands, and prove their results.
 
-use dolzhytik::fallible::Vec;
+use dolzhytik::fallible::{Sink, Vec};
 use dolzhytik::fallible::Allocator;
 use dolzhytik::reader::DecodeError;
+use dolzhytik::fallible::{Encode, Result};
 use dolzhytik::reader::{Decoded, Instructions, Members};
 use dolzhytik::fallible::Op;
-use dolzhytik::reader::Operands;
+use dolzhytik::reader::{Operands, Plain};
+use dolzhytik::reader::instruction_of;
 
 /// Returns whether the instruction is a call of this function.
 ///
@@ -44,6 +46,26 @@ pub fn count_calls<A: Allocator + Copy>(
         }
     }
     Ok(count)
+}
+
+/// Appends the encoding of a decoded instruction, as that of the value that builders take. Returns
+/// whether the opcode and its arguments are an instruction.
+///
+/// # Proved
+///
+/// ```text
+/// ensures appended { IfOk result (λ is. is ≡ true → sink.new.items ≡ sink.old.items ++ plain_encoding (plain_view plain.now)) }
+/// ensures other { IfOk result (λ is. is ≡ false → IsNoInstruction plain.now.op (plain_view plain.now).arguments) }
+/// ```
+pub fn append_again<A: Allocator, B: Sink>(
+    plain: &Plain<A>,
+    sink: &mut B,
+) -> Result<bool> {
+    let Some(instruction) = instruction_of(plain.op, &plain.args) else {
+        return Ok(false);
+    };
+    instruction.encode(sink)?;
+    Ok(true)
 }
 
 /// Returns the labels at the front of the operands of `br_table`, and the bytes after them.
