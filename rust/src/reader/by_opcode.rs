@@ -1458,7 +1458,7 @@ fn with_numbers_handles<'a, A: Allocator>(
 ///
 /// # Proved
 ///
-/// In any case: `some`, the instruction has this opcode and these immediates; `other`, the table has no row for the opcode, or the arguments are not those of its shape.
+/// In any case: `some`, the instruction has this opcode and these immediates; `other`, the table has no row for the opcode, or the arguments are not of the types of its shape, or flags of a cast are above 3.
 ///
 /// ```text
 /// ensures some { IfSome result
@@ -1488,7 +1488,7 @@ pub(crate) fn of_nothing<'a, A: Allocator>(op: Op, args: &'a [Arg<A>]) -> Option
 ///
 /// # Proved
 ///
-/// In any case: `some`, the instruction has this opcode and these immediates; `other`, the table has no row for the opcode, or the arguments are not those of its shape.
+/// In any case: `some`, the instruction has this opcode and these immediates; `other`, the table has no row for the opcode, or the arguments are not of the types of its shape, or flags of a cast are above 3.
 ///
 /// ```text
 /// ensures some { IfSome result
@@ -1518,7 +1518,7 @@ pub(crate) fn of_number<'a, A: Allocator>(op: Op, args: &'a [Arg<A>]) -> Option<
 ///
 /// # Proved
 ///
-/// In any case: `some`, the instruction has this opcode and these immediates; `other`, the table has no row for the opcode, or the arguments are not those of its shape.
+/// In any case: `some`, the instruction has this opcode and these immediates; `other`, the table has no row for the opcode, or the arguments are not of the types of its shape, or flags of a cast are above 3.
 ///
 /// ```text
 /// ensures some { IfSome result
@@ -1548,7 +1548,7 @@ pub(crate) fn of_numbers<'a, A: Allocator>(op: Op, args: &'a [Arg<A>]) -> Option
 ///
 /// # Proved
 ///
-/// In any case: `some`, the instruction has this opcode and these immediates; `other`, the table has no row for the opcode, or the arguments are not those of its shape.
+/// In any case: `some`, the instruction has this opcode and these immediates; `other`, the table has no row for the opcode, or the arguments are not of the types of its shape, or flags of a cast are above 3.
 ///
 /// ```text
 /// ensures some { IfSome result
@@ -1578,7 +1578,7 @@ pub(crate) fn of_memory<'a, A: Allocator>(op: Op, args: &'a [Arg<A>]) -> Option<
 ///
 /// # Proved
 ///
-/// In any case: `some`, the instruction has this opcode and these immediates; `other`, the table has no row for the opcode, or the arguments are not those of its shape.
+/// In any case: `some`, the instruction has this opcode and these immediates; `other`, the table has no row for the opcode, or the arguments are not of the types of its shape, or flags of a cast are above 3.
 ///
 /// ```text
 /// ensures some { IfSome result
@@ -1611,7 +1611,7 @@ pub(crate) fn of_memory_lane<'a, A: Allocator>(
 ///
 /// # Proved
 ///
-/// In any case: `some`, the instruction has this opcode and these immediates; `other`, the table has no row for the opcode, or the arguments are not those of its shape.
+/// In any case: `some`, the instruction has this opcode and these immediates; `other`, the table has no row for the opcode, or the arguments are not of the types of its shape, or flags of a cast are above 3.
 ///
 /// ```text
 /// ensures some { IfSome result
@@ -1641,7 +1641,7 @@ pub(crate) fn of_lane<'a, A: Allocator>(op: Op, args: &'a [Arg<A>]) -> Option<In
 ///
 /// # Proved
 ///
-/// In any case: `some`, the instruction has this opcode and these immediates; `other`, the table has no row for the opcode, or the arguments are not those of its shape.
+/// In any case: `some`, the instruction has this opcode and these immediates; `other`, the table has no row for the opcode, or the arguments are not of the types of its shape, or flags of a cast are above 3.
 ///
 /// ```text
 /// ensures some { IfSome result
@@ -1671,7 +1671,7 @@ pub(crate) fn of_block<'a, A: Allocator>(op: Op, args: &'a [Arg<A>]) -> Option<I
 ///
 /// # Proved
 ///
-/// In any case: `some`, the instruction has this opcode and these immediates; `other`, the table has no row for the opcode, or the arguments are not those of its shape.
+/// In any case: `some`, the instruction has this opcode and these immediates; `other`, the table has no row for the opcode, or the arguments are not of the types of its shape, or flags of a cast are above 3.
 ///
 /// ```text
 /// ensures some { IfSome result
@@ -1701,7 +1701,7 @@ pub(crate) fn of_heap<'a, A: Allocator>(op: Op, args: &'a [Arg<A>]) -> Option<In
 ///
 /// # Proved
 ///
-/// In any case: `some`, the instruction has this opcode and these immediates; `other`, the table has no row for the opcode, or the arguments are not those of its shape.
+/// In any case: `some`, the instruction has this opcode and these immediates; `other`, the table has no row for the opcode, or the arguments are not of the types of its shape, or flags of a cast are above 3.
 ///
 /// ```text
 /// ensures some { IfSome result
@@ -1734,7 +1734,7 @@ pub(crate) fn of_ordering<'a, A: Allocator>(
 ///
 /// # Proved
 ///
-/// In any case: `some`, the instruction has this opcode and these immediates; `other`, the table has no row for the opcode, or the arguments are not those of its shape.
+/// In any case: `some`, the instruction has this opcode and these immediates; `other`, the table has no row for the opcode, or the arguments are not of the types of its shape, or flags of a cast are above 3.
 ///
 /// ```text
 /// ensures some { IfSome result
@@ -1767,7 +1767,7 @@ pub(crate) fn of_ordering_number<'a, A: Allocator>(
 ///
 /// # Proved
 ///
-/// In any case: `some`, the instruction has this opcode and these immediates; `other`, the table has no row for the opcode, or the arguments are not those of its shape.
+/// In any case: `some`, the instruction has this opcode and these immediates; `other`, the table has no row for the opcode, or the arguments are not of the types of its shape, or flags of a cast are above 3.
 ///
 /// ```text
 /// ensures some { IfSome result
@@ -1800,7 +1800,7 @@ pub(crate) fn of_ordering_numbers<'a, A: Allocator>(
 ///
 /// # Proved
 ///
-/// In any case: `some`, the instruction has this opcode and these immediates; `other`, the table has no row for the opcode, or the arguments are not those of its shape.
+/// In any case: `some`, the instruction has this opcode and these immediates; `other`, the table has no row for the opcode, or the arguments are not of the types of its shape, or flags of a cast are above 3.
 ///
 /// ```text
 /// ensures some { IfSome result
@@ -1833,7 +1833,7 @@ pub(crate) fn of_signed32<'a, A: Allocator>(
 ///
 /// # Proved
 ///
-/// In any case: `some`, the instruction has this opcode and these immediates; `other`, the table has no row for the opcode, or the arguments are not those of its shape.
+/// In any case: `some`, the instruction has this opcode and these immediates; `other`, the table has no row for the opcode, or the arguments are not of the types of its shape, or flags of a cast are above 3.
 ///
 /// ```text
 /// ensures some { IfSome result
@@ -1866,7 +1866,7 @@ pub(crate) fn of_signed64<'a, A: Allocator>(
 ///
 /// # Proved
 ///
-/// In any case: `some`, the instruction has this opcode and these immediates; `other`, the table has no row for the opcode, or the arguments are not those of its shape.
+/// In any case: `some`, the instruction has this opcode and these immediates; `other`, the table has no row for the opcode, or the arguments are not of the types of its shape, or flags of a cast are above 3.
 ///
 /// ```text
 /// ensures some { IfSome result
@@ -1896,7 +1896,7 @@ pub(crate) fn of_float32<'a, A: Allocator>(op: Op, args: &'a [Arg<A>]) -> Option
 ///
 /// # Proved
 ///
-/// In any case: `some`, the instruction has this opcode and these immediates; `other`, the table has no row for the opcode, or the arguments are not those of its shape.
+/// In any case: `some`, the instruction has this opcode and these immediates; `other`, the table has no row for the opcode, or the arguments are not of the types of its shape, or flags of a cast are above 3.
 ///
 /// ```text
 /// ensures some { IfSome result
@@ -1926,7 +1926,7 @@ pub(crate) fn of_float64<'a, A: Allocator>(op: Op, args: &'a [Arg<A>]) -> Option
 ///
 /// # Proved
 ///
-/// In any case: `some`, the instruction has this opcode and these immediates; `other`, the table has no row for the opcode, or the arguments are not those of its shape.
+/// In any case: `some`, the instruction has this opcode and these immediates; `other`, the table has no row for the opcode, or the arguments are not of the types of its shape, or flags of a cast are above 3.
 ///
 /// ```text
 /// ensures some { IfSome result
@@ -1956,7 +1956,7 @@ pub(crate) fn of_vector<'a, A: Allocator>(op: Op, args: &'a [Arg<A>]) -> Option<
 ///
 /// # Proved
 ///
-/// In any case: `some`, the instruction has this opcode and these immediates; `other`, the table has no row for the opcode, or the arguments are not those of its shape.
+/// In any case: `some`, the instruction has this opcode and these immediates; `other`, the table has no row for the opcode, or the arguments are not of the types of its shape, or flags of a cast are above 3.
 ///
 /// ```text
 /// ensures some { IfSome result
@@ -1986,7 +1986,7 @@ pub(crate) fn of_lanes<'a, A: Allocator>(op: Op, args: &'a [Arg<A>]) -> Option<I
 ///
 /// # Proved
 ///
-/// In any case: `some`, the instruction has this opcode and these immediates; `other`, the table has no row for the opcode, or the arguments are not those of its shape.
+/// In any case: `some`, the instruction has this opcode and these immediates; `other`, the table has no row for the opcode, or the arguments are not of the types of its shape, or flags of a cast are above 3.
 ///
 /// ```text
 /// ensures some { IfSome result
@@ -2016,7 +2016,7 @@ pub(crate) fn of_labels<'a, A: Allocator>(op: Op, args: &'a [Arg<A>]) -> Option<
 ///
 /// # Proved
 ///
-/// In any case: `some`, the instruction has this opcode and these immediates; `other`, the table has no row for the opcode, or the arguments are not those of its shape.
+/// In any case: `some`, the instruction has this opcode and these immediates; `other`, the table has no row for the opcode, or the arguments are not of the types of its shape, or flags of a cast are above 3.
 ///
 /// ```text
 /// ensures some { IfSome result
@@ -2046,7 +2046,7 @@ pub(crate) fn of_clauses<'a, A: Allocator>(op: Op, args: &'a [Arg<A>]) -> Option
 ///
 /// # Proved
 ///
-/// In any case: `some`, the instruction has this opcode and these immediates; `other`, the table has no row for the opcode, or the arguments are not those of its shape.
+/// In any case: `some`, the instruction has this opcode and these immediates; `other`, the table has no row for the opcode, or the arguments are not of the types of its shape, or flags of a cast are above 3.
 ///
 /// ```text
 /// ensures some { IfSome result
@@ -2076,7 +2076,7 @@ pub(crate) fn of_types<'a, A: Allocator>(op: Op, args: &'a [Arg<A>]) -> Option<I
 ///
 /// # Proved
 ///
-/// In any case: `some`, the instruction has this opcode and these immediates; `other`, the table has no row for the opcode, or the arguments are not those of its shape.
+/// In any case: `some`, the instruction has this opcode and these immediates; `other`, the table has no row for the opcode, or the arguments are not of the types of its shape, or flags of a cast are above 3.
 ///
 /// ```text
 /// ensures some { IfSome result
@@ -2106,7 +2106,7 @@ pub(crate) fn of_handles<'a, A: Allocator>(op: Op, args: &'a [Arg<A>]) -> Option
 ///
 /// # Proved
 ///
-/// In any case: `some`, the instruction has this opcode and these immediates; `other`, the table has no row for the opcode, or the arguments are not those of its shape.
+/// In any case: `some`, the instruction has this opcode and these immediates; `other`, the table has no row for the opcode, or the arguments are not of the types of its shape, or flags of a cast are above 3.
 ///
 /// ```text
 /// ensures some { IfSome result

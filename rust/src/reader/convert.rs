@@ -330,7 +330,7 @@ fn nullable(flags: u8) -> Option<(bool, bool)> {
 ///
 /// # Proved
 ///
-/// In any case: `some`, the instruction has this opcode and these immediates; `other`, the table has no row for the opcode, or the arguments are not those of its shape.
+/// In any case: `some`, the instruction has this opcode and these immediates; `other`, the table has no row for the opcode, or the arguments are not of the types of its shape, or flags of a cast are above 3.
 ///
 /// ```text
 /// ensures some { IfSome result
@@ -384,7 +384,7 @@ fn cast<'a, A: Allocator>(op: Op, args: &'a [Arg<A>]) -> Option<Instruction<'a, 
 ///
 /// # Proved
 ///
-/// In any case: `some`, the instruction has this opcode and these immediates; `other`, the table has no row for the opcode, or the arguments are not those of its shape.
+/// In any case: `some`, the instruction has this opcode and these immediates; `other`, the table has no row for the opcode, or the arguments are not of the types of its shape, or flags of a cast are above 3.
 ///
 /// ```text
 /// ensures some { IfSome result

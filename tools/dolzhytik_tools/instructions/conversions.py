@@ -1,5 +1,5 @@
 """The conversion of an opcode and its immediates to an instruction: for each shape a function over
-the opcodes of that shape, and the lemma that it has all of them."""
+the opcodes of that shape. `conversion_proofs` has the lemmas that these are all."""
 from __future__ import annotations
 
 from dataclasses import dataclass

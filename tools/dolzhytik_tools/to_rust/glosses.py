@@ -101,7 +101,7 @@ EXACT = {
     'IfOk result (λ x. x.1.offset ≤ length self.now.bytes)': 'the offset is in the body, or at its end',
     'IfOk result (λ args. (xs : List Argument) → AreOperands self.entry xs → map argument_view args.items ≡ xs)': 'the list has the operands, in their order',
     'IfSome result (λ i. row_of i ≡ record { op = op; arguments = map argument_view args.now })': 'the instruction has this opcode and these immediates',
-    'IfNone result (IsNoInstruction op (map argument_view args.now))': 'the table has no row for the opcode, or the arguments are not those of its shape',
+    'IfNone result (IsNoInstruction op (map argument_view args.now))': 'the table has no row for the opcode, or the arguments are not of the types of its shape, or flags of a cast are above 3',
     'IfOk result (λ next. IfSome next (λ it. DecodesOperation (instruction table) (padded_of G.grammar) (ahead self.old) it.op it.operands (ahead self.new)))': 'an instruction of this opcode and these operands was next',
     'IfOk result (λ next. IfSome next (λ it. DecodesOperation (such IsNoEnd (instruction table)) (padded_of G.grammar) (ahead self.old) it.op it.operands (ahead self.new)))': 'an instruction of this opcode and these operands was next, and is no `end`',
     'IfOk result (λ next. IfSome next (λ _. (self.old.offset < self.new.offset) × (self.new.offset ≤ length self.new.bytes)))': 'the offset grows, and is in the bytes or at their end',
