@@ -15,6 +15,7 @@ use crate::minimize::{Minimize, minimize_whole};
 use crate::readable::{Layout, Readable};
 use crate::refused::{Refused, Result};
 use crate::shorten::Shorten;
+use crate::skip::{Skip, check_whole};
 use crate::whole::read_before;
 use std::alloc::Allocator;
 
@@ -181,5 +182,17 @@ impl<G: Grammar, T: Minimize<G>> Minimize<G> for SizePrefixed<T> {
         }
         prefix_size_since(sink, start)?;
         Ok(rest)
+    }
+}
+
+/// Skips the payload, which the value occupies to the last byte.
+impl<'a, A: Allocator + Copy, G: Grammar, P: Skip<'a, A, G>> Skip<'a, A, G> for SizePrefixed<P> {
+    #[tactic(auto, using(crate::proofs::DecodeSizePrefixed::filled_steps))]
+    fn skip(bytes: &'a [u8], alloc: A) -> Result<&'a [u8], DecodeError> {
+        let (content, rest) = <&'a [u8] as Readable<'a, A, G>>::read(bytes, alloc)?;
+        match check_whole::<'a, P, A, G>(content, alloc) {
+            Ok(()) => Ok(rest),
+            Err(error) => Err(error.before(rest)),
+        }
     }
 }

@@ -59,7 +59,7 @@ pub use section_id::{
 };
 pub use sections::{RawSection, Section};
 pub use shorten::Shorten;
-pub use skip::{Dropped, Skip, skip_many};
+pub use skip::{Dropped, Skip, check_to_end, check_whole, skip_many};
 pub use types::{AbstractHeapType, HeapType, RefType, ValType, read_val_after};
 pub use vectors::{append_all, encode_vec};
 pub use whole::{read_before, read_to_end, read_whole};

@@ -1,11 +1,12 @@
 // The trait `Skip`: values that are skipped and not kept.
-ghost use Rattle.std.specs.Prelude.{◌≡◌, ◌≢◌, List, length, IfOk, IfErr};
-ghost use Rattle.wasm_base.specs.Formats.{vec};
+ghost use Rattle.std.specs.Prelude.{◌≡◌, ◌≢◌, List, length, IfOk, IfErr, OnOk};
+ghost use Rattle.wasm_base.specs.Formats.{members, vec};
+ghost use Rattle.wasm_base.specs.Continuing.{RejectsWhole};
 ghost use Rattle.wasm_base.specs.Numbers.{padded_of};
-ghost use Rattle.wasm_base.specs.Decoding.{Decodes, Rejects};
+ghost use Rattle.wasm_base.specs.Decoding.{BeginsWith, Decodes, Rejects};
 ghost use Rattle.wasm_base.specs.declared.fault.ReadFault.TheVariants.{Memory};
 
-use crate::fault::DecodeError;
+use crate::fault::{DecodeError, ReadFault};
 use crate::grammar::Grammar;
 use crate::readable::{Layout, Readable};
 use std::alloc::Allocator;
@@ -64,4 +65,50 @@ pub fn skip_many<'a, P: Skip<'a, A, G>, A: Allocator + Copy, G: Grammar>(
         rest = P::skip(rest, alloc)?;
     }
     Ok((count, rest))
+}
+
+/// Checks that a value occupies all of the bytes. The value is not kept.
+///
+/// # Errors
+///
+/// Any error but `Memory` means that the bytes as a whole encode no such value.
+#[tactic(auto, using(crate::proofs::DecodeWhole::whole_steps))]
+pub fn check_whole<'a, P: Skip<'a, A, G>, A: Allocator + Copy, G: Grammar>(
+    bytes: &'a [u8],
+    alloc: A,
+) -> Result<(), DecodeError>
+    ensures found { OnOk result ((x : P.Value) × P.format (padded_of G.grammar) bytes.now x) }
+    ensures none { IfErr result (λ e. e.cause ≢ Memory → RejectsWhole P.format (padded_of G.grammar) bytes.now) }
+{
+    let rest = P::skip(bytes, alloc)?;
+    P::laws();
+    if rest.is_empty() {
+        Ok(())
+    } else {
+        Err(ReadFault::SizeMismatch.at(rest))
+    }
+}
+
+/// Checks that values occupy all of the bytes, one after another; no encoding of one is empty. The
+/// values are not kept.
+///
+/// # Errors
+///
+/// Any error but `Memory` means that the bytes as a whole encode no such values.
+pub fn check_to_end<'a, P: Skip<'a, A, G>, A: Allocator + Copy, G: Grammar>(
+    bytes: &'a [u8],
+    alloc: A,
+) -> Result<(), DecodeError>
+    requires { BeginsWith (λ b. Unit {0}) P.format }
+    ensures found { OnOk result ((xs : List P.Value) × members P.format (padded_of G.grammar) bytes.now xs) }
+    ensures none { IfErr result (λ e. e.cause ≢ Memory → RejectsWhole (members P.format) (padded_of G.grammar) bytes.now) }
+{
+    let mut rest = bytes;
+    P::laws();
+    loop {
+        if rest.is_empty() {
+            return Ok(());
+        }
+        rest = P::skip(rest, alloc)?;
+    }
 }

@@ -14,6 +14,7 @@ use crate::once::{EncodeOnce, vec_of};
 use crate::readable::{Layout, Readable};
 use crate::refused::Result;
 use crate::shorten::Shorten;
+use crate::skip::{Skip, skip_many};
 use std::alloc::Allocator;
 
 /// Encodes the members as a vector.
@@ -134,5 +135,14 @@ impl<G: Grammar, T: Minimize<G>, C: Allocator> Minimize<G> for Vec<T, C> {
         sink: &mut Vec<u8, B>,
     ) -> Result<&'a [u8], DecodeError> {
         minimize_many::<T, A, G, _>(bytes, alloc, sink)
+    }
+}
+
+/// Skips the members one by one, and keeps none.
+impl<'a, A: Allocator + Copy, G: Grammar, P: Skip<'a, A, G>, C: Allocator> Skip<'a, A, G>
+    for Vec<P, C> {
+    fn skip(bytes: &'a [u8], alloc: A) -> Result<&'a [u8], DecodeError> {
+        let (_count, rest) = skip_many::<'a, P, A, G>(bytes, alloc)?;
+        Ok(rest)
     }
 }

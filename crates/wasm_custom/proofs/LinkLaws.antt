@@ -1,5 +1,5 @@
 -- This file proves that linking sections are unambiguous, and how they are decoded and minimized.
-use Rattle.wasm_base.proofs.Words.{ℕ, [], ◌∷◌, length, false, true, refl, ap, arith, length-append, map, map-id, ◌≡◌, ◌≢◌, ◌<◌, ◌≤◌, ◌⊎◌, inl, inr, List, subst, ◌++◌, take, drop, ItemLaws, u32, byte}
+use Rattle.wasm_base.proofs.Words.{ℕ, [], ◌∷◌, length, false, true, refl, sym, ap, arith, length-append, map, map-id, ◌≡◌, ◌≢◌, ◌<◌, ◌≤◌, ◌⊎◌, inl, inr, List, subst, ◌++◌, take, drop, ItemLaws, u32, byte}
 use Rattle.wasm_base.proofs.Words.{name, just, vec, Format, size_prefixed, members, mapped, prefixed, minimal, unsigned_encoding, Mode, padded, standard, standard_minimal, Grammar, builders, admitted}
 use Rattle.wasm_base.proofs.Words.{is_admitted, padded_of, Unambiguous, Decodes, Rejects, size_prefixed_encoding, HasEncodableSize, vec_encoding, just_unambiguous, name_unambiguous, ascii}
 use Rattle.wasm_base.proofs.Words.{mapped_unambiguous, vec_unambiguous, size_prefixed_unambiguous, whole_from_unique, byte_unambiguous, choice_of, u32_unambiguous, flag_encodes, tagged_begins}
@@ -173,6 +173,9 @@ segments_none admitted bytes rest b h e f n = tag_is_not link_tags full_link_tag
 pub inits_decodes : (w : Grammar) (bytes rest last : List ℕ) (b : ℕ) (xs : List InitFunction) → Decodes byte (padded_of w) bytes b rest → b ≡ 6 → is_admitted w ≡ true → Decodes (size_prefixed (vec init_function)) (padded_of w) rest (map (λ f. f) xs) last → Decodes link (padded_of w) bytes (InitFunctions xs) last
 inits_decodes builders bytes rest last b xs h e f g = absurd (cc f)
 inits_decodes admitted bytes rest last b xs h e f g = tag_is link_tags full_link_tags admitted 6 h e (mapped_decodes InitFunctions (subst (λ z. Decodes (size_prefixed (vec init_function)) standard rest z last) (map-id xs) g))
+
+pub inits_skip : (w : Grammar) (bytes rest last : List ℕ) (b : ℕ) (xs : List InitFunction) → Decodes byte (padded_of w) bytes b rest → b ≡ 6 → is_admitted w ≡ true → Decodes (size_prefixed (vec init_function)) (padded_of w) rest xs last → Decodes link (padded_of w) bytes (InitFunctions xs) last
+inits_skip w bytes rest last b xs h e f g = inits_decodes w bytes rest last b xs h e f (subst (λ z. Decodes (size_prefixed (vec init_function)) (padded_of w) rest z last) (sym (map-id xs)) g)
 
 pub inits_none : (w : Grammar) (bytes rest : List ℕ) (b : ℕ) → Decodes byte (padded_of w) bytes b rest → b ≡ 6 → is_admitted w ≡ true → Rejects (size_prefixed (vec init_function)) (padded_of w) rest → Rejects link (padded_of w) bytes
 inits_none builders bytes rest b h e f n = absurd (cc f)

@@ -173,6 +173,9 @@ pub subsection_decodes : {m : Mode} (bytes rest content last : List ℕ) (id : �
 subsection_decodes {m = m} bytes rest content last id k x h g e s =
     tagged_decodes {G = behind} h (subst (λ k. Decodes (after_id k id) m rest x last) e (behind_decodes k id rest last x (filled_decodes (inside k id) rest content last x g s)))
 
+pub subsection_skips : {m : Mode} {bytes rest last : List ℕ} {id : ℕ} (k : NameKind) → Decodes byte m bytes id rest → k ≡ name_kind_of id → (x : NameItem) × Decodes (after_id k id) m rest x last → (x : NameItem) × Decodes subsection m bytes x last
+subsection_skips {m = m} {rest = rest} {last = last} {id = id} k h e g = (g.0, tagged_decodes {G = behind} h (subst (λ k. Decodes (after_id k id) m rest g.0 last) e g.1))
+
 pub subsection_none : {m : Mode} (bytes : List ℕ) → Rejects byte m bytes → Rejects subsection m bytes
 subsection_none bytes n = tagged_none byte behind bytes n
 

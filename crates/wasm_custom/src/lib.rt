@@ -13,6 +13,7 @@
 //! [`ReadFault::Memory`]: wasm_base::ReadFault::Memory
 #![tactic(auto)]
 
+mod checks;
 mod comdats;
 mod core_dumps;
 mod core_stack;
@@ -43,11 +44,22 @@ mod raw_custom;
 mod relocations;
 mod segments;
 mod single;
+mod skip;
 mod standard;
 mod subsections;
 mod symbols;
 mod target_features;
 
+pub use checks::check_dylink;
+pub use checks::check_features;
+pub use checks::check_hints;
+pub use checks::check_instances;
+pub use checks::check_links;
+pub use checks::check_modules;
+pub use checks::check_names;
+pub use checks::check_producers;
+pub use checks::check_relocations;
+pub use checks::check_stack;
 pub use comdats::Comdat;
 pub use comdats::ComdatMembers;
 pub use comdats::ComdatSymbol;

@@ -8,7 +8,7 @@ ghost use Rattle.wasm_base.specs.Minimal.{Minimizes, IsFrontOf};
 ghost use Rattle.wasm_base.specs.declared.fault.ReadFault.TheVariants.{Memory};
 
 use std::alloc::Allocator;
-use wasm_base::{DecodeError, Encode, Grammar, Layout, Minimize, ReadFault, Readable};
+use wasm_base::{DecodeError, Encode, Grammar, Layout, Minimize, ReadFault, Readable, Skip};
 
 /// Decodes the byte `mark` and the value after it, and returns the value with the remaining bytes.
 #[tactic(auto, using(crate::proofs::DecodeMarked::marked_steps))]
@@ -26,6 +26,24 @@ pub(crate) fn read_marked<'a, T: Readable<'a, A, G>, A: Allocator + Copy, G: Gra
     }
     let (value, rest) = T::read(rest, alloc)?;
     Ok((value, rest))
+}
+
+/// Skips the byte `mark` and the value after it.
+#[tactic(auto, using(crate::proofs::DecodeMarked::marked_steps))]
+pub(crate) fn skip_marked<'a, P: Skip<'a, A, G>, A: Allocator + Copy, G: Grammar>(
+    mark: u8,
+    bytes: &'a [u8],
+    alloc: A,
+) -> Result<&'a [u8], DecodeError>
+    ensures found { IfOk result (λ rest. (x : P.Value) × Decodes (prefixed (mark ∷ []) P.format) (padded_of G.grammar) bytes.now x rest.now) }
+    ensures none { IfErr result (λ e. e.cause ≢ Memory → Rejects (prefixed (mark ∷ []) P.format) (padded_of G.grammar) bytes.now) }
+{
+    let (first, after) = <u8 as Readable<'a, A, G>>::read(bytes, alloc)?;
+    if first != mark {
+        return Err(ReadFault::UnknownTag.just_before(after));
+    }
+    let rest = P::skip(after, alloc)?;
+    Ok(rest)
 }
 
 /// Minimizes the byte `mark` and the value after it.

@@ -3,7 +3,7 @@
 use Rattle.wasm_base.proofs.Words.{Mode, ◌≡◌, ℕ, List, [], ◌++◌, map, length, refl, sym, ap, subst, ◌∙◌, ◌≢◌, ◌∷◌, Bool, true, false, if◌then◌else◌, cond, Option, Some, Result, Ok, Err, map-id}
 use Rattle.wasm_base.proofs.Words.{minimal, padded, standard_minimal, standard, u32, name, any_bytes, pair, vec, size_prefixed, Format, mapped, UnambiguousWhole, Decodes, Rejects, vec_encoding, IsEncodableVec, name_unambiguous}
 use Rattle.wasm_base.proofs.Words.{vec_unambiguous, whole_from_unique, mapped_whole, pair_whole, any_bytes_whole, u32_unambiguous, decodes_same, AppendsMinimal, encoding_appended, pair_appended}
-use Rattle.wasm_base.proofs.Words.{mapped_appended, records_appended, RejectsWhole, bytes_eq, ne_eqb}
+use Rattle.wasm_base.proofs.Words.{mapped_appended, records_appended, RejectsWhole, bytes_eq, ne_eqb, OnOk, on_ok}
 use Rattle.wasm_base.proofs.Words.{All, All-nil, All-cons, HasEncoding, members, coded, mapped_encoded, members_encoded, counted_encodable, left_encoded, name_encodable}
 use Rattle.wasm_base.proofs.DecodedValues.{viewed_encodable}
 use Rattle.std.proofs.Common.{None, zero, suc, ◌≤◌, arith, IfOk}
@@ -494,6 +494,12 @@ kept_among (k ∷ ks) h n = for_if (KeepsName n) (bytes_eq n k.0) (h.0 n) (kept_
 
 pub keeps_name : (n : List ℕ) → KeepsName n (kind_named n)
 keeps_name n = for_if (KeepsName n) (begins_with relocations_prefix n) (relocations_kept n) (kept_among known_names (names_kept, (linking_kept, (producers_kept, (target_features_kept, (hints_kept, (core_kept, (core_modules_kept, (core_instances_kept, (core_stack_kept, (source_map_kept, (debug_file_kept, (build_id_kept, (dylink_kept, tt))))))))))))) n)
+
+-- ---- payloads that are checked
+
+-- If a call checks that `F` decodes the bytes, it checks the payload of a section of the kind.
+pub checked_as : {X : Type 0} {f : X → Contents} {F : Format X} {k : SectionKind} → DecodesAs f F k → (m : Mode) (kind : SectionKind) (bytes : List ℕ) (r : Result (Unit {0}) Failure) → kind ≡ k → OnOk r ((x : X) × F m bytes x) → OnOk r ((x : Contents) × content kind m bytes x)
+checked_as {f = f} decodes m kind bytes r e found = on_ok r _ _ found λ h. (f h.0, (decodes m kind bytes e).1 h.0 h.1)
 
 -- ---- numbers of items
 

@@ -10,6 +10,7 @@ use crate::base::minimize::{Minimize, minimize_whole};
 use crate::base::readable::{Layout, Readable};
 use crate::base::refused::{Refused, Result};
 use crate::base::shorten::Shorten;
+use crate::base::skip::{Skip, check_whole};
 use crate::base::whole::read_before;
 use crate::alloc::Allocator;
 
@@ -313,5 +314,16 @@ impl<G: Grammar, T: Minimize<G>> Minimize<G> for SizePrefixed<T> {
         }
         prefix_size_since(sink, start)?;
         Ok(rest)
+    }
+}
+
+/// Skips the payload, which the value occupies to the last byte.
+impl<'a, A: Allocator + Copy, G: Grammar, P: Skip<'a, A, G>> Skip<'a, A, G> for SizePrefixed<P> {
+    fn skip(bytes: &'a [u8], alloc: A) -> Result<&'a [u8], DecodeError> {
+        let (content, rest) = <&'a [u8] as Readable<'a, A, G>>::read(bytes, alloc)?;
+        match check_whole::<'a, P, A, G>(content, alloc) {
+            Ok(()) => Ok(rest),
+            Err(error) => Err(error.before(rest)),
+        }
     }
 }

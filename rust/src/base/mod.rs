@@ -63,7 +63,7 @@ pub use section_id::{
 };
 pub use sections::{RawSection, Section};
 pub(crate) use shorten::Shorten;
-pub(crate) use skip::{Dropped, Skip, skip_many};
+pub(crate) use skip::{Dropped, Skip, check_to_end, check_whole, skip_many};
 pub use types::{AbstractHeapType, HeapType, RefType, ValType};
 pub(crate) use types::read_val_after;
 pub use vectors::encode_vec;
@@ -88,7 +88,7 @@ pub(crate) mod reading {
     #[doc(alias = "minimize")]
     #[doc(alias = "shrink")]
     pub use super::shorten::Shorten;
-    pub use super::skip::{Dropped, Skip, skip_many};
+    pub use super::skip::{Dropped, Skip, check_to_end, check_whole, skip_many};
     pub use super::vectors::append_all;
     pub use super::whole::{read_before, read_to_end, read_whole};
 }

@@ -1,7 +1,7 @@
 // Written by tools/to-rust from crates/wasm_base/src/skip.rt: change that.
 // The trait `Skip`: values that are skipped and not kept.
 
-use crate::base::fault::DecodeError;
+use crate::base::fault::{DecodeError, ReadFault};
 use crate::base::grammar::Grammar;
 use crate::base::readable::{Layout, Readable};
 use crate::alloc::Allocator;
@@ -126,4 +126,104 @@ pub fn skip_many<'a, P: Skip<'a, A, G>, A: Allocator + Copy, G: Grammar>(
         rest = P::skip(rest, alloc)?;
     }
     Ok((count, rest))
+}
+
+/// Checks that a value occupies all of the bytes. The value is not kept.
+///
+/// # Errors
+///
+/// Any error but `Memory` means that the bytes as a whole encode no such value.
+///
+/// # Examples
+///
+/// ```
+/// use dolzhytik::fallible::Global;
+/// use dolzhytik::reader::{Dropped, Padded, ReadFault, check_whole};
+///
+/// // One number, and nothing behind it.
+/// check_whole::<Dropped<u32>, Global, Padded>(&[5], Global)?;
+/// let error = check_whole::<Dropped<u32>, Global, Padded>(&[5, 0xFF], Global)
+///     .expect_err("a byte is left");
+/// assert_eq!(error.cause(), ReadFault::SizeMismatch);
+/// # Ok::<(), dolzhytik::reader::DecodeError>(())
+/// ```
+///
+/// # Proved
+///
+/// After `Ok`: `found`. After an error: `none`, the bytes as a whole are no such encoding, unless the cause is `Memory`.
+///
+/// ```text
+/// ensures found { OnOk result
+///     ((x : P.Value) × P.format (padded_of G.grammar) bytes.now x) }
+/// ensures none { IfErr result
+///     (λ e. e.cause ≢ Memory → RejectsWhole P.format (padded_of G.grammar) bytes.now) }
+/// ```
+///
+/// Definitions: [`padded_of`](crate::definitions::base::numbers::padded_of), [`RejectsWhole`](crate::definitions::base::continuing::RejectsWhole). [How to read clauses](crate::definitions).
+pub fn check_whole<'a, P: Skip<'a, A, G>, A: Allocator + Copy, G: Grammar>(
+    bytes: &'a [u8],
+    alloc: A,
+) -> Result<(), DecodeError> {
+    let rest = P::skip(bytes, alloc)?;
+    P::laws();
+    if rest.is_empty() {
+        Ok(())
+    } else {
+        Err(ReadFault::SizeMismatch.at(rest))
+    }
+}
+
+/// Checks that values occupy all of the bytes, one after another; no encoding of one is empty. The
+/// values are not kept.
+///
+/// # Errors
+///
+/// Any error but `Memory` means that the bytes as a whole encode no such values.
+///
+/// # Examples
+///
+/// ```
+/// use dolzhytik::fallible::Global;
+/// use dolzhytik::reader::{Dropped, Padded, check_to_end};
+///
+/// // Two names.
+/// check_to_end::<Dropped<&str>, Global, Padded>(b"\x01a\x02bc", Global)?;
+/// # Ok::<(), dolzhytik::reader::DecodeError>(())
+/// ```
+///
+/// # Asks
+///
+/// [What happens otherwise](crate::fallible#what-is-asked).
+///
+/// ```text
+/// requires { BeginsWith (λ b. Unit {0}) P.format }
+/// ```
+///
+/// Definitions: [`BeginsWith`](crate::definitions::base::decoding::BeginsWith). [How to read clauses](crate::definitions).
+///
+/// # Proved
+///
+/// After `Ok`: `found`. After an error: `none`, the bytes as a whole are no such encoding, unless the cause is `Memory`.
+///
+/// ```text
+/// ensures found { OnOk result
+///     ((xs : List P.Value) × members P.format (padded_of G.grammar) bytes.now xs) }
+/// ensures none { IfErr result
+///     (λ e. e.cause ≢ Memory → RejectsWhole (members P.format)
+///         (padded_of G.grammar) bytes.now) }
+/// ```
+///
+/// Definitions: [`members`](crate::definitions::base::formats::members), [`padded_of`](crate::definitions::base::numbers::padded_of), [`RejectsWhole`](crate::definitions::base::continuing::RejectsWhole). [How to read clauses](crate::definitions).
+pub fn check_to_end<'a, P: Skip<'a, A, G>, A: Allocator + Copy, G: Grammar>(
+    bytes: &'a [u8],
+    alloc: A,
+) -> Result<(), DecodeError> {
+    let mut rest = bytes;
+    P::laws();
+    loop {
+        if rest.is_empty() {
+            return Ok(());
+        }
+        rest = P::skip(rest, alloc)?;
+    }
 }

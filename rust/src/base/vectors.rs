@@ -10,6 +10,7 @@ use crate::base::once::{EncodeOnce, vec_of};
 use crate::base::readable::{Layout, Readable};
 use crate::base::refused::Result;
 use crate::base::shorten::Shorten;
+use crate::base::skip::{Skip, skip_many};
 use crate::alloc::Allocator;
 
 /// Encodes the members as a vector.
@@ -205,5 +206,14 @@ impl<G: Grammar, T: Minimize<G>, C: Allocator> Minimize<G> for Vec<T, C> {
         sink: &mut B,
     ) -> Result<&'a [u8], DecodeError> {
         minimize_many::<T, A, G, _>(bytes, alloc, sink)
+    }
+}
+
+/// Skips the members one by one, and keeps none.
+impl<'a, A: Allocator + Copy, G: Grammar, P: Skip<'a, A, G>, C: Allocator> Skip<'a, A, G>
+    for Vec<P, C> {
+    fn skip(bytes: &'a [u8], alloc: A) -> Result<&'a [u8], DecodeError> {
+        let (_count, rest) = skip_many::<'a, P, A, G>(bytes, alloc)?;
+        Ok(rest)
     }
 }

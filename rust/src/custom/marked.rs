@@ -3,7 +3,7 @@
 
 use crate::vec::Sink;
 use crate::alloc::Allocator;
-use crate::base::{DecodeError, Encode, Grammar, Layout, Minimize, ReadFault, Readable};
+use crate::base::{DecodeError, Encode, Grammar, Layout, Minimize, ReadFault, Readable, Skip};
 
 /// Decodes the byte `mark` and the value after it, and returns the value with the remaining bytes.
 ///
@@ -32,6 +32,35 @@ pub(crate) fn read_marked<'a, T: Readable<'a, A, G>, A: Allocator + Copy, G: Gra
     }
     let (value, rest) = T::read(rest, alloc)?;
     Ok((value, rest))
+}
+
+/// Skips the byte `mark` and the value after it.
+///
+/// # Proved
+///
+/// After `Ok`: `found`. After an error: `none`, the bytes do not begin with such an encoding, unless the cause is `Memory`.
+///
+/// ```text
+/// ensures found { IfOk result
+///     (λ rest. (x : P.Value) × Decodes (prefixed (mark ∷ []) P.format)
+///         (padded_of G.grammar) bytes.now x rest.now) }
+/// ensures none { IfErr result
+///     (λ e. e.cause ≢ Memory → Rejects (prefixed (mark ∷ []) P.format)
+///         (padded_of G.grammar) bytes.now) }
+/// ```
+///
+/// Definitions: [`Decodes`](crate::definitions::base::decoding::Decodes), [`prefixed`](crate::definitions::base::formats::prefixed), [`padded_of`](crate::definitions::base::numbers::padded_of), [`Rejects`](crate::definitions::base::decoding::Rejects). [How to read clauses](crate::definitions).
+pub(crate) fn skip_marked<'a, P: Skip<'a, A, G>, A: Allocator + Copy, G: Grammar>(
+    mark: u8,
+    bytes: &'a [u8],
+    alloc: A,
+) -> Result<&'a [u8], DecodeError> {
+    let (first, after) = <u8 as Readable<'a, A, G>>::read(bytes, alloc)?;
+    if first != mark {
+        return Err(ReadFault::UnknownTag.just_before(after));
+    }
+    let rest = P::skip(after, alloc)?;
+    Ok(rest)
 }
 
 /// Minimizes the byte `mark` and the value after it.

@@ -1,8 +1,10 @@
 // Written by tools/to-rust from crates/wasm_reader/src/counts.rt: change that.
 // Counts the items of a section without keeping them.
 
+use crate::reader::kinds::{SectionKind, read_content};
 use crate::alloc::Allocator;
 use crate::base::{DecodeError, Grammar, ReadFault, Skip, skip_many};
+use crate::custom::{check_dylink, check_features, check_hints, check_instances, check_links, check_modules, check_names, check_producers, check_relocations, check_stack};
 
 /// Skips the members of a vector that occupies all of the bytes, and returns their number.
 ///
@@ -30,5 +32,43 @@ pub(crate) fn count_skipped<'a, P: Skip<'a, A, G>, A: Allocator + Copy, G: Gramm
         Ok(Some(count))
     } else {
         Err(ReadFault::SizeMismatch.at(rest))
+    }
+}
+
+/// Checks the payload of a section of this kind, and keeps no list of items.
+///
+/// # Proved
+///
+/// After `Ok`: `found`. After an error: `none`, the bytes as a whole are no such encoding, unless the cause is `Memory`.
+///
+/// ```text
+/// ensures found { OnOk result
+///     ((x : Contents) × content kind (padded_of G.grammar) bytes.now x) }
+/// ensures none { IfErr result
+///     (λ e. e.cause ≢ Memory → RejectsWhole (content kind)
+///         (padded_of G.grammar) bytes.now) }
+/// ```
+///
+/// Definitions: [`Contents`](crate::definitions::reader::kinds::Contents), [`content`](crate::definitions::reader::kinds::content), [`padded_of`](crate::definitions::base::numbers::padded_of), [`RejectsWhole`](crate::definitions::base::continuing::RejectsWhole). [How to read clauses](crate::definitions).
+pub(crate) fn check_content<'a, A: Allocator + Copy, G: Grammar>(
+    kind: SectionKind,
+    bytes: &'a [u8],
+    alloc: A,
+) -> Result<(), DecodeError> {
+    match kind {
+        SectionKind::Names => check_names::<A, G>(bytes, alloc),
+        SectionKind::Linking => check_links::<A, G>(bytes, alloc),
+        SectionKind::Producers => check_producers::<A, G>(bytes, alloc),
+        SectionKind::Hints => check_hints::<A, G>(bytes, alloc),
+        SectionKind::CoreModules => check_modules::<A, G>(bytes, alloc),
+        SectionKind::CoreInstances => check_instances::<A, G>(bytes, alloc),
+        SectionKind::CoreStack => check_stack::<A, G>(bytes, alloc),
+        SectionKind::TargetFeatures => check_features::<A, G>(bytes, alloc),
+        SectionKind::Dylink => check_dylink::<A, G>(bytes, alloc),
+        SectionKind::Relocations => check_relocations::<A, G>(bytes, alloc),
+        _ => {
+            drop(read_content::<A, G>(kind, bytes, alloc)?);
+            Ok(())
+        }
     }
 }

@@ -353,7 +353,8 @@ impl<'a, A: Allocator + Copy> Section<'a, A> {
 
     /// Returns the number of items, or `None` if they are not counted: those of custom sections,
     /// and of sections of ids above 13. The items of a type section are its entries, and a
-    /// recursion group is one entry.
+    /// recursion group is one entry. The call decodes the payload, and keeps no list of items: as
+    /// tests show, it requests no memory.
     ///
     /// # Errors
     ///
@@ -438,12 +439,12 @@ impl<'a, A: Allocator + Copy> Section<'a, A> {
             )),
         }
     }
+
     /// Appends the payload in its minimal encoding. In the standard's grammar a nullable reference
     /// to an abstract type has one byte, for example. On an error, the bytes of the sink are
     /// unchanged.
     ///
-    /// Core items are decoded one by one, and not kept; so are the subsections of a linking
-    /// section. The items of other custom sections are allocated, and then dropped.
+    /// Items are decoded one by one, and not kept.
     ///
     /// # Errors
     ///

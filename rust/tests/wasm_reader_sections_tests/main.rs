@@ -25,6 +25,9 @@ mod called;
 mod checks;
 #[cfg(test)]
 #[rustfmt::skip]
+mod counts;
+#[cfg(test)]
+#[rustfmt::skip]
 mod custom_rows;
 #[cfg(test)]
 #[rustfmt::skip]

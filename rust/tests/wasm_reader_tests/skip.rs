@@ -2,10 +2,11 @@
 // Tests of values that are skipped and not kept: each request for memory would fail, so that none
 // is made.
 
+use dolzhytik::fallible::Vec;
 use crate::checks::{check_cause, check_left};
 use crate::host::Abort;
 use crate::test_support::{Heap, Refusing};
-use dolzhytik::reader::{Dropped, Padded, ReadFault, Skip, skip_many};
+use dolzhytik::reader::{Dropped, Padded, ReadFault, SizePrefixed, Skip, check_to_end, check_whole, skip_many};
 use dolzhytik::fallible::ValType;
 use dolzhytik::reader::{Body, Expression};
 
@@ -74,6 +75,46 @@ fn many() {
         Err(error) => Some(error.cause()),
     };
     check_cause(&rt, short, ReadFault::Ended);
+}
+
+#[test]
+fn lists_and_payloads() {
+    let rt = crate::host::HostRuntime;
+    let heap = Refusing::new(rt.alloc());
+    check::<Vec<Dropped<u32>, Heap>>(&rt, &heap, &[2, 0x85, 0x00, 6, 9], 1);
+    check::<SizePrefixed<Dropped<u32>>>(&rt, &heap, &[0x82, 0x00, 0x85, 0x00, 9, 9], 2);
+    check_none::<Vec<Dropped<u32>, Heap>>(&rt, &heap, &[2, 5], ReadFault::Ended);
+    check_none::<SizePrefixed<Dropped<u32>>>(&rt, &heap, &[2, 5, 9, 9], ReadFault::SizeMismatch);
+    check_none::<SizePrefixed<Dropped<u32>>>(&rt, &heap, &[1, 0x85, 0x00], ReadFault::Ended);
+}
+
+fn check_all(rt: &impl Abort, given: Option<ReadFault>, expected: Option<ReadFault>) {
+    assert_eq!(rt; given, expected);
+}
+
+#[test]
+fn values_of_all_bytes() {
+    let rt = crate::host::HostRuntime;
+    let heap = Refusing::new(rt.alloc());
+    heap.refuse_all();
+    let whole = [
+        (&[0x85, 0x00][..], None),
+        (&[], Some(ReadFault::Ended)),
+        (&[5, 6], Some(ReadFault::SizeMismatch)),
+    ];
+    for (bytes, expected) in whole {
+        let error = check_whole::<Dropped<u32>, Heap, Padded>(bytes, &heap).err();
+        check_all(&rt, error.map(|error| error.cause()), expected);
+    }
+    let members = [
+        (&[][..], None),
+        (&[0x85, 0x00, 6], None),
+        (&[5, 0x86], Some(ReadFault::Ended)),
+    ];
+    for (bytes, expected) in members {
+        let error = check_to_end::<Dropped<u32>, Heap, Padded>(bytes, &heap).err();
+        check_all(&rt, error.map(|error| error.cause()), expected);
+    }
 }
 
 /// Expressions of one instruction: each immediate of a shape, and each list with two members.

@@ -49,9 +49,9 @@ PUBLIC_LAWS = {'wasm_reader': 'reader::laws'}
 READERS = {
     'wasm_base': {
         'Canonical', 'DecodeError', 'Dropped', 'Grammar', 'Layout', 'Minimize', 'Padded', 'ReadFault', 'Readable', 'Shared',
-        'Shorten', 'SizePrefixed', 'Skip', 'Standard', 'append_all', 'minimize_many', 'minimize_shared', 'minimize_to_end',
-        'minimize_value', 'minimize_whole', 'prefix_size_since', 'read_before', 'read_optional', 'read_to_end', 'read_whole',
-        'skip_many',
+        'Shorten', 'SizePrefixed', 'Skip', 'Standard', 'append_all', 'check_to_end', 'check_whole', 'minimize_many',
+        'minimize_shared', 'minimize_to_end', 'minimize_value', 'minimize_whole', 'prefix_size_since', 'read_before',
+        'read_optional', 'read_to_end', 'read_whole', 'skip_many',
     },
     'wasm_types': {'SubItem', 'TypeEntry'},
     'wasm_insn': {'Arg', 'Operands', 'Plain'},

@@ -1,0 +1,10 @@
+use Rattle.wasm_base.proofs.Words.{fault_stays, mapped_decodes}
+use Rattle.wasm_custom.specs.{instance_of}
+use Rattle.wasm_custom.proofs.CoreDumpLaws.{instance_none}
+use Rattle.wasm_custom.proofs.skip.CoreInstanceSkip.skip.Goals as goal
+
+pub returns-in_err-rest-clause-none : goal.returns-in_err-rest-clause-none
+returns-in_err-rest-clause-none g c = fault_stays c.from_residual.result _ c.from_residual.ensures.1 λ n. instance_none c.args.bytes.now (c.in_err-rest.ensures.none n)
+
+pub returns-clause-found : goal.returns-clause-found
+returns-clause-found g c = (instance_of c.in_ok-rest.ensures.found.0, mapped_decodes instance_of c.in_ok-rest.ensures.found.1)
