@@ -1,5 +1,4 @@
 use Rattle.wasm_base.proofs.Faults.{if_err_more}
-use Rattle.wasm_reader.proofs.Common.{contents_of}
 use Rattle.wasm_reader.proofs.KindLaws.{checked_as, names_read, linking_read, producers_read, hints_read, core_modules_read, core_instances_read, core_stack_read, target_features_read, dylink_read, relocations_read}
 use Rattle.wasm_reader.proofs.counts.check_content.Goals as goal
 
@@ -64,4 +63,4 @@ pub returns-in-Relocations-clause-none : goal.returns-in-Relocations-clause-none
 returns-in-Relocations-clause-none g c = if_err_more c.check_relocations.result (λ e f n. (relocations_read _ c.args.kind c.args.bytes.now c.in-Relocations.is).0 (f n)) c.check_relocations.ensures.none
 
 pub returns-in_ok-read_content-in_default-clause-found : goal.returns-in_ok-read_content-in_default-clause-found
-returns-in_ok-read_content-in_default-clause-found g c = (contents_of c.in_ok-read_content-in_default.value, c.in_ok-read_content-in_default.ensures.found)
+returns-in_ok-read_content-in_default-clause-found g c = (_, c.in_ok-read_content-in_default.ensures.found)
