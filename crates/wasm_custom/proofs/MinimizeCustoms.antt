@@ -4,7 +4,7 @@ use Rattle.wasm_base.specs.Minimal.{Minimizes, MinimizesWhole, EncodesMinimally,
 use Rattle.wasm_base.proofs.GrammarLaws.{minimal_in, name_canonical}
 use Rattle.wasm_base.proofs.MinimizeLaws.{appended_then, tagged_minimizes}
 use Rattle.wasm_custom.specs.{named_payload, listing, entries, NameKind, name_kind_of, after_id, subsection, value, value_encoding, IsRelocationsName, relocation, relocations_payload}
-use Rattle.wasm_custom.specs.Names.{NameItem, kind_as}
+use Rattle.wasm_custom.specs.Names.{kind_as}
 use Rattle.wasm_custom.specs.declared.names.NameKind.{NameKind as ReadKind}
 use Rattle.wasm_custom.proofs.CoreStackLaws.{value_encodes, value_is}
 use Rattle.wasm_custom.proofs.DecodeMarked.{marked_decodes}
@@ -86,12 +86,6 @@ module _ (w : Grammar) (k : NameKind) {b : ℕ} {bytes rest : List ℕ} (h : Dec
 -- The kind of the content is known.
 pub of_known : {w : Grammar} (id : ℕ) {bytes rest old new : List ℕ} {k : ReadKind} (known : ReadKind) → k ≡ known → Minimizes w (after_id (kind_as known) id) bytes rest old new → Minimizes w (after_id (kind_as k) id) bytes rest old new
 of_known {w} id {bytes} {rest} {old} {new} known e m = subst (λ z. Minimizes w (after_id (kind_as z) id) bytes rest old new) (sym e) m
-
-pub known_decodes : (w : Grammar) (id : ℕ) {bytes rest : List ℕ} {k : ReadKind} (known : ReadKind) → k ≡ known → (x : NameItem) → Decodes (after_id (kind_as known) id) (padded_of w) bytes x rest → (x : NameItem) × Decodes (after_id (kind_as k) id) (padded_of w) bytes x rest
-known_decodes w id {bytes} {rest} known e x h = (x, subst (λ z. Decodes (after_id (kind_as z) id) (padded_of w) bytes x rest) (sym e) h)
-
-pub not_known : (w : Grammar) (id : ℕ) {bytes : List ℕ} {k : ReadKind} (known : ReadKind) → k ≡ known → Rejects (after_id (kind_as known) id) (padded_of w) bytes → Rejects (after_id (kind_as k) id) (padded_of w) bytes
-not_known w id {bytes} known e n = subst (λ z. Rejects (after_id (kind_as z) id) (padded_of w) bytes) (sym e) n
 
 -- ---- relocations
 

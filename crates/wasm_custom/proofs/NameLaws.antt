@@ -1,6 +1,6 @@
 -- This file proves that name sections are unambiguous, and how they are decoded and minimized.
 use Rattle.wasm_base.proofs.Words.{◌≡◌, ℕ, List, [], length, Bool, true, false, cond, eqb, refl, sym, ap, subst, ◌∙◌, arith, length-append, ◌∷◌, ◌++◌, take, drop, eqb-true, ItemLaws, u32, any_bytes}
-use Rattle.wasm_base.proofs.Words.{name, pair, fixed, Format, byte, just, size_prefixed, mapped, members, Mode, minimal, padded, unsigned_encoding, HasEncodings, Unambiguous, Decodes, Rejects}
+use Rattle.wasm_base.proofs.Words.{Grammar, padded_of, name, pair, fixed, Format, byte, just, size_prefixed, mapped, members, Mode, minimal, padded, unsigned_encoding, HasEncodings, Unambiguous, Decodes, Rejects}
 use Rattle.wasm_base.proofs.Words.{size_prefixed_encoding, HasEncodableSize, vec_encoding, IsEncodableVec, name_unambiguous, DeterminesTag, mapped_unambiguous, mapped_whole, pair_unambiguous}
 use Rattle.wasm_base.proofs.Words.{vec_unambiguous, size_prefixed_unambiguous, whole_from_unique, byte_unambiguous, any_bytes_whole, tagged_unambiguous, fixed_unambiguous, u32_unambiguous}
 use Rattle.wasm_base.proofs.Words.{tagged_encodes, u32_encodes, name_encodes, vec_encodes, size_prefixed_in, size_prefixed_encodes, ascii, pair_encodes, tagged_begins, RejectsWhole, tagged_decodes}
@@ -8,7 +8,8 @@ use Rattle.wasm_base.proofs.Words.{tagged_none, tagged_rejects, filled_decodes, 
 use Rattle.wasm_base.proofs.Words.{behind_encodable, encoding_appended, tagged_appended, mapped_appended, size_prefixed_appended, SectionLaws}
 use Rattle.wasm_custom.specs.{subsection_encoding, CustomLayoutLaws, Naming, Inside, naming_encoding, inside_encoding, IsNaming, IsInside, naming, name_map, indirect_map, NameItem, Module, Map}
 use Rattle.wasm_custom.specs.{Indirect, Other, NameKind, of_module, of_map, of_indirect, of_other, is_one_of, map_ids, indirect_ids, name_kind_of, after_id, subsection, name_encoding, IsName}
-use Rattle.wasm_custom.specs.{name_name, name_items, inside, id_of, held_by, name_payload}
+use Rattle.wasm_custom.specs.{name_name, name_items, inside, id_of, held_by, name_payload, kind_as}
+use Rattle.wasm_custom.specs.declared.names.NameKind.{NameKind as ReadKind}
 use Rattle.wasm_custom.proofs.CustomLaws.{content_encodable}
 use Rattle.wasm_custom.proofs.DecodeNamed.{named_none, items_fill, no_items}
 use Rattle.wasm_custom.proofs.EntriesLaws.{entries_laws, items_appended, items_encoded}
@@ -148,6 +149,14 @@ pub other_fills : (m : Mode) (bytes : List ℕ) (id : ℕ) → inside of_other i
 other_fills m bytes id = (bytes, refl, refl)
 
 pub ruleset kind_steps = (module_fills, no_module, map_fills, no_map, indirect_fills, no_indirect, other_fills)
+
+-- ---- the kind of the content is known
+
+pub known_decodes : (w : Grammar) (id : ℕ) {bytes rest : List ℕ} {k : ReadKind} (known : ReadKind) → k ≡ known → (x : NameItem) → Decodes (after_id (kind_as known) id) (padded_of w) bytes x rest → (x : NameItem) × Decodes (after_id (kind_as k) id) (padded_of w) bytes x rest
+known_decodes w id {bytes} {rest} known e x h = (x, subst (λ z. Decodes (after_id (kind_as z) id) (padded_of w) bytes x rest) (sym e) h)
+
+pub not_known : (w : Grammar) (id : ℕ) {bytes : List ℕ} {k : ReadKind} (known : ReadKind) → k ≡ known → Rejects (after_id (kind_as known) id) (padded_of w) bytes → Rejects (after_id (kind_as k) id) (padded_of w) bytes
+not_known w id {bytes} known e n = subst (λ z. Rejects (after_id (kind_as z) id) (padded_of w) bytes) (sym e) n
 
 -- ---- subsections
 

@@ -3,7 +3,8 @@ use Rattle.wasm_base.proofs.Words.{mapped_rejects}
 use Rattle.wasm_base.proofs.MinimizeLaws.{mapped_minimizes}
 use Rattle.wasm_custom.specs.Names.{Module, Map, Indirect, Other}
 use Rattle.wasm_custom.specs.declared.names.NameKind.TheVariants as kinds
-use Rattle.wasm_custom.proofs.MinimizeCustoms.{of_known, not_known}
+use Rattle.wasm_custom.proofs.MinimizeCustoms.{of_known}
+use Rattle.wasm_custom.proofs.NameLaws.{not_known}
 use Rattle.wasm_custom.proofs.minimal_names.minimize_after_id.Goals as goal
 
 pub returns-in-Module-clause-found : goal.returns-in-Module-clause-found

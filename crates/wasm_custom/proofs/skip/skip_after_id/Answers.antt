@@ -2,7 +2,7 @@ use Rattle.wasm_base.proofs.Faults.{if_ok_more, if_err_more}
 use Rattle.wasm_base.proofs.Words.{mapped_rejects, mapped_decodes}
 use Rattle.wasm_custom.specs.Names.{Module, Map, Indirect, Other}
 use Rattle.wasm_custom.specs.declared.names.NameKind.TheVariants as kinds
-use Rattle.wasm_custom.proofs.MinimizeCustoms.{known_decodes, not_known}
+use Rattle.wasm_custom.proofs.NameLaws.{known_decodes, not_known}
 use Rattle.wasm_custom.proofs.skip.skip_after_id.Goals as goal
 
 pub returns-in-Module-clause-found : goal.returns-in-Module-clause-found
