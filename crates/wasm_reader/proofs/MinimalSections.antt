@@ -3,7 +3,7 @@ use Rattle.wasm_reader.specs.{Contents, Bodies, Segments, DataCount, Elements, E
 use Rattle.wasm_reader.specs.{CoreModules, CoreInstances, CoreStack, Custom, Raw, TargetFeatures, SourceMappingUrl, ExternalDebugInfo, BuildId, Dylink, Relocations, content, kind_in, section, TakesIn, ShortensIn, HaveOneEncoding}
 use Rattle.wasm_reader.specs.declared.kinds.SectionKind.{SectionKind}
 use Rattle.wasm_reader.proofs.KindLaws.{content_whole, kind_is}
-use Rattle.wasm_base.proofs.Words.{◌≡◌, ◌≢◌, ◌↔◌, ℕ, ◌+◌, List, [], ◌++◌, length, refl, sym, ap, subst, ◌∙◌, arith, append_cancel_left, minimal, padded, standard_minimal, standard, Grammar, builders, minimal_of, padded_of}
+use Rattle.wasm_base.proofs.Words.{◌≡◌, ◌≢◌, ◌↔◌, ℕ, ◌+◌, List, [], ◌++◌, length, refl, sym, ap, subst, ◌∙◌, arith, append_cancel_left, padded, standard_minimal, standard, Grammar, builders, minimal_of, padded_of}
 use Rattle.wasm_base.proofs.Words.{Format, u32, mapped, vec, size_prefixed, Result, OnOk, Unambiguous, IsIncludedIn, size_prefixed_unambiguous, decodes_same, AppendsMinimal, on_ok, u32_unambiguous}
 use Rattle.wasm_base.specs.Faults.{Failure}
 use Rattle.wasm_base.specs.Minimal.{AreSameInBoth, IsShared, padded_twins, Minimizes, MinimizesWhole}

@@ -2,13 +2,15 @@
 ghost use Rattle.std.specs.Prelude.{◌≡◌, ◌≢◌, List, length, Some, IfOk, IfErr, OnOk};
 ghost use Rattle.wasm_base.specs.Formats.{vec};
 ghost use Rattle.wasm_base.specs.Continuing.{RejectsWhole};
-ghost use Rattle.wasm_base.specs.Numbers.{padded_of};
+ghost use Rattle.wasm_base.specs.Numbers.{padded_of, standard};
 ghost use Rattle.wasm_base.specs.declared.fault.ReadFault.TheVariants.{Memory};
-ghost use Rattle.wasm_reader.specs.Kinds.{Contents, content};
+ghost use Rattle.wasm_reader.specs.Kinds.{Contents, content, number_in};
+ghost use Rattle.wasm_reader.specs.Outlines.{section_of, section_kind_of};
 
-use crate::kinds::{SectionKind, read_content};
+use crate::kinds::{SectionKind, read_content, read_number};
+use crate::standing::Standing;
 use std::alloc::Allocator;
-use wasm_base::{DecodeError, Grammar, ReadFault, Skip, skip_many};
+use wasm_base::{DecodeError, Grammar, ReadFault, Skip, Standard, skip_many};
 use wasm_custom::{
     check_dylink, check_features, check_hints, check_instances, check_links, check_modules,
     check_names, check_producers, check_relocations, check_stack,
@@ -55,5 +57,23 @@ pub(crate) fn check_content<'a, A: Allocator + Copy, G: Grammar>(
             drop(read_content::<A, G>(kind, bytes, alloc)?);
             Ok(())
         }
+    }
+}
+
+/// Returns the number of items of a section, or `None` if they are not counted. The payload of a
+/// custom section is checked.
+pub(crate) fn count_items<A: Allocator + Copy>(
+    standing: &Standing<'_>,
+    alloc: A,
+) -> Result<Option<u32>, DecodeError>
+    ensures found { IfOk result (λ number. (x : Contents) × content (section_kind_of (section_of standing.now)) standard standing.now.payload.now x × (number ≡ number_in x)) }
+    ensures none { IfErr result (λ e. e.cause ≢ Memory → RejectsWhole (content (section_kind_of (section_of standing.now))) standard standing.now.payload.now) }
+{
+    let kind = standing.kind();
+    if standing.id == 0 {
+        check_content::<A, Standard>(kind, standing.payload, alloc)?;
+        Ok(None)
+    } else {
+        read_number::<A, Standard>(kind, standing.payload, alloc)
     }
 }

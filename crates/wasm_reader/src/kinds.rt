@@ -8,7 +8,7 @@ ghost use Rattle.wasm_base.specs.declared.refused.Refused.TheVariants.{TooLong};
 ghost use Rattle.wasm_reader.specs.Kinds.{Contents, Custom, content, contents_of, kind_among_names, kind_in, kind_named, known_names, kind_numbered, kind_of_id as kind_among_ids, number_in};
 ghost use Rattle.wasm_reader.specs.declared.kinds.SectionKind.TheVariants as kinds;
 
-use crate::counts::{check_content, count_skipped};
+use crate::counts::count_skipped;
 use std::alloc::{Allocator, Global};
 use wasm_base::{DecodeError, Dropped, Encode, Grammar, Readable, Result, Shorten, read_whole};
 use wasm_code::Body;
@@ -316,7 +316,8 @@ pub(crate) fn read_content<'a, A: Allocator + Copy + 'a, G: Grammar>(
     }
 }
 
-/// Returns the number of items in the payload of a section of this kind. No list of items is kept.
+/// Returns the number of items in the payload of a section of this kind. Only a custom section is
+/// decoded to a list of items.
 #[tactic(auto, using(crate::proofs::KindLaws::number_steps))]
 pub(crate) fn read_number<'a, A: Allocator + Copy, G: Grammar>(
     kind: SectionKind,
@@ -343,7 +344,7 @@ pub(crate) fn read_number<'a, A: Allocator + Copy, G: Grammar>(
             Ok(Some(1))
         }
         _ => {
-            check_content::<A, G>(kind, bytes, alloc)?;
+            drop(read_content::<A, G>(kind, bytes, alloc)?);
             Ok(None)
         }
     }

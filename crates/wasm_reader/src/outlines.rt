@@ -6,9 +6,10 @@ ghost use Rattle.wasm_base.specs.Numbers.{padded};
 ghost use Rattle.wasm_base.specs.declared.fault.ReadFault.TheVariants.{Memory};
 ghost use Rattle.wasm_reader.specs.Outlines.{section_kind_of, IsCount, IsOutline, HasOutline, EndsAt};
 
+use crate::kinds::read_number;
 use crate::sections::{Section, Sections};
 use std::alloc::Allocator;
-use wasm_base::ReadFault;
+use wasm_base::{ReadFault, Standard};
 
 /// A section in the outline of a module.
 #[derive(Clone, Copy, PartialEq, Eq, Debug)]
@@ -35,9 +36,10 @@ fn count<A: Allocator + Copy>(section: &Section<'_, A>) -> Result<Option<u32>, R
     if section.id() == 0 {
         return Ok(None);
     }
-    match section.count() {
+    let kind = section.standing().kind();
+    match read_number::<A, Standard>(kind, section.payload(), section.allocator()) {
         Ok(count) => Ok(count),
-        Err(error) if error.cause == ReadFault::Memory => Err(ReadFault::Memory),
+        Err(error) if error.cause() == ReadFault::Memory => Err(ReadFault::Memory),
         Err(_) => Ok(None),
     }
 }

@@ -11,7 +11,8 @@ ghost use Rattle.wasm_reader.specs.Kinds.{Contents, content, contents_of, number
 ghost use Rattle.wasm_reader.specs.Outlines.{section_of, section_kind_of, bytes_of, IsSection, IsDataOf};
 ghost use Rattle.wasm_reader.specs.Iterating.{Iterating, Located, ahead, end_of, known_kind_of, IsInPayload, NextSection};
 
-use crate::kinds::{Items, SectionKind, read_content, read_number};
+use crate::counts::count_items;
+use crate::kinds::{Items, SectionKind, read_content};
 use crate::minimal::minimize_content;
 use crate::modules::{HEADER, read_header};
 use crate::read_error::ReadError;
@@ -253,13 +254,10 @@ impl<'a, A: Allocator + Copy> Section<'a, A> {
         ensures none { IfErr result (λ e. e.cause ≢ Memory → RejectsWhole (content (section_kind_of self.now.section)) standard self.now.section.payload) }
         ensures within { IfErr result (λ e. IsInPayload self.now e.offset) }
     {
-        match read_number::<A, Standard>(self.standing.kind(), self.standing.payload, self.alloc) {
+        let payload = self.standing.payload;
+        match count_items::<A>(&self.standing, self.alloc) {
             Ok(number) => Ok(number),
-            Err(error) => Err(ReadError::located(
-                error,
-                self.standing.payload.len(),
-                self.range().end,
-            )),
+            Err(error) => Err(ReadError::located(error, payload.len(), self.range().end)),
         }
     }
 
@@ -291,7 +289,7 @@ impl<'a, A: Allocator + Copy> Section<'a, A> {
     /// to an abstract type has one byte, for example. On an error, the bytes of the sink are
     /// unchanged.
     ///
-    /// Items are decoded one by one, and not kept.
+    /// Items are decoded one by one and, as measured, not kept.
     ///
     /// ```text
     /// let mut payload = Vec::new(alloc);

@@ -1,9 +1,10 @@
 // Written by tools/to-rust from crates/wasm_reader/src/counts.rt: change that.
 // Counts the items of a section without keeping them.
 
-use crate::reader::kinds::{SectionKind, read_content};
+use crate::reader::kinds::{SectionKind, read_content, read_number};
+use crate::reader::standing::Standing;
 use crate::alloc::Allocator;
-use crate::base::{DecodeError, Grammar, ReadFault, Skip, skip_many};
+use crate::base::{DecodeError, Grammar, ReadFault, Skip, Standard, skip_many};
 use crate::custom::{check_dylink, check_features, check_hints, check_instances, check_links, check_modules, check_names, check_producers, check_relocations, check_stack};
 
 /// Skips the members of a vector that occupies all of the bytes, and returns their number.
@@ -70,5 +71,37 @@ pub(crate) fn check_content<'a, A: Allocator + Copy, G: Grammar>(
             drop(read_content::<A, G>(kind, bytes, alloc)?);
             Ok(())
         }
+    }
+}
+
+/// Returns the number of items of a section, or `None` if they are not counted. The payload of a
+/// custom section is checked.
+///
+/// # Proved
+///
+/// After `Ok`: `found`. After an error: `none`, the bytes as a whole are no such encoding, unless the cause is `Memory`.
+///
+/// ```text
+/// ensures found { IfOk result
+///     (λ number. (x : Contents)
+///         × content (section_kind_of (section_of standing.now)) standard
+///         standing.now.payload.now x × (number ≡ number_in x)) }
+/// ensures none { IfErr result
+///     (λ e. e.cause ≢ Memory → RejectsWhole
+///         (content (section_kind_of (section_of standing.now))) standard
+///         standing.now.payload.now) }
+/// ```
+///
+/// Definitions: [`Contents`](crate::definitions::reader::kinds::Contents), [`content`](crate::definitions::reader::kinds::content), [`section_kind_of`](crate::definitions::reader::outlines::section_kind_of), [`section_of`](crate::definitions::reader::outlines::section_of), [`standard`](crate::definitions::base::numbers::Mode), [`number_in`](crate::definitions::reader::kinds::number_in), [`RejectsWhole`](crate::definitions::base::continuing::RejectsWhole). [How to read clauses](crate::definitions).
+pub(crate) fn count_items<A: Allocator + Copy>(
+    standing: &Standing<'_>,
+    alloc: A,
+) -> Result<Option<u32>, DecodeError> {
+    let kind = standing.kind();
+    if standing.id == 0 {
+        check_content::<A, Standard>(kind, standing.payload, alloc)?;
+        Ok(None)
+    } else {
+        read_number::<A, Standard>(kind, standing.payload, alloc)
     }
 }

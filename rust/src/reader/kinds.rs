@@ -2,7 +2,7 @@
 // Kinds of sections: the reader and the minimizer of each.
 
 use crate::vec::{Sink, Vec};
-use crate::reader::counts::{check_content, count_skipped};
+use crate::reader::counts::count_skipped;
 use crate::alloc::{Allocator, Global};
 use crate::base::{DecodeError, Dropped, Encode, Grammar, Readable, Result, Shorten, read_whole};
 use crate::code::Body;
@@ -404,7 +404,8 @@ pub(crate) fn read_content<'a, A: Allocator + Copy + 'a, G: Grammar>(
     }
 }
 
-/// Returns the number of items in the payload of a section of this kind. No list of items is kept.
+/// Returns the number of items in the payload of a section of this kind. Only a custom section is
+/// decoded to a list of items.
 ///
 /// # Proved
 ///
@@ -442,7 +443,7 @@ pub(crate) fn read_number<'a, A: Allocator + Copy, G: Grammar>(
             Ok(Some(1))
         }
         _ => {
-            check_content::<A, G>(kind, bytes, alloc)?;
+            drop(read_content::<A, G>(kind, bytes, alloc)?);
             Ok(None)
         }
     }

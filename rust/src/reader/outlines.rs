@@ -2,9 +2,10 @@
 // Outlines a module: lists its sections, whether their payloads decode or not.
 
 use crate::vec::Vec;
+use crate::reader::kinds::read_number;
 use crate::reader::sections::{Section, Sections};
 use crate::alloc::Allocator;
-use crate::base::ReadFault;
+use crate::base::{ReadFault, Standard};
 
 /// A section in the outline of a module.
 ///
@@ -60,9 +61,10 @@ fn count<A: Allocator + Copy>(section: &Section<'_, A>) -> Result<Option<u32>, R
     if section.id() == 0 {
         return Ok(None);
     }
-    match section.count() {
+    let kind = section.standing().kind();
+    match read_number::<A, Standard>(kind, section.payload(), section.allocator()) {
         Ok(count) => Ok(count),
-        Err(error) if error.cause == ReadFault::Memory => Err(ReadFault::Memory),
+        Err(error) if error.cause() == ReadFault::Memory => Err(ReadFault::Memory),
         Err(_) => Ok(None),
     }
 }

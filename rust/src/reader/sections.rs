@@ -2,7 +2,8 @@
 // Iterates over the sections of a module.
 
 use crate::vec::Sink;
-use crate::reader::kinds::{Items, SectionKind, read_content, read_number};
+use crate::reader::counts::count_items;
+use crate::reader::kinds::{Items, SectionKind, read_content};
 use crate::reader::minimal::minimize_content;
 use crate::reader::modules::{HEADER, read_header};
 use crate::reader::read_error::ReadError;
@@ -392,13 +393,10 @@ impl<'a, A: Allocator + Copy> Section<'a, A> {
     ///
     /// Definitions: [`Contents`](crate::definitions::reader::kinds::Contents), [`content`](crate::definitions::reader::kinds::content), [`section_kind_of`](crate::definitions::reader::outlines::section_kind_of), [`standard`](crate::definitions::base::numbers::Mode), [`number_in`](crate::definitions::reader::kinds::number_in), [`RejectsWhole`](crate::definitions::base::continuing::RejectsWhole), [`IsInPayload`](crate::definitions::reader::iterating::IsInPayload). [How to read clauses](crate::definitions).
     pub fn count(&self) -> Result<Option<u32>, ReadError> {
-        match read_number::<A, Standard>(self.standing.kind(), self.standing.payload, self.alloc) {
+        let payload = self.standing.payload;
+        match count_items::<A>(&self.standing, self.alloc) {
             Ok(number) => Ok(number),
-            Err(error) => Err(ReadError::located(
-                error,
-                self.standing.payload.len(),
-                self.range().end,
-            )),
+            Err(error) => Err(ReadError::located(error, payload.len(), self.range().end)),
         }
     }
 
@@ -444,7 +442,7 @@ impl<'a, A: Allocator + Copy> Section<'a, A> {
     /// to an abstract type has one byte, for example. On an error, the bytes of the sink are
     /// unchanged.
     ///
-    /// Items are decoded one by one, and not kept.
+    /// Items are decoded one by one and, as measured, not kept.
     ///
     /// # Errors
     ///
