@@ -3,6 +3,7 @@
 
 mod grammar;
 mod maker;
+#[allow(dead_code)] // package.rs uses more of it
 mod plain;
 
 use grammar::{Grammar, KINDS};
