@@ -3,8 +3,7 @@ use Rattle.std.specs.Prelude.{◌≡◌, ◌==◌, if◌then◌else◌, ℕ, ◌
 use Rattle.wasm_base.specs.declared.fault.ReadFault.{ReadFault}
 use Rattle.wasm_base.specs.declared.fault.ReadFault.TheVariants.{Ended, NotShortest, TooLarge, UnknownTag, UnknownOpcode, NotUtf8, SizeMismatch, Memory}
 
--- A failed decoding: its cause, and how many bytes of the input are left. No contract determines
--- that number.
+-- A failed decoding: its cause, and how many bytes of the input are left.
 pub record Failure : Type 0 where
   pub cause : ReadFault
   pub left : ℕ

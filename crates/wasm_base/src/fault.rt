@@ -1,5 +1,6 @@
 // The errors of calls that decode.
-ghost use Rattle.std.specs.Prelude.{◌≡◌};
+ghost use Rattle.std.specs.Prelude.{◌≡◌, ◌+◌, length, min};
+ghost use Rattle.wasm_base.specs.Encodings.{longest};
 ghost use Rattle.wasm_base.specs.declared.fault.ReadFault.TheVariants.{Memory};
 
 use crate::refused::Refused;
@@ -15,7 +16,8 @@ pub enum ReadFault {
     /// The bytes end before the value does.
     #[error("unexpected end of input")]
     Ended,
-    /// A number is padded. No call returns it, since padded numbers are accepted.
+    /// A number is padded. The decoders here accept padded numbers; the cause is for callers' own
+    /// decoders that do not.
     #[error("padded integer")]
     NotShortest,
     /// A number is out of the range of its type, or has more bytes than the type's limit.
@@ -64,25 +66,31 @@ impl Model for DecodeError {
 }
 
 /// Returns the length of the bytes, or 4294967295 if it is greater.
-fn length(bytes: &[u8]) -> u32 {
+fn length(bytes: &[u8]) -> u32
+    ensures { result ≡ min (length bytes.now) longest }
+{
     u32::try_from(bytes.len()).unwrap_or(u32::MAX)
 }
 
 impl ReadFault {
-    /// Returns the error with this cause at the first of the remaining bytes.
+    /// Returns the error with this cause at the first of the remaining bytes. At most 4294967295
+    /// bytes are counted.
     #[cold]
     #[inline(never)]
     pub fn at(self, rest: &[u8]) -> DecodeError
-        ensures { result.cause ≡ self }
+        ensures cause { result.cause ≡ self }
+        ensures left { result.left ≡ min (length rest.now) longest }
     {
         DecodeError::new(self, length(rest))
     }
 
-    /// Returns the error with this cause at the byte just before the remaining bytes.
+    /// Returns the error with this cause at the byte just before the remaining bytes. At most
+    /// 4294967295 bytes are counted.
     #[cold]
     #[inline(never)]
     pub fn just_before(self, rest: &[u8]) -> DecodeError
-        ensures { result.cause ≡ self }
+        ensures cause { result.cause ≡ self }
+        ensures left { result.left ≡ min (length rest.now + 1) longest }
     {
         DecodeError::new(self, length(rest).saturating_add(1))
     }
@@ -121,17 +129,20 @@ impl DecodeError {
     /// prefix `reloc.`, the first byte of an unknown opcode, the last size byte of a section name
     /// of another length, and the end of a payload that ends too soon.
     ///
-    /// The number saturates at 4294967295, and means nothing for `Memory`. Tests show where the
-    /// count begins; no contract says it.
+    /// The number saturates at 4294967295, and means nothing for `Memory`. Contracts say what
+    /// [`at`](ReadFault::at), [`just_before`](ReadFault::just_before) and
+    /// [`before`](DecodeError::before) count. Tests show which byte each decoder reports.
     pub fn left(self) -> u32
         ensures { result ≡ self.left }
     {
         (self.word / 256) as u32
     }
 
-    /// Returns the error of a decoder whose input is followed by these bytes.
+    /// Returns the error of a decoder whose input is followed by these bytes, which it counts as
+    /// left too. At most 4294967295 bytes are counted.
     pub fn before(self, rest: &[u8]) -> DecodeError
-        ensures { result.cause ≡ self.cause }
+        ensures cause { result.cause ≡ self.cause }
+        ensures left { result.left ≡ min (self.left + length rest.now) longest }
     {
         DecodeError::new(self.cause(), self.left().saturating_add(length(rest)))
     }

@@ -36,6 +36,8 @@ ghost use Rattle.wasm_base.specs.declared.types.TheConstants.HeapType.{FUNC, EXT
 ghost use Rattle.wasm_base.specs.declared.types.TheConstants.RefType.{FUNCREF, EXTERNREF};
 ghost use Rattle.wasm_base.specs.Encodings.{vec_encoding, IsEncodableVec, size_prefixed_encoding, HasEncodableSize, module_encoding, IsEncodableModule, little_endian_encoding};
 
+pub use self::padded as wide;
+
 /// The formats of numbers are unambiguous. `s33` is an index, encoded as a signed number.
 #[tactic(auto, using(crate::proofs::BaseLaws::numbers))]
 pub fn numbers()

@@ -1,5 +1,6 @@
 // Decoding of values that occupy all of the bytes.
-ghost use Rattle.std.specs.Prelude.{◌≢◌, IfOk, IfErr, map};
+ghost use Rattle.std.specs.Prelude.{◌≢◌, ◌≤◌, IfOk, IfErr, length, map, min};
+ghost use Rattle.wasm_base.specs.Encodings.{longest};
 ghost use Rattle.wasm_base.specs.Formats.{members};
 ghost use Rattle.wasm_base.specs.Continuing.{RejectsWhole};
 ghost use Rattle.wasm_base.specs.Numbers.{padded_of};
@@ -34,7 +35,7 @@ pub fn read_whole<'a, T: Readable<'a, A, G>, A: Allocator + Copy, G: Grammar>(
 }
 
 /// Decodes a value that occupies all of `bytes`, which `rest` follows in the input. The number of
-/// bytes left in an error includes those of `rest`.
+/// bytes left in an error includes those of `rest`, up to 4294967295.
 ///
 /// # Errors
 ///
@@ -46,6 +47,7 @@ pub fn read_before<'a, T: Readable<'a, A, G>, A: Allocator + Copy, G: Grammar>(
 ) -> Result<T, DecodeError>
     ensures found { IfOk result (λ x. T.format (padded_of G.grammar) bytes.now (T.view x)) }
     ensures none { IfErr result (λ e. e.cause ≢ Memory → RejectsWhole T.format (padded_of G.grammar) bytes.now) }
+    ensures left { IfErr result (λ e. min (length rest.now) longest ≤ e.left) }
 {
     match read_whole::<'a, T, A, G>(bytes, alloc) {
         Ok(value) => Ok(value),

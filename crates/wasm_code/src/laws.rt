@@ -19,6 +19,9 @@ ghost use Rattle.wasm_code.specs.Offsets.{OffsetLaws};
 
 use std::alloc::Allocator;
 
+pub use self::padded as wide;
+pub use self::rejections as nothing_stands;
+
 /// The format of expressions is unambiguous: an expression ends at the first `End` at which an
 /// instruction begins.
 #[tactic(auto, using(crate::proofs::CodeEncodings::expressions))]

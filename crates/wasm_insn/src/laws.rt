@@ -20,6 +20,8 @@ use crate::instruction::Instruction;
 use crate::ranged::arguments_ranged;
 use std::alloc::Allocator;
 
+pub use self::padded as wide;
+
 /// The format of opcodes is unambiguous. The opcode table has 628 rows in ascending order; one pair
 /// of neighbours shares an opcode. No opcode's bytes are a prefix of another's.
 #[tactic(auto, using(crate::proofs::InstructionLaws::opcodes))]

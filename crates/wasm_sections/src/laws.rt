@@ -32,6 +32,9 @@ use crate::memory::MemoryType;
 use crate::table::TableType;
 use std::alloc::Allocator;
 
+pub use self::padded as wide;
+pub use self::rejections as nothing_stands;
+
 /// The formats of sections and of their items are unambiguous. A well-formed record encodes its
 /// item.
 pub fn sections()

@@ -22,7 +22,8 @@ use core::fmt;
 pub enum ReadFault {
     /// The bytes end before the value does.
     Ended,
-    /// A number is padded. No call returns it, since padded numbers are accepted.
+    /// A number is padded. The decoders here accept padded numbers; the cause is for callers' own
+    /// decoders that do not.
     NotShortest,
     /// A number is out of the range of its type, or has more bytes than the type's limit.
     TooLarge,
@@ -65,35 +66,47 @@ pub struct DecodeError {
 }
 
 /// Returns the length of the bytes, or 4294967295 if it is greater.
+///
+/// # Proved
+///
+/// ```text
+/// ensures { result ≡ min (length bytes.now) longest }
+/// ```
+///
+/// Definitions: [`longest`](crate::definitions::base::encodings::longest). [How to read clauses](crate::definitions).
 fn length(bytes: &[u8]) -> u32 {
     u32::try_from(bytes.len()).unwrap_or(u32::MAX)
 }
 
 impl ReadFault {
-    /// Returns the error with this cause at the first of the remaining bytes.
+    /// Returns the error with this cause at the first of the remaining bytes. At most 4294967295
+    /// bytes are counted.
     ///
     /// # Proved
     ///
     /// ```text
-    /// ensures { result.cause ≡ self }
+    /// ensures cause { result.cause ≡ self }
+    /// ensures left { result.left ≡ min (length rest.now) longest }
     /// ```
     ///
-    /// [How to read clauses](crate::definitions).
+    /// Definitions: [`longest`](crate::definitions::base::encodings::longest). [How to read clauses](crate::definitions).
     #[cold]
     #[inline(never)]
     pub fn at(self, rest: &[u8]) -> DecodeError {
         DecodeError::new(self, length(rest))
     }
 
-    /// Returns the error with this cause at the byte just before the remaining bytes.
+    /// Returns the error with this cause at the byte just before the remaining bytes. At most
+    /// 4294967295 bytes are counted.
     ///
     /// # Proved
     ///
     /// ```text
-    /// ensures { result.cause ≡ self }
+    /// ensures cause { result.cause ≡ self }
+    /// ensures left { result.left ≡ min (length rest.now + 1) longest }
     /// ```
     ///
-    /// [How to read clauses](crate::definitions).
+    /// Definitions: [`longest`](crate::definitions::base::encodings::longest). [How to read clauses](crate::definitions).
     #[cold]
     #[inline(never)]
     pub fn just_before(self, rest: &[u8]) -> DecodeError {
@@ -144,8 +157,9 @@ impl DecodeError {
     /// prefix `reloc.`, the first byte of an unknown opcode, the last size byte of a section name
     /// of another length, and the end of a payload that ends too soon.
     ///
-    /// The number saturates at 4294967295, and means nothing for `Memory`. Tests show where the
-    /// count begins; no contract says it.
+    /// The number saturates at 4294967295, and means nothing for `Memory`. Contracts say what
+    /// [`at`](ReadFault::at), [`just_before`](ReadFault::just_before) and
+    /// [`before`](DecodeError::before) count. Tests show which byte each decoder reports.
     ///
     /// # Proved
     ///
@@ -158,15 +172,17 @@ impl DecodeError {
         (self.word / 256) as u32
     }
 
-    /// Returns the error of a decoder whose input is followed by these bytes.
+    /// Returns the error of a decoder whose input is followed by these bytes, which it counts as
+    /// left too. At most 4294967295 bytes are counted.
     ///
     /// # Proved
     ///
     /// ```text
-    /// ensures { result.cause ≡ self.cause }
+    /// ensures cause { result.cause ≡ self.cause }
+    /// ensures left { result.left ≡ min (self.left + length rest.now) longest }
     /// ```
     ///
-    /// [How to read clauses](crate::definitions).
+    /// Definitions: [`longest`](crate::definitions::base::encodings::longest). [How to read clauses](crate::definitions).
     pub fn before(self, rest: &[u8]) -> DecodeError {
         DecodeError::new(self.cause(), self.left().saturating_add(length(rest)))
     }

@@ -8,6 +8,8 @@
 //! encoding of each value that fits. No clause ranges over all formats, so each vector and each
 //! size-prefixed format has a clause of its own.
 
+pub use self::padded as wide;
+
 /// The formats of numbers are unambiguous. `s33` is an index, encoded as a signed number.
 ///
 /// # Proved

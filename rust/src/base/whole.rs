@@ -50,7 +50,7 @@ pub fn read_whole<'a, T: Readable<'a, A, G>, A: Allocator + Copy, G: Grammar>(
 }
 
 /// Decodes a value that occupies all of `bytes`, which `rest` follows in the input. The number of
-/// bytes left in an error includes those of `rest`.
+/// bytes left in an error includes those of `rest`, up to 4294967295.
 ///
 /// [`left`](crate::reader::DecodeError::left) of an error counts the bytes of `rest` too, as
 /// the example shows.
@@ -77,15 +77,16 @@ pub fn read_whole<'a, T: Readable<'a, A, G>, A: Allocator + Copy, G: Grammar>(
 ///
 /// # Proved
 ///
-/// After `Ok`: `found`, the bytes as a whole encode the value. After an error: `none`, the bytes as a whole are no such encoding, unless the cause is `Memory`.
+/// After `Ok`: `found`, the bytes as a whole encode the value. After an error: `none`, the bytes as a whole are no such encoding, unless the cause is `Memory`; `left`.
 ///
 /// ```text
 /// ensures found { IfOk result (λ x. T.format (padded_of G.grammar) bytes.now (T.view x)) }
 /// ensures none { IfErr result
 ///     (λ e. e.cause ≢ Memory → RejectsWhole T.format (padded_of G.grammar) bytes.now) }
+/// ensures left { IfErr result (λ e. min (length rest.now) longest ≤ e.left) }
 /// ```
 ///
-/// Definitions: [`padded_of`](crate::definitions::base::numbers::padded_of), [`RejectsWhole`](crate::definitions::base::continuing::RejectsWhole). [How to read clauses](crate::definitions).
+/// Definitions: [`padded_of`](crate::definitions::base::numbers::padded_of), [`RejectsWhole`](crate::definitions::base::continuing::RejectsWhole), [`longest`](crate::definitions::base::encodings::longest). [How to read clauses](crate::definitions).
 pub fn read_before<'a, T: Readable<'a, A, G>, A: Allocator + Copy, G: Grammar>(
     bytes: &'a [u8],
     rest: &[u8],

@@ -10,6 +10,9 @@
 
 use crate::alloc::Allocator;
 
+pub use self::padded as wide;
+pub use self::rejections as nothing_stands;
+
 /// The format of expressions is unambiguous: an expression ends at the first `End` at which an
 /// instruction begins.
 ///

@@ -588,7 +588,7 @@ pub trait entries {
 ///
 /// [How to read definitions](super). The file is [`Faults.antt`](https://github.com/dolzhytik/dolzhytik/blob/main/crates/wasm_base/specs/Faults.antt).
 pub trait faults {
-    /// A failed decoding: its cause, and how many bytes of the input are left. No contract determines that number.
+    /// A failed decoding: its cause, and how many bytes of the input are left.
     ///
     /// ```text
     /// pub record Failure : Type 0 where

@@ -12,6 +12,8 @@ use crate::insn::instruction::Instruction;
 use crate::insn::ranged::arguments_ranged;
 use crate::alloc::Allocator;
 
+pub use self::padded as wide;
+
 /// The format of opcodes is unambiguous. The opcode table has 628 rows in ascending order; one pair
 /// of neighbours shares an opcode. No opcode's bytes are a prefix of another's.
 ///

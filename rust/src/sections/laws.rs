@@ -12,6 +12,9 @@ use crate::sections::memory::MemoryType;
 use crate::sections::table::TableType;
 use crate::alloc::Allocator;
 
+pub use self::padded as wide;
+pub use self::rejections as nothing_stands;
+
 /// The formats of sections and of their items are unambiguous. A well-formed record encodes its
 /// item.
 ///
