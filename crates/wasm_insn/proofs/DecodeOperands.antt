@@ -2,7 +2,7 @@
 use Rattle.wasm_base.proofs.Words.{Mode, Grammar, ◌≡◌, ◌≢◌, Bool, true, false, ℕ, ℤ, ◌-◌, ◌<◌, List, [], ◌∷◌, ◌++◌, Some, None, map, length, take, drop, refl, sym, ap, subst, ◌∙◌, arith, append-nil, u32, s32, s64, Decodes, Rejects}
 use Rattle.wasm_base.specs.Numbers.{builders, admitted, padded, standard, padded_of}
 use Rattle.std.proofs.Math.Seq.{take-append_seam, drop-append_seam}
-use Rattle.std.proofs.lemmas.List.{length-append}
+use Rattle.std.proofs.lemmas.List.{length-append, take-append-drop}
 use Rattle.wasm_base.proofs.Words.{then_decodes, mapped_decodes, mapped_rejects, fixed_decodes, u32_byte}
 use Rattle.wasm_base.specs.Groups.{signed_of}
 use Rattle.wasm_base.proofs.DecodeNumbers.{s32_byte, s64_byte, u64_byte}
@@ -21,7 +21,7 @@ use Rattle.wasm_insn.specs.declared.part.Part.TheVariants as parts
 use Rattle.wasm_insn.specs.declared.operands.Operands.{Operands}
 use Rattle.wasm_insn.specs.declared.operands.Operands.TheVariants as operands
 use Rattle.wasm_insn.specs.{parts_of, Argument, unsigned, signed32, signed64, memory, block, part, arguments, cons, part_of, shape_of, opcode, instruction, table}
-use Rattle.wasm_insn.specs.{has_case, AreOperands, DecodesOperands, DecodesOperation}
+use Rattle.wasm_insn.specs.{has_case, AreOperands, AreBytesBefore, DecodesOperands, DecodesOperation}
 use Rattle.wasm_insn.proofs.PlainLaws.{arguments_unambiguous}
 use Rattle.wasm_insn.proofs.DecodeArguments.{one_rejects}
 use Rattle.wasm_insn.proofs.DecodeInstructions.{instruction_decodes, op_byte}
@@ -30,35 +30,36 @@ use Rattle.wasm_insn.proofs.DecodePlain.{arguments_are}
 -- ---- by shape
 
 -- The one immediate of a shape.
-one_immediate : {m : Mode} (shape : Shape) (p : Part) (bytes rest : List ℕ) (x : Argument) (given : Operands) → parts_of shape ≡ p ∷ [] → AreOperands given (x ∷ []) → Decodes (part p) m bytes x rest → DecodesOperands (parts_of shape) m bytes given rest
-one_immediate {m = m} shape p bytes rest x given e is h =
+one_immediate : {m : Mode} (shape : Shape) (p : Part) (bytes rest : List ℕ) (x : Argument) (given : Operands) → parts_of shape ≡ p ∷ [] → AreOperands given (x ∷ []) → AreBytesBefore given bytes rest → Decodes (part p) m bytes x rest → DecodesOperands (parts_of shape) m bytes given rest
+one_immediate {m = m} shape p bytes rest x given e is own h =
     let none : List Argument = [] in
     record {
       immediates = x ∷ none;
       decodes = subst (λ ps. Decodes (arguments ps) m bytes (x ∷ none) rest) (sym e) (mapped_decodes cons (then_decodes h (fixed_decodes rest none)));
       operands = is;
+      own = own;
     }
 
 module _ (shape : Shape) (bytes : List ℕ) where
   pub nothing_decodes : {m : Mode} → shape ≡ shapes.Nothing → DecodesOperands (parts_of shape) m bytes operands.Nothing bytes
   nothing_decodes {m = m} e =
       let none : List Argument = [] in
-      record { immediates = none; decodes = subst (λ s. Decodes (arguments (parts_of s)) m bytes none bytes) (sym e) (fixed_decodes bytes none); operands = refl }
+      record { immediates = none; decodes = subst (λ s. Decodes (arguments (parts_of s)) m bytes none bytes) (sym e) (fixed_decodes bytes none); operands = refl; own = tt {0} }
 
   pub unsigned_operand : {m : Mode} (rest : List ℕ) (n : ℕ) → shape ≡ shapes.U → Decodes u32 m bytes n rest → DecodesOperands (parts_of shape) m bytes (operands.U32 n) rest
-  unsigned_operand rest n e h = one_immediate shape parts.Unsigned bytes rest (unsigned n) (operands.U32 n) (ap parts_of e) refl (mapped_decodes unsigned h)
+  unsigned_operand rest n e h = one_immediate shape parts.Unsigned bytes rest (unsigned n) (operands.U32 n) (ap parts_of e) refl (tt {0}) (mapped_decodes unsigned h)
 
   pub signed32_operand : {m : Mode} (rest : List ℕ) (v : ℤ) → shape ≡ shapes.C32 → Decodes s32 m bytes v rest → DecodesOperands (parts_of shape) m bytes (operands.S32 v) rest
-  signed32_operand rest v e h = one_immediate shape parts.Signed32 bytes rest (signed32 v) (operands.S32 v) (ap parts_of e) refl (mapped_decodes signed32 h)
+  signed32_operand rest v e h = one_immediate shape parts.Signed32 bytes rest (signed32 v) (operands.S32 v) (ap parts_of e) refl (tt {0}) (mapped_decodes signed32 h)
 
   pub signed64_operand : {m : Mode} (rest : List ℕ) (v : ℤ) → shape ≡ shapes.C64 → Decodes s64 m bytes v rest → DecodesOperands (parts_of shape) m bytes (operands.S64 v) rest
-  signed64_operand rest v e h = one_immediate shape parts.Signed64 bytes rest (signed64 v) (operands.S64 v) (ap parts_of e) refl (mapped_decodes signed64 h)
+  signed64_operand rest v e h = one_immediate shape parts.Signed64 bytes rest (signed64 v) (operands.S64 v) (ap parts_of e) refl (tt {0}) (mapped_decodes signed64 h)
 
   pub memory_operand : {m : Mode} (rest : List ℕ) (v : MemArg) → shape ≡ shapes.M → Decodes mem_arg m bytes v rest → DecodesOperands (parts_of shape) m bytes (operands.Mem v) rest
-  memory_operand rest v e h = one_immediate shape parts.Memory bytes rest (memory v) (operands.Mem v) (ap parts_of e) refl (mapped_decodes memory h)
+  memory_operand rest v e h = one_immediate shape parts.Memory bytes rest (memory v) (operands.Mem v) (ap parts_of e) refl (tt {0}) (mapped_decodes memory h)
 
   pub block_operand : {m : Mode} (rest : List ℕ) (v : BlockType) → shape ≡ shapes.B → Decodes block_type m bytes v rest → DecodesOperands (parts_of shape) m bytes (operands.Block v) rest
-  block_operand rest v e h = one_immediate shape parts.Block bytes rest (block v) (operands.Block v) (ap parts_of e) refl (mapped_decodes block h)
+  block_operand rest v e h = one_immediate shape parts.Block bytes rest (block v) (operands.Block v) (ap parts_of e) refl (tt {0}) (mapped_decodes block h)
 
   pub unsigned_rejected : {m : Mode} → shape ≡ shapes.U → Rejects u32 m bytes → Rejects (arguments (parts_of shape)) m bytes
   unsigned_rejected e n = one_rejects shape parts.Unsigned (ap parts_of e) bytes (mapped_rejects unsigned n)
@@ -108,8 +109,10 @@ to_standard admitted ps s xs h = h
 
 -- The bytes up to the remaining ones encode the immediates that were skipped.
 pub encoded_operand : (w : Grammar) (shape : Shape) (bytes rest : List ℕ) (xs : List Argument) (given : Operands) → has_case shape ≡ false → Decodes (arguments (parts_of shape)) (padded_of w) bytes xs rest
-    → ((has_case shape ≡ false) × arguments (parts_of shape) standard (take (length bytes - length rest) bytes) xs → AreOperands given xs) → DecodesOperands (parts_of shape) (padded_of w) bytes given (drop (length bytes - length rest) bytes)
-encoded_operand w shape bytes rest xs given rare h are =
+    → ((has_case shape ≡ false) × arguments (parts_of shape) standard (take (length bytes - length rest) bytes) xs → AreOperands given xs)
+    → (bytes ≡ take (length bytes - length rest) bytes ++ drop (length bytes - length rest) bytes → AreBytesBefore given bytes (drop (length bytes - length rest) bytes))
+    → DecodesOperands (parts_of shape) (padded_of w) bytes given (drop (length bytes - length rest) bytes)
+encoded_operand w shape bytes rest xs given rare h are own =
     let n = length bytes - length rest in
     let at : n ≡ length h.front = omega (arith, ap length h.split, length-append h.front rest) in
     let taken : take n bytes ≡ h.front = ap (λ k. take k bytes) at ∙ ap (take (length h.front)) h.split ∙ take-append_seam h.front rest in
@@ -118,6 +121,7 @@ encoded_operand w shape bytes rest xs given rare h are =
       immediates = xs;
       decodes = subst (λ z. Decodes (arguments (parts_of shape)) (padded_of w) bytes xs z) (sym dropped) h;
       operands = are (rare, subst (λ z. arguments (parts_of shape) standard z xs) (sym taken) (to_standard w (parts_of shape) h.front xs h.encodes));
+      own = own (sym (take-append-drop n bytes));
     }
 
 -- A shape that is none of those with a case.
@@ -146,19 +150,15 @@ no_case shapes.K n u c d m b = refl
 no_case shapes.Uh n u c d m b = refl
 no_case shapes.Uuh n u c d m b = refl
 
-module _ (ps : List Part) (bytes : List ℕ) where
-  -- The bytes as a whole decode to no other immediates.
-  pub encoded_same : (rest : List ℕ) (xs ys : List Argument) → Decodes (arguments ps) standard bytes ys rest → arguments ps standard bytes xs → ys ≡ xs
-  encoded_same rest xs ys h e = ((arguments_unambiguous ps).unique standard h.front bytes rest [] ys xs h.encodes e (sym h.split ∙ sym (append-nil bytes))).0
-
-  pub encoded_none : Rejects (arguments ps) standard bytes → (xs : List Argument) → arguments ps standard bytes xs → ⊥
-  encoded_none n xs e = n.none xs [] (record { front = bytes; split = sym (append-nil bytes); encodes = e })
+-- The bytes as a whole decode to no other immediates.
+pub encoded_same : (ps : List Part) (bytes : List ℕ) (xs ys : List Argument) → arguments ps standard bytes ys → arguments ps standard bytes xs → ys ≡ xs
+encoded_same ps bytes xs ys h e = ((arguments_unambiguous ps).unique standard bytes bytes [] [] ys xs h e refl).0
 
 -- ---- instructions
 
 module _ {m : Mode} (bytes rest last : List ℕ) where
   pub operation_decodes : (op : Op) (shape : Shape) (given : Operands) → Decodes opcode m bytes op rest → shape_of table op ≡ Some shape → DecodesOperands (parts_of shape) m rest given last → DecodesOperation (instruction table) m bytes op given last
-  operation_decodes op shape given h e g = record { immediates = g.immediates; decodes = instruction_decodes bytes rest last op shape g.immediates h e g.decodes; operands = g.operands }
+  operation_decodes op shape given h e g = record { immediates = g.immediates; decodes = instruction_decodes bytes rest last op shape g.immediates h e g.decodes; operands = g.operands; follow = record { after = rest; decodes = h; own = g.own } }
 
   pub short_operation : (b : ℕ) (shape : Shape) (given : Operands) → bytes ≡ b ∷ rest → b < 0xFB → shape_of table (Byte b) ≡ Some shape → DecodesOperands (parts_of shape) m rest given last → DecodesOperation (instruction table) m bytes (Byte b) given last
   short_operation b shape given is l e g = operation_decodes (Byte b) shape given (op_byte bytes rest b (record { front = b ∷ []; split = is; encodes = refl }) l) e g

@@ -16,11 +16,10 @@ ghost use Rattle.wasm_insn.specs.Table.{table, IsOpcodeTable, BeginsNoOther, IsR
 ghost use Rattle.wasm_insn.specs.Instructions.{row_of, DecodesInstruction, HaveOneEncoding, IsWellFormedWhereAligned};
 ghost use Rattle.wasm_insn.specs.declared.instruction.Instruction.{Instruction};
 
+pub use self::padded as wide;
 use crate::instruction::Instruction;
 use crate::ranged::arguments_ranged;
 use std::alloc::Allocator;
-
-pub use self::padded as wide;
 
 /// The format of opcodes is unambiguous. The opcode table has 628 rows in ascending order; one pair
 /// of neighbours shares an opcode. No opcode's bytes are a prefix of another's.

@@ -1,8 +1,9 @@
 // The operands of a decoded instruction, which borrow its bytes. Short encodings are decoded inline,
 // all others out of line.
-ghost use Rattle.std.specs.Prelude.{◌≡◌, ◌≢◌, ◌<◌, false, ◌∷◌, List, IfOk, IfErr, IfSome, map};
+ghost use Rattle.std.specs.Prelude.{◌≡◌, ◌≢◌, ◌<◌, ◌⊎◌, true, false, ◌∷◌, List, IfOk, IfErr, IfSome, map};
+ghost use Rattle.wasm_base.specs.Continuing.{RejectsWhole};
 ghost use Rattle.wasm_base.specs.Groups.{signed_of};
-ghost use Rattle.wasm_base.specs.Numbers.{padded_of};
+ghost use Rattle.wasm_base.specs.Numbers.{padded_of, standard};
 ghost use Rattle.wasm_base.specs.Decoding.{Rejects};
 ghost use Rattle.wasm_base.specs.declared.fault.ReadFault.TheVariants.{Memory};
 ghost use Rattle.wasm_insn.specs.Arguments.{Argument};
@@ -42,10 +43,13 @@ impl<'a> Operands<'a> {
     ///
     /// # Errors
     ///
-    /// Any error but `Memory` means that no decoded instruction has these operands.
+    /// Any error but `Memory` means that no decoded instruction has these operands: `Encoded` has
+    /// bytes that do not encode immediates of the shape, or bytes after them, or a shape with a
+    /// case of its own.
     #[inline(always)]
     pub fn to_args<A: Allocator + Copy>(self, alloc: A) -> Result<Vec<Arg<A>, A>, DecodeError>
-        ensures found { IfOk result (λ args. (xs : List Argument) → AreOperands self.entry xs → map argument_view args.items ≡ xs) }
+        ensures found { IfOk result (λ args. AreOperands self.entry (map argument_view args.items)) }
+        ensures only { IfOk result (λ args. (xs : List Argument) → AreOperands self.entry xs → map argument_view args.items ≡ xs) }
         ensures none { IfErr result (λ e. e.cause ≢ Memory → AreNoOperands self.entry) }
     {
         match self {
@@ -55,11 +59,40 @@ impl<'a> Operands<'a> {
             Operands::S64(n) => list_one(alloc, Arg::S64(n)),
             Operands::Mem(memory) => list_one(alloc, Arg::Mem(memory)),
             Operands::Block(block) => list_one(alloc, Arg::Block(block)),
-            Operands::Encoded(shape, bytes) => {
-                let (args, _rest) = read_any::<A, Standard>(shape, bytes, alloc)?;
-                Ok(args)
-            }
+            Operands::Encoded(shape, bytes) => decode_encoded(shape, bytes, alloc),
         }
+    }
+}
+
+/// Returns whether operands of this shape have a case of their own in [`Operands`].
+fn has_own_case(shape: Shape) -> bool
+    ensures { result ≡ has_case shape }
+{
+    matches!(
+        shape,
+        Shape::Nothing | Shape::U | Shape::C32 | Shape::C64 | Shape::M | Shape::B
+    )
+}
+
+/// Decodes the operands of a shape without a case of its own, which occupy all of the bytes.
+#[inline(never)]
+fn decode_encoded<A: Allocator + Copy>(
+    shape: Shape,
+    bytes: &[u8],
+    alloc: A,
+) -> Result<Vec<Arg<A>, A>, DecodeError>
+    ensures shape { IfOk result (λ _. has_case shape ≡ false) }
+    ensures found { IfOk result (λ args. arguments (parts_of shape) standard bytes.now (map argument_view args.items)) }
+    ensures none { IfErr result (λ e. e.cause ≢ Memory → (has_case shape ≡ true) ⊎ RejectsWhole (arguments (parts_of shape)) standard bytes.now) }
+{
+    if has_own_case(shape) {
+        return Err(ReadFault::UnknownTag.at(bytes));
+    }
+    let (args, rest) = read_any::<A, Standard>(shape, bytes, alloc)?;
+    if rest.is_empty() {
+        Ok(args)
+    } else {
+        Err(ReadFault::SizeMismatch.at(rest))
     }
 }
 

@@ -25,15 +25,13 @@ ghost use Rattle.wasm_sections.specs.Tags.{tag_type, tag_items};
 ghost use Rattle.wasm_sections.specs.declared.element.ElementSegment.{ElementSegment};
 ghost use Rattle.wasm_sections.specs.Functions.{function_items};
 
+pub use self::{padded as wide, rejections as nothing_stands};
 use crate::export::Export;
 use crate::global::GlobalType;
 use crate::import::EntityType;
 use crate::memory::MemoryType;
 use crate::table::TableType;
 use std::alloc::Allocator;
-
-pub use self::padded as wide;
-pub use self::rejections as nothing_stands;
 
 /// The formats of sections and of their items are unambiguous. A well-formed record encodes its
 /// item.
