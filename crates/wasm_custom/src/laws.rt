@@ -29,8 +29,7 @@ ghost use Rattle.wasm_custom.specs.Producers.{producer_encoding, IsProducer, fie
 ghost use Rattle.wasm_custom.specs.Symbols.{symbol_encoding, IsFullSymbol, IsGivenSymbol, symbol, full_symbol};
 ghost use Rattle.wasm_custom.specs.TargetFeatures.{prefix_code, feature, feature_items, features_payload};
 
-pub use self::padded as wide;
-pub use self::rejections as nothing_stands;
+pub use self::{padded as wide, rejections as nothing_stands};
 
 /// The formats of sections and of their items are unambiguous. A well-formed record encodes its
 /// item.
