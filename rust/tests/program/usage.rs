@@ -5,7 +5,7 @@ const USAGE: &str = "\
 usage: dolzhytik outline FILE [--why] [--strict] [--json]
        dolzhytik dump FILE [--section NAME|ID].. [--json]
        dolzhytik size FILE [--functions N] [--json]
-       dolzhytik strip FILE [--all | --debug | NAME..] [--keep NAME].. -o FILE [--force]
+       dolzhytik strip FILE [NAME..] [--debug] [--all] [--keep NAME].. -o FILE [--force]
        dolzhytik shorten FILE (-o FILE | --dry-run [--json]) [--drop-offsets | --keep-code] [--build-id keep|drop] [--force]
        dolzhytik build RECIPE -o FILE [--force]
        dolzhytik help [COMMAND]
@@ -101,10 +101,6 @@ fn options_of_other_commands() {
     check(&build_id, "strip takes no --build-id");
     let dry = ["build", "a", "-ob", "--dry-run"];
     check(&dry, "build takes no --dry-run");
-    let two = "strip takes only one of --all, --debug and names";
-    check(&["strip", "a", "-ob", "--all", "--debug"], two);
-    check(&["strip", "a", "-ob", "--all", "c"], two);
-    check(&["strip", "a", "c", "--debug", "-ob"], two);
     let json = "shorten takes --json only with --dry-run";
     check(&["shorten", "a", "-ob", "--json"], json);
     let two = "shorten takes only one of --drop-offsets and --keep-code";

@@ -77,20 +77,33 @@ fn write_stripped(input: &Input, output: &Output, choice: &Choice) -> Result<(),
     let bytes = input.read()?;
     let progress = Progress::of(bytes.len());
     progress.begin("reading");
-    let Stripped { parts, removed } = strip::strip(input, &bytes, choice)?;
+    let stripped = strip::strip(input, &bytes, choice)?;
     progress.begin("writing");
-    output.write_parts(&parts)?;
+    output.write_parts(&stripped.parts)?;
     drop(progress);
-    let (before, after) = (
-        bytes.len(),
-        parts.iter().map(|part| part.len()).sum::<usize>(),
-    );
-    // The module is written, whether or not this can be.
+    report_stripped(input, bytes.len(), &stripped);
+    Ok(())
+}
+
+/// Prints the names that no section has, and the sizes. It is no error if that fails: the module is
+/// written.
+fn report_stripped(input: &Input, before: usize, stripped: &Stripped<'_, '_>) {
+    for name in &stripped.unmatched {
+        let _ = writeln!(
+            io::stderr(),
+            "dolzhytik: {input}: no custom section {name:?}"
+        );
+    }
+    let after: usize = stripped.parts.iter().map(|part| part.len()).sum();
+    let replaced = match stripped.replaced {
+        0 => String::new(),
+        count => format!("; empty sections in their places: {count}"),
+    };
     let _ = writeln!(
         io::stderr(),
-        "dolzhytik: {input}: {before} bytes before, {after} after; sections removed: {removed}"
+        "dolzhytik: {input}: {before} bytes before, {after} after; sections removed: {}{replaced}",
+        stripped.removed
     );
-    Ok(())
 }
 
 // ---- recipes

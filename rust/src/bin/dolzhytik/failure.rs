@@ -2,6 +2,7 @@
 use crate::files::{Input, Output};
 use crate::found::Found;
 use crate::help::usage;
+use crate::strip::Obstacle;
 use crate::words::Usage;
 use dolzhytik::fallible::recipe::RecipeFault;
 use dolzhytik::reader::{ReadError, ReadFault};
@@ -31,11 +32,10 @@ pub enum Failure {
     Offsets(NamedSection),
     /// This section identifies the module, and no other section is a reason.
     BuildId(NamedSection),
-    /// A section holds indices or offsets that would no longer be right.
-    References {
-        section: NamedSection,
-        remedy: &'static str,
-    },
+    /// A section holds indices or offsets that would be wrong without `build_id`.
+    References(NamedSection),
+    /// Sections cannot be removed.
+    Strip(Obstacle),
     /// A branch hint is at no instruction.
     Hint(BadHint),
     /// A section has no id or size, or does not decode.
@@ -186,10 +186,12 @@ impl fmt::Display for Failure {
                  --build-id drop drops it, --build-id keep keeps it, \
                  and --dry-run prints what each saves"
             ),
-            Failure::References { section, remedy } => write!(
+            Failure::References(section) => write!(
                 f,
-                "{section} holds section indices or offsets that would no longer be right; {remedy}"
+                "{section} holds section indices or offsets that would no longer be right; \
+                 --build-id keep leaves them right"
             ),
+            Failure::Strip(obstacle) => write!(f, "{obstacle}"),
             Failure::Hint(hint) => write!(f, "{hint}"),
             Failure::Section(section) => write!(f, "{section}"),
             Failure::NoSection { input, section } => write!(f, "{input}: no section {section}"),

@@ -58,10 +58,12 @@ kind that its name selects, or as bytes.",
     Manual {
         verb: Verb::Strip,
         name: "strip",
-        usage: "FILE [--all | --debug | NAME..] [--keep NAME].. -o FILE [--force]",
+        usage: "FILE [NAME..] [--debug] [--all] [--keep NAME].. -o FILE [--force]",
         says: "\
-writes the module without its custom sections: all, or with --debug those of DWARF, or those of the names.
-It fails if a section that stays refers to sections or offsets that would be removed or moved.",
+writes the module without some custom sections: those of the names, with --debug those of DWARF, and all
+if neither is given. It fails if that would remove linking or reloc.*, which a linker needs. Relocations are
+removed with their section. If a section that stays holds indices of sections, an empty section
+.objcopy.removed is in the place of a removed one, as LLVM's strip leaves it.",
         options: &[Flag::All, Flag::Debug, Flag::Keep, Flag::Output, Flag::Force],
     },
     Manual {
@@ -183,7 +185,7 @@ There may be several. Without it, dump prints all.",
         Flag::All,
         "--all",
         Given::Alone,
-        "removes all custom sections, as strip does without this.",
+        "removes all custom sections, also linking and reloc.*, without which an object file cannot be linked.",
     ),
     explained(
         Flag::Debug,
@@ -195,7 +197,7 @@ There may be several. Without it, dump prints all.",
         Flag::Keep,
         "--keep",
         Given::Often("NAME"),
-        "a custom section that stays. There may be several.",
+        "a custom section that stays, with its relocations. There may be several.",
     ),
     explained(
         Flag::Why,

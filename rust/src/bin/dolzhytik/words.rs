@@ -3,7 +3,7 @@ use crate::files::{Input, Output};
 use crate::help::{Explained, Flag, Given, Manual, OPTIONS, Verb};
 use crate::outline;
 use crate::shorten::{self, BuildId};
-use crate::strip::{Choice, Selection};
+use crate::strip::Choice;
 use dolzhytik::reader::Offsets;
 use std::ffi::OsString;
 use std::fmt;
@@ -73,8 +73,6 @@ pub enum Usage {
     NotUtf8(OsString),
     /// Neither `keep` nor `drop`.
     NotABuildId(OsString),
-    /// Two of `--all`, `--debug` and names are given.
-    TwoSelections,
     /// `shorten --json` without `--dry-run`.
     JsonOfModule,
     /// Code may stay, or the sections that hold offsets into it are dropped.
@@ -112,7 +110,6 @@ impl fmt::Display for Usage {
                 )
             }
             Usage::JsonOfModule => write!(f, "shorten takes --json only with --dry-run"),
-            Usage::TwoSelections => write!(f, "strip takes only one of --all, --debug and names"),
             Usage::NoInput(command) => write!(f, "{command} needs a file"),
             Usage::NoOutput(command) => write!(f, "{command} needs -o FILE"),
             Usage::WordTooMany(word) => write!(f, "unexpected argument: {}", word.display()),
@@ -311,16 +308,12 @@ impl Words {
 
     /// Which custom sections to remove and to keep.
     fn choice(&mut self) -> Result<Choice, Usage> {
-        let named = names(self.words.by_ref())?;
-        let (all, debug) = (self.options.has(Flag::All), self.options.has(Flag::Debug));
-        let removed = match (all, debug, named.is_empty()) {
-            (_, false, true) => Selection::All,
-            (false, true, true) => Selection::Debug,
-            (false, false, false) => Selection::Named(named),
-            _ => return Err(Usage::TwoSelections),
-        };
-        let kept = names(self.options.values(Flag::Keep))?;
-        Ok(Choice { removed, kept })
+        Ok(Choice {
+            all: self.options.has(Flag::All),
+            debug: self.options.has(Flag::Debug),
+            named: names(self.words.by_ref())?,
+            kept: names(self.options.values(Flag::Keep))?,
+        })
     }
 }
 
