@@ -3,7 +3,7 @@ use crate::program::{Answer, Folder};
 
 const USAGE: &str = "\
 usage: dolzhytik outline FILE [--why] [--strict] [--json]
-       dolzhytik dump FILE [--section NAME|ID].. [--json]
+       dolzhytik dump FILE [--section NUMBER|NAME].. [--id ID].. [--json]
        dolzhytik size FILE [--functions N] [--json]
        dolzhytik strip FILE [NAME..] [--debug] [--all] [--keep NAME].. -o FILE [--force]
        dolzhytik shorten FILE (-o FILE | --dry-run [--json]) [--drop-offsets | --keep-code] [--build-id keep|drop] [--force]
@@ -42,6 +42,11 @@ fn errors() {
     check(&twice, "--functions is given twice");
     check(&["size", "a", "--functions", "x"], "not a number: x");
     check(&["size", "a", "--functions=-1"], "not a number: -1");
+    check(&["dump", "a", "--id=256"], "not an id of 0 to 255: 256");
+    check(
+        &["dump", "a", "--id", "code"],
+        "not an id of 0 to 255: code",
+    );
     let build_id = |word| ["shorten", "a", "-ob", "--build-id", word];
     check(
         &build_id("kept"),
@@ -91,6 +96,7 @@ fn options_of_other_commands() {
     check(&["dump", "a", "--strict"], "dump takes no --strict");
     let section = ["outline", "a", "--section=b"];
     check(&section, "outline takes no --section");
+    check(&["outline", "a", "--id=1"], "outline takes no --id");
     check(&["outline", "a", "--debug"], "outline takes no --debug");
     let functions = ["strip", "a", "-o", "b", "--functions=1"];
     check(&functions, "strip takes no --functions");
@@ -141,7 +147,8 @@ fn help() {
         "--all ",
         "--debug ",
         "--keep NAME ",
-        "--section NAME|ID ",
+        "--section NUMBER|NAME ",
+        "--id ID ",
         "--why ",
         "--strict ",
         "--dry-run ",

@@ -1,4 +1,5 @@
 //! Errors of the program, and their messages.
+use crate::dump::Selector;
 use crate::files::{Input, Output};
 use crate::found::Found;
 use crate::help::usage;
@@ -40,10 +41,12 @@ pub enum Failure {
     Hint(BadHint),
     /// A section has no id or size, or does not decode.
     Section(BadSection),
-    /// No section of the module has this name or id.
+    /// No section of the module is selected.
     NoSection {
         input: Input,
-        section: String,
+        selector: Selector,
+        /// How many sections the module has.
+        count: usize,
     },
     /// So many sections of known kinds do not decode.
     Undecoded {
@@ -194,7 +197,19 @@ impl fmt::Display for Failure {
             Failure::Strip(obstacle) => write!(f, "{obstacle}"),
             Failure::Hint(hint) => write!(f, "{hint}"),
             Failure::Section(section) => write!(f, "{section}"),
-            Failure::NoSection { input, section } => write!(f, "{input}: no section {section}"),
+            Failure::NoSection {
+                input,
+                selector,
+                count,
+            } => {
+                write!(f, "{input}: no section {selector}")?;
+                match selector {
+                    Selector::Number(_) => {
+                        write!(f, ": the module has {count}; --id selects by id")
+                    }
+                    Selector::Name(_) | Selector::Id(_) => Ok(()),
+                }
+            }
             Failure::Undecoded { input, count } => {
                 let do_not = if *count == 1 { " does" } else { "s do" };
                 write!(f, "{input}: {count} section{do_not} not decode")

@@ -40,13 +40,13 @@ decodes if the kind is not known. Sections of ids 1 to 13 that do not decode are
     Manual {
         verb: Verb::Dump,
         name: "dump",
-        usage: "FILE [--section NAME|ID].. [--json]",
+        usage: "FILE [--section NUMBER|NAME].. [--id ID].. [--json]",
         says: "\
 prints the items of each section, and the locals and instructions of each function. A line of code has the
 offset in the file, in hexadecimal, the bytes, and the name and operands in the text format. Locals have their
 indices; where the type of the function is not known, +0 is the first one. A custom section is listed by the
 kind that its name selects, or as bytes.",
-        options: &[Flag::Section, Flag::Json],
+        options: &[Flag::Section, Flag::Id, Flag::Json],
     },
     Manual {
         verb: Verb::Size,
@@ -105,6 +105,7 @@ pub enum Flag {
     Output,
     Force,
     Section,
+    Id,
     Functions,
     All,
     Debug,
@@ -151,7 +152,7 @@ const fn explained(flag: Flag, long: &'static str, given: Given, says: &'static 
 }
 
 /// The options, in the order of the help.
-pub const OPTIONS: [Explained; 16] = [
+pub const OPTIONS: [Explained; 17] = [
     Explained {
         short: Some("-o"),
         ..explained(
@@ -170,10 +171,16 @@ pub const OPTIONS: [Explained; 16] = [
     explained(
         Flag::Section,
         "--section",
-        Given::Often("NAME|ID"),
+        Given::Often("NUMBER|NAME"),
         "\
-a section that dump prints: its id, its name as outline has it, or the name of a custom section.
-There may be several. Without it, dump prints all.",
+a section that dump prints: its number or its kind, as outline has them, or the name of a custom section.
+There may be several. Without this and --id, dump prints all.",
+    ),
+    explained(
+        Flag::Id,
+        "--id",
+        Given::Often("ID"),
+        "the id of sections that dump prints. There may be several.",
     ),
     explained(
         Flag::Functions,

@@ -1,4 +1,5 @@
 //! The words after the program's name, and what they ask for.
+use crate::dump::Selector;
 use crate::files::{Input, Output};
 use crate::help::{Explained, Flag, Given, Manual, OPTIONS, Verb};
 use crate::outline;
@@ -7,6 +8,7 @@ use crate::strip::Choice;
 use dolzhytik::reader::Offsets;
 use std::ffi::OsString;
 use std::fmt;
+use std::str::FromStr;
 
 /// How results are printed.
 #[derive(Clone, Copy, PartialEq, Eq, Debug)]
@@ -24,8 +26,8 @@ pub enum Command {
     },
     Dump {
         input: Input,
-        /// The names or ids of the sections to list, or none for all.
-        sections: Vec<String>,
+        /// Which sections to list, or none for all.
+        sections: Vec<Selector>,
         format: Format,
     },
     Shorten {
@@ -70,6 +72,8 @@ pub enum Usage {
     /// The option is given twice.
     Twice(&'static str),
     NotANumber(OsString),
+    /// Not a number up to 255.
+    NotAnId(OsString),
     NotUtf8(OsString),
     /// Neither `keep` nor `drop`.
     NotABuildId(OsString),
@@ -95,6 +99,7 @@ impl fmt::Display for Usage {
             Usage::NoValueOf(option) => write!(f, "{option} needs a value"),
             Usage::Twice(option) => write!(f, "{option} is given twice"),
             Usage::NotANumber(word) => write!(f, "not a number: {}", word.display()),
+            Usage::NotAnId(word) => write!(f, "not an id of 0 to 255: {}", word.display()),
             Usage::NotUtf8(word) => write!(f, "not UTF-8: {}", word.display()),
             Usage::NotABuildId(word) => {
                 write!(
@@ -175,17 +180,34 @@ impl Options {
         }
     }
 
+    fn selectors(&self) -> Result<Vec<Selector>, Usage> {
+        let selector = |(option, word): &(&'static Explained, OsString)| match option.flag {
+            Flag::Section => Some(name(word.clone()).map(Selector::of)),
+            Flag::Id => Some(number(word.clone(), Usage::NotAnId).map(Selector::Id)),
+            _ => None,
+        };
+        self.0.iter().filter_map(selector).collect()
+    }
+
     fn functions(&self) -> Result<usize, Usage> {
         let Some(word) = self.values(Flag::Functions).next() else {
             return Ok(0);
         };
-        let number = word.to_str().and_then(|word| word.parse().ok());
-        number.ok_or(Usage::NotANumber(word))
+        number(word, Usage::NotANumber)
     }
 }
 
+/// Reads a number, or returns the error that the word is none.
+fn number<T: FromStr>(word: OsString, error: fn(OsString) -> Usage) -> Result<T, Usage> {
+    let number = word.to_str().and_then(|word| word.parse().ok());
+    number.ok_or_else(|| error(word))
+}
+
+fn name(word: OsString) -> Result<String, Usage> {
+    word.into_string().map_err(Usage::NotUtf8)
+}
+
 fn names(words: impl IntoIterator<Item = OsString>) -> Result<Vec<String>, Usage> {
-    let name = |word: OsString| word.into_string().map_err(Usage::NotUtf8);
     words.into_iter().map(name).collect()
 }
 
@@ -210,7 +232,7 @@ impl Words {
             },
             Verb::Dump => Command::Dump {
                 input: self.input()?,
-                sections: names(self.options.values(Flag::Section))?,
+                sections: self.options.selectors()?,
                 format: self.options.format(),
             },
             Verb::Size => Command::Size {
