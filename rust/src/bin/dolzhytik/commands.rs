@@ -46,7 +46,7 @@ pub fn run(command: Command) -> Result<(), Failure> {
         Command::Build { recipe, output } => build(&recipe, &output),
         Command::Help(None) => print(&help::help()),
         Command::Help(Some(manual)) => print(&manual.help()),
-        Command::Version => print(concat!("dolzhytik ", env!("CARGO_PKG_VERSION"), "\n")),
+        Command::Version => print(help::VERSION),
     }
 }
 
@@ -56,17 +56,19 @@ fn print(text: &str) -> Result<(), Failure> {
 
 // ---- sizes
 
-/// Prints the sizes of the sections, and of this number of functions.
+/// Prints the sizes of the sections, and of this number of functions. Those of the sections are
+/// printed before an error in one of them.
 fn show_sizes(input: &Input, functions: usize, format: Format) -> Result<(), Failure> {
     let bytes = input.read()?;
     let progress = Progress::of(bytes.len());
     progress.begin("reading");
     let sizes = Sizes::of(input, &bytes, functions)?;
     drop(progress);
-    match format {
-        Format::Json => print(&json::sizes(&sizes)),
-        Format::Table => print(&sizes.to_string()),
-    }
+    print(&match format {
+        Format::Json => json::sizes(&sizes),
+        Format::Table => sizes.to_string(),
+    })?;
+    sizes.failure.map_or(Ok(()), Err)
 }
 
 // ---- custom sections

@@ -2,9 +2,8 @@
 use crate::dump::Selector;
 use crate::files::{Input, Output};
 use crate::found::Found;
-use crate::help::usage;
+use crate::misuse::Misuse;
 use crate::strip::Obstacle;
-use crate::words::Usage;
 use dolzhytik::fallible::recipe::RecipeFault;
 use dolzhytik::reader::{ReadError, ReadFault};
 use std::fmt;
@@ -13,7 +12,7 @@ use std::io::{self, Write};
 /// An error of the program.
 #[derive(Debug)]
 pub enum Failure {
-    Usage(Usage),
+    Usage(Misuse),
     Unread {
         input: Input,
         error: io::Error,
@@ -169,7 +168,7 @@ pub fn report(failure: &Failure) {
 impl fmt::Display for Failure {
     fn fmt(&self, f: &mut fmt::Formatter<'_>) -> fmt::Result {
         match self {
-            Failure::Usage(why) => write!(f, "{why}\n{}", usage().trim_end()),
+            Failure::Usage(misuse) => write!(f, "{misuse}"),
             Failure::Unread { input, error } => write!(f, "{input}: {error}"),
             Failure::Unwritten { output, error } => write!(f, "{output}: {error}"),
             Failure::Terminal => write!(

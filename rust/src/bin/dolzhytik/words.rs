@@ -2,13 +2,16 @@
 use crate::dump::Selector;
 use crate::files::{Input, Output};
 use crate::help::{Explained, Flag, Given, Manual, OPTIONS, Verb};
+use crate::misuse::{Misuse, Usage};
 use crate::outline;
 use crate::shorten::{self, BuildId};
 use crate::strip::Choice;
 use dolzhytik::reader::Offsets;
 use std::ffi::OsString;
-use std::fmt;
 use std::str::FromStr;
+
+/// How many functions `size` lists if no option says it.
+const FUNCTIONS: usize = 10;
 
 /// How results are printed.
 #[derive(Clone, Copy, PartialEq, Eq, Debug)]
@@ -59,68 +62,6 @@ pub enum Command {
     /// The help of a command, or of the program.
     Help(Option<&'static Manual>),
     Version,
-}
-
-/// Why words ask for nothing that the program does.
-#[derive(PartialEq, Eq, Debug)]
-pub enum Usage {
-    NoCommand,
-    UnknownCommand(OsString),
-    UnknownOption(OsString),
-    /// No word follows this option, which needs one.
-    NoValueOf(&'static str),
-    /// The option is given twice.
-    Twice(&'static str),
-    NotANumber(OsString),
-    /// Not a number up to 255.
-    NotAnId(OsString),
-    NotUtf8(OsString),
-    /// Neither `keep` nor `drop`.
-    NotABuildId(OsString),
-    /// `shorten --json` without `--dry-run`.
-    JsonOfModule,
-    /// Code may stay, or the sections that hold offsets into it are dropped.
-    TwoTreatments,
-    NoInput(&'static str),
-    NoOutput(&'static str),
-    WordTooMany(OsString),
-    NoOptionOf {
-        command: &'static str,
-        option: &'static str,
-    },
-}
-
-impl fmt::Display for Usage {
-    fn fmt(&self, f: &mut fmt::Formatter<'_>) -> fmt::Result {
-        match self {
-            Usage::NoCommand => write!(f, "no command"),
-            Usage::UnknownCommand(word) => write!(f, "no such command: {}", word.display()),
-            Usage::UnknownOption(word) => write!(f, "no such option: {}", word.display()),
-            Usage::NoValueOf(option) => write!(f, "{option} needs a value"),
-            Usage::Twice(option) => write!(f, "{option} is given twice"),
-            Usage::NotANumber(word) => write!(f, "not a number: {}", word.display()),
-            Usage::NotAnId(word) => write!(f, "not an id of 0 to 255: {}", word.display()),
-            Usage::NotUtf8(word) => write!(f, "not UTF-8: {}", word.display()),
-            Usage::NotABuildId(word) => {
-                write!(
-                    f,
-                    "--build-id needs keep or drop, and not {}",
-                    word.display()
-                )
-            }
-            Usage::TwoTreatments => {
-                write!(
-                    f,
-                    "shorten takes only one of --drop-offsets and --keep-code"
-                )
-            }
-            Usage::JsonOfModule => write!(f, "shorten takes --json only with --dry-run"),
-            Usage::NoInput(command) => write!(f, "{command} needs a file"),
-            Usage::NoOutput(command) => write!(f, "{command} needs -o FILE"),
-            Usage::WordTooMany(word) => write!(f, "unexpected argument: {}", word.display()),
-            Usage::NoOptionOf { command, option } => write!(f, "{command} takes no {option}"),
-        }
-    }
 }
 
 /// The options that are given, with their values.
@@ -191,7 +132,7 @@ impl Options {
 
     fn functions(&self) -> Result<usize, Usage> {
         let Some(word) = self.values(Flag::Functions).next() else {
-            return Ok(0);
+            return Ok(FUNCTIONS);
         };
         number(word, Usage::NotANumber)
     }
@@ -388,8 +329,32 @@ fn help_of(first: Option<OsString>) -> Command {
     Command::Help(first.and_then(Manual::named))
 }
 
+/// Whether a word is an option, and neither a file nor a name.
+fn is_option(word: &str) -> bool {
+    word.starts_with('-') && word != "-"
+}
+
+/// The command of the words, even if other words are wrong.
+fn manual_of(words: &[OsString]) -> Option<&'static Manual> {
+    let mut words = words.iter();
+    loop {
+        let word = words.next()?.to_str()?;
+        if !is_option(word) {
+            return Manual::named(word);
+        }
+        if option(word).is_some_and(|(option, value)| option.has_value() && value.is_none()) {
+            words.next();
+        }
+    }
+}
+
 /// Reads what the words ask for. Options may be anywhere before `--`.
-pub fn read(mut words: impl Iterator<Item = OsString>) -> Result<Command, Usage> {
+pub fn read(words: impl Iterator<Item = OsString>) -> Result<Command, Misuse> {
+    let words: Vec<OsString> = words.collect();
+    read_words(words.iter().cloned()).map_err(|why| Misuse::new(why, manual_of(&words)))
+}
+
+fn read_words(mut words: impl Iterator<Item = OsString>) -> Result<Command, Usage> {
     let (mut others, mut options) = (Vec::new(), Options::default());
     while let Some(word) = words.next() {
         let text = match word.to_str() {
@@ -397,7 +362,7 @@ pub fn read(mut words: impl Iterator<Item = OsString>) -> Result<Command, Usage>
                 others.extend(words.by_ref());
                 break;
             }
-            Some(text) if text.starts_with('-') && text != "-" => text,
+            Some(text) if is_option(text) => text,
             _ => {
                 others.push(word);
                 continue;
@@ -411,11 +376,11 @@ pub fn read(mut words: impl Iterator<Item = OsString>) -> Result<Command, Usage>
             Flag::Version => return Ok(Command::Version),
             _ => {}
         }
-        let value = match option.given {
-            Given::Alone => OsString::new(),
-            Given::With(_) | Given::Often(_) => value
-                .or_else(|| words.next())
-                .ok_or(Usage::NoValueOf(option.name()))?,
+        let value = if option.has_value() {
+            let value = value.or_else(|| words.next());
+            value.ok_or(Usage::NoValueOf(option.name()))?
+        } else {
+            OsString::new()
         };
         options.add(option, value)?;
     }
