@@ -124,7 +124,9 @@ fn names_that_no_section_has_are_reported() {
     let words = ["--keep", "b", "--keep=d\n"];
     check_told(&[&a, &b], &words, &[&b], 1, &[&d]);
     check_told(&[&a, &b], &["--", "--all"], &[&a, &b], 0, &[&all]);
-    // Sections of other ids have no name.
+    // A section whose name does not decode has none, and neither has one of another id.
+    let empty = lacks("");
+    check_told(&["00 01 05"], &[""], &["00 01 05"], 0, &[&empty]);
     let code = lacks("code");
     check_told(&PADDED, &["code"], &PADDED, 0, &[&code]);
 }

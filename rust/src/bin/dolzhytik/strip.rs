@@ -34,13 +34,18 @@ impl Choice {
     }
 
     fn removes(&self, section: &Section<'_>) -> bool {
-        let name = section.name().unwrap_or_default();
-        section.id() == 0
-            && !self.keeps(name)
-            && (self.all
-                || self.is_default()
+        let is_all = self.all || self.is_default();
+        let is_removed = |name: &str| {
+            is_all
                 || self.debug && is_debug(name)
-                || self.named.iter().any(|removed| removed == name))
+                || self.named.iter().any(|removed| removed == name)
+        };
+        section.id() == 0
+            && match section.name() {
+                Some(name) => is_removed(name) && !self.keeps(name),
+                // The name does not decode.
+                None => is_all,
+            }
     }
 
     /// The names that no custom section has.
