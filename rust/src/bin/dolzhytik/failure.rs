@@ -202,12 +202,10 @@ impl fmt::Display for Failure {
                 count,
             } => {
                 write!(f, "{input}: no section {selector}")?;
-                match selector {
-                    Selector::Number(_) => {
-                        write!(f, ": the module has {count}; --id selects by id")
-                    }
-                    Selector::Name(_) | Selector::Id(_) => Ok(()),
+                if let Selector::Number(_) = selector {
+                    write!(f, ": the module has {count}; --id selects by id")?;
                 }
+                Ok(())
             }
             Failure::Undecoded { input, count } => {
                 let do_not = if *count == 1 { " does" } else { "s do" };

@@ -29,8 +29,8 @@ pub struct Row<'a> {
 impl<'a> Row<'a> {
     /// The row of a section. That of a data count section has the number of data segments.
     fn of(section: Section<'a>) -> Self {
-        let count = match (section.count(), section.id()) {
-            (Ok(_), 12) => section.cursor().read().map(Some),
+        let count = match (section.count(), section.kind()) {
+            (Ok(_), Some(SectionKind::DataCount)) => section.cursor().read().map(Some),
             (count, _) => count,
         };
         Row { section, count }
