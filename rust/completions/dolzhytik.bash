@@ -6,7 +6,7 @@ _dolzhytik() {
     local sections='custom type import function table memory global export start element code data tag name'
     case ${COMP_WORDS[1]} in
     outline) words='--why --strict --json -h --help' ;;
-    dump) words='--section --json -h --help' ;;
+    dump) words='--section --id --json -h --help' ;;
     size) words='--functions --json -h --help' ;;
     strip) words='--all --debug --keep -o --output --force -h --help' ;;
     shorten) words='-o --output --dry-run --json --drop-offsets --keep-code --build-id --force -h --help' ;;
@@ -20,6 +20,8 @@ _dolzhytik() {
         words="$words $commands"
     elif [ "$before" = --section ]; then
         words=$sections
+    elif [ "$before" = --id ]; then
+        words='0 1 2 3 4 5 6 7 8 9 10 11 12 13'
     elif [ "$before" = --build-id ]; then
         words='keep drop'
     elif [ "$before" = -o ] || [ "$before" = --output ] || [[ $word != -* ]]; then

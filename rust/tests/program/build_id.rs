@@ -13,9 +13,21 @@ const OFFSETS: &str = "holds offsets that would become wrong; \
     --drop-offsets drops such sections, --keep-code keeps code and data byte for byte, \
     and --dry-run prints what each saves";
 
-/// Checks what the sections become with these options, and the end of the report.
 #[track_caller]
 fn check(sections: &[&str], options: &[&str], expected: &[&str], told: &str) {
+    check_keeping(sections, options, expected, told, &[]);
+}
+
+/// Checks what the sections become with these options, the end of the report, and the lines before
+/// it for sections that do not decode.
+#[track_caller]
+fn check_keeping(
+    sections: &[&str],
+    options: &[&str],
+    expected: &[&str],
+    told: &str,
+    undecoded: &[&str],
+) {
     let folder = Folder::new("build_id");
     let (before, after) = (module(sections), module(expected));
     folder.write("a.wasm", &before);
@@ -26,10 +38,11 @@ fn check(sections: &[&str], options: &[&str], expected: &[&str], told: &str) {
     );
     let words = [&["shorten", "a.wasm"], options].concat();
     let answer = folder.call(&[&words[..], &["-ob.wasm"]].concat(), b"");
-    assert_eq!(answer, Answer::told(&sizes), "{options:?}");
+    let expected = |line: &str| Answer::told(line).keeping("a.wasm", undecoded);
+    assert_eq!(answer, expected(&sizes), "{options:?}");
     assert_eq!(folder.read("b.wasm"), after);
     let answer = folder.call(&[&words[..], &["--dry-run"]].concat(), b"");
-    assert_eq!(answer.err, format!("dolzhytik: {sizes}; not written\n"));
+    assert_eq!(answer.err, expected(&(sizes + "; not written")).err);
 }
 
 /// Checks the refusal of these words.
@@ -100,9 +113,14 @@ fn modules_without_it() {
     let name = [PADDED_NAME, UNREAD, "0e 8200 80 00"];
     let short = [SHORT_NAME, UNREAD, "0e 02 80 00"];
     let (before, after) = ([&PADDED[..], &name].concat(), [&SHORT[..], &short].concat());
-    check(&before, &[], &after, "1");
-    check(&before, &["--build-id=keep"], &after, "1");
-    check(&before, &["--build-id=drop"], &after, "1; left out: 0");
+    // The section that does not decode ends after 8 + 44 + 15 + 4 bytes.
+    let undecoded = ["6 (function) at offset 0x47: unexpected end of input"];
+    let check = |options: &[&str], told: &str| {
+        check_keeping(&before, options, &after, told, &undecoded);
+    };
+    check(&[], "1");
+    check(&["--build-id=keep"], "1");
+    check(&["--build-id=drop"], "1; left out: 0");
 }
 
 #[test]

@@ -106,7 +106,8 @@ fn selected_sections() {
     let (third, last) = (format!("section {third}"), format!("section {last}"));
     let custom = "section 6 (custom \"type\"): offset 0x34, size 6\n 000039: 07                                               .\n";
     check(&sections, &["--section=export"], &third);
-    check(&sections, &["--section", "7"], &third);
+    check(&sections, &["--section", "3"], &third);
+    check(&sections, &["--id", "7"], &third);
     check(&sections, &["--section", "name"], &last);
     check(
         &sections,
@@ -115,7 +116,7 @@ fn selected_sections() {
     );
     check(
         &sections,
-        &["--section=1", "--section=export"],
+        &["--id=1", "--section=export"],
         &format!("{first}\n{third}"),
     );
     check(
@@ -123,14 +124,27 @@ fn selected_sections() {
         &["--section", "custom"],
         &format!("{last}\n{custom}"),
     );
+    check(&sections, &["--id", "0"], &format!("{last}\n{custom}"));
+    check(&sections, &["--section", "6"], custom);
+}
+
+#[test]
+fn sections_that_the_module_lacks() {
     let folder = Folder::new("no_section");
-    for word in ["data", "2", "names", "300"] {
-        let fault = folder.call(&["dump", "-", "--section", word], &module(&sections));
+    let check = |option: &str, why: &str| {
+        let fault = folder.call(&["dump", "-", option], &module(&SHORT));
         assert_eq!(
             fault,
-            Answer::fault(&format!("standard input: no section {word}"))
+            Answer::fault(&format!("standard input: no section {why}"))
         );
-    }
+    };
+    check("--section=data", "\"data\"");
+    check("--section=na\nmes", "\"na\\nmes\"");
+    check("--section=+3", "\"+3\"");
+    // The code section has number 4 and id 10.
+    check("--section=10", "10: the module has 4; --id selects by id");
+    check("--section=0", "0: the module has 4; --id selects by id");
+    check("--id=4", "of id 4");
 }
 
 // ---- code

@@ -37,9 +37,21 @@ fn hints(data: &str) -> String {
     custom(NAME, data)
 }
 
-/// Checks what the sections become, and what the report says after the sizes.
 #[track_caller]
 fn check_as(sections: &[&str], options: &[&str], expected: &[&str], told: &str) {
+    check_keeping(sections, options, expected, told, &[]);
+}
+
+/// Checks what the sections become, what the report says after the sizes, and the lines before it
+/// for sections that do not decode.
+#[track_caller]
+fn check_keeping(
+    sections: &[&str],
+    options: &[&str],
+    expected: &[&str],
+    told: &str,
+    undecoded: &[&str],
+) {
     let folder = Folder::new("hints");
     let (before, after) = (module(sections), module(expected));
     folder.write("a.wasm", &before);
@@ -49,7 +61,8 @@ fn check_as(sections: &[&str], options: &[&str], expected: &[&str], told: &str) 
         after.len(),
     );
     let words = [&["shorten", "a.wasm", "-ob.wasm"], options].concat();
-    assert_eq!(folder.call(&words, b""), Answer::told(&sizes));
+    let told = Answer::told(&sizes).keeping("a.wasm", undecoded);
+    assert_eq!(folder.call(&words, b""), told);
     assert_eq!(folder.read("b.wasm"), after);
 }
 
@@ -158,10 +171,14 @@ fn code_that_does_not_change() {
     check(&with(&padded, &short), &with(&minimal, &short));
     // Hints that do not decode are kept.
     let damaged = hints("05");
-    check_as(&with(&damaged, &short), &[], &with(&damaged, &short), "1");
-    // So is code that does not decode.
-    let code = "0a 8400 01 02 00 ff";
-    check_as(&[&minimal, code], &[], &[&minimal, code], "1");
+    let undecoded =
+        "4 (custom \"metadata.code.branch_hint\") at offset 0x39: unexpected end of input";
+    let sections = with(&damaged, &short);
+    check_keeping(&sections, &[], &sections, "1", &[undecoded]);
+    // So is code that does not decode: its payload is behind 8 + 34 + 3 bytes.
+    let sections = [&minimal, "0a 8400 01 02 00 ff"];
+    let undecoded = "2 (code) at offset 0x30: unknown opcode";
+    check_keeping(&sections, &[], &sections, "1", &[undecoded]);
 }
 
 #[test]
@@ -218,23 +235,31 @@ fn sections_that_do_not_decode() {
     check_fault(&[imports, &before, &padded], unknown);
     // Without hints nothing counts them.
     let none = hints("00");
-    check_as(
+    let undecoded = ["1 (import) at offset 0xf: unexpected byte or value"];
+    check_keeping(
         &[imports, &none, &padded],
         &[],
         &[imports, &none, &short],
         "1",
+        &undecoded,
     );
-    check_as(
+    check_keeping(
         &[imports, &padded],
         &["--build-id=keep"],
         &[imports, &short],
         "1",
+        &undecoded,
     );
     // Of a second code section, which does not decode, no function has hints.
     let others = [UNREAD, "0a 04 01 02 00 ff"];
     let sections = [&with(&before, &padded)[..], &others].concat();
     let expected = [&with(&after, &short)[..], &others].concat();
-    check_as(&sections, &[], &expected, "2");
+    // The first is at 0x5b, and the payload of the second at 0x61.
+    let undecoded = [
+        "6 (function) at offset 0x5f: unexpected end of input",
+        "7 (code) at offset 0x64: unknown opcode",
+    ];
+    check_keeping(&sections, &[], &expected, "2", &undecoded);
 }
 
 #[test]

@@ -8,9 +8,15 @@ const PADDED_DATA: &str = "0b 8800 01 00 41 8000 0b 01 09";
 /// A section of DWARF that has the byte ff, and a padded size.
 const PADDED_DEBUG: &str = "00 8d00 0b 2e64656275675f696e666f ff";
 
-/// Checks what the sections become, and how many of them are kept.
 #[track_caller]
 fn check(sections: &[&str], kept: usize, expected: &[&str]) {
+    check_keeping(sections, kept, expected, &[]);
+}
+
+/// Checks what the sections become, how many of them are kept, and the lines for those that do not
+/// decode.
+#[track_caller]
+fn check_keeping(sections: &[&str], kept: usize, expected: &[&str], undecoded: &[&str]) {
     let folder = Folder::new("keep_code");
     let (before, after) = (module(sections), module(expected));
     folder.write("a.wasm", &before);
@@ -20,10 +26,11 @@ fn check(sections: &[&str], kept: usize, expected: &[&str]) {
         after.len(),
     );
     let words = ["shorten", "a.wasm", "--keep-code", "-o", "b.wasm"];
-    assert_eq!(folder.call(&words, b""), Answer::told(&sizes));
+    let expected = |line: &str| Answer::told(line).keeping("a.wasm", undecoded);
+    assert_eq!(folder.call(&words, b""), expected(&sizes));
     assert_eq!(folder.read("b.wasm"), after);
     let answer = folder.call(&["shorten", "a.wasm", "--keep-code", "--dry-run"], b"");
-    assert_eq!(answer.err, format!("dolzhytik: {sizes}; not written\n"));
+    assert_eq!(answer.err, expected(&(sizes + "; not written")).err);
 }
 
 #[test]
@@ -41,10 +48,11 @@ fn code_and_data_stay() {
     ];
     check(&sections, 2, &expected);
     // Without offsets too. A section that does not decode is kept as well.
-    check(
+    check_keeping(
         &[UNREAD, PADDED[3], PADDED[1]],
         2,
         &[UNREAD, PADDED[3], SHORT[1]],
+        &["1 (function) at offset 0xc: unexpected end of input"],
     );
     check(&[], 0, &[]);
     // Sections of an id past 13 are any bytes.

@@ -1,9 +1,9 @@
-//! `dolzhytik shorten` of what clang and wasm-ld make, beside tools of LLVM. Where a tool is
-//! missing, a test prints which, and passes.
+//! `dolzhytik shorten` and `strip` of what clang and wasm-ld make, beside tools of LLVM. Where a tool
+//! is missing, a test prints which, and passes.
 use crate::program::Folder;
 use crate::tools;
 use dolzhytik::fallible::Global;
-use dolzhytik::reader::Sections;
+use dolzhytik::reader::{Section, Sections};
 use std::env;
 use std::fs;
 use std::path::{Path, PathBuf};
@@ -19,22 +19,27 @@ fn link(object: &Path, module: &str) -> Option<PathBuf> {
     tools::link(&[object], &["--allow-undefined"], module)
 }
 
-/// Shortens a file with these options, and returns the path of the module.
+/// Calls a command on a file with these options, and returns the path of the module.
 #[track_caller]
-fn shortened(path: &Path, options: &[&str], name: &str) -> PathBuf {
+fn written(command: &str, path: &Path, options: &[&str], name: &str) -> PathBuf {
     let output = tools::temporary(name);
     let paths = [path.to_str().unwrap(), "-o", output.to_str().unwrap()];
-    let words = [&["shorten"], &paths[..], options].concat();
+    let words = [&[command], &paths[..], options].concat();
     let answer = Folder::new("linked").call(&words, b"");
     assert_eq!(answer.status, 0, "{}", answer.err);
     output
 }
 
-/// What llvm-dwarfdump prints of a file, without the line that has its path. `LLVM_DWARFDUMP`
-/// selects another version.
-fn dwarf(path: &Path) -> Option<String> {
-    let tool = env::var_os("LLVM_DWARFDUMP").unwrap_or_else(|| "llvm-dwarfdump".into());
-    let Ok(done) = Command::new(&tool).arg("--all").arg(path).output() else {
+#[track_caller]
+fn shortened(path: &Path, options: &[&str], name: &str) -> PathBuf {
+    written("shorten", path, options, name)
+}
+
+/// What a tool of LLVM prints of a file, without the line that has its path. The variable selects
+/// another version.
+fn printed(variable: &str, default: &str, options: &[&str], path: &Path) -> Option<String> {
+    let tool = env::var_os(variable).unwrap_or_else(|| default.into());
+    let Ok(done) = Command::new(&tool).args(options).arg(path).output() else {
         eprintln!("there is no {}", tool.display());
         return None;
     };
@@ -44,14 +49,33 @@ fn dwarf(path: &Path) -> Option<String> {
         String::from_utf8_lossy(&done.stderr)
     );
     let text = String::from_utf8_lossy(&done.stdout);
-    Some(text.split_once('\n')?.1.into())
+    let is_path = |line: &&str| line.contains(path.to_str().unwrap());
+    Some(
+        text.lines()
+            .filter(|line| !is_path(line))
+            .collect::<Vec<_>>()
+            .join("\n"),
+    )
+}
+
+fn dwarf(path: &Path) -> Option<String> {
+    printed("LLVM_DWARFDUMP", "llvm-dwarfdump", &["--all"], path)
+}
+
+/// The instructions of an object, with its relocations.
+fn code(path: &Path) -> Option<String> {
+    printed("LLVM_OBJDUMP", "llvm-objdump", &["-d", "-r"], path)
+}
+
+fn sections(module: &[u8]) -> impl Iterator<Item = Section<'_>> {
+    Sections::new(Global, module).unwrap().map(Result::unwrap)
 }
 
 /// The ids and sizes of the sections, by their order.
 fn sizes(module: &[u8]) -> Vec<(u8, usize)> {
-    let sections = Sections::new(Global, module).unwrap();
-    let sections = sections.map(Result::unwrap);
-    sections.map(|it| (it.id(), it.bytes().len())).collect()
+    sections(module)
+        .map(|it| (it.id(), it.bytes().len()))
+        .collect()
 }
 
 /// clang pads the sizes of sections.
@@ -72,14 +96,50 @@ fn an_object_with_dwarf_is_linked_as_before() {
         assert!(first.contains("DW_AT_low_pc"));
         assert_eq!(first, second);
     }
-    let linked = link(&before, "kept.wasm").zip(link(&after, "kept_short.wasm"));
-    let Some((first, second)) = linked else {
+    // wasm-ld writes the name of the module to it.
+    let linked = |object| {
+        let module = link(object, "kept.wasm")?;
+        Some((fs::read(&module).unwrap(), module))
+    };
+    let Some(((first, _), (second, module))) = linked(&before).zip(linked(&after)) else {
         return;
     };
-    assert_eq!(fs::read(first).unwrap(), fs::read(&second).unwrap());
+    assert_eq!(first, second);
     // The linker leaves no padded sizes. The module with its DWARF stays as it is.
-    let again = shortened(&second, &["--keep-code"], "kept_again.wasm");
-    assert_eq!(fs::read(&second).unwrap(), fs::read(again).unwrap());
+    let again = shortened(&module, &["--keep-code"], "kept_again.wasm");
+    assert_eq!(second, fs::read(again).unwrap());
+}
+
+/// The bytes of all sections but the empty ones in the places of removed sections.
+fn without_empty(module: &[u8]) -> Vec<&[u8]> {
+    let others = sections(module).filter(|it| it.name() != Some(".objcopy.removed"));
+    others.map(|it| it.bytes()).collect()
+}
+
+/// The symbols of an object file are sections too, of DWARF, and its relocations are of sections by
+/// their indices.
+#[test]
+fn an_object_without_its_dwarf_is_linked_as_before() {
+    let Some(before) = object("dwarf.o") else {
+        return;
+    };
+    let after = written("strip", &before, &["--debug"], "no_dwarf.o");
+    let [first, second] = [&before, &after].map(|path| fs::read(path).unwrap());
+    let is_debug = |it: Section<'_>| it.name().is_some_and(|name| name.contains(".debug_"));
+    assert!(sections(&first).any(is_debug) && !sections(&second).any(is_debug));
+    if let (Some(first), Some(second)) = (code(&before), code(&after)) {
+        assert!(first.contains("R_WASM_FUNCTION_INDEX_LEB"), "{first}");
+        assert_eq!(first, second);
+    }
+    let linked = |object: &Path| {
+        let options = ["--allow-undefined", "--export-all", "--strip-debug"];
+        let module = tools::link(&[object], &options, "no_dwarf.wasm")?;
+        Some(fs::read(module).unwrap())
+    };
+    let Some((first, second)) = linked(&before).zip(linked(&after)) else {
+        return;
+    };
+    assert_eq!(without_empty(&first), without_empty(&second));
 }
 
 /// Sections that are minimized one by one are those of the library's call for modules.

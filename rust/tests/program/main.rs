@@ -1,4 +1,4 @@
-//! Tests of the program `dolzhytik`: each command, each error and each text.
+//! Tests of the program `dolzhytik`: each command, each error and each text; and of `wasmrow`.
 mod build;
 mod build_id;
 mod completions;
@@ -18,3 +18,4 @@ mod strip;
 #[path = "../support/tools.rs"]
 mod tools;
 mod usage;
+mod wasmrow;

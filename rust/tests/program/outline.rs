@@ -47,6 +47,23 @@ fn tables() {
     );
 }
 
+/// The items of a data count section are the number that it holds, which is 300 here.
+#[test]
+fn data_counts() {
+    let sections = ["0c 02 ac02", "08 01 07"];
+    let lines = "      1  12        0xa          2        300      yes  data count
+      2   8        0xe          1          1      yes  start
+";
+    check("data_count", &sections, lines);
+    let damaged = "section 1 (data count) at offset 0xb: bytes remain after the value";
+    let line = "      1  12        0xa          2          -       no  data count\n";
+    check_reported("data_counts", &["0c 02 0300"], line, &[damaged]);
+    let folder = Folder::new("data_count_json");
+    let json = "[\n  {\"section\": 1, \"id\": 12, \"kind\": \"data count\", \"name\": null, \"offset\": 10, \"size\": 1, \"items\": 0, \"decodes\": true}\n]\n";
+    let answer = folder.call(&["outline", "-", "--json"], &module(&["0c 01 00"]));
+    assert_eq!(answer, Answer::of(json));
+}
+
 const IDS: &str = "      1   0        0xa          0          -       no  custom
       2   1        0xc          0          -       no  type
       3   2        0xe          0          -       no  import

@@ -33,6 +33,16 @@ impl Answer {
         }
     }
 
+    /// The same after the lines for sections of a file that do not decode and are kept.
+    pub fn keeping(self, file: &str, sections: &[&str]) -> Self {
+        let lines = sections.iter();
+        let lines = lines.map(|it| format!("dolzhytik: {file}: section {it}; kept as it is\n"));
+        Answer {
+            err: lines.collect::<String>() + &self.err,
+            ..self
+        }
+    }
+
     /// A fault.
     pub fn fault(line: &str) -> Self {
         Answer {
@@ -85,17 +95,21 @@ impl Folder {
     /// Calls the program with the words, in this folder.
     pub fn call(&self, words: &[&str], input: &[u8]) -> Answer {
         let mut command = Command::new(env!("CARGO_BIN_EXE_dolzhytik"));
-        command.args(words).current_dir(&self.0);
-        command.stdin(Stdio::piped());
-        command.stdout(Stdio::piped()).stderr(Stdio::piped());
-        let mut child = command.spawn().unwrap();
-        // One that does not read its input may be gone.
-        let _ = child.stdin.take().unwrap().write_all(input);
-        let output = child.wait_with_output().unwrap();
-        Answer {
-            out: output.stdout,
-            err: String::from_utf8(output.stderr).unwrap(),
-            status: output.status.code().unwrap(),
-        }
+        answer_of(command.args(words).current_dir(&self.0), input)
+    }
+}
+
+/// Runs a command with this input.
+pub fn answer_of(command: &mut Command, input: &[u8]) -> Answer {
+    command.stdin(Stdio::piped());
+    command.stdout(Stdio::piped()).stderr(Stdio::piped());
+    let mut child = command.spawn().unwrap();
+    // One that does not read its input may be gone.
+    let _ = child.stdin.take().unwrap().write_all(input);
+    let output = child.wait_with_output().unwrap();
+    Answer {
+        out: output.stdout,
+        err: String::from_utf8(output.stderr).unwrap(),
+        status: output.status.code().unwrap(),
     }
 }

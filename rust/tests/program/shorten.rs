@@ -21,10 +21,17 @@ fn padded_numbers_get_shorter() {
 }
 
 #[test]
-fn what_is_not_read_is_kept_and_counted() {
+fn sections_that_do_not_decode_are_kept_and_named() {
     let folder = Folder::new("kept");
     folder.write("a.wasm", module(&[PADDED[1], UNREAD, "08 8200 07 00"]));
     let told = Answer::told("a.wasm: 24 bytes before, 21 after; sections kept as they were: 2");
+    let told = told.keeping(
+        "a.wasm",
+        &[
+            "2 (function) at offset 0x13: unexpected end of input",
+            "3 (start) at offset 0x17: bytes remain after the value",
+        ],
+    );
     assert_eq!(
         folder.call(&["shorten", "a.wasm", "-o", "b.wasm"], b""),
         told
@@ -33,6 +40,29 @@ fn what_is_not_read_is_kept_and_counted() {
         folder.read("b.wasm"),
         module(&[SHORT[1], UNREAD, "08 8200 07 00"])
     );
+}
+
+#[test]
+fn code_that_does_not_decode_is_kept_and_named() {
+    let folder = Folder::new("kept_code");
+    // The opcode ff is at 0x16, after the sizes of the section and the body and the locals.
+    let sections = [PADDED[1], "0a 8600 01 04 00 0b ff 0b"];
+    let lost = custom(".debug_info", "ff");
+    let name = custom("name", "05");
+    let sections = [&sections[..], &[&lost, &name]].concat();
+    folder.write("a.wasm", module(&sections));
+    let told = Answer::told(
+        "a.wasm: 47 bytes before, 29 after; sections kept as they were: 2; left out: 1",
+    );
+    let told = told.keeping(
+        "a.wasm",
+        &[
+            "2 (code) at offset 0x16: unknown opcode",
+            "4 (custom \"name\") at offset 0x2f: unexpected end of input",
+        ],
+    );
+    let words = ["shorten", "a.wasm", "--drop-offsets", "-o", "b.wasm"];
+    assert_eq!(folder.call(&words, b""), told);
 }
 
 #[test]
@@ -166,6 +196,9 @@ fn dry_runs_of_modules_with_offsets() {
         out: format!("{SAVINGS}{lines}").into(),
         ..Answer::told(&format!("standard input: {sizes}"))
     };
+    // The section has 4 bytes, and ends the module of 94.
+    let undecoded = "8 (function) at offset 0x5e: unexpected end of input";
+    let told = told.keeping("standard input", &[undecoded]);
     assert_eq!(folder.call(&words, &module(&sections)), told);
     // Without the option the same is printed, and the status is that of the command.
     let refused = Answer {

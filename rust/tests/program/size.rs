@@ -38,7 +38,6 @@ fn sections() {
         &[],
         "         8 100.0  header\n         8 100.0  all\n",
     );
-    check(&NAMED, &[], SECTIONS);
     check(&NAMED, &["--functions", "0"], SECTIONS);
 }
 
@@ -53,6 +52,27 @@ fn functions() {
     );
     let all = format!("{SECTIONS}{second}{first}");
     check(&NAMED, &["--functions=9"], &all);
+    check(&NAMED, &[], &all);
+}
+
+/// Eleven functions of three bytes each, with their sizes, and one of four bytes.
+#[test]
+fn ten_functions_without_an_option() {
+    let bodies = format!("{} 03 00 01 0b", "02 00 0b".repeat(11));
+    let sections = ["01 04 01 60 00 00", &format!("0a 26 0c {bodies}")];
+    let begin = "        40  74.1  code
+         6  11.1  type
+         8  14.8  header
+        54 100.0  all
+         4   7.4  function 11
+";
+    let lines = |count| {
+        let lines = (0..count).map(|index| format!("         3   5.6  function {index}\n"));
+        lines.collect::<String>()
+    };
+    check(&sections, &[], &format!("{begin}{}", lines(9)));
+    let all = format!("{begin}{}", lines(11));
+    check(&sections, &["--functions", "12"], &all);
 }
 
 #[test]
@@ -74,14 +94,30 @@ fn groups_of_imports() {
 #[test]
 fn faults() {
     let folder = Folder::new("size_faults");
-    let check = |sections: &[&str], why: &str| {
-        let fault = folder.call(&["size", "-", "--functions", "1"], &module(sections));
-        assert_eq!(fault, Answer::fault(&format!("standard input: {why}")));
+    // The sizes of the sections are printed before the error.
+    let check = |sections: &[&str], lines: &str, why: &str| {
+        let expected = Answer {
+            out: format!("{HEAD}{lines}").into(),
+            ..Answer::fault(&format!("standard input: {why}"))
+        };
+        for words in [&["size", "-", "--functions", "1"][..], &["size", "-"]] {
+            assert_eq!(folder.call(words, &module(sections)), expected);
+        }
+        let answer = folder.call(&["size", "-", "--functions=0"], &module(sections));
+        assert_eq!(answer, Answer::of(expected.out));
     };
+    let lines = "         6  42.9  code
+         8  57.1  header
+        14 100.0  all
+";
     let ended = "section 1 (code) at offset 0xe: unexpected end of input";
-    check(&["0a 04 02 02 00 0b"], ended);
+    check(&["0a 04 02 02 00 0b"], lines, ended);
+    let lines = "         9  52.9  import
+         8  47.1  header
+        17 100.0  all
+";
     let unknown = "section 1 (import) at offset 0xf: unexpected byte or value";
-    check(&["02 07 01 01 61 01 62 09 00"], unknown);
+    check(&["02 07 01 01 61 01 62 09 00"], lines, unknown);
     let names = |data: &str, line: &[u8]| {
         let sections = module(&[NAMED[3], &custom("name", data)]);
         let answer = folder.call(&["size", "-", "--functions=1"], &sections);

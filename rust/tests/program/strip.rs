@@ -2,40 +2,56 @@
 use crate::program::{Answer, Folder};
 use crate::samples::{PADDED, PADDED_NAME, custom, module};
 
-const REFUSED: &str =
-    "holds section indices or offsets that would no longer be right; strip it too";
+/// The empty section in the place of a removed one, as LLVM's strip has it.
+const EMPTY: &str = "00 11 10 2e6f626a636f70792e72656d6f766564";
 
-/// Checks what is left of the sections by these words, and how many are removed.
+/// A symbol table whose one symbol is of kind 3, without flags: the section of index 1.
+const SECTION_SYMBOL: &str = "02 08 04 01 03 00 01";
+
+/// Checks what is left of the sections by these words, how many are removed, and the lines on
+/// standard error before the sizes.
 #[track_caller]
-fn check(sections: &[&str], words: &[&str], left: &[&str], removed: usize) {
+fn check_told(sections: &[&str], words: &[&str], left: &[&str], removed: usize, told: &[&str]) {
     let folder = Folder::new("strip");
     let (before, after) = (module(sections), module(left));
     folder.write("a.wasm", &before);
-    let told = Answer::told(&format!(
-        "a.wasm: {} bytes before, {} after; sections removed: {removed}",
+    let sizes = format!(
+        "{} bytes before, {} after; sections removed: {removed}",
         before.len(),
         after.len(),
-    ));
+    );
+    let empty = match left.iter().filter(|section| **section == EMPTY).count() {
+        count if count * removed == 0 => String::new(),
+        count => format!("; empty sections in their places: {count}"),
+    };
+    let lines = told.iter().map(|line| (*line).into());
+    let lines = lines.chain([sizes + &empty]);
+    let expected = Answer {
+        out: Vec::new(),
+        err: lines
+            .map(|line: String| format!("dolzhytik: a.wasm: {line}\n"))
+            .collect(),
+        status: 0,
+    };
     let words = [&["strip", "a.wasm", "-o", "b.wasm"], words].concat();
-    assert_eq!(folder.call(&words, b""), told);
+    assert_eq!(folder.call(&words, b""), expected);
     assert_eq!(folder.read("b.wasm"), after);
     assert_eq!(folder.read("a.wasm"), before);
     assert_eq!(folder.names(), ["a.wasm", "b.wasm"]);
 }
 
-/// Checks that these words are refused for the section of this number and name.
 #[track_caller]
-fn check_refused(sections: &[&str], words: &[&str], number: usize, name: &str) {
-    check_remedy(sections, words, number, name, REFUSED);
+fn check(sections: &[&str], words: &[&str], left: &[&str], removed: usize) {
+    check_told(sections, words, left, removed, &[]);
 }
 
-/// Checks the reason and the remedy too.
+/// Checks that these words are refused, and why.
 #[track_caller]
-fn check_remedy(sections: &[&str], words: &[&str], number: usize, name: &str, why: &str) {
+fn check_refused(sections: &[&str], words: &[&str], why: &str) {
     let folder = Folder::new("strip_refused");
     folder.write("a.wasm", module(sections));
     let words = [&["strip", "a.wasm", "-o", "b.wasm"], words].concat();
-    let fault = Answer::fault(&format!("a.wasm: section {number}, {name:?}, {why}"));
+    let fault = Answer::fault(&format!("a.wasm: {why}"));
     assert_eq!(folder.call(&words, b""), fault);
     assert_eq!(folder.names(), ["a.wasm"]);
 }
@@ -84,74 +100,181 @@ fn debug_sections_alone() {
 fn named_sections_alone() {
     let [a, b, c] = ["a", "b", "a"].map(|name| custom(name, "07"));
     check(&[&a, &b, &c], &["a"], &[&b], 2);
-    check(&[&a, &b, &c], &["b", "c"], &[&a, &c], 1);
-    check(&[&a, &b, &c], &["--", "--all"], &[&a, &b, &c], 0);
+    check(&[&a, &b, &c], &["b", "a"], &[], 3);
+    check(&[&a, &b, &c], &["a", "--keep", "a"], &[&a, &b, &c], 0);
 }
 
 #[test]
-fn section_indices() {
+fn options_add_up() {
+    let [a, b, debug] = ["a", "b", ".debug_info"].map(|name| custom(name, "07"));
+    let sections = [&a[..], &b, &debug];
+    check(&sections, &["--debug", "a"], &[&b], 2);
+    check(&sections, &["b", "--debug", "--keep=b"], &[&a, &b], 1);
+    check(&sections, &["--all", "a"], &[], 3);
+    check(&sections, &["--all", "--debug"], &[], 3);
+    check(&sections, &["--all", "--keep", "b"], &[&b], 2);
+}
+
+#[test]
+fn names_that_no_section_has_are_reported() {
+    let [a, b] = ["a", "b"].map(|name| custom(name, "07"));
+    let lacks = |name: &str| format!("no custom section {name:?}");
+    let [c, d, all] = ["c", "d\n", "--all"].map(lacks);
+    check_told(&[&a, &b], &["a", "c"], &[&b], 1, &[&c]);
+    let words = ["--keep", "b", "--keep=d\n"];
+    check_told(&[&a, &b], &words, &[&b], 1, &[&d]);
+    check_told(&[&a, &b], &["--", "--all"], &[&a, &b], 0, &[&all]);
+    // A section whose name does not decode has none, and neither has one of another id.
+    let empty = lacks("");
+    check_told(&["00 01 05"], &[""], &["00 01 05"], 0, &[&empty]);
+    let code = lacks("code");
+    check_told(&PADDED, &["code"], &PADDED, 0, &[&code]);
+}
+
+#[test]
+fn relocations_hold_the_index_of_their_section() {
     let [types, _, _, code] = PADDED;
     let other = custom("other", "");
     // Relocations of section 1, which is the code section.
     let relocations = custom("reloc.CODE", "01 00");
     let sections = [types, code, &other, &relocations];
     check(&sections, &["other"], &[types, code, &relocations], 1);
-    let before = [types, &other, code, &custom("reloc.CODE", "02 00")];
-    check_refused(&before, &["other"], 4, "reloc.CODE");
-    check(&before, &["other", "reloc.CODE"], &[types, code], 2);
-    // Relocations of a section that is removed, and relocations that have no index.
-    let gone = [types, &other, &custom("reloc.x", "01 00")];
-    check_refused(&gone, &["other"], 3, "reloc.x");
-    check_refused(
-        &[types, &other, &custom("reloc.x", "")],
+    // Relocations of section 2.
+    let relocations = custom("reloc.CODE", "02 00");
+    let sections = [types, &other, code, &relocations];
+    check(
+        &sections,
         &["other"],
-        3,
-        "reloc.x",
+        &[types, EMPTY, code, &relocations],
+        1,
     );
+    check(&sections, &["other", "reloc.CODE"], &[types, code], 2);
+    // Relocations that have no index: it may be any.
+    let unknown = custom("reloc.x", "");
+    let sections = [types, &unknown, &other];
+    check(&sections, &["other"], &[types, &unknown, EMPTY], 1);
 }
 
 #[test]
-fn section_symbols() {
+fn relocations_of_a_removed_section_are_removed() {
+    let [types, _, _, code] = PADDED;
+    let (other, relocations) = (custom("other", ""), custom("reloc.other", "01 00"));
+    let sections = [types, &other, code, &relocations];
+    check(&sections, &["other"], &[types, code], 2);
+    let linking = custom("linking", "02 08 04 01 03 00 03");
+    let sections = [types, &other, &relocations, code, &linking];
+    let left = [types, EMPTY, EMPTY, code, &linking];
+    check(&sections, &["other"], &left, 2);
+    // A section is kept with its relocations.
+    let debug = [custom(".debug_info", "ff"), custom(".debug_str", "")];
+    let relocations = [1, 2].map(|index| format!("0{index} 00"));
+    let relocations = [
+        custom("reloc..debug_info", &relocations[0]),
+        custom("reloc..debug_str", &relocations[1]),
+    ];
+    let sections = [
+        types,
+        &debug[0],
+        &debug[1],
+        &relocations[0],
+        &relocations[1],
+    ];
+    check(&sections, &["--debug"], &[types], 4);
+    let left = [types, EMPTY, &debug[1], &relocations[1]];
+    check(&sections, &["--debug", "--keep", ".debug_str"], &left, 2);
+    let words = ["--debug", "--keep", "reloc..debug_info"];
+    let why = "section 4, \"reloc..debug_info\", has the relocations of a section \
+        that would be removed; keep that section too";
+    check_refused(&sections, &words, why);
+}
+
+#[test]
+fn symbols_and_groups_hold_indices_of_sections() {
     let [types, _, _, code] = PADDED;
     let other = custom("other", "");
-    // A symbol of kind 3 without flags, which is section 1.
-    let linking = custom("linking", "02 08 04 01 03 00 01");
-    check(
-        &[types, code, &other, &linking],
-        &["other"],
-        &[types, code, &linking],
-        1,
-    );
-    check_refused(&[types, &other, code, &linking], &["other"], 4, "linking");
-    // An object file without DWARF needs other indices.
-    let debug = custom(".debug_info", "ff");
-    let sections = [types, &debug, code, &linking];
-    let why = REFUSED.replace("strip it too", "--all strips it too");
-    check_remedy(&sections, &["--debug"], 4, "linking", &why);
-    check(&sections, &["--all"], &[types, code], 2);
-    // A subsection and a version that no convention has.
+    let linking = custom("linking", SECTION_SYMBOL);
+    let sections = [types, code, &other, &linking];
+    check(&sections, &["other"], &[types, code, &linking], 1);
+    let sections = [types, &other, code, &linking];
+    check(&sections, &["other"], &[types, EMPTY, code, &linking], 1);
+    // A group `g` of subsection 7 without flags, whose member of kind 5 is section 1.
+    let group = custom("linking", "02 07 07 01 01 67 00 01 05 01");
+    let sections = [types, &other, code, &group];
+    check(&sections, &["other"], &[types, EMPTY, code, &group], 1);
+    // Its member is function 1.
+    let group = custom("linking", "02 07 07 01 01 67 00 01 01 01");
+    let sections = [types, &other, code, &group];
+    check(&sections, &["other"], &[types, code, &group], 1);
+    // A subsection and a version that no convention has: indices may be any.
     for data in ["02 04 00", "01 08 04 01 03 00 01"] {
         let unknown = custom("linking", data);
-        check_refused(&[types, code, &other, &unknown], &["other"], 4, "linking");
+        let sections = [types, code, &other, &unknown];
+        check(&sections, &["other"], &[types, code, EMPTY, &unknown], 1);
     }
+}
+
+#[test]
+fn an_object_file_without_dwarf_can_be_linked() {
+    let [types, _, _, code] = PADDED;
+    let debug = custom(".debug_info", "ff");
+    let linking = custom("linking", SECTION_SYMBOL);
+    let (of_code, of_debug) = (
+        custom("reloc.CODE", "02 00"),
+        custom("reloc..debug_info", "01 00"),
+    );
+    let sections = [types, &debug, code, &linking, &of_code, &of_debug];
+    let left = [types, EMPTY, code, &linking, &of_code];
+    check(&sections, &["--debug"], &left, 2);
+    check(&left, &["--debug"], &left, 0);
+    check(&left, &[".objcopy.removed"], &left, 1);
+    check(&sections, &["--all"], &[types, code], 4);
+}
+
+#[test]
+fn sections_that_a_linker_needs_are_removed_only_if_asked_for() {
+    let [types, _, _, code] = PADDED;
+    let (linking, other) = (custom("linking", "02"), custom("other", ""));
+    let (of_code, of_other) = (
+        custom("reloc.CODE", "01 00"),
+        custom("reloc.other", "04 00"),
+    );
+    let sections = [types, code, &linking, &of_code, &other, &of_other];
+    let lost = |names: &str| {
+        format!(
+            "strip would remove {names}, and no linker takes the file without them; \
+             --debug removes only DWARF, and NAME.. only the sections of these names"
+        )
+    };
+    check_refused(&sections, &[], &lost("\"linking\", \"reloc.CODE\""));
+    let words = ["--keep", "linking"];
+    check_refused(&sections, &words, &lost("\"reloc.CODE\""));
+    let words = ["--keep", "linking", "--keep", "reloc.CODE"];
+    check(&sections, &words, &sections[..4], 2);
+    check(&sections, &["--all"], &[types, code], 4);
+    check(
+        &sections,
+        &["linking", "reloc.CODE", "other"],
+        &[types, code],
+        4,
+    );
+    // Relocations without symbols.
+    let why = "section 4, \"reloc.CODE\", has relocations that need the symbols of \"linking\", \
+        which would be removed; keep that section too";
+    check_refused(&sections, &["linking"], why);
+    check_refused(&sections, &["--all", "--keep=reloc.CODE"], why);
 }
 
 #[test]
 fn offsets_from_the_front_of_the_module() {
     let [types, _, _, code] = PADDED;
     let (other, map) = (custom("other", ""), custom("sourceMappingURL", "01 61"));
-    check(
-        &[types, code, &other, &map],
-        &["other"],
-        &[types, code, &map],
-        1,
-    );
-    check_refused(
-        &[types, &other, code, &map],
-        &["other"],
-        4,
-        "sourceMappingURL",
-    );
+    let sections = [types, code, &other, &map];
+    check(&sections, &["other"], &[types, code, &map], 1);
+    let why = "section 4, \"sourceMappingURL\", names a source map, which would be wrong, \
+        since the code would move; remove it too, by its name";
+    let sections = [types, &other, code, &map];
+    check_refused(&sections, &["other"], why);
+    check(&sections, &["other", "sourceMappingURL"], &[types, code], 2);
 }
 
 #[test]

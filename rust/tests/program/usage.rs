@@ -1,39 +1,80 @@
 //! Words that ask for nothing, help and the version.
 use crate::program::{Answer, Folder};
 
-const USAGE: &str = "\
+/// The usage of each command.
+const USAGES: [&str; 7] = [
+    "\
 usage: dolzhytik outline FILE [--why] [--strict] [--json]
-       dolzhytik dump FILE [--section NAME|ID].. [--json]
-       dolzhytik size FILE [--functions N] [--json]
-       dolzhytik strip FILE [--all | --debug | NAME..] [--keep NAME].. -o FILE [--force]
-       dolzhytik shorten FILE (-o FILE | --dry-run [--json]) [--drop-offsets | --keep-code] [--build-id keep|drop] [--force]
-       dolzhytik build RECIPE -o FILE [--force]
+",
+    "\
+usage: dolzhytik dump FILE [--section NUMBER|NAME].. [--id ID].. [--json]
+",
+    "\
+usage: dolzhytik size FILE [--functions N] [--json]
+",
+    "\
+usage: dolzhytik strip FILE [NAME..] [--debug] [--all] [--keep NAME].. -o FILE
+                 [--force]
+",
+    "\
+usage: dolzhytik shorten FILE (-o FILE | --dry-run [--json])
+                 [--drop-offsets | --keep-code] [--build-id keep|drop] [--force]
+",
+    "\
+usage: dolzhytik build RECIPE -o FILE [--force]
+",
+    "\
+usage: dolzhytik help [COMMAND]
+",
+];
+
+/// The usage without a command.
+const USAGE: &str = "\
+usage: dolzhytik outline | dump | size | strip | shorten | build FILE ..
        dolzhytik help [COMMAND]
        dolzhytik --help | --version
 ";
 
+fn usage_of(command: &str) -> &'static str {
+    let front = format!("usage: dolzhytik {command} ");
+    let mut usages = USAGES.into_iter();
+    usages.find(|usage| usage.starts_with(&front)).unwrap()
+}
+
+/// Checks the error, and the usage below it.
 #[track_caller]
-fn check(words: &[&str], why: &str) {
+fn check_with(usage: &str, words: &[&str], why: &str) {
     let folder = Folder::new("usage");
     let expected = Answer {
         out: Vec::new(),
-        err: format!("dolzhytik: {why}\n{USAGE}"),
+        err: format!("dolzhytik: {why}\n{usage}"),
         status: 2,
     };
     assert_eq!(folder.call(words, b""), expected);
     assert!(folder.names().is_empty());
 }
 
+/// Checks the error of a command, and its usage.
+#[track_caller]
+fn check(words: &[&str], why: &str) {
+    check_with(usage_of(words[0]), words, why);
+}
+
 #[test]
 fn errors() {
-    check(&[], "no command");
-    check(&["-o", "b"], "no command");
-    check(&["shortn", "a"], "no such command: shortn");
-    check(&["-"], "no such command: -");
+    check_with(USAGE, &[], "no command");
+    check_with(USAGE, &["-o", "b"], "no command");
+    check_with(USAGE, &["-"], "no such command: -");
+    check_with(USAGE, &["list", "a"], "no such command: list");
+    check_with(USAGE, &["--hex", "list"], "no such option: --hex");
     check(&["outline", "--hex", "a"], "no such option: --hex");
-    check(&["outline", "a", "--help=b"], "no such option: --help=b");
-    check(&["strip", "a", "--all=b"], "no such option: --all=b");
     check(&["shorten", "a", "-o"], "-o needs a value");
+    // The command is the first word that is no option and no value.
+    let words = ["--output", "size", "shorten", "a", "--build-id", "x"];
+    let why = "--build-id needs keep or drop, and not x";
+    check_with(usage_of("shorten"), &words, why);
+    let words = ["--json", "--functions=x", "size", "a"];
+    check_with(usage_of("size"), &words, "not a number: x");
     check(&["build", "a", "--output"], "-o needs a value");
     check(&["strip", "a", "-ob", "--keep"], "--keep needs a value");
     let twice = ["shorten", "a", "-o", "b", "--output=c"];
@@ -42,6 +83,11 @@ fn errors() {
     check(&twice, "--functions is given twice");
     check(&["size", "a", "--functions", "x"], "not a number: x");
     check(&["size", "a", "--functions=-1"], "not a number: -1");
+    check(&["dump", "a", "--id=256"], "not an id of 0 to 255: 256");
+    check(
+        &["dump", "a", "--id", "code"],
+        "not an id of 0 to 255: code",
+    );
     let build_id = |word| ["shorten", "a", "-ob", "--build-id", word];
     check(
         &build_id("kept"),
@@ -68,10 +114,46 @@ fn missing_and_unexpected_arguments() {
     check(&["shorten", "a", "b", "-o", "c"], "unexpected argument: b");
     check(&["build", "a", "b", "-o", "c"], "unexpected argument: b");
     check(&["help", "size", "b"], "unexpected argument: b");
-    check(&["help", "sizes"], "no such command: sizes");
+    check(&["help", "it"], "no such command: it");
     check(&["help", "--json"], "help takes no --json");
     // After `--` there are no options.
     check(&["outline", "--", "a", "-h"], "unexpected argument: -h");
+}
+
+/// A word may be like a command, or like an option of the command.
+#[test]
+fn words_that_were_probably_meant() {
+    let commands = [
+        ("shortn", "shorten"),
+        ("shroten", "shorten"),
+        ("outlines", "outline"),
+        ("dmup", "dump"),
+        ("siz", "size"),
+        ("Strip", "strip"),
+    ];
+    for (word, meant) in commands {
+        let why = format!("no such command: {word}; did you mean {meant}?");
+        check_with(usage_of(meant), &[word, "a"], &why);
+    }
+    let why = "no such command: sizes; did you mean size?";
+    check(&["help", "sizes"], why);
+    let options = [
+        (&["strip", "a", "--debg"][..], "--debug"),
+        (&["strip", "--al", "a"], "--all"),
+        (&["strip", "a", "--all=b"], "--all"),
+        (&["dump", "a", "--sectoin=1"], "--section"),
+        (&["outline", "a", "--help=b"], "--help"),
+        (&["size", "--versoin"], "--version"),
+    ];
+    for (words, meant) in options {
+        let word = words.iter().find(|word| word.starts_with('-')).unwrap();
+        let why = format!("no such option: {word}; did you mean {meant}?");
+        check(words, &why);
+    }
+    // An option of other commands.
+    check(&["build", "--debg"], "no such option: --debg");
+    let why = "no such option: --debg; did you mean --debug?";
+    check_with(USAGE, &["--debg"], why);
 }
 
 #[test]
@@ -91,6 +173,7 @@ fn options_of_other_commands() {
     check(&["dump", "a", "--strict"], "dump takes no --strict");
     let section = ["outline", "a", "--section=b"];
     check(&section, "outline takes no --section");
+    check(&["outline", "a", "--id=1"], "outline takes no --id");
     check(&["outline", "a", "--debug"], "outline takes no --debug");
     let functions = ["strip", "a", "-o", "b", "--functions=1"];
     check(&functions, "strip takes no --functions");
@@ -101,10 +184,6 @@ fn options_of_other_commands() {
     check(&build_id, "strip takes no --build-id");
     let dry = ["build", "a", "-ob", "--dry-run"];
     check(&dry, "build takes no --dry-run");
-    let two = "strip takes only one of --all, --debug and names";
-    check(&["strip", "a", "-ob", "--all", "--debug"], two);
-    check(&["strip", "a", "-ob", "--all", "c"], two);
-    check(&["strip", "a", "c", "--debug", "-ob"], two);
     let json = "shorten takes --json only with --dry-run";
     check(&["shorten", "a", "-ob", "--json"], json);
     let two = "shorten takes only one of --drop-offsets and --keep-code";
@@ -119,18 +198,31 @@ fn options_of_other_commands() {
 #[test]
 fn version() {
     let folder = Folder::new("version");
-    let text = concat!("dolzhytik ", env!("CARGO_PKG_VERSION"), "\n");
+    let text = concat!(
+        "dolzhytik ",
+        env!("CARGO_PKG_VERSION"),
+        "
+The source of its encoders and decoders is proved in Rattle. rustc compiled this
+build from it, and no proof covers that step.
+"
+    );
     for words in [&["--version"][..], &["-V"], &["outline", "-V", "--hex"]] {
         assert_eq!(folder.call(words, b""), Answer::of(text));
     }
 }
+
+const FIRST: &str = "\
+dolzhytik lists, measures, strips, minimizes and builds WebAssembly modules.
+";
 
 #[test]
 fn help() {
     let folder = Folder::new("help");
     let help = folder.call(&["--help"], b"");
     let text = String::from_utf8(help.out.clone()).unwrap();
-    assert!(text.starts_with(USAGE));
+    let usages = USAGES.concat().replace("\nusage:", "\n      ");
+    let front = format!("{FIRST}\n{usages}       dolzhytik --help | --version\n\noutline   ");
+    assert!(text.starts_with(&front));
     for line in [
         "outline   ",
         "dump   ",
@@ -145,7 +237,8 @@ fn help() {
         "--all ",
         "--debug ",
         "--keep NAME ",
-        "--section NAME|ID ",
+        "--section NUMBER|NAME ",
+        "--id ID ",
         "--why ",
         "--strict ",
         "--dry-run ",
@@ -156,7 +249,7 @@ fn help() {
     ] {
         assert!(text.contains(&format!("\n{line}")), "{line}");
     }
-    assert!(text.ends_with("compiled by rustc from the proved source.\n"));
+    assert!(text.ends_with("\nExit status: 0 success, 1 error, 2 usage.\n"));
     assert_eq!(help, Answer::of(text));
     for words in [
         &["-h"][..],
@@ -173,15 +266,16 @@ fn help_of_commands() {
     let folder = Folder::new("help_of");
     let text = "usage: dolzhytik size FILE [--functions N] [--json]
 
-prints the size of each section in bytes and in percent, the largest first, and of the largest functions.
+prints the sizes of the sections in bytes and in percent, and of the ten largest
+functions, the largest first.
 
---functions N            how many functions size prints, by default none.
---json                   prints JSON, for other programs, with offsets and sizes in decimal.
+--functions N            how many functions size prints, by default 10.
+--json                   prints JSON, for other programs, with offsets and sizes
+                         in decimal.
 -h, --help               prints this.
 
-The file - is standard input or standard output. Exit status: 0 success, 1 error, 2 usage.
-
-Unverified build: compiled by rustc from the proved source.
+The file - is standard input or standard output.
+Exit status: 0 success, 1 error, 2 usage.
 ";
     for words in [
         &["size", "--help"][..],
@@ -192,13 +286,31 @@ Unverified build: compiled by rustc from the proved source.
     ] {
         assert_eq!(folder.call(words, b""), Answer::of(text), "{words:?}");
     }
-    let usage = USAGE.replace("usage:", "      ");
-    for command in [
+}
+
+/// A line has at most 80 columns.
+#[test]
+fn all_help_fits_a_terminal() {
+    let folder = Folder::new("help_fits");
+    let commands = [
         "outline", "dump", "size", "strip", "shorten", "build", "help",
-    ] {
-        let answer = folder.call(&[command, "-h"], b"");
-        let help = String::from_utf8(answer.out).unwrap();
-        let first = help.lines().next().unwrap().replace("usage:", "      ");
-        assert!(usage.lines().any(|line| line == first), "{first}");
+    ];
+    let mut texts = vec![folder.call(&["help"], b"").out];
+    for command in commands {
+        let help = folder.call(&[command, "-h"], b"").out;
+        assert!(help.starts_with(usage_of(command).as_bytes()), "{command}");
+        texts.extend([help, folder.call(&[command, "--hex"], b"").err.into()]);
+    }
+    texts.extend([
+        folder.call(&[], b"").err.into(),
+        folder.call(&["-V"], b"").out,
+    ]);
+    for text in texts {
+        let text = String::from_utf8(text).unwrap();
+        assert!(text.lines().all(|line| line.len() <= 80), "{text}");
+        assert!(
+            !text.contains("nverified") && !text.contains(" \n"),
+            "{text}"
+        );
     }
 }

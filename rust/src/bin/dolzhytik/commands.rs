@@ -46,7 +46,7 @@ pub fn run(command: Command) -> Result<(), Failure> {
         Command::Build { recipe, output } => build(&recipe, &output),
         Command::Help(None) => print(&help::help()),
         Command::Help(Some(manual)) => print(&manual.help()),
-        Command::Version => print(concat!("dolzhytik ", env!("CARGO_PKG_VERSION"), "\n")),
+        Command::Version => print(help::VERSION),
     }
 }
 
@@ -56,17 +56,19 @@ fn print(text: &str) -> Result<(), Failure> {
 
 // ---- sizes
 
-/// Prints the sizes of the sections, and of this number of functions.
+/// Prints the sizes of the sections, and of this number of functions. Those of the sections are
+/// printed before an error in one of them.
 fn show_sizes(input: &Input, functions: usize, format: Format) -> Result<(), Failure> {
     let bytes = input.read()?;
     let progress = Progress::of(bytes.len());
     progress.begin("reading");
     let sizes = Sizes::of(input, &bytes, functions)?;
     drop(progress);
-    match format {
-        Format::Json => print(&json::sizes(&sizes)),
-        Format::Table => print(&sizes.to_string()),
-    }
+    print(&match format {
+        Format::Json => json::sizes(&sizes),
+        Format::Table => sizes.to_string(),
+    })?;
+    sizes.failure.map_or(Ok(()), Err)
 }
 
 // ---- custom sections
@@ -77,20 +79,33 @@ fn write_stripped(input: &Input, output: &Output, choice: &Choice) -> Result<(),
     let bytes = input.read()?;
     let progress = Progress::of(bytes.len());
     progress.begin("reading");
-    let Stripped { parts, removed } = strip::strip(input, &bytes, choice)?;
+    let stripped = strip::strip(input, &bytes, choice)?;
     progress.begin("writing");
-    output.write_parts(&parts)?;
+    output.write_parts(&stripped.parts)?;
     drop(progress);
-    let (before, after) = (
-        bytes.len(),
-        parts.iter().map(|part| part.len()).sum::<usize>(),
-    );
-    // The module is written, whether or not this can be.
+    report_stripped(input, bytes.len(), &stripped);
+    Ok(())
+}
+
+/// Prints the names that no section has, and the sizes. It is no error if that fails: the module is
+/// written.
+fn report_stripped(input: &Input, before: usize, stripped: &Stripped<'_, '_>) {
+    for name in &stripped.unmatched {
+        let _ = writeln!(
+            io::stderr(),
+            "dolzhytik: {input}: no custom section {name:?}"
+        );
+    }
+    let after: usize = stripped.parts.iter().map(|part| part.len()).sum();
+    let replaced = match stripped.replaced {
+        0 => String::new(),
+        count => format!("; empty sections in their places: {count}"),
+    };
     let _ = writeln!(
         io::stderr(),
-        "dolzhytik: {input}: {before} bytes before, {after} after; sections removed: {removed}"
+        "dolzhytik: {input}: {before} bytes before, {after} after; sections removed: {}{replaced}",
+        stripped.removed
     );
-    Ok(())
 }
 
 // ---- recipes

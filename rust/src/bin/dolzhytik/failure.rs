@@ -1,8 +1,9 @@
 //! Errors of the program, and their messages.
+use crate::dump::Selector;
 use crate::files::{Input, Output};
 use crate::found::Found;
-use crate::help::usage;
-use crate::words::Usage;
+use crate::misuse::Misuse;
+use crate::strip::Obstacle;
 use dolzhytik::fallible::recipe::RecipeFault;
 use dolzhytik::reader::{ReadError, ReadFault};
 use std::fmt;
@@ -11,7 +12,7 @@ use std::io::{self, Write};
 /// An error of the program.
 #[derive(Debug)]
 pub enum Failure {
-    Usage(Usage),
+    Usage(Misuse),
     Unread {
         input: Input,
         error: io::Error,
@@ -31,19 +32,20 @@ pub enum Failure {
     Offsets(NamedSection),
     /// This section identifies the module, and no other section is a reason.
     BuildId(NamedSection),
-    /// A section holds indices or offsets that would no longer be right.
-    References {
-        section: NamedSection,
-        remedy: &'static str,
-    },
+    /// A section holds indices or offsets that would be wrong without `build_id`.
+    References(NamedSection),
+    /// Sections cannot be removed.
+    Strip(Obstacle),
     /// A branch hint is at no instruction.
     Hint(BadHint),
     /// A section has no id or size, or does not decode.
     Section(BadSection),
-    /// No section of the module has this name or id.
+    /// No section of the module is selected.
     NoSection {
         input: Input,
-        section: String,
+        selector: Selector,
+        /// How many sections the module has.
+        count: usize,
     },
     /// So many sections of known kinds do not decode.
     Undecoded {
@@ -166,7 +168,7 @@ pub fn report(failure: &Failure) {
 impl fmt::Display for Failure {
     fn fmt(&self, f: &mut fmt::Formatter<'_>) -> fmt::Result {
         match self {
-            Failure::Usage(why) => write!(f, "{why}\n{}", usage().trim_end()),
+            Failure::Usage(misuse) => write!(f, "{misuse}"),
             Failure::Unread { input, error } => write!(f, "{input}: {error}"),
             Failure::Unwritten { output, error } => write!(f, "{output}: {error}"),
             Failure::Terminal => write!(
@@ -186,13 +188,25 @@ impl fmt::Display for Failure {
                  --build-id drop drops it, --build-id keep keeps it, \
                  and --dry-run prints what each saves"
             ),
-            Failure::References { section, remedy } => write!(
+            Failure::References(section) => write!(
                 f,
-                "{section} holds section indices or offsets that would no longer be right; {remedy}"
+                "{section} holds section indices or offsets that would no longer be right; \
+                 --build-id keep leaves them right"
             ),
+            Failure::Strip(obstacle) => write!(f, "{obstacle}"),
             Failure::Hint(hint) => write!(f, "{hint}"),
             Failure::Section(section) => write!(f, "{section}"),
-            Failure::NoSection { input, section } => write!(f, "{input}: no section {section}"),
+            Failure::NoSection {
+                input,
+                selector,
+                count,
+            } => {
+                write!(f, "{input}: no section {selector}")?;
+                if let Selector::Number(_) = selector {
+                    write!(f, ": the module has {count}; --id selects by id")?;
+                }
+                Ok(())
+            }
             Failure::Undecoded { input, count } => {
                 let do_not = if *count == 1 { " does" } else { "s do" };
                 write!(f, "{input}: {count} section{do_not} not decode")

@@ -1,5 +1,4 @@
 //! The commands and options of the program, and their help.
-use std::fmt::Write;
 
 /// What the program does.
 #[derive(Clone, Copy, PartialEq, Eq, Debug)]
@@ -18,8 +17,8 @@ pub enum Verb {
 pub struct Manual {
     pub verb: Verb,
     pub name: &'static str,
-    /// The arguments after the name.
-    usage: &'static str,
+    /// The arguments after the name. A line does not end within one of these.
+    usage: &'static [&'static str],
     says: &'static str,
     pub options: &'static [Flag],
 }
@@ -28,49 +27,80 @@ pub const MANUALS: [Manual; 7] = [
     Manual {
         verb: Verb::Outline,
         name: "outline",
-        usage: "FILE [--why] [--strict] [--json]",
+        usage: &["FILE", "[--why]", "[--strict]", "[--json]"],
         says: "\
-prints a line for each section of a module: its number, id, offset, size, number of items, whether it
-decodes as its kind, and name. The offset is that of the payload in the file, in hexadecimal, and the size is
-that of the payload in bytes. There is a - for items if the section does not decode, in custom sections, and
-in those of ids past 13. Those of a type section are its entries: a recursion group is one. There is a - for
-decodes if the kind is not known. Sections of ids 1 to 13 that do not decode are reported on standard error.",
+prints a line for each section of a module: its number, id, offset, size, number of items, whether \
+it decodes as its kind, and name. Offset and size are those of the payload, in bytes; the offset is \
+hexadecimal. The items of a type section are its entries: a recursion group is one. Those of a \
+data count section are the number that it holds. There is a - for items that are not counted, \
+and a - for decodes if the kind is not known. Sections of ids 1 to 13 that do not decode are \
+reported on standard error.",
         options: &[Flag::Why, Flag::Strict, Flag::Json],
     },
     Manual {
         verb: Verb::Dump,
         name: "dump",
-        usage: "FILE [--section NAME|ID].. [--json]",
+        usage: &[
+            "FILE",
+            "[--section NUMBER|NAME]..",
+            "[--id ID]..",
+            "[--json]",
+        ],
         says: "\
-prints the items of each section, and the locals and instructions of each function. A line of code has the
-offset in the file, in hexadecimal, the bytes, and the name and operands in the text format. Locals have their
-indices; where the type of the function is not known, +0 is the first one. A custom section is listed by the
-kind that its name selects, or as bytes.",
-        options: &[Flag::Section, Flag::Json],
+prints the items of each section, and the locals and instructions of each function. A line of code \
+has the offset in the file, in hexadecimal, the bytes, and the name and operands in the text \
+format. Locals have their indices; where the type of the function is not known, +0 is the first \
+one. A custom section is listed by the kind that its name selects, or as bytes.",
+        options: &[Flag::Section, Flag::Id, Flag::Json],
     },
     Manual {
         verb: Verb::Size,
         name: "size",
-        usage: "FILE [--functions N] [--json]",
-        says: "prints the size of each section in bytes and in percent, the largest first, and of the largest functions.",
+        usage: &["FILE", "[--functions N]", "[--json]"],
+        says: "\
+prints the sizes of the sections in bytes and in percent, and of the ten largest functions, the \
+largest first.",
         options: &[Flag::Functions, Flag::Json],
     },
     Manual {
         verb: Verb::Strip,
         name: "strip",
-        usage: "FILE [--all | --debug | NAME..] [--keep NAME].. -o FILE [--force]",
+        usage: &[
+            "FILE",
+            "[NAME..]",
+            "[--debug]",
+            "[--all]",
+            "[--keep NAME]..",
+            "-o FILE",
+            "[--force]",
+        ],
         says: "\
-writes the module without its custom sections: all, or with --debug those of DWARF, or those of the names.
-It fails if a section that stays refers to sections or offsets that would be removed or moved.",
-        options: &[Flag::All, Flag::Debug, Flag::Keep, Flag::Output, Flag::Force],
+writes the module without the custom sections of these names, and with --debug those of DWARF. With \
+neither it removes all custom sections, but fails if one is linking or reloc.*, which a linker \
+needs. Relocations are removed with their section. If other sections hold indices of sections, a \
+removed one leaves an empty section .objcopy.removed, as with LLVM's strip.",
+        options: &[
+            Flag::All,
+            Flag::Debug,
+            Flag::Keep,
+            Flag::Output,
+            Flag::Force,
+        ],
     },
     Manual {
         verb: Verb::Shorten,
         name: "shorten",
-        usage: "FILE (-o FILE | --dry-run [--json]) [--drop-offsets | --keep-code] [--build-id keep|drop] [--force]",
+        usage: &[
+            "FILE",
+            "(-o FILE | --dry-run [--json])",
+            "[--drop-offsets | --keep-code]",
+            "[--build-id keep|drop]",
+            "[--force]",
+        ],
         says: "\
-writes the module with each section in its minimal encoding. A section that does not decode is copied. Branch
-hints follow their instructions. It fails if offsets in another custom section would no longer be right.",
+writes the module with each section in its minimal encoding. A section that does not decode is \
+kept as it is, and named on standard error. Branch hints follow their instructions. It fails if offsets in \
+another custom section would no longer be right.",
         options: &[
             Flag::Output,
             Flag::DryRun,
@@ -84,14 +114,14 @@ hints follow their instructions. It fails if offsets in another custom section w
     Manual {
         verb: Verb::Build,
         name: "build",
-        usage: "RECIPE -o FILE [--force]",
+        usage: &["RECIPE", "-o FILE", "[--force]"],
         says: "writes the module of a recipe: lines of text that each add an item.",
         options: &[Flag::Output, Flag::Force],
     },
     Manual {
         verb: Verb::Help,
         name: "help",
-        usage: "[COMMAND]",
+        usage: &["[COMMAND]"],
         says: "prints this, or the help of a command. So does COMMAND --help.",
         options: &[],
     },
@@ -103,6 +133,7 @@ pub enum Flag {
     Output,
     Force,
     Section,
+    Id,
     Functions,
     All,
     Debug,
@@ -116,6 +147,13 @@ pub enum Flag {
     DryRun,
     Help,
     Version,
+}
+
+impl Flag {
+    /// Whether all commands take the option.
+    pub fn is_of_all(self) -> bool {
+        matches!(self, Flag::Help | Flag::Version)
+    }
 }
 
 /// How an option is given.
@@ -149,14 +187,15 @@ const fn explained(flag: Flag, long: &'static str, given: Given, says: &'static 
 }
 
 /// The options, in the order of the help.
-pub const OPTIONS: [Explained; 16] = [
+pub const OPTIONS: [Explained; 17] = [
     Explained {
         short: Some("-o"),
         ..explained(
             Flag::Output,
             "--output",
             Given::With("FILE"),
-            "the module that is written. The file is replaced as a whole, or not at all; it may be the input.",
+            "\
+the module that is written. The file is replaced as a whole, or not at all; it may be the input.",
         )
     },
     explained(
@@ -168,22 +207,30 @@ pub const OPTIONS: [Explained; 16] = [
     explained(
         Flag::Section,
         "--section",
-        Given::Often("NAME|ID"),
+        Given::Often("NUMBER|NAME"),
         "\
-a section that dump prints: its id, its name as outline has it, or the name of a custom section.
-There may be several. Without it, dump prints all.",
+a section that dump prints: its number or its kind, as outline has them, or the name of a custom \
+section. There may be several. Without this and --id, dump prints all.",
+    ),
+    explained(
+        Flag::Id,
+        "--id",
+        Given::Often("ID"),
+        "the id of sections that dump prints. There may be several.",
     ),
     explained(
         Flag::Functions,
         "--functions",
         Given::With("N"),
-        "how many functions size prints, by default none.",
+        "how many functions size prints, by default 10.",
     ),
     explained(
         Flag::All,
         "--all",
         Given::Alone,
-        "removes all custom sections, as strip does without this.",
+        "\
+removes all custom sections, also linking and reloc.*, without which an object file cannot be \
+linked.",
     ),
     explained(
         Flag::Debug,
@@ -195,7 +242,7 @@ There may be several. Without it, dump prints all.",
         Flag::Keep,
         "--keep",
         Given::Often("NAME"),
-        "a custom section that stays. There may be several.",
+        "a custom section that stays, with its relocations. There may be several.",
     ),
     explained(
         Flag::Why,
@@ -220,7 +267,7 @@ There may be several. Without it, dump prints all.",
         "--drop-offsets",
         Given::Alone,
         "\
-drops the custom sections that hold offsets: linking, reloc.*, .debug_*, metadata.code.*,
+drops the custom sections that hold offsets: linking, reloc.*, .debug_*, metadata.code.*, \
 external_debug_info, build_id, sourceMappingURL.",
     ),
     explained(
@@ -228,22 +275,23 @@ external_debug_info, build_id, sourceMappingURL.",
         "--keep-code",
         Given::Alone,
         "\
-keeps the code and data sections byte for byte, so that offsets into them stay right, and sections that
-relocations or linking name too. With a source map, all sections before the code stay.",
+keeps the code and data sections byte for byte, so that offsets into them stay right, and sections \
+that relocations or linking name too. With a source map, all sections before the code stay.",
     ),
     explained(
         Flag::BuildId,
         "--build-id",
         Given::With("keep|drop"),
         "\
-whether shorten keeps or drops the section build_id, which identifies the module as it was. Without it,
-build_id is a section that holds offsets.",
+whether shorten keeps or drops the section build_id, which identifies the module as it was. \
+Without it, build_id is a section that holds offsets.",
     ),
     explained(
         Flag::DryRun,
         "--dry-run",
         Given::Alone,
-        "prints the bytes that each section would save, and writes no module. The status is that of shorten.",
+        "\
+prints the bytes that each section would save, and writes no module. The status is that of shorten.",
     ),
     Explained {
         short: Some("-h"),
@@ -255,20 +303,44 @@ build_id is a section that holds offsets.",
             Flag::Version,
             "--version",
             Given::Alone,
-            "prints the version.",
+            "prints the version, and how it was built.",
         )
     },
 ];
 
-const LAST: &str = "
-The file - is standard input or standard output. Exit status: 0 success, 1 error, 2 usage.
+const FIRST: &str = "\
+dolzhytik lists, measures, strips, minimizes and builds WebAssembly modules.
 
-Unverified build: compiled by rustc from the proved source.
 ";
 
-/// The columns of a command and of an option before what they do.
+const LAST: &str = "
+The file - is standard input or standard output.
+Exit status: 0 success, 1 error, 2 usage.
+";
+
+pub const VERSION: &str = concat!(
+    "dolzhytik ",
+    env!("CARGO_PKG_VERSION"),
+    "
+The source of its encoders and decoders is proved in Rattle. rustc compiled this
+build from it, and no proof covers that step.
+"
+);
+
+/// The usage without a command.
+const USAGE: &str = "\
+usage: dolzhytik outline | dump | size | strip | shorten | build FILE ..
+       dolzhytik help [COMMAND]
+       dolzhytik --help | --version
+";
+
+/// The most columns of a line.
+const WIDTH: usize = 80;
+
+/// The columns of a command and of an option before what they do, and of `usage: dolzhytik`.
 const COMMAND: usize = 10;
 const OPTION: usize = 25;
+const CALL: usize = 17;
 
 impl Manual {
     /// Returns the manual of the command with this name.
@@ -276,10 +348,27 @@ impl Manual {
         MANUALS.iter().find(|manual| manual.name == name)
     }
 
+    /// How the command is called, with these words before its name.
+    fn call(&self, front: &str) -> String {
+        let mut text = format!("{front:<CALL$}");
+        append(
+            &mut text,
+            CALL,
+            [self.name].into_iter().chain(self.usage.iter().copied()),
+        );
+        text
+    }
+
+    /// How the command is called.
+    pub fn usage(&self) -> String {
+        self.call("usage: dolzhytik")
+    }
+
     /// The help of this command.
     pub fn help(&self) -> String {
-        let (name, usage, says) = (self.name, self.usage, self.says);
-        let mut text = format!("usage: dolzhytik {name} {usage}\n\n{says}\n\n");
+        let mut text = self.usage() + "\n";
+        append(&mut text, 0, self.says.split(' '));
+        text.push('\n');
         OPTIONS
             .iter()
             .filter(|it| self.options.contains(&it.flag) || it.flag == Flag::Help)
@@ -289,6 +378,10 @@ impl Manual {
 }
 
 impl Explained {
+    pub fn has_value(&self) -> bool {
+        self.given != Given::Alone
+    }
+
     /// How the option is called in errors.
     pub fn name(&self) -> &'static str {
         self.short.unwrap_or(self.long)
@@ -308,36 +401,45 @@ impl Explained {
     }
 
     fn explain(&self, text: &mut String) {
-        append(text, OPTION, &self.shown(), self.says);
+        *text += &format!("{:<OPTION$}", self.shown());
+        append(text, OPTION, self.says.split(' '));
     }
 }
 
-/// Appends a name, and its description in lines beside it.
-fn append(text: &mut String, column: usize, name: &str, says: &str) {
-    let mut name = name;
-    for line in says.lines() {
-        // A `String` accepts all text.
-        let _ = writeln!(text, "{name:<column$}{line}");
-        name = "";
+/// Appends words to a text that ends in this column, and ends the line. Lines of [`WIDTH`] columns
+/// are ended before, and the next ones begin in the same column.
+fn append<'a>(text: &mut String, column: usize, words: impl Iterator<Item = &'a str>) {
+    let mut end = column;
+    for word in words {
+        if end > column && end + 1 + word.len() > WIDTH {
+            *text += &format!("\n{:column$}", "");
+            end = column;
+        }
+        let space = if end > column { " " } else { "" };
+        *text += space;
+        *text += word;
+        end += space.len() + word.len();
     }
+    text.push('\n');
 }
 
-/// How the program is called, in short.
-pub fn usage() -> String {
-    let mut text = String::new();
-    let mut front = "usage:";
-    for Manual { name, usage, .. } in &MANUALS {
-        let _ = writeln!(text, "{front} dolzhytik {name} {usage}");
-        front = "      ";
-    }
-    text + "       dolzhytik --help | --version\n"
+/// How the program is called: with the command, if it is known.
+pub fn usage(manual: Option<&Manual>) -> String {
+    manual.map_or(USAGE.into(), Manual::usage)
 }
 
 /// The help of the program.
 pub fn help() -> String {
-    let mut text = usage() + "\n";
+    let mut text = String::from(FIRST);
+    let mut front = "usage: dolzhytik";
+    for manual in &MANUALS {
+        text += &manual.call(front);
+        front = "       dolzhytik";
+    }
+    text += "       dolzhytik --help | --version\n\n";
     for Manual { name, says, .. } in &MANUALS {
-        append(&mut text, COMMAND, name, says);
+        text += &format!("{name:<COMMAND$}");
+        append(&mut text, COMMAND, says.split(' '));
     }
     text.push('\n');
     OPTIONS.iter().for_each(|it| it.explain(&mut text));

@@ -26,7 +26,16 @@ pub struct Row<'a> {
     count: Result<Option<u32>, ReadError>,
 }
 
-impl Row<'_> {
+impl<'a> Row<'a> {
+    /// The row of a section. That of a data count section has the number of data segments.
+    fn of(section: Section<'a>) -> Self {
+        let count = match (section.count(), section.kind()) {
+            (Ok(_), Some(SectionKind::DataCount)) => section.cursor().read().map(Some),
+            (count, _) => count,
+        };
+        Row { section, count }
+    }
+
     /// The number of items, if the section decodes and they are counted.
     pub fn items(&self) -> Option<u32> {
         self.count.ok().flatten()
@@ -103,9 +112,11 @@ pub fn show(input: &Input, choice: Choice) -> Result<(), Failure> {
 
 /// Decodes each section.
 fn rows_of<'a>(input: &Input, module: &'a [u8]) -> Result<Vec<Row<'a>>, Failure> {
-    let row = |section: Section<'a>| match section.count() {
-        Err(error) if error.cause == ReadFault::Memory => Err(section.failure(input, error)),
-        count => Ok(Row { section, count }),
+    let row = |section: Section<'a>| match Row::of(section) {
+        Row {
+            count: Err(error), ..
+        } if error.cause == ReadFault::Memory => Err(section.failure(input, error)),
+        row => Ok(row),
     };
     sections_of(input, module)?.into_iter().map(row).collect()
 }

@@ -5,46 +5,95 @@ use crate::files::Input;
 use crate::sections::Section;
 use dolzhytik::reader::{Items, LinkItem, ReadError, Symbol};
 
+/// The kind of a section in a COMDAT group.
+const COMDAT_SECTION: u8 = 5;
+
 /// Returns the indices of the sections that relocations are of, or that are symbols. Other sections
 /// hold none.
 pub fn section_indices(section: &Section<'_>) -> Result<Vec<u32>, ReadError> {
     match section.name() {
         Some("linking") => section_symbols(section),
-        Some(name) if name.starts_with("reloc.") => relocated(section.cursor()),
+        Some(_) if is_of_relocations(section) => relocated(section.cursor()).map(|it| vec![it]),
         _ => Ok(Vec::new()),
     }
 }
 
-/// The index of the section that relocations are of.
-fn relocated(mut cursor: Cursor<'_>) -> Result<Vec<u32>, ReadError> {
-    cursor.read::<&str>()?;
-    Ok(vec![cursor.read()?])
+/// Whether the section has relocations.
+pub fn is_of_relocations(section: &Section<'_>) -> bool {
+    section
+        .name()
+        .is_some_and(|name| name.starts_with("reloc."))
 }
 
-/// The indices of the sections that are symbols. A linking section of another version does not
-/// decode.
-fn section_symbols(linking: &Section<'_>) -> Result<Vec<u32>, ReadError> {
-    let mut indices = Vec::new();
-    if let Items::Linking(items) = linking.items()? {
-        let symbols = items.iter().filter_map(|item| match item {
-            LinkItem::Symbols(symbols) => Some(symbols.as_slice()),
-            _ => None,
-        });
-        indices.extend(symbols.flatten().filter_map(|symbol| match symbol {
-            Symbol::Section { section, .. } => Some(*section),
-            _ => None,
-        }));
+/// Returns the index of the section that the relocations of a section are of, if it has any.
+pub fn target(section: &Section<'_>) -> Option<usize> {
+    let index = is_of_relocations(section).then(|| relocated(section.cursor()));
+    Some(index?.ok()? as usize)
+}
+
+/// Returns the highest index that the section holds, if it holds any. Indices that do not decode
+/// may be any.
+pub fn highest_index(section: &Section<'_>) -> Option<usize> {
+    let indices = section_indices(section).and_then(|mut indices| {
+        indices.extend(grouped_sections(section)?);
+        Ok(indices)
+    });
+    match indices {
+        Ok(indices) => indices.into_iter().max().map(|index| index as usize),
+        Err(_) => Some(usize::MAX),
     }
-    Ok(indices)
+}
+
+/// The index of the section that relocations are of.
+fn relocated(mut cursor: Cursor<'_>) -> Result<u32, ReadError> {
+    cursor.read::<&str>()?;
+    cursor.read()
+}
+
+/// The indices in the subsections of a linking section. One of another version does not decode.
+fn in_linking(
+    linking: &Section<'_>,
+    indices: fn(&LinkItem<'_>) -> Vec<u32>,
+) -> Result<Vec<u32>, ReadError> {
+    Ok(match linking.items()? {
+        Items::Linking(items) => items.iter().flat_map(indices).collect(),
+        _ => Vec::new(),
+    })
+}
+
+/// The indices of the sections that are symbols.
+fn section_symbols(linking: &Section<'_>) -> Result<Vec<u32>, ReadError> {
+    in_linking(linking, |item| match item {
+        LinkItem::Symbols(symbols) => (symbols.iter())
+            .filter_map(|symbol| match symbol {
+                Symbol::Section { section, .. } => Some(*section),
+                _ => None,
+            })
+            .collect(),
+        _ => Vec::new(),
+    })
+}
+
+/// The indices of the sections that are members of COMDAT groups.
+fn grouped_sections(section: &Section<'_>) -> Result<Vec<u32>, ReadError> {
+    if section.name() != Some("linking") {
+        return Ok(Vec::new());
+    }
+    in_linking(section, |item| match item {
+        LinkItem::Comdats(groups) => (groups.iter().flat_map(|group| &group.symbols))
+            .filter(|member| member.kind == COMDAT_SECTION)
+            .map(|member| member.index)
+            .collect(),
+        _ => Vec::new(),
+    })
 }
 
 /// Fails if a section that stays refers to sections or offsets that are gone or elsewhere, without
-/// the removed sections. The remedy is for the message.
+/// the removed sections.
 pub fn check_removal(
     input: &Input,
     sections: &[Section<'_>],
     removed: &[bool],
-    remedy: &'static str,
 ) -> Result<(), Failure> {
     let Some(first) = removed.iter().position(|removed| *removed) else {
         return Ok(());
@@ -55,10 +104,7 @@ pub fn check_removal(
         .filter(|(_, removed)| !**removed);
     match stay.find(|(section, _)| breaks(section, sections, first)) {
         None => Ok(()),
-        Some((section, _)) => Err(Failure::References {
-            section: section.named(input),
-            remedy,
-        }),
+        Some((section, _)) => Err(Failure::References(section.named(input))),
     }
 }
 
@@ -66,10 +112,12 @@ pub fn check_removal(
 /// source maps count from the first byte of the module, those of DWARF and of relocations do not.
 fn breaks(section: &Section<'_>, sections: &[Section<'_>], first: usize) -> bool {
     if section.name() == Some("sourceMappingURL") {
-        return sections[first..].iter().any(|it| it.id() == 10);
+        return moves_code(sections, first);
     }
-    // Indices that are not known may be any.
-    section_indices(section).map_or(true, |indices| {
-        indices.iter().any(|index| *index as usize >= first)
-    })
+    highest_index(section).is_some_and(|highest| highest >= first)
+}
+
+/// Whether code is after the first removed section.
+pub fn moves_code(sections: &[Section<'_>], first: usize) -> bool {
+    sections[first..].iter().any(|it| it.id() == 10)
 }

@@ -14,20 +14,27 @@ pub struct Sizes<'a> {
     pub module: usize,
     /// The sections, the largest first.
     pub sections: Vec<Section<'a>>,
-    /// Functions, the largest first.
+    /// Functions, the largest first. There are none if a section does not decode that has their
+    /// bodies or counts their indices.
     pub functions: Vec<Function<'a>>,
+    /// The error of that section.
+    pub failure: Option<Failure>,
 }
 
 impl<'a> Sizes<'a> {
     /// Returns the sizes of the sections, and of this number of functions.
     pub fn of(input: &Input, module: &'a [u8], functions: usize) -> Result<Self, Failure> {
         let mut sections = sections_of(input, module)?;
-        let functions = largest(input, &sections, functions)?;
+        let (functions, failure) = match largest(input, &sections, functions) {
+            Ok(functions) => (functions, None),
+            Err(failure) => (Vec::new(), Some(failure)),
+        };
         sections.sort_by_key(|section| Reverse(section.bytes().len()));
         Ok(Sizes {
             module: module.len(),
             sections,
             functions,
+            failure,
         })
     }
 

@@ -1,12 +1,17 @@
 //! The words after the program's name, and what they ask for.
+use crate::dump::Selector;
 use crate::files::{Input, Output};
 use crate::help::{Explained, Flag, Given, Manual, OPTIONS, Verb};
+use crate::misuse::{Misuse, Usage};
 use crate::outline;
 use crate::shorten::{self, BuildId};
-use crate::strip::{Choice, Selection};
+use crate::strip::Choice;
 use dolzhytik::reader::Offsets;
 use std::ffi::OsString;
-use std::fmt;
+use std::str::FromStr;
+
+/// How many functions `size` lists if no option says it.
+const FUNCTIONS: usize = 10;
 
 /// How results are printed.
 #[derive(Clone, Copy, PartialEq, Eq, Debug)]
@@ -24,8 +29,8 @@ pub enum Command {
     },
     Dump {
         input: Input,
-        /// The names or ids of the sections to list, or none for all.
-        sections: Vec<String>,
+        /// Which sections to list, or none for all.
+        sections: Vec<Selector>,
         format: Format,
     },
     Shorten {
@@ -57,68 +62,6 @@ pub enum Command {
     /// The help of a command, or of the program.
     Help(Option<&'static Manual>),
     Version,
-}
-
-/// Why words ask for nothing that the program does.
-#[derive(PartialEq, Eq, Debug)]
-pub enum Usage {
-    NoCommand,
-    UnknownCommand(OsString),
-    UnknownOption(OsString),
-    /// No word follows this option, which needs one.
-    NoValueOf(&'static str),
-    /// The option is given twice.
-    Twice(&'static str),
-    NotANumber(OsString),
-    NotUtf8(OsString),
-    /// Neither `keep` nor `drop`.
-    NotABuildId(OsString),
-    /// Two of `--all`, `--debug` and names are given.
-    TwoSelections,
-    /// `shorten --json` without `--dry-run`.
-    JsonOfModule,
-    /// Code may stay, or the sections that hold offsets into it are dropped.
-    TwoTreatments,
-    NoInput(&'static str),
-    NoOutput(&'static str),
-    WordTooMany(OsString),
-    NoOptionOf {
-        command: &'static str,
-        option: &'static str,
-    },
-}
-
-impl fmt::Display for Usage {
-    fn fmt(&self, f: &mut fmt::Formatter<'_>) -> fmt::Result {
-        match self {
-            Usage::NoCommand => write!(f, "no command"),
-            Usage::UnknownCommand(word) => write!(f, "no such command: {}", word.display()),
-            Usage::UnknownOption(word) => write!(f, "no such option: {}", word.display()),
-            Usage::NoValueOf(option) => write!(f, "{option} needs a value"),
-            Usage::Twice(option) => write!(f, "{option} is given twice"),
-            Usage::NotANumber(word) => write!(f, "not a number: {}", word.display()),
-            Usage::NotUtf8(word) => write!(f, "not UTF-8: {}", word.display()),
-            Usage::NotABuildId(word) => {
-                write!(
-                    f,
-                    "--build-id needs keep or drop, and not {}",
-                    word.display()
-                )
-            }
-            Usage::TwoTreatments => {
-                write!(
-                    f,
-                    "shorten takes only one of --drop-offsets and --keep-code"
-                )
-            }
-            Usage::JsonOfModule => write!(f, "shorten takes --json only with --dry-run"),
-            Usage::TwoSelections => write!(f, "strip takes only one of --all, --debug and names"),
-            Usage::NoInput(command) => write!(f, "{command} needs a file"),
-            Usage::NoOutput(command) => write!(f, "{command} needs -o FILE"),
-            Usage::WordTooMany(word) => write!(f, "unexpected argument: {}", word.display()),
-            Usage::NoOptionOf { command, option } => write!(f, "{command} takes no {option}"),
-        }
-    }
 }
 
 /// The options that are given, with their values.
@@ -178,17 +121,34 @@ impl Options {
         }
     }
 
+    fn selectors(&self) -> Result<Vec<Selector>, Usage> {
+        let selector = |(option, word): &(&'static Explained, OsString)| match option.flag {
+            Flag::Section => Some(name(word.clone()).map(Selector::of)),
+            Flag::Id => Some(number(word.clone(), Usage::NotAnId).map(Selector::Id)),
+            _ => None,
+        };
+        self.0.iter().filter_map(selector).collect()
+    }
+
     fn functions(&self) -> Result<usize, Usage> {
         let Some(word) = self.values(Flag::Functions).next() else {
-            return Ok(0);
+            return Ok(FUNCTIONS);
         };
-        let number = word.to_str().and_then(|word| word.parse().ok());
-        number.ok_or(Usage::NotANumber(word))
+        number(word, Usage::NotANumber)
     }
 }
 
+/// Reads a number, or returns the error that the word is none.
+fn number<T: FromStr>(word: OsString, error: fn(OsString) -> Usage) -> Result<T, Usage> {
+    let number = word.to_str().and_then(|word| word.parse().ok());
+    number.ok_or_else(|| error(word))
+}
+
+fn name(word: OsString) -> Result<String, Usage> {
+    word.into_string().map_err(Usage::NotUtf8)
+}
+
 fn names(words: impl IntoIterator<Item = OsString>) -> Result<Vec<String>, Usage> {
-    let name = |word: OsString| word.into_string().map_err(Usage::NotUtf8);
     words.into_iter().map(name).collect()
 }
 
@@ -213,7 +173,7 @@ impl Words {
             },
             Verb::Dump => Command::Dump {
                 input: self.input()?,
-                sections: names(self.options.values(Flag::Section))?,
+                sections: self.options.selectors()?,
                 format: self.options.format(),
             },
             Verb::Size => Command::Size {
@@ -311,16 +271,12 @@ impl Words {
 
     /// Which custom sections to remove and to keep.
     fn choice(&mut self) -> Result<Choice, Usage> {
-        let named = names(self.words.by_ref())?;
-        let (all, debug) = (self.options.has(Flag::All), self.options.has(Flag::Debug));
-        let removed = match (all, debug, named.is_empty()) {
-            (_, false, true) => Selection::All,
-            (false, true, true) => Selection::Debug,
-            (false, false, false) => Selection::Named(named),
-            _ => return Err(Usage::TwoSelections),
-        };
-        let kept = names(self.options.values(Flag::Keep))?;
-        Ok(Choice { removed, kept })
+        Ok(Choice {
+            all: self.options.has(Flag::All),
+            debug: self.options.has(Flag::Debug),
+            named: names(self.words.by_ref())?,
+            kept: names(self.options.values(Flag::Keep))?,
+        })
     }
 }
 
@@ -373,8 +329,32 @@ fn help_of(first: Option<OsString>) -> Command {
     Command::Help(first.and_then(Manual::named))
 }
 
+/// Whether a word is an option, and neither a file nor a name.
+fn is_option(word: &str) -> bool {
+    word.starts_with('-') && word != "-"
+}
+
+/// The command of the words, even if other words are wrong.
+fn manual_of(words: &[OsString]) -> Option<&'static Manual> {
+    let mut words = words.iter();
+    loop {
+        let word = words.next()?.to_str()?;
+        if !is_option(word) {
+            return Manual::named(word);
+        }
+        if option(word).is_some_and(|(option, value)| option.has_value() && value.is_none()) {
+            words.next();
+        }
+    }
+}
+
 /// Reads what the words ask for. Options may be anywhere before `--`.
-pub fn read(mut words: impl Iterator<Item = OsString>) -> Result<Command, Usage> {
+pub fn read(words: impl Iterator<Item = OsString>) -> Result<Command, Misuse> {
+    let words: Vec<OsString> = words.collect();
+    read_words(words.iter().cloned()).map_err(|why| Misuse::new(why, manual_of(&words)))
+}
+
+fn read_words(mut words: impl Iterator<Item = OsString>) -> Result<Command, Usage> {
     let (mut others, mut options) = (Vec::new(), Options::default());
     while let Some(word) = words.next() {
         let text = match word.to_str() {
@@ -382,7 +362,7 @@ pub fn read(mut words: impl Iterator<Item = OsString>) -> Result<Command, Usage>
                 others.extend(words.by_ref());
                 break;
             }
-            Some(text) if text.starts_with('-') && text != "-" => text,
+            Some(text) if is_option(text) => text,
             _ => {
                 others.push(word);
                 continue;
@@ -396,11 +376,11 @@ pub fn read(mut words: impl Iterator<Item = OsString>) -> Result<Command, Usage>
             Flag::Version => return Ok(Command::Version),
             _ => {}
         }
-        let value = match option.given {
-            Given::Alone => OsString::new(),
-            Given::With(_) | Given::Often(_) => value
-                .or_else(|| words.next())
-                .ok_or(Usage::NoValueOf(option.name()))?,
+        let value = if option.has_value() {
+            let value = value.or_else(|| words.next());
+            value.ok_or(Usage::NoValueOf(option.name()))?
+        } else {
+            OsString::new()
         };
         options.add(option, value)?;
     }

@@ -16,6 +16,7 @@ use custom::list_items;
 use dolzhytik::reader::{ReadError, ReadFault};
 use items::Items;
 use listing::Listing;
+use std::fmt;
 use std::io::{self, BufWriter, Write};
 
 /// Why a listing ends before the section does.
@@ -54,25 +55,65 @@ fn unwritten(error: io::Error) -> Failure {
     }
 }
 
-/// Whether a word selects the section: its id, the name of its kind, or the name of a custom
-/// section.
-fn selects(word: &str, section: &Section<'_>) -> bool {
-    word.parse() == Ok(section.id()) || word == section.kind_name() || section.name() == Some(word)
+/// Selects sections.
+#[derive(Clone, PartialEq, Eq, Debug)]
+pub enum Selector {
+    /// The number of a section, from 1.
+    Number(usize),
+    /// The name of a kind, or of a custom section.
+    Name(String),
+    Id(u8),
 }
 
-/// Prints the sections that the words select, or all if there are none.
-pub fn dump(input: &Input, module: &[u8], words: &[String], format: Format) -> Result<(), Failure> {
+impl Selector {
+    /// A number of decimal digits, or else a name.
+    pub fn of(word: String) -> Self {
+        let digits = word.bytes().all(|byte| byte.is_ascii_digit());
+        match word.parse() {
+            Ok(number) if digits => Selector::Number(number),
+            _ => Selector::Name(word),
+        }
+    }
+
+    fn selects(&self, section: &Section<'_>) -> bool {
+        match self {
+            Selector::Number(number) => section.number == *number,
+            Selector::Name(name) => name == section.kind_name() || section.name() == Some(name),
+            Selector::Id(id) => section.id() == *id,
+        }
+    }
+}
+
+/// `9`, `"name"`, or `of id 9`.
+impl fmt::Display for Selector {
+    fn fmt(&self, f: &mut fmt::Formatter<'_>) -> fmt::Result {
+        match self {
+            Selector::Number(number) => write!(f, "{number}"),
+            Selector::Name(name) => write!(f, "{name:?}"),
+            Selector::Id(id) => write!(f, "of id {id}"),
+        }
+    }
+}
+
+/// Prints the selected sections, or all if there are no selectors.
+pub fn dump(
+    input: &Input,
+    module: &[u8],
+    selectors: &[Selector],
+    format: Format,
+) -> Result<(), Failure> {
     let sections = sections_of(input, module)?;
-    let lacks = |word: &&String| !sections.iter().any(|section| selects(word, section));
-    if let Some(word) = words.iter().find(lacks) {
+    let lacks = |selector: &&Selector| !sections.iter().any(|section| selector.selects(section));
+    if let Some(selector) = selectors.iter().find(lacks) {
         return Err(Failure::NoSection {
             input: input.clone(),
-            section: word.clone(),
+            selector: selector.clone(),
+            count: sections.len(),
         });
     }
     let out = BufWriter::with_capacity(1 << 16, io::stdout().lock());
     let mut listing = Listing::begin(out, format).map_err(unwritten)?;
-    let listed = list(input, &sections, words, &mut listing);
+    let listed = list(input, &sections, selectors, &mut listing);
     // What is listed before an error is printed, and is valid JSON.
     listing.finish().map_err(unwritten).and(listed)
 }
@@ -80,12 +121,13 @@ pub fn dump(input: &Input, module: &[u8], words: &[String], format: Format) -> R
 fn list(
     input: &Input,
     sections: &[Section<'_>],
-    words: &[String],
+    selectors: &[Selector],
     listing: &mut Listing<impl Write>,
 ) -> Result<(), Failure> {
     let context = Context::of(sections);
-    let is_listed =
-        |section: &Section<'_>| words.is_empty() || words.iter().any(|word| selects(word, section));
+    let is_listed = |section: &Section<'_>| {
+        selectors.is_empty() || selectors.iter().any(|it| it.selects(section))
+    };
     for section in sections {
         let listed = if is_listed(section) {
             list_section(input, section, &context, listing)

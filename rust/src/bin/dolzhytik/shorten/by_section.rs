@@ -17,12 +17,7 @@ pub fn rewrite<'a>(
 ) -> Result<Vec<Rewrite<'a>>, Failure> {
     let sections = sections_of(input, module)?;
     let dropped: Vec<bool> = sections.iter().map(|it| choice.drops(it)).collect();
-    check_removal(
-        input,
-        &sections,
-        &dropped,
-        "--build-id keep leaves them right",
-    )?;
+    check_removal(input, &sections, &dropped)?;
     let kept = if choice.keeps_code {
         kept(input, &sections)?
     } else {

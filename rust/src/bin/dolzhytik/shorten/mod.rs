@@ -149,13 +149,28 @@ fn refusal<'s>(input: &Input, lost: impl Iterator<Item = &'s Section<'s>>) -> Op
     build_id.map(|section| Failure::BuildId(section.named(input)))
 }
 
-/// Prints the sizes on standard error. It is no error if that fails: the module is written.
-fn report(input: &Input, before: usize, shortened: &Shortened<'_>, more: &str) {
-    let (after, kept) = (shortened.size(), shortened.kept());
+/// Prints on standard error why sections do not decode, and the sizes. It is no error if that
+/// fails: the module is written.
+fn report(input: &Input, bytes: &[u8], choice: Choice, shortened: &Shortened<'_>, more: &str) {
+    let (before, after, kept) = (bytes.len(), shortened.size(), shortened.kept());
+    if kept > 0 {
+        report_undecoded(input, bytes, choice);
+    }
     let _ = writeln!(
         io::stderr(),
         "dolzhytik: {input}: {before} bytes before, {after} after; sections kept as they were: {kept}{more}"
     );
+}
+
+/// Names each section that is copied, since it does not decode, with the cause.
+fn report_undecoded(input: &Input, bytes: &[u8], choice: Choice) {
+    let sections = sections_of(input, bytes).unwrap_or_default();
+    for section in sections.iter().filter(|it| !choice.drops(it)) {
+        if let Err(error) = section.count() {
+            let failure = section.failure(input, error);
+            let _ = writeln!(io::stderr(), "dolzhytik: {failure}; kept as it is");
+        }
+    }
 }
 
 /// What a report says of dropped sections.
@@ -182,7 +197,7 @@ pub fn shorten(input: &Input, output: &Output, choice: Choice) -> Result<(), Fai
     progress.begin("writing");
     output.write_parts(&shortened.parts())?;
     drop(progress);
-    report(input, bytes.len(), &shortened, &left_out);
+    report(input, &bytes, choice, &shortened, &left_out);
     Ok(())
 }
 
@@ -211,7 +226,7 @@ pub fn dry_run(input: &Input, choice: Choice, format: Format) -> Result<(), Fail
         Some(failure) => Err(failure),
         None => {
             let more = dropped(choice, &savings) + "; not written";
-            report(input, bytes.len(), &shortened, &more);
+            report(input, &bytes, choice, &shortened, &more);
             Ok(())
         }
     }
