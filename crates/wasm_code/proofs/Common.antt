@@ -13,8 +13,8 @@ pub use Rattle.wasm_code.proofs.ExpressionLaws.{appends_whole, encodable_always,
 pub use Rattle.wasm_code.proofs.MinimalLists.{body_appended, body_encodable, front_sized, runs_encoded}
 pub use Rattle.wasm_code.proofs.RunLaws.{are_runs_of, longer_run, next_run, not_full, types_given}
 pub use Rattle.wasm_code.proofs.SameTypes.{same_val}
-pub use Rattle.wasm_code.proofs.WalkCalls.{HasWalked, begun, continues, ended, of_some, stopped}
-pub use Rattle.wasm_code.proofs.WalkLaws.{decodes_there, end_ended, end_fails, from_offset, runs_read, some_ahead, step_decodes, step_further}
+pub use Rattle.wasm_code.proofs.WalkCalls.{HasWalked, begun, continues, ended, stopped, walk_ends, walk_fails, walk_gives}
+pub use Rattle.wasm_code.proofs.WalkLaws.{before_end_fails, decodes_there, end_ended, end_fails, failure_stays, follow_there, follows, from_offset, next_fails, runs_read, some_ahead, step_decodes, step_further}
 pub use Rattle.wasm_code.specs.{Body, IsCounted, IsNoEnd, IsRuns, ahead, body, body_view, expand, expression, first_encoding}
 pub use Rattle.wasm_insn.proofs.Words.{Plain, any_begins, instruction, instruction_encoding, plain_view, table, unique}
 pub use Rattle.wasm_insn.specs.declared.instruction.Instruction.TheVariants.{F32Const, F64Const, GlobalGet, I32Const, I64Const, Numeric, RefFunc, RefNull, VectorImmediate}

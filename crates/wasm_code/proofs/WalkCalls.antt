@@ -1,11 +1,24 @@
--- This file proves how the steps of the instruction reader decode all of the bytes: lemmas that a
--- caller's proof cites.
-use Rattle.wasm_base.proofs.Words.{Mode, ◌≡◌, ◌≢◌, ℕ, List, [], ◌∷◌, ◌++◌, Option, Some, ap, subst, map-id, RejectsWhole, members, Decodes, Rejects, HasMembers, members_begun, members_continued}
+-- This file proves how the steps of the visitor of instructions decode all of the bytes: lemmas that
+-- a caller's proof cites.
+use Rattle.wasm_base.proofs.Words.{Mode, ◌≡◌, ◌≢◌, ◌∙◌, ℕ, List, [], ◌∷◌, ◌++◌, Option, Some, None, Result, Ok, Err, ap, subst, map-id, RejectsWhole, members, Decodes, Rejects, HasMembers, members_begun, members_continued}
 use Rattle.wasm_base.proofs.Words.{members_fail, members_done}
-use Rattle.std.proofs.Common.{IfSome}
+use Rattle.wasm_base.specs.Faults.{Failure}
 use Rattle.wasm_insn.proofs.Words.{Plain, instruction, table, unique, any_begins}
+use Rattle.wasm_code.specs.{Walking, ahead, GivesInstruction, GivesFailure, NextInstruction}
+use Rattle.wasm_code.specs.declared.walk.Decoded.{Decoded}
 
--- The reader has visited these instructions from `start` on, and `rest` remains.
+-- What `next` says of a call that returned an instruction, `None`, or an error.
+module _ (m : Mode) (before after : Walking) {result : Result (Option Decoded) Failure} where
+  pub walk_gives : {next : Option Decoded} {it : Decoded} → result ≡ Ok next → next ≡ Some it → NextInstruction m before result after → GivesInstruction (instruction table) m before it after
+  walk_gives e f h = subst (λ r. NextInstruction m before r after) (e ∙ ap Ok f) h
+
+  pub walk_ends : {next : Option Decoded} → result ≡ Ok next → next ≡ None → NextInstruction m before result after → ahead before ≡ []
+  walk_ends e f h = (subst (λ r. NextInstruction m before r after) (e ∙ ap Ok f) h).0
+
+  pub walk_fails : {error : Failure} → result ≡ Err error → NextInstruction m before result after → GivesFailure (instruction table) m before error after × (ahead before ≢ [])
+  walk_fails e h = subst (λ r. NextInstruction m before r after) e h
+
+-- The visitor has visited these instructions from `start` on, and `rest` remains.
 abbrev pub HasWalked : Mode → List ℕ → List Plain → List ℕ → Type 0
 HasWalked m start seen rest = HasMembers (instruction table) m (λ i. i) start seen rest
 
@@ -29,7 +42,3 @@ ended {m = m} {start = start} {rest = rest} seen walked e = subst (λ xs. member
 -- `next` returns an error other than `Memory`.
 pub stopped : {m : Mode} {start rest : List ℕ} (seen : List Plain) → HasWalked m start seen rest → rest ≢ [] → Rejects (instruction table) m rest → RejectsWhole (members (instruction table)) m start
 stopped {start = start} {rest = rest} seen walked some none = members_fail (instruction table) (λ i. i) start rest seen walked some none
-
--- A property of the result, if it is an instruction.
-pub of_some : {T : Type 0} (P : T → Type 0) {answer : Option T} {x : T} → answer ≡ Some x → IfSome answer P → P x
-of_some P e h = subst (λ z. IfSome z P) e h

@@ -3,8 +3,14 @@ use Rattle.wasm_base.proofs.Words.{Mode, ◌≡◌, ◌≢◌, ℕ, ◌+◌, ◌
 use Rattle.wasm_base.proofs.Words.{Format, u32, pair, such, vec, Decodes, Rejects, val_type, begins_such, such_none}
 use Rattle.wasm_base.specs.declared.types.ValType.{ValType}
 use Rattle.std.proofs.lemmas.List.{length-append}
+use Rattle.std.specs.Prelude.{Result, Ok, Err, IfErr, IsErrAnd, Option}
+use Rattle.wasm_base.specs.Faults.{Failure}
 use Rattle.wasm_insn.proofs.Words.{Plain, instruction, table, any_begins}
-use Rattle.wasm_code.specs.{IsNoEnd, expression}
+use Rattle.wasm_insn.specs.Operands.{FollowOpcode}
+use Rattle.wasm_insn.specs.declared.op.Op.{Op}
+use Rattle.wasm_insn.specs.declared.operands.Operands.{Operands}
+use Rattle.wasm_code.specs.{IsNoEnd, expression, Walking, ahead, GivesFailure, NextInstruction, NextBeforeEnd}
+use Rattle.wasm_code.specs.declared.walk.Decoded.{Decoded}
 use Rattle.wasm_code.proofs.DecodeLists.{body_no_runs, ended_start, ended_fail, ended_short}
 
 -- ---- offsets
@@ -42,6 +48,25 @@ runs_read {m = m} bytes rest runs h =
     subst (λ z. Decodes (vec (pair u32 val_type)) m bytes runs z) (sym (follows (vec (pair u32 val_type)) bytes rest 0 runs (omega arith) same)) same
 
 pub ruleset body_steps = (runs_read, body_no_runs)
+
+-- ---- what a step returns
+
+-- The opcode and the operands in other bytes, which are equal.
+pub follow_there : {m : Mode} {bytes other rest last : List ℕ} {op : Op} {given : Operands} → bytes ≡ other → rest ≡ last → FollowOpcode m bytes op given rest → FollowOpcode m other op given last
+follow_there {m = m} {other = other} {rest = rest} {op = op} {given = given} e f h = subst (λ z. FollowOpcode m other op given z) f (subst (λ z. FollowOpcode m z op given rest) e h)
+
+-- `?` returns the error.
+pub failure_stays : {T X : Type 0} {F : Format X} {m : Mode} {before after : Walking} (r : Result T Failure) (f : Failure) → IsErrAnd r (λ y. y ≡ f) → GivesFailure F m before f after → IfErr r (λ e. GivesFailure F m before e after)
+failure_stays (Ok x) f h p = elim h [ ]
+failure_stays {F = F} {m = m} {before = before} {after = after} (Err e) f h p = subst (λ z. GivesFailure F m before z after) (sym h) p
+
+pub next_fails : (m : Mode) (before after : Walking) (r : Result (Option Decoded) Failure) (f : Failure) → IsErrAnd r (λ y. y ≡ f) → GivesFailure (instruction table) m before f after → ahead before ≢ [] → NextInstruction m before r after
+next_fails m before after (Ok x) f h p some = elim h [ ]
+next_fails m before after (Err e) f h p some = (subst (λ z. GivesFailure (instruction table) m before z after) (sym h) p, some)
+
+pub before_end_fails : (m : Mode) (before after : Walking) (r : Result (Option Decoded) Failure) (f : Failure) → IsErrAnd r (λ y. y ≡ f) → GivesFailure expression m before f after → NextBeforeEnd m before r after
+before_end_fails m before after (Ok x) f h p = elim h [ ]
+before_end_fails m before after (Err e) f h p = subst (λ z. GivesFailure expression m before z after) (sym h) p
 
 -- ---- the instruction `end`
 

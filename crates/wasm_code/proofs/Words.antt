@@ -6,9 +6,9 @@ pub use Rattle.wasm_code.proofs.Calls.{new_function_of_types, one_constant, padd
 pub use Rattle.wasm_code.proofs.DecodeLists.{body_fills, body_no_code}
 pub use Rattle.wasm_code.proofs.Drained.{drained_vec}
 pub use Rattle.wasm_code.proofs.ExpressionLaws.{expression_encodes, expression_unambiguous, members_one, normal_encodes, stores_included}
-pub use Rattle.wasm_code.proofs.WalkCalls.{HasWalked, continues, ended, of_some, stopped}
+pub use Rattle.wasm_code.proofs.WalkCalls.{HasWalked, continues, ended, stopped, walk_ends, walk_fails, walk_gives}
 pub use Rattle.wasm_code.specs.Bodies.{AddsInstruction, Body, IsWellFormedBody, and_then, body, locals_encoding}
 pub use Rattle.wasm_code.specs.BodyViews.{body_view}
 pub use Rattle.wasm_code.specs.Expressions.{IsNoEnd, StoresInstructions, StoresPadded, expression, expression_encoding, normal_row}
 pub use Rattle.wasm_code.specs.Offsets.{HasVisited}
-pub use Rattle.wasm_code.specs.Walks.{ahead}
+pub use Rattle.wasm_code.specs.Walks.{GivesInstruction, NextInstruction, Walking, ahead}

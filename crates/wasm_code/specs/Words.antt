@@ -4,3 +4,4 @@ pub use Rattle.wasm_code.specs.BodyViews.{body_view}
 pub use Rattle.wasm_code.specs.Code.{code_decoding, raw_code_decoding}
 pub use Rattle.wasm_code.specs.Expressions.{StoresIn, expression, expression_encoding, normal_row}
 pub use Rattle.wasm_code.specs.Laws.{br_table_row}
+pub use Rattle.wasm_code.specs.Walks.{GivesInstruction, NextInstruction, Walking, ahead}

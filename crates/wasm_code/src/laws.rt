@@ -9,6 +9,7 @@
 ghost use Rattle.std.specs.Prelude.{◌∷◌, [], List};
 ghost use Rattle.wasm_base.specs.Formats.{any_bytes, size_prefixed, vec};
 ghost use Rattle.wasm_base.specs.Modules.{DecodesPayloads, DecodesPayloadsPadded};
+ghost use Rattle.wasm_base.specs.Numbers.{padded, standard};
 ghost use Rattle.wasm_base.specs.Decoding.{Unambiguous, UnambiguousWhole, HasMinimalEncodings, UnambiguousPadded, UnambiguousWholePadded};
 ghost use Rattle.wasm_code.specs.Bodies.{Run, body};
 ghost use Rattle.wasm_code.specs.Code.{raw_code, code_section};
@@ -17,10 +18,8 @@ ghost use Rattle.wasm_code.specs.Laws.{RejectsAllAfter, HasOffsets, FindsAdded, 
 ghost use Rattle.wasm_insn.specs.declared.instruction.Instruction.{Instruction};
 ghost use Rattle.wasm_code.specs.Offsets.{OffsetLaws};
 
+pub use self::{padded as wide, rejections as nothing_stands};
 use std::alloc::Allocator;
-
-pub use self::padded as wide;
-pub use self::rejections as nothing_stands;
 
 /// The format of expressions is unambiguous: an expression ends at the first `End` at which an
 /// instruction begins.
@@ -118,5 +117,6 @@ pub fn rejections()
 /// it is at that raw body's length. It has then visited exactly that body.
 #[tactic(auto, using(crate::proofs::OffsetSteps::offsets))]
 pub fn offsets()
-    ensures { OffsetLaws }
+    ensures padded { OffsetLaws padded }
+    ensures standard { OffsetLaws standard }
 {}

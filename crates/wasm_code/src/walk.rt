@@ -1,17 +1,15 @@
 // A visitor of instructions, one at a time. It allocates nothing.
-ghost use Rattle.std.specs.Prelude.{◌≡◌, ◌≢◌, ◌≤◌, ◌<◌, ◌+◌, [], ◌∷◌, IfOk, IfErr, IfSome, None, drop, length};
-ghost use Rattle.wasm_base.specs.Formats.{u32, pair, such, vec};
+ghost use Rattle.std.specs.Prelude.{◌≡◌, ◌≢◌, ◌≤◌, IfOk, IfErr, length};
+ghost use Rattle.wasm_base.specs.Formats.{u32, pair, vec};
 ghost use Rattle.wasm_base.specs.Continuing.{RejectsWhole};
 ghost use Rattle.wasm_base.specs.Numbers.{padded, standard, padded_of};
-ghost use Rattle.wasm_base.specs.Decoding.{Decodes, Rejects};
+ghost use Rattle.wasm_base.specs.Decoding.{Decodes};
 ghost use Rattle.wasm_base.specs.Types.{val_type};
 ghost use Rattle.wasm_insn.specs.Plain.{instruction};
 ghost use Rattle.wasm_insn.specs.Table.{table};
 ghost use Rattle.wasm_code.specs.Bodies.{body};
-ghost use Rattle.wasm_code.specs.Expressions.{IsNoEnd, expression};
 ghost use Rattle.wasm_base.specs.declared.fault.ReadFault.TheVariants.{Memory};
-ghost use Rattle.wasm_insn.specs.Operands.{DecodesOperation};
-ghost use Rattle.wasm_code.specs.Walks.{Walking, ahead};
+ghost use Rattle.wasm_code.specs.Walks.{Walking, ahead, GivesInstruction, GivesFailure, NextInstruction, NextBeforeEnd};
 
 use crate::expression::END;
 use std::alloc::{Allocator, Global};
@@ -137,12 +135,8 @@ impl<'a, A: Allocator + Copy, G: Grammar> Instructions<'a, A, G> {
     /// Visits the instruction at the offset of the visitor, and advances the offset past it.
     #[inline(always)]
     fn step(&mut self) -> Result<Decoded<'a>, DecodeError>
-        ensures offset { IfOk result (λ it. it.offset ≡ self.old.offset) }
-        ensures found { IfOk result (λ it. DecodesOperation (instruction table) (padded_of G.grammar) (ahead self.old) it.op it.operands (ahead self.new)) }
-        ensures further { IfOk result (λ _. (self.old.offset < self.new.offset) × (self.new.offset ≤ length self.new.bytes)) }
-        ensures same { self.new.bytes ≡ self.old.bytes }
-        ensures stays { IfErr result (λ _. self.new.offset ≡ self.old.offset) }
-        ensures none { IfErr result (λ e. e.cause ≢ Memory → Rejects (instruction table) (padded_of G.grammar) (ahead self.old)) }
+        ensures found { IfOk result (λ it. GivesInstruction (instruction table) (padded_of G.grammar) self.old it self.new) }
+        ensures none { IfErr result (λ e. GivesFailure (instruction table) (padded_of G.grammar) self.old e self.new) }
     {
         let offset = self.offset;
         let (op, operands, rest) = read_instruction::<A, G>(&self.bytes[offset..], self.alloc)?;
@@ -158,15 +152,7 @@ impl<'a, A: Allocator + Copy, G: Grammar> Instructions<'a, A, G> {
     /// offset is unchanged.
     #[inline(always)]
     pub fn next(&mut self) -> Result<Option<Decoded<'a>>, DecodeError>
-        ensures offset { IfOk result (λ next. IfSome next (λ it. it.offset ≡ self.old.offset)) }
-        ensures found { IfOk result (λ next. IfSome next (λ it. DecodesOperation (instruction table) (padded_of G.grammar) (ahead self.old) it.op it.operands (ahead self.new))) }
-        ensures further { IfOk result (λ next. IfSome next (λ _. (self.old.offset < self.new.offset) × (self.new.offset ≤ length self.new.bytes))) }
-        ensures end { IfOk result (λ next. next ≡ None → ahead self.old ≡ []) }
-        ensures ended { IfOk result (λ next. next ≡ None → self.new ≡ self.old) }
-        ensures same { self.new.bytes ≡ self.old.bytes }
-        ensures stays { IfErr result (λ _. self.new.offset ≡ self.old.offset) }
-        ensures none { IfErr result (λ e. e.cause ≢ Memory → Rejects (instruction table) (padded_of G.grammar) (ahead self.old)) }
-        ensures left { IfErr result (λ _. ahead self.old ≢ []) }
+        ensures { NextInstruction (padded_of G.grammar) self.old result self.new }
     {
         if self.offset == self.bytes.len() {
             return Ok(None);
@@ -179,14 +165,7 @@ impl<'a, A: Allocator + Copy, G: Grammar> Instructions<'a, A, G> {
     /// the visitor does not pass. After an error the offset is unchanged.
     #[inline(always)]
     pub fn next_before_end(&mut self) -> Result<Option<Decoded<'a>>, DecodeError>
-        ensures offset { IfOk result (λ next. IfSome next (λ it. it.offset ≡ self.old.offset)) }
-        ensures found { IfOk result (λ next. IfSome next (λ it. DecodesOperation (such IsNoEnd (instruction table)) (padded_of G.grammar) (ahead self.old) it.op it.operands (ahead self.new))) }
-        ensures further { IfOk result (λ next. IfSome next (λ _. (self.old.offset < self.new.offset) × (self.new.offset ≤ length self.new.bytes))) }
-        ensures end { IfOk result (λ next. next ≡ None → ahead self.old ≡ 0x0B ∷ drop (self.old.offset + 1) self.old.bytes) }
-        ensures ended { IfOk result (λ next. next ≡ None → self.new ≡ self.old) }
-        ensures same { self.new.bytes ≡ self.old.bytes }
-        ensures stays { IfErr result (λ _. self.new.offset ≡ self.old.offset) }
-        ensures none { IfErr result (λ e. e.cause ≢ Memory → Rejects expression (padded_of G.grammar) (ahead self.old)) }
+        ensures { NextBeforeEnd (padded_of G.grammar) self.old result self.new }
     {
         let [first, ..] = &self.bytes[self.offset..] else {
             return Err(ReadFault::Ended.at(b""));
