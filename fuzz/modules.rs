@@ -18,12 +18,14 @@ use std::time::Instant;
 // ---- modules
 
 /// Names of custom sections that hold offsets.
-const HOLDING: [&str; 7] = [
+const HOLDING: [&str; 9] = [
     "sourceMappingURL",
     "external_debug_info",
     "build_id",
     ".debug_info",
     ".debug_",
+    ".gdb_index",
+    ".apple_names",
     "metadata.code.a",
     "metadata.code.",
 ];
@@ -33,10 +35,12 @@ const TARGETS: [&str; 5] = ["CODE", "DATA", ".debug_info", "name", ""];
 
 /// Names of custom sections that hold no offsets, though some are similar to names of those that
 /// do.
-const OTHERS: [&str; 10] = [
+const OTHERS: [&str; 12] = [
     "sourceMappingURLs",
     "reloc",
     ".debug",
+    ".apple",
+    ".gdb_indexes",
     "metadata.code",
     "linkin",
     "external_debug_inf",

@@ -114,10 +114,10 @@ impl Section<'_> {
         let name = self.name?;
         match name {
             "linking" => Some(Holder::Symbols),
-            "external_debug_info" | "build_id" => Some(Holder::Debug),
+            "external_debug_info" | "build_id" | ".gdb_index" => Some(Holder::Debug),
             "sourceMappingURL" => Some(Holder::SourceMap),
             _ if name.starts_with("reloc.") => Some(Holder::Relocations),
-            _ if name.starts_with(".debug_") => Some(Holder::Debug),
+            _ if name.starts_with(".debug_") || name.starts_with(".apple_") => Some(Holder::Debug),
             _ if name.starts_with("metadata.code.") => Some(Holder::Metadata),
             _ => None,
         }
@@ -133,7 +133,7 @@ pub enum Holder {
     Symbols,
     /// `reloc.*`: a section by index, and offsets from the front of its payload.
     Relocations,
-    /// DWARF, in the module or in a file that the module names or shares a `build_id` with: offsets
+    /// DWARF and its indexes, in the module or in a file that the module names or shares a `build_id` with: offsets
     /// from the front of the code section's payload.
     Debug,
     /// `metadata.code.*`: offsets in function bodies.

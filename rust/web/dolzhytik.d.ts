@@ -37,7 +37,8 @@ export interface Item {
 export interface MinimizeOptions {
   /**
    * Leaves out the custom sections that hold offsets: `linking`, `reloc.*`, `.debug_*`,
-   * `metadata.code.*`, `external_debug_info`, `build_id` and `sourceMappingURL`.
+   * `.gdb_index`, `.apple_*`, `metadata.code.*`, `external_debug_info`, `build_id` and
+   * `sourceMappingURL`.
    */
   dropOffsets?: boolean;
 }

@@ -54,7 +54,7 @@ pub use Rattle.wasm_base.specs.declared.types.ValType.TheVariants.{I32}
 pub use Rattle.wasm_code.proofs.Words.{AddsInstruction, Body, HasVisited, HasWalked, IsNoEnd, IsWellFormedBody, StoresPadded, adds_bodies, adds_bodies_padded, adds_body, adds_body_padded}
 pub use Rattle.wasm_code.proofs.Words.{adds_constant, adds_instruction, adds_instruction_padded, adds_instructions_padded, ahead, all_of, and_then, body, body_fills, body_no_code, continues}
 pub use Rattle.wasm_code.proofs.Words.{encodes_code, encodes_code_padded, encodes_padded, ended, expression_encoding, gains_code, gains_code_padded, gains_raw_code, included_body, included_constant}
-pub use Rattle.wasm_code.proofs.Words.{lent, members_one, new_code, new_function, new_function_of_types, normal_row, of_some, one_constant, padded_i32_const, raw_constant, stopped, without_runs}
+pub use Rattle.wasm_code.proofs.Words.{lent, members_one, new_code, new_function, new_function_of_types, normal_row, one_constant, padded_i32_const, raw_constant, stopped, walk_ends, walk_fails, walk_gives, without_runs}
 pub use Rattle.wasm_code.proofs.Words.{writes_instruction, writes_labels}
 pub use Rattle.wasm_custom.proofs.Words.{ContainsNames, Map, Module, NameItem, adds_core_module, adds_dylink_export, adds_dylink_import, adds_dylink_memory, adds_exports_flags, adds_feature}
 pub use Rattle.wasm_custom.proofs.Words.{adds_field, adds_folder, adds_frame, adds_frame_of, adds_hints, adds_hints_of, adds_imports_flags, adds_inside, adds_instance, adds_instance_of, adds_library}

@@ -151,8 +151,8 @@ uint64_t dz_outline(const uint8_t *module, size_t module_len, dz_outlined *out, 
    decode as their kinds.
 
    The bytes after padded LEB128 move. These custom sections hold offsets: `linking`,
-   `external_debug_info`, `build_id`, `sourceMappingURL`, and names that begin with `reloc.`,
-   `.debug_` or `metadata.code.`. If `drop_offsets` is not 0, they are left out. If it is 0, the
+   `external_debug_info`, `build_id`, `.gdb_index`, `sourceMappingURL`, and names that begin with
+   `reloc.`, `.debug_`, `.apple_` or `metadata.code.`. If `drop_offsets` is not 0, they are left out. If it is 0, the
    call fails for a module whose offsets might become wrong: with any of these sections, the code
    and data sections must keep their bytes; with `reloc.`, so must the custom sections; with
    `sourceMappingURL`, so must the number of bytes before each code section. `*place` is then the

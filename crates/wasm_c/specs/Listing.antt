@@ -2,7 +2,7 @@
 use Rattle.std.specs.Prelude.{◌≡◌, ◌≢◌, ℕ, List, map, Option, Some, None, ◌⊎◌}
 use Rattle.wasm_base.specs.declared.fault.ReadFault.{ReadFault}
 use Rattle.wasm_base.specs.declared.fault.ReadFault.TheVariants.{Ended, NotShortest, TooLarge, UnknownTag, UnknownOpcode, NotUtf8, SizeMismatch, Memory}
-use Rattle.wasm_reader.specs.Words.{HasLines, StopsAt}
+use Rattle.wasm_reader.specs.Words.{HasLines, StopsAt, ExplainsHeader}
 use Rattle.wasm_reader.specs.declared.modules.Listed.{Listed}
 use Rattle.wasm_c.specs.Assembled.{Gives}
 use Rattle.wasm_c.specs.declared.TheConstants.{NO_ANSWER}
@@ -37,14 +37,14 @@ pub record Lists (module_bytes : List ℕ) (old new : List DzSection) (place cau
   pub no_cause : cause ≡ 0
 
 -- The call returns no list, and writes nothing. The section of this number is the first that does
--- not decode, or an allocation failed. At 0, the header, the error is `Ended` or `UnknownTag`.
+-- not decode, or an allocation failed. At 0 it is the header, and the error says why.
 pub record Refuses (module_bytes : List ℕ) (old new : List DzSection) (place cause n : ℕ) : Type 0 where
   pub answer : n ≡ NO_ANSWER
   pub kept : new ≡ old
   pub fault : ReadFault
   pub numbered : cause ≡ fault_number fault
   pub stops : fault ≢ Memory → StopsAt module_bytes place
-  pub header : place ≡ 0 → fault ≢ Memory → (fault ≡ Ended) ⊎ (fault ≡ UnknownTag)
+  pub header : ExplainsHeader module_bytes place fault
 
 -- The result of a call with a module: an error or a list.
 abbrev pub Outcome : List ℕ → List DzSection → List DzSection → ℕ → ℕ → ℕ → Type 0

@@ -3,7 +3,7 @@ use Rattle.std.specs.Prelude.{◌≡◌, ◌≢◌, ℕ, ◌+◌, List, [], ◌�
 use Rattle.wasm_base.specs.Words.{name, wasm_module, RejectsWhole, padded, Decodes}
 use Rattle.wasm_base.specs.declared.fault.ReadFault.{ReadFault}
 use Rattle.wasm_base.specs.declared.fault.ReadFault.TheVariants.{Memory}
-use Rattle.wasm_reader.specs.Words.{HasOutline, EndsAt}
+use Rattle.wasm_reader.specs.Words.{HasOutline, EndsAt, ExplainsHeader}
 use Rattle.wasm_reader.specs.declared.outlines.Outlined.{Outlined}
 use Rattle.wasm_c.specs.Assembled.{Gives}
 use Rattle.wasm_c.specs.Listing.{count_of, fault_number}
@@ -59,7 +59,8 @@ pub record Outlines (module_bytes : List ℕ) (old new : List DzOutlined) (place
   pub no_cause : cause ≡ 0
 
 -- The call returns no outline, and writes nothing. The section of this number is the first that is
--- malformed, whatever its payload, or an allocation failed.
+-- malformed, whatever its payload, or an allocation failed. At 0 it is the header, and the error
+-- says why.
 pub record Refuses (module_bytes : List ℕ) (old new : List DzOutlined) (place cause n : ℕ) : Type 0 where
   pub answer : n ≡ NO_ANSWER
   pub kept : new ≡ old
@@ -67,6 +68,7 @@ pub record Refuses (module_bytes : List ℕ) (old new : List DzOutlined) (place 
   pub numbered : cause ≡ fault_number fault
   pub ends : fault ≢ Memory → EndsAt module_bytes place
   pub no_module : fault ≢ Memory → RejectsWhole wasm_module padded module_bytes
+  pub header : ExplainsHeader module_bytes place fault
 
 -- The result of a call with a module: an error or an outline.
 abbrev pub Outcome : List ℕ → List DzOutlined → List DzOutlined → ℕ → ℕ → ℕ → Type 0

@@ -1,7 +1,7 @@
 -- This file defines the result of `dz_shorten_module`.
 use Rattle.std.specs.Prelude.{◌≡◌, ℕ, List, [], ◌⊎◌, cond, ◌==◌}
 use Rattle.wasm_base.specs.declared.fault.ReadFault.{ReadFault}
-use Rattle.wasm_reader.specs.Words.{ShortensModule, Explains}
+use Rattle.wasm_reader.specs.Words.{ShortensModule, Explains, ExplainsHeader}
 use Rattle.wasm_reader.specs.declared.whole.Offsets.{Offsets}
 use Rattle.wasm_reader.specs.declared.whole.Offsets.TheVariants.{Refuse, LeaveOut}
 use Rattle.wasm_c.specs.Assembled.{Gives}
@@ -24,11 +24,11 @@ pub record Shortened (module_bytes : List ℕ) (drop_offsets : ℕ) (old new : L
   pub no_cause : cause ≡ 0
 
 -- The section of this number would lose its offsets; or it is the first that is malformed, whatever
--- its payload, or an allocation failed.
+-- its payload, or an allocation failed. At 0 it is the header, and the error says why.
 abbrev pub IsWhy : List ℕ → ℕ → ℕ → ℕ → Type 0
 IsWhy module_bytes drop_offsets place cause =
     ((cause ≡ 10) × Explains (offsets_numbered drop_offsets) module_bytes (faults.Offsets place))
-    ⊎ ((fault : ReadFault) × (cause ≡ fault_number fault) × Explains (offsets_numbered drop_offsets) module_bytes (faults.Section place fault))
+    ⊎ ((fault : ReadFault) × (cause ≡ fault_number fault) × Explains (offsets_numbered drop_offsets) module_bytes (faults.Section place fault) × ExplainsHeader module_bytes place fault)
 
 -- The call returns no module, and writes nothing.
 pub record Refuses (module_bytes : List ℕ) (drop_offsets : ℕ) (old new : List ℕ) (kept place cause n : ℕ) : Type 0 where

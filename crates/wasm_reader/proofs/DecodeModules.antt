@@ -1,11 +1,13 @@
 -- This file proves how the reader lists a module's sections.
+use Rattle.wasm_reader.specs.declared.read_error.ReadError.{ReadError}
+use Rattle.wasm_reader.specs.{IsFirstWrong, IsHeaderCause, IsHeaderError}
 use Rattle.wasm_reader.specs.{kind_of_id, Contents, content, Sized, sized_section, sized_module, line_of, HasLines, StopsBehind}
 use Rattle.wasm_reader.specs.declared.modules.Listed.{Listed}
 use Rattle.wasm_reader.specs.declared.kinds.SectionKind.{SectionKind}
-use Rattle.wasm_base.proofs.Words.{◌≡◌, ◌≢◌, ℕ, ◌<◌, ◌^◌, List, [], ◌∷◌, ◌++◌, length, map, take, drop, refl, sym, ap, subst, ◌∙◌, arith, map-append, take-append-drop, take_at, length-map}
+use Rattle.wasm_base.proofs.Words.{◌≡◌, ◌≢◌, inl, inr, ℕ, suc, ◌<◌, ◌≤◌, ◌^◌, get_or, List, [], ◌∷◌, ◌++◌, length, map, take, drop, refl, sym, ap, subst, ◌∙◌, arith, map-append, take-append-drop, take_at, length-map}
 use Rattle.wasm_base.proofs.Words.{RejectsWhole, padded, Format, byte, any_bytes, any_section, fixed, size_prefixed, header, members, Decodes, Rejects, size_prefixed_bytes_unambiguous}
 use Rattle.wasm_base.proofs.Words.{byte_unambiguous, decodes_same, then_decodes, then_rejects_second, members_start, members_step, whole_decodes}
-use Rattle.std.proofs.lemmas.List.{length-append}
+use Rattle.std.proofs.lemmas.List.{length-append, get_or-take}
 use Rattle.wasm_sections.proofs.Words.{prefixed_decodes}
 
 -- ---- the header
@@ -23,6 +25,26 @@ pub header_other : (bytes front : List ℕ) → front ≡ take 8 bytes → front
 header_other bytes front f other = record { none = λ u rest h. other (f ∙ ap (take 8) (h.split ∙ ap (λ z. z ++ rest) h.encodes.0) ∙ take_at header rest 8 refl) }
 
 pub ruleset header_steps = (header_found, header_short, header_other)
+
+-- If the bytes up to an offset and the one there are the same in both, so is the one there.
+pub last_same : (bytes other : List ℕ) (n d : ℕ) → take (suc n) bytes ≡ take (suc n) other → get_or bytes n d ≡ get_or other n d
+last_same bytes other n d e = sym (get_or-take (suc n) bytes n d (omega arith)) ∙ ap (λ z. get_or z n d) e ∙ get_or-take (suc n) other n d (omega arith)
+
+-- If the first bytes are the header's, the bytes begin with the header.
+whole_header : (bytes : List ℕ) → take 8 bytes ≡ header → Rejects no_value padded bytes → ⊥
+whole_header bytes e none = none.none tt (drop 8 bytes) (record { front = header; split = sym (take-append-drop 8 bytes) ∙ ap (λ z. z ++ drop 8 bytes) e; encodes = (refl, refl) })
+
+-- The first byte that differs is one of the header's.
+pub first_wrong : (bytes : List ℕ) (n : ℕ) → n ≤ 8 → take n bytes ≡ take n header → (n < length bytes → n < 8 → take (suc n) bytes ≢ take (suc n) header) → 8 ≤ length bytes → Rejects no_value padded bytes → IsFirstWrong bytes n
+first_wrong bytes n l e differs long none =
+    let other : n ≢ 8 = λ k. whole_header bytes (subst (λ m. take m bytes ≡ take m header) k e) none in
+    let inside : n < 8 = omega (arith, l, other) in
+    record { inside = inside; same = e; wrong = differs (omega (arith, inside, long)) inside }
+
+-- An error with the cause of bytes that do not begin with the header, at its offset.
+pub header_error : (bytes : List ℕ) (e : ReadError) → IsHeaderCause bytes e.cause → (length bytes < 8 → e.offset ≡ length bytes) → (8 ≤ length bytes → IsFirstWrong bytes e.offset) → IsHeaderError bytes e
+header_error bytes e (inl h) short wrong = record { cause = inl h; ended = λ k. short h.1; wrong = λ k. absurd (cc (h.0, k)) }
+header_error bytes e (inr h) short wrong = record { cause = inr h; ended = λ k. absurd (cc (h.0, k)); wrong = λ k. wrong h.1 }
 
 -- ---- lines
 

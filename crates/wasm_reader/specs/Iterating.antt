@@ -1,9 +1,9 @@
 -- This file defines the iterators over the sections of a module, and over the bodies of a code
 -- section.
-use Rattle.std.specs.Prelude.{◌≡◌, ◌≢◌, ℕ, suc, ◌+◌, ◌≤◌, List, [], ◌++◌, length, drop, nat_lt, if◌then◌else◌, Option, Some, None, Result, Ok, Err}
-use Rattle.wasm_base.specs.Words.{padded, any_bytes, any_section, size_prefixed, Decodes, Rejects}
-use Rattle.wasm_base.specs.declared.fault.ReadFault.TheVariants.{Memory}
-use Rattle.wasm_reader.specs.Outlines.{Section, IsSection, bytes_of, section_kind_of}
+use Rattle.std.specs.Prelude.{◌≡◌, ◌≢◌, ℕ, suc, ◌+◌, ◌<◌, ◌≤◌, List, [], ◌++◌, length, take, drop, nat_lt, if◌then◌else◌, Option, Some, None, Result, Ok, Err}
+use Rattle.wasm_base.specs.Words.{padded, any_bytes, any_section, header, size_prefixed, Decodes, Rejects}
+use Rattle.wasm_base.specs.declared.fault.ReadFault.TheVariants.{Ended, UnknownTag, Memory}
+use Rattle.wasm_reader.specs.Outlines.{Section, IsSection, IsHeaderCause, bytes_of, section_kind_of}
 use Rattle.wasm_reader.specs.declared.kinds.SectionKind.{SectionKind}
 use Rattle.wasm_reader.specs.declared.read_error.ReadError.{ReadError}
 
@@ -18,6 +18,19 @@ pub record Iterating : Type 0 where
 -- The bytes from the next section on.
 abbrev pub ahead : Iterating → List ℕ
 ahead it = drop it.offset it.bytes
+
+-- This is the offset of the first byte that differs from the header's.
+pub record IsFirstWrong (bytes : List ℕ) (offset : ℕ) : Type 0 where
+  pub inside : offset < length header
+  pub same : take offset bytes ≡ take offset header
+  pub wrong : take (suc offset) bytes ≢ take (suc offset) header
+
+-- The error of bytes that do not begin with the header: at their end if they end before it does,
+-- and otherwise at the first byte that differs.
+pub record IsHeaderError (bytes : List ℕ) (e : ReadError) : Type 0 where
+  pub cause : IsHeaderCause bytes e.cause
+  pub ended : e.cause ≡ Ended → e.offset ≡ length bytes
+  pub wrong : e.cause ≡ UnknownTag → IsFirstWrong bytes e.offset
 
 -- A section, and the offset of its id in the module.
 pub record Located : Type 0 where

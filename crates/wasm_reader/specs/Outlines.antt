@@ -1,8 +1,10 @@
 -- This file defines modules as `outline` visits them: each section with any payload, whether that
 -- decodes by its kind or not.
-use Rattle.std.specs.Prelude.{◌≡◌, ◌≢◌, ℕ, zero, suc, ◌+◌, List, [], ◌∷◌, ◌++◌, length, Option, Some, None, option_map}
+use Rattle.std.specs.Prelude.{◌≡◌, ◌≢◌, ◌⊎◌, ℕ, zero, suc, ◌+◌, ◌<◌, ◌≤◌, List, [], ◌∷◌, ◌++◌, length, Option, Some, None, option_map}
 use Rattle.std.specs.List.{AllByRecursion, flat_map}
 use Rattle.wasm_base.specs.Words.{padded, standard, any_bytes, any_section, fixed, size_prefixed, header, name, wasm_module, Decodes, Rejects, number_of}
+use Rattle.wasm_base.specs.declared.fault.ReadFault.{ReadFault}
+use Rattle.wasm_base.specs.declared.fault.ReadFault.TheVariants.{Ended, UnknownTag, Memory}
 use Rattle.wasm_reader.specs.Kinds.{kind_among, known_kinds, kind_named, number_in, Contents, content}
 use Rattle.wasm_reader.specs.declared.outlines.Outlined.{Outlined}
 use Rattle.wasm_reader.specs.declared.kinds.SectionKind.{SectionKind}
@@ -107,3 +109,13 @@ pub record EndsBehind (bytes : List ℕ) (number : ℕ) : Type 0 where
 abbrev pub EndsAt : List ℕ → ℕ → Type 0
 EndsAt bytes zero = Rejects (fixed header (tt {0})) padded bytes
 EndsAt bytes (suc number) = EndsBehind bytes number
+
+-- The cause of the error of bytes that do not begin with the header: they end before it does, or
+-- one of its bytes differs.
+abbrev pub IsHeaderCause : List ℕ → ReadFault → Type 0
+IsHeaderCause bytes fault = ((fault ≡ Ended) × (length bytes < length header)) ⊎ ((fault ≡ UnknownTag) × (length header ≤ length bytes))
+
+-- An error at section number 0 has the cause of bytes that do not begin with the header, unless an
+-- allocation failed.
+abbrev pub ExplainsHeader : List ℕ → ℕ → ReadFault → Type 0
+ExplainsHeader bytes number fault = number ≡ 0 → fault ≢ Memory → IsHeaderCause bytes fault

@@ -5,7 +5,7 @@ use Rattle.std.specs.List.{AllByRecursion, flat_map}
 use Rattle.std.specs.Str.{bytes_eq}
 use Rattle.wasm_base.specs.Words.{admitted, padded, standard, any_section, header, members, wasm_module, RejectsWhole, Decodes, Rejects, number_of}
 use Rattle.wasm_custom.specs.Words.{begins_with, linking_name, relocations_prefix}
-use Rattle.wasm_reader.specs.Outlines.{Section, bytes_of, section_kind_of, IsSection, HasSections, EndsAt}
+use Rattle.wasm_reader.specs.Outlines.{Section, bytes_of, section_kind_of, IsSection, HasSections, EndsAt, ExplainsHeader}
 use Rattle.wasm_reader.specs.Sections.{section, ShortensIn}
 use Rattle.wasm_reader.specs.declared.whole.Found.{Found}
 use Rattle.wasm_reader.specs.declared.whole.How.{How}
@@ -24,12 +24,12 @@ pub use Rattle.wasm_base.specs.Minimal.{IsFrontOf}
 -- ---- custom sections that hold offsets
 
 -- Whether a custom section of this name holds offsets into code and data. These are symbols,
--- debugging information, a reference to a file with it, the identity that ties such a file to the
--- module, and code metadata.
+-- debugging information and indexes of it, a reference to a file with it, the identity that ties
+-- such a file to the module, and code metadata.
 abbrev pub names_code_offsets : List ℕ → Bool
 names_code_offsets n =
     bytes_eq n linking_name || bytes_eq n (codes "external_debug_info") || bytes_eq n (codes "build_id") || begins_with (codes ".debug_") n
-    || begins_with (codes "metadata.code.") n
+    || bytes_eq n (codes ".gdb_index") || begins_with (codes ".apple_") n || begins_with (codes "metadata.code.") n
 
 -- The sections that the offsets in a custom section of this name point into. Relocations name any
 -- section, and a source map counts from the first byte of the module.
@@ -170,6 +170,12 @@ pub record LosesOffsets (bytes : List ℕ) (number : ℕ) : Type 0 where
 abbrev pub Explains : Offsets → List ℕ → ModuleFault → Type 0
 Explains offsets bytes (faults.Section number fault) = fault ≢ Memory → EndsAt bytes number × RejectsWhole wasm_module padded bytes
 Explains offsets bytes (faults.Offsets number) = (offsets ≡ Refuse) × LosesOffsets bytes number
+
+-- An error at section number 0 has the cause of bytes that do not begin with the header, unless an
+-- allocation failed.
+abbrev pub ExplainsNoHeader : List ℕ → ModuleFault → Type 0
+ExplainsNoHeader bytes (faults.Section number fault) = ExplainsHeader bytes number fault
+ExplainsNoHeader bytes (faults.Offsets number) = Unit {0}
 
 -- ---- intermediate steps
 

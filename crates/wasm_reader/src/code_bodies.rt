@@ -1,5 +1,5 @@
 // Iterates over the bodies of a code section, without decoding them.
-ghost use Rattle.std.specs.Prelude.{◌≡◌, ◌≢◌, ◌+◌, ◌<◌, ◌≤◌, ◌⊎◌, ◌^◌, [], length, IfOk, IfErr};
+ghost use Rattle.std.specs.Prelude.{◌≡◌, ◌≢◌, ◌+◌, ◌<◌, ◌≤◌, ◌⊎◌, ◌^◌, [], length, min, IfOk, IfErr};
 ghost use Rattle.std.specs.Iterator.{at_most};
 ghost use Rattle.wasm_base.specs.Formats.{u32, pair, vec};
 ghost use Rattle.wasm_base.specs.Numbers.{padded, standard};
@@ -197,9 +197,11 @@ impl<'a, A: Allocator + Copy> CodeBody<'a, A> {
         }
     }
 
-    /// Returns an error of the visitor of its instructions with the offset in the module.
+    /// Returns an error of the visitor of its instructions with the offset in the module: that of
+    /// the end of the body, less the bytes left of the error.
     pub fn locate(&self, error: DecodeError) -> ReadError
         ensures cause { result.cause ≡ error.cause }
+        ensures offset { result.offset + min (length self.now.bytes) error.left ≡ self.now.offset + length self.now.bytes }
         ensures from { self.now.offset ≤ result.offset }
         ensures within { result.offset ≤ self.now.offset + length self.now.bytes }
     {

@@ -1,12 +1,13 @@
 // Lists the sections of a module.
-ghost use Rattle.std.specs.Prelude.{◌≡◌, ◌≢◌, ◌⊎◌, ◌++◌, length, IfOk, IfErr};
+ghost use Rattle.std.specs.Prelude.{◌≡◌, ◌≢◌, ◌++◌, length, IfOk, IfErr};
 ghost use Rattle.wasm_base.specs.Formats.{fixed, header};
 ghost use Rattle.wasm_base.specs.Numbers.{padded};
 ghost use Rattle.wasm_base.specs.Continuing.{RejectsWhole};
 ghost use Rattle.wasm_base.specs.Decoding.{Rejects};
-ghost use Rattle.wasm_base.specs.declared.fault.ReadFault.TheVariants.{Ended, UnknownTag, Memory};
+ghost use Rattle.wasm_base.specs.declared.fault.ReadFault.TheVariants.{Memory};
 ghost use Rattle.wasm_reader.specs.Kinds.{Contents, content, kind_of_id};
 ghost use Rattle.wasm_reader.specs.Modules.{line_of, HasLines, StopsAt};
+ghost use Rattle.wasm_reader.specs.Outlines.{IsHeaderCause, ExplainsHeader};
 
 use crate::kinds::{kind_of_id, read_number};
 use crate::sections::{Section, Sections};
@@ -32,7 +33,7 @@ pub struct Listed {
 pub(crate) fn read_header(bytes: &[u8]) -> Result<&[u8], ReadFault>
     ensures found { IfOk result (λ rest. bytes.now ≡ header ++ rest.now) }
     ensures none { IfErr result (λ _. Rejects (fixed header (tt {0})) padded bytes.now) }
-    ensures cause { IfErr result (λ e. (e ≡ Ended) ⊎ (e ≡ UnknownTag)) }
+    ensures cause { IfErr result (λ e. IsHeaderCause bytes.now e) }
 {
     match bytes.split_first_chunk::<8>() {
         None => Err(ReadFault::Ended),
@@ -71,7 +72,7 @@ pub fn list_module<'a, A: Allocator + Copy>(
 ) -> Result<Vec<Listed, A>, (usize, ReadFault)>
     ensures found { IfOk result (λ lines. HasLines bytes.now lines.items) }
     ensures none { IfErr result (λ e. e.1 ≢ Memory → StopsAt bytes.now e.0) }
-    ensures header { IfErr result (λ e. e.0 ≡ 0 → e.1 ≢ Memory → (e.1 ≡ Ended) ⊎ (e.1 ≡ UnknownTag)) }
+    ensures header { IfErr result (λ e. ExplainsHeader bytes.now e.0 e.1) }
 {
     let mut sections = match Sections::new(alloc, bytes) {
         Ok(sections) => sections,

@@ -4,7 +4,7 @@ ghost use Rattle.wasm_base.specs.Formats.{wasm_module};
 ghost use Rattle.wasm_base.specs.Continuing.{RejectsWhole};
 ghost use Rattle.wasm_base.specs.Numbers.{padded};
 ghost use Rattle.wasm_base.specs.declared.fault.ReadFault.TheVariants.{Memory};
-ghost use Rattle.wasm_reader.specs.Outlines.{section_kind_of, IsCount, IsOutline, HasOutline, EndsAt};
+ghost use Rattle.wasm_reader.specs.Outlines.{section_kind_of, IsCount, IsOutline, HasOutline, EndsAt, ExplainsHeader};
 
 use crate::kinds::read_number;
 use crate::sections::{Section, Sections};
@@ -68,7 +68,7 @@ fn line_of<'a, A: Allocator + Copy>(section: &Section<'a, A>) -> Result<Outlined
 ///
 /// Returns the error and a section number, counted from 1. For any error but `Memory`, this is the
 /// first section that is not an id and a size-prefixed payload. It is 0 if the bytes do not begin
-/// with the header.
+/// with the header: the cause is then `Ended` if they are fewer than 8, and `UnknownTag` otherwise.
 pub fn outline<'a, A: Allocator + Copy>(
     alloc: A,
     bytes: &'a [u8],
@@ -76,6 +76,7 @@ pub fn outline<'a, A: Allocator + Copy>(
     ensures found { IfOk result (λ lines. HasOutline bytes.now lines.items) }
     ensures none { IfErr result (λ e. e.1 ≢ Memory → EndsAt bytes.now e.0) }
     ensures no_module { IfErr result (λ e. e.1 ≢ Memory → RejectsWhole wasm_module padded bytes.now) }
+    ensures header { IfErr result (λ e. ExplainsHeader bytes.now e.0 e.1) }
 {
     let mut sections = match Sections::new(alloc, bytes) {
         Ok(sections) => sections,

@@ -1,5 +1,5 @@
 // The error of the iterators over a module.
-ghost use Rattle.std.specs.Prelude.{◌≡◌, ◌+◌, ◌≤◌};
+ghost use Rattle.std.specs.Prelude.{◌≡◌, ◌+◌, ◌≤◌, min};
 
 use thiserror::Error;
 use wasm_base::{DecodeError, ReadFault};
@@ -27,6 +27,7 @@ impl ReadError {
     pub(crate) fn located(error: DecodeError, size: usize, end: usize) -> ReadError
         requires { size ≤ end }
         ensures cause { result.cause ≡ error.cause }
+        ensures offset { result.offset + min size error.left ≡ end }
         ensures from { end ≤ result.offset + size }
         ensures within { result.offset ≤ end }
     {

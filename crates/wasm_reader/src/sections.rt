@@ -1,15 +1,15 @@
 // Iterates over the sections of a module.
-ghost use Rattle.std.specs.Prelude.{◌≡◌, ◌≢◌, ◌++◌, ◌+◌, ◌<◌, ◌≤◌, ◌^◌, ◌⊎◌, length, drop, option_map, IfOk, IfErr, OnOk, OnErr};
+ghost use Rattle.std.specs.Prelude.{◌≡◌, ◌≢◌, ◌++◌, ◌+◌, ◌<◌, ◌≤◌, ◌^◌, suc, length, take, option_map, IfOk, IfErr, OnOk, OnErr};
 ghost use Rattle.std.specs.Iterator.{at_most};
 ghost use Rattle.wasm_base.specs.Formats.{fixed, header};
 ghost use Rattle.wasm_base.specs.Minimal.{MinimizesWhole};
 ghost use Rattle.wasm_base.specs.Numbers.{admitted, padded, standard};
 ghost use Rattle.wasm_base.specs.Continuing.{RejectsWhole};
 ghost use Rattle.wasm_base.specs.Decoding.{Rejects};
-ghost use Rattle.wasm_base.specs.declared.fault.ReadFault.TheVariants.{Ended, UnknownTag, Memory};
+ghost use Rattle.wasm_base.specs.declared.fault.ReadFault.TheVariants.{Memory};
 ghost use Rattle.wasm_reader.specs.Kinds.{Contents, content, contents_of, number_in};
 ghost use Rattle.wasm_reader.specs.Outlines.{section_of, section_kind_of, bytes_of, IsSection, IsDataOf};
-ghost use Rattle.wasm_reader.specs.Iterating.{Iterating, Located, ahead, end_of, known_kind_of, IsInPayload, NextSection};
+ghost use Rattle.wasm_reader.specs.Iterating.{Iterating, Located, IsHeaderError, IsFirstWrong, ahead, end_of, known_kind_of, IsInPayload, NextSection};
 
 use crate::counts::count_items;
 use crate::kinds::{Items, SectionKind, read_content};
@@ -21,17 +21,33 @@ use std::alloc::{Allocator, Global};
 use std::iter::FusedIterator;
 use std::marker::Model;
 use std::ops::Range;
-use wasm_base::{ReadFault, Standard};
+use wasm_base::Standard;
 
 /// Returns the length of the longest common prefix of two slices.
 fn common_length(bytes: &[u8], other: &[u8]) -> usize
-    ensures { result ≤ length bytes.now }
+    ensures within { result ≤ length bytes.now }
+    ensures inside { result ≤ length other.now }
+    ensures same { take result bytes.now ≡ take result other.now }
+    ensures differs { result < length bytes.now → result < length other.now → take (suc result) bytes.now ≢ take (suc result) other.now }
 {
     let mut count = 0;
     while count < bytes.len() && count < other.len() && bytes[count] == other[count] {
         count += 1;
     }
     count
+}
+
+/// Returns the offset of the error of bytes that do not begin with the header: that of the first
+/// wrong byte, or the end of too few.
+fn wrong_at(bytes: &[u8]) -> usize
+    ensures short { length bytes.now < length header → result ≡ length bytes.now }
+    ensures wrong { length header ≤ length bytes.now → Rejects (fixed header (tt {0})) padded bytes.now → IsFirstWrong bytes.now result }
+    ensures within { result ≤ length bytes.now }
+{
+    if bytes.len() < HEADER.len() {
+        return bytes.len();
+    }
+    common_length(bytes, &HEADER)
 }
 
 /// The sections of a module, one after another. It allocates nothing.
@@ -78,7 +94,7 @@ impl<'a, A: Allocator + Copy> Sections<'a, A> {
         ensures offset { IfOk result (λ it. it.offset ≡ length header) }
         ensures same { IfOk result (λ it. it.bytes ≡ module.now) }
         ensures none { IfErr result (λ _. Rejects (fixed header (tt {0})) padded module.now) }
-        ensures cause { IfErr result (λ e. (e.cause ≡ Ended) ⊎ (e.cause ≡ UnknownTag)) }
+        ensures why { IfErr result (λ e. IsHeaderError module.now e) }
         ensures within { IfErr result (λ e. e.offset ≤ length module.now) }
     {
         match read_header(module) {
@@ -87,13 +103,9 @@ impl<'a, A: Allocator + Copy> Sections<'a, A> {
                 module,
                 offset: module.len() - rest.len(),
             }),
-            Err(ReadFault::Ended) => Err(ReadError {
-                cause: ReadFault::Ended,
-                offset: module.len(),
-            }),
             Err(cause) => Err(ReadError {
                 cause,
-                offset: common_length(module, &HEADER),
+                offset: wrong_at(module),
             }),
         }
     }

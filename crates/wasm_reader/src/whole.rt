@@ -6,6 +6,7 @@ ghost use Rattle.wasm_base.specs.declared.fault.ReadFault.TheVariants.{Memory};
 ghost use Rattle.wasm_reader.specs.Outlines.{section_of, IsSection};
 ghost use Rattle.wasm_reader.specs.Iterating.{ahead};
 ghost use Rattle.wasm_reader.specs.Shortening.{
+  ExplainsNoHeader,
   names_code_offsets,
   target_named,
   target_of,
@@ -46,8 +47,8 @@ use wasm_base::{ReadFault, Standard};
 ///
 /// These custom sections, known by their names, hold offsets
 ///
-/// - into code and data: `linking`, `external_debug_info`, `build_id`, `.debug_*`,
-///   `metadata.code.*`;
+/// - into code and data: `linking`, `external_debug_info`, `build_id`, `.debug_*`, `.gdb_index`,
+///   `.apple_*`, `metadata.code.*`;
 /// - into any section that a relocation names: `reloc.*`;
 /// - into code, from the first byte of the module: `sourceMappingURL`.
 #[derive(Clone, Copy, PartialEq, Eq, Debug)]
@@ -105,6 +106,8 @@ fn has_code_offsets(name: &str) -> bool
         || name == "external_debug_info"
         || name == "build_id"
         || bytes.starts_with(b".debug_")
+        || name == ".gdb_index"
+        || bytes.starts_with(b".apple_")
         || bytes.starts_with(b"metadata.code.")
 }
 
@@ -415,6 +418,7 @@ fn append_sections<A: Allocator + Copy, B: Allocator>(
     ensures ok { IfOk result (λ tally. Rewrites offsets (ahead sections.entry) [] sink.old.items sink.new.items tally) }
     ensures front { IsFrontOf sink.old.items sink.new.items }
     ensures none { IfErr result (λ e. e.1 ≢ Memory → StopsAfter (ahead sections.entry) e.0) }
+    ensures counted { IfErr result (λ e. e.0 ≢ 0) }
 {
     let first = sections.offset();
     let start = sink.len();
@@ -455,6 +459,7 @@ fn append_module<A: Allocator + Copy, B: Allocator>(
     ensures ok { IfOk result (λ kept. ShortensModule offsets bytes.now kept sink.old.items sink.new.items) }
     ensures front { IsFrontOf sink.old.items sink.new.items }
     ensures why { IfErr result (λ fault. Explains offsets bytes.now fault) }
+    ensures header { IfErr result (λ fault. ExplainsNoHeader bytes.now fault) }
 {
     let sections = match Sections::new(alloc, bytes) {
         Ok(sections) => sections,
@@ -510,6 +515,7 @@ pub fn shorten_module<A: Allocator + Copy, B: Allocator>(
     ensures ok { IfOk result (λ kept. ShortensModule offsets bytes.now kept sink.old.items sink.new.items) }
     ensures err { OnErr result (sink.new.items ≡ sink.old.items) }
     ensures why { IfErr result (λ fault. Explains offsets bytes.now fault) }
+    ensures header { IfErr result (λ fault. ExplainsNoHeader bytes.now fault) }
 {
     let start = sink.len();
     let shortened = append_module(alloc, bytes, offsets, sink);

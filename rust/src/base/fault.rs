@@ -84,6 +84,8 @@ impl ReadFault {
     ///
     /// # Proved
     ///
+    /// In any case: `cause`; `left`, the remaining bytes are left.
+    ///
     /// ```text
     /// ensures cause { result.cause ≡ self }
     /// ensures left { result.left ≡ min (length rest.now) longest }
@@ -100,6 +102,8 @@ impl ReadFault {
     /// 4294967295 bytes are counted.
     ///
     /// # Proved
+    ///
+    /// In any case: `cause`; `left`, the remaining bytes and the byte before them are left.
     ///
     /// ```text
     /// ensures cause { result.cause ≡ self }
@@ -176,6 +180,8 @@ impl DecodeError {
     /// left too. At most 4294967295 bytes are counted.
     ///
     /// # Proved
+    ///
+    /// In any case: `cause`; `left`, the bytes that follow are left too.
     ///
     /// ```text
     /// ensures cause { result.cause ≡ self.cause }

@@ -77,7 +77,7 @@ pub fn read_whole<'a, T: Readable<'a, A, G>, A: Allocator + Copy, G: Grammar>(
 ///
 /// # Proved
 ///
-/// After `Ok`: `found`, the bytes as a whole encode the value. After an error: `none`, the bytes as a whole are no such encoding, unless the cause is `Memory`; `left`.
+/// After `Ok`: `found`, the bytes as a whole encode the value. After an error: `none`, the bytes as a whole are no such encoding, unless the cause is `Memory`; `left`, the bytes that follow are left too.
 ///
 /// ```text
 /// ensures found { IfOk result (λ x. T.format (padded_of G.grammar) bytes.now (T.view x)) }

@@ -8,10 +8,8 @@
 //! `HasMinimalEncodings F encodable encoding` says that `encoding` is the minimal encoding of each
 //! value that fits.
 
+pub use self::{padded as wide, rejections as nothing_stands};
 use crate::alloc::Allocator;
-
-pub use self::padded as wide;
-pub use self::rejections as nothing_stands;
 
 /// The format of expressions is unambiguous: an expression ends at the first `End` at which an
 /// instruction begins.
@@ -192,11 +190,12 @@ pub fn rejections() {}
 ///
 /// # Proved
 ///
-/// The reader of a body starts after its runs and advances by an instruction. After as many instructions as a raw body has, it is at that body's length and has visited that body.
+/// `padded`, `standard`: The visitor of a body starts after its runs and advances by an instruction. After as many instructions as a raw body has, it is at that body's length and has visited that body.
 ///
 /// ```text
-/// ensures { OffsetLaws }
+/// ensures padded { OffsetLaws padded }
+/// ensures standard { OffsetLaws standard }
 /// ```
 ///
-/// Definitions: [`OffsetLaws`](crate::definitions::code::offsets::OffsetLaws). [How to read clauses](crate::definitions).
+/// Definitions: [`padded`](crate::definitions::base::numbers::Mode), [`OffsetLaws`](crate::definitions::code::offsets::OffsetLaws), [`standard`](crate::definitions::base::numbers::Mode). [How to read clauses](crate::definitions).
 pub fn offsets() {}

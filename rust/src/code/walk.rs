@@ -227,24 +227,18 @@ impl<'a, A: Allocator + Copy, G: Grammar> Instructions<'a, A, G> {
     ///
     /// # Proved
     ///
-    /// After `Ok`: `offset`; `found`, an instruction of this opcode and these operands was next; `further`. After an error: `stays`, the offset is unchanged; `none`, the bytes do not begin with such an encoding, unless the cause is `Memory`. In any case: `same`, the bytes stay the same.
+    /// - After `Ok`, `found`: The visitor returned this instruction of the format, which lies between the offsets before and after.
+    /// - After an error, `none`: The visitor returned this error, and did not move. For any cause but `Memory`, no value of the format decodes from the next bytes.
     ///
     /// ```text
-    /// ensures offset { IfOk result (λ it. it.offset ≡ self.old.offset) }
     /// ensures found { IfOk result
-    ///     (λ it. DecodesOperation (instruction table) (padded_of G.grammar)
-    ///         (ahead self.old) it.op it.operands (ahead self.new)) }
-    /// ensures further { IfOk result
-    ///     (λ _. (self.old.offset < self.new.offset)
-    ///         × (self.new.offset ≤ length self.new.bytes)) }
-    /// ensures same { self.new.bytes ≡ self.old.bytes }
-    /// ensures stays { IfErr result (λ _. self.new.offset ≡ self.old.offset) }
+    ///     (λ it. GivesInstruction (instruction table)
+    ///         (padded_of G.grammar) self.old it self.new) }
     /// ensures none { IfErr result
-    ///     (λ e. e.cause ≢ Memory → Rejects (instruction table) (padded_of G.grammar)
-    ///         (ahead self.old)) }
+    ///     (λ e. GivesFailure (instruction table) (padded_of G.grammar) self.old e self.new) }
     /// ```
     ///
-    /// Definitions: [`DecodesOperation`](crate::definitions::insn::operands::DecodesOperation), [`instruction`](crate::definitions::insn::plain::instruction), [`table`](crate::definitions::insn::table::table), [`padded_of`](crate::definitions::base::numbers::padded_of), [`ahead`](crate::definitions::code::walks::ahead), [`Rejects`](crate::definitions::base::decoding::Rejects). [How to read clauses](crate::definitions).
+    /// Definitions: [`GivesInstruction`](crate::definitions::code::walks::GivesInstruction), [`instruction`](crate::definitions::insn::plain::instruction), [`table`](crate::definitions::insn::table::table), [`padded_of`](crate::definitions::base::numbers::padded_of), [`GivesFailure`](crate::definitions::code::walks::GivesFailure). [How to read clauses](crate::definitions).
     #[inline(always)]
     fn step(&mut self) -> Result<Decoded<'a>, DecodeError> {
         let offset = self.offset;
@@ -266,28 +260,13 @@ impl<'a, A: Allocator + Copy, G: Grammar> Instructions<'a, A, G> {
     ///
     /// # Proved
     ///
-    /// After `Ok`: `offset`, the instruction has the old offset; `found`, an instruction of this opcode and these operands was next; `further`, the offset grows, and is in the bytes or at their end; `end`, `None` says that no bytes were left; `ended`, `None` changes nothing. After an error: `stays`, the offset is unchanged; `none`, the bytes do not begin with such an encoding, unless the cause is `Memory`; `left`, bytes were left. In any case: `same`, the bytes stay the same.
+    /// The result of `next`: `None` at the end of the bytes, an instruction, or an error.
     ///
     /// ```text
-    /// ensures offset { IfOk result (λ next. IfSome next (λ it. it.offset ≡ self.old.offset)) }
-    /// ensures found { IfOk result
-    ///     (λ next. IfSome next (λ it. DecodesOperation (instruction table)
-    ///             (padded_of G.grammar) (ahead self.old) it.op it.operands (ahead self.new)))
-    ///     }
-    /// ensures further { IfOk result
-    ///     (λ next. IfSome next (λ _. (self.old.offset < self.new.offset)
-    ///             × (self.new.offset ≤ length self.new.bytes))) }
-    /// ensures end { IfOk result (λ next. next ≡ None → ahead self.old ≡ []) }
-    /// ensures ended { IfOk result (λ next. next ≡ None → self.new ≡ self.old) }
-    /// ensures same { self.new.bytes ≡ self.old.bytes }
-    /// ensures stays { IfErr result (λ _. self.new.offset ≡ self.old.offset) }
-    /// ensures none { IfErr result
-    ///     (λ e. e.cause ≢ Memory → Rejects (instruction table) (padded_of G.grammar)
-    ///         (ahead self.old)) }
-    /// ensures left { IfErr result (λ _. ahead self.old ≢ []) }
+    /// ensures { NextInstruction (padded_of G.grammar) self.old result self.new }
     /// ```
     ///
-    /// Definitions: [`DecodesOperation`](crate::definitions::insn::operands::DecodesOperation), [`instruction`](crate::definitions::insn::plain::instruction), [`table`](crate::definitions::insn::table::table), [`padded_of`](crate::definitions::base::numbers::padded_of), [`ahead`](crate::definitions::code::walks::ahead), [`Rejects`](crate::definitions::base::decoding::Rejects). [How to read clauses](crate::definitions).
+    /// Definitions: [`NextInstruction`](crate::definitions::code::walks::NextInstruction), [`padded_of`](crate::definitions::base::numbers::padded_of). [How to read clauses](crate::definitions).
     #[inline(always)]
     pub fn next(&mut self) -> Result<Option<Decoded<'a>>, DecodeError> {
         if self.offset == self.bytes.len() {
@@ -320,29 +299,13 @@ impl<'a, A: Allocator + Copy, G: Grammar> Instructions<'a, A, G> {
     ///
     /// # Proved
     ///
-    /// After `Ok`: `offset`, the instruction has the old offset; `found`, an instruction of this opcode and these operands was next, and is no `end`; `further`, the offset grows, and is in the bytes or at their end; `end`, `None` says that an `end` is next; `ended`, `None` changes nothing. After an error: `stays`, the offset is unchanged; `none`, the bytes do not begin with such an encoding, unless the cause is `Memory`. In any case: `same`, the bytes stay the same.
+    /// The result of `next_before_end`: `None` at the final `end` of an expression, an instruction other than `end`, or an error.
     ///
     /// ```text
-    /// ensures offset { IfOk result (λ next. IfSome next (λ it. it.offset ≡ self.old.offset)) }
-    /// ensures found { IfOk result
-    ///     (λ next. IfSome next (λ it. DecodesOperation (such IsNoEnd (instruction table))
-    ///             (padded_of G.grammar) (ahead self.old) it.op it.operands (ahead self.new)))
-    ///     }
-    /// ensures further { IfOk result
-    ///     (λ next. IfSome next (λ _. (self.old.offset < self.new.offset)
-    ///             × (self.new.offset ≤ length self.new.bytes))) }
-    /// ensures end { IfOk result
-    ///     (λ next. next ≡ None → ahead self.old
-    ///         ≡ 0x0B ∷ drop (self.old.offset + 1) self.old.bytes) }
-    /// ensures ended { IfOk result (λ next. next ≡ None → self.new ≡ self.old) }
-    /// ensures same { self.new.bytes ≡ self.old.bytes }
-    /// ensures stays { IfErr result (λ _. self.new.offset ≡ self.old.offset) }
-    /// ensures none { IfErr result
-    ///     (λ e. e.cause ≢ Memory → Rejects expression (padded_of G.grammar) (ahead self.old))
-    ///     }
+    /// ensures { NextBeforeEnd (padded_of G.grammar) self.old result self.new }
     /// ```
     ///
-    /// Definitions: [`DecodesOperation`](crate::definitions::insn::operands::DecodesOperation), [`such`](crate::definitions::base::formats::such), [`IsNoEnd`](crate::definitions::code::expressions::IsNoEnd), [`instruction`](crate::definitions::insn::plain::instruction), [`table`](crate::definitions::insn::table::table), [`padded_of`](crate::definitions::base::numbers::padded_of), [`ahead`](crate::definitions::code::walks::ahead), [`Rejects`](crate::definitions::base::decoding::Rejects), [`expression`](crate::definitions::code::expressions::expression). [How to read clauses](crate::definitions).
+    /// Definitions: [`NextBeforeEnd`](crate::definitions::code::walks::NextBeforeEnd), [`padded_of`](crate::definitions::base::numbers::padded_of). [How to read clauses](crate::definitions).
     #[inline(always)]
     pub fn next_before_end(&mut self) -> Result<Option<Decoded<'a>>, DecodeError> {
         let [first, ..] = &self.bytes[self.offset..] else {

@@ -5,8 +5,7 @@
 //! `ItemLaws` says of a kind of items that its format is unambiguous, and that a well-formed record
 //! encodes its item.
 
-pub use self::padded as wide;
-pub use self::rejections as nothing_stands;
+pub use self::{padded as wide, rejections as nothing_stands};
 
 /// The formats of sections and of their items are unambiguous. A well-formed record encodes its
 /// item.

@@ -915,46 +915,46 @@ pub trait members {
     type NextMember;
 }
 
-/// The laws of the offsets at which the instruction reader visits a body.
+/// The laws of the offsets at which the visitor of instructions visits a body.
 ///
 /// [How to read definitions](super). The file is [`Offsets.antt`](https://github.com/dolzhytik/dolzhytik/blob/main/crates/wasm_code/specs/Offsets.antt).
 pub trait offsets {
-    /// The reader has visited `x`: the bytes before this offset encode these runs and instructions, possibly padded.
+    /// The visitor has visited `x`: the bytes before this offset encode these runs and instructions.
     ///
     /// ```text
-    /// abbrev pub HasVisited : List ℕ → ℕ → Body → Type 0
-    /// HasVisited bytes offset x = body padded (take offset bytes) x
+    /// abbrev pub HasVisited : Mode → List ℕ → ℕ → Body → Type 0
+    /// HasVisited mode bytes offset x = body mode (take offset bytes) x
     /// ```
     ///
-    /// Definitions: [`Body`](bodies::Body), [`body`](bodies::body), [`padded`](super::base::numbers::Mode).
+    /// Definitions: [`Mode`](super::base::numbers::Mode), [`Body`](bodies::Body), [`body`](bodies::body).
     type HasVisited;
-    /// The reader of a body starts after its runs and advances by an instruction. After as many instructions as a raw body has, it is at that body's length and has visited that body.
+    /// The visitor of a body starts after its runs and advances by an instruction. After as many instructions as a raw body has, it is at that body's length and has visited that body.
     ///
     /// ```text
-    /// pub record OffsetLaws : Type 0 where
+    /// pub record OffsetLaws (mode : Mode) : Type 0 where
     ///   pub begun : (bytes : List ℕ) (offset : ℕ) (runs : List Run)
-    ///       → Decodes (vec (pair u32 val_type)) padded bytes runs (drop offset bytes)
-    ///       → offset ≤ length bytes → HasVisited bytes offset
+    ///       → Decodes (vec (pair u32 val_type)) mode bytes runs (drop offset bytes)
+    ///       → offset ≤ length bytes → HasVisited mode bytes offset
     ///       (record { runs = runs; code = [] })
     ///   pub continues : (bytes : List ℕ) (offset after : ℕ) (x : Body) (i : Plain)
-    ///       → HasVisited bytes offset x
-    ///       → Decodes (instruction table) padded (drop offset bytes) i (drop after bytes)
+    ///       → HasVisited mode bytes offset x
+    ///       → Decodes (instruction table) mode (drop offset bytes) i (drop after bytes)
     ///       → offset < after → after ≤ length bytes
-    ///       → HasVisited bytes after (and_then x (i ∷ []))
-    ///   pub same : (front more : List ℕ) (offset : ℕ) (x y : Body) → body padded front x
-    ///       → HasVisited (front ++ more) offset y → offset ≤ length (front ++ more)
+    ///       → HasVisited mode bytes after (and_then x (i ∷ []))
+    ///   pub same : (front more : List ℕ) (offset : ℕ) (x y : Body) → body mode front x
+    ///       → HasVisited mode (front ++ more) offset y → offset ≤ length (front ++ more)
     ///       → length y.code ≡ length x.code → (y ≡ x) × (offset ≡ length front)
     /// ```
     ///
-    /// Definitions: [`Run`](bodies::Run), [`Decodes`](super::base::decoding::Decodes), [`vec`](super::base::formats::vec), [`pair`](super::base::formats::pair), [`u32`](super::base::formats::u32), [`val_type`](super::base::types::val_type), [`padded`](super::base::numbers::Mode), [`HasVisited`](offsets::HasVisited), [`Body`](bodies::Body), [`Plain`](super::insn::plain::Plain), [`instruction`](super::insn::plain::instruction), [`table`](super::insn::table::table), [`and_then`](bodies::and_then), [`body`](bodies::body).
+    /// Definitions: [`Mode`](super::base::numbers::Mode), [`Run`](bodies::Run), [`Decodes`](super::base::decoding::Decodes), [`vec`](super::base::formats::vec), [`pair`](super::base::formats::pair), [`u32`](super::base::formats::u32), [`val_type`](super::base::types::val_type), [`HasVisited`](offsets::HasVisited), [`Body`](bodies::Body), [`Plain`](super::insn::plain::Plain), [`instruction`](super::insn::plain::instruction), [`table`](super::insn::table::table), [`and_then`](bodies::and_then), [`body`](bodies::body).
     type OffsetLaws;
 }
 
-/// The state of the instruction reader.
+/// The visitor of instructions: its state, and what each step returns.
 ///
 /// [How to read definitions](super). The file is [`Walks.antt`](https://github.com/dolzhytik/dolzhytik/blob/main/crates/wasm_code/specs/Walks.antt).
 pub trait walks {
-    /// The state of the reader: all bytes, and the offset of the next instruction in them.
+    /// The state of the visitor: all bytes, and the offset of the next instruction in them.
     ///
     /// ```text
     /// pub record Walking : Type 0 where
@@ -962,7 +962,7 @@ pub trait walks {
     ///   pub offset : ℕ
     /// ```
     type Walking;
-    /// The bytes from the reader's offset on.
+    /// The bytes from the visitor's offset on.
     ///
     /// ```text
     /// abbrev pub ahead : Walking → List ℕ
@@ -971,4 +971,57 @@ pub trait walks {
     ///
     /// Definitions: [`Walking`](walks::Walking).
     type ahead;
+    /// The visitor returned this instruction of the format, which lies between the offsets before and after.
+    ///
+    /// ```text
+    /// pub record GivesInstruction (F : Format Plain) (mode : Mode) (before : Walking)
+    ///     (it : Decoded) (after : Walking) : Type 0 where
+    ///   pub found : DecodesOperation F mode (ahead before) it.op it.operands (ahead after)
+    ///   pub offset : it.offset ≡ before.offset
+    ///   pub further : before.offset < after.offset
+    ///   pub within : after.offset ≤ length after.bytes
+    ///   pub same : after.bytes ≡ before.bytes
+    /// ```
+    ///
+    /// Definitions: [`Format`](super::base::formats::Format), [`Plain`](super::insn::plain::Plain), [`Mode`](super::base::numbers::Mode), [`Walking`](walks::Walking), [`DecodesOperation`](super::insn::operands::DecodesOperation), [`ahead`](walks::ahead).
+    type GivesInstruction;
+    /// The visitor returned this error, and did not move. For any cause but `Memory`, no value of the format decodes from the next bytes.
+    ///
+    /// ```text
+    /// pub record GivesFailure {X : Type 0} (F : Format X) (mode : Mode) (before : Walking)
+    ///     (e : Failure) (after : Walking) : Type 0 where
+    ///   pub none : e.cause ≢ Memory → Rejects F mode (ahead before)
+    ///   pub stays : after ≡ before
+    /// ```
+    ///
+    /// Definitions: [`Format`](super::base::formats::Format), [`Mode`](super::base::numbers::Mode), [`Walking`](walks::Walking), [`Failure`](super::base::faults::Failure), [`Rejects`](super::base::decoding::Rejects), [`ahead`](walks::ahead).
+    type GivesFailure;
+    /// The result of `next`: `None` at the end of the bytes, an instruction, or an error.
+    ///
+    /// ```text
+    /// abbrev pub NextInstruction
+    ///     : Mode → Walking → Result (Option Decoded) Failure → Walking → Type 0
+    /// NextInstruction mode before (Ok None) after = (ahead before ≡ []) × (after ≡ before)
+    /// NextInstruction mode before (Ok (Some it)) after = GivesInstruction
+    ///     (instruction table) mode before it after
+    /// NextInstruction mode before (Err e) after = GivesFailure
+    ///     (instruction table) mode before e after × (ahead before ≢ [])
+    /// ```
+    ///
+    /// Definitions: [`Mode`](super::base::numbers::Mode), [`Walking`](walks::Walking), [`Failure`](super::base::faults::Failure), [`ahead`](walks::ahead), [`GivesInstruction`](walks::GivesInstruction), [`instruction`](super::insn::plain::instruction), [`table`](super::insn::table::table), [`GivesFailure`](walks::GivesFailure).
+    type NextInstruction;
+    /// The result of `next_before_end`: `None` at the final `end` of an expression, an instruction other than `end`, or an error.
+    ///
+    /// ```text
+    /// abbrev pub NextBeforeEnd
+    ///     : Mode → Walking → Result (Option Decoded) Failure → Walking → Type 0
+    /// NextBeforeEnd mode before (Ok None) after =
+    ///     (ahead before ≡ 0x0B ∷ drop (before.offset + 1) before.bytes) × (after ≡ before)
+    /// NextBeforeEnd mode before (Ok (Some it)) after = GivesInstruction
+    ///     (such IsNoEnd (instruction table)) mode before it after
+    /// NextBeforeEnd mode before (Err e) after = GivesFailure expression mode before e after
+    /// ```
+    ///
+    /// Definitions: [`Mode`](super::base::numbers::Mode), [`Walking`](walks::Walking), [`Failure`](super::base::faults::Failure), [`ahead`](walks::ahead), [`GivesInstruction`](walks::GivesInstruction), [`such`](super::base::formats::such), [`IsNoEnd`](expressions::IsNoEnd), [`instruction`](super::insn::plain::instruction), [`table`](super::insn::table::table), [`GivesFailure`](walks::GivesFailure), [`expression`](expressions::expression).
+    type NextBeforeEnd;
 }

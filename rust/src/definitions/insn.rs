@@ -1541,6 +1541,19 @@ pub trait operands {
     ///
     /// Definitions: [`Argument`](arguments::Argument), [`AreOperands`](operands::AreOperands).
     type AreNoOperands;
+    /// Encoded operands are the bytes of the input up to the remaining ones.
+    ///
+    /// ```text
+    /// abbrev pub AreBytesBefore : Operands → List ℕ → List ℕ → Type 0
+    /// AreBytesBefore operands.Nothing bytes rest = Unit {0}
+    /// AreBytesBefore (operands.U32 n) bytes rest = Unit {0}
+    /// AreBytesBefore (operands.S32 v) bytes rest = Unit {0}
+    /// AreBytesBefore (operands.S64 v) bytes rest = Unit {0}
+    /// AreBytesBefore (operands.Mem m) bytes rest = Unit {0}
+    /// AreBytesBefore (operands.Block type) bytes rest = Unit {0}
+    /// AreBytesBefore (operands.Encoded shape own) bytes rest = bytes ≡ own.now ++ rest
+    /// ```
+    type AreBytesBefore;
     /// Immediates of these types decode from the front of the bytes, and the operands are these.
     ///
     /// ```text
@@ -1549,10 +1562,23 @@ pub trait operands {
     ///   pub immediates : List Argument
     ///   pub decodes : Decodes (arguments ps) mode bytes immediates rest
     ///   pub operands : AreOperands given immediates
+    ///   pub own : AreBytesBefore given bytes rest
     /// ```
     ///
-    /// Definitions: [`Mode`](super::base::numbers::Mode), [`Argument`](arguments::Argument), [`Decodes`](super::base::decoding::Decodes), [`arguments`](plain::arguments), [`AreOperands`](operands::AreOperands).
+    /// Definitions: [`Mode`](super::base::numbers::Mode), [`Argument`](arguments::Argument), [`Decodes`](super::base::decoding::Decodes), [`arguments`](plain::arguments), [`AreOperands`](operands::AreOperands), [`AreBytesBefore`](operands::AreBytesBefore).
     type DecodesOperands;
+    /// The opcode decodes from the front of the bytes. If the operands are kept encoded, they are the bytes between it and the remaining ones.
+    ///
+    /// ```text
+    /// pub record FollowOpcode (mode : Mode) (bytes : List ℕ) (op : Op) (given : Operands)
+    ///     (rest : List ℕ) : Type 0 where
+    ///   pub after : List ℕ
+    ///   pub decodes : Decodes opcode mode bytes op after
+    ///   pub own : AreBytesBefore given after rest
+    /// ```
+    ///
+    /// Definitions: [`Mode`](super::base::numbers::Mode), [`Decodes`](super::base::decoding::Decodes), [`opcode`](plain::opcode), [`AreBytesBefore`](operands::AreBytesBefore).
+    type FollowOpcode;
     /// An instruction with this opcode and these operands decodes from the front of the bytes.
     ///
     /// ```text
@@ -1561,9 +1587,10 @@ pub trait operands {
     ///   pub immediates : List Argument
     ///   pub decodes : Decodes F mode bytes (record { op = op; arguments = immediates }) rest
     ///   pub operands : AreOperands given immediates
+    ///   pub follow : FollowOpcode mode bytes op given rest
     /// ```
     ///
-    /// Definitions: [`Format`](super::base::formats::Format), [`Plain`](plain::Plain), [`Mode`](super::base::numbers::Mode), [`Argument`](arguments::Argument), [`Decodes`](super::base::decoding::Decodes), [`AreOperands`](operands::AreOperands).
+    /// Definitions: [`Format`](super::base::formats::Format), [`Plain`](plain::Plain), [`Mode`](super::base::numbers::Mode), [`Argument`](arguments::Argument), [`Decodes`](super::base::decoding::Decodes), [`AreOperands`](operands::AreOperands), [`FollowOpcode`](operands::FollowOpcode).
     type DecodesOperation;
 }
 

@@ -31,7 +31,7 @@ pub trait conversions {
 
 /// The iterators over the sections of a module, and over the bodies of a code section.
 ///
-/// - Sections: [`Iterating`](iterating::Iterating), [`ahead`](iterating::ahead), [`Located`](iterating::Located), [`end_of`](iterating::end_of), [`known_kind_of`](iterating::known_kind_of), [`IsInPayload`](iterating::IsInPayload), [`GivesSection`](iterating::GivesSection), [`GivesError`](iterating::GivesError), [`NextSection`](iterating::NextSection).
+/// - Sections: [`Iterating`](iterating::Iterating), [`ahead`](iterating::ahead), [`IsFirstWrong`](iterating::IsFirstWrong), [`IsHeaderError`](iterating::IsHeaderError), [`Located`](iterating::Located), [`end_of`](iterating::end_of), [`known_kind_of`](iterating::known_kind_of), [`IsInPayload`](iterating::IsInPayload), [`GivesSection`](iterating::GivesSection), [`GivesError`](iterating::GivesError), [`NextSection`](iterating::NextSection).
 /// - Bodies: [`Visiting`](iterating::Visiting), [`LocatedBody`](iterating::LocatedBody), [`GivesBody`](iterating::GivesBody), [`EndsBodies`](iterating::EndsBodies), [`NextBody`](iterating::NextBody).
 ///
 /// [How to read definitions](super). The file is [`Iterating.antt`](https://github.com/dolzhytik/dolzhytik/blob/main/crates/wasm_reader/specs/Iterating.antt).
@@ -53,6 +53,28 @@ pub trait iterating {
     ///
     /// Definitions: [`Iterating`](iterating::Iterating).
     type ahead;
+    /// This is the offset of the first byte that differs from the header's.
+    ///
+    /// ```text
+    /// pub record IsFirstWrong (bytes : List ℕ) (offset : ℕ) : Type 0 where
+    ///   pub inside : offset < length header
+    ///   pub same : take offset bytes ≡ take offset header
+    ///   pub wrong : take (suc offset) bytes ≢ take (suc offset) header
+    /// ```
+    ///
+    /// Definitions: [`header`](super::base::formats::header).
+    type IsFirstWrong;
+    /// The error of bytes that do not begin with the header: at their end if they end before it does, and otherwise at the first byte that differs.
+    ///
+    /// ```text
+    /// pub record IsHeaderError (bytes : List ℕ) (e : ReadError) : Type 0 where
+    ///   pub cause : IsHeaderCause bytes e.cause
+    ///   pub ended : e.cause ≡ Ended → e.offset ≡ length bytes
+    ///   pub wrong : e.cause ≡ UnknownTag → IsFirstWrong bytes e.offset
+    /// ```
+    ///
+    /// Definitions: [`IsHeaderCause`](outlines::IsHeaderCause), [`IsFirstWrong`](iterating::IsFirstWrong).
+    type IsHeaderError;
     /// A section, and the offset of its id in the module.
     ///
     /// ```text
@@ -566,7 +588,7 @@ pub trait modules {
 /// - Sections with any payload: [`Section`](outlines::Section), [`section_of`](outlines::section_of), [`bytes_of`](outlines::bytes_of), [`IsNameOf`](outlines::IsNameOf), [`IsDataOf`](outlines::IsDataOf), [`IsSection`](outlines::IsSection), [`HasSections`](outlines::HasSections).
 /// - Kinds: [`kind_at`](outlines::kind_at), [`section_kind_of`](outlines::section_kind_of).
 /// - Outlines: [`IsCount`](outlines::IsCount), [`IsOutline`](outlines::IsOutline), [`AreOutlines`](outlines::AreOutlines), [`HasOutline`](outlines::HasOutline).
-/// - Bytes that are not a module: [`EndsBehind`](outlines::EndsBehind), [`EndsAt`](outlines::EndsAt).
+/// - Bytes that are not a module: [`EndsBehind`](outlines::EndsBehind), [`EndsAt`](outlines::EndsAt), [`IsHeaderCause`](outlines::IsHeaderCause), [`ExplainsHeader`](outlines::ExplainsHeader).
 ///
 /// [How to read definitions](super). The file is [`Outlines.antt`](https://github.com/dolzhytik/dolzhytik/blob/main/crates/wasm_reader/specs/Outlines.antt).
 pub trait outlines {
@@ -732,6 +754,26 @@ pub trait outlines {
     ///
     /// Definitions: [`Rejects`](super::base::decoding::Rejects), [`fixed`](super::base::formats::fixed), [`header`](super::base::formats::header), [`padded`](super::base::numbers::Mode), [`EndsBehind`](outlines::EndsBehind).
     type EndsAt;
+    /// The cause of the error of bytes that do not begin with the header: they end before it does, or one of its bytes differs.
+    ///
+    /// ```text
+    /// abbrev pub IsHeaderCause : List ℕ → ReadFault → Type 0
+    /// IsHeaderCause bytes fault = ((fault ≡ Ended) × (length bytes < length header))
+    ///     ⊎ ((fault ≡ UnknownTag) × (length header ≤ length bytes))
+    /// ```
+    ///
+    /// Definitions: [`header`](super::base::formats::header).
+    type IsHeaderCause;
+    /// An error at section number 0 has the cause of bytes that do not begin with the header, unless an allocation failed.
+    ///
+    /// ```text
+    /// abbrev pub ExplainsHeader : List ℕ → ℕ → ReadFault → Type 0
+    /// ExplainsHeader bytes number fault = number ≡ 0 → fault ≢ Memory
+    ///     → IsHeaderCause bytes fault
+    /// ```
+    ///
+    /// Definitions: [`IsHeaderCause`](outlines::IsHeaderCause).
+    type ExplainsHeader;
 }
 
 /// Sections of each kind, and the promises of their reader and their minimizer.
@@ -813,20 +855,21 @@ pub trait sections {
 ///
 /// - Custom sections that hold offsets: [`names_code_offsets`](shortening::names_code_offsets), [`target_named`](shortening::target_named), [`target_of`](shortening::target_of), [`contains_offsets`](shortening::contains_offsets), [`IsLedInto`](shortening::IsLedInto), [`IsPlaced`](shortening::IsPlaced).
 /// - The output for a section: [`Rewrite`](shortening::Rewrite), [`IsEncodingFor`](shortening::IsEncodingFor), [`IsWritten`](shortening::IsWritten), [`IsRewrite`](shortening::IsRewrite), [`written_as`](shortening::written_as), [`written`](shortening::written), [`keeps`](shortening::keeps), [`count_kept`](shortening::count_kept), [`id_written`](shortening::id_written), [`Stays`](shortening::Stays), [`AllStay`](shortening::AllStay), [`KeepsOffsets`](shortening::KeepsOffsets), [`HasLostOffsets`](shortening::HasLostOffsets).
-/// - Modules: [`ShortensModule`](shortening::ShortensModule), [`LosesOffsets`](shortening::LosesOffsets), [`Explains`](shortening::Explains).
+/// - Modules: [`ShortensModule`](shortening::ShortensModule), [`LosesOffsets`](shortening::LosesOffsets), [`Explains`](shortening::Explains), [`ExplainsNoHeader`](shortening::ExplainsNoHeader).
 /// - Intermediate steps: [`IsChange`](shortening::IsChange), [`GainsSection`](shortening::GainsSection), [`AreMoved`](shortening::AreMoved), [`size_before`](shortening::size_before), [`size_after`](shortening::size_after), [`IsInto`](shortening::IsInto), [`IsFirst`](shortening::IsFirst), [`HasFound`](shortening::HasFound), [`leaves_out`](shortening::leaves_out), [`first_of`](shortening::first_of), [`earlier`](shortening::earlier), [`lost`](shortening::lost), [`found_of`](shortening::found_of), [`lost_at`](shortening::lost_at), [`HasTally`](shortening::HasTally), [`Rewrites`](shortening::Rewrites), [`StopsAfter`](shortening::StopsAfter).
 /// - Laws: [`IsMemory`](shortening::IsMemory), [`IsIdempotent`](shortening::IsIdempotent).
 ///
 /// [How to read definitions](super). The file is [`Shortening.antt`](https://github.com/dolzhytik/dolzhytik/blob/main/crates/wasm_reader/specs/Shortening.antt).
 pub trait shortening {
-    /// Whether a custom section of this name holds offsets into code and data. These are symbols, debugging information, a reference to a file with it, the identity that ties such a file to the module, and code metadata.
+    /// Whether a custom section of this name holds offsets into code and data. These are symbols, debugging information and indexes of it, a reference to a file with it, the identity that ties such a file to the module, and code metadata.
     ///
     /// ```text
     /// abbrev pub names_code_offsets : List ℕ → Bool
     /// names_code_offsets n =
     ///     bytes_eq n linking_name || bytes_eq n (codes "external_debug_info") || bytes_eq n
     ///         (codes "build_id") || begins_with (codes ".debug_") n
-    ///     || begins_with (codes "metadata.code.") n
+    ///     || bytes_eq n (codes ".gdb_index") || begins_with (codes ".apple_") n || begins_with
+    ///         (codes "metadata.code.") n
     /// ```
     ///
     /// Definitions: [`linking_name`](super::custom::linking::linking_name), [`begins_with`](super::custom::customs::begins_with).
@@ -1068,6 +1111,16 @@ pub trait shortening {
     ///
     /// Definitions: [`EndsAt`](outlines::EndsAt), [`RejectsWhole`](super::base::continuing::RejectsWhole), [`wasm_module`](super::base::formats::wasm_module), [`padded`](super::base::numbers::Mode), [`LosesOffsets`](shortening::LosesOffsets).
     type Explains;
+    /// An error at section number 0 has the cause of bytes that do not begin with the header, unless an allocation failed.
+    ///
+    /// ```text
+    /// abbrev pub ExplainsNoHeader : List ℕ → ModuleFault → Type 0
+    /// ExplainsNoHeader bytes (faults.Section number fault) = ExplainsHeader bytes number fault
+    /// ExplainsNoHeader bytes (faults.Offsets number) = Unit {0}
+    /// ```
+    ///
+    /// Definitions: [`ExplainsHeader`](outlines::ExplainsHeader).
+    type ExplainsNoHeader;
     /// Whether the bytes differ from the section's size-prefixed payload.
     ///
     /// ```text

@@ -8,11 +8,10 @@
 //! `HasMinimalEncodings F encodable encoding` says that `encoding` is the minimal encoding of each
 //! value that fits.
 
+pub use self::padded as wide;
 use crate::insn::instruction::Instruction;
 use crate::insn::ranged::arguments_ranged;
 use crate::alloc::Allocator;
-
-pub use self::padded as wide;
 
 /// The format of opcodes is unambiguous. The opcode table has 628 rows in ascending order; one pair
 /// of neighbours shares an opcode. No opcode's bytes are a prefix of another's.

@@ -55,20 +55,24 @@ impl<'a> Operands<'a> {
     ///
     /// # Errors
     ///
-    /// Any error but `Memory` means that no decoded instruction has these operands.
+    /// Any error but `Memory` means that no decoded instruction has these operands: `Encoded` has
+    /// bytes that do not encode immediates of the shape, or bytes after them, or a shape with a
+    /// case of its own.
     ///
     /// # Proved
     ///
-    /// After `Ok`: `found`, the list has the operands, in their order. After an error: `none`.
+    /// After `Ok`: `found`, the list has the operands, in their order; `only`, the operands are no other list. After an error: `none`.
     ///
     /// ```text
     /// ensures found { IfOk result
+    ///     (λ args. AreOperands self.entry (map argument_view args.items)) }
+    /// ensures only { IfOk result
     ///     (λ args. (xs : List Argument) → AreOperands self.entry xs
     ///         → map argument_view args.items ≡ xs) }
     /// ensures none { IfErr result (λ e. e.cause ≢ Memory → AreNoOperands self.entry) }
     /// ```
     ///
-    /// Definitions: [`Argument`](crate::definitions::insn::arguments::Argument), [`AreOperands`](crate::definitions::insn::operands::AreOperands), [`argument_view`](crate::definitions::insn::views::argument_view), [`AreNoOperands`](crate::definitions::insn::operands::AreNoOperands). [How to read clauses](crate::definitions).
+    /// Definitions: [`AreOperands`](crate::definitions::insn::operands::AreOperands), [`argument_view`](crate::definitions::insn::views::argument_view), [`Argument`](crate::definitions::insn::arguments::Argument), [`AreNoOperands`](crate::definitions::insn::operands::AreNoOperands). [How to read clauses](crate::definitions).
     #[doc(alias = "immediates")]
     #[doc(alias = "operands")]
     #[inline(always)]
@@ -80,11 +84,58 @@ impl<'a> Operands<'a> {
             Operands::S64(n) => list_one(alloc, Arg::S64(n)),
             Operands::Mem(memory) => list_one(alloc, Arg::Mem(memory)),
             Operands::Block(block) => list_one(alloc, Arg::Block(block)),
-            Operands::Encoded(shape, bytes) => {
-                let (args, _rest) = read_any::<A, Standard>(shape, bytes, alloc)?;
-                Ok(args)
-            }
+            Operands::Encoded(shape, bytes) => decode_encoded(shape, bytes, alloc),
         }
+    }
+}
+
+/// Returns whether operands of this shape have a case of their own in [`Operands`].
+///
+/// # Proved
+///
+/// ```text
+/// ensures { result ≡ has_case shape }
+/// ```
+///
+/// Definitions: [`has_case`](crate::definitions::insn::operands::has_case). [How to read clauses](crate::definitions).
+fn has_own_case(shape: Shape) -> bool {
+    matches!(
+        shape,
+        Shape::Nothing | Shape::U | Shape::C32 | Shape::C64 | Shape::M | Shape::B
+    )
+}
+
+/// Decodes the operands of a shape without a case of its own, which occupy all of the bytes.
+///
+/// # Proved
+///
+/// After `Ok`: `shape`; `found`. After an error: `none`.
+///
+/// ```text
+/// ensures shape { IfOk result (λ _. has_case shape ≡ false) }
+/// ensures found { IfOk result
+///     (λ args. arguments (parts_of shape) standard bytes.now
+///         (map argument_view args.items)) }
+/// ensures none { IfErr result
+///     (λ e. e.cause ≢ Memory → (has_case shape ≡ true)
+///         ⊎ RejectsWhole (arguments (parts_of shape)) standard bytes.now) }
+/// ```
+///
+/// Definitions: [`has_case`](crate::definitions::insn::operands::has_case), [`arguments`](crate::definitions::insn::plain::arguments), [`parts_of`](crate::definitions::insn::parts::parts_of), [`standard`](crate::definitions::base::numbers::Mode), [`argument_view`](crate::definitions::insn::views::argument_view), [`RejectsWhole`](crate::definitions::base::continuing::RejectsWhole). [How to read clauses](crate::definitions).
+#[inline(never)]
+fn decode_encoded<A: Allocator + Copy>(
+    shape: Shape,
+    bytes: &[u8],
+    alloc: A,
+) -> Result<Vec<Arg<A>, A>, DecodeError> {
+    if has_own_case(shape) {
+        return Err(ReadFault::UnknownTag.at(bytes));
+    }
+    let (args, rest) = read_any::<A, Standard>(shape, bytes, alloc)?;
+    if rest.is_empty() {
+        Ok(args)
+    } else {
+        Err(ReadFault::SizeMismatch.at(rest))
     }
 }
 

@@ -276,7 +276,8 @@ impl<'a, A: Allocator + Copy> CodeBody<'a, A> {
         }
     }
 
-    /// Returns an error of the visitor of its instructions with the offset in the module.
+    /// Returns an error of the visitor of its instructions with the offset in the module: that of
+    /// the end of the body, less the bytes left of the error.
     ///
     /// # Examples
     ///
@@ -296,10 +297,12 @@ impl<'a, A: Allocator + Copy> CodeBody<'a, A> {
     ///
     /// # Proved
     ///
-    /// In any case: `cause`, the result has the cause of the error; `from`, the offset is not before the body; `within`, the offset is not after the body.
+    /// In any case: `cause`, the result has the cause of the error; `offset`, the offset is that of the end of the body, less the bytes left of the error; `from`, the offset is not before the body; `within`, the offset is not after the body.
     ///
     /// ```text
     /// ensures cause { result.cause ≡ error.cause }
+    /// ensures offset { result.offset + min (length self.now.bytes) error.left
+    ///     ≡ self.now.offset + length self.now.bytes }
     /// ensures from { self.now.offset ≤ result.offset }
     /// ensures within { result.offset ≤ self.now.offset + length self.now.bytes }
     /// ```

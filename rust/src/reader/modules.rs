@@ -42,15 +42,17 @@ pub struct Listed {
 ///
 /// # Proved
 ///
-/// After `Ok`: `found`. After an error: `none`, the bytes do not begin with such an encoding; `cause`.
+/// - After `Ok`: `found`.
+/// - After an error, `none`: the bytes do not begin with such an encoding.
+/// - After an error, `cause`: The cause of the error of bytes that do not begin with the header: they end before it does, or one of its bytes differs.
 ///
 /// ```text
 /// ensures found { IfOk result (λ rest. bytes.now ≡ header ++ rest.now) }
 /// ensures none { IfErr result (λ _. Rejects (fixed header (tt {0})) padded bytes.now) }
-/// ensures cause { IfErr result (λ e. (e ≡ Ended) ⊎ (e ≡ UnknownTag)) }
+/// ensures cause { IfErr result (λ e. IsHeaderCause bytes.now e) }
 /// ```
 ///
-/// Definitions: [`header`](crate::definitions::base::formats::header), [`Rejects`](crate::definitions::base::decoding::Rejects), [`fixed`](crate::definitions::base::formats::fixed), [`padded`](crate::definitions::base::numbers::Mode). [How to read clauses](crate::definitions).
+/// Definitions: [`header`](crate::definitions::base::formats::header), [`Rejects`](crate::definitions::base::decoding::Rejects), [`fixed`](crate::definitions::base::formats::fixed), [`padded`](crate::definitions::base::numbers::Mode), [`IsHeaderCause`](crate::definitions::reader::outlines::IsHeaderCause). [How to read clauses](crate::definitions).
 pub(crate) fn read_header(bytes: &[u8]) -> Result<&[u8], ReadFault> {
     match bytes.split_first_chunk::<8>() {
         None => Err(ReadFault::Ended),
@@ -117,16 +119,15 @@ fn line_of<A: Allocator + Copy>(section: &Section<'_, A>) -> Result<Listed, Read
 ///
 /// - After `Ok`, `found`: The bytes are a module whose sections have these lines.
 /// - After an error, `none`: the bytes stop being a module at this section, unless the cause is `Memory`.
-/// - After an error, `header`: with the number 0 the cause is `Ended`, `UnknownTag` or `Memory`.
+/// - After an error, `header`: An error at section number 0 has the cause of bytes that do not begin with the header, unless an allocation failed.
 ///
 /// ```text
 /// ensures found { IfOk result (λ lines. HasLines bytes.now lines.items) }
 /// ensures none { IfErr result (λ e. e.1 ≢ Memory → StopsAt bytes.now e.0) }
-/// ensures header { IfErr result
-///     (λ e. e.0 ≡ 0 → e.1 ≢ Memory → (e.1 ≡ Ended) ⊎ (e.1 ≡ UnknownTag)) }
+/// ensures header { IfErr result (λ e. ExplainsHeader bytes.now e.0 e.1) }
 /// ```
 ///
-/// Definitions: [`HasLines`](crate::definitions::reader::modules::HasLines), [`StopsAt`](crate::definitions::reader::modules::StopsAt), [`header`](crate::definitions::base::formats::header). [How to read clauses](crate::definitions).
+/// Definitions: [`HasLines`](crate::definitions::reader::modules::HasLines), [`StopsAt`](crate::definitions::reader::modules::StopsAt), [`header`](crate::definitions::base::formats::header), [`ExplainsHeader`](crate::definitions::reader::outlines::ExplainsHeader). [How to read clauses](crate::definitions).
 pub fn list_module<'a, A: Allocator + Copy>(
     alloc: A,
     bytes: &'a [u8],

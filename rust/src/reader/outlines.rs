@@ -105,7 +105,7 @@ fn line_of<'a, A: Allocator + Copy>(section: &Section<'a, A>) -> Result<Outlined
 ///
 /// Returns the error and a section number, counted from 1. For any error but `Memory`, this is the
 /// first section that is not an id and a size-prefixed payload. It is 0 if the bytes do not begin
-/// with the header.
+/// with the header: the cause is then `Ended` if they are fewer than 8, and `UnknownTag` otherwise.
 ///
 /// # Examples
 ///
@@ -125,15 +125,17 @@ fn line_of<'a, A: Allocator + Copy>(section: &Section<'a, A>) -> Result<Outlined
 /// - After `Ok`, `found`: The bytes are a module of sections that the lines describe.
 /// - After an error: `none`.
 /// - After an error, `no_module`: the bytes are no module, unless the cause is `Memory`.
+/// - After an error, `header`: An error at section number 0 has the cause of bytes that do not begin with the header, unless an allocation failed.
 ///
 /// ```text
 /// ensures found { IfOk result (λ lines. HasOutline bytes.now lines.items) }
 /// ensures none { IfErr result (λ e. e.1 ≢ Memory → EndsAt bytes.now e.0) }
 /// ensures no_module { IfErr result
 ///     (λ e. e.1 ≢ Memory → RejectsWhole wasm_module padded bytes.now) }
+/// ensures header { IfErr result (λ e. ExplainsHeader bytes.now e.0 e.1) }
 /// ```
 ///
-/// Definitions: [`HasOutline`](crate::definitions::reader::outlines::HasOutline), [`EndsAt`](crate::definitions::reader::outlines::EndsAt), [`RejectsWhole`](crate::definitions::base::continuing::RejectsWhole), [`wasm_module`](crate::definitions::base::formats::wasm_module), [`padded`](crate::definitions::base::numbers::Mode). [How to read clauses](crate::definitions).
+/// Definitions: [`HasOutline`](crate::definitions::reader::outlines::HasOutline), [`EndsAt`](crate::definitions::reader::outlines::EndsAt), [`RejectsWhole`](crate::definitions::base::continuing::RejectsWhole), [`wasm_module`](crate::definitions::base::formats::wasm_module), [`padded`](crate::definitions::base::numbers::Mode), [`ExplainsHeader`](crate::definitions::reader::outlines::ExplainsHeader). [How to read clauses](crate::definitions).
 pub fn outline<'a, A: Allocator + Copy>(
     alloc: A,
     bytes: &'a [u8],

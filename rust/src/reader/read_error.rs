@@ -43,10 +43,11 @@ impl ReadError {
     ///
     /// # Proved
     ///
-    /// In any case: `cause`, the result has the cause of the error; `from`; `within`.
+    /// In any case: `cause`, the result has the cause of the error; `offset`; `from`; `within`.
     ///
     /// ```text
     /// ensures cause { result.cause ≡ error.cause }
+    /// ensures offset { result.offset + min size error.left ≡ end }
     /// ensures from { end ≤ result.offset + size }
     /// ensures within { result.offset ≤ end }
     /// ```

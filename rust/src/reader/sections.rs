@@ -11,14 +11,18 @@ use crate::reader::standing::{Standing, read_standing};
 use crate::alloc::{Allocator, Global};
 use core::iter::FusedIterator;
 use core::ops::Range;
-use crate::base::{ReadFault, Standard};
+use crate::base::Standard;
 
 /// Returns the length of the longest common prefix of two slices.
 ///
 /// # Proved
 ///
 /// ```text
-/// ensures { result ≤ length bytes.now }
+/// ensures within { result ≤ length bytes.now }
+/// ensures inside { result ≤ length other.now }
+/// ensures same { take result bytes.now ≡ take result other.now }
+/// ensures differs { result < length bytes.now → result < length other.now
+///     → take (suc result) bytes.now ≢ take (suc result) other.now }
 /// ```
 ///
 /// [How to read clauses](crate::definitions).
@@ -28,6 +32,26 @@ fn common_length(bytes: &[u8], other: &[u8]) -> usize {
         count += 1;
     }
     count
+}
+
+/// Returns the offset of the error of bytes that do not begin with the header: that of the first
+/// wrong byte, or the end of too few.
+///
+/// # Proved
+///
+/// ```text
+/// ensures short { length bytes.now < length header → result ≡ length bytes.now }
+/// ensures wrong { length header ≤ length bytes.now
+///     → Rejects (fixed header (tt {0})) padded bytes.now → IsFirstWrong bytes.now result }
+/// ensures within { result ≤ length bytes.now }
+/// ```
+///
+/// Definitions: [`header`](crate::definitions::base::formats::header), [`Rejects`](crate::definitions::base::decoding::Rejects), [`fixed`](crate::definitions::base::formats::fixed), [`padded`](crate::definitions::base::numbers::Mode), [`IsFirstWrong`](crate::definitions::reader::iterating::IsFirstWrong). [How to read clauses](crate::definitions).
+fn wrong_at(bytes: &[u8]) -> usize {
+    if bytes.len() < HEADER.len() {
+        return bytes.len();
+    }
+    common_length(bytes, &HEADER)
 }
 
 /// The sections of a module, one after another. It allocates nothing.
@@ -87,18 +111,23 @@ impl<'a, A: Allocator + Copy> Sections<'a, A> {
     ///
     /// # Proved
     ///
-    /// After `Ok`: `found`, the module is the header, and then the bytes ahead of the iterator; `offset`, the offset is that after the header; `same`, the iterator is over these bytes. After an error: `none`, the bytes do not begin with such an encoding; `cause`, the cause is `Ended` or `UnknownTag`; `within`, the offset of the error is in the module, or at its end.
+    /// - After `Ok`, `found`: the module is the header, and then the bytes ahead of the iterator.
+    /// - After `Ok`, `offset`: the offset is that after the header.
+    /// - After `Ok`, `same`: the iterator is over these bytes.
+    /// - After an error, `none`: the bytes do not begin with such an encoding.
+    /// - After an error, `why`: The error of bytes that do not begin with the header: at their end if they end before it does, and otherwise at the first byte that differs.
+    /// - After an error, `within`: the offset of the error is in the module, or at its end.
     ///
     /// ```text
     /// ensures found { IfOk result (λ it. module.now ≡ header ++ ahead it) }
     /// ensures offset { IfOk result (λ it. it.offset ≡ length header) }
     /// ensures same { IfOk result (λ it. it.bytes ≡ module.now) }
     /// ensures none { IfErr result (λ _. Rejects (fixed header (tt {0})) padded module.now) }
-    /// ensures cause { IfErr result (λ e. (e.cause ≡ Ended) ⊎ (e.cause ≡ UnknownTag)) }
+    /// ensures why { IfErr result (λ e. IsHeaderError module.now e) }
     /// ensures within { IfErr result (λ e. e.offset ≤ length module.now) }
     /// ```
     ///
-    /// Definitions: [`header`](crate::definitions::base::formats::header), [`ahead`](crate::definitions::reader::iterating::ahead), [`Rejects`](crate::definitions::base::decoding::Rejects), [`fixed`](crate::definitions::base::formats::fixed), [`padded`](crate::definitions::base::numbers::Mode). [How to read clauses](crate::definitions).
+    /// Definitions: [`header`](crate::definitions::base::formats::header), [`ahead`](crate::definitions::reader::iterating::ahead), [`Rejects`](crate::definitions::base::decoding::Rejects), [`fixed`](crate::definitions::base::formats::fixed), [`padded`](crate::definitions::base::numbers::Mode), [`IsHeaderError`](crate::definitions::reader::iterating::IsHeaderError). [How to read clauses](crate::definitions).
     pub fn new(alloc: A, module: &'a [u8]) -> Result<Self, ReadError> {
         match read_header(module) {
             Ok(rest) => Ok(Sections {
@@ -106,13 +135,9 @@ impl<'a, A: Allocator + Copy> Sections<'a, A> {
                 module,
                 offset: module.len() - rest.len(),
             }),
-            Err(ReadFault::Ended) => Err(ReadError {
-                cause: ReadFault::Ended,
-                offset: module.len(),
-            }),
             Err(cause) => Err(ReadError {
                 cause,
-                offset: common_length(module, &HEADER),
+                offset: wrong_at(module),
             }),
         }
     }

@@ -13,8 +13,8 @@ use crate::base::{ReadFault, Standard};
 ///
 /// These custom sections, known by their names, hold offsets
 ///
-/// - into code and data: `linking`, `external_debug_info`, `build_id`, `.debug_*`,
-///   `metadata.code.*`;
+/// - into code and data: `linking`, `external_debug_info`, `build_id`, `.debug_*`, `.gdb_index`,
+///   `.apple_*`, `metadata.code.*`;
 /// - into any section that a relocation names: `reloc.*`;
 /// - into code, from the first byte of the module: `sourceMappingURL`.
 ///
@@ -112,6 +112,8 @@ fn has_code_offsets(name: &str) -> bool {
         || name == "external_debug_info"
         || name == "build_id"
         || bytes.starts_with(b".debug_")
+        || name == ".gdb_index"
+        || bytes.starts_with(b".apple_")
         || bytes.starts_with(b"metadata.code.")
 }
 
@@ -583,7 +585,7 @@ fn is_same(a: usize, b: usize) -> bool {
 /// # Proved
 ///
 /// - After `Ok`, `ok`: The bytes begin with sections, and the output for these sections is appended.
-/// - After an error: `none`.
+/// - After an error: `none`, `counted`.
 /// - `front`: The new bytes begin with the old ones.
 ///
 /// ```text
@@ -593,6 +595,7 @@ fn is_same(a: usize, b: usize) -> bool {
 /// ensures front { IsFrontOf sink.old.items sink.new.items }
 /// ensures none { IfErr result
 ///     (λ e. e.1 ≢ Memory → StopsAfter (ahead sections.entry) e.0) }
+/// ensures counted { IfErr result (λ e. e.0 ≢ 0) }
 /// ```
 ///
 /// Definitions: [`Rewrites`](crate::definitions::reader::shortening::Rewrites), [`ahead`](crate::definitions::reader::iterating::ahead), [`IsFrontOf`](crate::definitions::base::minimal::IsFrontOf), [`StopsAfter`](crate::definitions::reader::shortening::StopsAfter). [How to read clauses](crate::definitions).
@@ -645,6 +648,7 @@ fn begin_module<A: Sink>(spare: usize, sink: &mut A) -> Result<(), AllocError> {
 ///
 /// - After `Ok`, `ok`: The buffer gains the header and the output for each section: its minimal encoding, or its bytes unchanged if they do not decode by its kind. The result counts the unchanged ones. With `Refuse` every section keeps its offsets, and with `LeaveOut` exactly the sections that hold offsets are left out. The output is a module with the ids of the sections that are not left out, and is no longer than the input.
 /// - After an error, `why`: The meaning of an error. Either the section of this number is the first that is malformed, whatever its payload, and the bytes are not a module. Or the section of this number loses its offsets. `Memory` implies nothing about the bytes.
+/// - After an error, `header`: An error at section number 0 has the cause of bytes that do not begin with the header, unless an allocation failed.
 /// - `front`: The new bytes begin with the old ones.
 ///
 /// ```text
@@ -652,9 +656,10 @@ fn begin_module<A: Sink>(spare: usize, sink: &mut A) -> Result<(), AllocError> {
 ///     (λ kept. ShortensModule offsets bytes.now kept sink.old.items sink.new.items) }
 /// ensures front { IsFrontOf sink.old.items sink.new.items }
 /// ensures why { IfErr result (λ fault. Explains offsets bytes.now fault) }
+/// ensures header { IfErr result (λ fault. ExplainsNoHeader bytes.now fault) }
 /// ```
 ///
-/// Definitions: [`ShortensModule`](crate::definitions::reader::shortening::ShortensModule), [`IsFrontOf`](crate::definitions::base::minimal::IsFrontOf), [`Explains`](crate::definitions::reader::shortening::Explains). [How to read clauses](crate::definitions).
+/// Definitions: [`ShortensModule`](crate::definitions::reader::shortening::ShortensModule), [`IsFrontOf`](crate::definitions::base::minimal::IsFrontOf), [`Explains`](crate::definitions::reader::shortening::Explains), [`header`](crate::definitions::base::formats::header), [`ExplainsNoHeader`](crate::definitions::reader::shortening::ExplainsNoHeader). [How to read clauses](crate::definitions).
 fn append_module<A: Allocator + Copy, B: Sink>(
     alloc: A,
     bytes: &[u8],
@@ -722,15 +727,17 @@ fn append_module<A: Allocator + Copy, B: Sink>(
 /// - After `Ok`, `ok`: The buffer gains the header and the output for each section: its minimal encoding, or its bytes unchanged if they do not decode by its kind. The result counts the unchanged ones. With `Refuse` every section keeps its offsets, and with `LeaveOut` exactly the sections that hold offsets are left out. The output is a module with the ids of the sections that are not left out, and is no longer than the input.
 /// - After an error, `err`: the bytes of the sink are unchanged.
 /// - After an error, `why`: The meaning of an error. Either the section of this number is the first that is malformed, whatever its payload, and the bytes are not a module. Or the section of this number loses its offsets. `Memory` implies nothing about the bytes.
+/// - After an error, `header`: An error at section number 0 has the cause of bytes that do not begin with the header, unless an allocation failed.
 ///
 /// ```text
 /// ensures ok { IfOk result
 ///     (λ kept. ShortensModule offsets bytes.now kept sink.old.items sink.new.items) }
 /// ensures err { OnErr result (sink.new.items ≡ sink.old.items) }
 /// ensures why { IfErr result (λ fault. Explains offsets bytes.now fault) }
+/// ensures header { IfErr result (λ fault. ExplainsNoHeader bytes.now fault) }
 /// ```
 ///
-/// Definitions: [`ShortensModule`](crate::definitions::reader::shortening::ShortensModule), [`Explains`](crate::definitions::reader::shortening::Explains). [How to read clauses](crate::definitions).
+/// Definitions: [`ShortensModule`](crate::definitions::reader::shortening::ShortensModule), [`Explains`](crate::definitions::reader::shortening::Explains), [`header`](crate::definitions::base::formats::header), [`ExplainsNoHeader`](crate::definitions::reader::shortening::ExplainsNoHeader). [How to read clauses](crate::definitions).
 pub fn shorten_module<A: Allocator + Copy, B: Sink>(
     alloc: A,
     bytes: &[u8],

@@ -5,15 +5,13 @@
 //! `ItemLaws` says of a kind of items that its format is unambiguous, and that a well-formed record
 //! encodes its item.
 
+pub use self::{padded as wide, rejections as nothing_stands};
 use crate::sections::export::Export;
 use crate::sections::global::GlobalType;
 use crate::sections::import::EntityType;
 use crate::sections::memory::MemoryType;
 use crate::sections::table::TableType;
 use crate::alloc::Allocator;
-
-pub use self::padded as wide;
-pub use self::rejections as nothing_stands;
 
 /// The formats of sections and of their items are unambiguous. A well-formed record encodes its
 /// item.

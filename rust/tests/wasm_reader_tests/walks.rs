@@ -167,12 +167,25 @@ fn operands_of_rare_shapes() {
 #[test]
 fn operands_that_no_instruction_has() {
     let rt = crate::host::HostRuntime;
-    let cut = Operands::Encoded(Shape::F32, &[0, 0, 0]);
-    let cause = match cut.to_args(rt.alloc()) {
-        Ok(_) => None,
-        Err(error) => Some(error.cause()),
-    };
-    assert_eq!(rt; cause, Some(ReadFault::Ended));
+    let rows: [(Operands, ReadFault); 4] = [
+        (Operands::Encoded(Shape::F32, &[0, 0, 0]), ReadFault::Ended),
+        (
+            Operands::Encoded(Shape::L, &[0, 9]),
+            ReadFault::SizeMismatch,
+        ),
+        (Operands::Encoded(Shape::U, &[5]), ReadFault::UnknownTag),
+        (
+            Operands::Encoded(Shape::Nothing, &[]),
+            ReadFault::UnknownTag,
+        ),
+    ];
+    for (given, expected) in rows {
+        let cause = match given.to_args(rt.alloc()) {
+            Ok(_) => None,
+            Err(error) => Some(error.cause()),
+        };
+        assert_eq!(rt; cause, Some(expected));
+    }
 }
 
 #[test]

@@ -267,8 +267,8 @@ linked.",
         "--drop-offsets",
         Given::Alone,
         "\
-drops the custom sections that hold offsets: linking, reloc.*, .debug_*, metadata.code.*, \
-external_debug_info, build_id, sourceMappingURL.",
+drops the custom sections that hold offsets: linking, reloc.*, .debug_*, .gdb_index, .apple_*, \
+metadata.code.*, external_debug_info, build_id, sourceMappingURL.",
     ),
     explained(
         Flag::KeepCode,

@@ -3,7 +3,7 @@ use Rattle.wasm_reader.proofs.Common.{id_ahead, more_ahead, next_error, next_sec
 use Rattle.wasm_reader.proofs.modules.list_module.Goals as goal
 
 pub returns-in-Err-clause-header : goal.returns-in-Err-clause-header
-returns-in-Err-clause-header g c = λ e n. c.in-Err.ensures.cause
+returns-in-Err-clause-header g c = λ e n. c.in-Err.ensures.why.cause
 
 pub returns-in-None-clause-found : goal.returns-in-None-clause-found
 returns-in-None-clause-found g c = listed_done c.args.bytes.now _ _ c.loop-lines.lines.items c.in-Ok.ensures.found c.loop-lines.invariant (ap length c.in-None.ensures.steps.0)

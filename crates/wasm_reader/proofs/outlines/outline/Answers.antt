@@ -5,6 +5,9 @@ use Rattle.wasm_reader.proofs.outlines.outline.Goals as goal
 pub returns-in-Err-clause-no_module : goal.returns-in-Err-clause-no_module
 returns-in-Err-clause-no_module g c = λ n. no_header c.args.bytes.now c.in-Err.ensures.none
 
+pub returns-in-Err-clause-header : goal.returns-in-Err-clause-header
+returns-in-Err-clause-header g c = λ e n. c.in-Err.ensures.why.cause
+
 pub returns-in-Some-Err-clause-none : goal.returns-in-Some-Err-clause-none
 returns-in-Some-Err-clause-none g c = λ n.
     let e = next_error c.in-Some-Err.field-0-is c.in-Some-Err.ensures.steps in

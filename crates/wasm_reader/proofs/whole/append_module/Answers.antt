@@ -14,3 +14,6 @@ returns-in-Some-clause-why g c =
 pub returns-in-None-clause-ok : goal.returns-in-None-clause-ok
 returns-in-None-clause-ok g c =
     keeps_offsets c.args.offsets c.args.bytes.now (ahead c.in-Ok.sections) c.args.sink.now.items _ _ c.in-Ok-append_sections.tally c.in-Ok.ensures.found c.in-Ok-begin_module.ensures.ok c.in-Ok-append_sections.ensures.ok (sym c.lost_at.ensures ∙ c.in-None.is)
+
+pub returns-in-Err-clause-header : goal.returns-in-Err-clause-header
+returns-in-Err-clause-header g c = λ e n. c.in-Err.ensures.why.cause

@@ -50,6 +50,9 @@ pub enum Target {
     Module,
 }
 
+/// What the names of other sections with offsets into code and data begin with.
+const CODE_PREFIXES: [&str; 3] = [".debug_", ".apple_", "metadata.code."];
+
 impl Target {
     /// Returns the target of the section's offsets, or `None` if it holds none.
     pub fn of(section: &Section<'_>) -> Option<Self> {
@@ -59,12 +62,12 @@ impl Target {
     /// Returns the target of a custom section of this name.
     fn named(name: &str) -> Option<Self> {
         match name {
-            "linking" | "external_debug_info" | BUILD_ID => Some(Target::CodeAndData),
-            "sourceMappingURL" => Some(Target::Module),
-            _ if name.starts_with("reloc.") => Some(Target::Relocated),
-            _ if name.starts_with(".debug_") || name.starts_with("metadata.code.") => {
+            "linking" | "external_debug_info" | BUILD_ID | ".gdb_index" => {
                 Some(Target::CodeAndData)
             }
+            "sourceMappingURL" => Some(Target::Module),
+            _ if name.starts_with("reloc.") => Some(Target::Relocated),
+            _ if CODE_PREFIXES.iter().any(|it| name.starts_with(it)) => Some(Target::CodeAndData),
             _ => None,
         }
     }
@@ -93,6 +96,10 @@ mod tests {
             ".debug_info",
             ".debug_",
             ".debug",
+            ".gdb_index",
+            ".gdb_index2",
+            ".apple_names",
+            ".apple",
             "reloc..debug_info",
             HINTS,
             "metadata.code.",
