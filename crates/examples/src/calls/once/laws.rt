@@ -76,3 +76,15 @@ pub fn readers() {
     wasm_reader::laws::modules();
     wasm_reader::laws::shortened()
 }
+
+/// Two laws of each of these libraries have another name too.
+pub fn other_names() {
+    wasm_base::laws::wide();
+    wasm_insn::laws::wide();
+    wasm_code::laws::wide();
+    wasm_code::laws::nothing_stands();
+    wasm_sections::laws::wide();
+    wasm_sections::laws::nothing_stands();
+    wasm_custom::laws::wide();
+    wasm_custom::laws::nothing_stands()
+}

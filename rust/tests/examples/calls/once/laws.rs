@@ -78,3 +78,15 @@ pub fn readers() {
     dolzhytik::reader::laws::modules();
     dolzhytik::reader::laws::shortened()
 }
+
+/// Two laws of each of these libraries have another name too.
+pub fn other_names() {
+    dolzhytik::fallible::laws::base::wide();
+    dolzhytik::fallible::laws::insn::wide();
+    dolzhytik::fallible::laws::code::wide();
+    dolzhytik::fallible::laws::code::nothing_stands();
+    dolzhytik::fallible::laws::sections::wide();
+    dolzhytik::fallible::laws::sections::nothing_stands();
+    dolzhytik::fallible::laws::custom::wide();
+    dolzhytik::fallible::laws::custom::nothing_stands()
+}
