@@ -94,6 +94,8 @@ fn why_not(module: &[u8], fault: ModuleFault) -> Failure<'_> {
             }
             Err(failure) => failure,
         },
+        // The library has no other fault.
+        _ => at(module, 0, Cause::Memory),
     }
 }
 
