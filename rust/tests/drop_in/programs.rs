@@ -322,4 +322,24 @@ mod own_names {
     }
 
     modules! { base code custom hex immediates insn recipe sections string types vec alloc }
+
+    /// A module with the name of one at the root, by a glob beside that of the package. The import by
+    /// its name comes before both globs.
+    mod beside_a_public_module {
+        mod parts {
+            pub mod reader {
+                pub const NAME: &str = "own";
+            }
+        }
+
+        use dolzhytik::*;
+        use parts::reader;
+        #[allow(unused_imports, reason = "the glob that would make the name ambiguous")]
+        use parts::*;
+
+        #[test]
+        fn an_import_by_name_is_not_ambiguous() {
+            assert_eq!((reader::NAME, Module::new().len()), ("own", 8));
+        }
+    }
 }
