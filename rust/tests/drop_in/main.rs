@@ -25,6 +25,7 @@ mod lengths;
 mod moved;
 mod programs;
 mod random;
+mod random_lists;
 mod recorded;
 mod refusals;
 mod rows;

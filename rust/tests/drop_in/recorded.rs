@@ -67,7 +67,7 @@ impl<T> Items<T> {
         self.list.log.borrow_mut().push(call);
         let calls = self.calls.replace(self.calls.get() + 1);
         if self.list.panics_at == Some(calls) {
-            std::panic::panic_any(call);
+            panic!("{call:?}");
         }
     }
 }
