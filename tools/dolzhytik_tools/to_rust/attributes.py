@@ -36,7 +36,11 @@ def turn_derive(source: Source, place: int, bracket: int, end: int) -> None:
         if name not in ERASED_DERIVES | KEPT_DERIVES:
             source.stop(place, f'an unknown derived trait: {name}')
     derived_for = public_type(source, end)
-    erased = ERASED_DERIVES | {'Copy' for _ in CLONED & {derived_for}} | {'Debug' for _ in SHOWN_BY_HAND & {derived_for}}
+    erased = set(ERASED_DERIVES)
+    if derived_for in CLONED:
+        erased.add('Copy')
+    if derived_for in SHOWN_BY_HAND:
+        erased.add('Debug')
     kept = [name for name in names if name not in erased]
     if derived_for in COPIED:
         kept.insert(1, 'Copy')
