@@ -2,8 +2,8 @@
 //! transcription of the calls that the Rust crate makes.
 use crate::recorded::{Call, Length, List, Log};
 use dolzhytik::*;
-use std::cell::RefCell;
-use std::panic::{AssertUnwindSafe, catch_unwind};
+use std::cell::{Cell, RefCell};
+use std::panic::{AssertUnwindSafe, catch_unwind, set_hook, take_hook};
 use std::rc::Rc;
 
 /// How many calls the test makes, unless the environment variable `DOLZHYTIK_CALLS` says it.
@@ -160,6 +160,21 @@ impl<T: Clone> Pair<T> {
     }
 }
 
+thread_local! {
+    /// Whether panics of this thread are expected, and print nothing.
+    static EXPECTED: Cell<bool> = const { Cell::new(false) };
+}
+
+/// Has expected panics print nothing.
+fn silence() {
+    let hook = take_hook();
+    set_hook(Box::new(move |panic| {
+        if !EXPECTED.get() {
+            hook(panic);
+        }
+    }));
+}
+
 /// What is asked of two lists, and the bytes unless a panic ends the call.
 type Outcome = (Vec<Call>, Option<Vec<u8>>);
 
@@ -169,7 +184,9 @@ fn outcome<T: Clone>(
     call: impl FnOnce(List<T>, List<T>) -> Vec<u8>,
 ) -> Outcome {
     let Pair { log, first, second } = Pair::of(lists);
+    EXPECTED.set(true);
     let bytes = catch_unwind(AssertUnwindSafe(|| call(first, second))).ok();
+    EXPECTED.set(false);
     let calls = log.borrow().clone();
     (calls, bytes)
 }
@@ -214,14 +231,12 @@ fn check_frame(numbers: &mut Numbers) -> bool {
 fn random_lists_beside_a_transcription() {
     let calls = std::env::var("DOLZHYTIK_CALLS").map_or(CALLS, |it| it.parse().expect("a number"));
     let mut numbers = Numbers(0x9E37_79B9_7F4A_7C15);
-    let hook = std::panic::take_hook();
-    std::panic::set_hook(Box::new(|_| {}));
+    silence();
     let answered = (0..calls).filter(|call| match call % 2 {
         0 => check_instance(&mut numbers),
         _ => check_frame(&mut numbers),
     });
     let answered = answered.count();
-    std::panic::set_hook(hook);
     println!("{calls} calls, {} of them with a panic", calls - answered);
     assert!(calls < 100 || (calls / 4..calls * 9 / 10).contains(&answered));
 }
