@@ -198,6 +198,7 @@ fn by_library(bytes: &[u8], offsets: Offsets) -> Option<Answer> {
         }) => None,
         Err(ModuleFault::Section { number, .. }) => Some(Answer::NoSection(number)),
         Err(ModuleFault::Offsets { number }) => Some(Answer::Offsets(number)),
+        Err(_) => None,
     }
 }
 

@@ -187,7 +187,7 @@ impl<T, A: Allocator> Vec<T, A> {
     }
 }
 
-impl<T: Copy, A: Allocator> Vec<T, A> {
+impl<T: Clone, A: Allocator> Vec<T, A> {
     /// Creates a vector of these items.
     ///
     /// # Errors

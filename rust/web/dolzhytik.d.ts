@@ -69,8 +69,8 @@ export class DolzhytikError extends Error {
 export function outline(module: Uint8Array): Section[];
 
 /**
- * Returns the sections of a module, each of which decodes. Payloads of type and unknown sections
- * are not decoded, nor is a custom section behind its name; `items` is null in all of these.
+ * Returns what {@link outline} returns, if each section decodes. A section of an unknown id always
+ * does, and a custom section of an unknown name does if it has a name.
  * @throws {DolzhytikError} if a payload does not decode, or as {@link outline} does.
  */
 export function list(module: Uint8Array): Section[];
@@ -83,7 +83,7 @@ export function list(module: Uint8Array): Section[];
 export function minimize(module: Uint8Array, options?: MinimizeOptions): Uint8Array;
 
 /**
- * Returns the module of a recipe: lines that each add an item to a section.
+ * Returns the module of a recipe of version 1 or 2: lines that each add an item to a section.
  * @throws {DolzhytikError} if a line is faulty.
  */
 export function assemble(recipe: string): Uint8Array;

@@ -533,8 +533,8 @@ const damaged = {
 
   async 'types that do not decode'(page) {
     await page.choose(fileOf('types.wasm', moduleOf(section(1, [0x01, 0x00]), FUNCTION)));
-    assert.equal(await page.text('damage-message'), 'section 1: no type section');
-    assert.equal(await page.text('damage-facts'), 'Offset: 0x8 (8)');
+    assert.equal(await page.text('damage-message'), 'section 1 (type) at offset 0xb: unexpected byte or value');
+    assert.equal(await page.text('damage-facts'), 'Cause: unexpected byte or value · Offset: 0x8 (8)');
     assert.equal(await chosenRow(page), 1);
   },
 

@@ -40,20 +40,15 @@ function readSections({ outline, DolzhytikError }, module) {
  */
 const isFlawed = ({ id, name, items }) => (id === 0 ? name === null : id <= 13 && items === null);
 
-/**
- * Why a section of a module does not decode, or null where each does. `list` does not decode types.
- */
+/** Why a section of a module does not decode, or null where each does. */
 function flawOf({ list }, module, sections) {
-  const index = sections.findIndex(isFlawed);
-  if (index < 0) return null;
+  if (!sections.some(isFlawed)) return null;
   try {
     list(module);
   } catch (error) {
     return posted(error);
   }
-  const before = sections[index - 1];
-  const offset = before ? before.offset + before.size : HEADER_SIZE;
-  return posted({ message: `section ${index + 1}: no ${sections[index].kind} section`, offset });
+  return null;
 }
 
 /** Answers the calls of an `Engine`. */

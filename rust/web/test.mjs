@@ -100,21 +100,39 @@ test('the kinds of all ids', () => {
   ]);
 });
 
-test('a list has the sections, and counts no types', () => {
-  assert.deepEqual(list(ADD), [{ ...ADD_OUTLINE[0], items: null }, ...ADD_OUTLINE.slice(1)]);
-  assert.deepEqual(list(moduleOf('00 05 03616263 ff', '01 01 07', '0e 01 00')), [
+test('a list has the sections of an outline', () => {
+  assert.deepEqual(list(ADD), ADD_OUTLINE);
+  assert.deepEqual(list(moduleOf('00 05 03616263 ff', '0e 01 00')), [
     section(0, 'custom', 10, 5, null, 'abc'),
-    section(1, 'type', 17, 1, null),
-    section(14, 'unknown', 20, 1, null),
+    section(14, 'unknown', 17, 1, null),
   ]);
 });
 
 test('a list has no section that does not decode', () => {
-  const module = moduleOf('0e 00', '03 01 07');
-  const [ended, notUtf8] = ['unexpected end of input', 'invalid UTF-8'];
-  checkError(() => list(module), `section 2: ${ended}`, ended, { offset: 10 });
-  checkError(() => list(moduleOf('00 01 09')), `section 1: ${ended}`, ended, { offset: 8 });
-  checkError(() => list(moduleOf('07 05 01 01ff 00 00')), `section 1: ${notUtf8}`, notUtf8, { offset: 8 });
+  const ended = 'unexpected end of input';
+  const rows = [
+    // Seven functions, of which none is there.
+    [['0e 00', '03 01 07'], 2, 'function', 0xd, ended, 10],
+    // A type of the form 07.
+    [['01 02 01 07'], 1, 'type', 0xb, 'unexpected byte or value', 8],
+    // A byte FF in the name of an export.
+    [['07 05 01 01ff 00 00'], 1, 'export', 0xc, 'invalid UTF-8', 8],
+    [['0c 02 01 00'], 1, 'data count', 0xb, 'bytes remain after the value', 8],
+    // A name of nine bytes.
+    [['00 01 09'], 1, 'custom', 0xb, ended, 8],
+    // A name map of one name, whose length is not there.
+    [['00 09 046e616d65 01 02 01 00'], 1, 'custom "name"', 0x13, ended, 8],
+  ];
+  for (const [sections, number, kind, at, cause, offset] of rows) {
+    const message = `section ${number} (${kind}) at offset 0x${at.toString(16)}: ${cause}`;
+    checkError(() => list(moduleOf(...sections)), message, cause, { offset });
+  }
+});
+
+test('a list decodes all encodings that the standard admits', () => {
+  // An import of a global of the type anyref, in one byte.
+  const module = moduleOf('02 08 01 016d 0167 03 6e 00');
+  assert.deepEqual(list(module), [section(2, 'import', 10, 8, 1)]);
 });
 
 // Minimal encodings.
@@ -170,6 +188,31 @@ test('a recipe', () => {
   assert.equal(new Instance(new WebAssembly.Module(module)).exports.add(2, 3), 5);
   assert.deepEqual(assemble(''), hex(HEADER));
   assert.deepEqual(assemble('name ф'), moduleOf('00 0a 046e616d65 00 03 02d184'));
+});
+
+test('a recipe of version 2', () => {
+  const recipe = `# Adds its argument to a local.
+    version 2
+    type 60017f017f
+    memory 1 2
+    func 0
+    locals 1 i32   # local 1
+    body 200020016a0b`;
+  assert.deepEqual(
+    assemble(recipe),
+    moduleOf('01 06 01 60017f017f', '03 02 01 00', '05 04 01 01 01 02', '0a 0b 01 09 01 017f 200020016a0b'),
+  );
+});
+
+test('recipes of version 2 that are none', () => {
+  const check = (lines, line, cause) => {
+    const place = line === 0 ? 'behind the last line' : `line ${line}`;
+    checkError(() => assemble(`version 2\n${lines}`), `${place}: ${cause}`, cause, { line });
+  };
+  check('memory 1 2 3', 2, 'surplus word');
+  check('import m g global i16', 2, 'unknown type');
+  check('func 0\nlocals 1 i32', 0, 'locals without a body');
+  checkError(() => assemble('func 0\nversion 2'), 'line 2: unknown command', 'unknown command', { line: 2 });
 });
 
 test('recipes that are none', () => {

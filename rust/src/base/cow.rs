@@ -49,7 +49,7 @@ impl<'a, T, A: Allocator> CowSlice<'a, T, A> {
     }
 }
 
-impl<'a, T: Copy, A: Allocator + Copy> CowSlice<'a, T, A> {
+impl<'a, T: Clone, A: Allocator + Copy> CowSlice<'a, T, A> {
     /// Returns a copy: borrowed items stay borrowed, and owned ones are copied to a new `Vec`.
     ///
     /// # Errors

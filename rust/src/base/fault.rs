@@ -19,6 +19,7 @@ use core::fmt;
 /// assert_eq!(error.to_string(), "unexpected end of input at offset 0x4");
 /// ```
 #[derive(Clone, Copy, PartialEq, Eq, Debug)]
+#[non_exhaustive]
 pub enum ReadFault {
     /// The bytes end before the value does.
     Ended,

@@ -337,7 +337,7 @@ impl RefType {
     /// ```
     ///
     /// Definitions: [`Appends`](crate::definitions::base::calls::Appends), [`ref_encoding_in`](crate::definitions::base::types::ref_encoding_in). [How to read clauses](crate::definitions).
-    pub fn encode_in<G: Grammar, A: Sink>(self, sink: &mut A) -> Result<()> {
+    pub(crate) fn encode_in<G: Grammar, A: Sink>(self, sink: &mut A) -> Result<()> {
         if G::is_standard() {
             self.encode_tight(sink)
         } else {
@@ -365,7 +365,7 @@ impl ValType {
     ///
     /// Definitions: [`Appends`](crate::definitions::base::calls::Appends), [`val_encoding_in`](crate::definitions::base::types::val_encoding_in). [How to read clauses](crate::definitions).
     #[inline]
-    pub fn encode_in<G: Grammar, A: Sink>(self, sink: &mut A) -> Result<()> {
+    pub(crate) fn encode_in<G: Grammar, A: Sink>(self, sink: &mut A) -> Result<()> {
         match self {
             ValType::Ref(ty) if G::is_standard() => ty.encode_tight(sink),
             _ => self.encode(sink),

@@ -8,6 +8,7 @@ use crate::insn::{Ieee32, Ieee64};
 /// An instruction that is usually a whole expression. It is kept as a value and not as bytes: it
 /// needs no allocation, and is encoded once, with the expression.
 #[derive(Clone, Copy, Debug)]
+#[non_exhaustive]
 pub enum First {
     GlobalGet(u32),
     RefNull(HeapType),

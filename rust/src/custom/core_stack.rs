@@ -33,7 +33,7 @@ use crate::base::{CowSlice, CowStr, DecodeError, Encode, Grammar, Layout, Pieces
 #[derive(Debug)]
 pub struct CoreDumpStackSection<A: Allocator = Global> {
     front: Vec<u8, A>,
-    frames: Pieces<A>,
+    pub(crate) frames: Pieces<A>,
 }
 
 impl<A: Allocator + Copy> CoreDumpStackSection<A> {

@@ -26,7 +26,7 @@ use crate::immediates::{Ieee32, Ieee64};
 /// // A missing value: 01. An i32, 7F, of value -1 as signed LEB128, 7F.
 /// assert_eq!(bytes, [0x01, 0x7F, 0x7F]);
 /// ```
-#[derive(Clone, Copy, Debug)]
+#[derive(Clone, Debug)]
 pub enum CoreDumpValue {
     /// A value that is not known: 01.
     Missing,

@@ -290,6 +290,7 @@ impl<A: Allocator> DylinkSection<A> {
 /// # Ok::<(), dolzhytik::reader::DecodeError>(())
 /// ```
 #[derive(Debug)]
+#[non_exhaustive]
 pub enum DylinkItem<'a, A: Allocator = Global> {
     /// The memory and the table that the library needs.
     Memory(DylinkMemory),

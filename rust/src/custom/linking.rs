@@ -166,6 +166,7 @@ pub(crate) const VERSION: u32 = 2;
 /// # Ok::<(), dolzhytik::reader::DecodeError>(())
 /// ```
 #[derive(Debug)]
+#[non_exhaustive]
 pub enum LinkItem<'a, A: Allocator = Global> {
     /// The data segments, in the order of the data section.
     Segments(Vec<SegmentInfo<'a>, A>),

@@ -748,6 +748,7 @@ impl<A: Allocator> NameSection<A> {
 /// # Ok::<(), dolzhytik::reader::DecodeError>(())
 /// ```
 #[derive(Debug)]
+#[non_exhaustive]
 pub enum NameItem<'a, A: Allocator = Global> {
     /// The name of the module.
     Module(&'a str),

@@ -205,7 +205,7 @@ impl<A: Allocator> ObjectSymbols<A> {
         name: &str,
         definition: Option<DataSymbolDefinition>,
     ) -> Result<()> {
-        given_definition(definition);
+        given_definition(definition.clone());
         self.add_record(&((0x01u8, flags), name, Optional(definition)))
     }
 

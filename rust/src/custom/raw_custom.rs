@@ -19,7 +19,7 @@ use crate::base::{Encode, Result, Section, SectionId};
 /// // Id 0, and the bytes: size 4, a name of one byte, "a", and the data.
 /// assert_eq!(bytes, *b"\0\x04\x01ahi");
 /// ```
-#[derive(Clone, Copy, Debug)]
+#[derive(Clone, Debug)]
 pub struct RawCustomSection<'a>(pub &'a [u8]);
 
 /// Encodes the bytes as they are.

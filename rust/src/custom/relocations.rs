@@ -24,6 +24,7 @@ use crate::base::{CowSlice, CowStr, DecodeError, Encode, Grammar, Layout, Pieces
 /// # Ok::<(), dolzhytik::fallible::Refused>(())
 /// ```
 #[derive(Clone, Copy, PartialEq, Eq, Hash, Debug)]
+#[non_exhaustive]
 pub enum PlainRelocation {
     /// A function index in 5 bytes of unsigned LEB128, such as the immediate of `call`.
     FunctionIndexLeb = 0,
@@ -85,6 +86,7 @@ impl Encode for PlainRelocation {
 /// # Ok::<(), dolzhytik::fallible::Refused>(())
 /// ```
 #[derive(Clone, Copy, PartialEq, Eq, Hash, Debug)]
+#[non_exhaustive]
 pub enum Addend32Relocation {
     /// An address in 5 bytes of unsigned LEB128, such as the offset of a load.
     MemoryAddrLeb = 3,
@@ -136,6 +138,7 @@ impl Encode for Addend32Relocation {
 /// # Ok::<(), dolzhytik::fallible::Refused>(())
 /// ```
 #[derive(Clone, Copy, PartialEq, Eq, Hash, Debug)]
+#[non_exhaustive]
 pub enum Addend64Relocation {
     /// An address in 10 bytes of unsigned LEB128.
     MemoryAddrLeb64 = 14,
@@ -195,6 +198,7 @@ impl Encode for Addend64Relocation {
 /// # Ok::<(), dolzhytik::fallible::Refused>(())
 /// ```
 #[derive(Clone, Copy, PartialEq, Eq, Hash, Debug)]
+#[non_exhaustive]
 pub enum Relocation {
     /// A relocation without an addend.
     Plain {
@@ -492,6 +496,7 @@ impl<A: Allocator> Section for RelocationSection<A> {
 /// # Ok::<(), dolzhytik::reader::DecodeError>(())
 /// ```
 #[derive(Clone, Copy, PartialEq, Eq, Hash, Debug)]
+#[non_exhaustive]
 pub enum RelocationKind {
     /// A kind without an addend.
     Plain(PlainRelocation),

@@ -73,7 +73,7 @@ impl ListKind for SymbolMembers {
 /// // Subsection 8, size 8, one symbol: data (1), no flags, "d", segment 2, offset 16, size 8.
 /// assert_eq!(bytes, [8, 8, 1, 1, 0, 1, b'd', 2, 16, 8]);
 /// ```
-#[derive(Clone, Copy, Debug)]
+#[derive(Clone, Debug)]
 pub struct DataSymbolDefinition {
     /// The index of the data segment.
     pub index: u32,
@@ -112,6 +112,7 @@ impl Encode for DataSymbolDefinition {
 /// # Ok::<(), dolzhytik::fallible::Refused>(())
 /// ```
 #[derive(Clone, Copy, Debug)]
+#[non_exhaustive]
 pub enum SymbolKind {
     /// A function: 00.
     Function = 0x00,
@@ -354,7 +355,7 @@ impl<A: Allocator> SymbolTable<A> {
         name: &str,
         definition: Option<DataSymbolDefinition>,
     ) -> Result<()> {
-        given_definition(definition);
+        given_definition(definition.clone());
         self.add_record(&((0x01u8, flags), name, Optional(definition)))
     }
 }
@@ -375,7 +376,8 @@ impl<A: Allocator> SymbolTable<A> {
 /// assert!(matches!(symbol, Symbol::DataSymbol { name: "d", definition: None, .. }));
 /// # Ok::<(), dolzhytik::reader::DecodeError>(())
 /// ```
-#[derive(Clone, Copy, Debug)]
+#[derive(Clone, Debug)]
+#[non_exhaustive]
 pub enum Symbol<'a> {
     /// A function.
     Function {
@@ -824,7 +826,7 @@ impl Symbol<'_> {
     ///
     /// Definitions: [`AppendsMinimal`](crate::definitions::base::minimal::AppendsMinimal), [`symbol`](crate::definitions::custom::symbols::symbol), [`symbol_view`](crate::definitions::custom::symbols::symbol_view), [`full_symbol`](crate::definitions::custom::symbols::full_symbol), [`IsFrontOf`](crate::definitions::base::minimal::IsFrontOf), [`HasEncoding`](crate::definitions::base::minimal::HasEncoding). [How to read clauses](crate::definitions).
     pub(crate) fn append<B: Sink>(&self, sink: &mut B) -> Result<()> {
-        match *self {
+        match self.clone() {
             Symbol::Function { flags, index, name } => {
                 append_indexed(SymbolKind::Function, flags, index, name, sink)
             }

@@ -64,6 +64,7 @@ pub struct FeatureItems;
 /// # Ok::<(), dolzhytik::fallible::Refused>(())
 /// ```
 #[derive(Clone, Copy, PartialEq, Eq, Hash, Debug)]
+#[non_exhaustive]
 pub enum FeaturePrefix {
     /// `+`: the object uses the feature, and the linked module must allow it.
     Used = 0x2B,

@@ -130,7 +130,6 @@ impl InstructionSink<'_> {
     /// Appends `br_table` (opcode 0x0E), a control instruction that branches to one of several labels, selected by an index.
     ///
     /// [`Instruction::BrTable`](super::Instruction::BrTable) is the same instruction as a value.
-    /// The proved [`br_table`](insn::InstructionSink::br_table) of `fallible` encodes it.
     ///
     /// ```
     /// use dolzhytik::InstructionSink;
@@ -149,7 +148,7 @@ impl InstructionSink<'_> {
     where
         V::IntoIter: ExactSizeIterator,
     {
-        self.made(|sink| sink.br_table(labels, default))
+        self.listed(0x0E_u8, labels).emit(&default)
     }
 
     /// Appends `return` (opcode 0x0F), a control instruction that returns from the function.

@@ -14,8 +14,8 @@ use alloc_crate::vec::Vec;
 /// immediates of its instruction as arguments. An [`Instruction`] is the same as a value.
 ///
 /// The proved calls of [`fallible::InstructionSink`](crate::fallible::InstructionSink) encode the
-/// instructions that it has. Others are appended by the proved `encode` of their opcode and of each
-/// immediate. Blocks and types are not checked.
+/// instructions that it has, except `br_table`. Others are appended by the proved `encode` of their
+/// opcode and of each immediate. Blocks and types are not checked.
 ///
 /// ```
 /// use dolzhytik::InstructionSink;

@@ -1,9 +1,10 @@
 //! Custom sections, and the lists that they hold.
 use super::debug::{self, Before, debugged};
 use super::entries::append;
+use super::later::Later;
 use super::{
-    BranchHint, CoreDumpValue, DataSymbolDefinition, Encode, Section, SectionId, copied, counted,
-    default, done, encoded, section, taken,
+    BranchHint, CoreDumpValue, DataSymbolDefinition, Encode, Section, SectionId, copied, default,
+    done, encoded, section, taken,
 };
 use crate::alloc::Global;
 use crate::base::{CowSlice, CowStr};
@@ -82,6 +83,7 @@ macro_rules! over_proved {
             /// ends the program.
             pub struct $name(custom::$name);
 
+            #[allow(clippy::new_without_default, reason = "two sections of core dumps have no default")]
             impl $name {
                 /// Creates a value without entries.
                 pub fn new() -> Self {
@@ -89,14 +91,14 @@ macro_rules! over_proved {
                 }
             }
 
-            default!($name);
             taken!($name of custom);
         )*
     };
 }
 
 over_proved! {
-    /// A name map: indices of items, such as functions, and their names.
+    /// A name map: indices of items, such as functions, and their names. Items may have the same
+    /// name.
     ///
     /// Calls of [`NameSection`] take it, such as [`NameSection::functions`]. Core specification,
     /// Appendix, Custom Sections, Name Section, Name Maps.
@@ -155,8 +157,8 @@ over_proved! {
     /// linker.
     ///
     /// The tool conventions define it in
-    /// [Linking](https://github.com/WebAssembly/tool-conventions/blob/main/Linking.md). For segment
-    /// names, init functions and COMDATs, see
+    /// [Linking](https://github.com/WebAssembly/tool-conventions/blob/main/Linking.md). Add it before
+    /// the custom sections `reloc.*`. For segment names, init functions and COMDATs, see
     /// [`fallible::ObjectLinking`](crate::fallible::ObjectLinking).
     ///
     /// ```
@@ -279,34 +281,31 @@ over_proved! {
 
 copied!(NameMap, IndirectNameMap, NameSection, LinkingSection);
 copied!(SymbolTable, ProducersSection, ProducersField);
-counted!(
-    BranchHints,
-    CoreDumpModulesSection,
-    CoreDumpInstancesSection
-);
+default!(NameMap, IndirectNameMap, NameSection, LinkingSection);
+default!(SymbolTable, ProducersSection, ProducersField, BranchHints);
 encoded!(NameMap, IndirectNameMap, SymbolTable, ProducersField);
 section!(NameSection of Custom, LinkingSection of Custom, ProducersSection of Custom);
 section!(BranchHints of Custom, CoreDumpModulesSection of Custom);
 section!(CoreDumpInstancesSection of Custom);
 
 // A custom section begins with its size and name, a list with its count. A symbol table has the id
-// and the size of its subsection before the count.
+// and the size of its subsection before the count. The version of a linking section is printed.
 debugged!(
-    NameMap after [Number] count,
-    IndirectNameMap after [Number] count,
-    ProducersField after [Number] num_values,
-    SymbolTable after [Number Number Number] num_added,
-    NameSection after [Number Name],
-    LinkingSection after [Number Name Number],
-    ProducersSection after [Number Name Number] num_fields,
-    BranchHints after [Number Name Number] num_hints,
-    CoreDumpModulesSection after [Number Name Number] num_added,
-    CoreDumpInstancesSection after [Number Name Number] num_added
+    NameMap: [Number] count,
+    IndirectNameMap: [Number] count,
+    ProducersField: [Number] num_values,
+    SymbolTable: [Number Number Number] num_added,
+    NameSection: [Number Name],
+    LinkingSection: [Number Name],
+    ProducersSection: [Number Name Number] num_fields,
+    BranchHints: [Number Name Number] num_hints,
+    CoreDumpModulesSection: num_added [Number Name Number],
+    CoreDumpInstancesSection: num_added [Number Name Number],
 );
 
 impl NameMap {
     /// Appends the name of the item with this index. Add them in the order of indices, each once:
-    /// the call does not check it.
+    /// the call does not check it. A name may be that of other items too.
     ///
     /// # Panics
     ///
@@ -425,9 +424,11 @@ impl LinkingSection {
 }
 
 impl SymbolTable {
-    /// The symbol is weak: another definition of its name replaces it.
+    /// The symbol is weak: another definition of its name replaces it. It excludes
+    /// [`WASM_SYM_BINDING_LOCAL`](SymbolTable::WASM_SYM_BINDING_LOCAL).
     pub const WASM_SYM_BINDING_WEAK: u32 = custom::SymbolTable::WASM_SYM_BINDING_WEAK;
-    /// The symbol is local: no other object file sees it.
+    /// The symbol is local: no other object file sees it. It excludes
+    /// [`WASM_SYM_BINDING_WEAK`](SymbolTable::WASM_SYM_BINDING_WEAK).
     pub const WASM_SYM_BINDING_LOCAL: u32 = custom::SymbolTable::WASM_SYM_BINDING_LOCAL;
     /// The symbol is hidden: the linked module does not export it.
     pub const WASM_SYM_VISIBILITY_HIDDEN: u32 = custom::SymbolTable::WASM_SYM_VISIBILITY_HIDDEN;
@@ -515,6 +516,16 @@ impl ProducersField {
 }
 
 impl BranchHints {
+    /// Returns the number of functions that have hints.
+    pub fn len(&self) -> u32 {
+        self.0.len()
+    }
+
+    /// Returns `true` if no function has hints.
+    pub fn is_empty(&self) -> bool {
+        self.0.is_empty()
+    }
+
     /// Appends the hints of the function with this index. Add them in the order of indices, and the
     /// hints in the order of offsets: the call does not check it.
     ///
@@ -530,7 +541,13 @@ impl BranchHints {
     }
 }
 
+#[allow(clippy::len_without_is_empty, reason = "the Rust crate has none")]
 impl CoreDumpModulesSection {
+    /// Returns the number of modules.
+    pub fn len(&self) -> u32 {
+        self.0.len()
+    }
+
     /// Returns the section as a custom section, whose data is owned.
     pub fn as_custom(&self) -> CustomSection<'_> {
         done(self.0.as_custom(Global)).into()
@@ -547,18 +564,24 @@ impl CoreDumpModulesSection {
     }
 }
 
+#[allow(clippy::len_without_is_empty, reason = "the Rust crate has none")]
 impl CoreDumpInstancesSection {
+    /// Returns the number of instances.
+    pub fn len(&self) -> u32 {
+        self.0.len()
+    }
+
     /// Returns the section as a custom section, whose data is owned.
     pub fn as_custom(&self) -> CustomSection<'_> {
         done(self.0.as_custom(Global)).into()
     }
 
     /// Appends an instance: the index of its module, and the indices of its memories and globals in
-    /// the dump.
+    /// the dump. The memories are finished before the globals are made and measured.
     ///
     /// # Panics
     ///
-    /// Panics if an iterator reports more than 4294967295 indices.
+    /// Panics if an iterator reports more than 4294967295 indices. Nothing is then appended.
     pub fn instance<M, G>(&mut self, module_index: u32, memories: M, globals: G) -> &mut Self
     where
         M: IntoIterator<Item = u32>,
@@ -566,10 +589,14 @@ impl CoreDumpInstancesSection {
         G: IntoIterator<Item = u32>,
         <G as IntoIterator>::IntoIter: ExactSizeIterator,
     {
-        done(self.0.instance(module_index, memories, globals));
+        let front = (MARK, module_index);
+        done(self.0.add_once((front, Later(memories), Later(globals))));
         self
     }
 }
+
+/// The first byte of an entry of a core dump.
+const MARK: u8 = 0x00;
 
 /// The parts before the name of a process or thread: the section's size and name, and the byte 00.
 const MARKED: &[Before] = &[Before::Number, Before::Name, Before::Number];
@@ -665,11 +692,12 @@ impl CoreDumpStackSection {
     }
 
     /// Appends a frame: the indices of the instance and the function, the offset in its code, and
-    /// the values of its locals and its operand stack.
+    /// the values of its locals and its operand stack. The locals are finished before the stack is
+    /// made and measured.
     ///
     /// # Panics
     ///
-    /// Panics if an iterator reports more than 4294967295 values.
+    /// Panics if an iterator reports more than 4294967295 values. Nothing is then appended.
     pub fn frame<L, S>(
         &mut self,
         instanceidx: u32,
@@ -684,10 +712,8 @@ impl CoreDumpStackSection {
         S: IntoIterator<Item = CoreDumpValue>,
         <S as IntoIterator>::IntoIter: ExactSizeIterator,
     {
-        done(
-            self.0
-                .frame(instanceidx, funcidx, codeoffset, locals, stack),
-        );
+        let front = (MARK, (instanceidx, funcidx, codeoffset));
+        done(self.0.frames.add_once((front, Later(locals), Later(stack))));
         self
     }
 

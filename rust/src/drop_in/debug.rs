@@ -1,6 +1,7 @@
-//! `Debug` of the builders: a struct of the builder's own name, with the bytes of its entries and
-//! mostly their number.
+//! `Debug` as the Rust crate derives it: a builder is a struct of the bytes of its entries and mostly
+//! their number, and a float a tuple of its bits.
 use crate::base::Encode;
+use crate::immediates::{Ieee32, Ieee64};
 use alloc_crate::vec::Vec;
 use core::fmt;
 
@@ -56,22 +57,35 @@ impl fmt::Debug for Bytes {
 }
 
 /// Writes `Debug` of builders over proved ones: the parts before the entries in an encoding, and
-/// the name of the number of entries, where it is printed.
+/// the name of the number of entries, if it is printed. It is before the bytes in core dumps alone.
 macro_rules! debugged {
-    ($($name:ident after [$($before:ident)*] $($number:ident)?),*) => {
+    ($($name:ident: $($first:ident)? [$($before:ident)*] $($last:ident)?),* $(,)?) => {
         $(
             impl core::fmt::Debug for $name {
                 fn fmt(&self, f: &mut core::fmt::Formatter<'_>) -> core::fmt::Result {
                     use $crate::drop_in::debug::{Before, Bytes, after};
                     let bytes = Bytes(after(&self.0, &[$(Before::$before),*]));
                     f.debug_struct(stringify!($name))
+                        $(.field(stringify!($first), &self.0.len()))?
                         .field("bytes", &bytes)
-                        $(.field(stringify!($number), &self.0.len()))?
+                        $(.field(stringify!($last), &self.0.len()))?
                         .finish()
                 }
             }
         )*
     };
+}
+
+impl fmt::Debug for Ieee32 {
+    fn fmt(&self, f: &mut fmt::Formatter<'_>) -> fmt::Result {
+        f.debug_tuple("Ieee32").field(&self.bits()).finish()
+    }
+}
+
+impl fmt::Debug for Ieee64 {
+    fn fmt(&self, f: &mut fmt::Formatter<'_>) -> fmt::Result {
+        f.debug_tuple("Ieee64").field(&self.bits()).finish()
+    }
 }
 
 pub(super) use debugged;

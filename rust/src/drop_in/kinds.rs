@@ -15,7 +15,7 @@ use alloc_crate::vec::Vec;
 /// assert_eq!(u8::from(SectionId::DataCount), 12);
 /// assert!([Import, Function].iter().all(|id| *id < Code));
 /// ```
-#[derive(Clone, Copy, Debug, PartialEq, Eq, PartialOrd, Ord, Hash)]
+#[derive(Clone, Copy, Debug, PartialEq, Eq, PartialOrd, Ord)]
 #[repr(u8)]
 pub enum SectionId {
     /// The id of custom sections.

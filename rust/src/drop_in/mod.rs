@@ -30,6 +30,7 @@ mod imports;
 #[rustfmt::skip]
 mod instruction;
 mod kinds;
+mod later;
 mod module;
 mod sections;
 mod types;
@@ -389,23 +390,4 @@ macro_rules! listed {
     };
 }
 
-/// Defines `len` and `is_empty` over a proved builder.
-macro_rules! counted {
-    ($($name:ident),*) => {
-        $(
-            impl $name {
-                /// Returns the number of entries.
-                pub fn len(&self) -> u32 {
-                    self.0.len()
-                }
-
-                /// Returns `true` if there are no entries.
-                pub fn is_empty(&self) -> bool {
-                    self.0.is_empty()
-                }
-            }
-        )*
-    };
-}
-
-use {by_proved, copied, counted, default, encoded, listed, section, taken};
+use {by_proved, copied, default, encoded, listed, section, taken};

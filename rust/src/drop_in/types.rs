@@ -1,5 +1,6 @@
 //! The type section, and the types that a module defines.
 use super::entries::Entries;
+use super::later::Later;
 use super::{by_proved, copied, done, encoded, listed, taken};
 use crate::alloc::Global;
 use crate::base::{ValType, vec_of};
@@ -53,8 +54,8 @@ impl FuncType {
 impl fmt::Debug for FuncType {
     fn fmt(&self, f: &mut fmt::Formatter<'_>) -> fmt::Result {
         f.debug_struct("FuncType")
-            .field("params", &self.params())
-            .field("results", &self.results())
+            .field("params_results", &[self.params(), self.results()].concat())
+            .field("len_params", &self.params().len())
             .finish()
     }
 }
@@ -276,13 +277,24 @@ impl TypeSection {
 /// ```
 pub struct CoreTypeEncoder<'a>(&'a mut Entries);
 
+/// The flag is for types in components, which have a prefix.
+impl fmt::Debug for CoreTypeEncoder<'_> {
+    fn fmt(&self, f: &mut fmt::Formatter<'_>) -> fmt::Result {
+        f.debug_struct("CoreTypeEncoder")
+            .field("push_prefix_if_component_core_type", &false)
+            .field("bytes", &self.0.bytes.0)
+            .finish()
+    }
+}
+
 impl CoreTypeEncoder<'_> {
-    /// Appends the type of functions with these parameters and results.
+    /// Appends the type of functions with these parameters and results. The parameters are finished
+    /// before the results are measured.
     ///
     /// # Panics
     ///
-    /// Panics if the section has 4294967295 entries. Panics if an iterator reports more than
-    /// 4294967295 types, before one is requested.
+    /// Panics if the section has 4294967295 entries, or if an iterator reports more than 4294967295
+    /// types. Nothing is then appended.
     #[inline]
     pub fn function<P, R>(self, params: P, results: R)
     where
@@ -291,8 +303,8 @@ impl CoreTypeEncoder<'_> {
         R: IntoIterator<Item = ValType>,
         R::IntoIter: ExactSizeIterator,
     {
-        let params = done(vec_of(params));
-        let results = done(vec_of(results));
+        let params = Later(params.into_iter());
+        let results = Later(results.into_iter());
         self.0.add_once((FUNC, params, results))
     }
 

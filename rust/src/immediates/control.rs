@@ -24,7 +24,7 @@ use crate::base::{Canonical, DecodeError, Encode, Grammar, Layout, Minimize, Rea
 /// // try_table: 1F. The empty type: 40. Two clauses: 00, tag 5, label 1; and 02, label 2.
 /// assert_eq!(bytes, [0x1F, 0x40, 2, 0x00, 5, 1, 0x02, 2]);
 /// ```
-#[derive(Clone, Copy, Debug)]
+#[derive(Clone, Debug)]
 pub enum Catch {
     /// Catches exceptions of a tag.
     One {
@@ -67,7 +67,7 @@ pub enum Catch {
 /// // 00, tag 3, label 4; and 01, tag 5.
 /// assert_eq!(bytes, [0x00, 3, 4, 0x01, 5]);
 /// ```
-#[derive(Clone, Copy, Debug)]
+#[derive(Clone, Debug)]
 pub enum Handle {
     /// Branches to a label when the code suspends with a tag.
     OnLabel {

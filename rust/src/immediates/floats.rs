@@ -23,7 +23,7 @@ use crate::base::{DecodeError, Encode, Grammar, Layout, ReadFault, Readable, Res
 /// // 1.0: the bits 3F800000, the lowest byte first. A signaling NaN, by its bits.
 /// assert_eq!(bytes, [0, 0, 0x80, 0x3F, 0, 0, 0xA0, 0x7F]);
 /// ```
-#[derive(Clone, Copy, PartialEq, Eq, Hash, Debug)]
+#[derive(Clone, Copy, PartialEq, Eq, Hash)]
 pub struct Ieee32 {
     bits: u32,
 }
@@ -90,7 +90,7 @@ impl Encode for Ieee32 {
 /// // The bits 3FF0000000000000, the lowest byte first.
 /// assert_eq!(bytes, [0, 0, 0, 0, 0, 0, 0xF0, 0x3F]);
 /// ```
-#[derive(Clone, Copy, PartialEq, Eq, Hash, Debug)]
+#[derive(Clone, Copy, PartialEq, Eq, Hash)]
 pub struct Ieee64 {
     bits: u64,
 }

@@ -21,6 +21,7 @@ use crate::insn::op::Op;
 /// # Ok::<(), dolzhytik::fallible::Refused>(())
 /// ```
 #[derive(Clone, Copy, Debug)]
+#[non_exhaustive]
 pub enum Aggregate {
     /// `array.len` (opcode 0xFB 15), an aggregate instruction that returns the number of elements
     /// of an array.

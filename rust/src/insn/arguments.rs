@@ -33,6 +33,7 @@ use crate::immediates::{BlockType, Catch, Handle, Ieee32, Ieee64, MemArg, Orderi
 /// # Ok::<(), dolzhytik::reader::DecodeError>(())
 /// ```
 #[derive(Debug)]
+#[non_exhaustive]
 pub enum Arg<A: Allocator = Global> {
     /// A number of 32 bits: an index, a label or a length.
     U32(u32),

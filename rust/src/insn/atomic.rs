@@ -24,6 +24,7 @@ use crate::immediates::{MemArg, Ordering};
 /// # Ok::<(), dolzhytik::fallible::Refused>(())
 /// ```
 #[derive(Clone, Copy, Debug)]
+#[non_exhaustive]
 pub enum Atomic {
     /// `memory.atomic.notify` (opcode 0xFE 0), an atomic instruction of the threads proposal that
     /// wakes threads that wait at an address.

@@ -22,6 +22,7 @@ use crate::insn::op::Op;
 /// # Ok::<(), dolzhytik::fallible::Refused>(())
 /// ```
 #[derive(Clone, Copy, Debug)]
+#[non_exhaustive]
 pub enum Numeric {
     /// `i32.eqz` (opcode 0x45), a numeric instruction that tests whether an integer is zero.
     I32Eqz = 0x45,

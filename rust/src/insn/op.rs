@@ -47,6 +47,7 @@ pub enum Op {
 /// assert_eq!(Op::Byte(0xFF).shape(), None);
 /// ```
 #[derive(Clone, Copy, PartialEq, Eq, Hash, Debug)]
+#[non_exhaustive]
 pub enum Shape {
     /// No immediates.
     Nothing,

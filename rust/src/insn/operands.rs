@@ -33,6 +33,7 @@ use crate::immediates::{BlockType, MemArg, MemArgTarget};
 /// # Ok::<(), dolzhytik::reader::DecodeError>(())
 /// ```
 #[derive(Clone, Copy, Debug)]
+#[non_exhaustive]
 pub enum Operands<'a> {
     /// No operands.
     Nothing,

@@ -17,6 +17,7 @@ use crate::insn::op::Shape;
 /// assert_eq!(shape.parts(), [Part::Memory]);
 /// ```
 #[derive(Clone, Copy, PartialEq, Eq, Hash, Debug)]
+#[non_exhaustive]
 pub enum Part {
     /// A number of 32 bits.
     Unsigned,

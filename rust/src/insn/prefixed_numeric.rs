@@ -22,6 +22,7 @@ use crate::insn::op::Op;
 /// # Ok::<(), dolzhytik::fallible::Refused>(())
 /// ```
 #[derive(Clone, Copy, Debug)]
+#[non_exhaustive]
 pub enum PrefixedNumeric {
     /// `i32.trunc_sat_f32_s` (opcode 0xFC 0), a numeric instruction that converts a float to an
     /// integer, and saturates.

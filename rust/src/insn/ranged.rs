@@ -19,7 +19,7 @@ use crate::immediates::{BlockType, Catch, Handle, Ieee32, Ieee64, MemArg};
 /// ```
 ///
 /// [How to read clauses](crate::definitions).
-trait Ranged: Copy {
+trait Ranged: Clone {
     /// Proves the property. The function does nothing.
     ///
     /// # Proved
@@ -415,7 +415,7 @@ impl Ranged for Atomic {
 /// [How to read clauses](crate::definitions).
 fn each_ranged<T: Ranged>(items: &[T]) {
     for item in items {
-        item.ranged();
+        item.clone().ranged();
     }
 }
 

@@ -22,6 +22,7 @@ use crate::insn::op::Op;
 /// # Ok::<(), dolzhytik::fallible::Refused>(())
 /// ```
 #[derive(Clone, Copy, Debug)]
+#[non_exhaustive]
 pub enum Vector {
     /// `i8x16.swizzle` (opcode 0xFD 14), a vector instruction that selects lanes of a vector by
     /// those of another.

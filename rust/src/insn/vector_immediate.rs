@@ -36,6 +36,7 @@ pub(crate) fn vector_bytes(value: i128) -> [u8; 16] {
 /// # Ok::<(), dolzhytik::fallible::Refused>(())
 /// ```
 #[derive(Clone, Copy, Debug)]
+#[non_exhaustive]
 pub enum VectorImmediate {
     /// `v128.load` (opcode 0xFD 0), a vector instruction that loads a vector from a memory.
     V128Load(MemArg),

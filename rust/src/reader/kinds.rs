@@ -28,6 +28,7 @@ use crate::types::{TypeEntry, append_types, read_types};
 /// # Ok::<(), dolzhytik::reader::ReadFault>(())
 /// ```
 #[derive(Clone, Copy, PartialEq, Eq, Debug)]
+#[non_exhaustive]
 pub enum SectionKind {
     /// The code section: function bodies.
     Bodies,
@@ -163,6 +164,7 @@ impl SectionKind {
 /// # Ok::<(), dolzhytik::reader::ReadFault>(())
 /// ```
 #[derive(Debug)]
+#[non_exhaustive]
 pub enum Items<'a, A: Allocator = Global> {
     /// The bodies of a code section.
     Bodies(Vec<Body<A>, A>),

@@ -36,6 +36,7 @@ use crate::base::{ReadFault, Standard};
 /// # Ok::<(), ModuleFault>(())
 /// ```
 #[derive(Clone, Copy, PartialEq, Eq, Debug)]
+#[non_exhaustive]
 pub enum Offsets {
     /// Returns an error for a module whose offsets might become wrong. With any of these sections,
     /// the code and data sections must keep their bytes. With `reloc.*`, so must each custom
@@ -60,6 +61,7 @@ pub enum Offsets {
 /// assert_eq!(error, Err(ModuleFault::Section { number: 1, fault: ReadFault::Ended }));
 /// ```
 #[derive(Clone, Copy, PartialEq, Eq, Debug)]
+#[non_exhaustive]
 pub enum ModuleFault {
     /// The bytes at the section of this number, counted from 1, are not an id and a size-prefixed
     /// payload; 0 is the header. Or an allocation failed there.

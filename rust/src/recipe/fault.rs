@@ -19,6 +19,7 @@ use crate::base::Refused;
 /// );
 /// ```
 #[derive(Clone, Copy, PartialEq, Eq, Debug)]
+#[non_exhaustive]
 pub enum RecipeCause {
     /// The first word of the line is not a command, or the kind of an export or an import is
     /// unknown.

@@ -463,6 +463,7 @@ impl<'a, A: Allocator + Copy, G: Grammar> Readable<'a, A, G> for Bytes<'a> {
 /// # Ok::<(), dolzhytik::reader::DecodeError>(())
 /// ```
 #[derive(Debug)]
+#[non_exhaustive]
 pub enum Segment<'a, A: Allocator = Global> {
     /// The bytes are copied to the memory when the module is instantiated.
     Active {

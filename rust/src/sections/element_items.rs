@@ -90,6 +90,7 @@ impl<'a, A: Allocator + Copy, G: Grammar> Readable<'a, A, G> for ElementFlag {
 /// # Ok::<(), dolzhytik::reader::DecodeError>(())
 /// ```
 #[derive(Debug)]
+#[non_exhaustive]
 pub enum ElementItemMode<A: Allocator = Global> {
     /// The elements are copied by an instruction.
     Passive,
@@ -124,6 +125,7 @@ pub enum ElementItemMode<A: Allocator = Global> {
 /// # Ok::<(), dolzhytik::reader::DecodeError>(())
 /// ```
 #[derive(Debug)]
+#[non_exhaustive]
 pub enum ElementList<A: Allocator = Global> {
     /// References to the functions of these indices.
     Functions(Vec<u32, A>),

@@ -17,12 +17,16 @@ extern crate core as vec;
 #[rustfmt::skip]
 mod cases;
 mod checks;
+mod debug;
 mod decoded;
 mod every_call;
+mod iterators;
 mod lengths;
 mod moved;
 mod programs;
 mod random;
+mod random_lists;
+mod recorded;
 mod refusals;
 mod rows;
 mod said_lengths;

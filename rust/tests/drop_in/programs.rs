@@ -269,143 +269,6 @@ mod beside_proved_values {
     }
 }
 
-/// A program that prints builders and values: each as a struct of its own name, with the bytes of
-/// its entries.
-mod printed {
-    use dolzhytik::*;
-
-    /// Checks that values print as these texts.
-    macro_rules! prints {
-        ($($value:expr => $text:literal)*) => {
-            $(assert_eq!(format!("{:?}", $value), $text);)*
-        };
-    }
-
-    #[test]
-    fn builders_without_entries() {
-        prints! {
-            TypeSection::new() => "TypeSection { bytes: [], num_added: 0 }"
-            ImportSection::new() => "ImportSection { bytes: [], num_added: 0 }"
-            FunctionSection::new() => "FunctionSection { bytes: [], num_added: 0 }"
-            TableSection::new() => "TableSection { bytes: [], num_added: 0 }"
-            MemorySection::new() => "MemorySection { bytes: [], num_added: 0 }"
-            TagSection::new() => "TagSection { bytes: [], num_added: 0 }"
-            GlobalSection::new() => "GlobalSection { bytes: [], num_added: 0 }"
-            ExportSection::new() => "ExportSection { bytes: [], num_added: 0 }"
-            ElementSection::new() => "ElementSection { bytes: [], num_added: 0 }"
-            CodeSection::new() => "CodeSection { bytes: [], num_added: 0 }"
-            DataSection::new() => "DataSection { bytes: [], num_added: 0 }"
-            NameSection::new() => "NameSection { bytes: [] }"
-            NameMap::new() => "NameMap { bytes: [], count: 0 }"
-            IndirectNameMap::new() => "IndirectNameMap { bytes: [], count: 0 }"
-            LinkingSection::new() => "LinkingSection { bytes: [] }"
-            SymbolTable::new() => "SymbolTable { bytes: [], num_added: 0 }"
-            ProducersSection::new() => "ProducersSection { bytes: [], num_fields: 0 }"
-            ProducersField::new() => "ProducersField { bytes: [], num_values: 0 }"
-            BranchHints::new() => "BranchHints { bytes: [], num_hints: 0 }"
-            CoreDumpModulesSection::new() => "CoreDumpModulesSection { bytes: [], num_added: 0 }"
-            CoreDumpInstancesSection::new() => "CoreDumpInstancesSection { bytes: [], num_added: 0 }"
-            CoreDumpSection::new("a") => "CoreDumpSection { name: \"a\" }"
-            CoreDumpStackSection::new("a") => "CoreDumpStackSection { frame_bytes: [], count: 0, name: \"a\" }"
-            ConstExpr::empty() => "ConstExpr { bytes: [] }"
-            Function::new([]) => "Function { bytes: [0] }"
-            Module::new() => "Module { bytes: [0, 97, 115, 109, 1, 0, 0, 0] }"
-        }
-    }
-
-    #[test]
-    fn sections_of_entries() {
-        let mut types = TypeSection::new();
-        types.ty().function([ValType::I32], []);
-        let mut functions = FunctionSection::new();
-        functions.function(300);
-        let mut exports = ExportSection::new();
-        exports.export("f", ExportKind::Tag, 7);
-        let mut code = CodeSection::new();
-        code.raw(&[0, 0x0B]);
-        let mut data = DataSection::new();
-        data.passive([7]);
-        prints! {
-            types => "TypeSection { bytes: [96, 1, 127, 0], num_added: 1 }"
-            functions => "FunctionSection { bytes: [172, 2], num_added: 1 }"
-            exports => "ExportSection { bytes: [1, 102, 4, 7], num_added: 1 }"
-            code => "CodeSection { bytes: [2, 0, 11], num_added: 1 }"
-            data => "DataSection { bytes: [1, 1, 7], num_added: 1 }"
-        }
-    }
-
-    /// A count and a size of two bytes each are no entries.
-    #[test]
-    fn entries_behind_a_long_count() {
-        let mut functions = FunctionSection::new();
-        (0..200).for_each(|_| {
-            functions.function(5);
-        });
-        let fives = vec!["5"; 200].join(", ");
-        assert_eq!(
-            format!("{functions:?}"),
-            format!("FunctionSection {{ bytes: [{fives}], num_added: 200 }}")
-        );
-        let name = "m".repeat(200);
-        assert_eq!(
-            format!("{:?}", CoreDumpSection::new(&name)),
-            format!("CoreDumpSection {{ name: {name:?} }}")
-        );
-    }
-
-    #[test]
-    fn custom_sections_of_entries() {
-        let mut map = NameMap::new();
-        map.append(0, "a");
-        let mut indirect = IndirectNameMap::new();
-        indirect.append(1, &map);
-        let mut names = NameSection::new();
-        names.module("m");
-        let mut symbols = SymbolTable::new();
-        symbols.table(SymbolTable::WASM_SYM_UNDEFINED, 0, None);
-        let mut linking = LinkingSection::new();
-        linking.symbol_table(&symbols);
-        let mut field = ProducersField::new();
-        field.value("a", "1");
-        let mut producers = ProducersSection::new();
-        producers.field("sdk", &field);
-        let mut modules = CoreDumpModulesSection::new();
-        modules.module("a");
-        let mut stack = CoreDumpStackSection::new("main");
-        stack.frame(1, 2, 3, [], [CoreDumpValue::Missing]);
-        prints! {
-            map => "NameMap { bytes: [0, 1, 97], count: 1 }"
-            indirect => "IndirectNameMap { bytes: [1, 1, 0, 1, 97], count: 1 }"
-            names => "NameSection { bytes: [0, 2, 1, 109] }"
-            symbols => "SymbolTable { bytes: [5, 16, 0], num_added: 1 }"
-            linking => "LinkingSection { bytes: [8, 4, 1, 5, 16, 0] }"
-            field => "ProducersField { bytes: [1, 97, 1, 49], num_values: 1 }"
-            producers => "ProducersSection { bytes: [3, 115, 100, 107, 1, 1, 97, 1, 49], num_fields: 1 }"
-            modules => "CoreDumpModulesSection { bytes: [0, 1, 97], num_added: 1 }"
-            stack => "CoreDumpStackSection { frame_bytes: [0, 1, 2, 3, 0, 1, 1], count: 1, name: \"main\" }"
-        }
-    }
-
-    #[test]
-    fn values_of_builders_and_types() {
-        let offset = ConstExpr::i32_const(7);
-        let elements = Elements::Functions(vec![1].into());
-        let mode = ElementMode::Active {
-            table: None,
-            offset: &offset,
-        };
-        prints! {
-            ElementSegment { mode, elements } => "ElementSegment { mode: Active { table: None, offset: ConstExpr { bytes: [65, 7] } }, elements: Functions([1]) }"
-            FuncType::new([ValType::I32], []) => "FuncType { params: [I32], results: [] }"
-            EntityType::Tag(TagType { kind: TagKind::Exception, func_type_idx: 3 }) => "Tag(TagType { kind: Exception, func_type_idx: 3 })"
-            Instruction::I32Const(7) => "I32Const(7)"
-            StartSection { function_index: 1 } => "StartSection { function_index: 1 }"
-        }
-        let text = format!("{:#?}", ConstExpr::empty());
-        assert_eq!(text, "ConstExpr {\n    bytes: [],\n}");
-    }
-}
-
 /// A program whose own modules and crates have names of modules within the package.
 mod own_names {
     /// A module of each name, beside a glob of the package.
@@ -459,4 +322,24 @@ mod own_names {
     }
 
     modules! { base code custom hex immediates insn recipe sections string types vec alloc }
+
+    /// A module with the name of one at the root, by a glob beside that of the package. The import by
+    /// its name comes before both globs.
+    mod beside_a_public_module {
+        mod parts {
+            pub mod reader {
+                pub const NAME: &str = "own";
+            }
+        }
+
+        use dolzhytik::*;
+        use parts::reader;
+        #[allow(unused_imports, reason = "the glob that would make the name ambiguous")]
+        use parts::*;
+
+        #[test]
+        fn an_import_by_name_is_not_ambiguous() {
+            assert_eq!((reader::NAME, Module::new().len()), ("own", 8));
+        }
+    }
 }

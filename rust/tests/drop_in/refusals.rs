@@ -64,10 +64,10 @@ fn lists_of_values_and_instructions() {
         calls.try_table(BlockType::Empty, long());
     });
     let handle = Handle::OnSwitch { tag: 0 };
-    panics(handle, |long| {
+    panics(handle.clone(), |long| {
         calls.resume(0, long());
     });
-    panics(handle, |long| {
+    panics(handle.clone(), |long| {
         calls.resume_throw(0, 0, long());
     });
     panics(handle, |long| {

@@ -1,4 +1,5 @@
 //! Tests of `outline` and `shorten_module`: bytes that were worked out from the standard by hand.
+mod errors;
 mod numbers;
 mod outlines;
 mod refusals;

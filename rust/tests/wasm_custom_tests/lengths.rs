@@ -17,7 +17,7 @@ struct Copies<'a, T> {
     asked: &'a Cell<u64>,
 }
 
-impl<T: Copy> Iterator for Copies<'_, T> {
+impl<T: Clone> Iterator for Copies<'_, T> {
     type Item = T;
 
     fn next(&mut self) -> Option<T> {
@@ -26,18 +26,18 @@ impl<T: Copy> Iterator for Copies<'_, T> {
             return None;
         }
         self.left -= 1;
-        Some(self.item)
+        Some(self.item.clone())
     }
 }
 
-impl<T: Copy> ExactSizeIterator for Copies<'_, T> {
+impl<T: Clone> ExactSizeIterator for Copies<'_, T> {
     fn len(&self) -> usize {
         self.left
     }
 }
 
 /// Returns an iterator of `left` copies of the item.
-fn copies_of<T: Copy>(item: T, left: usize, asked: &Cell<u64>) -> Copies<'_, T> {
+fn copies_of<T: Clone>(item: T, left: usize, asked: &Cell<u64>) -> Copies<'_, T> {
     Copies { item, left, asked }
 }
 
@@ -93,7 +93,7 @@ fn locals() {
     let asked = Cell::new(0);
     let mut section = CoreDumpStackSection::new(rt.alloc(), "main").expect("accepted");
     let missing = CoreDumpValue::Missing;
-    let locals = copies_of(missing, TOO_MANY, &asked);
+    let locals = copies_of(missing.clone(), TOO_MANY, &asked);
     let answer = section.frame(0, 42, 51, locals, copies_of(missing, 1, &asked));
     check_too_long(&rt, answer, &asked);
     check_text(
@@ -110,7 +110,7 @@ fn stack() {
     let asked = Cell::new(0);
     let mut section = CoreDumpStackSection::new(rt.alloc(), "main").expect("accepted");
     let missing = CoreDumpValue::Missing;
-    let locals = copies_of(missing, 1, &asked);
+    let locals = copies_of(missing.clone(), 1, &asked);
     let answer = section.frame(0, 42, 51, locals, copies_of(missing, TOO_MANY, &asked));
     check_too_long(&rt, answer, &asked);
     check_text(

@@ -87,7 +87,7 @@ fn parts_of_layouts() {
     let rt = crate::host::HostRuntime;
     let alloc = rt.alloc();
     let text = format!(in alloc; "{:?}", Lent(&Ieee32::new(7))).expect("accepted");
-    check_text(&rt, text.as_str(), "Lent(Ieee32 { bits: 7 })");
+    check_text(&rt, text.as_str(), "Lent(Ieee32(7))");
     let text = format!(in alloc; "{:?} {:?}", Optional(Some(7u32)), Optional::<u32>(None)).expect(
         "accepted",
     );

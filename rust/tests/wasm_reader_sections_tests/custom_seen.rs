@@ -90,6 +90,7 @@ fn name_told<'a>(item: &NameItem<'a>) -> Told<'a> {
             _ => Told::Others,
         },
         NameItem::Other { id, bytes } => Told::Other(*id, bytes),
+        _ => unreachable!("the library has no other case"),
     }
 }
 
@@ -118,7 +119,7 @@ fn link_told<'a>(item: &LinkItem<'a>) -> Told<'a> {
     match item {
         LinkItem::Arch(name) => Told::Arch(name),
         LinkItem::Symbols(symbols) => match symbols.as_slice() {
-            [symbol] => symbol_told(*symbol),
+            [symbol] => symbol_told(symbol.clone()),
             symbols => Told::Symbols(symbols.len()),
         },
         _ => Told::Others,
@@ -149,6 +150,7 @@ fn library_told<'a>(item: &DylinkItem<'a>) -> Told<'a> {
             [path] => Told::Folder(path),
             _ => Told::Others,
         },
+        _ => unreachable!("the library has no other case"),
     }
 }
 
@@ -157,8 +159,8 @@ fn frame_told<'a>(thread: &'a str, frame: &CoreFrame) -> Told<'a> {
         ([local], [top]) => Told::Frame(
             thread,
             (frame.instanceidx, frame.funcidx, frame.codeoffset),
-            value_told(*local),
-            value_told(*top),
+            value_told(local.clone()),
+            value_told(top.clone()),
         ),
         _ => Told::Others,
     }

@@ -59,6 +59,7 @@ fn segment_seen<'a>(segment: &Segment<'a>) -> Seen<'a> {
             bytes,
         } => Seen::Active(*memory, constant(offset), bytes),
         Segment::Passive { bytes } => Seen::Passive(bytes),
+        _ => unreachable!("the library has no other case"),
     }
 }
 
@@ -66,6 +67,7 @@ fn element_seen<'a>(element: &ElementItem) -> Seen<'a> {
     let (of_expressions, count) = match &element.elements {
         ElementList::Functions(functions) => (false, functions.len()),
         ElementList::Expressions(_, expressions) => (true, expressions.len()),
+        _ => unreachable!("the library has no other case"),
     };
     match &element.mode {
         ElementItemMode::Active { table, offset } => {

@@ -32,6 +32,7 @@ fn said(arg: &Arg) -> (&'static str, i128) {
         Arg::Types(types) => ("types", types.len() as i128),
         Arg::Handles(clauses) => ("handles", clauses.len() as i128),
         Arg::Flag(flags) => ("flag", i128::from(*flags)),
+        _ => unreachable!("the library has no other case"),
     }
 }
 

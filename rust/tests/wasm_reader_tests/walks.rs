@@ -71,6 +71,7 @@ fn operand_of(operands: Operands) -> Option<i64> {
         Operands::Block(BlockType::FunctionType(index)) => Some(i64::from(index)),
         Operands::Block(_) => Some(-1),
         Operands::Nothing | Operands::Encoded(_, _) => None,
+        _ => unreachable!("the library has no other case"),
     }
 }
 

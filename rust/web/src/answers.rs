@@ -5,11 +5,9 @@ use crate::block::Block;
 use crate::failure::{Cause, Failure, Place};
 use crate::found::Found;
 use crate::sections::sections_from;
-use dolzhytik::fallible::recipe::assemble;
+use dolzhytik::fallible::recipe::assemble_versioned;
 use dolzhytik::fallible::{Global, Vec};
-use dolzhytik::reader::{
-    self, ModuleFault, Offsets, Outlined, ReadFault, list_module, shorten_module,
-};
+use dolzhytik::reader::{self, ModuleFault, Offsets, Outlined, shorten_module};
 
 /// The status of a block that has what was asked for.
 pub const DONE: u32 = 0;
@@ -26,20 +24,20 @@ pub fn at<'a>(module: &[u8], number: usize, cause: Cause<'a>) -> Failure<'a> {
 }
 
 /// The failure at the section with this number, or at the header for 0. Where the section has no id
-/// or size, the reader of sections has the offset.
-pub fn no_module<'a>(module: &[u8], number: usize, fault: ReadFault) -> Failure<'a> {
+/// or size, the reader of sections has the offset. Otherwise memory is missing.
+pub fn no_module<'a>(module: &[u8], number: usize) -> Failure<'a> {
     let sections = sections_from(module, number);
     let cause = match sections.map(|mut sections| sections.next()) {
         None => Cause::NoHeader(Found::at_front(module)),
         Some(Some(Err(error))) => Cause::NoSection(error),
-        Some(_) => Cause::items(fault),
+        Some(_) => Cause::Memory,
     };
     at(module, number, cause)
 }
 
 /// The outline of a module.
 fn outlined(module: &[u8]) -> Result<Vec<Outlined<'_>>, Failure<'_>> {
-    reader::outline(Global, module).map_err(|(number, fault)| no_module(module, number, fault))
+    reader::outline(Global, module).map_err(|(number, _)| no_module(module, number))
 }
 
 /// Appends a section: its id, offset, size, number of items and name.
@@ -63,30 +61,21 @@ pub fn outline(module: &[u8]) -> Answer<'_> {
     Ok(block.finish()?)
 }
 
-/// The sections of a module, each of which decodes.
+/// The sections of a module, each of which decodes, custom sections of known names too.
 pub fn list(module: &[u8]) -> Answer<'_> {
-    let listed =
-        list_module(Global, module).map_err(|(number, fault)| no_module(module, number, fault))?;
-    let mut block = Block::new(DONE)?;
-    block.size(listed.len())?;
-    let sections = sections_from(module, 1).into_iter().flatten().flatten();
-    for (listed, section) in listed.iter().zip(sections) {
-        let section = Outlined {
-            id: listed.id,
-            offset: section.range().start,
-            size: listed.size,
-            items: listed.items,
-            name: section.name(),
-        };
-        append_section(&mut block, &section)?;
+    let sections = outline(module)?;
+    for (number, section) in (1..).zip(sections_from(module, 1).into_iter().flatten().flatten()) {
+        section
+            .count()
+            .map_err(|error| at(module, number, Cause::items(&section, error)))?;
     }
-    Ok(block.finish()?)
+    Ok(sections)
 }
 
 /// Why a module has no minimal encoding.
 fn why_not(module: &[u8], fault: ModuleFault) -> Failure<'_> {
     match fault {
-        ModuleFault::Section { number, fault } => no_module(module, number, fault),
+        ModuleFault::Section { number, .. } => no_module(module, number),
         ModuleFault::Offsets { number } => match outlined(module) {
             Ok(sections) => {
                 let name = sections[number - 1].name.unwrap_or_default();
@@ -94,6 +83,8 @@ fn why_not(module: &[u8], fault: ModuleFault) -> Failure<'_> {
             }
             Err(failure) => failure,
         },
+        // The library has no other fault.
+        _ => at(module, 0, Cause::Memory),
     }
 }
 
@@ -121,9 +112,9 @@ fn text_of(recipe: &[u8]) -> Result<&str, Failure<'_>> {
     })
 }
 
-/// The module of a recipe.
+/// The module of a recipe of either version.
 pub fn module_of(recipe: &[u8]) -> Answer<'_> {
-    let module = assemble(Global, text_of(recipe)?)?;
+    let module = assemble_versioned(Global, text_of(recipe)?)?;
     let mut block = Block::new(DONE)?;
     block.bytes.extend_from_slice(&module)?;
     Ok(block.finish()?)

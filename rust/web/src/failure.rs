@@ -3,10 +3,11 @@
 
 use crate::block::Block;
 use crate::found::Found;
+use crate::kind_name::kind_name;
 use core::fmt;
 use dolzhytik::fallible::recipe::{RecipeCause, RecipeFault};
 use dolzhytik::fallible::{AllocError, Vec};
-use dolzhytik::reader::{ReadError, ReadFault};
+use dolzhytik::reader::{ReadError, ReadFault, Section};
 
 /// The status of a block that says why a call fails.
 const FAILED: u32 = 1;
@@ -18,19 +19,20 @@ pub enum Cause<'a> {
     NoHeader(Found),
     /// The module ends in a section, or a section's size is no number.
     NoSection(ReadError),
-    /// The payload of a section does not decode.
-    NoItems(ReadFault),
+    /// The payload of the section with this id, and name if it has one, does not decode.
+    NoItems(u8, Option<&'a str>, ReadError),
     /// The section with this name has offsets that would be lost.
     Offsets(&'a str),
     NotText,
     Recipe(RecipeCause),
 }
 
-impl Cause<'_> {
-    pub fn items(fault: ReadFault) -> Self {
-        match fault {
+impl<'a> Cause<'a> {
+    /// Why the payload of a section does not decode.
+    pub fn items(section: &Section<'a>, error: ReadError) -> Self {
+        match error.cause {
             ReadFault::Memory => Cause::Memory,
-            fault => Cause::NoItems(fault),
+            _ => Cause::NoItems(section.id(), section.name(), error),
         }
     }
 }
@@ -41,7 +43,7 @@ impl fmt::Display for Cause<'_> {
             Cause::Memory => AllocError.fmt(f),
             Cause::NoHeader(found) => found.fmt(f),
             Cause::NoSection(error) => error.cause.fmt(f),
-            Cause::NoItems(fault) => fault.fmt(f),
+            Cause::NoItems(_, _, error) => error.cause.fmt(f),
             Cause::Offsets(_) => f.write_str(
                 "holds offsets that would become wrong; dropOffsets drops such sections",
             ),
@@ -78,6 +80,13 @@ impl fmt::Display for Failure<'_> {
                 Cause::Offsets(name) => write!(f, "section {number}, {name:?}, {cause}"),
                 Cause::NoSection(ReadError { offset, .. }) => {
                     write!(f, "section {number} at offset {offset:#x}: {cause}")
+                }
+                Cause::NoItems(id, name, ReadError { offset, .. }) => {
+                    write!(f, "section {number} ({}", kind_name(*id))?;
+                    if let Some(name) = name {
+                        write!(f, " {name:?}")?;
+                    }
+                    write!(f, ") at offset {offset:#x}: {cause}")
                 }
                 _ => write!(f, "section {number}: {cause}"),
             },

@@ -3,7 +3,7 @@
 
 use crate::answers::{Answer, DONE, at, no_module};
 use crate::block::Block;
-use crate::failure::Cause;
+use crate::failure::{Cause, Failure};
 use crate::read::read;
 use crate::sections::sections_from;
 use crate::texts::{Count, Show, Text};
@@ -247,11 +247,11 @@ fn append(section: Section<'_>, list: &mut List) -> Result<(), ReadFault> {
 }
 
 /// The section at this index.
-fn section_at(module: &[u8], index: u32) -> Result<Option<Section<'_>>, (usize, ReadFault)> {
-    let sections = sections_from(module, 1).ok_or((0, ReadFault::UnknownTag))?;
+fn section_at(module: &[u8], index: u32) -> Result<Option<Section<'_>>, Failure<'_>> {
+    let sections = sections_from(module, 1).ok_or_else(|| no_module(module, 0))?;
     let mut found = None;
     for (at, section) in sections.enumerate() {
-        let section = section.map_err(|error| (at + 1, error.cause))?;
+        let section = section.map_err(|_| no_module(module, at + 1))?;
         if at == index as usize {
             found = Some(section);
         }
@@ -261,8 +261,7 @@ fn section_at(module: &[u8], index: u32) -> Result<Option<Section<'_>>, (usize, 
 
 /// The first items of the section at this index, or none where it does not decode.
 pub fn items(module: &[u8], index: u32, limit: u32) -> Answer<'_> {
-    let section =
-        section_at(module, index).map_err(|(number, fault)| no_module(module, number, fault))?;
+    let section = section_at(module, index)?;
     let mut list = List::new(limit)?;
     if let Some(section) = section {
         match append(section, &mut list) {

@@ -10,6 +10,8 @@ mod failure;
 mod found;
 mod heap;
 mod items;
+#[path = "../../src/bin/dolzhytik/kind_name.rs"]
+mod kind_name;
 mod read;
 mod sections;
 mod texts;

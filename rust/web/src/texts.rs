@@ -12,6 +12,9 @@ use dolzhytik::reader::{
     Segment, TableItem, TypeEntry,
 };
 
+/// The text of a case that the library has and this package does not show: it has none today.
+const OTHER: &str = "(; of another kind ;)";
+
 /// How many elements of a segment are shown.
 const MOST_ELEMENTS: usize = 16;
 
@@ -474,6 +477,7 @@ impl Show for ElementItem {
                 }
                 write!(f, " {}", Text(offset))?;
             }
+            _ => write!(f, " {OTHER}")?,
         }
         match &self.elements {
             ElementList::Functions(functions) => {
@@ -484,6 +488,7 @@ impl Show for ElementItem {
                 write!(f, " {}", Text(ty))?;
                 elements(f, expressions)?;
             }
+            _ => write!(f, " {OTHER}")?,
         }
         f.write_str(")")
     }
@@ -505,6 +510,7 @@ impl Show for Segment<'_> {
                 write!(f, "{} ", Text(offset))?;
                 bytes
             }
+            _ => return write!(f, "{OTHER})"),
         };
         write!(f, "(; {} ;))", Count(bytes.len() as u64, "byte"))
     }
@@ -543,6 +549,7 @@ impl Show for LinkItem<'_> {
             LinkItem::Comdats(comdats) => Count(comdats.len() as u64, "COMDAT group").fmt(f),
             LinkItem::Symbols(symbols) => Count(symbols.len() as u64, "symbol").fmt(f),
             LinkItem::Arch(name) => write!(f, "target {name:?}"),
+            _ => f.write_str(OTHER),
         }
     }
 }

@@ -36,7 +36,7 @@ def documentation(case: Case, proved: dict[str, str]) -> str:
     if case.call in INDICES:
         lines += [INDICES[case.call], ""]
     lines.append("[`Instruction::%s`](super::Instruction::%s) is the same instruction as a value." % (case.name, case.name))
-    if case.call in proved:
+    if case.call in proved and case.shape != "bt":
         name = proved[case.call]
         lines.append("The proved [`%s`](insn::InstructionSink::%s) of `fallible` encodes it." % (name, name))
     ordered, given = [name for name, _ in case.parts], [name for name, _ in case.parameters]
@@ -53,6 +53,9 @@ def body(case: Case, proved: dict[str, str]) -> str:
     immediates."""
     parts = [name for name, _ in case.parts]
     op = "[%s]" % ", ".join("0x%02X" % byte for byte in case.op_bytes()) if case.prefix else "0x%02X_u8" % case.code
+    if case.shape == "bt":
+        # The proved call measures the list twice.
+        return "self.listed(%s, %s).emit(&%s)" % (op, *parts)
     if case.call in proved:
         return "self.made(|sink| sink.%s(%s))" % (proved[case.call], ", ".join(name for name, _ in case.parameters))
     if case.shape == "k":

@@ -18,7 +18,7 @@ from ..repository import TOP
 from ..to_rust import command
 from ..to_rust.context import SourceFile, sources
 from ..to_rust.crates import Crate
-from ..to_rust.tables import PLACES
+from ..to_rust.tables import CLONED, EXHAUSTIVE, LIBRARIES, PLACES, SHOWN_BY_HAND
 from ..to_rust.written import Written
 from ..to_rust.written import written as written_of
 from ..widths import Expressions
@@ -52,6 +52,9 @@ FORMS = {
     'module': [('mod', r'pub \( crate \) mod')],
     'border': [(r'extern "C"', ''), ('mod', r'pub \( crate \) mod')],
     'layout': [('', r'# \[ rustfmt : : skip \]')],
+    'arm': [('', r'_ = > unreachable ! \( "[^"]*" \) ,')],
+    'method': [('pub', r'pub \( crate \)')],
+    'exhaustive': [('', r'# \[ non_exhaustive \]')],
     'feature': [('', r'# \[ cfg \( feature = "\w+" \) \]')],
 }
 
@@ -172,6 +175,32 @@ def feature_trouble() -> str | None:
     return 'a listed item that is gone did not stop the tool'
 
 
+# Types of a source, and how each begins in its Rust.
+TYPES = [
+    ('#[derive(Clone, Copy, Debug)]\npub enum Catch {', '#[derive(Clone, Debug)]\npub enum Catch {'),
+    ('#[derive(Clone, Copy, PartialEq, Debug)]\npub struct Ieee32 {', '#[derive(Clone, Copy, PartialEq)]\npub struct Ieee32 {'),
+    ('#[derive(Clone, Copy, Debug)]\npub enum Items {', '#[derive(Clone, Copy, Debug)]\n#[non_exhaustive]\npub enum Items {'),
+    ('#[derive(Debug)]\npub(crate) enum Inner {', '#[derive(Debug)]\npub(crate) enum Inner {'),
+]
+
+
+def types_trouble() -> str | None:
+    """Types of the root have the traits of the Rust crate's, and a `match` on a public enum that
+    may grow needs a wildcard, but not on one of a crate of tests."""
+    for source, rust in TYPES:
+        text = Written(Crate('wasm_base'), 'small.rt', f'{source}\n    A,\n}}\n').text
+        if rust not in text or text.count('#[') != rust.count('#['):
+            return f'{source.split()[-2]} became {text}'
+    if 'non_exhaustive' in Written(Crate('wasm_types_tests'), 'small.rtt', 'pub enum Items {\n    A,\n}\n').text:
+        return 'an enum of a crate of tests is not exhaustive'
+    public = set()
+    for file in sources():
+        if file.crate.name in LIBRARIES:
+            public |= set(re.findall(r'^pub (?:enum|struct) (\w+)', file.text, re.MULTILINE))
+    gone = (CLONED | SHOWN_BY_HAND | set(EXHAUSTIVE)) - public
+    return f'no library has {sorted(gone)}' if gone else None
+
+
 def check_trouble() -> str | None:
     """`--check` reports a changed file, a missing one and one that is left over."""
     with tempfile.TemporaryDirectory() as folder:
@@ -234,6 +263,7 @@ def main() -> int:
         'clauses of all sources': clause_trouble,
         'layout of roots': layout_trouble,
         'features': feature_trouble,
+        'traits of types': types_trouble,
         'touched files': check_trouble,
     }
     passed = [report('to-rust-test', name, trouble()) for name, trouble in troubles.items()]

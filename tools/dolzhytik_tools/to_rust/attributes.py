@@ -4,7 +4,7 @@ from __future__ import annotations
 from ..rattle.lexer import is_word
 from .errors import display
 from .source import Source
-from .tables import COPIED, BORDERS, ERASED_ATTRIBUTES, ERASED_DERIVES, KEPT_ATTRIBUTES, KEPT_DERIVES
+from .tables import BORDERS, CLONED, COPIED, ERASED_ATTRIBUTES, ERASED_DERIVES, EXHAUSTIVE, KEPT_ATTRIBUTES, KEPT_DERIVES, LIBRARIES, SHOWN_BY_HAND
 
 
 def erase_attributes(source: Source) -> None:
@@ -35,11 +35,32 @@ def turn_derive(source: Source, place: int, bracket: int, end: int) -> None:
     for name in names:
         if name not in ERASED_DERIVES | KEPT_DERIVES:
             source.stop(place, f'an unknown derived trait: {name}')
-    kept = [name for name in names if name not in ERASED_DERIVES]
-    struct = source.after(source.skip(end), 'pub', 'struct')
-    if struct is not None and source.tokens[source.skip(struct)] in COPIED:
+    derived_for = public_type(source, end)
+    erased = set(ERASED_DERIVES)
+    if derived_for in CLONED:
+        erased.add('Copy')
+    if derived_for in SHOWN_BY_HAND:
+        erased.add('Debug')
+    kept = [name for name in names if name not in erased]
+    if derived_for in COPIED:
         kept.insert(1, 'Copy')
     if 'Error' in names:
         source.errors.append(display(source, end))
     if kept != names:
         source.edit(place, end, '#[derive(' + ', '.join(kept) + ')]' if kept else '', 'derive')
+
+
+def public_type(source: Source, place: int) -> str | None:
+    """Returns the name of the public struct or enum that begins at a token."""
+    name = source.after(source.skip(place), 'pub', 'struct') or source.after(source.skip(place), 'pub', 'enum')
+    return None if name is None else source.tokens[source.skip(name)]
+
+
+def open_enums(source: Source) -> None:
+    """Has a `match` on a public enum of a library need a wildcard, unless `EXHAUSTIVE` names it."""
+    if source.crate.name not in LIBRARIES:
+        return
+    for place in source.solid_places():
+        name = source.after(place, 'pub', 'enum')
+        if name is not None and source.tokens[source.skip(name)] not in EXHAUSTIVE:
+            source.edit(place, place, '#[non_exhaustive]\n', 'exhaustive')

@@ -4,7 +4,10 @@ from __future__ import annotations
 from ..errors import Stop
 from ..rattle.lexer import solid_words
 from .source import Source
-from .tables import BELOW_ROOT, BORDERS, FEATURES, ITEMS, PLACES, TESTS
+from .tables import BELOW_ROOT, BORDERS, FEATURES, ITEMS, LAST_ARMS, PLACES, TESTS, WITHIN
+
+# The arm that a `match` on an enum of another package needs. The proved source has all cases.
+WILDCARD = '_ => unreachable!("the library has no other case"),'
 
 # Before the declaration of a generated module: rustfmt skips the module.
 SKIP = '#[rustfmt::skip]\n'
@@ -27,6 +30,15 @@ def turn_places(source: Source) -> None:
             source.edit(place, source.after(place, *solid_words(it.old)), it.new, 'place')
 
 
+def add_arms(source: Source) -> None:
+    """Adds a wildcard behind the arms of `LAST_ARMS`."""
+    for path, last in LAST_ARMS:
+        if source.path.partition('/')[2] == path:
+            place = the_place(source, last)
+            end = source.after(place, *solid_words(last))
+            source.edit(end, end, source.tokens[place - 1] + WILDCARD, 'arm')
+
+
 def need_features(source: Source) -> None:
     """Has the items of `FEATURES` need a feature."""
     for it in FEATURES:
@@ -42,6 +54,16 @@ def share_modules(source: Source) -> None:
     for place in source.solid_places():
         if source.tokens[place] == 'mod' and source.tokens[source.back(place)] != 'pub':
             source.edit(place, place + 1, 'pub(crate) mod', 'module')
+
+
+def hide_methods(source: Source) -> None:
+    """Makes the methods of `WITHIN` private to the package."""
+    for name in WITHIN.get(source.path.partition('/')[2], ()):
+        places = [at for at in source.solid_places() if source.after(at, 'pub', 'fn', name) is not None]
+        if not places:
+            raise Stop(f'{source.path}:1: there is no public {name}')
+        for place in places:
+            source.edit(place, place + 1, 'pub(crate)', 'method')
 
 
 def turn_border(source: Source) -> None:

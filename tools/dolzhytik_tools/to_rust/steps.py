@@ -1,10 +1,10 @@
 """The changes of a source, in their order."""
-from .attributes import erase_attributes
+from .attributes import erase_attributes, open_enums
 from .beside import add_beside
 from .bounds import erase_drop_bounds, erase_runtime
 from .ghosts import erase_clauses, erase_ghosts, erase_models, turn_proved_constants
 from .marks import erase_marks
-from .modules import need_features, share_modules, skip_layout, turn_border, turn_places
+from .modules import add_arms, hide_methods, need_features, share_modules, skip_layout, turn_border, turn_places
 from .paths import turn_links, turn_paths
 from .sinks import turn_pairs, turn_sinks
 from .uses import turn_exports, turn_uses
@@ -19,10 +19,13 @@ STEPS = [
     add_beside,
     turn_proved_constants,
     erase_attributes,
+    open_enums,
     erase_drop_bounds,
     erase_runtime,
     turn_places,
+    add_arms,
     need_features,
+    hide_methods,
     turn_pairs,
     turn_sinks,
     turn_uses,

@@ -93,6 +93,44 @@ ERASED_DERIVES = {'Drop', 'Error'}
 KEPT_DERIVES = {'Clone', 'Copy', 'PartialEq', 'Eq', 'Hash', 'Debug'}
 # Structs that are `Copy` too: Rattle has no `Copy` for a struct with a model and a lifetime.
 COPIED = {'CodeBody', 'Section'}
+# Structs and enums that are not `Copy`: the root of the package exports them, and those of the Rust
+# crate are `Clone` alone. A symbol has one of them.
+CLONED = {'Catch', 'CoreDumpValue', 'DataSymbolDefinition', 'Handle', 'RawCustomSection', 'Symbol'}
+# Structs whose `Debug` is in rust/src/drop_in/debug.rs: those of the Rust crate have an unnamed field.
+SHOWN_BY_HAND = {'Ieee32', 'Ieee64'}
+# Public enums of the libraries that a `match` may list in full, and why. All others may get variants
+# as the standard or the libraries grow: they are `#[non_exhaustive]`.
+AT_THE_ROOT = 'the enum of the name at the root of the package is that of the Rust crate, which is exhaustive'
+CLOSED = 'it has no other cases'
+EXHAUSTIVE = {
+    'AbstractHeapType': AT_THE_ROOT,
+    'BlockType': AT_THE_ROOT,
+    'Catch': AT_THE_ROOT,
+    'CompositeInnerType': AT_THE_ROOT,
+    'CoreDumpValue': AT_THE_ROOT,
+    'DataSegmentMode': AT_THE_ROOT,
+    'ElementMode': AT_THE_ROOT,
+    'Elements': AT_THE_ROOT,
+    'EntityType': AT_THE_ROOT,
+    'ExportKind': AT_THE_ROOT,
+    'Handle': AT_THE_ROOT,
+    'HeapType': AT_THE_ROOT,
+    'Imports': AT_THE_ROOT,
+    'MemArgOrdering': AT_THE_ROOT,
+    'MemArgTarget': AT_THE_ROOT,
+    'Ordering': AT_THE_ROOT,
+    'SectionId': AT_THE_ROOT,
+    'StorageType': AT_THE_ROOT,
+    'TagKind': AT_THE_ROOT,
+    'ValType': AT_THE_ROOT,
+    'CowSlice': CLOSED,
+    'CowStr': CLOSED,
+    'Op': CLOSED,
+    'Refused': CLOSED,
+    'TypeEntry': CLOSED,
+}
+# Inherent methods of types at the root of the package that the Rust crate has not: private.
+WITHIN = {'wasm_base/src/types.rt': {'encode_in'}}
 # Paths of std: of Rust's std, of its core, of the package, of the host of tests, and erased ones.
 KEPT_STD = {
     'std::io::Error',
@@ -141,12 +179,48 @@ PLACES = [
     # The proof saves the bounds check of bytes that are copied 16 at a time. Rust copies a run of
     # any length as a whole.
     Place('wasm_base/src/once.rt', 'append_blocks(sink, &mut items, len);', ''),
+    # At the root of the package the float has an unnamed field.
+    Place('wasm_insn_tests/src/debug.rtt', '"Lent(Ieee32 { bits: 7 })"', '"Lent(Ieee32(7))"'),
+    # At the root of the package these items are not `Copy`.
+    Place('wasm_base/src/cow.rt', "T: Copy", "T: Clone"),
+    Place('wasm_insn/src/ranged.rt', 'trait Ranged: Copy', 'trait Ranged: Clone'),
+    Place('wasm_insn/src/ranged.rt', 'item.ranged();', 'item.clone().ranged();'),
+    Place('examples/src/read_back/dumps.rt', 'locals.iter().copied()', 'locals.iter().cloned()'),
+    Place('examples/src/calls/once/custom.rt', '[missing], [missing]', '[missing.clone()], [missing]'),
+    Place('wasm_reader_sections_tests/src/custom_seen.rtt', 'symbol_told(*symbol)', 'symbol_told(symbol.clone())'),
+    Place('wasm_reader_sections_tests/src/custom_seen.rtt', 'value_told(*local)', 'value_told(local.clone())'),
+    Place('wasm_reader_sections_tests/src/custom_seen.rtt', 'value_told(*top)', 'value_told(top.clone())'),
+    Place('wasm_custom_tests/src/lengths.rtt', 'impl<T: Copy> Iterator', 'impl<T: Clone> Iterator'),
+    Place('wasm_custom_tests/src/lengths.rtt', 'impl<T: Copy> ExactSizeIterator', 'impl<T: Clone> ExactSizeIterator'),
+    Place('wasm_custom_tests/src/lengths.rtt', 'fn copies_of<T: Copy>', 'fn copies_of<T: Clone>'),
+    Place('wasm_custom_tests/src/lengths.rtt', 'Some(self.item)', 'Some(self.item.clone())'),
+    Place('wasm_custom_tests/src/lengths.rtt', 'let locals = copies_of(missing', 'let locals = copies_of(missing.clone()', ', TOO_MANY'),
+    Place('wasm_custom_tests/src/lengths.rtt', 'let locals = copies_of(missing', 'let locals = copies_of(missing.clone()', ', 1'),
+    Place('wasm_custom/src/symbols.rt', 'given_definition(definition);', 'given_definition(definition.clone());'),
+    Place('wasm_custom/src/object_symbols.rt', 'given_definition(definition);', 'given_definition(definition.clone());'),
+    Place('wasm_custom/src/symbols.rt', 'match *self {', 'match self.clone() {', 'Symbol::Function'),
+    # The root of the package measures the second list of a frame behind the first.
+    Place('wasm_custom/src/core_stack.rt', 'frames: Pieces<A>', 'pub(crate) frames: Pieces<A>'),
     # Inline, rustc splits no value type into its fields; Rattle's compiler does.
     Place('wasm_base/src/types.rt', '#[inline(never)]', '#[inline(always)]', 'fn encode<'),
     # A type argument of a trait has a size.
     Place('wasm_sections_tests/src/section_refusals.rtt', 'trait SectionCalls: ItemKind {', 'trait SectionCalls: ItemKind + Sized {'),
     Place('wasm_custom_tests/src/refusals.rtt', 'trait SectionCalls: CustomKind {', 'trait SectionCalls: CustomKind + Sized {'),
     Place('wasm_custom_tests/src/refusals.rtt', 'trait ListCalls: ListKind {', 'trait ListCalls: ListKind + Sized {'),
+]
+
+# The last arms of `match`es in other packages on enums that are `#[non_exhaustive]` there: a file,
+# and the tokens of the arm, which are in it exactly once. A wildcard is added behind each.
+LAST_ARMS = [
+    ('wasm_c/src/listing.rt', 'ReadFault::Memory => 8,'),
+    ('wasm_c/src/recipes.rt', 'RecipeCause::UnusedLocals => 10,'),
+    ('wasm_c/src/whole.rt', 'Err(ModuleFault::Offsets { number }) => { *place = number as u64; *cause = OFFSETS; NO_ANSWER }'),
+    ('wasm_reader_tests/src/instructions.rtt', 'Arg::Flag(flags) => ("flag", i128::from(*flags)),'),
+    ('wasm_reader_tests/src/walks.rtt', 'Operands::Nothing | Operands::Encoded(_, _) => None,'),
+    ('wasm_reader_sections_tests/src/custom_seen.rtt', 'NameItem::Other { id, bytes } => Told::Other(*id, bytes),'),
+    ('wasm_reader_sections_tests/src/custom_seen.rtt', 'DylinkItem::RuntimePath(paths) => match paths.as_slice() { [path] => Told::Folder(path), _ => Told::Others, },'),
+    ('wasm_reader_sections_tests/src/seen.rtt', 'Segment::Passive { bytes } => Seen::Passive(bytes),'),
+    ('wasm_reader_sections_tests/src/seen.rtt', 'ElementList::Expressions(_, expressions) => (true, expressions.len()),'),
 ]
 # Items that need a feature of the package.
 FEATURES = [

@@ -1,4 +1,4 @@
-"""The JavaScript package and the programs, which are called with the same modules and recipes."""
+"""The JavaScript package and the program, which are called with the same modules and recipes."""
 from __future__ import annotations
 
 import json
@@ -11,17 +11,8 @@ from collections.abc import Iterator
 from ..both_builds import recipe_of
 from ..repository import TOP
 from .builds import WEB, modules, native
-from .outlines import line_of, row_of, rows_of
+from .outlines import row_of, rows_of
 
-# The causes of `wasmrow`, as the package reports them.
-CAUSES = {
-    'Ended': 'unexpected end of input',
-    'TooLarge': 'integer too large',
-    'UnknownTag': 'unexpected byte or value',
-    'UnknownOpcode': 'unknown opcode',
-    'NotUtf8': 'invalid UTF-8',
-    'SizeMismatch': 'bytes remain after the value',
-}
 # How often each module is damaged, and how many recipes are assembled.
 DAMAGES = 40
 RECIPES = 200
@@ -41,7 +32,7 @@ def said(passed: bool, name: str) -> bool:
 
 
 class Both:
-    """The package in node, and the programs `dolzhytik` and `wasmrow`."""
+    """The package in node, and the program `dolzhytik`."""
 
     def __init__(self, folder: pathlib.Path):
         native('build', '--release', '--features', 'programs', '--bins', '--manifest-path', str(TOP / 'rust/Cargo.toml'))
@@ -78,17 +69,13 @@ class Both:
         return same('outline', path, [row_of(section) for section in answer.get('result', [])], rows_of(output))
 
     def list(self, path: pathlib.Path) -> bool:
-        """Compares lists of a module. `wasmrow` reports other messages, without offsets."""
+        """Compares lists of a module with strict outlines, which report each section that does not
+        decode in a line of its own: the package throws the first."""
         answer = self.of_package(call='list', input=str(path))
-        done = subprocess.run([self.programs / 'wasmrow', '--read'], input=path.read_bytes().hex().encode(), capture_output=True)
-        if done.returncode == 0:
-            return same('list', path, ''.join(line_of(section) for section in answer.get('result', [])), done.stdout.decode())
-        section, cause = done.stderr.decode().removesuffix('\n').split(': ')
-        # `dolzhytik` has the message of the package for a missing header, and for an id or a size.
-        _, message = self.of_program(path, 'outline', path)
-        if section != 'section 0' and not (message or '').startswith(f'{section} at offset '):
-            message = f'{section}: {CAUSES[cause]}'
-        return same('list', path, answer, {'message': message})
+        output, message = self.of_program(path, 'outline', '--strict', path)
+        if message is not None:
+            return same('list', path, answer, {'message': message.split('\n')[0]})
+        return same('list', path, [row_of(section) for section in answer.get('result', [])], rows_of(output))
 
     def written(self, path: pathlib.Path, request: dict, words: tuple[str, ...]) -> bool:
         """Compares written modules."""
@@ -140,11 +127,21 @@ def is_text(recipe: bytes) -> bool:
     return True
 
 
+def versions(rng: random.Random) -> bytes:
+    """Returns the front of a recipe: for half of them that of version 2, with lines that version 1
+    has not, some of which are faulty."""
+    lines = [b'memory 1 2', b'table 0 7', b'elem 0 0 1', b'import m f func 0', b'import m g global mut f64', b'locals 2 i64', b'# none', b'memory 1 2 3', b'locals 1 i16']
+    if rng.random() < 0.5:
+        return b''
+    return b'\n'.join([b'version 2', *rng.sample(lines, rng.randrange(4)), b''])
+
+
 def same_recipes(both: Both, folder: pathlib.Path) -> bool:
-    """Compares the modules of random recipes, some of them faulty. A string of JavaScript is
-    text."""
+    """Compares the modules of random recipes, some of them faulty, half of them of version 2. A
+    string of JavaScript is text."""
     rng = random.Random(1)
-    recipes = filter(is_text, (recipe_of(rng) for _ in range(RECIPES)))
+    random_recipes = (versions(rng) + recipe_of(rng) for _ in range(RECIPES))
+    recipes = filter(is_text, random_recipes)
     path = folder / 'recipe'
     same = []
     for recipe in recipes:

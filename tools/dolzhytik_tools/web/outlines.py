@@ -23,12 +23,6 @@ def row_of(section: dict[str, Any]) -> Row:
     return section['id'], section['offset'], section['size'], items, section['kind'] + shown(section['name'])
 
 
-def line_of(section: dict[str, Any]) -> str:
-    """Returns the line of `wasmrow` for a section."""
-    items = '-' if section['items'] is None else section['items']
-    return f'{section["id"]} {section["size"]} {items}\n'
-
-
 LINE = re.compile(r' *\d+ +(\d+) +(0x[0-9a-f]+) +(\d+) +(\d+|-) +(?:yes|no|-)  ([a-z ]+?)(?: "(.*)")?')
 
 

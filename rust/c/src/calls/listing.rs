@@ -34,6 +34,7 @@ pub(crate) fn number_of(fault: ReadFault) -> u32 {
         ReadFault::NotUtf8 => 6,
         ReadFault::SizeMismatch => 7,
         ReadFault::Memory => 8,
+        _ => unreachable!("the library has no other case"),
     }
 }
 

@@ -27,6 +27,7 @@ pub(crate) fn number_of(cause: RecipeCause) -> u32 {
         RecipeCause::SurplusWord => 8,
         RecipeCause::UnknownType => 9,
         RecipeCause::UnusedLocals => 10,
+        _ => unreachable!("the library has no other case"),
     }
 }
 

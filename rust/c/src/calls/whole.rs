@@ -66,5 +66,6 @@ pub fn dz_shorten_module(
             *cause = OFFSETS;
             NO_ANSWER
         }
+        _ => unreachable!("the library has no other case"),
     }
 }

@@ -181,7 +181,7 @@ fn named_entry<'a>(symbol: &Symbol<'a>) -> Option<((Space, u32), &'a str)> {
         Symbol::Global { index, name, .. } => (Space::Global, index, name),
         Symbol::Table { index, name, .. } => (Space::Table, index, name),
         Symbol::Tag { index, name, .. } => (Space::Tag, index, name),
-        Symbol::DataSymbol { .. } | Symbol::Section { .. } => return None,
+        _ => return None,
     };
     Some(((space, index), name?))
 }

@@ -9,6 +9,7 @@ mod files;
 mod found;
 mod help;
 mod json;
+mod kind_name;
 mod misuse;
 #[rustfmt::skip]
 mod names;

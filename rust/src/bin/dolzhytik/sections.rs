@@ -3,6 +3,7 @@ use crate::cursor::Cursor;
 use crate::failure::{BadSection, Failure, NamedSection};
 use crate::files::Input;
 use crate::found::Found;
+use crate::kind_name::kind_name;
 use dolzhytik::fallible::Global;
 use dolzhytik::reader::{self, ReadError, Sections};
 use std::fmt;
@@ -48,23 +49,7 @@ pub fn sections_of<'a>(input: &Input, module: &'a [u8]) -> Result<Vec<Section<'a
 impl<'a> Section<'a> {
     /// What sections of its id are called, as the standard has it.
     pub fn kind_name(&self) -> &'static str {
-        match self.id() {
-            0 => "custom",
-            1 => "type",
-            2 => "import",
-            3 => "function",
-            4 => "table",
-            5 => "memory",
-            6 => "global",
-            7 => "export",
-            8 => "start",
-            9 => "element",
-            10 => "code",
-            11 => "data",
-            12 => "data count",
-            13 => "tag",
-            _ => "unknown",
-        }
+        kind_name(self.id())
     }
 
     /// Returns a cursor at the front of the payload.

@@ -162,7 +162,7 @@ fn stack<A: Allocator + Copy>(alloc: A, name: &str, offset: u32) -> Result<CoreD
     let locals = [CoreDumpValue::I32(5)];
     let mut section = CoreDumpStackSection::new(alloc, name)?;
     section.frame(0, 1, 2, [CoreDumpValue::Missing], [CoreDumpValue::I32(5)])?;
-    section.frame(0, 0, offset, locals.iter().copied(), [])?;
+    section.frame(0, 0, offset, locals.iter().cloned(), [])?;
     Ok(section)
 }
 

@@ -2,6 +2,7 @@
 use crate::context::Space;
 use crate::dump::listing::{Item, Listing};
 use crate::dump::operands::Float;
+use crate::dump::text::OTHER;
 use dolzhytik::fallible::{
     self, BranchHint, Comdat, CoreDumpValue, FeaturePrefix, Relocation, SegmentInfo,
 };
@@ -27,6 +28,7 @@ pub fn list_items(items: &Items<'_>, listing: &mut Listing<impl Write>) -> io::R
                 FeaturePrefix::Used => "used",
                 FeaturePrefix::Disallowed => "disallowed",
                 FeaturePrefix::Required => "required",
+                _ => OTHER,
             };
             lines.named("feature", name, text)
         }),
@@ -158,6 +160,7 @@ impl<W: Write> Lines<'_, W> {
                 let text = format!("of {} bytes", bytes.len());
                 self.entry("subsection", u32::from(*id), None, text)
             }
+            _ => self.kind("subsection", OTHER.into()),
         }
     }
 
@@ -193,6 +196,7 @@ impl<W: Write> Lines<'_, W> {
                 let mut paths = paths.iter();
                 paths.try_for_each(|path| self.named("runtime path", path, ""))
             }
+            _ => self.kind("subsection", OTHER.into()),
         }
     }
 
@@ -215,6 +219,7 @@ impl<W: Write> Lines<'_, W> {
                 index,
                 addend,
             } => (format!("{kind:?}"), offset, index, Some(addend)),
+            _ => return self.kind("relocation", OTHER.into()),
         };
         let addend = addend.map_or(String::new(), |addend: i64| format!(" addend {addend}"));
         let text = format!("{kind} offset {offset:#x} index {index}{addend}");
@@ -253,6 +258,7 @@ impl<W: Write> Lines<'_, W> {
                 .zip(symbols.iter())
                 .try_for_each(|(index, it)| self.symbol(index, it)),
             LinkItem::Arch(name) => self.named("architecture", name, ""),
+            _ => self.kind("subsection", OTHER.into()),
         }
     }
 
@@ -295,11 +301,12 @@ impl<W: Write> Lines<'_, W> {
                 name,
                 definition,
             } => {
-                let of = definition.map_or("data".into(), |it| {
+                let of = definition.as_ref().map_or("data".into(), |it| {
                     format!("data {} offset {} size {}", it.index, it.offset, it.size)
                 });
                 (flags, Some(*name), of)
             }
+            _ => return self.entry("symbol", index, None, OTHER),
         };
         self.entry("symbol", index, name, format!("{of} flags {flags:#x}"))
     }

@@ -3,7 +3,7 @@ use crate::context::{Context, Space, each_import};
 use crate::cursor::Cursor;
 use crate::dump::Stop;
 use crate::dump::listing::{Item, Listing};
-use crate::dump::text::Text;
+use crate::dump::text::{OTHER, Text};
 use crate::sections::Section;
 use dolzhytik::fallible::{
     Export, ExportKind, Global, GlobalType, Imports, MemoryType, SubItem, TagType,
@@ -160,6 +160,7 @@ impl<'a, W: Write> Items<'_, 'a, W> {
                 ElementItemMode::Active { table, offset } => {
                     active("table", table.unwrap_or(0), offset)
                 }
+                _ => OTHER.into(),
             };
             match &segment.elements {
                 ElementList::Functions(functions) => {
@@ -175,6 +176,7 @@ impl<'a, W: Write> Items<'_, 'a, W> {
                     self.entry(Space::Element, index, offset, text)?;
                     self.members(expressions, |it| (None, Text(it).to_string()))
                 }
+                _ => self.entry(Space::Element, index, offset, mode),
             }
         })
     }
@@ -208,6 +210,7 @@ impl<'a, W: Write> Items<'_, 'a, W> {
                     offset,
                     bytes,
                 } => (active("memory", memory, &offset), bytes),
+                _ => (OTHER.into(), &[][..]),
             };
             let text = format!("{mode}, size {}", bytes.len());
             self.entry(Space::Data, index, offset, text)?;

@@ -1,5 +1,5 @@
 //! The operands of instructions in the text format.
-use crate::dump::text::{List, LongRef, Text};
+use crate::dump::text::{List, LongRef, OTHER, Text};
 use dolzhytik::fallible::{
     Catch, Handle, HeapType, Ieee32, Ieee64, MemArg, MemArgOrdering, MemArgTarget, Op, Ordering,
     RefType,
@@ -75,6 +75,7 @@ fn operand(f: &mut Formatter<'_>, arg: &Arg) -> Result {
         Arg::Catches(clauses) => clauses.iter().try_for_each(|clause| catch(f, clause)),
         Arg::Types(types) => write!(f, " {}", List("result", types)),
         Arg::Handles(clauses) => clauses.iter().try_for_each(|clause| handle(f, clause)),
+        _ => write!(f, " {OTHER}"),
     }
 }
 

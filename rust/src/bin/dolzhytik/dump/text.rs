@@ -8,6 +8,9 @@ use dolzhytik::fallible::{
 use dolzhytik::reader::{Expression, Plain};
 use std::fmt::{Display, Formatter, Result};
 
+/// What is printed of a case that the library has and the program does not list: it has none today.
+pub const OTHER: &str = "of another kind";
+
 /// Prints a value in the text format.
 pub struct Text<T>(pub T);
 

@@ -14,7 +14,7 @@ use crate::words::Format;
 use choice::{BUILD_ID, HINTS, Target};
 pub use choice::{BuildId, Choice};
 use dolzhytik::fallible::{self, Global};
-use dolzhytik::reader::{ModuleFault, Offsets, ReadError, Sections, shorten_module};
+use dolzhytik::reader::{ModuleFault, Offsets, ReadError, ReadFault, Sections, shorten_module};
 use rewrite::Rewrite;
 pub use savings::{Saving, Savings};
 use std::io::{self, Write};
@@ -124,16 +124,19 @@ fn why_not(input: &Input, bytes: &[u8], fault: ModuleFault) -> Failure {
                 .unwrap_or_else(|| Failure::Offsets(sections[number - 1].named(input)))
         }
         // The cause is Memory, which has no offset.
-        (Ok(_), ModuleFault::Section { number, fault }) => Failure::Section(BadSection {
-            input: input.clone(),
-            number,
-            section: None,
-            error: ReadError {
-                cause: fault,
-                offset: 0,
-            },
-        }),
+        (Ok(_), ModuleFault::Section { number, fault }) => no_memory(input, number, fault),
+        (Ok(_), _) => no_memory(input, 0, ReadFault::Memory),
     }
+}
+
+/// The failure without an offset, at a section or at the header.
+fn no_memory(input: &Input, number: usize, cause: ReadFault) -> Failure {
+    Failure::Section(BadSection {
+        input: input.clone(),
+        number,
+        section: None,
+        error: ReadError { cause, offset: 0 },
+    })
 }
 
 /// The failure for sections whose offsets become wrong. It names `build_id` only if there is no

@@ -62,6 +62,6 @@ pub fn core_dumps<A: Allocator + Copy>(alloc: A) -> Result<()> {
     instances.instance(0, [1], [2])?;
     let mut stack = CoreDumpStackSection::new(alloc, "main")?;
     let missing = CoreDumpValue::Missing;
-    stack.frame(0, 42, 51, [missing], [missing])?;
+    stack.frame(0, 42, 51, [missing.clone()], [missing])?;
     Ok(())
 }
