@@ -1,4 +1,4 @@
-use Rattle.wasm_base.proofs.Words.{◌≡◌, ◌∷◌, ◌++◌, [], ◌≤◌, length, sym, subst, ◌∙◌, arith, padded}
+use Rattle.wasm_base.proofs.Words.{◌≡◌, ◌∷◌, ◌++◌, [], ◌≤◌, length, sym, subst, refl, ◌∙◌, arith, padded}
 use Rattle.std.proofs.lemmas.List.{length-append}
 use Rattle.wasm_insn.proofs.Words.{Plain}
 use Rattle.wasm_code.proofs.Words.{ahead, continues, ended, walk_ends, walk_gives, body_fills}
@@ -8,7 +8,7 @@ pub loop-step-preserved : goal.loop-step-preserved
 loop-step-preserved c =
     let w = c.loop-step.invariant in
     let new = c.next.new.self in
-    let gives = walk_gives _ _ _ c.in_ok-_step.was c.in-Some.is c.in_ok-_step.ensures in
+    let gives = walk_gives _ _ _ refl c.in-Some.is c.in_ok-_step.ensures in
     let read = gives.found in
     let i : Plain = record { op = c.in-Some._step.op; arguments = read.immediates } in
     let same : new.bytes ≡ c.args.body.now = gives.same ∙ w.5 in
@@ -19,6 +19,6 @@ returns c =
     let w = c.loop-step.invariant in
     record {
       walked = record { runs = c.in_ok-_runs._runs.items; code = w.0 };
-      encodes = body_fills c.args.body.now (ahead c.in_ok-_runs.walk) c.in_ok-_runs._runs.items w.0 c.in_ok-_runs.ensures.found (ended w.0 w.1 (walk_ends _ _ _ c.in_ok-_step.was c.in_default.is c.in_ok-_step.ensures));
+      encodes = body_fills c.args.body.now (ahead c.in_ok-_runs.walk) c.in_ok-_runs._runs.items w.0 c.in_ok-_runs.ensures.found (ended w.0 w.1 (walk_ends _ _ _ refl c.in_default.is c.in_ok-_step.ensures));
       counted = sym w.2;
     }
