@@ -139,11 +139,11 @@ uint64_t dz_list(const uint8_t *module, size_t module_len, dz_section *out, size
 uint64_t dz_shorten(uint32_t kind, const uint8_t *bytes, size_t bytes_len, uint8_t *out, size_t out_len, uint64_t *taken, uint32_t *cause);
 
 /* Outlines a module, and returns the number of its sections, whether they decode as their kinds or
-   not. The entries of a type section are counted, a recursion group as one. A custom section
-   decodes by the kind that its name selects. On an error, `*place` is the number of the first
-   section that is not an id and a size-prefixed payload, counted from 1, or 0 for the header, and
-   `*cause` is one of dz_fault. If an allocation failed, `*cause` is DZ_OUT_OF_MEMORY. On success
-   both are 0. */
+   not. The entries of a type section are counted, a recursion group as one. Custom sections are not
+   decoded: they have no number of items. On an error, `*place` is the number of the first section
+   that is not an id and a size-prefixed payload, counted from 1, or 0 for the header, and `*cause`
+   is one of dz_fault. If an allocation failed, `*cause` is DZ_OUT_OF_MEMORY. On success both are 0.
+   */
 uint64_t dz_outline(const uint8_t *module, size_t module_len, dz_outlined *out, size_t out_len, uint64_t *place, uint32_t *cause);
 
 /* Writes a module with each section in its minimal encoding, and returns the size of that module in

@@ -7,7 +7,8 @@ use std::io::{self, IsTerminal, Write};
 use std::process::ExitCode;
 
 /// The note that a build by rustc prints on a terminal.
-const UNPROVED: &str = "wasmrow: compiled by rustc from the proved source, and not proved on this machine: ./check does that";
+const UNPROVED: &str =
+    "wasmrow: compiled by rustc from the proved source; this build itself is not proved";
 
 const HELP: &str = "\
 usage: wasmrow [--read]

@@ -12,7 +12,7 @@ from .imports import Import, parsed
 
 USE = re.compile(r'((?:unfoldable )?(?:pub )?)use (.*)')
 TITLE = re.compile(r'-- ---- (.*)')
-MARK = re.compile(r'\s*-- (?:begin|end): written by tools/.*')
+MARK = re.compile(r'\s*-- (?:begin: written|end: written|Written) by tools/.*')
 # Definitions below it are indented, and have its parameters.
 MODULE = re.compile(r'module _ .* where')
 # The first line of a definition: its name, and `data` if it lists constructors.

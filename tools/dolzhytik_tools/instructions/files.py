@@ -8,7 +8,7 @@ from ..errors import Stop
 from ..repository import text_of
 from . import conversion_proofs, conversions
 from .definitions import all_cases, bare_definition, nested_rows, row_definition, rows, variants_used
-from .formatting import WIDTH, arm
+from .formatting import WIDTH, arm, noted
 from .opcodes import byte_shapes, counts, parts_defined, parts_made, runs_defined, runs_made, shapes_declared, shapes_used
 from .regions import Region, filled
 from .sources import append, bare_source, constants, copied, look, op_arms, shared_arms, variants
@@ -133,4 +133,5 @@ def generated(top: pathlib.Path, cases: list[Case]) -> dict[str, str]:
         path = f"{CRATE}/{path}"
         files[path] = filled(path, text_of(top / path), found)
     files |= {f"{READER}/{path}": text for path, text in conversion_files(cases).items()}
-    return files | {f"{TESTS}/cases.rtt": cases_file(cases), f"{TESTS}/rows.rtt": rows_file(cases)}
+    tests = {f"{TESTS}/cases.rtt": cases_file(cases), f"{TESTS}/rows.rtt": rows_file(cases)}
+    return files | {path: noted(path, text) for path, text in tests.items()}

@@ -6,9 +6,15 @@ from collections.abc import Iterable
 
 from ..rattle import lexer
 from ..rattle.brackets import Span, parts
-from .table import Case
+from .table import TABLE, Case
 
 WIDTH, FIELDS_WIDTH, CASE_WIDTH, LIST_WIDTH = 100, 18, 35, 60
+
+
+def noted(path: str, text: str) -> str:
+    """Returns a file with the line before it that says what wrote it."""
+    comment = "--" if path.endswith(".antt") else "//"
+    return f"{comment} Written by tools/instructions from {TABLE}: do not edit.\n{text}"
 
 
 def with_fields(head: str, fields: Iterable[str], indent: str, width: int = FIELDS_WIDTH) -> str:

@@ -3,13 +3,12 @@ from __future__ import annotations
 
 from .encodings import bytes_of, value_of
 from .formatting import laid_out
-from .table import INSTRUCTION, NESTED, TABLE, Case, Enum, of_enum
+from .table import INSTRUCTION, NESTED, Case, Enum, of_enum
 
 # The order of enums in the tests, and how many instructions one function makes: of all, and of
 # those without fields.
 TESTED = (INSTRUCTION, *NESTED)
 STEP, NAMES_STEP = 41, 61
-NOTE = f"// Written by tools/instructions from {TABLE}: do not edit.\n"
 CASES_HEAD = """//! A value of each instruction, in the order of their opcodes within each enum.
 use std::alloc::Global;
 use wasm_base::{AbstractHeapType, CowSlice, HeapType, RefType, ValType};
@@ -55,7 +54,7 @@ def places(name: str, what: str, static: str, step: int, of: list[str]) -> str:
 
 def cases_file(cases: list[Case]) -> str:
     """Returns the file of instructions."""
-    text = NOTE + CASES_HEAD
+    text = CASES_HEAD
     for enum in TESTED:
         of, static = [value_of(it) for it in of_enum(cases, enum)], static_of(enum)
         if enum == INSTRUCTION:
@@ -68,7 +67,7 @@ def cases_file(cases: list[Case]) -> str:
 
 def rows_file(cases: list[Case]) -> str:
     """Returns the file of their bytes, in hexadecimal."""
-    text = NOTE + "//! The bytes of each instruction, in hexadecimal, in the order of `cases`.\n"
+    text = "//! The bytes of each instruction, in hexadecimal, in the order of `cases`.\n"
     for static, of in [(static_of(enum), of_enum(cases, enum)) for enum in TESTED] + [("NAMES", named(cases))]:
         text += f"\npub static {static}: [&str; {len(of)}] = [\n" + "".join(f'    "{bytes(bytes_of(it)).hex()}", // {it.name}\n' for it in of) + "];\n"
     return text

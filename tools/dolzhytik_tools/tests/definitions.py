@@ -68,8 +68,9 @@ def cited(name: str, file: str = 'Formats') -> dict[str, str]:
 
 
 def reads_a_file() -> None:
-    """A file has a head, definitions with sentences, parts and constructors."""
-    specs = read('wasm_base', 'Numbers', NUMBERS)
+    """A file has a head, without the line of the tool that wrote it, and definitions with sentences,
+    parts and constructors."""
+    specs = read('wasm_base', 'Numbers', f'-- Written by tools/numbers from numbers.tsv: do not edit.\n{NUMBERS}')
     assert specs.head == 'This file defines numbers.', specs.head
     assert [(it.name, it.part) for it in specs.definitions] == [('Mode', ''), ('plus_one', 'sums'), ('one', 'sums')]
     assert specs.definitions[0].constructors == ('short', 'long')

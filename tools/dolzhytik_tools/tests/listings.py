@@ -13,7 +13,6 @@ from ..repository import TOP, text_of
 from .report import end, report
 
 TARGET = TOP / "rust/target"
-WASMROW = TOP / "crates/wasmrow/out"
 BLOCK = re.compile(r"^```(\w+)\n(.*?)^```", re.M | re.S)
 # The module that README.md builds twice: by a program and by a recipe.
 ADD = "0061736d01000000 0107016002 7f7f017f 03020100 0707010361646400 00 0a09010700 20002001 6a0b"
@@ -36,7 +35,7 @@ def blocks(page: str, language: str) -> list[str]:
 def run(folder: pathlib.Path, *words: str) -> tuple[int, str]:
     """Runs a command in the folder with the built programs on the path, and returns its status and
     all that it printed."""
-    path = os.pathsep.join([str(TARGET / "debug"), str(WASMROW), os.environ["PATH"]])
+    path = os.pathsep.join([str(TARGET / "debug"), os.environ["PATH"]])
     done = subprocess.run(words, cwd=folder, env={**os.environ, "PATH": path}, stdout=subprocess.PIPE, stderr=subprocess.STDOUT, text=True)
     return done.returncode, done.stdout
 
@@ -45,6 +44,13 @@ def module_trouble(folder: pathlib.Path, name: str) -> str | None:
     """Compares a module in the folder with the one of README.md."""
     found = (folder / name).read_bytes()
     return None if found == bytes.fromhex(ADD) else f"{name} is {found.hex()}"
+
+
+def first_run_trouble(folder: pathlib.Path) -> str | None:
+    """`./wasmrow` prints what follows its command in README.md, here as cargo builds it."""
+    command, wanted = re.findall(r"^\$ (.*wasmrow)\n(.*\n)", blocks("README.md", "console")[0], re.M)[0]
+    status, said = run(TOP, "sh", "-c", f"{command} --unproved 2>/dev/null")
+    return None if (status, said) == (0, wanted) else f"{command}: status {status}: {said}"
 
 
 def program_trouble(folder: pathlib.Path) -> str | None:
@@ -74,7 +80,7 @@ def recipes_trouble(folder: pathlib.Path) -> str | None:
     (folder / "load.txt").write_text(blocks("docs/RECIPES.md", "text")[0])
     for block in blocks("docs/RECIPES.md", "console"):
         for command, wanted in re.findall(r"^\$ (.*)\n((?:(?!\$ ).*\n)*)", block, re.M):
-            if not shutil.which(command.split()[0], path=f"{TARGET}/debug:{WASMROW}:{os.environ['PATH']}"):
+            if not shutil.which(command.split()[0], path=f"{TARGET}/debug:{os.environ['PATH']}"):
                 continue
             status, said = run(folder, "sh", "-c", command)
             if status or said != wanted:
@@ -96,6 +102,7 @@ def c_trouble(folder: pathlib.Path) -> str | None:
 def main() -> int:
     """Builds what the listings call, and runs the tests, each in a folder of its own."""
     tests = {
+        "the first run of README.md": first_run_trouble,
         "the program of README.md": program_trouble,
         "the commands of README.md": commands_trouble,
         "docs/RECIPES.md": recipes_trouble,
