@@ -19,6 +19,6 @@ returns c =
     let w = c.loop-step.invariant in
     record {
       walked = record { runs = c.in_ok-_runs._runs.items; code = w.0 };
-      encodes = body_fills c.args.body.now (ahead c.in_ok-_runs.walk) c.in_ok-_runs._runs.items w.0 c.in_ok-_runs.ensures.found (ended w.0 w.1 (walk_ends _ _ _ refl c.in_default.is c.in_ok-_step.ensures));
+      encodes = body_fills c.args.body.now (ahead c.in_ok-_runs.walk) c.in_ok-_runs._runs.items w.0 c.in_ok-_runs.ensures.found (ended w.0 w.1 (walk_ends padded c.loop-step.walk c.next.new.self refl c.in_default.is c.in_ok-_step.ensures));
       counted = sym w.2;
     }

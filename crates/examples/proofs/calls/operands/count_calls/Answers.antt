@@ -1,11 +1,11 @@
-use Rattle.examples.proofs.Common.{[], ◌∷◌, ◌++◌, ◌+◌, ap, refl, ◌∙◌, arith, fault_stays, ahead, continues, ended, stopped, walk_ends, walk_fails, walk_gives, body_fills, body_no_code, Plain}
+use Rattle.examples.proofs.Common.{[], ◌∷◌, ◌++◌, ◌+◌, ap, refl, ◌∙◌, arith, fault_stays, padded, ahead, continues, ended, stopped, walk_ends, walk_fails, walk_gives, body_fills, body_no_code, Plain}
 use Rattle.examples.proofs.Common.{calls_and_call, calls_and_other}
 use Rattle.examples.proofs.calls.operands.count_calls.Goals as goal
 
 pub returns-in_err-decoded-clause-none : goal.returns-in_err-decoded-clause-none
 returns-in_err-decoded-clause-none g c = fault_stays c.from_residual-in_err-decoded.result _ c.from_residual-in_err-decoded.ensures.1 λ n.
     let w = c.loop-decoded.invariant in
-    let fails = walk_fails _ _ _ refl c.in_err-decoded.ensures in
+    let fails = walk_fails padded c.loop-decoded.instructions c.next.new.self refl c.in_err-decoded.ensures in
     body_no_code c.args.bytes.now (ahead c.in_ok-_runs.instructions) c.in_ok-_runs._runs.items c.in_ok-_runs.ensures.found (stopped w.0 w.1 fails.1 (fails.0.none n))
 
 pub loop-decoded-preserved-then-is_call_of : goal.loop-decoded-preserved-then-is_call_of
@@ -30,6 +30,6 @@ pub returns-clause-found : goal.returns-clause-found
 returns-clause-found g c =
     let w = c.loop-decoded.invariant in (
       record { runs = c.in_ok-_runs._runs.items; code = w.0 },
-      body_fills c.args.bytes.now (ahead c.in_ok-_runs.instructions) c.in_ok-_runs._runs.items w.0 c.in_ok-_runs.ensures.found (ended w.0 w.1 (walk_ends _ _ _ refl c.in_default.is c.in_ok-decoded.ensures)),
+      body_fills c.args.bytes.now (ahead c.in_ok-_runs.instructions) c.in_ok-_runs._runs.items w.0 c.in_ok-_runs.ensures.found (ended w.0 w.1 (walk_ends padded c.loop-decoded.instructions c.next.new.self refl c.in_default.is c.in_ok-decoded.ensures)),
       w.2,
     )

@@ -1,18 +1,18 @@
-use Rattle.examples.proofs.Common.{[], ◌∷◌, ◌++◌, refl, ◌∙◌, arith, length-append, ahead, continues, ended, stopped, walk_ends, walk_fails, walk_gives, body_fills, body_no_code, Plain}
+use Rattle.examples.proofs.Common.{[], ◌∷◌, ◌++◌, refl, ◌∙◌, arith, standard, length-append, ahead, continues, ended, stopped, walk_ends, walk_fails, walk_gives, body_fills, body_no_code, Plain}
 use Rattle.examples.proofs.calls.sections.count_in_body.Goals as goal
 
 pub returns-in-Ok-None-clause-found : goal.returns-in-Ok-None-clause-found
 returns-in-Ok-None-clause-found g c =
     let w = c.loop-count.invariant in (
       record { runs = c.in_ok-_runs._runs.items; code = w.0 },
-      body_fills c.args.body.now.bytes (ahead c.in_ok-_runs.instructions) c.in_ok-_runs._runs.items w.0 c.in_ok-_runs.ensures.found (ended w.0 w.1 (walk_ends _ _ _ refl c.in-Ok-None.field-0-is c.in-Ok-None.ensures)),
+      body_fills c.args.body.now.bytes (ahead c.in_ok-_runs.instructions) c.in_ok-_runs._runs.items w.0 c.in_ok-_runs.ensures.found (ended w.0 w.1 (walk_ends standard c.loop-count.instructions c.next.new.self refl c.in-Ok-None.field-0-is c.in-Ok-None.ensures)),
       w.2,
     )
 
 pub returns-in-Err-clause-none : goal.returns-in-Err-clause-none
 returns-in-Err-clause-none g c = λ n.
     let w = c.loop-count.invariant in
-    let fails = walk_fails _ _ _ refl c.in-Err.ensures in
+    let fails = walk_fails standard c.loop-count.instructions c.next.new.self refl c.in-Err.ensures in
     body_no_code c.args.body.now.bytes (ahead c.in_ok-_runs.instructions) c.in_ok-_runs._runs.items c.in_ok-_runs.ensures.found (stopped w.0 w.1 fails.1 (fails.0.none (λ k. n (c.locate.ensures.cause ∙ k))))
 
 pub loop-count-preserved : goal.loop-count-preserved

@@ -1,10 +1,10 @@
-use Rattle.examples.proofs.Common.{[], ◌∷◌, ◌++◌, refl, ◌∙◌, arith, fault_stays, length-append, ahead, continues, ended, stopped, walk_ends, walk_fails, walk_gives, body_fills, body_no_code, Plain}
+use Rattle.examples.proofs.Common.{[], ◌∷◌, ◌++◌, refl, ◌∙◌, arith, fault_stays, padded, length-append, ahead, continues, ended, stopped, walk_ends, walk_fails, walk_gives, body_fills, body_no_code, Plain}
 use Rattle.examples.proofs.calls.walks.count_instructions.Goals as goal
 
 pub returns-in_err-_step-clause-none : goal.returns-in_err-_step-clause-none
 returns-in_err-_step-clause-none g c = fault_stays c.from_residual-in_err-_step.result _ c.from_residual-in_err-_step.ensures.1 λ n.
     let w = c.loop-step.invariant in
-    let fails = walk_fails _ _ _ refl c.in_err-_step.ensures in
+    let fails = walk_fails padded c.loop-step.instructions c.next.new.self refl c.in_err-_step.ensures in
     body_no_code c.args.bytes.now (ahead c.in_ok-_runs.instructions) c.in_ok-_runs._runs.items c.in_ok-_runs.ensures.found (stopped w.0 w.1 fails.1 (fails.0.none n))
 
 pub loop-step-preserved : goal.loop-step-preserved
@@ -19,6 +19,6 @@ pub returns-clause-found : goal.returns-clause-found
 returns-clause-found g c =
     let w = c.loop-step.invariant in (
       record { runs = c.in_ok-_runs._runs.items; code = w.0 },
-      body_fills c.args.bytes.now (ahead c.in_ok-_runs.instructions) c.in_ok-_runs._runs.items w.0 c.in_ok-_runs.ensures.found (ended w.0 w.1 (walk_ends _ _ _ refl c.in_default.is c.in_ok-_step.ensures)),
+      body_fills c.args.bytes.now (ahead c.in_ok-_runs.instructions) c.in_ok-_runs._runs.items w.0 c.in_ok-_runs.ensures.found (ended w.0 w.1 (walk_ends padded c.loop-step.instructions c.next.new.self refl c.in_default.is c.in_ok-_step.ensures)),
       w.2,
     )
