@@ -483,6 +483,26 @@ fn line(items: usize, output: &mut Output, numbers: &mut Numbers) {
     });
 }
 
+/// As `line`, with operands of two bytes.
+fn wide_line(items: usize, output: &mut Output, numbers: &mut Numbers) {
+    sinks(items, output, |sink, place| {
+        let number = 128 + numbers.next();
+        match place % 8 {
+            0 => sink.local_get(number),
+            1 => sink.i32_const(number.cast_signed()),
+            2 => sink.global_get(number),
+            3 => sink.call(number),
+            4 => sink.local_set(number),
+            5 => sink.i32_load(MemArg {
+                offset: u64::from(number),
+                ..numbers.mem_arg()
+            }),
+            6 => sink.br_if(number),
+            _ => sink.local_tee(number),
+        };
+    });
+}
+
 /// Runs the workload of this name, and returns whether there is one.
 fn work(name: &str, items: usize, output: &mut Output) -> bool {
     let numbers = &mut Numbers(1);
@@ -497,6 +517,7 @@ fn work(name: &str, items: usize, output: &mut Output) -> bool {
         }),
         "mixed" => mixed(items, output, numbers),
         "line" => line(items, output, numbers),
+        "wide-line" => wide_line(items, output, numbers),
         "exports" => exports(items, output, numbers),
         "imports" => imports(items, output, numbers),
         "functions" => functions(items, output, numbers),

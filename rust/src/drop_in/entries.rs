@@ -26,7 +26,7 @@ pub struct List(pub Vec<u8>);
 /// [`MANY`] after [`FEW`].
 #[cold]
 #[inline(never)]
-fn grow(old: &mut Vec<u8>, more: usize) {
+pub fn grow(old: &mut Vec<u8>, more: usize) {
     let count = old.len().saturating_add(more);
     let room = count.max(2 * old.capacity());
     if room > MOVED {
