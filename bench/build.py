@@ -147,11 +147,12 @@ WORKS = os.environ.get("WORKS", " ".join(USERS)).split()
 
 
 def environment(profile: str) -> dict[str, str]:
-    """Returns the variables that select a profile of cargo."""
+    """Returns the variables that select a profile of cargo. A package by path is compiled as one of
+    a registry: not incrementally."""
     lto, units = ("fat", "1") if profile == "fat" else ("false", "16")
     level = profile if profile in LEVELS else "3"
     return {
-        **os.environ, "CARGO_NET_OFFLINE": "true", "CARGO_PROFILE_RELEASE_OPT_LEVEL": level,
+        **os.environ, "CARGO_NET_OFFLINE": "true", "CARGO_INCREMENTAL": "0", "CARGO_PROFILE_RELEASE_OPT_LEVEL": level,
         "CARGO_PROFILE_RELEASE_LTO": lto, "CARGO_PROFILE_RELEASE_CODEGEN_UNITS": units,
     }
 

@@ -1,7 +1,7 @@
 //! Instructions of few bytes. Their proved encoders append to an array on the stack, where the
 //! compiler needs no test of a length and no path for an error, and the array is copied at once.
 use crate::alloc::AllocError;
-use crate::base::{Encode, HeapType, Lent, Result, ValType};
+use crate::base::{AbstractHeapType, Encode, HeapType, Lent, Result, ValType};
 use crate::immediates::{Ieee32, Ieee64, Lane, MemArg, MemArgTarget, Ordering};
 use crate::vec::{Sealed, Sink};
 use alloc_crate::vec::Vec;
@@ -167,9 +167,10 @@ macro_rules! fixed {
 
 fixed! { Lane: 1 Ordering: 1 Ieee32: 4 Ieee64: 8 [u8; 16]: 16 }
 
-/// Implements [`Short`] for types with values of one byte, which a pattern matches.
-macro_rules! matched {
-    ($($ty:ty: |$value:ident| $is_short:expr;)*) => {
+/// Implements [`Short`] for types with values of one byte: a test of it, and the value after the
+/// test, of which the compiler knows it.
+macro_rules! tested {
+    ($($ty:ty: |$value:ident| $is_short:expr => $short:expr;)*) => {
         $(
             impl Short for $ty {
                 const SIZE: usize = 1;
@@ -183,7 +184,8 @@ macro_rules! matched {
 
                 #[inline(always)]
                 fn short(self) -> impl Encode {
-                    self
+                    let $value = self;
+                    $short
                 }
 
                 #[inline(always)]
@@ -195,12 +197,21 @@ macro_rules! matched {
     };
 }
 
-matched! {
-    u32: |number| number < 0x80;
-    i32: |number| (-0x40..0x40).contains(&number);
-    i64: |number| (-0x40..0x40).contains(&number);
-    HeapType: |ty| matches!(ty, HeapType::Abstract { shared: false, .. });
-    ValType: |ty| !matches!(ty, ValType::Ref(_));
+tested! {
+    u32: |number| number < 0x80 => number;
+    i32: |number| (-0x40..0x40).contains(&number) => number;
+    i64: |number| (-0x40..0x40).contains(&number) => number;
+    HeapType: |ty| matches!(ty, HeapType::Abstract { shared: false, .. }) => match ty {
+        HeapType::Abstract { ty, .. } => ty,
+        _ => AbstractHeapType::Func,
+    };
+    ValType: |ty| !matches!(ty, ValType::Ref(_)) => match ty {
+        ValType::I32 => ValType::I32,
+        ValType::I64 => ValType::I64,
+        ValType::F32 => ValType::F32,
+        ValType::F64 => ValType::F64,
+        ValType::V128 | ValType::Ref(_) => ValType::V128,
+    };
 }
 
 impl Short for &MemArg {
@@ -274,7 +285,7 @@ impl<A: Short, B: Short, C: Short> Short for (A, B, C) {
 #[cfg(test)]
 mod tests {
     use super::*;
-    use crate::base::{AbstractHeapType, RefType};
+    use crate::base::RefType;
     use crate::immediates::MemArgOrdering;
 
     /// The encoding is short exactly if it has `SIZE` bytes. The call on the stack appends the same.
