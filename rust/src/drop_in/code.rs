@@ -15,8 +15,8 @@ use alloc_crate::vec::Vec;
 /// any `Vec<u8>`. Each call returns the sink, so that calls form a chain. A call takes the
 /// immediates of its instruction as arguments. An [`Instruction`] is the same as a value.
 ///
-/// An instruction is appended by the proved `encode` of its opcode and of each immediate, as the
-/// proved calls of [`fallible::InstructionSink`](crate::fallible::InstructionSink) do. Blocks and
+/// An instruction is appended as its opcode, and each immediate by the proved `encode` that the
+/// calls of [`fallible::InstructionSink`](crate::fallible::InstructionSink) make too. Blocks and
 /// types are not checked.
 ///
 /// ```
@@ -63,7 +63,7 @@ impl<'a> InstructionSink<'a> {
         self.op(op)
     }
 
-    /// Appends an opcode and its immediates by their proved `encode`.
+    /// Appends an opcode, and its immediates by their proved `encode`.
     #[inline(never)]
     pub(super) fn put<const N: usize, P: Short>(&mut self, op: [u8; N], parts: P) -> &mut Self {
         self.put_here(op, parts)
@@ -84,7 +84,9 @@ impl<'a> InstructionSink<'a> {
     }
 
     /// Appends an opcode and its immediates, which are not short, to spare capacity. It is a
-    /// function of its own, so that [`put`](InstructionSink::put) needs no stack frame.
+    /// function of its own, so that [`put`](InstructionSink::put) needs no stack frame. It and
+    /// [`put_grown`](InstructionSink::put_grown) call each other: else the compiler sees that both
+    /// return `self`, and calls them where it could jump.
     #[inline(never)]
     fn put_long<const N: usize, P: Short>(&mut self, op: [u8; N], parts: P) -> &mut Self {
         if parts.is_short() || self.sink.capacity() - self.sink.len() < N + P::MOST {
@@ -99,10 +101,11 @@ impl<'a> InstructionSink<'a> {
     #[cold]
     #[inline(never)]
     fn put_grown<const N: usize, P: Short>(&mut self, op: [u8; N], parts: P) -> &mut Self {
-        grow(self.sink, N + P::MOST);
         if !parts.is_short() {
+            grow(self.sink, N + P::MOST);
             return self.put_long(op, parts);
         }
+        grow(self.sink, N + P::SIZE);
         self.sink.extend_from_slice(&op);
         done(parts.long().encode(self.sink));
         self

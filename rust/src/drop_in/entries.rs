@@ -304,7 +304,8 @@ impl Sink for Spare<'_> {
         if self.list.capacity() - self.list.len() >= bytes.len() {
             self.list.extend_from_slice(bytes);
         } else {
-            self.missing += bytes.len();
+            // Two names may be one string of half the address space, on 32 bits.
+            self.missing = self.missing.saturating_add(bytes.len());
         }
         Ok(())
     }
