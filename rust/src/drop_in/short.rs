@@ -1,5 +1,7 @@
 //! Instructions of few bytes. Their proved encoders append to an array on the stack, where the
 //! compiler needs no test of a length and no path for an error, and the array is copied at once.
+use super::done;
+use super::entries::grow;
 use crate::alloc::AllocError;
 use crate::base::{AbstractHeapType, Encode, HeapType, Lent, Result, ValType};
 use crate::immediates::{Ieee32, Ieee64, Lane, MemArg, MemArgTarget, Ordering};
@@ -136,6 +138,15 @@ pub fn put_short<const N: usize, P: Short>(list: &mut Vec<u8>, op: [u8; N], part
         return true;
     }
     false
+}
+
+/// Appends a number, of any length.
+#[inline(never)]
+pub fn put_number<P: Short>(number: P, list: &mut Vec<u8>) {
+    if list.capacity() - list.len() < P::MOST {
+        grow(list, P::MOST);
+    }
+    done(number.long().encode(list));
 }
 
 /// Implements [`Short`] for types all of whose values have encodings of one size.
