@@ -13,11 +13,13 @@ use std::env;
 use std::hint::black_box;
 use std::mem;
 use wasm_encoder::{
-    BlockType, CodeSection, ConstExpr, CustomSection, DataSection, ElementSection, Elements,
-    Encode, EntityType, ExportKind, ExportSection, Function, FunctionSection, GlobalSection,
-    GlobalType, HeapType, Ieee32, Ieee64, ImportSection, Instruction, InstructionSink, MemArg,
-    MemArgTarget, MemorySection, MemoryType, Module, NameMap, NameSection, RefType, Section,
-    TableSection, TableType, TagKind, TagSection, TagType, TypeSection, ValType,
+    BlockType, BranchHint, BranchHints, CodeSection, ConstExpr, CoreDumpInstancesSection,
+    CustomSection, DataCountSection, DataSection, ElementSection, Elements, Encode, EntityType,
+    ExportKind, ExportSection, Function, FunctionSection, GlobalSection, GlobalType, HeapType,
+    Ieee32, Ieee64, ImportCompact, ImportSection, Imports, IndirectNameMap, Instruction,
+    InstructionSink, MemArg, MemArgTarget, MemorySection, MemoryType, Module, NameMap, NameSection,
+    RawSection, RefType, Section, StartSection, TableSection, TableType, TagKind, TagSection,
+    TagType, TypeSection, ValType,
 };
 
 /// The calls of a function body.
@@ -483,6 +485,156 @@ fn line(items: usize, output: &mut Output, numbers: &mut Numbers) {
     });
 }
 
+/// As `line`, with operands of two bytes.
+fn wide_line(items: usize, output: &mut Output, numbers: &mut Numbers) {
+    sinks(items, output, |sink, place| {
+        let number = 128 + numbers.next();
+        match place % 8 {
+            0 => sink.local_get(number),
+            1 => sink.i32_const(number.cast_signed()),
+            2 => sink.global_get(number),
+            3 => sink.call(number),
+            4 => sink.local_set(number),
+            5 => sink.i32_load(MemArg {
+                offset: u64::from(number),
+                ..numbers.mem_arg()
+            }),
+            6 => sink.br_if(number),
+            _ => sink.local_tee(number),
+        };
+    });
+}
+
+/// Blocks of each kind of type, and a select with a type.
+fn blocks(items: usize, output: &mut Output, numbers: &mut Numbers) {
+    sinks(items, output, |sink, place| {
+        match place % 5 {
+            0 => sink.block(BlockType::Empty),
+            1 => sink.loop_(BlockType::Result(ValType::I64)),
+            2 => sink.if_(BlockType::FunctionType(numbers.next())),
+            3 => sink.block(BlockType::Result(ValType::FUNCREF)),
+            _ => sink.typed_select(ValType::F64),
+        };
+    });
+}
+
+/// Numbers by `encode`: 32 bits as they are drawn, or all lengths up to 64 bits.
+fn numbers_alone(items: usize, is_wide: bool, numbers: &mut Numbers) {
+    let mut bytes = Vec::new();
+    for place in 0..items {
+        if is_wide {
+            let number = numbers.wide() << (place % 32);
+            number.cast_signed().encode(&mut bytes);
+        } else {
+            numbers.next().encode(&mut bytes);
+        }
+    }
+    black_box(bytes);
+}
+
+/// The names of a map that is cloned.
+const CLONED_NAMES: usize = 64;
+
+fn name_map_clones(items: usize) {
+    let mut map = NameMap::new();
+    for place in 0..CLONED_NAMES {
+        map.append(place as u32, NAMES[place % 8]);
+    }
+    for _ in 0..items / CLONED_NAMES {
+        black_box(map.clone());
+    }
+}
+
+/// A map of two names for each function.
+fn locals(items: usize, output: &mut Output) {
+    let mut functions = IndirectNameMap::new();
+    for place in 0..items {
+        let mut map = NameMap::new();
+        map.append(0, NAMES[place % 8]);
+        map.append(1, "x");
+        functions.append(place as u32, &map);
+    }
+    let mut names = NameSection::new();
+    if !matches!(output, Output::Nothing) {
+        names.locals(&functions);
+    }
+    output.section(names);
+    black_box(functions);
+}
+
+/// Appends a section to a module, or to bytes.
+fn append(section: &impl Section, output: &mut Output, bytes: &mut Vec<u8>) {
+    match output {
+        Output::Module(module) => _ = module.section(section),
+        _ => section.append_to(bytes),
+    }
+}
+
+fn starts(items: usize, output: &mut Output, numbers: &mut Numbers) {
+    let mut bytes = Vec::new();
+    for _ in 0..items / 2 {
+        let function_index = numbers.next();
+        append(&StartSection { function_index }, output, &mut bytes);
+        let count = numbers.next();
+        append(&DataCountSection { count }, output, &mut bytes);
+    }
+    black_box(bytes);
+}
+
+fn raw_sections(items: usize, output: &mut Output) {
+    let data = &black_box([0x2A; 32]);
+    let mut bytes = Vec::new();
+    for _ in 0..items {
+        append(&RawSection { id: 10, data }, output, &mut bytes);
+    }
+    black_box(bytes);
+}
+
+fn hints(items: usize, output: &mut Output) {
+    let mut section = BranchHints::new();
+    for place in 0..items {
+        let hint = |branch_func_offset, branch_hint_value| BranchHint {
+            branch_func_offset,
+            branch_hint_value,
+        };
+        section.function_hints(place as u32, [hint(5, 1), hint(300, 0)]);
+    }
+    output.section(section);
+}
+
+fn core_instances(items: usize, output: &mut Output) {
+    let mut section = CoreDumpInstancesSection::new();
+    for place in 0..items {
+        section.instance(place as u32, [0, 1], [2]);
+    }
+    output.section(section);
+}
+
+fn elements_of_three(items: usize, output: &mut Output, numbers: &mut Numbers) {
+    let offset = ConstExpr::i32_const(1);
+    let mut section = ElementSection::new();
+    for _ in 0..items {
+        let indices = [numbers.next(), 1, 2];
+        section.active(None, &offset, Elements::Functions(Cow::Borrowed(&indices)));
+    }
+    output.section(section);
+}
+
+fn compact_imports(items: usize, output: &mut Output, numbers: &mut Numbers) {
+    let mut section = ImportSection::new();
+    for place in 0..items {
+        let items = [0, 1, 2, 3].map(|i| ImportCompact {
+            name: NAMES[(place + i) % 8],
+            ty: EntityType::Function(numbers.next()),
+        });
+        section.imports(Imports::Compact1 {
+            module: "env",
+            items: Cow::Borrowed(&items),
+        });
+    }
+    output.section(section);
+}
+
 /// Runs the workload of this name, and returns whether there is one.
 fn work(name: &str, items: usize, output: &mut Output) -> bool {
     let numbers = &mut Numbers(1);
@@ -515,6 +667,28 @@ fn work(name: &str, items: usize, output: &mut Output) -> bool {
         "raw-bodies" => output.section(raw_bodies(items, 40)),
         "clones" => clones(items),
         "bodies" => small_bodies(items, output),
+        _ => return small_work(name, items, output),
+    }
+    true
+}
+
+/// Runs the workload of small values of this name, and returns whether there is one.
+fn small_work(name: &str, items: usize, output: &mut Output) -> bool {
+    let numbers = &mut Numbers(1);
+    match name {
+        "wide-line" => wide_line(items, output, numbers),
+        "blocks" => blocks(items, output, numbers),
+        "u32-encode" => numbers_alone(items, false, numbers),
+        "i64-encode" => numbers_alone(items, true, numbers),
+        "name-map-clones" => name_map_clones(items),
+        "locals" => locals(items, output),
+        "starts" => starts(items, output, numbers),
+        "raw-sections" => raw_sections(items, output),
+        "hints" => hints(items, output),
+        "core-instances" => core_instances(items, output),
+        "data-2" => data(items, output, 2, items),
+        "elements-3" => elements_of_three(items, output, numbers),
+        "compact1" => compact_imports(items, output, numbers),
         _ => return false,
     }
     true

@@ -1,9 +1,11 @@
 //! Functions, the code section, and the named calls for instructions.
-use super::entries::{Entries, FEW, Growing, append, append_once};
+use super::entries::{Entries, FEW, Growing, append, append_once, grow};
+use super::short::{EMPTY_BLOCK, Short, put_short};
 use super::{Encode, Instruction, done, listed};
 use crate::alloc::Global;
-use crate::base::{self, Result, ValType, vec_of};
+use crate::base::{self, Encode as _, Result, ValType, vec_of};
 use crate::code::code_section::RawBody;
+use crate::immediates::BlockType;
 use crate::{code, insn};
 use alloc_crate::vec::Vec;
 
@@ -13,9 +15,9 @@ use alloc_crate::vec::Vec;
 /// any `Vec<u8>`. Each call returns the sink, so that calls form a chain. A call takes the
 /// immediates of its instruction as arguments. An [`Instruction`] is the same as a value.
 ///
-/// The proved calls of [`fallible::InstructionSink`](crate::fallible::InstructionSink) encode the
-/// instructions that it has, except `br_table`. Others are appended by the proved `encode` of their
-/// opcode and of each immediate. Blocks and types are not checked.
+/// An instruction is appended as its opcode, and each immediate by the proved `encode` that the
+/// calls of [`fallible::InstructionSink`](crate::fallible::InstructionSink) make too. Blocks and
+/// types are not checked.
 ///
 /// ```
 /// use dolzhytik::InstructionSink;
@@ -37,22 +39,102 @@ impl<'a> InstructionSink<'a> {
         InstructionSink { sink }
     }
 
-    /// Appends by a proved call.
-    #[inline]
+    /// Appends an opcode.
+    #[inline(never)]
+    pub(super) fn op<const N: usize>(&mut self, op: [u8; N]) -> &mut Self {
+        self.op_here(op)
+    }
+
+    /// As [`op`](InstructionSink::op), in the function that calls it.
+    #[inline(always)]
+    pub(super) fn op_here<const N: usize>(&mut self, op: [u8; N]) -> &mut Self {
+        if self.sink.capacity() - self.sink.len() < N {
+            return self.op_grown(op);
+        }
+        self.sink.extend_from_slice(&op);
+        self
+    }
+
+    /// Appends an opcode after the list has grown.
+    #[cold]
+    #[inline(never)]
+    fn op_grown<const N: usize>(&mut self, op: [u8; N]) -> &mut Self {
+        grow(self.sink, N);
+        self.op(op)
+    }
+
+    /// Appends an opcode, and its immediates by their proved `encode`.
+    #[inline(never)]
+    pub(super) fn put<const N: usize, P: Short>(&mut self, op: [u8; N], parts: P) -> &mut Self {
+        self.put_here(op, parts)
+    }
+
+    /// As [`put`](InstructionSink::put), in the function that calls it, if the immediates are
+    /// short.
+    #[inline(always)]
+    pub(super) fn put_here<const N: usize, P: Short>(
+        &mut self,
+        op: [u8; N],
+        parts: P,
+    ) -> &mut Self {
+        if put_short(self.sink, op, parts) {
+            return self;
+        }
+        self.put_long(op, parts)
+    }
+
+    /// Appends an opcode and its immediates, which are not short, to spare capacity. It is a
+    /// function of its own, so that [`put`](InstructionSink::put) needs no stack frame. It and
+    /// [`put_grown`](InstructionSink::put_grown) call each other: else the compiler sees that both
+    /// return `self`, and calls them where it could jump.
+    #[inline(never)]
+    fn put_long<const N: usize, P: Short>(&mut self, op: [u8; N], parts: P) -> &mut Self {
+        if parts.is_short() || self.sink.capacity() - self.sink.len() < N + P::MOST {
+            return self.put_grown(op, parts);
+        }
+        self.sink.extend_from_slice(&op);
+        done(parts.long().encode(self.sink));
+        self
+    }
+
+    /// Appends an opcode and its immediates after the list has grown.
+    #[cold]
+    #[inline(never)]
+    fn put_grown<const N: usize, P: Short>(&mut self, op: [u8; N], parts: P) -> &mut Self {
+        if !parts.is_short() {
+            grow(self.sink, N + P::MOST);
+            return self.put_long(op, parts);
+        }
+        grow(self.sink, N + P::SIZE);
+        self.sink.extend_from_slice(&op);
+        done(parts.long().encode(self.sink));
+        self
+    }
+
+    /// Appends the opcode of a block and the block's type, by the proved `encode` of what the type
+    /// holds.
+    pub(super) fn block_type(&mut self, op: u8, block_type: BlockType) -> &mut Self {
+        match block_type {
+            BlockType::Empty => self.op([op, EMPTY_BLOCK]),
+            BlockType::Result(ty) => self.put([op], ty),
+            BlockType::FunctionType(index) => self.put([op], i64::from(index)),
+        }
+    }
+
+    /// Appends an instruction by the proved `encode` of its value.
+    #[inline(never)]
+    pub(super) fn value(&mut self, instruction: &insn::Instruction<'_>) -> &mut Self {
+        append(instruction, self.sink);
+        self
+    }
+
+    /// Appends by a proved call, which takes a list.
     pub(super) fn made(
         &mut self,
         call: impl FnOnce(&mut insn::InstructionSink<'_, Growing<'_>>) -> Result<()>,
     ) -> &mut Self {
         let mut sink = Growing(self.sink);
         done(call(&mut insn::InstructionSink::new(&mut sink)));
-        self
-    }
-
-    /// Appends an opcode and its immediates by their proved `encode`, where there is no proved
-    /// call.
-    #[inline]
-    pub(super) fn emit<T: base::Encode>(&mut self, parts: &T) -> &mut Self {
-        append(parts, self.sink);
         self
     }
 

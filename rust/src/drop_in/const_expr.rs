@@ -1,7 +1,7 @@
 //! Constant expressions.
 use super::entries::{Bytes, FEW, Growing};
 use super::{Encode, Instruction, done};
-use crate::base::{self, HeapType, Optional, Result};
+use crate::base::{self, HeapType, Result};
 use crate::code;
 use crate::code::const_expr::{Stored, function_at_front};
 use crate::code::expression::END;
@@ -24,8 +24,8 @@ use core::fmt;
 /// specification defines it in Instructions, Expressions, and which instructions are constant in
 /// Validation, Constant Expressions. That is not checked.
 ///
-/// Up to 30 bytes of instructions take no allocation, unless [`extended`](ConstExpr::extended)
-/// collects them. The proved builder of the same bytes is
+/// It has the size of a vector. One instruction of a number or a type, and up to 15 bytes of
+/// instructions, take no allocation. The proved builder of the same bytes is
 /// [`fallible::ConstExpr`](crate::fallible::ConstExpr), which converts to this type.
 ///
 /// ```
@@ -37,19 +37,23 @@ use core::fmt;
 /// assert_eq!(bytes, [0x23, 0x00, 0x41, 0x08, 0x6A, 0x0B]);
 /// ```
 #[derive(Clone)]
-pub struct ConstExpr {
-    first: Option<First>,
-    rest: Bytes,
+pub struct ConstExpr(Instructions);
+
+/// The instructions of an expression.
+#[derive(Clone)]
+enum Instructions {
+    One(First),
+    Encoded(Bytes),
 }
 
 /// Converts an expression built by the calls of
 /// [`fallible::ConstExpr`](crate::fallible::ConstExpr). The bytes are copied.
 impl From<code::ConstExpr> for ConstExpr {
     fn from(built: code::ConstExpr) -> Self {
-        let mut rest = Bytes::new();
-        done(base::Encode::encode(&built, &mut rest));
-        rest.truncate(rest.len() - 1);
-        ConstExpr { first: None, rest }
+        let mut bytes = Bytes::new();
+        done(base::Encode::encode(&built, &mut bytes));
+        bytes.truncate(bytes.len() - 1);
+        ConstExpr(Instructions::Encoded(bytes))
     }
 }
 
@@ -57,9 +61,9 @@ impl From<code::ConstExpr> for ConstExpr {
 impl base::Encode for ConstExpr {
     #[inline]
     fn encode<A: Sink>(&self, sink: &mut A) -> Result<()> {
-        match self.first {
-            Some(first) if self.rest.is_empty() => (first, END).encode(sink),
-            first => (Optional(first), Stored(&self.rest), END).encode(sink),
+        match &self.0 {
+            Instructions::One(first) => (*first, END).encode(sink),
+            Instructions::Encoded(bytes) => (Stored(bytes), END).encode(sink),
         }
     }
 }
@@ -87,16 +91,12 @@ macro_rules! instructions {
             #[doc = concat!("Returns the expression of one instruction, [`Instruction::", stringify!($case), "`].")]
             #[inline]
             pub const fn $new($name: $type) -> Self {
-                ConstExpr {
-                    first: Some(First::$case($name)),
-                    rest: Bytes::new(),
-                }
+                ConstExpr(Instructions::One(First::$case($name)))
             }
 
             #[doc = concat!("Appends [`Instruction::", stringify!($case), "`].")]
-            #[inline]
             pub fn $with(self, $name: $type) -> Self {
-                self.with(|sink| sink.$new($name))
+                self.with_first(First::$case($name))
             }
         )*
     };
@@ -107,7 +107,6 @@ macro_rules! operations {
     ($($with:ident $call:ident $case:ident)*) => {
         $(
             #[doc = concat!("Appends [`Instruction::", stringify!($case), "`].")]
-            #[inline]
             pub fn $with(self) -> Self {
                 self.with(|sink| sink.$call())
             }
@@ -118,10 +117,7 @@ macro_rules! operations {
 impl ConstExpr {
     /// Returns the expression without instructions, to which calls `with_..` append.
     pub const fn empty() -> Self {
-        ConstExpr {
-            first: None,
-            rest: Bytes::new(),
-        }
+        ConstExpr(Instructions::Encoded(Bytes::new()))
     }
 
     /// Returns the expression of these encoded instructions, without an `end`, which the encoding
@@ -135,9 +131,9 @@ impl ConstExpr {
     /// assert_eq!(bytes, [0x41, 0x2A, 0x0B]);
     /// ```
     pub fn raw(bytes: impl IntoIterator<Item = u8>) -> Self {
-        let mut rest = Bytes::new();
-        rest.extend(bytes).ok();
-        ConstExpr { first: None, rest }
+        let mut encoded = Bytes::new();
+        encoded.extend(bytes).ok();
+        ConstExpr(Instructions::Encoded(encoded))
     }
 
     /// Returns the expression of these instructions, without an `end`, which the encoding appends.
@@ -159,17 +155,34 @@ impl ConstExpr {
         for instruction in insns {
             instruction.encode(&mut bytes);
         }
-        ConstExpr {
-            first: None,
-            rest: bytes.into(),
-        }
+        ConstExpr(Instructions::Encoded(bytes.into()))
+    }
+
+    /// Appends an instruction of a number or a type by its proved `encode`.
+    fn with_first(self, instruction: First) -> Self {
+        let mut bytes = self.into_bytes();
+        done(base::Encode::encode(&instruction, &mut bytes));
+        ConstExpr(Instructions::Encoded(bytes))
     }
 
     /// Appends by a proved call.
+    fn with(self, call: impl FnOnce(&mut InstructionSink<'_, Bytes>) -> Result<()>) -> Self {
+        let mut bytes = self.into_bytes();
+        done(call(&mut InstructionSink::new(&mut bytes)));
+        ConstExpr(Instructions::Encoded(bytes))
+    }
+
+    /// Returns the encoding of the instructions.
     #[inline]
-    fn with(mut self, call: impl FnOnce(&mut InstructionSink<'_, Bytes>) -> Result<()>) -> Self {
-        done(call(&mut InstructionSink::new(&mut self.rest)));
-        self
+    fn into_bytes(self) -> Bytes {
+        match self.0 {
+            Instructions::One(first) => {
+                let mut bytes = Bytes::new();
+                done(base::Encode::encode(&first, &mut bytes));
+                bytes
+            }
+            Instructions::Encoded(bytes) => bytes,
+        }
     }
 
     instructions! {
@@ -210,23 +223,28 @@ impl ConstExpr {
     /// assert_eq!(ConstExpr::i32_const(3).get_ref_func(), None);
     /// ```
     pub fn get_ref_func(&self) -> Option<u32> {
-        match self.first {
-            Some(first) => first.function_index(),
-            None => function_at_front(&self.rest),
+        match &self.0 {
+            Instructions::One(first) => first.function_index(),
+            Instructions::Encoded(bytes) => function_at_front(bytes),
         }
     }
 
     /// Converts the expression for the proved calls.
     #[inline]
     pub(super) fn proved(&self) -> code::ConstExpr {
-        match self.first {
-            Some(first) if self.rest.is_empty() => code::ConstExpr::of(crate::alloc::Global, first),
-            _ => {
-                let mut bytes = Vec::new();
-                Encode::encode(self, &mut bytes);
-                let _end = bytes.pop();
-                code::ConstExpr::stored(bytes.into())
-            }
+        match &self.0 {
+            Instructions::One(first) => code::ConstExpr::of(crate::alloc::Global, *first),
+            Instructions::Encoded(bytes) => code::ConstExpr::stored(bytes.to_vec().into()),
         }
+    }
+}
+
+#[cfg(all(test, target_pointer_width = "64"))]
+mod tests {
+    use super::*;
+
+    #[test]
+    fn an_expression_has_the_size_of_a_vector() {
+        assert_eq!(size_of::<ConstExpr>(), size_of::<Vec<u8>>());
     }
 }

@@ -1,5 +1,6 @@
 //! The traits of values and sections that have an encoding.
 use super::entries::{Growing, append};
+use super::short::{put_number, put_short};
 use super::{SectionId, done};
 use crate::base;
 use crate::base::{AbstractHeapType, HeapType, RefType, ValType};
@@ -100,11 +101,29 @@ macro_rules! hands_on {
     };
 }
 
-hands_on! { u8 u32 u64 usize i32 i64 }
+hands_on! { u8 u64 usize i64 }
 hands_on! { AbstractHeapType HeapType RefType ValType StorageType FieldType ArrayType ContType }
 hands_on! { BlockType Catch Handle Ieee32 Ieee64 MemArg MemArgOrdering Ordering }
 hands_on! { GlobalType MemoryType TableType CoreDumpValue }
 hands_on! { DataCountSection StartSection RawCustomSection<'_> }
+
+/// Implements `Encode` of numbers by the proved `encode`. One byte is appended without a call.
+macro_rules! numbers {
+    ($($type:ty)*) => {
+        $(
+            impl Encode for $type {
+                #[inline]
+                fn encode(&self, sink: &mut Vec<u8>) {
+                    if !put_short(sink, [], *self) {
+                        put_number(*self, sink)
+                    }
+                }
+            }
+        )*
+    };
+}
+
+numbers! { u32 i32 }
 
 /// Encodes a name: its length in bytes, and its bytes.
 impl Encode for str {

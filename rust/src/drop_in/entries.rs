@@ -1,5 +1,6 @@
 //! The state of the sections at the root: bytes that the proved calls append to, and the number of
 //! entries.
+use super::short::put_short;
 use super::{done, refuse};
 use crate::alloc::AllocError;
 use crate::base::{Encode, EncodeOnce, Refused, encode_section};
@@ -26,7 +27,7 @@ pub struct List(pub Vec<u8>);
 /// [`MANY`] after [`FEW`].
 #[cold]
 #[inline(never)]
-fn grow(old: &mut Vec<u8>, more: usize) {
+pub fn grow(old: &mut Vec<u8>, more: usize) {
     let count = old.len().saturating_add(more);
     let room = count.max(2 * old.capacity());
     if room > MOVED {
@@ -116,8 +117,9 @@ macro_rules! growing {
 growing!(Growing<'_>);
 growing!(List);
 
-/// The most bytes that [`Bytes`] holds without an allocation.
-const INLINE: usize = 30;
+/// The most bytes that [`Bytes`] holds without an allocation: as many as fit in the size of a
+/// vector, with their number, beside the word of the capacity, whose spare values mark the case.
+pub const INLINE: usize = 15;
 
 /// A list of bytes that takes no allocation while it is short. Its calls never fail, as those of
 /// [`Growing`].
@@ -139,7 +141,7 @@ impl Bytes {
     #[inline(never)]
     fn listed(&mut self, more: usize) -> &mut Vec<u8> {
         if let Bytes::Inline(..) = self {
-            let mut list = Vec::with_capacity((self.len() + more).max(2 * INLINE));
+            let mut list = Vec::with_capacity(self.len().saturating_add(more).max(2 * INLINE));
             list.extend_from_slice(self);
             *self = Bytes::Listed(list);
         }
@@ -150,9 +152,15 @@ impl Bytes {
     }
 }
 
+/// Keeps few bytes without the list.
 impl From<Vec<u8>> for Bytes {
     fn from(list: Vec<u8>) -> Self {
-        Bytes::Listed(list)
+        if list.len() > INLINE {
+            return Bytes::Listed(list);
+        }
+        let mut bytes = Bytes::new();
+        bytes.extend_from_slice(&list).ok();
+        bytes
     }
 }
 
@@ -226,7 +234,6 @@ impl Sink for Bytes {
         Ok(())
     }
 
-    #[inline]
     fn extend<I: IntoIterator<Item = u8>>(&mut self, bytes: I) -> Result<(), AllocError> {
         bytes.into_iter().try_for_each(|byte| self.push(byte))
     }
@@ -237,6 +244,80 @@ impl Sink for Bytes {
             Bytes::Inline(had, _) => *had = len.min(usize::from(*had)) as u8,
             Bytes::Listed(list) => list.truncate(len),
         }
+    }
+}
+
+/// The spare capacity of a vector, as a sink that never grows it and never fails. It counts the
+/// bytes that it has no space for. So an encoder over it calls nothing that allocates, and keeps no
+/// registers for that.
+struct Spare<'a> {
+    list: &'a mut Vec<u8>,
+    missing: usize,
+}
+
+impl Deref for Spare<'_> {
+    type Target = [u8];
+
+    #[inline]
+    fn deref(&self) -> &[u8] {
+        self.list
+    }
+}
+
+impl DerefMut for Spare<'_> {
+    #[inline]
+    fn deref_mut(&mut self) -> &mut [u8] {
+        self.list
+    }
+}
+
+impl Sealed for Spare<'_> {}
+
+impl Sink for Spare<'_> {
+    #[inline]
+    fn capacity(&self) -> usize {
+        self.list.capacity()
+    }
+
+    #[inline]
+    fn reserve(&mut self, _more: usize) -> Result<(), AllocError> {
+        Ok(())
+    }
+
+    #[inline]
+    fn push(&mut self, byte: u8) -> Result<(), AllocError> {
+        self.extend_from_slice(&[byte])
+    }
+
+    #[inline]
+    fn push_reserved(&mut self, byte: u8) {
+        self.extend_from_slice(&[byte]).ok();
+    }
+
+    #[inline]
+    fn push_both_reserved(&mut self, bytes: [u8; 2]) {
+        self.extend_from_slice(&bytes).ok();
+    }
+
+    #[inline]
+    fn extend_from_slice(&mut self, bytes: &[u8]) -> Result<(), AllocError> {
+        if self.list.capacity() - self.list.len() >= bytes.len() {
+            self.list.extend_from_slice(bytes);
+        } else {
+            // Two names may be one string of half the address space, on 32 bits.
+            self.missing = self.missing.saturating_add(bytes.len());
+        }
+        Ok(())
+    }
+
+    #[inline]
+    fn extend<I: IntoIterator<Item = u8>>(&mut self, bytes: I) -> Result<(), AllocError> {
+        bytes.into_iter().try_for_each(|byte| self.push(byte))
+    }
+
+    #[inline]
+    fn truncate(&mut self, len: usize) {
+        self.list.truncate(len);
     }
 }
 
@@ -283,6 +364,46 @@ impl Entries {
         let count = self.counted();
         done(record.encode(&mut self.bytes));
         self.count = count;
+    }
+
+    /// Adds an entry by the proved `encode` of its record, which only appends. If there is no spare
+    /// capacity for all of it, another function encodes it again: so this one needs few registers.
+    #[inline(always)]
+    pub fn add_spare<R: Encode>(&mut self, record: impl Fn() -> R + Copy) {
+        let start = self.bytes.0.len();
+        let mut spare = Spare {
+            list: &mut self.bytes.0,
+            missing: 0,
+        };
+        done(record().encode(&mut spare));
+        if spare.missing > 0 || self.count == u32::MAX {
+            return self.add_again(start, record);
+        }
+        self.count += 1;
+    }
+
+    /// Adds an entry after a first encoding of it did not fit.
+    #[cold]
+    #[inline(never)]
+    fn add_again<R: Encode>(&mut self, start: usize, record: impl Fn() -> R) {
+        self.bytes.0.truncate(start);
+        self.add(&record());
+    }
+
+    /// Adds an entry that is a number.
+    #[inline(always)]
+    pub fn add_number(&mut self, number: u32) {
+        if self.count < u32::MAX && put_short(&mut self.bytes.0, [], number) {
+            self.count += 1;
+        } else {
+            self.add_long(number);
+        }
+    }
+
+    /// Adds an entry that is a number of any length.
+    #[inline(never)]
+    fn add_long(&mut self, number: u32) {
+        self.add(&number);
     }
 
     /// Adds an entry by the proved `encode_once` of its record.

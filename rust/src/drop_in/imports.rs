@@ -145,9 +145,15 @@ impl ImportSection {
     /// Panics if the length of a name or the number of entries would pass 4294967295.
     #[inline]
     pub fn import(&mut self, module: &str, name: &str, ty: impl Into<EntityType>) -> &mut Self {
-        let ty = ty.into().into();
-        self.0.add(&sections::Import { module, name, ty });
+        self.single(module, name, ty.into());
         self
+    }
+
+    /// Appends an import. It is compiled here, and not in the user's crate for each type.
+    fn single(&mut self, module: &str, name: &str, ty: EntityType) {
+        let ty = ty.into();
+        self.0
+            .add_spare(move || sections::Import { module, name, ty });
     }
 }
 

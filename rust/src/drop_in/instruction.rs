@@ -3,14 +3,13 @@
 
 use super::Encode;
 use super::entries::append;
-use crate::base::{self, CowSlice, HeapType, Lent, RefType, Result, ValType};
+use super::short::{EMPTY_BLOCK, Short, put_short};
+use crate::base::{self, CowSlice, HeapType, Lent, RefType, ValType};
 use crate::alloc::{Allocator, Global};
 use crate::insn::{self, BlockType, Catch, Handle, Ieee32, Ieee64, Lane, MemArg, Op, Ordering};
 use crate::reader::{Arg, Decoded, Plain, ReadFault};
-use crate::vec::Sink;
 use alloc_crate::borrow::Cow;
 use alloc_crate::vec::Vec;
-use core::slice;
 
 /// An instruction as a value, with its immediates.
 ///
@@ -4917,16 +4916,6 @@ impl Instruction<'_> {
     }
 }
 
-/// Encodes a vector as its 16 bytes.
-struct Vector<'a>(&'a i128);
-
-impl base::Encode for Vector<'_> {
-    #[inline]
-    fn encode<A: Sink>(&self, sink: &mut A) -> Result<()> {
-        self.0.to_le_bytes().encode(sink)
-    }
-}
-
 /// Returns an opcode. The upper byte of the number is the prefix, or 0 for an opcode of one byte.
 #[inline]
 fn op_of(op: u32) -> Op {
@@ -4951,32 +4940,50 @@ fn number_of(op: Op) -> u32 {
 
 /// Appends an opcode.
 #[inline(never)]
-fn write_0(op: u32, sink: &mut Vec<u8>) {
+fn write_op(op: u32, sink: &mut Vec<u8>) {
+    match u8::try_from(op) {
+        Ok(byte) if sink.len() < sink.capacity() => sink.extend_from_slice(&[byte]),
+        _ => append_op(op, sink),
+    }
+}
+
+/// Appends an opcode, of any number of bytes.
+#[inline(never)]
+fn append_op(op: u32, sink: &mut Vec<u8>) {
     append(&op_of(op), sink)
 }
 
-/// Appends an opcode and its immediate.
+/// Appends an opcode and its immediates.
 #[inline(never)]
-fn write_1<T: base::Encode>(op: u32, part: T, sink: &mut Vec<u8>) {
-    append(&(op_of(op), part), sink)
+fn write<P: Short>(op: u32, parts: P, sink: &mut Vec<u8>) {
+    if let Ok(byte) = u8::try_from(op)
+        && put_short(sink, [byte], parts)
+    {
+        return;
+    }
+    write_long(op, parts, sink)
 }
 
-/// Appends an opcode and its two immediates.
+/// Appends an opcode and its immediates, of any number of bytes.
 #[inline(never)]
-fn write_2<T: base::Encode, U: base::Encode>(op: u32, first: T, second: U, sink: &mut Vec<u8>) {
-    append(&(op_of(op), first, second), sink)
+fn write_long<P: Short>(op: u32, parts: P, sink: &mut Vec<u8>) {
+    append(&(op_of(op), parts.long()), sink)
 }
 
-/// Appends an opcode and its three immediates.
+/// Appends an opcode and the type of a block.
 #[inline(never)]
-fn write_3<T: base::Encode, U: base::Encode, V: base::Encode>(
-    op: u32,
-    first: T,
-    second: U,
-    third: V,
-    sink: &mut Vec<u8>,
-) {
-    append(&(op_of(op), first, (second, third)), sink)
+fn write_block(op: u32, block_type: BlockType, sink: &mut Vec<u8>) {
+    match block_type {
+        BlockType::Empty => write(op, EMPTY_BLOCK, sink),
+        BlockType::Result(ty) => write(op, ty, sink),
+        BlockType::FunctionType(index) => write(op, i64::from(index), sink),
+    }
+}
+
+/// Appends an opcode and its immediates, of which one is a list.
+#[inline(never)]
+fn write_list<T: base::Encode>(op: u32, parts: T, sink: &mut Vec<u8>) {
+    append(&(op_of(op), parts), sink)
 }
 
 /// Appends the encoding of the proved value, where the fields are not the immediates one by one.
@@ -5374,11 +5381,11 @@ impl Encode for Instruction<'_> {
             | Instruction::I16x8RelaxedDotI8x16I7x16S
             | Instruction::I32x4RelaxedDotI8x16I7x16AddS
             | Instruction::Pause
-            | Instruction::RefI31Shared => write_0(op, sink),
+            | Instruction::RefI31Shared => write_op(op, sink),
             Instruction::Block(a)
             | Instruction::Loop(a)
             | Instruction::If(a)
-            | Instruction::Try(a) => write_1(op, Lent(a), sink),
+            | Instruction::Try(a) => write_block(op, *a, sink),
             Instruction::Catch(a)
             | Instruction::Throw(a)
             | Instruction::Rethrow(a)
@@ -5421,8 +5428,8 @@ impl Encode for Instruction<'_> {
             | Instruction::TableGrow(a)
             | Instruction::TableSize(a)
             | Instruction::TableFill(a)
-            | Instruction::MemoryDiscard(a) => write_1(op, *a, sink),
-            Instruction::BrTable(a, b) => write_2(op, &**a, *b, sink),
+            | Instruction::MemoryDiscard(a) => write(op, *a, sink),
+            Instruction::BrTable(a, b) => write_list(op, (&**a, *b), sink),
             Instruction::CallIndirect { type_index: a, table_index: b }
             | Instruction::ReturnCallIndirect { type_index: a, table_index: b }
             | Instruction::ContBind { argument_index: a, result_index: b }
@@ -5440,10 +5447,10 @@ impl Encode for Instruction<'_> {
             | Instruction::MemoryInit { data_index: a, mem: b }
             | Instruction::MemoryCopy { dst_mem: a, src_mem: b }
             | Instruction::TableInit { elem_index: a, table: b }
-            | Instruction::TableCopy { dst_table: a, src_table: b } => write_2(op, *a, *b, sink),
-            Instruction::TypedSelect(a) => write_1(op, slice::from_ref(a), sink),
-            Instruction::TypedSelectMulti(a) => write_1(op, &**a, sink),
-            Instruction::TryTable(a, b) => write_2(op, Lent(a), &**b, sink),
+            | Instruction::TableCopy { dst_table: a, src_table: b } => write(op, (*a, *b), sink),
+            Instruction::TypedSelect(a) => write(op, (1, *a), sink),
+            Instruction::TypedSelectMulti(a) => write_list(op, &**a, sink),
+            Instruction::TryTable(a, b) => write_list(op, (Lent(a), &**b), sink),
             Instruction::I32Load(a)
             | Instruction::I64Load(a)
             | Instruction::F32Load(a)
@@ -5546,27 +5553,27 @@ impl Encode for Instruction<'_> {
             | Instruction::I32AtomicRmw16CmpxchgU(a)
             | Instruction::I64AtomicRmw8CmpxchgU(a)
             | Instruction::I64AtomicRmw16CmpxchgU(a)
-            | Instruction::I64AtomicRmw32CmpxchgU(a) => write_1(op, Lent(a), sink),
-            Instruction::I32Const(a) => write_1(op, *a, sink),
-            Instruction::I64Const(a) => write_1(op, *a, sink),
-            Instruction::F32Const(a) => write_1(op, *a, sink),
-            Instruction::F64Const(a) => write_1(op, *a, sink),
+            | Instruction::I64AtomicRmw32CmpxchgU(a) => write(op, a, sink),
+            Instruction::I32Const(a) => write(op, *a, sink),
+            Instruction::I64Const(a) => write(op, *a, sink),
+            Instruction::F32Const(a) => write(op, *a, sink),
+            Instruction::F64Const(a) => write(op, *a, sink),
             Instruction::RefNull(a)
             | Instruction::RefTestNonNull(a)
             | Instruction::RefTestNullable(a)
             | Instruction::RefCastNonNull(a)
             | Instruction::RefCastNullable(a)
             | Instruction::RefCastDescEqNonNull(a)
-            | Instruction::RefCastDescEqNullable(a) => write_1(op, Lent(a), sink),
+            | Instruction::RefCastDescEqNullable(a) => write(op, *a, sink),
             Instruction::Resume { cont_type_index: a, resume_table: b }
-            | Instruction::ResumeThrowRef { cont_type_index: a, resume_table: b } => write_2(op, *a, &**b, sink),
-            Instruction::ResumeThrow { cont_type_index: a, tag_index: b, resume_table: c } => write_3(op, *a, *b, &**c, sink),
+            | Instruction::ResumeThrowRef { cont_type_index: a, resume_table: b } => write_list(op, (*a, &**b), sink),
+            Instruction::ResumeThrow { cont_type_index: a, tag_index: b, resume_table: c } => write_list(op, (*a, *b, &**c), sink),
             Instruction::BrOnCast { .. }
             | Instruction::BrOnCastFail { .. }
             | Instruction::BrOnCastDescEq { .. }
             | Instruction::BrOnCastDescEqFail { .. } => write_proved(self, sink),
-            Instruction::V128Const(a) => write_1(op, Vector(a), sink),
-            Instruction::I8x16Shuffle(a) => write_1(op, Lent(a), sink),
+            Instruction::V128Const(a) => write(op, a.to_le_bytes(), sink),
+            Instruction::I8x16Shuffle(a) => write(op, *a, sink),
             Instruction::I8x16ExtractLaneS(a)
             | Instruction::I8x16ExtractLaneU(a)
             | Instruction::I8x16ReplaceLane(a)
@@ -5580,7 +5587,7 @@ impl Encode for Instruction<'_> {
             | Instruction::F32x4ExtractLane(a)
             | Instruction::F32x4ReplaceLane(a)
             | Instruction::F64x2ExtractLane(a)
-            | Instruction::F64x2ReplaceLane(a) => write_1(op, *a, sink),
+            | Instruction::F64x2ReplaceLane(a) => write(op, *a, sink),
             Instruction::V128Load8Lane { memarg: a, lane: b }
             | Instruction::V128Load16Lane { memarg: a, lane: b }
             | Instruction::V128Load32Lane { memarg: a, lane: b }
@@ -5588,8 +5595,8 @@ impl Encode for Instruction<'_> {
             | Instruction::V128Store8Lane { memarg: a, lane: b }
             | Instruction::V128Store16Lane { memarg: a, lane: b }
             | Instruction::V128Store32Lane { memarg: a, lane: b }
-            | Instruction::V128Store64Lane { memarg: a, lane: b } => write_2(op, Lent(a), *b, sink),
-            Instruction::AtomicFence(a) => write_1(op, *a, sink),
+            | Instruction::V128Store64Lane { memarg: a, lane: b } => write(op, (a, *b), sink),
+            Instruction::AtomicFence(a) => write(op, *a, sink),
             Instruction::GlobalAtomicGet { ordering: a, global_index: b }
             | Instruction::GlobalAtomicSet { ordering: a, global_index: b }
             | Instruction::GlobalAtomicRmwAdd { ordering: a, global_index: b }
@@ -5613,7 +5620,7 @@ impl Encode for Instruction<'_> {
             | Instruction::ArrayAtomicRmwOr { ordering: a, array_type_index: b }
             | Instruction::ArrayAtomicRmwXor { ordering: a, array_type_index: b }
             | Instruction::ArrayAtomicRmwXchg { ordering: a, array_type_index: b }
-            | Instruction::ArrayAtomicRmwCmpxchg { ordering: a, array_type_index: b } => write_2(op, *a, *b, sink),
+            | Instruction::ArrayAtomicRmwCmpxchg { ordering: a, array_type_index: b } => write(op, (*a, *b), sink),
             Instruction::StructAtomicGet { ordering: a, struct_type_index: b, field_index: c }
             | Instruction::StructAtomicGetS { ordering: a, struct_type_index: b, field_index: c }
             | Instruction::StructAtomicGetU { ordering: a, struct_type_index: b, field_index: c }
@@ -5624,7 +5631,7 @@ impl Encode for Instruction<'_> {
             | Instruction::StructAtomicRmwOr { ordering: a, struct_type_index: b, field_index: c }
             | Instruction::StructAtomicRmwXor { ordering: a, struct_type_index: b, field_index: c }
             | Instruction::StructAtomicRmwXchg { ordering: a, struct_type_index: b, field_index: c }
-            | Instruction::StructAtomicRmwCmpxchg { ordering: a, struct_type_index: b, field_index: c } => write_3(op, *a, *b, *c, sink),
+            | Instruction::StructAtomicRmwCmpxchg { ordering: a, struct_type_index: b, field_index: c } => write(op, (*a, *b, *c), sink),
         }
     }
 }

@@ -5,11 +5,12 @@
 //! [`fallible`](crate::fallible) calls too. That section also keeps the end of each entry, which
 //! takes eight bytes an entry, and time. A list of a custom section is the proved list.
 //!
-//! An instruction is appended by a proved named call, or by the proved `encode` of its opcode and
-//! its immediates. A body and a module are lists of bytes here, since the crate lends these before
-//! they are complete. So [`Function::raw`] and [`Module::section`] append by themselves. So do the
-//! calls `raw` of sections, the ids of sections, and [`encode_vec`] and `encode` of lists and
-//! options, whose items may be of any type. Nothing of this is proved; it is tested.
+//! An instruction is appended as its opcode, and the proved `encode` of each immediate. Short ones
+//! are encoded on the stack (`short`). A body and a module are lists of bytes here, since the crate
+//! lends these before they are complete. So [`Function::raw`] and [`Module::section`] append by
+//! themselves. So do the calls `raw` of sections, the ids of sections, and [`encode_vec`] and
+//! `encode` of lists and options, whose items may be of any type. Nothing of this is proved; it is
+//! tested.
 //!
 //! Values that the proved calls take are the same types here. The enums of `kinds` and `imports`
 //! are not: they have the crate's cases and sizes, and `From` both ways.
@@ -33,6 +34,7 @@ mod kinds;
 mod later;
 mod module;
 mod sections;
+mod short;
 mod types;
 mod values;
 

@@ -199,9 +199,8 @@ impl FunctionSection {
     /// # Panics
     ///
     /// Panics if the section has 4294967295 entries.
-    #[inline]
     pub fn function(&mut self, type_index: u32) -> &mut Self {
-        self.0.add(&type_index);
+        self.0.add_number(type_index);
         self
     }
 }
@@ -212,7 +211,6 @@ impl TableSection {
     /// # Panics
     ///
     /// Panics if the section has 4294967295 entries.
-    #[inline]
     pub fn table(&mut self, table_type: TableType) -> &mut Self {
         self.0.add(&table_type);
         self
@@ -253,7 +251,6 @@ impl MemorySection {
     /// # Panics
     ///
     /// Panics if the section has 4294967295 entries.
-    #[inline]
     pub fn memory(&mut self, memory_type: MemoryType) -> &mut Self {
         self.0.add(&memory_type);
         self
@@ -266,7 +263,6 @@ impl TagSection {
     /// # Panics
     ///
     /// Panics if the section has 4294967295 entries.
-    #[inline]
     pub fn tag(&mut self, tag_type: TagType) -> &mut Self {
         self.0.add(&sections::TagType::from(tag_type));
         self
@@ -279,9 +275,8 @@ impl GlobalSection {
     /// # Panics
     ///
     /// Panics if the section has 4294967295 entries.
-    #[inline]
     pub fn global(&mut self, global_type: GlobalType, init_expr: &ConstExpr) -> &mut Self {
-        self.0.add(&(global_type, Lent(init_expr)));
+        self.0.add_spare(move || (global_type, Lent(init_expr)));
         self
     }
 
@@ -303,10 +298,9 @@ impl ExportSection {
     /// # Panics
     ///
     /// Panics if the section has 4294967295 entries, or if the name has more than 4294967295 bytes.
-    #[inline]
     pub fn export(&mut self, name: &str, kind: ExportKind, index: u32) -> &mut Self {
         let kind = kind.into();
-        self.0.add(&Export { name, kind, index });
+        self.0.add_spare(move || Export { name, kind, index });
         self
     }
 }

@@ -14,6 +14,7 @@ extern crate core as string;
 extern crate core as types;
 extern crate core as vec;
 
+mod borders;
 #[rustfmt::skip]
 mod cases;
 mod checks;

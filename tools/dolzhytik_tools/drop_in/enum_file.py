@@ -66,19 +66,19 @@ def decoded_arm(case: Case) -> str:
     return "        (%s, [%s])%s => Instruction::%s,\n" % (case.op(), pattern, guard, case.of(parts))
 
 
-# Types whose values are arguments of the functions that encode them; others are borrowed.
-SCALARS = {"u32", "i32", "i64", "Ieee32", "Ieee64", "Lane", "Ordering"}
-
-
 def written_part(case: Case, it: str, ty: str) -> str:
-    """Returns an immediate as an argument of the function that encodes it."""
+    """Returns an immediate as an argument of the function that encodes it. A large one is
+    borrowed."""
     if case.is_one:
-        return "slice::from_ref(a)"
+        # A list of one item: its length, and the item.
+        return "(1, *a)"
     if case.shape == "v":
-        return "Vector(a)"
+        return "a.to_le_bytes()"
     if item_of(ty):
         return "&**" + it
-    return "*" + it if ty in SCALARS else "Lent(%s)" % it
+    if ty == "BlockType":
+        return "Lent(%s)" % it
+    return it if ty == "MemArg" else "*" + it
 
 
 def written(case: Case) -> str:
@@ -86,8 +86,13 @@ def written(case: Case) -> str:
     the fields are not the immediates one by one."""
     if case.shape == "k":
         return "write_proved(self, sink)"
+    if case.shape == "b":
+        return "write_block(op, *a, sink)"
     parts = [written_part(case, it, ty) for it, ty in zip(case.letters(), case.types)]
-    return "write_%d(%s, sink)" % (len(parts), ", ".join(["op"] + parts))
+    if not parts:
+        return "write_op(op, sink)"
+    is_list = any(map(item_of, case.types)) and not case.is_one
+    return "%s(op, %s, sink)" % ("write_list" if is_list else "write", "(%s)" % ", ".join(parts) if len(parts) > 1 else parts[0])
 
 
 def encode_arms(cases: list[Case]) -> str:
@@ -102,14 +107,13 @@ TEMPLATE = """//! The instructions, as cases of one enum.
 
 use super::Encode;
 use super::entries::append;
-use crate::base::{self, CowSlice, HeapType, Lent, RefType, Result, ValType};
+use super::short::{EMPTY_BLOCK, Short, put_short};
+use crate::base::{self, CowSlice, HeapType, Lent, RefType, ValType};
 use crate::alloc::{Allocator, Global};
 use crate::insn::{self, BlockType, Catch, Handle, Ieee32, Ieee64, Lane, MemArg, Op, Ordering};
 use crate::reader::{Arg, Decoded, Plain, ReadFault};
-use crate::vec::Sink;
 use alloc_crate::borrow::Cow;
 use alloc_crate::vec::Vec;
-use core::slice;
 
 /// An instruction as a value, with its immediates.
 ///
@@ -289,16 +293,6 @@ impl Instruction<'_> {
     }
 }
 
-/// Encodes a vector as its 16 bytes.
-struct Vector<'a>(&'a i128);
-
-impl base::Encode for Vector<'_> {
-    #[inline]
-    fn encode<A: Sink>(&self, sink: &mut A) -> Result<()> {
-        self.0.to_le_bytes().encode(sink)
-    }
-}
-
 /// Returns an opcode. The upper byte of the number is the prefix, or 0 for an opcode of one byte.
 #[inline]
 fn op_of(op: u32) -> Op {
@@ -323,32 +317,50 @@ fn number_of(op: Op) -> u32 {
 
 /// Appends an opcode.
 #[inline(never)]
-fn write_0(op: u32, sink: &mut Vec<u8>) {
+fn write_op(op: u32, sink: &mut Vec<u8>) {
+    match u8::try_from(op) {
+        Ok(byte) if sink.len() < sink.capacity() => sink.extend_from_slice(&[byte]),
+        _ => append_op(op, sink),
+    }
+}
+
+/// Appends an opcode, of any number of bytes.
+#[inline(never)]
+fn append_op(op: u32, sink: &mut Vec<u8>) {
     append(&op_of(op), sink)
 }
 
-/// Appends an opcode and its immediate.
+/// Appends an opcode and its immediates.
 #[inline(never)]
-fn write_1<T: base::Encode>(op: u32, part: T, sink: &mut Vec<u8>) {
-    append(&(op_of(op), part), sink)
+fn write<P: Short>(op: u32, parts: P, sink: &mut Vec<u8>) {
+    if let Ok(byte) = u8::try_from(op)
+        && put_short(sink, [byte], parts)
+    {
+        return;
+    }
+    write_long(op, parts, sink)
 }
 
-/// Appends an opcode and its two immediates.
+/// Appends an opcode and its immediates, of any number of bytes.
 #[inline(never)]
-fn write_2<T: base::Encode, U: base::Encode>(op: u32, first: T, second: U, sink: &mut Vec<u8>) {
-    append(&(op_of(op), first, second), sink)
+fn write_long<P: Short>(op: u32, parts: P, sink: &mut Vec<u8>) {
+    append(&(op_of(op), parts.long()), sink)
 }
 
-/// Appends an opcode and its three immediates.
+/// Appends an opcode and the type of a block.
 #[inline(never)]
-fn write_3<T: base::Encode, U: base::Encode, V: base::Encode>(
-    op: u32,
-    first: T,
-    second: U,
-    third: V,
-    sink: &mut Vec<u8>,
-) {
-    append(&(op_of(op), first, (second, third)), sink)
+fn write_block(op: u32, block_type: BlockType, sink: &mut Vec<u8>) {
+    match block_type {
+        BlockType::Empty => write(op, EMPTY_BLOCK, sink),
+        BlockType::Result(ty) => write(op, ty, sink),
+        BlockType::FunctionType(index) => write(op, i64::from(index), sink),
+    }
+}
+
+/// Appends an opcode and its immediates, of which one is a list.
+#[inline(never)]
+fn write_list<T: base::Encode>(op: u32, parts: T, sink: &mut Vec<u8>) {
+    append(&(op_of(op), parts), sink)
 }
 
 /// Appends the encoding of the proved value, where the fields are not the immediates one by one.
