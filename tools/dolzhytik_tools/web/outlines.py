@@ -27,9 +27,12 @@ LINE = re.compile(r' *\d+ +(\d+) +(0x[0-9a-f]+) +(\d+) +(\d+|-) +(?:yes|no|-)  (
 
 
 def rows_of(output: str) -> list[Row]:
-    """Returns the rows of an outline of the program."""
+    """Returns the rows of an outline of the program. It prints the number that a data count section
+    holds, which is one item of the package."""
     rows = []
     for line in output.split('\n')[1:-1]:
         section, offset, size, items, kind, name = LINE.fullmatch(line).groups()
+        if kind == 'data count' and items != '-':
+            items = '1'
         rows.append((int(section), int(offset, 16), int(size), items, kind + shown(name)))
     return rows
