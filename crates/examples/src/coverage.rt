@@ -8,7 +8,7 @@ ghost use Rattle.wasm_base.specs.Numbers.{padded, standard};
 ghost use Rattle.wasm_code.specs.Bodies.{Body, body};
 ghost use Rattle.wasm_reader.specs.Kinds.{Contents, content, number_in};
 ghost use Rattle.wasm_reader.specs.Outlines.{IsSection, section_kind_of};
-ghost use Rattle.wasm_reader.specs.Shortening.{contains_offsets};
+ghost use Rattle.wasm_reader.specs.Shortening.{contains_offsets, names_code_offsets};
 ghost use Rattle.wasm_sections.specs.Exports.{ExportItem, export, item_of};
 ghost use Rattle.wasm_sections.specs.Globals.{GlobalItem, global_item};
 ghost use Rattle.examples.specs.Coverage.{
@@ -280,13 +280,20 @@ fn holds_offsets<A: Allocator + Copy>(section: &Section<'_, A>) -> bool
 fn is_of_offsets(name: &str) -> bool
     ensures { result ≡ contains_offsets (Some name.now) }
 {
+    name.as_bytes().starts_with(b"reloc.") || name == "sourceMappingURL" || is_of_code(name)
+}
+
+/// Returns `true` if a custom section of this name holds offsets into code and data.
+fn is_of_code(name: &str) -> bool
+    ensures { result ≡ names_code_offsets name.now }
+{
     let bytes = name.as_bytes();
-    bytes.starts_with(b"reloc.")
-        || name == "sourceMappingURL"
-        || name == "linking"
+    name == "linking"
         || name == "external_debug_info"
         || name == "build_id"
         || bytes.starts_with(b".debug_")
+        || name == ".gdb_index"
+        || bytes.starts_with(b".apple_")
         || bytes.starts_with(b"metadata.code.")
 }
 

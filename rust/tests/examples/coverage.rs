@@ -292,13 +292,24 @@ fn holds_offsets<A: Allocator + Copy>(section: &Section<'_, A>) -> bool {
 /// ensures { result ≡ contains_offsets (Some name.now) }
 /// ```
 fn is_of_offsets(name: &str) -> bool {
+    name.as_bytes().starts_with(b"reloc.") || name == "sourceMappingURL" || is_of_code(name)
+}
+
+/// Returns `true` if a custom section of this name holds offsets into code and data.
+///
+/// # Proved
+///
+/// ```text
+/// ensures { result ≡ names_code_offsets name.now }
+/// ```
+fn is_of_code(name: &str) -> bool {
     let bytes = name.as_bytes();
-    bytes.starts_with(b"reloc.")
-        || name == "sourceMappingURL"
-        || name == "linking"
+    name == "linking"
         || name == "external_debug_info"
         || name == "build_id"
         || bytes.starts_with(b".debug_")
+        || name == ".gdb_index"
+        || bytes.starts_with(b".apple_")
         || bytes.starts_with(b"metadata.code.")
 }
 

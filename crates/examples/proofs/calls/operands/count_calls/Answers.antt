@@ -11,7 +11,7 @@ returns-in_err-decoded-clause-none g c = fault_stays c.from_residual-in_err-deco
 pub loop-decoded-preserved-then-is_call_of : goal.loop-decoded-preserved-then-is_call_of
 loop-decoded-preserved-then-is_call_of g c =
     let w = c.loop-decoded.invariant in
-    let gives = walk_gives _ _ _ refl c.in-Some.is c.in_ok-decoded.ensures in
+    let gives = walk_gives padded c.loop-decoded.instructions c.next.new.self refl c.in-Some.is c.in_ok-decoded.ensures in
     let read = gives.found in
     let i : Plain = record { op = c.in-Some.decoded.op; arguments = read.immediates } in
     let one = calls_and_call c.args.function w.0 i (c.if-is_call_of.ensures read.immediates read.operands) in
@@ -20,7 +20,7 @@ loop-decoded-preserved-then-is_call_of g c =
 pub loop-decoded-preserved : goal.loop-decoded-preserved
 loop-decoded-preserved g c =
     let w = c.loop-decoded.invariant in
-    let gives = walk_gives _ _ _ refl c.in-Some.is c.in_ok-decoded.ensures in
+    let gives = walk_gives padded c.loop-decoded.instructions c.next.new.self refl c.in-Some.is c.in_ok-decoded.ensures in
     let read = gives.found in
     let i : Plain = record { op = c.in-Some.decoded.op; arguments = read.immediates } in
     let none = calls_and_other c.args.function w.0 i (c.if-is_call_of.ensures read.immediates read.operands) in

@@ -18,7 +18,7 @@ returns-in-Err-clause-none g c = λ n.
 pub loop-count-preserved : goal.loop-count-preserved
 loop-count-preserved g c =
     let w = c.loop-count.invariant in
-    let gives = walk_gives _ _ _ refl c.in-Ok-Some.field-0-is c.in-Ok-Some.ensures in
+    let gives = walk_gives standard c.loop-count.instructions c.next.new.self refl c.in-Ok-Some.field-0-is c.in-Ok-Some.ensures in
     let read = gives.found in
     let i : Plain = record { op = c.in-Ok-Some.field-0-0.op; arguments = read.immediates } in
     (w.0 ++ i ∷ [], continues w.0 w.1 read.decodes, omega (arith, length-append w.0 (i ∷ []), w.2), omega (arith, w.3, gives.further), gives.same ∙ w.4)

@@ -10,7 +10,7 @@ returns-in_err-_step-clause-none g c = fault_stays c.from_residual-in_err-_step.
 pub loop-step-preserved : goal.loop-step-preserved
 loop-step-preserved g c =
     let w = c.loop-step.invariant in
-    let gives = walk_gives _ _ _ refl c.in-Some.is c.in_ok-_step.ensures in
+    let gives = walk_gives padded c.loop-step.instructions c.next.new.self refl c.in-Some.is c.in_ok-_step.ensures in
     let read = gives.found in
     let i : Plain = record { op = c.in-Some._step.op; arguments = read.immediates } in
     (w.0 ++ i ∷ [], continues w.0 w.1 read.decodes, omega (arith, length-append w.0 (i ∷ []), w.2), omega (arith, w.3, gives.further), gives.same ∙ w.4)

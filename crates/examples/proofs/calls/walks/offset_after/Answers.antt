@@ -14,7 +14,7 @@ loop-taken-preserved g c =
     let w = c.loop-taken.invariant in
     let old = c.loop-taken.instructions in
     let new = c.next.new.self in
-    let gives = walk_gives _ _ _ refl c.in-Some.is c.in_ok-_step.ensures in
+    let gives = walk_gives padded c.loop-taken.instructions c.next.new.self refl c.in-Some.is c.in_ok-_step.ensures in
     let read = gives.found in
     let i : Plain = record { op = c.in-Some._step.op; arguments = read.immediates } in
     let same : new.bytes ≡ c.args.bytes.now = gives.same ∙ w.4 in
