@@ -323,13 +323,22 @@ pub trait Sink: DerefMut<Target = [u8]> + Sealed {
     /// # Errors
     ///
     /// Returns [`AllocError`] if an allocation fails. The sink is unchanged.
-    fn push(&mut self, byte: u8) -> Result<(), AllocError>;
+    #[inline]
+    fn push(&mut self, byte: u8) -> Result<(), AllocError> {
+        self.extend_from_slice(&[byte])
+    }
 
     /// Appends a byte to spare capacity. Without it the sink grows as a `std` vector does.
-    fn push_reserved(&mut self, byte: u8);
+    #[inline]
+    fn push_reserved(&mut self, byte: u8) {
+        self.extend_from_slice(&[byte]).ok();
+    }
 
     /// Appends two bytes to spare capacity. Without it the sink grows as a `std` vector does.
-    fn push_both_reserved(&mut self, bytes: [u8; 2]);
+    #[inline]
+    fn push_both_reserved(&mut self, bytes: [u8; 2]) {
+        self.extend_from_slice(&bytes).ok();
+    }
 
     /// Appends these bytes.
     ///
@@ -344,7 +353,10 @@ pub trait Sink: DerefMut<Target = [u8]> + Sealed {
     ///
     /// Returns [`AllocError`] if an allocation fails. The sink keeps the bytes that were appended
     /// before.
-    fn extend<I: IntoIterator<Item = u8>>(&mut self, bytes: I) -> Result<(), AllocError>;
+    #[inline]
+    fn extend<I: IntoIterator<Item = u8>>(&mut self, bytes: I) -> Result<(), AllocError> {
+        bytes.into_iter().try_for_each(|byte| self.push(byte))
+    }
 
     /// Removes the bytes from index `len` on.
     fn truncate(&mut self, len: usize);

@@ -206,21 +206,6 @@ impl Sink for Bytes {
     }
 
     #[inline]
-    fn push(&mut self, byte: u8) -> Result<(), AllocError> {
-        self.extend_from_slice(&[byte])
-    }
-
-    #[inline]
-    fn push_reserved(&mut self, byte: u8) {
-        self.extend_from_slice(&[byte]).ok();
-    }
-
-    #[inline]
-    fn push_both_reserved(&mut self, bytes: [u8; 2]) {
-        self.extend_from_slice(&bytes).ok();
-    }
-
-    #[inline]
     fn extend_from_slice(&mut self, bytes: &[u8]) -> Result<(), AllocError> {
         if let Bytes::Inline(len, room) = self
             && let Some(end) = usize::from(*len).checked_add(bytes.len())
@@ -232,10 +217,6 @@ impl Sink for Bytes {
             self.listed(bytes.len()).extend_from_slice(bytes);
         }
         Ok(())
-    }
-
-    fn extend<I: IntoIterator<Item = u8>>(&mut self, bytes: I) -> Result<(), AllocError> {
-        bytes.into_iter().try_for_each(|byte| self.push(byte))
     }
 
     #[inline]
@@ -285,21 +266,6 @@ impl Sink for Spare<'_> {
     }
 
     #[inline]
-    fn push(&mut self, byte: u8) -> Result<(), AllocError> {
-        self.extend_from_slice(&[byte])
-    }
-
-    #[inline]
-    fn push_reserved(&mut self, byte: u8) {
-        self.extend_from_slice(&[byte]).ok();
-    }
-
-    #[inline]
-    fn push_both_reserved(&mut self, bytes: [u8; 2]) {
-        self.extend_from_slice(&bytes).ok();
-    }
-
-    #[inline]
     fn extend_from_slice(&mut self, bytes: &[u8]) -> Result<(), AllocError> {
         if self.list.capacity() - self.list.len() >= bytes.len() {
             self.list.extend_from_slice(bytes);
@@ -308,11 +274,6 @@ impl Sink for Spare<'_> {
             self.missing = self.missing.saturating_add(bytes.len());
         }
         Ok(())
-    }
-
-    #[inline]
-    fn extend<I: IntoIterator<Item = u8>>(&mut self, bytes: I) -> Result<(), AllocError> {
-        bytes.into_iter().try_for_each(|byte| self.push(byte))
     }
 
     #[inline]

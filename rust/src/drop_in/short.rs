@@ -93,11 +93,6 @@ impl Sink for Exact {
     }
 
     #[inline]
-    fn extend<I: IntoIterator<Item = u8>>(&mut self, bytes: I) -> Result<(), AllocError> {
-        bytes.into_iter().try_for_each(|byte| self.push(byte))
-    }
-
-    #[inline]
     fn truncate(&mut self, len: usize) {
         self.len = self.len.min(len);
     }
