@@ -1,6 +1,7 @@
 //! `dolzhytik shorten --build-id`, which keeps or drops the section `build_id`.
 use crate::program::{Answer, Folder};
 use crate::samples::{PADDED, PADDED_NAME, SHORT, SHORT_NAME, UNREAD, custom, module};
+use crate::shortened::check_shortened;
 
 /// The section `build_id` with one byte, whose size is padded, and in its minimal encoding.
 const PADDED_ID: &str = "00 8b00 08 6275696c645f6964 01 07";
@@ -15,34 +16,7 @@ const OFFSETS: &str = "holds offsets that would become wrong; \
 
 #[track_caller]
 fn check(sections: &[&str], options: &[&str], expected: &[&str], told: &str) {
-    check_keeping(sections, options, expected, told, &[]);
-}
-
-/// Checks what the sections become with these options, the end of the report, and the lines before
-/// it for sections that do not decode.
-#[track_caller]
-fn check_keeping(
-    sections: &[&str],
-    options: &[&str],
-    expected: &[&str],
-    told: &str,
-    undecoded: &[&str],
-) {
-    let folder = Folder::new("build_id");
-    let (before, after) = (module(sections), module(expected));
-    folder.write("a.wasm", &before);
-    let sizes = format!(
-        "a.wasm: {} bytes before, {} after; sections kept as they were: {told}",
-        before.len(),
-        after.len(),
-    );
-    let words = [&["shorten", "a.wasm"], options].concat();
-    let answer = folder.call(&[&words[..], &["-ob.wasm"]].concat(), b"");
-    let expected = |line: &str| Answer::told(line).keeping("a.wasm", undecoded);
-    assert_eq!(answer, expected(&sizes), "{options:?}");
-    assert_eq!(folder.read("b.wasm"), after);
-    let answer = folder.call(&[&words[..], &["--dry-run"]].concat(), b"");
-    assert_eq!(answer.err, expected(&(sizes + "; not written")).err);
+    check_shortened(sections, options, expected, told, &[]);
 }
 
 /// Checks the refusal of these words.
@@ -116,7 +90,7 @@ fn modules_without_it() {
     // The section that does not decode ends after 8 + 44 + 15 + 4 bytes.
     let undecoded = ["6 (function) at offset 0x47: unexpected end of input"];
     let check = |options: &[&str], told: &str| {
-        check_keeping(&before, options, &after, told, &undecoded);
+        check_shortened(&before, options, &after, told, &undecoded);
     };
     check(&[], "1");
     check(&["--build-id=keep"], "1");

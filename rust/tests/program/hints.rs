@@ -1,6 +1,7 @@
 //! `dolzhytik shorten` of modules with branch hints, whose offsets follow their instructions.
 use crate::program::{Answer, Folder};
 use crate::samples::{UNREAD, custom, module};
+use crate::shortened::check_shortened;
 use std::process::Command;
 
 const NAME: &str = "metadata.code.branch_hint";
@@ -39,31 +40,7 @@ fn hints(data: &str) -> String {
 
 #[track_caller]
 fn check_as(sections: &[&str], options: &[&str], expected: &[&str], told: &str) {
-    check_keeping(sections, options, expected, told, &[]);
-}
-
-/// Checks what the sections become, what the report says after the sizes, and the lines before it
-/// for sections that do not decode.
-#[track_caller]
-fn check_keeping(
-    sections: &[&str],
-    options: &[&str],
-    expected: &[&str],
-    told: &str,
-    undecoded: &[&str],
-) {
-    let folder = Folder::new("hints");
-    let (before, after) = (module(sections), module(expected));
-    folder.write("a.wasm", &before);
-    let sizes = format!(
-        "a.wasm: {} bytes before, {} after; sections kept as they were: {told}",
-        before.len(),
-        after.len(),
-    );
-    let words = [&["shorten", "a.wasm", "-ob.wasm"], options].concat();
-    let told = Answer::told(&sizes).keeping("a.wasm", undecoded);
-    assert_eq!(folder.call(&words, b""), told);
-    assert_eq!(folder.read("b.wasm"), after);
+    check_shortened(sections, options, expected, told, &[]);
 }
 
 #[track_caller]
@@ -174,11 +151,11 @@ fn code_that_does_not_change() {
     let undecoded =
         "4 (custom \"metadata.code.branch_hint\") at offset 0x39: unexpected end of input";
     let sections = with(&damaged, &short);
-    check_keeping(&sections, &[], &sections, "1", &[undecoded]);
+    check_shortened(&sections, &[], &sections, "1", &[undecoded]);
     // So is code that does not decode: its payload is behind 8 + 34 + 3 bytes.
     let sections = [&minimal, "0a 8400 01 02 00 ff"];
     let undecoded = "2 (code) at offset 0x30: unknown opcode";
-    check_keeping(&sections, &[], &sections, "1", &[undecoded]);
+    check_shortened(&sections, &[], &sections, "1", &[undecoded]);
 }
 
 #[test]
@@ -236,14 +213,14 @@ fn sections_that_do_not_decode() {
     // Without hints nothing counts them.
     let none = hints("00");
     let undecoded = ["1 (import) at offset 0xf: unexpected byte or value"];
-    check_keeping(
+    check_shortened(
         &[imports, &none, &padded],
         &[],
         &[imports, &none, &short],
         "1",
         &undecoded,
     );
-    check_keeping(
+    check_shortened(
         &[imports, &padded],
         &["--build-id=keep"],
         &[imports, &short],
@@ -259,7 +236,7 @@ fn sections_that_do_not_decode() {
         "6 (function) at offset 0x5f: unexpected end of input",
         "7 (code) at offset 0x64: unknown opcode",
     ];
-    check_keeping(&sections, &[], &expected, "2", &undecoded);
+    check_shortened(&sections, &[], &expected, "2", &undecoded);
 }
 
 #[test]

@@ -1,6 +1,7 @@
 //! `dolzhytik shorten --keep-code`.
 use crate::program::{Answer, Folder};
 use crate::samples::{PADDED, PADDED_NAME, SHORT, SHORT_NAME, UNREAD, custom, module};
+use crate::shortened::check_shortened;
 
 /// An active segment of one byte at `i32.const 0`, whose size and number are padded.
 const PADDED_DATA: &str = "0b 8800 01 00 41 8000 0b 01 09";
@@ -13,24 +14,10 @@ fn check(sections: &[&str], kept: usize, expected: &[&str]) {
     check_keeping(sections, kept, expected, &[]);
 }
 
-/// Checks what the sections become, how many of them are kept, and the lines for those that do not
-/// decode.
 #[track_caller]
 fn check_keeping(sections: &[&str], kept: usize, expected: &[&str], undecoded: &[&str]) {
-    let folder = Folder::new("keep_code");
-    let (before, after) = (module(sections), module(expected));
-    folder.write("a.wasm", &before);
-    let sizes = format!(
-        "a.wasm: {} bytes before, {} after; sections kept as they were: {kept}",
-        before.len(),
-        after.len(),
-    );
-    let words = ["shorten", "a.wasm", "--keep-code", "-o", "b.wasm"];
-    let expected = |line: &str| Answer::told(line).keeping("a.wasm", undecoded);
-    assert_eq!(folder.call(&words, b""), expected(&sizes));
-    assert_eq!(folder.read("b.wasm"), after);
-    let answer = folder.call(&["shorten", "a.wasm", "--keep-code", "--dry-run"], b"");
-    assert_eq!(answer.err, expected(&(sizes + "; not written")).err);
+    let told = kept.to_string();
+    check_shortened(sections, &["--keep-code"], expected, &told, undecoded);
 }
 
 #[test]

@@ -13,6 +13,7 @@ mod program;
 #[path = "../modules/samples.rs"]
 mod samples;
 mod shorten;
+mod shortened;
 mod size;
 mod strip;
 #[path = "../support/tools.rs"]
