@@ -1,3 +1,4 @@
+-- Written by tools/instructions from tools/instructions.tsv: do not edit.
 -- This file defines the opcodes and immediates of the instructions of `Atomic`.
 use Rattle.std.specs.Prelude.{[], ◌∷◌}
 use Rattle.wasm_insn.specs.declared.atomic.Atomic.{Atomic}

@@ -1,3 +1,4 @@
+-- Written by tools/instructions from tools/instructions.tsv: do not edit.
 -- This file defines the opcodes of the instructions of `PrefixedNumeric`.
 use Rattle.std.specs.Prelude.{ℕ}
 use Rattle.wasm_insn.specs.declared.prefixed_numeric.PrefixedNumeric.{PrefixedNumeric}

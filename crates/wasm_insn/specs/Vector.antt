@@ -1,3 +1,4 @@
+-- Written by tools/instructions from tools/instructions.tsv: do not edit.
 -- This file defines the opcodes of the instructions of `Vector`.
 use Rattle.std.specs.Prelude.{ℕ}
 use Rattle.wasm_insn.specs.declared.vector.Vector.{Vector}

@@ -1,3 +1,4 @@
+// Written by tools/instructions from tools/instructions.tsv: do not edit.
 // Instructions on aggregates and references without immediates: those after the prefix FB.
 ghost use Rattle.std.specs.Prelude.{◌≡◌};
 ghost use Rattle.wasm_insn.specs.Aggregate.{aggregate_number};

@@ -1,3 +1,4 @@
+// Written by tools/instructions from tools/instructions.tsv: do not edit.
 // Numeric instructions: the one-byte opcodes 45 to C4.
 ghost use Rattle.std.specs.Prelude.{◌≡◌};
 ghost use Rattle.wasm_insn.specs.Numeric.{numeric_number};

@@ -1,3 +1,4 @@
+// Written by tools/instructions from tools/instructions.tsv: do not edit.
 // Numeric instructions after the prefix FC: truncations that saturate, and wide arithmetic.
 ghost use Rattle.std.specs.Prelude.{◌≡◌};
 ghost use Rattle.wasm_insn.specs.PrefixedNumeric.{prefixed_numeric_number};

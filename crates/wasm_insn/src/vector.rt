@@ -1,3 +1,4 @@
+// Written by tools/instructions from tools/instructions.tsv: do not edit.
 // Vector instructions without immediates: those after the prefix FD.
 ghost use Rattle.std.specs.Prelude.{◌≡◌};
 ghost use Rattle.wasm_insn.specs.Vector.{vector_number};

@@ -1,3 +1,4 @@
+-- Written by tools/instructions from tools/instructions.tsv: do not edit.
 -- This file proves that the functions of `by_opcode` have an instruction of each opcode.
 use Rattle.wasm_base.proofs.Words.{◌≡◌, ◌≢◌, ℕ, List, [], ◌∷◌, ◌<◌, ◌≤◌, Option, Some, None, get_or, refl}
 use Rattle.std.specs.Prelude.{IfSome, IfNone}

@@ -1,3 +1,4 @@
+-- Written by tools/instructions from tools/instructions.tsv: do not edit.
 -- This file proves that an opcode with an immediate of another type than its shape's is no
 -- instruction.
 use Rattle.wasm_base.proofs.Words.{◌≡◌, ◌≢◌, ◌<◌, ◌≤◌, List, Some, map, length, get_or, refl, arith}

@@ -1,3 +1,4 @@
+// Written by tools/instructions from tools/instructions.tsv: do not edit.
 // The instruction with an opcode and given immediates: a function for each shape of opcodes, which
 // has all of them.
 ghost use Rattle.std.specs.Prelude.{◌≡◌, ◌≢◌, [], ◌∷◌, map, get_or, Some, None, IfSome, IfNone};

@@ -1,4 +1,4 @@
-// The export section: its builder, its reader and its minimizer.
+// The export section: its builder and its reader.
 ghost use Rattle.std.specs.Prelude.{◌∷◌, ◌++◌, [], ⊤};
 ghost use Rattle.wasm_base.specs.Calls.{Adds};
 ghost use Rattle.wasm_base.specs.Formats.{coded};

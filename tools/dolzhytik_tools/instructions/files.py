@@ -102,16 +102,17 @@ def whole_files(cases: list[Case]) -> dict[str, str]:
         found[f"specs/{enum.name}.antt"] = (bare_definition if enum.is_bare else row_definition)(enum, of)
         if enum.is_bare:
             found[f"src/{enum.module}.rt"] = bare_source(enum, of)
-    return found
+    return {path: noted(path, text) for path, text in found.items()}
 
 
 def conversion_files(cases: list[Case]) -> dict[str, str]:
     """Returns the files of wasm_reader that convert an opcode and its immediates."""
-    return {
+    found = {
         "src/by_opcode.rt": conversions.source(cases),
         "proofs/ByOpcode.antt": conversion_proofs.opcodes(cases),
         "proofs/OtherArguments.antt": conversion_proofs.arguments(),
     }
+    return {path: noted(path, text) for path, text in found.items()}
 
 
 def stop_if_long(path: str, text: str) -> None:
