@@ -16,12 +16,15 @@ BUFFER = re.compile(r"OnOk result \(GainsDecoding(Padded)? (.*) (\w+)\.old\.item
 @dataclass(frozen=True)
 class Clause:
     """`kind` is the form of the result, `items` the term of what was added, `before` the parameter
-    of the module that gains it, and `is_padded` whether numbers may be padded."""
+    of the module that gains it, `start` the sections before, and `is_padded` whether numbers may be
+    padded."""
 
     kind: str
     items: str
     before: str | None
     is_padded: bool
+    line: int = 0
+    start: str = ""
 
 
 def clause_of(function: Function) -> Clause:
@@ -37,7 +40,8 @@ def clause_of(function: Function) -> Clause:
     if found is None:
         raise Stop("its clause is of no form that the tool knows")
     kind, items, before = found
-    return Clause(kind, items, before, is_padded)
+    module = MODULE.fullmatch(text)
+    return Clause(kind, items, before, is_padded, function.ensures[0].line, module.group(1) if module else "")
 
 
 Form = tuple[str, str, "str | None"]

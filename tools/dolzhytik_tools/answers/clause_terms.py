@@ -14,16 +14,18 @@ from .values import Builder
 class ClauseTerms:
     """The items that a clause lists."""
 
-    def __init__(self, proof: Proof, clause: Clause):
-        self.proof, self.clause, self.function = proof, clause, proof.function
+    def __init__(self, proof: Proof, clause: Clause, is_draft: bool = False):
+        self.proof, self.clause, self.function, self.is_draft = proof, clause, proof.function, is_draft
 
     def item(self, section: Builder) -> str:
         """Returns the item that was added last, as a term."""
+        if self.is_draft:
+            return "_"
         if self.clause.kind not in ("encoded", section.holds):
-            raise Stop("what is added is not written in the clause: build the section in a function of its own, whose clause says what it holds")
+            raise Stop("the clause does not list the items of this section: build it in a function of its own, whose clause lists them")
         listed = elements(self.clause.items)
         if listed is None:
-            raise Stop("the list of what is added is not written out in the clause")
+            raise Stop("the clause names the list of items as a whole: write `one ∷ two ∷ []`")
         if section.count > len(listed):
             raise Stop("more is added than the clause says")
         return shown(self.term(listed[section.count - 1]))

@@ -4,6 +4,7 @@ from __future__ import annotations
 from typing import TYPE_CHECKING
 
 from ..errors import Stop
+from .models import Items
 from .syntax import Array, Parens
 from .tables import BUILDERS
 from .terms import all_of, shown
@@ -20,7 +21,7 @@ def constructed(caller: Caller, path: tuple[str, ...], call: Call) -> Value:
     kind, name = path
     if name == "new" and call.is_tried:
         if kind == "Module":
-            return Module(term="(%s %s.read)" % (caller.proof.lemma("wasm_base", "new_module"), call.at))
+            return Module(term="(%s %s.read)" % (caller.proof.lemma("wasm_base", "new_module"), call.at), sections=[])
         if kind == "Function":
             return function(caller, call)
         if kind == "CoreDumpSection":
@@ -33,7 +34,7 @@ def constructed(caller: Caller, path: tuple[str, ...], call: Call) -> Value:
     if name == "new" and kind in BUILDERS and not call.is_tried:
         laws = BUILDERS[kind]
         term = "(%s %s)" % (caller.proof.lemma(laws.crate, laws.new), call.at)
-        return Builder(term=begun(caller, kind, term), kind=kind, holds=laws.holds, crate=laws.crate)
+        return Builder(term=begun(caller, kind, term), kind=kind, holds=laws.holds, crate=laws.crate, added=[])
     raise Stop("the call `%s`" % "::".join(path))
 
 
@@ -48,7 +49,8 @@ def function(caller: Caller, call: Call) -> Body:
         if not isinstance(run, Parens) or len(run.items) != 2:
             raise Stop("a run of locals that is no pair")
         whys.append("(%s, %s)" % (caller.evidence.number(run.items[0]).why, caller.evidence.value_type(run.items[1]).why))
-    return Body(term="(%s %s %s)" % (caller.proof.lemma("wasm_code", "new_function"), call.at, all_of(whys)))
+    term = "(%s %s %s)" % (caller.proof.lemma("wasm_code", "new_function"), call.at, all_of(whys))
+    return Body(term=term, runs=caller.modeler.of(runs), rows=[])
 
 
 def core_stack(caller: Caller, kind: str, call: Call) -> Builder:
@@ -72,7 +74,8 @@ def constant(caller: Caller, name: str, call: Call) -> Constant:
     instruction = caller.instructions.of_call(name, call.arguments[1:])
     lemma = caller.proof.lemma("wasm_code", "one_constant")
     term = caller.proof.bind("e", "%s %s.stores %s" % (lemma, call.at, instruction.why))
-    return Constant(term=term, rows=[caller.instructions.row(instruction.term)])
+    model = Items((caller.modeler.row(caller.instructions.case_of(name), call.arguments[1:], call.line),))
+    return Constant(term=term, rows=[caller.instructions.row(instruction.term)], model=model)
 
 
 def begun(caller: Caller, kind: str, term: str) -> str:

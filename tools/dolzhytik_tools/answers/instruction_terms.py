@@ -1,17 +1,24 @@
 """Instructions as terms of the prover, and why each is in range."""
 from __future__ import annotations
 
+import difflib
 import re
 
 from ..errors import Stop
 from ..instructions.table import Case
 from .evidence import Evidence, Shown
 from .syntax import NONE, Path, PathCall, Tree, is_call_of
-from .tables import BARE_HEAPS, GLOBAL, VARIANTS
+from .tables import BARE_HEAPS, GLOBAL, SINK_CALLS, VARIANTS
 from .terms import all_of, shown
 
 # Layouts whose fields the tool knows, and the kind of each field.
 KINDS = {"u": ["u"], "uu": ["u", "u"], "b": ["b"], "h": ["h"], "m": ["m"], "c32": ["c32"], "c64": ["c64"]}
+
+LISTED = "docs/PROOFS.md lists its calls"
+
+
+class NoSuchCall(Stop):
+    """A call of the sink that is not there."""
 
 
 class InstructionTerms:
@@ -27,6 +34,20 @@ class InstructionTerms:
         if case is None:
             raise Stop("the call `%s`" % call)
         return case
+
+    def case_of_sink(self, call: str) -> Case:
+        """Returns the instruction of a call of the sink, which has few of the calls that the table
+        names."""
+        if call in SINK_CALLS:
+            return self.case_of("drop" if call == "drop_" else call)
+        case = self.cases.get(call) or self.cases.get(call + "_")
+        if case is None:
+            near = difflib.get_close_matches(call, SINK_CALLS, 1)
+            raise NoSuchCall("the sink has no call `%s`%s: %s" % (call, ", but `%s`" % near[0] if near else "", LISTED))
+        own = next((it for it in (case.call, case.call + "_") if it in SINK_CALLS), None)
+        if own:
+            raise NoSuchCall("the sink has no call `%s`, but `%s`" % (call, own))
+        raise NoSuchCall("the sink has no call `%s`: write `function.instruction(&%s)?` (%s)" % (call, rust_of(case), LISTED))
 
     def of_call(self, call: str, arguments: tuple[Tree, ...]) -> Shown:
         return self.instruction(self.case_of(call), arguments)
@@ -62,7 +83,7 @@ class InstructionTerms:
         elif kind == "m":
             found = self.memory_argument(tree)
         if found is None:
-            raise Stop("the instruction `%s`: what it holds" % case.name)
+            raise Stop("the immediates of the instruction `%s`" % case.name)
         return found
 
     def block_type(self, tree: Tree) -> Shown | None:
@@ -112,8 +133,8 @@ class InstructionTerms:
         self.proof.use(GLOBAL, "Global")
         return "normal_row {A = Global} %s" % shown(text)
 
-    def why_written_out(self, tree: Tree) -> str:
-        """Returns why an instruction that is written as a value is in range."""
+    def written_out(self, tree: Tree) -> tuple[Case, tuple[Tree, ...]]:
+        """Returns an instruction that is written as a value, and its arguments."""
         if isinstance(tree, Path) and len(tree.names) == 2 and tree.names[0] == "Instruction":
             name, parts = tree.names[1], ()
         elif isinstance(tree, PathCall) and len(tree.path) == 2 and tree.path[0] == "Instruction":
@@ -123,4 +144,13 @@ class InstructionTerms:
         case = next((it for it in self.cases.values() if it.name == name), None)
         if case is None or case.enum.name not in ("Instruction", "Numeric") or case.fields:
             raise Stop("the instruction `%s`" % name)
-        return self.instruction(case, parts).why
+        return case, parts
+
+
+def rust_of(case: Case) -> str:
+    """Returns how a source writes an instruction as a value."""
+    if case.layout == "-":
+        return "Instruction::" + case.name
+    nested = "" if case.enum.name == "Instruction" else "%s(%s::" % (case.enum.name, case.enum.name)
+    fields = " { %s }" % ", ".join("%s: .." % it for it in case.fields) if len(case.parameters) > 1 and case.fields else "(..)"
+    return "Instruction::%s%s%s%s" % (nested, case.name, fields, ")" if nested else "")

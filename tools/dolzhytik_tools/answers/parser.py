@@ -17,7 +17,19 @@ PREFIXES = {"*": Dereference, "-": Minus}
 
 
 def branch(word: str) -> Stop:
-    return Stop("`%s`: it is not straight on" % word)
+    return Stop("`%s`, which the tool does not follow" % word)
+
+
+class Word(str):
+    """A token, and the line of the file that it is on."""
+
+    line: int
+
+
+def word_of(text: str, line: int) -> Word:
+    found = Word(text)
+    found.line = line
+    return found
 
 
 class Parser:
@@ -25,6 +37,12 @@ class Parser:
 
     def __init__(self, words: Sequence[str]):
         self.words, self.at = words, 0
+
+    @property
+    def line(self) -> int:
+        """The line of the next token, or of the last one."""
+        words = self.words[self.at : self.at + 1] or self.words[-1:]
+        return line_of(words[0]) if words else 0
 
     def peek(self) -> str | None:
         return self.words[self.at] if self.at < len(self.words) else None
@@ -50,12 +68,13 @@ class Parser:
                 return found, self.last_match()
             if self.peek() in BRANCHES:
                 raise branch(str(self.peek()))
+            line = self.line
             name = self.bound_name() if self.peek() == "let" else None
             value = self.expression()
             if self.peek() is None and name is None:
                 return found, value
             self.take(";")
-            found.append(Statement(name, value))
+            found.append(Statement(name, value, line))
         return found, None
 
     def bound_name(self) -> str:
@@ -114,7 +133,7 @@ class Parser:
             elif word == ".":
                 name = self.take()
                 is_call = self.peek() == "("
-                value = MethodCall(value, name, self.listed("(", ")")) if is_call else Field(value, name)
+                value = MethodCall(value, name, self.listed("(", ")"), line_of(name)) if is_call else Field(value, name)
             else:
                 raise Stop("`%s` in an expression" % word)
         return value
@@ -155,7 +174,7 @@ class Parser:
         if names[-1] == "!" or self.peek() == "!":
             raise Stop("a macro")
         if self.peek() == "(":
-            return PathCall(tuple(names), self.listed("(", ")"))
+            return PathCall(tuple(names), self.listed("(", ")"), line_of(first))
         if self.peek() == "{" and names[-1][0].isupper():
             return Struct(tuple(names), self.fields())
         return Path(tuple(names))
@@ -173,6 +192,11 @@ class Parser:
             self.skip(",")
         self.take("}")
         return fields
+
+
+def line_of(word: str) -> int:
+    """Returns the line of a token, or 0 if it is not known."""
+    return word.line if isinstance(word, Word) else 0
 
 
 def number_of(word: str) -> int:

@@ -74,12 +74,12 @@ class RawBytes:
         """Proves a body without locals, of instructions without fields."""
         count = self.number(bytes, False)
         if count.value != 0:
-            raise Stop("a body that is spelled already, and has runs of locals")
+            raise Stop("a raw body with runs of locals")
         term = "(%s %s)" % (self.proof.lemma("wasm_code", "without_runs"), count.proof)
         for byte in bytes[count.size :]:
             case = next((it for it in self.instructions.cases.values() if it.prefix is None and it.number == byte and it.layout == "-"), None)
             if case is None:
-                raise Stop("a body that is spelled already, and has an instruction with parts")
+                raise Stop("a raw body with an instruction that has immediates")
             self.proof.use(GLOBAL, "Global")
             lemma = self.proof.lemma("wasm_code", "adds_instruction_padded")
             instruction = shown(self.instructions.instruction(case, ()).term)
@@ -89,10 +89,10 @@ class RawBytes:
     def constant(self, bytes: Sequence[int]) -> RawConstant:
         """Proves an expression of one constant of 32 bits."""
         if not bytes or bytes[0] != I32_CONST:
-            raise Stop("an expression that is spelled already, and is no constant of 32 bits")
+            raise Stop("a raw expression other than a constant of 32 bits")
         number = self.number(bytes[1:], True)
         if len(bytes) != number.size + 1:
-            raise Stop("an expression that is spelled already, and is no constant of 32 bits")
+            raise Stop("a raw expression other than a constant of 32 bits")
         lemma = self.proof.lemma("wasm_code", "padded_i32_const")
         term = "(%s %s %s %s)" % (lemma, self.listed(bytes[1:]), self.evidence.signed(number.value), number.proof)
         self.proof.use(VARIANTS["Instruction"], "I32Const")

@@ -55,7 +55,7 @@ def read_back(function: Function) -> str:
     statements, end = Parser(function.body).body()
     buffer = Path((function.requires[0].text.partition(".")[0],))
     if len(statements) != 2 or end != PathCall(("Ok",), (Path(("items",)),)):
-        raise Stop("more than a section that is written, and read")
+        raise Stop("more than one section that is written and read")
     writer, reading = written_by(statements[0].value, buffer), read_by(statements[1], buffer)
     words = {
         "KIND": reading.kind,
@@ -86,5 +86,5 @@ def read_by(statement: Statement, buffer: Path) -> Reading:
         raise Stop("a section that `read_and_shorten` does not read")
     kind, text, sink = call.arguments
     if not isinstance(kind, Path) or kind.names[0] != "SectionKind" or text != buffer or not isinstance(sink, Path):
-        raise Stop("what `read_and_shorten` is handed")
+        raise Stop("the arguments of `read_and_shorten`")
     return Reading(kind.names[1], sink.names[0])

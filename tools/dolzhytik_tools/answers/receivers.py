@@ -8,6 +8,8 @@ from typing import TYPE_CHECKING
 from ..errors import Stop
 from .borrows import body_term, held
 from .builders import added
+from .modeling import is_one_item, items_of, number_section, section_of
+from .models import UNKNOWN, Applied, Items, Model, at
 from .syntax import Array, Path, PathCall, Struct, Tree, is_struct
 from .tables import GAINS, NUMBERS, PAYLOADS, VARIANTS
 from .terms import all_of, chained, shown
@@ -41,7 +43,9 @@ def of_body(caller: Caller, body: Body, call: Call) -> Value:
         body.is_lent = True
         return Sink(body=body)
     if call.name == "instruction" and call.is_tried:
-        why = caller.instructions.why_written_out(caller.scope.settled(call.arguments[0]))
+        written = caller.instructions.written_out(caller.scope.settled(call.arguments[0]))
+        why = caller.instructions.instruction(*written).why
+        add_row(body, caller.modeler.row(*written, call.line))
         lemma = caller.proof.lemma("wasm_code", "adds_instruction")
         body.term = caller.proof.bind("b", "%s %s %s.ok %s" % (lemma, body_term(caller.proof, body), call.at, why))
         return Nothing()
@@ -56,11 +60,18 @@ def of_sink(caller: Caller, sink: Sink, call: Call) -> Value:
         raise Stop("a sink that is used after its function")
     if call.name == "br_table":
         return branch_table(caller, body, call)
-    instruction = caller.instructions.of_call(call.name, call.arguments)
+    case = caller.instructions.case_of_sink(call.name)
+    instruction = caller.instructions.instruction(case, call.arguments)
+    add_row(body, caller.modeler.row(case, call.arguments, call.line))
     lemma = caller.proof.lemma("wasm_code", "writes_instruction")
     term = "%s %s %s %s.writes.bytes %s" % (lemma, body.term, shown(instruction.term), call.at, instruction.why)
     body.term = caller.proof.bind("b", term)
     return Nothing()
+
+
+def add_row(body: Body, row: Model) -> None:
+    if body.rows is not None:
+        body.rows.append(row)
 
 
 def branch_table(caller: Caller, body: Body, call: Call) -> Value:
@@ -69,6 +80,7 @@ def branch_table(caller: Caller, body: Body, call: Call) -> Value:
         raise Stop("labels that are no array")
     caller.proof.array_has_known_length(call.step)
     why = all_of([caller.evidence.number(it).why for it in labels.items])
+    add_row(body, Applied("br_table_row", tuple(map(caller.modeler.of, call.arguments)), call.line))
     lemma, default = caller.proof.lemma("wasm_code", "writes_labels"), caller.evidence.number(call.arguments[1])
     body.term = caller.proof.bind("b", "%s %s %s.writes %s (%s)" % (lemma, body.term, call.at, why, default.why))
     return Nothing()
@@ -82,7 +94,9 @@ def of_constant(caller: Caller, constant: Constant, call: Call) -> Value:
     caller.proof.common("[]", "◌∷◌")
     lemma = caller.proof.lemma("wasm_code", "adds_constant")
     term = caller.proof.bind("e", "%s %s %s %s.stores %s" % (lemma, before, constant.term, call.at, instruction.why))
-    return Constant(term=term, rows=constant.rows + [caller.instructions.row(instruction.term)])
+    row = caller.modeler.row(caller.instructions.case_of(call.name[len("with_") :]), call.arguments, call.line)
+    model = Items((*constant.model.items, row)) if isinstance(constant.model, Items) else UNKNOWN
+    return Constant(term=term, rows=constant.rows + [caller.instructions.row(instruction.term)], model=model)
 
 
 # Modules.
@@ -90,11 +104,14 @@ def of_constant(caller: Caller, constant: Constant, call: Call) -> Value:
 
 def of_module(caller: Caller, module: Module, call: Call) -> Value:
     if call.name == "finish" and not call.is_tried:
-        return FinishedModule(term="%s %s %s" % (caller.proof.lemma("wasm_base", "finished"), module.term, call.at))
+        return FinishedModule(term="%s %s %s" % (caller.proof.lemma("wasm_base", "finished"), module.term, call.at), sections=module.sections)
     if call.name != "section" or not call.is_tried:
         raise unknown(call, " of a module")
     clauses = "%s.read %s.was_encodable %s.section" % (call.at, call.at, call.at)
     section, tree = call.values[0], caller.scope.settled(call.arguments[0])
+    if module.sections is not None:
+        gained = number_section(tree, caller.modeler) if isinstance(tree, Struct) else section_of(section)
+        module.sections.append(at(gained, call.line))
     if isinstance(section, Builder) and section.holds in GAINS:
         term = "%s %s %s %s" % (gain_of_module(caller, section), module.term, clauses, held(caller.proof, section))
     elif isinstance(section, Process):
@@ -149,6 +166,8 @@ def of_builder(caller: Caller, section: Builder, call: Call) -> Value:
         raise unknown(call, " without `?`")
     section.count += 1
     section.term = caller.proof.bind("s", added(caller, section, call))
+    if section.added is not None:
+        section.added = [*section.added, caller.modeler.item(section, call)] if is_one_item(section, call.name) else None
     return Nothing()
 
 
@@ -163,7 +182,7 @@ def encoded(caller: Caller, section: Builder, call: Call) -> Encoded:
     if caller.clause.is_padded:
         lemma += "_padded" if section.kind == "CodeSection" else "_padded globals_section.held_padded"
     caller.proof.lemma(section.crate, lemma.split()[0])
-    return Encoded(term="%s %s.appends %s.read %s" % (lemma, call.at, call.at, held(caller.proof, section)))
+    return Encoded(term="%s %s.appends %s.read %s" % (lemma, call.at, call.at, held(caller.proof, section)), model=items_of(section))
 
 
 def encoded_custom(caller: Caller, lemma: str, call: Call, content: str) -> Encoded:
@@ -201,6 +220,8 @@ def of_type(caller: Caller, encoder: TypeEncoder, call: Call) -> Value:
     old = "{old = c.%s.result.section.now} %s" % (encoder.called, encoder.term)
     section.term = "(%s %s (func %s %s) %s (%s, %s))" % (lemma, old, *lists, found, *whys)
     section.count, section.behind = section.count + 1, True
+    if section.added is not None:
+        section.added = [*section.added, caller.modeler.function_type(arrays, call.line)]
     return Nothing()
 
 

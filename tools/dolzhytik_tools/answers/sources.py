@@ -4,13 +4,15 @@ from __future__ import annotations
 
 import pathlib
 import re
+from collections.abc import Iterator
 from dataclasses import dataclass, field
 
 from ..errors import Stop
 from ..rattle import items, lexer
 from ..rattle.brackets import Span
 from ..repository import TOP, text_of
-from .parser import Parser
+from .parser import Parser, line_of, word_of
+from .spec_files import SpecFolder
 from .syntax import Tree, Unparsed
 
 
@@ -20,6 +22,7 @@ class NamedClause:
 
     name: str | None
     text: str
+    line: int = 0
 
 
 @dataclass
@@ -33,6 +36,7 @@ class Function:
     requires: list[NamedClause]
     ensures: list[NamedClause]
     body: list[str]
+    line: int = 0
 
     @property
     def has_types(self) -> bool:
@@ -52,6 +56,8 @@ class Source:
     constants: dict[str, Tree] = field(default_factory=dict)
     ghosts: dict[str, str] = field(default_factory=dict)
     uses: dict[str, str] = field(default_factory=dict)
+    # The imports of the prover's names, as text.
+    imports: list[NamedClause] = field(default_factory=list)
 
     @property
     def antt(self) -> str:
@@ -65,11 +71,25 @@ class SourceReader:
     def __init__(self, crate: Crate, path: pathlib.Path):
         self.text = text_of(path)
         self.tokens = lexer.solid_tokens(self.text, lexer.RATTLE_MARKS)
-        self.words = [it.text for it in self.tokens]
+        self.words = list(self.words_with_lines())
         below = path.relative_to(crate.folder / "src").with_suffix("").parts
         module = [] if below == ("lib",) else list(below[:-1] if below[-1] == "mod" else below)
         self.source = Source(crate, path, module)
         self.add(items.items_of(self.words))
+
+    def words_with_lines(self) -> Iterator[str]:
+        line, at = 1, 0
+        for it in self.tokens:
+            line, at = line + self.text.count("\n", at, it.start), it.start
+            yield word_of(it.text, line)
+
+    def line_at(self, at: int) -> int:
+        return line_of(self.words[at])
+
+    def line_of_function(self, item: items.Function) -> int:
+        """Returns the line of the name of a function with a body."""
+        end = item.body.begin if item.body else 0
+        return next((self.line_at(at) for at in range(end - 1, 0, -1) if self.words[at] == item.name and self.words[at - 1] == "fn"), 0)
 
     def add(self, found: tuple[items.Item, ...]) -> None:
         """Adds items to the source; methods are no callers."""
@@ -92,11 +112,11 @@ class SourceReader:
         clauses = {kind: [self.clause(it) for it in known if it.kind == kind] for kind in ("requires", "ensures")}
         generics = [self.words[it.begin] for it in item.generics]
         body = list(item.body.of(self.words)) if item.body else []
-        return Function(self.source, item.name, generics, parameters, clauses["requires"], clauses["ensures"], body)
+        return Function(self.source, item.name, generics, parameters, clauses["requires"], clauses["ensures"], body, self.line_of_function(item))
 
     def clause(self, item: items.Clause) -> NamedClause:
         begin, end = self.tokens[item.inside.begin - 1].start + 1, self.tokens[item.inside.end].start
-        return NamedClause(item.name, self.text[begin:end].strip())
+        return NamedClause(item.name, self.text[begin:end].strip(), self.line_at(item.inside.begin))
 
     def constant(self, item: items.Constant) -> Tree:
         try:
@@ -112,6 +132,8 @@ class SourceReader:
         for name in found.group(2).split(",") if found else []:
             if name.strip():
                 names[name.strip()] = found.group(1).strip()
+        if item.is_ghost:
+            self.source.imports.append(NamedClause(None, text, self.line_at(item.path.begin)))
 
     def text_of(self, span: Span) -> str:
         """Returns the text from a span up to the token after it."""
@@ -125,6 +147,7 @@ class Crate:
         self.name, self.folder = name, (top or TOP) / "crates" / name
         if not (self.folder / "src").is_dir():
             raise Stop("there is no crate of the name %s" % name)
+        self.specs = SpecFolder(self.folder / "specs")
         self.sources: dict[str, Source] = {}
         for path in sorted((self.folder / "src").rglob("*.rt")):
             source = SourceReader(self, path).source

@@ -1,7 +1,7 @@
 """Statements and expressions as trees."""
 from __future__ import annotations
 
-from dataclasses import dataclass
+from dataclasses import dataclass, field
 from typing import Union
 
 
@@ -88,6 +88,7 @@ class MethodCall:
     receiver: Tree
     name: str
     arguments: tuple[Tree, ...]
+    line: int = field(default=0, compare=False)
 
 
 @dataclass(frozen=True)
@@ -96,6 +97,7 @@ class PathCall:
 
     path: tuple[str, ...]
     arguments: tuple[Tree, ...]
+    line: int = field(default=0, compare=False)
 
 
 @dataclass(frozen=True)
@@ -132,6 +134,7 @@ class Statement:
 
     name: str | None
     value: Tree
+    line: int = 0
 
 
 def is_call_of(tree: Tree, *path: str) -> bool:

@@ -110,6 +110,9 @@ VARIANTS = {
     "BlockType": "Rattle.wasm_immediates.specs.declared.block_type.BlockType.TheVariants",
     "ValType": "Rattle.wasm_base.specs.declared.types.ValType.TheVariants",
     "MemArgTarget": "Rattle.wasm_immediates.specs.declared.memory.MemArgTarget.TheVariants",
+    "ExportKind": "Rattle.wasm_sections.specs.declared.export.ExportKind.TheVariants",
+    "TagKind": "Rattle.wasm_sections.specs.declared.tag.TagKind.TheVariants",
+    "AbstractHeapType": "Rattle.wasm_base.specs.declared.types.AbstractHeapType.TheVariants",
     "EntityType": "Rattle.wasm_sections.specs.declared.import.EntityType.TheVariants",
     "Instruction": "Rattle.wasm_insn.specs.declared.instruction.Instruction.TheVariants",
 }
@@ -120,3 +123,87 @@ BARE_REFS = {"FUNCREF", "EXTERNREF"}
 PREFIXES = {"Used", "Disallowed", "Required"}
 # Heap types by their constants, and the abstract type of each, which is not shared.
 BARE_HEAPS = {"FUNC": "Func", "EXTERN": "Extern"}
+
+# The named calls of the proved sink, in the order of its source. docs/PROOFS.md and docs/TUTORIAL.md
+# list them (a test compares all).
+SINK_CALLS = (
+    "unreachable", "nop", "block", "loop_", "if_", "else_", "end", "br", "br_if", "br_table", "return_", "call",
+    "call_indirect", "drop_", "select", "typed_select", "typed_select_multi", "local_get", "local_set", "local_tee",
+    "global_get", "global_set", "i32_load", "i32_store", "memory_size", "memory_grow", "i32_const", "i64_const",
+    "f32_const", "f64_const", "v128_const", "i32_eqz", "i32_add", "i32_sub", "i32_mul", "i64_add", "i64_sub",
+    "i64_mul", "ref_null", "ref_is_null", "ref_func",
+)
+
+# Decoded sections, with the builders that they are of.
+SECTIONS = {
+    "ContainsTypes": "type_decoding",
+    "ContainsImports": "import_decoding",
+    "ContainsFunctions": "function_decoding",
+    "ContainsTables": "table_decoding",
+    "ContainsMemories": "memory_decoding",
+    "ContainsTags": "tag_decoding",
+    "ContainsGlobals": "global_decoding",
+    "ContainsExports": "export_decoding",
+    "ContainsElements": "element_decoding",
+    "EncodesBodies": "code_decoding",
+    "ContainsSegments": "data_decoding",
+}
+SECTION_WORDS = {
+    "type_decoding": "a type section",
+    "import_decoding": "an import section",
+    "function_decoding": "a function section",
+    "table_decoding": "a table section",
+    "memory_decoding": "a memory section",
+    "tag_decoding": "a tag section",
+    "global_decoding": "a global section",
+    "export_decoding": "an export section",
+    "start_decoding": "a start section",
+    "element_decoding": "an element section",
+    "data_count_decoding": "a data count section",
+    "code_decoding": "a code section",
+    "data_decoding": "a data section",
+}
+NUMBER_SECTIONS = {"StartSection": "start_decoding", "DataCountSection": "data_count_decoding"}
+# Two of these words, or of instructions, are never equal.
+WORDS_THAT_DIFFER = {
+    *SECTION_WORDS, *BARE_TYPES, *BARE_REFS, "normal_row", "br_table_row", "None", "Some", "true", "false", "Func", "Table",
+    "Memory", "Global", "Tag", "Function", "FunctionExact", "Empty", "Result", "FunctionType", "active", "passive", "declared",
+    "functions", "expressions", "func", "array", "structure", "cont",
+}
+
+# Forms that the tool does not follow, and the example of each.
+EXAMPLES = {
+    "`for`": "crates/examples/src/lowering.rt (`emit_all`)",
+    "`while`": "crates/examples/src/stripped.rt (`without_custom`)",
+    "`loop`": "crates/examples/src/stripped.rt (`without_custom`)",
+    "`match`": "crates/examples/src/trees.rt (`emit_expr`)",
+    "`if`": "crates/examples/src/trees.rt (`emit_expr`)",
+}
+
+# For drafts of definitions: the type of an item by the predicate of a clause, and its module.
+ITEM_TYPES = {
+    "IsWellFormedBody": ("Body", "Rattle.wasm_code.specs.Words"),
+    "StoresInstructions": ("List Plain", "Rattle.wasm_insn.specs.Words"),
+    "EncodesBodies": ("Body", "Rattle.wasm_code.specs.Words"),
+    "ContainsTypes": ("TypeItem", "Rattle.wasm_types.specs.Words"),
+    "ContainsImports": ("ImportItem", "Rattle.wasm_sections.specs.Words"),
+    "ContainsFunctions": ("ℕ", PRELUDE),
+    "ContainsTables": ("TableItem", "Rattle.wasm_sections.specs.Words"),
+    "ContainsMemories": ("MemoryType", "Rattle.wasm_sections.specs.declared.memory.MemoryType"),
+    "ContainsTags": ("TagType", "Rattle.wasm_sections.specs.declared.tag.TagType"),
+    "ContainsGlobals": ("GlobalItem", "Rattle.wasm_sections.specs.Words"),
+    "ContainsExports": ("ExportItem", "Rattle.wasm_sections.specs.Words"),
+    "ContainsElements": ("elements.ElementItem (List Plain)", "Rattle.wasm_sections.specs.Elements"),
+    "ContainsSegments": ("segments.DataItem", "Rattle.wasm_sections.specs.DataSegments"),
+}
+# The modules of words.
+HOMES = {
+    **{it: PRELUDE for it in ("None", "Some", "true", "false")},
+    **{it: "Rattle.wasm_base.specs.Words" for it in ("FUNCREF", "EXTERNREF")},
+    **{it: "Rattle.wasm_types.specs.Words" for it in ("func", "plain_type", "type_decoding")},
+    **{it: "Rattle.wasm_code.specs.Words" for it in ("code_decoding", "br_table_row")},
+    **{it: "Rattle.wasm_sections.specs.Words" for it in ("single", *SECTION_WORDS) if it not in ("type_decoding", "code_decoding")},
+    "unshared": "Rattle.wasm_base.specs.Types",
+}
+# What is added to the name of a variant that has the name of another word.
+ALIASES = {"ExportKind": "Export", "EntityType": "Import", "MemArgTarget": "Target", "Instruction": "Instruction"}

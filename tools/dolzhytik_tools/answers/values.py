@@ -3,6 +3,7 @@ from __future__ import annotations
 
 from dataclasses import dataclass, field
 
+from .models import UNKNOWN, Model
 from .syntax import Tree
 
 
@@ -47,14 +48,20 @@ class Known(Value):
 
 @dataclass
 class Module(Known):
-    """A module under construction."""
+    """A module under construction, and its sections."""
+
+    sections: list[Model] | None = None
 
 
 @dataclass
 class Body(Known):
-    """A function's body; `is_lent` while a sink borrows it."""
+    """A function's body; `is_lent` while a sink borrows it. `rows` are its instructions, and `model`
+    is a body that a clause lists."""
 
     is_lent: bool = False
+    runs: Model = UNKNOWN
+    rows: list[Model] | None = None
+    model: Model = UNKNOWN
 
 
 @dataclass
@@ -64,6 +71,7 @@ class Constant(Known):
 
     rows: list[str] | None = None
     wide: str | None = None
+    model: Model = UNKNOWN
 
 
 @dataclass
@@ -79,6 +87,9 @@ class Builder(Known):
     behind: bool = False
     is_called: bool = False
     items: str | None = None
+    # The added items, or the list that a clause has.
+    added: list[Model] | None = None
+    model: Model = UNKNOWN
 
 
 @dataclass
@@ -99,12 +110,16 @@ class TypeEncoder(Known):
 
 @dataclass
 class FinishedModule(Known):
-    """The bytes of a module."""
+    """The bytes of a module, and its sections."""
+
+    sections: list[Model] | None = None
 
 
 @dataclass
 class Encoded(Known):
-    """A buffer that has gained an encoding."""
+    """A buffer that has gained the encoding of these items."""
+
+    model: Model = UNKNOWN
 
 
 @dataclass
@@ -148,3 +163,4 @@ class Call:
     step: str
     at: str
     is_tried: bool
+    line: int = 0

@@ -8,6 +8,27 @@ ghost use Rattle.mine.specs.Said.{body, sections, item};
 use std::alloc::Allocator;
 """
 
+# The definitions that their clauses name.
+SAID = """-- What the callers encode.
+use Rattle.std.specs.Prelude.{[], ◌∷◌, neg_ℤ, pos}
+use Rattle.std.specs.declared.alloc.Global.{Global}
+use Rattle.wasm_base.specs.declared.types.ValType.TheVariants.{I32}
+use Rattle.wasm_code.specs.Words.{Body, normal_row}
+use Rattle.wasm_insn.specs.declared.instruction.Instruction.TheVariants.{LocalGet, I32Const, Numeric, End}
+use Rattle.wasm_insn.specs.declared.numeric.Numeric.TheVariants.{I32Add}
+
+-- A body of four instructions.
+abbrev pub body : (index : ℕ) → Body
+body index = record {
+  runs = (1, I32) ∷ [];
+  code = normal_row {A = Global} (LocalGet index) ∷ normal_row (I32Const (neg_ℤ (pos 1))) ∷ normal_row (Numeric I32Add) ∷ normal_row End ∷ [];
+}
+
+-- Words of which the tool knows nothing.
+opaque pub item : List ℕ → ℕ → Item
+opaque pub sections : List SectionDecoding
+"""
+
 # Callers: the signature from the name on, the clause, and the body.
 SUM = (
     "sum<A: Allocator>(alloc: A, index: u32) -> R<Function<A>>",

@@ -24,7 +24,7 @@ def function(caller: Caller, section: Builder, call: Call) -> str:
 
 def raw(caller: Caller, section: Builder, call: Call) -> str:
     if not caller.clause.is_padded:
-        raise Stop("a body that is spelled already, where the clause speaks of no padded numbers")
+        raise Stop("a raw body, and a clause without padded numbers")
     body = caller.raw.body(caller.raw.bytes_of(call.arguments[0]))
     return "%s %s %s.ok %s" % (caller.proof.lemma("wasm_code", "adds_body_padded"), section.term, call.at, body)
 

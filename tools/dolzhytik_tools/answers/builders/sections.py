@@ -59,7 +59,7 @@ def global_(caller: Caller, section: Builder, call: Call) -> str:
         lemma = proof.lemma("wasm_sections", "adds_global_padded")
         return "%s %s %s _ %s.ok %s %s" % (lemma, section.term, item, call.at, why, stored_padded(caller, init, item))
     if init.term is None:
-        raise Stop("an expression that is spelled already, where the clause speaks of no padded numbers")
+        raise Stop("a raw expression, and a clause without padded numbers")
     lemma, item = proof.lemma("wasm_sections", "adds_global"), caller.clause_terms.item(section)
     return "%s %s %s _ %s.ok %s %s" % (lemma, section.term, item, call.at, why, init.term)
 
@@ -74,7 +74,7 @@ def stored_padded(caller: Caller, constant: Constant, item: str) -> str:
 def raw_global(caller: Caller, section: Builder, call: Call) -> str:
     bytes = caller.raw.bytes_of(call.arguments[0])
     if not caller.clause.is_padded or bytes[0] != 0x7F or bytes[1] > 1 or bytes[-1] != 0x0B:
-        raise Stop("a global that is spelled already, and is no constant of 32 bits")
+        raise Stop("a raw global other than a constant of 32 bits")
     stored = caller.raw.constant(bytes[2:-1]).term
     lemma, item = caller.proof.lemma("wasm_sections", "adds_global_padded"), caller.clause_terms.item(section)
     return "%s %s %s %s %s.ok tt %s" % (lemma, section.term, item, caller.raw.listed(bytes[2:-1]), call.at, stored)

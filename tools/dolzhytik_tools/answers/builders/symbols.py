@@ -51,7 +51,7 @@ def symbol_table(caller: Caller, section: Builder, call: Call) -> str:
         raise Stop("symbols of which nothing is known")
     listed = elements(table.items) if table.items else None
     if listed is None:
-        raise Stop("symbols that no list says")
+        raise Stop("symbols that no clause lists")
     caller.proof.common("refl")
     lemma = caller.proof.lemma("wasm_custom", "adds_symbols")
     return "%s %s %s %s.ok %s" % (lemma, section.term, table.term, call.at, chained(["refl"] * len(listed)))
