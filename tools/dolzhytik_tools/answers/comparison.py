@@ -36,8 +36,7 @@ class Path:
     field: str = ""
 
     def into(self, found: Model, wanted: Model) -> Path:
-        is_row = isinstance(wanted, Applied) and wanted.head in ROWS
-        origin = self.origin if is_row else wanted.origin or self.origin
+        origin = self.origin if is_row(wanted) else wanted.origin or self.origin
         return Path(origin, found.line or self.line, self.item, self.section, self.field)
 
     @property
@@ -74,6 +73,9 @@ class Comparison:
             return None if found == wanted else self.difference(found, wanted, path)
         for number, (one, other) in enumerate(zip(found.items, wanted.items), 1):
             difference = self.first(one, other, numbered(path, number, other))
+            if difference and one.origin and other.origin and one.origin != other.origin and not is_row(other):
+                at = numbered(path, number, other)
+                return Difference(one.line or path.line, "%s, but %s has %s%s" % (one.origin, path.origin, other.origin, at.where))
             if difference:
                 return difference
         return self.of_lengths(found, wanted, path)
@@ -149,6 +151,11 @@ class Comparison:
     def argument(self, model: Model) -> str:
         text = self.shown(model)
         return "(%s)" % text if isinstance(model, Applied) and " " in text and model.head != "," else text
+
+
+def is_row(model: Model) -> bool:
+    """Returns whether a value is an instruction as a reader returns it."""
+    return isinstance(model, Applied) and model.head in ROWS
 
 
 def numbered(path: Path, number: int, item: Model) -> Path:

@@ -295,6 +295,60 @@ def tutorial_trouble() -> str | None:
     return f"the tutorial lacks {missing[0]!r}" if missing else None
 
 
+WRONG_ROW = re.compile(r"^\| `([^`]+)` \| `([^`]+)` \| `(src/[^`]+)` \|$", re.M)
+
+
+class Second:
+    """A repository with the crate of the second part of the tutorial, and its draft."""
+
+    def __init__(self, folder: str):
+        self.top = pathlib.Path(folder)
+        (self.top / "tools").mkdir()
+        (self.top / "tools/instructions.tsv").write_bytes((TOP / "tools/instructions.tsv").read_bytes())
+        self.crate = self.top / "crates/total"
+        for part in ("src", "specs"):
+            (self.crate / part).mkdir(parents=True)
+        link_libraries(self.top, "src", "specs", "proofs")
+        self.page = text_of(TOP / "docs/TUTORIAL.md").split("## 7.")[1]
+        self.source = re.findall(r"```rust\n(.*?)```", self.page, re.S)[0]
+        self.write(self.source)
+        self.draft = command.draft("total", self.top)
+        (self.crate / ITEMS).write_text(self.draft, encoding="utf-8")
+        (self.crate / "specs/Lib.antt").write_text("pub mod Items\n", encoding="utf-8")
+
+    def write(self, source: str) -> None:
+        (self.crate / LIB).write_text(source, encoding="utf-8")
+
+    def run(self) -> tuple[int, list[str]]:
+        said: list[str] = []
+        return command.run(["total"], False, self.top, said.append), said
+
+
+def second_part_trouble() -> str | None:
+    """The tool drafts the definitions of the second part, writes all its proofs, and says on its
+    wrong bodies what the page says."""
+    with tempfile.TemporaryDirectory() as name:
+        second = Second(name)
+        for listing in re.findall(r"```antt\n(.*?)```", second.page, re.S):
+            missing = [it for it in listing.strip("\n").split("\n\n") if it not in second.draft]
+            if missing:
+                return "the draft lacks %r" % missing[0]
+        status, said = second.run()
+        if status or not said or not all(it.endswith(": written") for it in said):
+            return "it said %s" % said
+        rows = WRONG_ROW.findall(second.page)
+        for old, new, report in rows:
+            second.write(second.source.replace(old, new))
+            found = [it for it in second.run()[1] if not it.endswith("unchanged")]
+            if second.source.count(old) != 1 or found != [report]:
+                return "of %s it said %s" % (new, found)
+        second.write(second.source.replace("&square(alloc)?", "&total(alloc)?"))
+        found = [it for it in second.run()[1] if not it.endswith("unchanged")]
+        if len(found) != 1 or "code: total_body, but the clause has square_body (item 1)" not in found[0]:
+            return "of another body it said %s" % found
+        return None if len(rows) == 5 else "the page has %d wrong bodies" % len(rows)
+
+
 def main() -> int:
     """Runs the tests."""
     core = "".join(map(function_of, (SUM, CODE, EXPORTS, MODULE)))
@@ -303,5 +357,5 @@ def main() -> int:
     troubles.update({name: stop_trouble(*what) for name, *what in STOPS})
     troubles.update({name: rejected_trouble(*what) for name, *what in REJECTED})
     troubles.update({"a draft": draft_trouble(), "the calls of the sink": sink_trouble(), "examples": examples_trouble()})
-    troubles.update({"clauses": clause_trouble(), "files written by hand": by_hand_trouble(), "--check": check_trouble(), "words": words_trouble(), "the tutorial": tutorial_trouble()})
+    troubles.update({"clauses": clause_trouble(), "files written by hand": by_hand_trouble(), "--check": check_trouble(), "words": words_trouble(), "the tutorial": tutorial_trouble(), "the second part of the tutorial": second_part_trouble()})
     return end([report("answers-test", *it) for it in troubles.items()])
