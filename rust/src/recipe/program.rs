@@ -264,12 +264,13 @@ fn write_text<O: Write>(out: &mut O, text: &[u8]) -> u8 {
         if rest.is_empty() {
             return 0;
         }
-        match out.write(rest) {
+        let count = match out.write(rest) {
             Ok(0) => return 1,
-            Ok(count) => rest = &rest[count..],
-            Err(error) if error.kind() == ErrorKind::Interrupted => {}
+            Ok(count) => count,
+            Err(error) if error.kind() == ErrorKind::Interrupted => 0,
             Err(_) => return 1,
-        }
+        };
+        rest = &rest[count..];
     }
     1
 }
